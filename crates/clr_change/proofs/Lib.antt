@@ -1,0 +1,3 @@
+pub mod ConflictLemmas
+pub mod EditLemmas
+pub mod SetLemmas

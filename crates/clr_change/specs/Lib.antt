@@ -1,0 +1,2 @@
+pub mod ChangeSets
+pub mod Edits

@@ -1,0 +1,185 @@
+ghost use Rattle.std.specs.Prelude.{◌≡◌, ◌<◌, ◌^◌, length, slice_get, true, false, Some, IfOk, OnOk, OnErr, IsSome};
+ghost use Rattle.std.specs.BTreeMap.{keys};
+ghost use Rattle.std.specs.FinMap as finite;
+ghost use Rattle.std.specs.List.{list_all};
+ghost use Rattle.std.specs.Map.Iter.{ShowsInOrder, deref_pair};
+ghost use Rattle.std.specs.Option.{option_copied};
+ghost use Rattle.clr_rows.specs.Contents.{changes, rows_after};
+ghost use Rattle.clr_rows.specs.Ranges.{is_entry_within};
+ghost use Rattle.clr_rows.specs.Same.{same};
+ghost use Rattle.clr_rows.specs.declared.cells.CellId.{CellId as Cell};
+ghost use Rattle.clr_rows.specs.declared.changes.Change.{Change as OneChange};
+ghost use Rattle.clr_change.specs.ChangeSets.{AreChangesWithin, AreDifferent, AreNoted, is_change_within, noted};
+
+use clr_rows::{CellId, Change, Row, Sheet};
+use std::alloc::{AllocError, Global};
+use std::collections::BTreeMap;
+use std::collections::btree_map::Iter;
+use std::marker::Model;
+
+/// What changes between two contents: the cells where they differ, each with both rows.
+#[derive(Drop)]
+pub struct ChangeSet {
+    alloc: Global,
+    changes: BTreeMap<CellId, Change>,
+}
+
+impl Model for ChangeSet {
+    ghost use Rattle.clr_rows.specs.Contents.{Changes, coded_changes};
+
+    ghost Value = { Changes };
+
+    ghost coded = { coded_changes };
+
+    ghost use Rattle.clr_change.specs.ChangeSets.{changes_of, IsSound};
+
+    ghost view = { λ a. changes_of a.changes.entries };
+
+    ghost invariant = { λ a. IsSound a.changes.entries };
+}
+
+/// Whether two rows are the same, a missing row counting as a value.
+pub(crate) fn are_same(a: Option<&Row>, b: Option<&Row>) -> bool
+    ensures { result ≡ same (option_copied a.entry) (option_copied b.entry) }
+{
+    match a {
+        Some(a) => match b {
+            Some(b) => a.same(b),
+            None => false,
+        },
+        None => b.is_none(),
+    }
+}
+
+/// A second row that is the same, or none. It fails for want of memory alone.
+pub(crate) fn copied(row: Option<&Row>) -> Result<Option<Row>, AllocError>
+    ensures { IfOk result (λ copy. copy ≡ option_copied row.entry) }
+{
+    match row {
+        Some(row) => Ok(Some(row.copy()?)),
+        None => Ok(None),
+    }
+}
+
+fn key_at(changes: &BTreeMap<CellId, Change>, at: usize) -> Option<&CellId>
+    ensures { option_copied result ≡ slice_get (keys changes.now) at }
+{
+    changes.keys().nth(at)
+}
+
+impl ChangeSet {
+    /// A set of no changes.
+    pub fn new(alloc: Global) -> ChangeSet
+        ensures { result ≡ finite.empty }
+    {
+        ChangeSet {
+            alloc,
+            changes: BTreeMap::new(alloc),
+        }
+    }
+
+    /// Puts a change at a cell. It fails for want of memory alone, and changes nothing then.
+    pub(crate) fn put(&mut self, cell: CellId, change: Change) -> Result<(), AllocError>
+        requires within { is_change_within cell change ≡ true }
+        requires differs { same change.before change.after ≡ false }
+        ensures ok { OnOk result (self.new ≡ finite.insert self.old cell change) }
+        ensures err { OnErr result (self.new ≡ self.old) }
+    {
+        self.changes.insert(cell, change)?;
+        Ok(())
+    }
+
+    /// Takes the change at a cell away, if there is one.
+    pub(crate) fn take(&mut self, cell: CellId)
+        ensures { self.new ≡ finite.remove self.old cell }
+    {
+        self.changes.remove(&cell);
+    }
+
+    /// The change at a cell, or none.
+    pub fn get(&self, cell: CellId) -> Option<&Change>
+        ensures change { option_copied result ≡ finite.get self.now cell }
+        ensures within { AreChangesWithin self.now }
+        ensures differ { AreDifferent self.now }
+    {
+        self.changes.get(&cell)
+    }
+
+    /// How many cells are changed.
+    pub fn len(&self) -> usize
+        ensures { result ≡ length (finite.keys self.now) }
+    {
+        self.changes.len()
+    }
+
+    /// The changed cell at a place in the order of cells, which is found by going over the changes
+    /// before it.
+    pub fn cell_at(&self, at: usize) -> CellId
+        requires { at < length (finite.keys self.now) }
+        ensures place { slice_get (finite.keys self.now) at ≡ Some result }
+        ensures held { IsSome (finite.get self.now result) }
+    {
+        *key_at(&self.changes, at).unwrap()
+    }
+
+    /// The changed cells with their changes, in the order of cells.
+    pub fn iter(&self) -> Iter<'_, CellId, Change>
+        ensures rest { result ≡ finite.entries self.now }
+        ensures runs { ShowsInOrder (deref_pair {K = Cell} {X = OneChange}) }
+        ensures within { AreChangesWithin self.now }
+        ensures differ { AreDifferent self.now }
+        ensures small { length (finite.entries self.now) < 2 ^ 63 }
+    {
+        self.changes.iter()
+    }
+
+    /// What changes from one content to another. It fails for want of memory alone.
+    pub fn between(alloc: Global, base: &Sheet, current: &Sheet) -> Result<ChangeSet, AllocError>
+        ensures { IfOk result (λ set. set ≡ changes base.now current.now) }
+    {
+        let mut set = ChangeSet::new(alloc);
+        set.note_all(base, current, base)?;
+        set.note_all(base, current, current)?;
+        Ok(set)
+    }
+
+    /// Notes what changes from one content to another at each cell of a sheet.
+    fn note_all(&mut self, base: &Sheet, current: &Sheet, cells: &Sheet) -> Result<(), AllocError>
+        ensures ok { OnOk result (AreNoted base.now current.now cells.now self.old self.new) }
+    {
+        for (cell, _) in cells.iter() {
+            self.note(base, current, *cell)?;
+        }
+        Ok(())
+    }
+
+    /// Notes what changes from one content to another at a cell.
+    fn note(&mut self, base: &Sheet, current: &Sheet, cell: CellId) -> Result<(), AllocError>
+        ensures ok { OnOk result (self.new ≡ noted base.now current.now self.old cell) }
+    {
+        let before = base.get(cell);
+        let after = current.get(cell);
+        if !are_same(before, after) {
+            let change = Change {
+                before: copied(before)?,
+                after: copied(after)?,
+            };
+            self.put(cell, change)?;
+        }
+        Ok(())
+    }
+
+    /// The rows after the changes, by cell, in the order of cells. It fails for want of memory
+    /// alone.
+    pub fn rows_after(&self) -> Result<Vec<(CellId, Option<Row>)>, AllocError>
+        ensures rows { IfOk result (λ rows. rows.items ≡ rows_after self.now) }
+        ensures within { IfOk result (λ rows. list_all is_entry_within rows.items ≡ true) }
+    {
+        let mut rows = Vec::new(self.alloc);
+        for (cell, change) in self.iter() {
+            let row = copied(change.after.as_ref())?;
+            rows.push((*cell, row))?;
+        }
+        Ok(rows)
+    }
+}

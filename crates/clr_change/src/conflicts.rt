@@ -1,0 +1,22 @@
+ghost use Rattle.std.specs.Prelude.{◌≡◌};
+ghost use Rattle.clr_rows.specs.Contents.{conflicts, least_and_count};
+
+use crate::change_sets::{ChangeSet, are_same};
+use clr_rows::{CellId, RowView};
+
+/// The least changed cell where the parent's row isn't the row before the change, and how many
+/// such cells there are, or none. It takes no memory.
+pub fn first_conflict<V: RowView>(changes: &ChangeSet, parent: &V) -> Option<(CellId, usize)>
+    ensures { result ≡ least_and_count (conflicts (V.content parent.now) changes.now) }
+{
+    let mut first = None;
+    for (cell, change) in changes.iter() {
+        if !are_same(parent.row(*cell), change.before.as_ref()) {
+            first = match first {
+                None => Some((*cell, 1)),
+                Some((least, count)) => Some((least, count + 1)),
+            };
+        }
+    }
+    first
+}

@@ -1,0 +1,183 @@
+ghost use Rattle.std.specs.Prelude.{◌≡◌, ◌<◌, ◌^◌, true, None, is_some, IfOk, IfErr, OnOk, OnErr};
+ghost use Rattle.std.specs.Option.{option_copied, option_map};
+ghost use Rattle.clr_rows.specs.Contents.{row_at, changes, taken_over};
+ghost use Rattle.clr_rows.specs.Ranges.{is_entry_within, is_within};
+ghost use Rattle.clr_rows.specs.Schemas.{Answers, row_fault, cell_fault};
+ghost use Rattle.clr_change.specs.declared.edits.Edit.TheVariants.{Insert, Update, Delete};
+ghost use Rattle.clr_change.specs.declared.edits.EditFault.TheVariants.{OutOfMemory, Row as Unfit};
+ghost use Rattle.clr_change.specs.Edits.{all_edited, first_bad_edit, settled, FaultIs, IsMade, IsRefused, number_of};
+
+use crate::change_sets::{ChangeSet, are_same, copied};
+use crate::edits::{Edit, EditFault};
+use clr_rows::{CellId, Change, Row, RowView, Schema};
+use std::alloc::{AllocError, Global};
+
+/// What edits change, made one after another over a view. The view itself stays as it is. It
+/// answers the first edit that can't be made, numbered from 1, and why, or 0 and `OutOfMemory`.
+pub fn stage<V: RowView>(
+    alloc: Global,
+    schema: &Schema,
+    view: &V,
+    edits: &[Edit],
+) -> Result<ChangeSet, (usize, EditFault)>
+    ensures passed { OnOk result (first_bad_edit schema.now (V.content view.now) 1 edits.now ≡ None) }
+    ensures changes { IfOk result (λ set. set ≡ changes (V.content view.now) (all_edited (V.content view.now) edits.now)) }
+    ensures refused { IfErr result (IsRefused (first_bad_edit schema.now (V.content view.now) 1 edits.now)) }
+{
+    let mut staged = ChangeSet::new(alloc);
+    for (at, edit) in edits.iter().enumerate() {
+        if let Err(fault) = make(&mut staged, schema, view, edit) {
+            return Err((number(at, fault), fault));
+        }
+    }
+    Ok(staged)
+}
+
+/// The number of the edit at this place, which is refused, or 0 for want of memory.
+fn number(at: usize, fault: EditFault) -> usize
+    requires { at < 2 ^ 63 }
+    ensures { result ≡ number_of at fault }
+{
+    match fault {
+        EditFault::OutOfMemory => 0,
+        _ => at + 1,
+    }
+}
+
+/// Makes one more edit over the staged ones.
+fn make<V: RowView>(
+    staged: &mut ChangeSet,
+    schema: &Schema,
+    view: &V,
+    edit: &Edit,
+) -> Result<(), EditFault>
+    ensures made { OnOk result (IsMade schema.now (V.content view.now) edit.now staged.old staged.new) }
+    ensures refused { IfErr result (FaultIs schema.now (V.content view.now) edit.now staged.old) }
+{
+    match edit {
+        Edit::Insert(cell, row) => insert(staged, schema, view, *cell, row),
+        Edit::Update(cell, row) => update(staged, schema, view, *cell, row),
+        Edit::Delete(cell) => delete(staged, schema, view, *cell),
+    }
+}
+
+fn insert<V: RowView>(
+    staged: &mut ChangeSet,
+    schema: &Schema,
+    view: &V,
+    cell: CellId,
+    row: &Row,
+) -> Result<(), EditFault>
+    ensures made { OnOk result (IsMade schema.now (V.content view.now) (Insert cell row.now) staged.old staged.new) }
+    ensures refused { IfErr result (FaultIs schema.now (V.content view.now) (Insert cell row.now) staged.old) }
+{
+    judge_row(schema, cell, row)?;
+    if has_row(staged, view, cell) {
+        return Err(EditFault::KeyTaken);
+    }
+    set(staged, view, cell, Some(row))
+}
+
+fn update<V: RowView>(
+    staged: &mut ChangeSet,
+    schema: &Schema,
+    view: &V,
+    cell: CellId,
+    row: &Row,
+) -> Result<(), EditFault>
+    ensures made { OnOk result (IsMade schema.now (V.content view.now) (Update cell row.now) staged.old staged.new) }
+    ensures refused { IfErr result (FaultIs schema.now (V.content view.now) (Update cell row.now) staged.old) }
+{
+    judge_row(schema, cell, row)?;
+    if !has_row(staged, view, cell) {
+        return Err(EditFault::NoRow);
+    }
+    set(staged, view, cell, Some(row))
+}
+
+fn delete<V: RowView>(
+    staged: &mut ChangeSet,
+    schema: &Schema,
+    view: &V,
+    cell: CellId,
+) -> Result<(), EditFault>
+    ensures made { OnOk result (IsMade schema.now (V.content view.now) (Delete cell) staged.old staged.new) }
+    ensures refused { IfErr result (FaultIs schema.now (V.content view.now) (Delete cell) staged.old) }
+{
+    judge_cell(schema, cell)?;
+    if !has_row(staged, view, cell) {
+        return Err(EditFault::NoRow);
+    }
+    set(staged, view, cell, None)
+}
+
+/// Whether a row can stand at a cell.
+fn judge_row(schema: &Schema, cell: CellId, row: &Row) -> Result<(), EditFault>
+    ensures judged { Answers result (option_map Unfit (row_fault schema.now cell row.now)) }
+    ensures within { OnOk result (is_within cell row.now ≡ true) }
+{
+    match schema.fits(cell, row) {
+        Ok(()) => Ok(()),
+        Err(fault) => Err(EditFault::Row(fault)),
+    }
+}
+
+/// Whether a cell can be one of a row.
+fn judge_cell(schema: &Schema, cell: CellId) -> Result<(), EditFault>
+    ensures { Answers result (option_map Unfit (cell_fault schema.now cell)) }
+{
+    match schema.names_cell(cell) {
+        Ok(()) => Ok(()),
+        Err(fault) => Err(EditFault::Row(fault)),
+    }
+}
+
+/// Whether a cell has a row once the staged edits are made.
+fn has_row<V: RowView>(staged: &ChangeSet, view: &V, cell: CellId) -> bool
+    ensures { result ≡ is_some (row_at (taken_over (V.content view.now) staged.now) cell) }
+{
+    match staged.get(cell) {
+        Some(change) => change.after.is_some(),
+        None => view.row(cell).is_some(),
+    }
+}
+
+/// Sets a cell to a row, or to none.
+fn set<V: RowView>(
+    staged: &mut ChangeSet,
+    view: &V,
+    cell: CellId,
+    row: Option<&Row>,
+) -> Result<(), EditFault>
+    requires { is_entry_within (cell, option_copied row) ≡ true }
+    ensures ok { OnOk result (staged.new ≡ settled (V.content view.now) staged.old cell (option_copied row.entry)) }
+    ensures err { IfErr result (λ fault. fault ≡ OutOfMemory) }
+{
+    match settle(staged, view, cell, row) {
+        Ok(()) => Ok(()),
+        Err(_) => Err(EditFault::OutOfMemory),
+    }
+}
+
+/// Sets a cell to a row, or to none.
+fn settle<V: RowView>(
+    staged: &mut ChangeSet,
+    view: &V,
+    cell: CellId,
+    row: Option<&Row>,
+) -> Result<(), AllocError>
+    requires { is_entry_within (cell, option_copied row) ≡ true }
+    ensures { OnOk result (staged.new ≡ settled (V.content view.now) staged.old cell (option_copied row.entry)) }
+{
+    let before = view.row(cell);
+    if are_same(before, row) {
+        staged.take(cell);
+    } else {
+        let change = Change {
+            before: copied(before)?,
+            after: copied(row)?,
+        };
+        staged.put(cell, change)?;
+    }
+    Ok(())
+}

@@ -1,0 +1,5 @@
+pub mod Fitting
+pub mod Names
+pub mod Offices
+pub mod Orders
+pub mod Steps

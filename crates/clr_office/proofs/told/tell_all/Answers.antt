@@ -1,0 +1,13 @@
+use Rattle.std.proofs.Common.{◌≡◌, ◌||◌, Bool, sym, ap, ◌∙◌, refl}
+use Rattle.clr_office.specs.Answer.{all_told}
+use Rattle.clr_office.proofs.Telling.{joined, goes_on, ends, or_parts}
+use Rattle.clr_office.proofs.told.tell_all.Goals as goal
+
+pub loop-step-preserved : goal.loop-step-preserved
+loop-step-preserved c = λ found.
+    let both = or_parts c.loop-step.all.lost c.in_ok-told.told.lost (sym c.in_ok-add.ensures.lost ∙ found) in
+    rw (c.in_ok-add.ensures.lines, c.in_ok-add.ensures.refused)
+    (goes_on c.loop-step.office c.tell.new.office c.args.steps.now c.loop-step.step-index c.step-item.result _ _ _ _ (all_told c.args.office.now c.args.steps.now) c.loop-step-test.true c.step-item.is (c.in_ok-told.ensures both.1) (c.loop-step.invariant both.0))
+
+pub returns : goal.returns
+returns c = λ found. ends c.loop-step.office c.args.steps.now c.loop-step.step-index _ _ (all_told c.args.office.now c.args.steps.now) c.loop-step-test.false (c.loop-step.invariant found)

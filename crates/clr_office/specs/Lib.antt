@@ -1,0 +1,6 @@
+pub mod Answer
+pub mod Devices
+pub mod Faults
+pub mod Input
+pub mod Separator
+pub mod Session

@@ -1,0 +1,56 @@
+-- What a run prints for an input, and what it leaves of its reader and writer.
+use Rattle.std.specs.Prelude.{◌≡◌, ◌≢◌, ℕ, List, Bool, true, false, Option, Some, None, Result, Ok, Err}
+use Rattle.std.specs.Io.KnownBytes.{Appends}
+use Rattle.clr_office.specs.Answer.{answer_of}
+use Rattle.clr_office.specs.Input.{GivesWhole, GivesTooMuch}
+use Rattle.clr_office.specs.Separator.{cut_text}
+use Rattle.clr_office.specs.declared.faults.RunFault.{RunFault}
+use Rattle.clr_office.specs.declared.faults.RunFault.TheVariants as run_fault
+
+-- the answer to the office text and the script that stand on both sides of the separator
+abbrev pub session_of : Option (List ℕ × List ℕ) → Result (List ℕ × ℕ) RunFault
+session_of None = Err run_fault.NoSeparator
+session_of (Some parts) = answer_of parts.0 parts.1
+
+-- the lines and the exit status for an input, or the fault that it has
+unfoldable pub session : List ℕ → Result (List ℕ × ℕ) RunFault
+session input = session_of (cut_text input)
+
+-- a run as its devices show it: what the reader had to give and what is left of it, what the
+-- writer held and what it holds, each where it is told, and whether they failed
+pub record Run : Type 0 where
+  pub input : Option (List ℕ)
+  pub left : Option (List ℕ)
+  pub read_failed : Bool
+  pub held : Option (List ℕ)
+  pub holds : Option (List ℕ)
+  pub write_failed : Bool
+
+-- the whole input was read
+abbrev pub Reads : Run → List ℕ → Type 0
+Reads run input = GivesWhole run.input run.left input × (run.read_failed ≡ false)
+
+-- the whole input was read, and its lines went out; of the lines nothing is said where one found
+-- no memory
+abbrev pub Prints : Run → ℕ → Type 0
+Prints run status = (input : List ℕ) × Reads run input × (run.write_failed ≡ false)
+    × (status ≢ 3 → (lines : List ℕ) × (session input ≡ Ok (lines, status)) × Appends run.held run.holds lines)
+
+-- the whole input was read, and it has this fault
+abbrev pub Refuses : Run → RunFault → Type 0
+Refuses run e = (input : List ℕ) × Reads run input × (session input ≡ Err e)
+
+-- why a run has no exit status
+abbrev pub IsRunFault : Run → RunFault → Type 0
+IsRunFault run run_fault.ReadFailed = run.read_failed ≡ true
+IsRunFault run run_fault.WriteFailed = (run.write_failed ≡ true) × ((input : List ℕ) × Reads run input)
+IsRunFault run run_fault.TooLong = GivesTooMuch run.input run.left × (run.read_failed ≡ false)
+IsRunFault run run_fault.NoSeparator = Refuses run run_fault.NoSeparator
+IsRunFault run (run_fault.BadOffice e) = Refuses run (run_fault.BadOffice e)
+IsRunFault run (run_fault.BadScript place e) = Refuses run (run_fault.BadScript place e)
+IsRunFault run run_fault.OutOfMemory = run.read_failed ≡ false
+
+-- a run answered so
+abbrev pub Answers : Run → Result ℕ RunFault → Type 0
+Answers run (Ok status) = Prints run status
+Answers run (Err e) = IsRunFault run e

@@ -1,0 +1,61 @@
+ghost use Rattle.std.specs.Prelude.{◌≡◌};
+ghost use Rattle.clr_office.specs.Faults.{exit_status};
+ghost use Rattle.clr_office.specs.declared.faults.RunFault.TheVariants as run_fault;
+
+use clr_texts::{RecordFault, TextFault};
+use std::alloc::{AllocError, AllocFailed};
+use thiserror::Error;
+
+/// Why a run ended without an exit status. Its line is what it displays.
+#[derive(Clone, Copy, Debug, PartialEq, Eq, Error)]
+pub enum RunFault {
+    /// The reader failed.
+    #[error("read failed")]
+    ReadFailed,
+    /// The writer failed. How much of the output went out is not known.
+    #[error("write failed")]
+    WriteFailed,
+    /// The input has more than 67,108,864 bytes.
+    #[error("too long")]
+    TooLong,
+    /// No line of the input is the separator.
+    #[error("no separator")]
+    NoSeparator,
+    /// The text before the separator is no office.
+    #[error("unreadable office {number} {fault:?}", number = *.0 as u8, fault = .0)]
+    BadOffice(TextFault),
+    /// The number of the first record that can't be read, from 1, and why.
+    #[error("unreadable script {number} {fault:?} at {place}", number = *.1 as u8, fault = .1, place = .0)]
+    BadScript(usize, RecordFault),
+    /// No memory was found. It may come in place of any other answer.
+    #[error("out of memory")]
+    OutOfMemory,
+}
+
+impl RunFault {
+    /// The exit status of a program that ends so: 3 for want of memory, else 2.
+    pub fn status(self) -> u8
+        ensures { result ≡ exit_status self }
+    {
+        match self {
+            RunFault::OutOfMemory => 3,
+            _ => 2,
+        }
+    }
+}
+
+impl From<AllocError> for RunFault {
+    ghost from_gives = { λ _ e. e ≡ run_fault.OutOfMemory };
+
+    fn from(_e: AllocError) -> RunFault {
+        RunFault::OutOfMemory
+    }
+}
+
+impl<T: Drop> From<AllocFailed<T>> for RunFault {
+    ghost from_gives = { λ _ e. e ≡ run_fault.OutOfMemory };
+
+    fn from(_e: AllocFailed<T>) -> RunFault {
+        RunFault::OutOfMemory
+    }
+}

@@ -1,0 +1,75 @@
+-- A finite map by its entries in the order of their keys.
+use Rattle.std.proofs.Common.{◌≡◌, ℕ, suc, zero, ◌<◌, Bool, true, false, cond, ◌&&◌, T, List, [], ◌∷◌, length, Some, None, ◌||◌, refl, sym, ap, subst, ◌∙◌, arith}
+use Rattle.std.specs.List.{AllByRecursion}
+use Rattle.std.specs.List.Sorted.{IsStrictlySortedBy}
+use Rattle.std.specs.Ordering.{is_lt, is_eq, eq_by_cmp}
+use Rattle.std.specs.declared.cmp.Ordering.{Ordering}
+use Rattle.std.specs.declared.cmp.Ordering.TheVariants.{Less}
+use Rattle.std.specs.Cmp.{IsTotalOrder, eq_by_cmp_equiv, tied_itself}
+use Rattle.std.specs.BTreeMap.{is_at}
+use Rattle.std.specs.Map.{lookup, keys_of}
+use Rattle.std.specs.FinMap.Entries.{find, below_all, is_sorted}
+use Rattle.std.specs.FinMap.{FinMap, IsAntisymmetric, get, keys, insert, remove, empty, get-empty, from_sorted, get-from_sorted, get-insert, get-remove, same_map, contains_key-keys}
+use Rattle.std.specs.List.{list_any, slice_get}
+use Rattle.std.specs.Option.{is_some}
+
+pub both : (a b : Bool) → T a → T b → T (a && b)
+both true b p q = q
+both false b p q = p
+
+module _ {K X : Type 0} (R : K → K → Ordering) where
+  below_from_all : (x : K) (es : List (K × X)) → AllByRecursion (λ y. R x y ≡ Less) (keys_of es) → T (below_all R x es)
+  below_from_all x [] h = tt
+  below_from_all x (e ∷ es) h = both _ _ (subst (λ r. T (is_lt r)) (sym h.0) tt) (below_from_all x es h.1)
+
+  -- keys that ascend make a sorted list
+  pub sorted_from_ordered : (es : List (K × X)) → IsStrictlySortedBy R (keys_of es) → T (is_sorted R es)
+  unfolding IsStrictlySortedBy
+  sorted_from_ordered [] h = tt
+  sorted_from_ordered (e ∷ es) h = both _ _ (below_from_all e.0 es h.0) (sorted_from_ordered es h.1)
+
+  find_row : (es : List (K × X)) (q : K) → find R q es ≡ lookup (is_at (R q)) es
+  find_row [] q = refl
+  find_row (e ∷ es) q = ap (cond (is_at (R q) e.0) (Some e.1)) (find_row es q)
+
+  -- what the map that sorted entries make has at a key
+  pub get_sorted : (es : List (K × X)) (q : K) → T (is_sorted R es) → get (from_sorted {R = R} es) q ≡ lookup (is_at (R q)) es
+  get_sorted es q h = get-from_sorted R es q h ∙ find_row es q
+
+module _ {K X : Type 0} {R : K → K → Ordering} (o : IsTotalOrder R) (exact : IsAntisymmetric R) where
+  -- entries that differ at one key make maps that differ there
+  pub one_put : (es fs : List (K × X)) (s : K) (n : X) → T (is_sorted R es) → T (is_sorted R fs)
+      → ((q : K) → lookup (is_at (R q)) fs ≡ cond (is_at (R s) q) (Some n) (lookup (is_at (R q)) es)) → from_sorted {R = R} fs ≡ insert (from_sorted es) s n
+  one_put es fs s n se sf h = same_map o exact _ _ (λ q.
+      get_sorted R fs q sf ∙ h q ∙ ap (λ b. cond b (Some n) (lookup (is_at (R q)) es)) ((eq_by_cmp_equiv o).symm s q)
+      ∙ sym (get-insert o (from_sorted es) s n q ∙ ap (cond (eq_by_cmp R q s) (Some n)) (get_sorted R es q se)))
+
+  pub one_taken : (es fs : List (K × X)) (s : K) → T (is_sorted R es) → T (is_sorted R fs)
+      → ((q : K) → lookup (is_at (R q)) fs ≡ cond (is_at (R s) q) None (lookup (is_at (R q)) es)) → from_sorted {R = R} fs ≡ remove (from_sorted es) s
+  one_taken es fs s se sf h = same_map o exact _ _ (λ q.
+      get_sorted R fs q sf ∙ h q ∙ ap (λ b. cond b None (lookup (is_at (R q)) es)) ((eq_by_cmp_equiv o).symm s q)
+      ∙ sym (get-remove o (from_sorted es) s q ∙ ap (cond (eq_by_cmp R q s) None) (get_sorted R es q se)))
+
+-- no entries make the empty map
+pub from_no_entries : {K X : Type 0} {R : K → K → Ordering} → IsTotalOrder R → IsAntisymmetric R → from_sorted {K = K} {X = X} {R = R} [] ≡ empty
+from_no_entries {R = R} o exact = same_map o exact _ _ (λ q. get-from_sorted R [] q tt ∙ sym (get-empty R q))
+
+-- an element that passes the test
+pub any_at : {A : Type 0} (p : A → Bool) (xs : List A) (i : ℕ) (x : A) → slice_get xs i ≡ Some x → p x ≡ true → list_any p xs ≡ true
+any_at p [] i x e h = absurd (cc)
+any_at p (y ∷ ys) zero x e h = let same : y ≡ x = cc in rw (same, h) refl
+any_at p (y ∷ ys) (suc i) x e h = rw (any_at p ys i x e h) (or_true (p y))
+  where
+    or_true : (b : Bool) → (b || true) ≡ true
+    or_true true = refl
+    or_true false = refl
+
+-- a key that stands at a place has a value
+pub held_at : {K X : Type 0} {R : K → K → Ordering} → IsTotalOrder R → (m : FinMap R X) (i : ℕ) (k : K) → slice_get (keys m) i ≡ Some k → is_some (get m k) ≡ true
+held_at {R = R} o m i k e = contains_key-keys m k ∙ any_at (eq_by_cmp R k) (keys m) i k e (ap is_eq (tied_itself o k))
+
+-- each place below the length has an element
+pub some_at : {A : Type 0} (xs : List A) (i : ℕ) → i < length xs → is_some (slice_get xs i) ≡ true
+some_at [] i lt = absurd (omega arith)
+some_at (x ∷ xs) zero lt = refl
+some_at (x ∷ xs) (suc i) lt = some_at xs i (omega arith)

@@ -1,0 +1,240 @@
+-- What follows of tables that make a schema, and of a row that fits one.
+use Rattle.std.proofs.Common.{◌≡◌, ℕ, ◌+◌, ◌<◌, ◌≤◌, Bool, true, false, not, ◌&&◌, ◌||◌, List, [], ◌∷◌, length, ℤ, pos, negsuc, map, drop, get_or, refl, ap, subst, suc, zero, add-one, arith, Option, Some, None}
+use Rattle.std.specs.Prelude.{if◌then◌else◌, slice_get, position, nat_le, ◌==◌, unsigned_abs}
+use Rattle.std.proofs.Math.Seq.{drop-cons}
+use Rattle.std.proofs.lemmas.Bool.{not-true, lt-ltb, and_parts, and_from, or_parts, leb-true, eqb-true, both_ways}
+use Rattle.std.proofs.lemmas.Bool.Decides.{Decides-int_eq}
+use Rattle.std.proofs.lemmas.Option.{slice_get_within}
+use Rattle.std.proofs.lemmas.Slice.Eq.{bytes_eq-Decides}
+use Rattle.std.specs.List.{list_all, list_any, position_or_len}
+use Rattle.std.specs.Ordering.{int_eq}
+use Rattle.std.specs.Str.{bytes_eq}
+use Rattle.clr_rows.specs.declared.cells.CellId.{CellId}
+use Rattle.clr_rows.specs.declared.faults.SchemaFault.TheVariants as unfit
+use Rattle.clr_rows.specs.declared.faults.RowFault.TheVariants.{WrongCount, WrongKind, WordsTooLong, WrongShape, OutOfRange, ZeroSegment}
+use Rattle.clr_rows.specs.declared.places.Place.{Place}
+use Rattle.clr_rows.specs.declared.places.Shape.TheVariants.{At, Line}
+use Rattle.clr_rows.specs.declared.rows.Row.{Row}
+use Rattle.clr_rows.specs.declared.rows.Value.{Value}
+use Rattle.clr_rows.specs.declared.rows.Value.TheVariants.{Int, Words}
+use Rattle.clr_rows.specs.declared.tables.Kind.{Kind}
+use Rattle.clr_rows.specs.declared.tables.TableDef.{TableDef}
+use Rattle.clr_rows.specs.Names.{is_good_name}
+use Rattle.clr_rows.specs.Numbers.{is_i64}
+use Rattle.clr_rows.specs.Places.{InRange, Differ}
+use Rattle.clr_rows.specs.Schemas.{are_distinct, schema_fault, has_room, has_good_names, has_distinct_columns, is_column_name, table_named, column_named, is_of_kind, are_of_kinds, is_short, is_of_form, is_key, is_place, is_coordinate, has_coordinates, is_number, is_in_range, is_zero_segment, fault_in, fault_at, row_fault, key_fault, cell_fault}
+
+-- names that differ --------------------------------------------------------------------------
+
+list_any-map : {X Y : Type 0} (p : Y → Bool) (f : X → Y) (xs : List X) → list_any p (map f xs) ≡ list_any (λ x. p (f x)) xs
+list_any-map p f [] = refl
+list_any-map p f (x ∷ xs) = ap (λ b. p (f x) || b) (list_any-map p f xs)
+
+-- the names from the i-th on differ if the i-th isn't among the later ones, and those differ
+pub distinct_from : {X : Type 0} (f : X → List ℕ) (xs : List X) (i : ℕ) (x : X) → i < length xs → x ≡ get_or xs i x → are_distinct (map f (drop i xs)) ≡ (not (list_any (λ y. bytes_eq (f x) (f y)) (drop (i + 1) xs)) && are_distinct (map f (drop (i + 1) xs)))
+distinct_from f xs i x h is =
+    rw (add-one, drop-cons xs i x h, ← is, list_any-map (bytes_eq (f x)) f (drop (suc i) xs))
+
+-- a chain of tests that lets pass has passed the first of them, and the others
+pub passed : {E : Type 0} (b : Bool) (e : E) (rest : Option E) → (if not b then Some e else rest) ≡ None → (b ≡ true) × (rest ≡ None)
+passed true e rest h = (refl, h)
+passed false e rest h = cc
+
+-- a test that all elements pass is passed by each
+pub at_each : {X : Type 0} (p : X → Bool) (xs : List X) (i : ℕ) (x : X) → list_all p xs ≡ true → slice_get xs i ≡ Some x → p x ≡ true
+at_each p [] i x all is = cc
+at_each p (y ∷ ys) zero x all is = let h = and_parts (p y) (list_all p ys) all in cc
+at_each p (y ∷ ys) (suc i) x all is = at_each p ys i x (and_parts (p y) (list_all p ys) all).1 is
+
+-- limits of a schema -------------------------------------------------------------------------
+
+few : (tables : List TableDef) → schema_fault tables ≡ None → (nat_le (length tables) 32 ≡ true) × (list_all has_room tables ≡ true)
+unfolding schema_fault
+few tables h = and_parts _ _ (passed (nat_le (length tables) 32 && list_all has_room tables) unfit.TooMany _ h).0
+
+pub few_tables : (tables : List TableDef) → schema_fault tables ≡ None → length tables ≤ 32
+few_tables tables h = leb-true (length tables) 32 (few tables h).0
+
+pub few_columns : (tables : List TableDef) (i : ℕ) (table : TableDef) → schema_fault tables ≡ None → slice_get tables i ≡ Some table → length table.columns ≤ 16
+few_columns tables i table h is = leb-true (length table.columns) 16 (at_each has_room tables i table (few tables h).1 is)
+
+-- names of a schema --------------------------------------------------------------------------
+
+names : (tables : List TableDef) → schema_fault tables ≡ None → (list_all has_good_names tables ≡ true) × (are_distinct (map (λ t. t.name) tables) ≡ true) × (list_all has_distinct_columns tables ≡ true)
+unfolding schema_fault
+names tables h =
+    let a = passed (nat_le (length tables) 32 && list_all has_room tables) unfit.TooMany _ h in
+    let b = passed (list_all has_good_names tables) unfit.BadName _ a.1 in
+    let d = passed (are_distinct (map (λ t. t.name) tables) && list_all has_distinct_columns tables) unfit.NameTaken _ b.1 in
+    let e = and_parts (are_distinct (map (λ t. t.name) tables)) (list_all has_distinct_columns tables) d.0 in
+    (b.0, e.0, e.1)
+
+pub good_table_name : (tables : List TableDef) (i : ℕ) (table : TableDef) → schema_fault tables ≡ None → slice_get tables i ≡ Some table → is_good_name table.name ≡ true
+good_table_name tables i table h is = (and_parts (is_good_name table.name) (list_all (λ c. is_column_name c.0) table.columns) (at_each has_good_names tables i table (names tables h).0 is)).0
+
+pub good_column_name : (tables : List TableDef) (i j : ℕ) (table : TableDef) (column : List ℕ × Kind) → schema_fault tables ≡ None → slice_get tables i ≡ Some table → slice_get table.columns j ≡ Some column → is_column_name column.0 ≡ true
+good_column_name tables i j table column h is at = at_each (λ c. is_column_name c.0) table.columns j column (and_parts (is_good_name table.name) (list_all (λ c. is_column_name c.0) table.columns) (at_each has_good_names tables i table (names tables h).0 is)).1 at
+
+-- an element whose name equals no later one's differs from each later one
+apart : {X : Type 0} (f : X → List ℕ) (name : List ℕ) (xs : List X) (i : ℕ) (x : X) → list_any (bytes_eq name) (map f xs) ≡ false → slice_get xs i ≡ Some x → bytes_eq name (f x) ≡ false
+apart f name [] i x none is = cc
+apart f name (y ∷ ys) zero x none is = let h = or_parts (bytes_eq name (f y)) (list_any (bytes_eq name) (map f ys)) none in cc
+apart f name (y ∷ ys) (suc i) x none is = apart f name ys i x (or_parts (bytes_eq name (f y)) (list_any (bytes_eq name) (map f ys)) none).1 is
+
+place_by_name : {X : Type 0} (f : X → List ℕ) (xs : List X) (i : ℕ) (x : X) → are_distinct (map f xs) ≡ true → slice_get xs i ≡ Some x → position_or_len (λ y. bytes_eq (f y) (f x)) xs ≡ i
+place_by_name f [] i x h is = cc
+place_by_name f (y ∷ ys) zero x h is =
+    let e : y ≡ x = cc in
+    let same = (bytes_eq-Decides (f y) (f x)).1 (ap f e) in
+    rw same refl
+place_by_name f (y ∷ ys) (suc i) x h is =
+    let a = and_parts (not (list_any (bytes_eq (f y)) (map f ys))) (are_distinct (map f ys)) h in
+    let other = apart f (f y) ys i x (not-true (list_any (bytes_eq (f y)) (map f ys)) a.0) is in
+    let rest = place_by_name f ys i x a.1 is in
+    rw (other, rest) (omega arith)
+
+-- where names differ, the first element of a name is the one that has it
+place_of_name : {X : Type 0} (f : X → List ℕ) (xs : List X) (i : ℕ) (x : X) → are_distinct (map f xs) ≡ true → slice_get xs i ≡ Some x → position (λ y. bytes_eq (f y) (f x)) xs ≡ Some i
+place_of_name f xs i x h is = rw (place_by_name f xs i x h is, lt-ltb i (length xs) (slice_get_within xs i x is)) refl
+
+-- a table, and a column, is found by its name
+pub table_of_name : (tables : List TableDef) (i : ℕ) (table : TableDef) → schema_fault tables ≡ None → slice_get tables i ≡ Some table → table_named tables table.name ≡ Some i
+table_of_name tables i table h is = place_of_name (λ t. t.name) tables i table (names tables h).1 is
+
+pub column_of_name : (tables : List TableDef) (i j : ℕ) (table : TableDef) (column : List ℕ × Kind) → schema_fault tables ≡ None → slice_get tables i ≡ Some table → slice_get table.columns j ≡ Some column → column_named tables i column.0 ≡ Some j
+column_of_name tables i j table column h is at =
+    rw is (place_of_name (λ c. c.0) table.columns j column (at_each has_distinct_columns tables i table (names tables h).2 is) at)
+
+-- a row that fits a table --------------------------------------------------------------------
+
+-- the tests that a row at a cell of this table passes
+pub record Fits (table : TableDef) (cell : CellId) (row : Row) : Type 0 where
+  pub count : length row.values ≡ length table.columns
+  pub kinds : are_of_kinds table.columns row.values ≡ true
+  pub short : list_all is_short row.values ≡ true
+  pub form : is_of_form table.shape row.shape ≡ true
+  pub key : is_key cell.key ≡ true
+  pub coordinates : has_coordinates row.shape ≡ true
+  pub numbers : list_all is_number row.values ≡ true
+  pub ends : is_zero_segment row.shape ≡ false
+
+ends_differ : (b : Bool) → (if b then Some ZeroSegment else None) ≡ None → b ≡ false
+ends_differ true h = cc
+ends_differ false h = refl
+
+in_range : (cell : CellId) (row : Row) → is_in_range cell row ≡ true → (is_key cell.key ≡ true) × (has_coordinates row.shape ≡ true) × (list_all is_number row.values ≡ true)
+in_range cell row h =
+    let ab = and_parts (is_key cell.key && has_coordinates row.shape) (list_all is_number row.values) h in
+    let a = and_parts (is_key cell.key) (has_coordinates row.shape) ab.0 in
+    (a.0, a.1, ab.1)
+
+fits_in : (table : TableDef) (cell : CellId) (row : Row) → fault_in table cell row ≡ None → Fits table cell row
+fits_in table cell row h =
+    let a = passed (length row.values == length table.columns) WrongCount _ h in
+    let b = passed (are_of_kinds table.columns row.values) WrongKind _ a.1 in
+    let d = passed (list_all is_short row.values) WordsTooLong _ b.1 in
+    let e = passed (is_of_form table.shape row.shape) WrongShape _ d.1 in
+    let f = passed (is_in_range cell row) OutOfRange _ e.1 in
+    let g = in_range cell row f.0 in
+    record { count = eqb-true _ _ a.0; kinds = b.0; short = d.0; form = e.0; key = g.0; coordinates = g.1; numbers = g.2; ends = ends_differ (is_zero_segment row.shape) f.1 }
+
+fits_at : (found : Option TableDef) (cell : CellId) (row : Row) → fault_at found cell row ≡ None → (table : TableDef) × (found ≡ Some table) × Fits table cell row
+fits_at None cell row h = cc
+fits_at (Some table) cell row h = (table, refl, fits_in table cell row h)
+
+-- a row without a fault stands in a known table, and passes its tests
+pub fits_table : (tables : List TableDef) (cell : CellId) (row : Row) → row_fault tables cell row ≡ None → (table : TableDef) × (slice_get tables cell.table ≡ Some table) × Fits table cell row
+unfolding row_fault
+fits_table tables cell row h = fits_at (slice_get tables cell.table) cell row h
+
+-- what a fit gives ---------------------------------------------------------------------------
+
+-- a key as a number from 1 on
+pub key_of : (key : ℤ) → is_key key ≡ true → (n : ℕ) × (key ≡ pos n) × (1 ≤ n) × (n ≤ 999999999999999)
+key_of (pos n) h = let a = and_parts (nat_le 1 n) (nat_le n 999999999999999) h in (n, refl, leb-true 1 n a.0, leb-true n 999999999999999 a.1)
+key_of (negsuc n) h = cc
+
+place_in_range : (p : Place) → is_place p ≡ true → InRange p
+place_in_range p h =
+    let a = and_parts (is_coordinate p.x) (is_coordinate p.y) h in
+    record { in_x = leb-true (unsigned_abs p.x) 1000000000 a.0; in_y = leb-true (unsigned_abs p.y) 1000000000 a.1 }
+
+both_same : (a b x y : ℤ) → (int_eq a x && int_eq b y) ≡ false → a ≡ x → b ≡ y → ⊥
+both_same a b x y h p q = both_ways (int_eq a x && int_eq b y) h (and_from (int_eq a x) (int_eq b y) ((Decides-int_eq a x).1 p) ((Decides-int_eq b y).1 q))
+
+-- a value beside its column is of its kind
+kind_at : (columns : List (List ℕ × Kind)) (values : List Value) (i : ℕ) (column : List ℕ × Kind) (value : Value) → are_of_kinds columns values ≡ true → slice_get columns i ≡ Some column → slice_get values i ≡ Some value → is_of_kind column.1 value ≡ true
+kind_at [] values i column value all at is = cc
+kind_at (c ∷ cs) [] i column value all at is = cc
+kind_at (c ∷ cs) (v ∷ vs) zero column value all at is = let h = and_parts (is_of_kind c.1 v) (are_of_kinds cs vs) all in cc
+kind_at (c ∷ cs) (v ∷ vs) (suc i) column value all at is = kind_at cs vs i column value (and_parts (is_of_kind c.1 v) (are_of_kinds cs vs) all).1 at is
+
+keyed : (found : Option TableDef) (cell : CellId) (table : TableDef) → found ≡ Some table → is_key cell.key ≡ true → key_fault found cell ≡ None
+keyed None cell table is h = cc
+keyed (Some t) cell table is h = rw h refl
+
+-- a key in range of a known table names a row that could stand
+pub cell_named : (tables : List TableDef) (cell : CellId) (table : TableDef) → slice_get tables cell.table ≡ Some table → is_key cell.key ≡ true → cell_fault tables cell ≡ None
+unfolding cell_fault
+cell_named tables cell table is h = keyed (slice_get tables cell.table) cell table is h
+
+key_in_range : (b : Bool) → (if b then None else Some OutOfRange) ≡ None → b ≡ true
+key_in_range true h = refl
+key_in_range false h = cc
+
+named : (found : Option TableDef) (cell : CellId) → key_fault found cell ≡ None → (table : TableDef) × (found ≡ Some table) × (is_key cell.key ≡ true)
+named None cell h = cc
+named (Some t) cell h = (t, refl, key_in_range (is_key cell.key) h)
+
+-- a cell that names a row that could stand has a known table and a key in range
+pub cell_parts : (tables : List TableDef) (cell : CellId) → cell_fault tables cell ≡ None → (table : TableDef) × (slice_get tables cell.table ≡ Some table) × (is_key cell.key ≡ true)
+unfolding cell_fault
+cell_parts tables cell h = named (slice_get tables cell.table) cell h
+
+pub cell_table : (tables : List TableDef) (cell : CellId) → cell_fault tables cell ≡ None → cell.table < length tables
+cell_table tables cell h = let t = cell_parts tables cell h in slice_get_within tables cell.table t.0 t.1
+
+pub cell_key : (tables : List TableDef) (cell : CellId) → cell_fault tables cell ≡ None → is_key cell.key ≡ true
+cell_key tables cell h = (cell_parts tables cell h).2
+
+module _ (tables : List TableDef) (cell : CellId) (row : Row) (fit : row_fault tables cell row ≡ None) where
+  -- its table is known, and its key in range
+  pub row_table : cell.table < length tables
+  row_table = let t = fits_table tables cell row fit in slice_get_within tables cell.table t.0 t.1
+
+  pub row_key : is_key cell.key ≡ true
+  row_key = (fits_table tables cell row fit).2.key
+
+  -- its numbers are within 64 bits, its texts of at most 200 bytes
+  pub row_numbers : list_all is_number row.values ≡ true
+  row_numbers = (fits_table tables cell row fit).2.numbers
+
+  pub row_number : (i : ℕ) (n : ℤ) → slice_get row.values i ≡ Some (Int n) → is_i64 n ≡ true
+  row_number i n is = at_each is_number row.values i (Int n) row_numbers is
+
+  pub row_text : (i : ℕ) (text : List ℕ) → slice_get row.values i ≡ Some (Words text) → length text ≤ 200
+  row_text i text is = leb-true (length text) 200 (at_each is_short row.values i (Words text) (fits_table tables cell row fit).2.short is)
+
+  -- its places are in range, and the ends of a segment differ
+  pub row_point : (p : Place) → row.shape ≡ At p → InRange p
+  row_point p is = place_in_range p (subst (λ s. has_coordinates s ≡ true) is (fits_table tables cell row fit).2.coordinates)
+
+  pub row_line : (p q : Place) → row.shape ≡ Line p q → InRange p × InRange q × Differ p q
+  row_line p q is =
+      let f = (fits_table tables cell row fit).2 in
+      let a = and_parts (is_place p) (is_place q) (subst (λ s. has_coordinates s ≡ true) is f.coordinates) in
+      (place_in_range p a.0, place_in_range q a.1, both_same p.x p.y q.x q.y (subst (λ s. is_zero_segment s ≡ false) is f.ends))
+
+  -- it has its table's form, and a value of its kind for each column
+  pub row_fits : (table : TableDef) → slice_get tables cell.table ≡ Some table → Fits table cell row
+  row_fits table is =
+      let t = fits_table tables cell row fit in
+      let same : t.0 ≡ table = cc in
+      subst (λ u. Fits u cell row) same t.2
+
+  pub row_kind : (table : TableDef) (i : ℕ) (column : List ℕ × Kind) (value : Value) → slice_get tables cell.table ≡ Some table → slice_get table.columns i ≡ Some column → slice_get row.values i ≡ Some value → is_of_kind column.1 value ≡ true
+  row_kind table i column value of at is = kind_at table.columns row.values i column value (row_fits table of).kinds at is
+
+  -- its cell names a row that could stand
+  pub row_names_cell : cell_fault tables cell ≡ None
+  row_names_cell = let t = fits_table tables cell row fit in cell_named tables cell t.0 t.1 t.2.key

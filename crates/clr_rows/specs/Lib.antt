@@ -1,0 +1,10 @@
+pub mod Cells
+pub mod Contents
+pub mod Laws
+pub mod Names
+pub mod Numbers
+pub mod Places
+pub mod Ranges
+pub mod Same
+pub mod Schemas
+pub mod Sheets

@@ -1,0 +1,27 @@
+-- Names of tables, columns, workspaces and savepoints.
+use Rattle.std.specs.Prelude.{ℕ, Bool, false, List, [], ◌∷◌, length, ◌&&◌, ◌||◌, ◌==◌, nat_le, codes}
+use Rattle.std.specs.List.{list_all}
+use Rattle.std.specs.Str.{bytes_eq}
+
+abbrev pub is_between : ℕ → ℕ → ℕ → Bool
+is_between low c high = nat_le low c && nat_le c high
+
+-- an ASCII letter
+abbrev pub is_letter : ℕ → Bool
+is_letter c = is_between 65 c 90 || is_between 97 c 122
+
+-- an ASCII letter, a digit or `_`
+abbrev pub is_name_byte : ℕ → Bool
+is_name_byte c = is_letter c || is_between 48 c 57 || c == 95
+
+abbrev pub begins_with_letter : List ℕ → Bool
+begins_with_letter [] = false
+begins_with_letter (c ∷ cs) = is_letter c
+
+-- 1 to 30 bytes: a letter, and then letters, digits or `_`
+unfoldable pub is_good_name : List ℕ → Bool
+is_good_name name = begins_with_letter name && nat_le (length name) 30 && list_all is_name_byte name
+
+-- a name that a column may have: `KEY` stands for the primary key
+abbrev pub is_key_word : List ℕ → Bool
+is_key_word name = bytes_eq name (codes "KEY")

@@ -1,0 +1,15 @@
+use crate::rows::Row;
+
+/// A cell: the number of a table and a primary key in it. Cells are ordered by table, then by key.
+#[derive(Clone, Copy, Debug, PartialEq, Eq, PartialOrd, Ord)]
+pub struct CellId {
+    pub table: u16,
+    pub key: i64,
+}
+
+/// A row beside the cell that it stands at.
+#[derive(Clone, Copy, Debug)]
+pub struct Held<'a> {
+    pub cell: CellId,
+    pub row: &'a Row,
+}

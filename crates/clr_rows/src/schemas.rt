@@ -1,0 +1,138 @@
+ghost use Rattle.std.specs.Prelude.{◌≡◌, ◌<◌, ◌≤◌, length, IfOk, IfSome, MatchResult, Some, None, slice_get, option_map};
+ghost use Rattle.std.specs.Option.{option_copied};
+ghost use Rattle.clr_rows.specs.Schemas.{Answers, schema_fault, table_named, named_in, column_named, cell_fault, row_fault};
+
+mod row_checks;
+mod table_checks;
+
+use crate::cells::CellId;
+use crate::faults::{RowFault, SchemaFault};
+use crate::rows::Row;
+use crate::schemas::row_checks::{check_row, is_key};
+use crate::schemas::table_checks::check_tables;
+use crate::tables::{Kind, TableDef};
+use crate::texts::Words;
+use std::marker::Model;
+
+/// The tables of a database, numbered from 0: at most 32, each of at most 16 columns, with good
+/// names that differ.
+#[derive(Debug, Drop)]
+pub struct Schema {
+    tables: Vec<TableDef>,
+}
+
+impl Model for Schema {
+    ghost use Rattle.std.specs.Prelude.{◌≡◌, List, None};
+    ghost use Rattle.clr_rows.specs.declared.tables.TableDef.{TableDef as OneTable};
+
+    ghost Value = { List OneTable };
+
+    ghost use Rattle.clr_rows.specs.Schemas.{schema_fault};
+
+    ghost view = { λ a. a.tables.items };
+
+    ghost invariant = { λ a. schema_fault a.tables.items ≡ None };
+}
+
+impl Schema {
+    /// The schema of these tables, numbered in their order, or the first test that they fail,
+    /// each made over all tables before the next: `TooMany` for more than 32 tables or for a
+    /// table of more than 16 columns, `BadName` for a name that isn't good or a column `KEY`,
+    /// `NameTaken` for a table's name, or a column's in one table, that stands twice.
+    pub fn new(tables: Vec<TableDef>) -> Result<Schema, SchemaFault>
+        ensures made { IfOk result (λ schema. schema ≡ tables.items) }
+        ensures judged { MatchResult result (λ _. schema_fault tables.items ≡ None) (λ fault. schema_fault tables.items ≡ Some fault) }
+    {
+        match check_tables(tables.as_slice()) {
+            Ok(()) => Ok(Schema { tables }),
+            Err(fault) => Err(fault),
+        }
+    }
+
+    /// The number of the table of this name, or none. Case counts.
+    pub fn table(&self, name: &str) -> Option<u16>
+        ensures value { result ≡ table_named self.now name.now }
+        ensures small { length self.now ≤ 32 }
+    {
+        match table_position(self.tables.as_slice(), name) {
+            Some(at) => Some(at as u16),
+            None => None,
+        }
+    }
+
+    /// The name of the table of this number, or none.
+    pub fn table_name(&self, table: u16) -> Option<&str>
+        ensures { option_map (λ s. s.now) result ≡ option_map (λ t. t.name) (slice_get self.now table) }
+    {
+        match self.def(table) {
+            Some(table) => Some(table.name.as_str()),
+            None => None,
+        }
+    }
+
+    /// The number of the column of this name in a table, counted from 0, or none, also where
+    /// there is no such table. Case counts.
+    pub fn column(&self, table: u16, name: &str) -> Option<u16>
+        ensures { result ≡ column_named self.now table name.now }
+    {
+        let table = self.def(table)?;
+        match column_position(table.columns.as_slice(), name) {
+            Some(at) => Some(at as u16),
+            None => None,
+        }
+    }
+
+    /// The table of this number, or none.
+    pub fn def(&self, table: u16) -> Option<&TableDef>
+        ensures value { option_copied result ≡ slice_get self.now table }
+        ensures sound { schema_fault self.now ≡ None }
+        ensures small { length self.now ≤ 32 }
+    {
+        self.tables.get(table as usize)
+    }
+
+    /// Whether some row could stand at this cell: `NoTable` where no table has its number,
+    /// else `OutOfRange` for a key outside 1 to 999,999,999,999,999.
+    #[tactic(auto, unfolding(crate::specs::Schemas::cell_fault))]
+    pub fn names_cell(&self, cell: CellId) -> Result<(), RowFault>
+        ensures { Answers result (cell_fault self.now cell) }
+    {
+        match self.def(cell.table) {
+            None => Err(RowFault::NoTable),
+            Some(_) if is_key(cell.key) => Ok(()),
+            Some(_) => Err(RowFault::OutOfRange),
+        }
+    }
+
+    /// Whether this row can stand at this cell, or the first test that it fails: `NoTable`;
+    /// `WrongCount` for another number of values than columns; `WrongKind`; `WordsTooLong` for
+    /// a text of more than 200 bytes; `WrongShape`; `OutOfRange` for a key outside 1 to
+    /// 999,999,999,999,999 or a coordinate beyond 1,000,000,000 millimetres either way;
+    /// `ZeroSegment` for a segment whose ends are one point.
+    #[tactic(auto, unfolding(crate::specs::Schemas::row_fault))]
+    pub fn fits(&self, cell: CellId, row: &Row) -> Result<(), RowFault>
+        ensures { Answers result (row_fault self.now cell row.now) }
+    {
+        match self.def(cell.table) {
+            None => Err(RowFault::NoTable),
+            Some(table) => check_row(table, cell, row),
+        }
+    }
+}
+
+fn table_position(tables: &[TableDef], name: &str) -> Option<usize>
+    ensures value { result ≡ table_named tables.now name.now }
+    ensures bound { IfSome result (λ at. at < length tables.now) }
+{
+    tables.iter().position(|table| table.name.as_str() == name)
+}
+
+fn column_position(columns: &[(Words, Kind)], name: &str) -> Option<usize>
+    ensures value { result ≡ named_in columns.now name.now }
+    ensures bound { IfSome result (λ at. at < length columns.now) }
+{
+    columns.iter().position(|column| column.0.as_str() == name)
+}
+
+#[cfg(test)]
+mod tests;

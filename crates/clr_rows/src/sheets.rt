@@ -1,0 +1,160 @@
+ghost use Rattle.std.specs.Prelude.{◌≡◌, ◌<◌, length, slice_get, true, Some, None, IfOk, OnOk, OnErr, IsSome, IsOk};
+ghost use Rattle.std.specs.FinMap as finite;
+ghost use Rattle.std.specs.Option.{option_copied};
+ghost use Rattle.std.specs.BTreeMap.{keys};
+ghost use Rattle.std.specs.List.{list_all};
+ghost use Rattle.std.specs.Map.Iter.{ShowsInOrder, deref_pair};
+ghost use Rattle.clr_rows.specs.Contents.{Content, row_at, cells_of, no_rows, over, set_cell};
+ghost use Rattle.clr_rows.specs.Ranges.{is_within, is_entry_within, AreWithin};
+ghost use Rattle.clr_rows.specs.declared.cells.CellId.{CellId as Cell};
+ghost use Rattle.clr_rows.specs.declared.rows.Row.{Row as OneRow};
+
+use crate::cells::CellId;
+use crate::rows::Row;
+use crate::views::RowView;
+use std::alloc::{AllocError, Global};
+use std::collections::BTreeMap;
+use std::collections::btree_map::Iter;
+use std::marker::Model;
+
+/// A content: a finite map from cells to rows.
+#[derive(Drop)]
+pub struct Sheet {
+    rows: BTreeMap<CellId, Row>,
+}
+
+impl Model for Sheet {
+    ghost use Rattle.clr_rows.specs.Contents.{Content, coded_content};
+
+    ghost Value = { Content };
+
+    ghost coded = { coded_content };
+
+    ghost use Rattle.clr_rows.specs.Sheets.{content_of, IsSound};
+
+    ghost view = { λ a. content_of a.rows.entries };
+
+    ghost invariant = { λ a. IsSound a.rows.entries };
+}
+
+fn key_at(rows: &BTreeMap<CellId, Row>, at: usize) -> Option<&CellId>
+    ensures { option_copied result ≡ slice_get (keys rows.now) at }
+{
+    rows.keys().nth(at)
+}
+
+impl Sheet {
+    /// A sheet with no rows.
+    pub fn new(alloc: Global) -> Sheet
+        ensures { result ≡ no_rows }
+    {
+        Sheet {
+            rows: BTreeMap::new(alloc),
+        }
+    }
+
+    /// The row at a cell, or none.
+    pub fn get(&self, cell: CellId) -> Option<&Row>
+        ensures row { option_copied result ≡ row_at self.now cell }
+        ensures within { AreWithin self.now }
+    {
+        self.rows.get(&cell)
+    }
+
+    /// Puts a row at a cell, and answers the row that stood there. It fails for want of memory
+    /// alone, never where the cell has a row, and changes nothing then.
+    pub fn put(&mut self, cell: CellId, row: Row) -> Result<Option<Row>, AllocError>
+        requires { is_within cell row ≡ true }
+        ensures before { IfOk result (λ before. before ≡ row_at self.old cell) }
+        ensures ok { OnOk result (self.new ≡ finite.insert self.old cell row) }
+        ensures err { OnErr result (self.new ≡ self.old) }
+        ensures held { IsSome (row_at self.old cell) → IsOk result }
+    {
+        let before = self.rows.insert(cell, row)?;
+        Ok(before)
+    }
+
+    /// Sets a cell to a row, or to none.
+    fn set(&mut self, cell: CellId, row: Option<Row>) -> Result<(), AllocError>
+        requires { is_entry_within (cell, row) ≡ true }
+        ensures ok { OnOk result (self.new ≡ set_cell self.old cell row) }
+        ensures err { OnErr result (self.new ≡ self.old) }
+    {
+        match row {
+            Some(row) => {
+                self.put(cell, row)?;
+            }
+            None => {
+                self.take(cell);
+            }
+        }
+        Ok(())
+    }
+
+    /// Puts rows, or none, over this content at some cells, one after another, all of them or
+    /// nothing: it fails for want of memory alone, and changes nothing then.
+    #[tactic(auto, unfolding(crate::specs::Contents::over))]
+    pub fn put_all(&mut self, cells: Vec<(CellId, Option<Row>)>) -> Result<(), AllocError>
+        requires { list_all is_entry_within cells.items ≡ true }
+        ensures ok { OnOk result (self.new ≡ over self.old cells.items) }
+        ensures err { OnErr result (self.new ≡ self.old) }
+    {
+        let mut sheet = self.copy()?;
+        for (cell, row) in cells {
+            sheet.set(cell, row)?;
+        }
+        *self = sheet;
+        Ok(())
+    }
+
+    /// Takes the row at a cell away, and answers it, or none.
+    pub fn take(&mut self, cell: CellId) -> Option<Row>
+        ensures before { result ≡ row_at self.old cell }
+        ensures removed { self.new ≡ finite.remove self.old cell }
+    {
+        self.rows.remove(&cell)
+    }
+
+    /// How many cells have a row.
+    pub fn len(&self) -> usize
+        ensures { result ≡ length (cells_of self.now) }
+    {
+        self.rows.len()
+    }
+
+    /// The cell of the row at a place in the order of cells, which is found by going over the
+    /// rows before it.
+    pub fn cell_at(&self, at: usize) -> CellId
+        requires { at < length (cells_of self.now) }
+        ensures place { slice_get (cells_of self.now) at ≡ Some result }
+        ensures held { IsSome (row_at self.now result) }
+    {
+        *key_at(&self.rows, at).unwrap()
+    }
+
+    /// The cells with their rows, in the order of cells.
+    pub fn iter(&self) -> Iter<'_, CellId, Row>
+        ensures rest { result ≡ finite.entries self.now }
+        ensures runs { ShowsInOrder (deref_pair {K = Cell} {X = OneRow}) }
+        ensures within { AreWithin self.now }
+    {
+        self.rows.iter()
+    }
+
+    /// A second sheet of the same rows. It fails for want of memory alone.
+    pub fn copy(&self) -> Result<Sheet, AllocError>
+        ensures { IfOk result (λ sheet. sheet ≡ self.now) }
+    {
+        Ok(Sheet {
+            rows: self.rows.clone()?,
+        })
+    }
+}
+
+impl RowView for Sheet {
+    ghost content = { λ sheet. sheet };
+
+    fn row(&self, cell: CellId) -> Option<&Row> {
+        self.get(cell)
+    }
+}

@@ -1,0 +1,17 @@
+ghost use Rattle.std.specs.Prelude.{◌≡◌};
+ghost use Rattle.std.specs.Option.{option_copied};
+ghost use Rattle.clr_rows.specs.Contents.{Content, row_at};
+ghost use Rattle.clr_rows.specs.Ranges.{AreWithin};
+
+use crate::cells::CellId;
+use crate::rows::Row;
+
+/// Rows that are seen by cell.
+pub trait RowView {
+    ghost content: { Self → Content };
+
+    /// The row at a cell, or none.
+    fn row(&self, cell: CellId) -> Option<&Row>
+        ensures row { option_copied result ≡ row_at (content self.now) cell }
+        ensures within { AreWithin (content self.now) };
+}

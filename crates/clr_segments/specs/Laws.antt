@@ -1,0 +1,54 @@
+-- What holds of segments and boxes by their definitions, whatever the code does.
+use Rattle.std.specs.Prelude.{◌≡◌, ℕ, ℤ, pos, ◌*ℤ◌, ◌≤ℤ◌, ◌<ℤ◌, ◌<◌}
+use Rattle.clr_rows.specs.declared.places.Place.{Place}
+use Rattle.clr_rows.specs.Places.{Differ}
+use Rattle.clr_segments.specs.declared.boxes.Bounds.{Bounds}
+use Rattle.clr_segments.specs.declared.meeting.Meet.{Meet}
+use Rattle.clr_segments.specs.Segments.{LiesOn, SomeCommonPoint, MeetIs}
+use Rattle.clr_segments.specs.Turns.{squared_distance}
+use Rattle.clr_segments.specs.Bounding.{InBox, PointInBox, BoxesTouch, box_between, grown_box}
+
+-- two boxes with a common point (m / d, n / d) have one of whole coordinates
+abbrev pub CommonPointsAreWhole : Type 0
+CommonPointsAreWhole = (b c : Bounds) → (d : ℕ) → (m n : ℤ)
+    → 0 < d
+    → PointInBox d m n b
+    → PointInBox d m n c
+    → BoxesTouch b c
+
+-- the boxes of two segments with a common point touch
+abbrev pub MeetingBoxesTouch : Type 0
+MeetingBoxesTouch = (p q r u : Place)
+    → SomeCommonPoint p q r u
+    → BoxesTouch (box_between p q) (box_between r u)
+
+-- a point of a segment is in the segment's box
+abbrev pub PointsAreBoxed : Type 0
+PointsAreBoxed = (x p q : Place) → LiesOn x p q → InBox x (box_between p q)
+
+-- the boxes of two points nearer than d, grown by d, touch
+abbrev pub NearBoxesTouch : Type 0
+NearBoxesTouch = (p q : Place) → (d : ℤ)
+    → pos 1 ≤ℤ d
+    → squared_distance p q <ℤ (d *ℤ d)
+    → BoxesTouch (grown_box (box_between p p) d) (grown_box (box_between q q) d)
+
+-- two segments meet in one way alone
+abbrev pub MeetIsOne : Type 0
+MeetIsOne = (m n : Meet) → (p q r u : Place)
+    → MeetIs m p q r u
+    → MeetIs n p q r u
+    → m ≡ n
+
+-- they meet in the same way in either order
+abbrev pub SegmentsInEitherOrder : Type 0
+SegmentsInEitherOrder = (m : Meet) → (p q r u : Place)
+    → Differ p q
+    → Differ r u
+    → MeetIs m p q r u
+    → MeetIs m r u p q
+
+-- and whichever end of each is named first
+abbrev pub EndsInEitherOrder : Type 0
+EndsInEitherOrder = (m : Meet) → (p q r u : Place)
+    → MeetIs m p q r u → MeetIs m q p r u × MeetIs m p q u r

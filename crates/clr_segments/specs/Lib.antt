@@ -1,0 +1,5 @@
+pub mod Axis
+pub mod Bounding
+pub mod Laws
+pub mod Segments
+pub mod Turns

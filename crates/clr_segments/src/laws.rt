@@ -1,0 +1,43 @@
+ghost use Rattle.clr_segments.specs.Laws.{CommonPointsAreWhole, MeetingBoxesTouch, PointsAreBoxed};
+ghost use Rattle.clr_segments.specs.Laws.{NearBoxesTouch};
+ghost use Rattle.clr_segments.specs.Laws.{MeetIsOne, SegmentsInEitherOrder, EndsInEitherOrder};
+
+/// Two boxes with a common point have one of whole coordinates.
+#[tactic(auto, using(crate::proofs::BoxLemmas::shared_whole))]
+pub fn common_points_are_whole()
+    ensures { CommonPointsAreWhole }
+{}
+
+/// The boxes of two segments with a common point touch.
+#[tactic(auto, using(crate::proofs::BoxLemmas::segments_touch))]
+pub fn meeting_boxes_touch()
+    ensures { MeetingBoxesTouch }
+{}
+
+/// A point of a segment is in the segment's box.
+pub fn points_are_boxed()
+    ensures { PointsAreBoxed }
+{}
+
+/// The boxes of two points nearer than d, grown by d, touch.
+#[tactic(auto, using(crate::proofs::BoxLemmas::near_touch))]
+pub fn near_boxes_touch()
+    ensures { NearBoxesTouch }
+{}
+
+/// Two segments meet in one way alone.
+pub fn meet_is_one()
+    ensures { MeetIsOne }
+{}
+
+/// Two segments meet in the same way in either order.
+#[tactic(auto, using(crate::proofs::MeetLaws::segments_swapped))]
+pub fn segments_in_either_order()
+    ensures { SegmentsInEitherOrder }
+{}
+
+/// Two segments meet in the same way whichever end of each is named first.
+#[tactic(auto, using(crate::proofs::MeetLaws::ends_swapped))]
+pub fn ends_in_either_order()
+    ensures { EndsInEitherOrder }
+{}

@@ -1,0 +1,10 @@
+/// How two segments meet, ends counted in.
+#[derive(Clone, Copy, Debug, PartialEq, Eq)]
+pub enum Meet {
+    /// No point is on both.
+    Apart,
+    /// One point is on both, of whole coordinates or not.
+    Once,
+    /// More than one point is on both.
+    Overlap,
+}

@@ -1,0 +1,20 @@
+ghost use Rattle.std.specs.Prelude.{◌↔◌, ◌≤ℤ◌, ◌<ℤ◌, ◌*ℤ◌, pos, IsTrue};
+ghost use Rattle.clr_rows.specs.Places.{InRange};
+ghost use Rattle.clr_segments.specs.Turns.{squared_distance};
+
+use crate::sides::{difference, product};
+use clr_rows::Place;
+
+/// Whether p and q are nearer than d millimetres: two places just d apart are not. The distance d is
+/// 1 to 1,000,000, and coordinates are millimetres of at most 1,000,000,000 in size.
+pub fn near(p: Place, q: Place, d: i64) -> bool
+    requires p_in { InRange p }
+    requires q_in { InRange q }
+    requires d_least { pos 1 ≤ℤ d }
+    requires d_most { d ≤ℤ pos 1000000 }
+    ensures { IsTrue result ↔ (squared_distance p q <ℤ (d *ℤ d)) }
+{
+    let x = difference(q.x, p.x);
+    let y = difference(q.y, p.y);
+    product(x, x) + product(y, y) < product(d, d)
+}

@@ -1,0 +1,10 @@
+use Rattle.std.proofs.Common.{◌≡◌, drop}
+use Rattle.serde_json.specs.View.{items_view}
+use Rattle.clr_texts.specs.OfficeFields.{each}
+use Rattle.clr_texts.specs.OfficeCells.{value_of}
+use Rattle.clr_texts.proofs.EachItem.{with_front}
+use Rattle.clr_texts.proofs.office_text.cells.listed_values.Given as goal
+
+-- those read so far, and then the others, are what is meant
+abbrev pub invariant-loop-item : goal.invariant-loop-item
+invariant-loop-item l = with_front l.values.items (each value_of (items_view (drop l.item-index l.items))) ≡ each value_of (items_view l.items)

@@ -1,0 +1,10 @@
+use Rattle.std.proofs.Common.{◌≡◌, drop}
+use Rattle.serde_json.specs.View.{items_view}
+use Rattle.clr_texts.specs.OfficeFields.{each}
+use Rattle.clr_texts.specs.OfficeTables.{table_of}
+use Rattle.clr_texts.proofs.EachItem.{with_front}
+use Rattle.clr_texts.proofs.office_text.tables.listed_tables.Given as goal
+
+-- those read so far, and then the others, are what is meant
+abbrev pub invariant-loop-item : goal.invariant-loop-item
+invariant-loop-item l = with_front l.tables.items (each table_of (items_view (drop l.item-index l.items))) ≡ each table_of (items_view l.items)

@@ -1,0 +1,4 @@
+pub mod FindLemmas
+pub mod MergeLemmas
+pub mod SoundLemmas
+pub mod TableLemmas
