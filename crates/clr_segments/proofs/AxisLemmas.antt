@@ -1,12 +1,12 @@
 -- Points of segments in one coordinate, and the ranges of two segments of one line.
-use Rattle.std.proofs.Common.{◌≡◌, ◌≢◌, ℕ, ℤ, pos, ◌+ℤ◌, ◌-ℤ◌, ◌*ℤ◌, ◌-◌, ◌*◌, ◌<◌, ◌≤◌, ◌≤ℤ◌, ◌<ℤ◌, arith, ap, mul-pos, mul-le-mul_right, mul_comm}
+use Rattle.std.proofs.Common.{◌≡◌, ◌≢◌, ℕ, ℤ, pos, ◌+ℤ◌, ◌-ℤ◌, ◌*ℤ◌, ◌-◌, ◌*◌, ◌<◌, ◌≤◌, ◌≤ℤ◌, ◌<ℤ◌, ◌∙◌, unsigned_abs, arith, ap, ap₂, mul-pos, mul-le-mul_right, mul_comm}
 use Rattle.std.proofs.lemmas.Int.{by_lt_z, int_min_is, int_max_is}
 use Rattle.std.specs.Int.{int_min, int_max}
 use borrow.Author.Differences.{up}
-use Rattle.clr_segments.proofs.Integers.{linear, expand, times_le, cancel, cancel_eq, cancel_le, natural, up_le, up_positive, difference_apart}
+use Rattle.clr_segments.proofs.Integers.{linear, expand, times_le, cancel, cancel_eq, cancel_le, natural, up_le, up_positive, difference_apart, up_is_size, size-turned}
 use Rattle.clr_segments.specs.Segments.{part_way}
 use Rattle.clr_segments.specs.Bounding.{Between}
-use Rattle.clr_segments.specs.Axis.{CommonNumber, RangesMeet, greater_low, lesser_high}
+use Rattle.clr_segments.specs.Axis.{CommonNumber, TwoCommonNumbers, RangesMeet, greater_low, lesser_high}
 use Rattle.clr_segments.specs.declared.meeting.Meet.TheVariants.{Apart, Once, Overlap}
 
 -- x stands s / d of the way from p to q
@@ -61,15 +61,15 @@ falling x p q less above below =
       equal = rw (← natural (p -ℤ q) whole, ← natural (p -ℤ x) part) (simp expand (omega (arith, linear)));
     }
 
-pub number_at : (x p q : ℤ) → p ≢ q → Between (int_min p q) x (int_max p q) → (d : ℕ) × (s : ℕ) × NumberAt x p q d s
+pub number_at : (x p q : ℤ) → p ≢ q → Between (int_min p q) x (int_max p q) → (d : ℕ) × (s : ℕ) × NumberAt x p q d s × (d ≡ unsigned_abs (q -ℤ p))
 number_at x p q n b =
     let least = int_min_is p q in
     let most = int_max_is p q in
     let low = b.0 in
     let high = b.1 in
     by_lt_z p q
-    (λ less. (up (q -ℤ p), up (x -ℤ p), rising x p q less (omega (arith, linear, least)) (omega (arith, linear, most))))
-    (λ more. (up (p -ℤ q), up (p -ℤ x), falling x p q (omega (arith, linear)) (omega (arith, linear, least)) (omega (arith, linear, most))))
+    (λ less. (up (q -ℤ p), up (x -ℤ p), rising x p q less (omega (arith, linear, least)) (omega (arith, linear, most)), up_is_size (q -ℤ p) (omega (arith, linear))))
+    (λ more. (up (p -ℤ q), up (p -ℤ x), falling x p q (omega (arith, linear)) (omega (arith, linear, least)) (omega (arith, linear, most)), up_is_size (p -ℤ q) (omega (arith, linear)) ∙ size-turned p q))
 
 -- ---- shares and numbers
 -- equal shares are one number
@@ -143,14 +143,17 @@ ranges_apart p q r u less d s t h =
     let at_most : greater_low p q r u ≤ℤ lesser_high p q r u = cancel_le d (greater_low p q r u) (lesser_high p q r u) h.positive (omega (arith, linear, b.0, b.1)) in
     omega (arith, linear)
 
+same_product : (a b c d : ℕ) → a ≡ c → b ≡ d → a * b ≡ c * d
+same_product a b c d h k = ap₂ (λ (m n : ℕ). m * n) h k
+
 -- each whole number from the one to the other is common to both
-common_at : (x p q r u : ℤ) → p ≢ q → r ≢ u → greater_low p q r u ≤ℤ x → x ≤ℤ lesser_high p q r u → (d : ℕ) × (s : ℕ) × (t : ℕ) × CommonNumber p q r u d s t × NumberAt x p q d s
+common_at : (x p q r u : ℤ) → p ≢ q → r ≢ u → greater_low p q r u ≤ℤ x → x ≤ℤ lesser_high p q r u → (d : ℕ) × (s : ℕ) × (t : ℕ) × CommonNumber p q r u d s t × NumberAt x p q d s × (d ≡ unsigned_abs (q -ℤ p) * unsigned_abs (u -ℤ r))
 common_at x p q r u n m low high =
     let lows = int_max_is (int_min p q) (int_min r u) in
     let highs = int_min_is (int_max p q) (int_max r u) in
     let a = number_at x p q n (omega (arith, linear, lows), omega (arith, linear, highs)) in
     let b = number_at x r u m (omega (arith, linear, lows), omega (arith, linear, highs)) in
-    (a.0 * b.0, a.1 * b.0, b.1 * a.0, common x p q r u a.0 a.1 b.0 b.1 a.2 b.2, scaled_number x p q a.0 a.1 b.0 b.2.positive a.2)
+    (a.0 * b.0, a.1 * b.0, b.1 * a.0, common x p q r u a.0 a.1 b.0 b.1 a.2 b.2, scaled_number x p q a.0 a.1 b.0 b.2.positive a.2, same_product a.0 b.0 (unsigned_abs (q -ℤ p)) (unsigned_abs (u -ℤ r)) a.3 b.3)
 
 pub ranges_once : (p q r u : ℤ) → p ≢ q → r ≢ u → greater_low p q r u ≡ lesser_high p q r u → RangesMeet Once p q r u
 ranges_once p q r u n m e =
@@ -164,20 +167,55 @@ ranges_once p q r u n m e =
         let same : pos d *ℤ greater_low p q r u ≡ pos d *ℤ lesser_high p q r u = ap (λ (z : ℤ). pos d *ℤ z) e in
         omega (arith, linear, b.0, b.1)
 
-pub ranges_overlap : (p q r u : ℤ) → p ≢ q → r ≢ u → greater_low p q r u <ℤ lesser_high p q r u → RangesMeet Overlap p q r u
-ranges_overlap p q r u n m less =
+-- two common numbers that differ, with a d of at most the product of the lengths
+pub record TwoBounded (p q r u : ℤ) : Type 0 where
+  pub two : TwoCommonNumbers p q r u
+  pub one_d : two.d ≡ unsigned_abs (q -ℤ p) * unsigned_abs (u -ℤ r)
+  pub another_d : two.d' ≡ unsigned_abs (q -ℤ p) * unsigned_abs (u -ℤ r)
+
+two_bounded : (p q r u : ℤ) → p ≢ q → r ≢ u → greater_low p q r u <ℤ lesser_high p q r u → TwoBounded p q r u
+two_bounded p q r u n m less =
     let low : ℤ = greater_low p q r u in
     let high : ℤ = lesser_high p q r u in
     let a = common_at low p q r u n m (omega (arith, linear)) (omega (arith, linear)) in
     let b = common_at high p q r u n m (omega (arith, linear)) (omega (arith, linear)) in
     record {
-      d = a.0;
-      s = a.1;
-      t = a.2;
-      d' = b.0;
-      s' = b.1;
-      t' = b.2;
-      one = a.3;
-      another = b.3;
-      differ = λ e. let same : greater_low p q r u ≡ lesser_high p q r u = same_number low high p q a.0 a.1 b.0 b.1 a.4 b.4 e in omega (arith, linear);
+      two = record {
+        d = a.0;
+        s = a.1;
+        t = a.2;
+        d' = b.0;
+        s' = b.1;
+        t' = b.2;
+        one = a.3;
+        another = b.3;
+        differ = λ e. let same : greater_low p q r u ≡ lesser_high p q r u = same_number low high p q a.0 a.1 b.0 b.1 a.4 b.4 e in omega (arith, linear);
+      };
+      one_d = a.5;
+      another_d = b.5;
     }
+
+pub ranges_overlap : (p q r u : ℤ) → p ≢ q → r ≢ u → greater_low p q r u <ℤ lesser_high p q r u → RangesMeet Overlap p q r u
+ranges_overlap p q r u n m less = (two_bounded p q r u n m less).two
+
+-- ---- where there are common numbers, there are some with that d
+pub some_bounded : (p q r u : ℤ) (d s t : ℕ) → p ≢ q → r ≢ u → CommonNumber p q r u d s t
+    → (e : ℕ) × (f : ℕ) × (g : ℕ) × CommonNumber p q r u e f g × (e ≡ unsigned_abs (q -ℤ p) * unsigned_abs (u -ℤ r))
+some_bounded p q r u d s t n m h =
+    let b = common_between p q r u d s t h in
+    let low : ℤ = greater_low p q r u in
+    let at_most : low ≤ℤ lesser_high p q r u = cancel_le d low (lesser_high p q r u) h.positive (omega (arith, linear, b.0, b.1)) in
+    let a = common_at low p q r u n m (omega (arith, linear)) at_most in
+    (a.0, a.1, a.2, a.3, a.5)
+
+pub two_from_two : (p q r u : ℤ) → p ≢ q → r ≢ u → TwoCommonNumbers p q r u → TwoBounded p q r u
+two_from_two p q r u n m h = by_lt_z (greater_low p q r u) (lesser_high p q r u)
+    (λ less. two_bounded p q r u n m less)
+    (λ at_most. absurd (h.differ (one_at_most at_most)))
+  where
+    one_at_most : lesser_high p q r u ≤ℤ greater_low p q r u → h.s * h.d' ≡ h.s' * h.d
+    one_at_most at_most =
+        let b = common_between p q r u h.d h.s h.t h.one in
+        let at_least : greater_low p q r u ≤ℤ lesser_high p q r u = cancel_le h.d (greater_low p q r u) (lesser_high p q r u) h.one.positive (omega (arith, linear, b.0, b.1)) in
+        let once = ranges_once p q r u n m (omega (arith, linear)) in
+        once.1 h.d h.s h.t h.d' h.s' h.t' h.one h.another

@@ -5,9 +5,9 @@ use Rattle.clr_rows.specs.declared.places.Place.{Place}
 use Rattle.clr_rows.specs.Places.{Differ}
 use Rattle.clr_segments.proofs.Integers.{linear, expand, difference_apart}
 use Rattle.clr_segments.proofs.Shares.{det, Shares, shares_from_ways, ways_from_shares, slanted_once, slanted_meet, ends_of_first, ends_of_second, other_coordinate, second_long}
-use Rattle.clr_segments.specs.Segments.{CommonPoint, NoCommonPoint, MeetIs}
+use Rattle.clr_segments.specs.Segments.{CommonPoint, NoCommonPoint, TwoCommonPoints, MeetIs}
 use Rattle.clr_segments.specs.Turns.{cross_product, SameSign, OnOneSide, AreParted, AreCollinear}
-use Rattle.clr_segments.specs.Axis.{CommonNumber, RangesMeet}
+use Rattle.clr_segments.specs.Axis.{CommonNumber, TwoCommonNumbers, RangesMeet}
 use Rattle.clr_segments.specs.declared.meeting.Meet.{Meet}
 use Rattle.clr_segments.specs.declared.meeting.Meet.TheVariants.{Apart, Once, Overlap}
 
@@ -20,7 +20,7 @@ slant a b c d = det (b.x -ℤ a.x) (b.y -ℤ a.y) (d.x -ℤ c.x) (d.y -ℤ c.y)
 abbrev pub offset : Place → Place → Place → Place → ℤ
 offset a b c d = det (c.x -ℤ a.x) (c.y -ℤ a.y) (d.x -ℤ c.x) (d.y -ℤ c.y)
 
-second_turn : (a b c d : Place) → cross_product a b d ≡ cross_product a b c +ℤ slant a b c d
+pub second_turn : (a b c d : Place) → cross_product a b d ≡ cross_product a b c +ℤ slant a b c d
 second_turn a b c d = simp expand (omega (arith, linear))
 
 third_turn : (a b c d : Place) → cross_product c d a ≡ offset a b c d
@@ -30,10 +30,10 @@ fourth_turn : (a b c d : Place) → cross_product c d b ≡ offset a b c d -ℤ 
 fourth_turn a b c d = simp expand (omega (arith, linear))
 
 -- ---- a common point, as shares of vectors
-abbrev Common : Place → Place → Place → Place → ℕ → ℕ → ℕ → Type 0
+abbrev pub Common : Place → Place → Place → Place → ℕ → ℕ → ℕ → Type 0
 Common a b c d k s t = Shares (b.x -ℤ a.x) (b.y -ℤ a.y) (d.x -ℤ c.x) (d.y -ℤ c.y) (c.x -ℤ a.x) (c.y -ℤ a.y) k s t
 
-to_shares : (a b c d : Place) (k s t : ℕ) → CommonPoint a b c d k s t → Common a b c d k s t
+pub to_shares : (a b c d : Place) (k s t : ℕ) → CommonPoint a b c d k s t → Common a b c d k s t
 to_shares a b c d k s t h = record {
   positive = h.positive;
   on_first = h.on_first;
@@ -42,7 +42,7 @@ to_shares a b c d k s t h = record {
   in_y = shares_from_ways k s t a.y b.y c.y d.y h.equal_y;
 }
 
-from_shares : (a b c d : Place) (k s t : ℕ) → Common a b c d k s t → CommonPoint a b c d k s t
+pub from_shares : (a b c d : Place) (k s t : ℕ) → Common a b c d k s t → CommonPoint a b c d k s t
 from_shares a b c d k s t h = record {
   positive = h.positive;
   on_first = h.on_first;
@@ -98,7 +98,7 @@ pub common_x : (a b c d : Place) (k s t : ℕ) → CommonPoint a b c d k s t →
 common_x a b c d k s t h = record { positive = h.positive; on_first = h.on_first; on_second = h.on_second; equal = h.equal_x }
 
 -- and a common x is of a common point
-from_common_x : (a b c d : Place) (k s t : ℕ) → AreCollinear a b c d → a.x ≢ b.x → CommonNumber a.x b.x c.x d.x k s t → CommonPoint a b c d k s t
+pub from_common_x : (a b c d : Place) (k s t : ℕ) → AreCollinear a b c d → a.x ≢ b.x → CommonNumber a.x b.x c.x d.x k s t → CommonPoint a b c d k s t
 from_common_x a b c d k s t line n h = record {
   positive = h.positive;
   on_first = h.on_first;
@@ -109,13 +109,8 @@ from_common_x a b c d k s t line n h = record {
       (shares_from_ways k s t a.x b.x c.x d.x h.equal));
 }
 
-pub meet_by_x : (m : Meet) (a b c d : Place) → AreCollinear a b c d → a.x ≢ b.x → RangesMeet m a.x b.x c.x d.x → MeetIs m a b c d
-meet_by_x Apart a b c d line n h = λ k s t p. h k s t (common_x a b c d k s t p)
-meet_by_x Once a b c d line n h = (
-  (h.0.0, h.0.1, h.0.2, from_common_x a b c d h.0.0 h.0.1 h.0.2 line n h.0.3),
-  λ k s t k' s' t' p p'. h.1 k s t k' s' t' (common_x a b c d k s t p) (common_x a b c d k' s' t' p'),
-)
-meet_by_x Overlap a b c d line n h = record {
+abbrev pub two_from_common_x : (a b c d : Place) → AreCollinear a b c d → a.x ≢ b.x → TwoCommonNumbers a.x b.x c.x d.x → TwoCommonPoints a b c d
+two_from_common_x a b c d line n h = record {
   d = h.d;
   s = h.s;
   t = h.t;
@@ -127,6 +122,14 @@ meet_by_x Overlap a b c d line n h = record {
   differ = h.differ;
 }
 
+pub meet_by_x : (m : Meet) (a b c d : Place) → AreCollinear a b c d → a.x ≢ b.x → RangesMeet m a.x b.x c.x d.x → MeetIs m a b c d
+meet_by_x Apart a b c d line n h = λ k s t p. h k s t (common_x a b c d k s t p)
+meet_by_x Once a b c d line n h = (
+  (h.0.0, h.0.1, h.0.2, from_common_x a b c d h.0.0 h.0.1 h.0.2 line n h.0.3),
+  λ k s t k' s' t' p p'. h.1 k s t k' s' t' (common_x a b c d k s t p) (common_x a b c d k' s' t' p'),
+)
+meet_by_x Overlap a b c d line n h = two_from_common_x a b c d line n h
+
 -- ---- and the y coordinates otherwise: the same with the axes exchanged
 abbrev pub mirror_of : Place → Place
 mirror_of p = record { x = p.y; y = p.x }
@@ -137,22 +140,17 @@ det-mirrored ux uy vx vy = simp expand (omega (arith, linear))
 pub mirrored_line : (a b c : Place) → cross_product a b c ≡ pos 0 → cross_product (mirror_of a) (mirror_of b) (mirror_of c) ≡ pos 0
 mirrored_line a b c e = det-mirrored (b.x -ℤ a.x) (b.y -ℤ a.y) (c.x -ℤ a.x) (c.y -ℤ a.y) ∙ ap neg_ℤ e
 
-mirrored_both : (a b c d : Place) → AreCollinear a b c d → AreCollinear (mirror_of a) (mirror_of b) (mirror_of c) (mirror_of d)
+pub mirrored_both : (a b c d : Place) → AreCollinear a b c d → AreCollinear (mirror_of a) (mirror_of b) (mirror_of c) (mirror_of d)
 mirrored_both a b c d line = (mirrored_line a b c line.0, mirrored_line a b d line.1)
 
-common_mirrored : (a b c d : Place) (k s t : ℕ) → CommonPoint a b c d k s t → CommonPoint (mirror_of a) (mirror_of b) (mirror_of c) (mirror_of d) k s t
+pub common_mirrored : (a b c d : Place) (k s t : ℕ) → CommonPoint a b c d k s t → CommonPoint (mirror_of a) (mirror_of b) (mirror_of c) (mirror_of d) k s t
 common_mirrored a b c d k s t h = record { positive = h.positive; on_first = h.on_first; on_second = h.on_second; equal_x = h.equal_y; equal_y = h.equal_x }
 
-mirrored_common : (a b c d : Place) (k s t : ℕ) → CommonPoint (mirror_of a) (mirror_of b) (mirror_of c) (mirror_of d) k s t → CommonPoint a b c d k s t
+pub mirrored_common : (a b c d : Place) (k s t : ℕ) → CommonPoint (mirror_of a) (mirror_of b) (mirror_of c) (mirror_of d) k s t → CommonPoint a b c d k s t
 mirrored_common a b c d k s t h = record { positive = h.positive; on_first = h.on_first; on_second = h.on_second; equal_x = h.equal_y; equal_y = h.equal_x }
 
-meet_mirrored : (m : Meet) (a b c d : Place) → MeetIs m (mirror_of a) (mirror_of b) (mirror_of c) (mirror_of d) → MeetIs m a b c d
-meet_mirrored Apart a b c d h = λ k s t p. h k s t (common_mirrored a b c d k s t p)
-meet_mirrored Once a b c d h = (
-  (h.0.0, h.0.1, h.0.2, mirrored_common a b c d h.0.0 h.0.1 h.0.2 h.0.3),
-  λ k s t k' s' t' p p'. h.1 k s t k' s' t' (common_mirrored a b c d k s t p) (common_mirrored a b c d k' s' t' p'),
-)
-meet_mirrored Overlap a b c d h = record {
+abbrev pub two_mirrored : (a b c d : Place) → TwoCommonPoints (mirror_of a) (mirror_of b) (mirror_of c) (mirror_of d) → TwoCommonPoints a b c d
+two_mirrored a b c d h = record {
   d = h.d;
   s = h.s;
   t = h.t;
@@ -163,6 +161,14 @@ meet_mirrored Overlap a b c d h = record {
   another = mirrored_common a b c d h.d' h.s' h.t' h.another;
   differ = h.differ;
 }
+
+meet_mirrored : (m : Meet) (a b c d : Place) → MeetIs m (mirror_of a) (mirror_of b) (mirror_of c) (mirror_of d) → MeetIs m a b c d
+meet_mirrored Apart a b c d h = λ k s t p. h k s t (common_mirrored a b c d k s t p)
+meet_mirrored Once a b c d h = (
+  (h.0.0, h.0.1, h.0.2, mirrored_common a b c d h.0.0 h.0.1 h.0.2 h.0.3),
+  λ k s t k' s' t' p p'. h.1 k s t k' s' t' (common_mirrored a b c d k s t p) (common_mirrored a b c d k' s' t' p'),
+)
+meet_mirrored Overlap a b c d h = two_mirrored a b c d h
 
 pub second_long_y : (a b c d : Place) → AreCollinear a b c d → a.y ≢ b.y → Differ c d → c.y ≢ d.y
 second_long_y a b c d line n l = second_long_x (mirror_of a) (mirror_of b) (mirror_of c) (mirror_of d) (mirrored_both a b c d line) n (λ i j. l j i)

@@ -1,7 +1,7 @@
 -- Arithmetic of signed whole numbers: the laws of a ring, products and order, and sizes.
-use Rattle.std.proofs.Common.{◌≡◌, ◌≢◌, ℕ, ℤ, pos, negsuc, zero, suc, neg_ℤ, ◌+ℤ◌, ◌-ℤ◌, ◌*ℤ◌, ◌+◌, ◌*◌, ◌<◌, ◌≤◌, ◌≤ℤ◌, ◌<ℤ◌, ◌∙◌, arith, ap, sym, refl, mul-le-mul_left}
+use Rattle.std.proofs.Common.{◌≡◌, ◌≢◌, ℕ, ℤ, pos, negsuc, zero, suc, neg_ℤ, ◌+ℤ◌, ◌-ℤ◌, ◌*ℤ◌, ◌+◌, ◌*◌, ◌<◌, ◌≤◌, ◌≤ℤ◌, ◌<ℤ◌, ◌∙◌, unsigned_abs, arith, ap, sym, refl, mul-le-mul_left}
 use Rattle.std.proofs.lemmas.Int.{by_lt_z}
-use borrow.Author.Differences.{up, down, same_out, Apart-out, lt_out, le_out, same_in, below_in, at_most_in, sum_is_lem, neg_is, product_is}
+use borrow.Author.Differences.{up, down, same_out, Apart-out, lt_out, le_out, same_in, below_in, at_most_in, sum_is_lem, neg_is, product_is, abs_is}
 use lib.IntN.{*ℤ_comm}
 
 -- sums and order of numbers, where a product is a number of its own
@@ -92,6 +92,20 @@ up_le (negsuc a) b h k = absurd (omega (arith, linear))
 
 pub up_positive : (a : ℤ) → pos 0 <ℤ a → 0 < up a
 up_positive a h = omega (arith, linear)
+
+-- ---- sizes
+pub up_is_size : (z : ℤ) → pos 0 ≤ℤ z → up z ≡ unsigned_abs z
+up_is_size (pos n) h = refl
+up_is_size (negsuc n) h = absurd (omega (arith, linear))
+
+pub size-neg : (z : ℤ) → unsigned_abs (neg_ℤ z) ≡ unsigned_abs z
+size-neg z = omega (arith, linear, abs_is)
+
+pub size-turned : (a b : ℤ) → unsigned_abs (a -ℤ b) ≡ unsigned_abs (b -ℤ a)
+size-turned a b = omega (arith, linear, abs_is)
+
+pub size-sub : (a b : ℤ) → unsigned_abs (a -ℤ b) ≤ unsigned_abs a + unsigned_abs b
+size-sub a b = omega (arith, linear, abs_is)
 
 -- the difference of two numbers that are not the same isn't 0
 pub difference_apart : (p q : ℤ) → p ≢ q → q -ℤ p ≢ pos 0

@@ -3,6 +3,8 @@ pub mod Shares
 pub mod AxisLemmas
 pub mod Crossings
 pub mod PointLemmas
+pub mod CommonLimits
+pub mod SearchLemmas
 pub mod BoxLemmas
 pub mod MeetLaws
 pub mod Words64

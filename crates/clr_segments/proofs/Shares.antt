@@ -1,9 +1,9 @@
 -- Common points as shares of vectors. For segments p-q and r-u the vectors are u = q - p, v = u - r and w = r - p,
 -- and the point s / d of the way along the first is the one t / d of the way along the second where s u = d w + t v.
-use Rattle.std.proofs.Common.{◌≡◌, ◌≢◌, ◌⊎◌, inl, inr, ℕ, ℤ, pos, negsuc, neg_ℤ, ◌+ℤ◌, ◌-ℤ◌, ◌*ℤ◌, ◌+◌, ◌-◌, ◌*◌, ◌<◌, ◌≤◌, ◌≤ℤ◌, ◌<ℤ◌, ◌∙◌, arith, ap, sym}
+use Rattle.std.proofs.Common.{◌≡◌, ◌≢◌, ◌⊎◌, inl, inr, ℕ, ℤ, pos, negsuc, neg_ℤ, ◌+ℤ◌, ◌-ℤ◌, ◌*ℤ◌, ◌+◌, ◌-◌, ◌*◌, ◌<◌, ◌≤◌, ◌≤ℤ◌, ◌<ℤ◌, ◌∙◌, unsigned_abs, arith, ap, sym}
 use Rattle.std.proofs.lemmas.Int.{by_lt_z}
 use borrow.Author.Differences.{up, product_is}
-use Rattle.clr_segments.proofs.Integers.{linear, expand, *ℤ-add, *ℤ-neg, neg-*ℤ, add-*ℤ, times_le, cancel, natural, up_le, up_positive}
+use Rattle.clr_segments.proofs.Integers.{linear, expand, *ℤ-add, *ℤ-neg, neg-*ℤ, add-*ℤ, times_le, cancel, natural, up_le, up_positive, up_is_size, size-neg}
 use Rattle.clr_segments.specs.Segments.{part_way}
 use Rattle.clr_segments.specs.Turns.{SameSign}
 
@@ -22,25 +22,26 @@ pub record Shares (ux uy vx vy wx wy : ℤ) (d s t : ℕ) : Type 0 where
   pub in_x : pos s *ℤ ux ≡ pos d *ℤ wx +ℤ pos t *ℤ vx
   pub in_y : pos s *ℤ uy ≡ pos d *ℤ wy +ℤ pos t *ℤ vy
 
-abbrev pub SomeShares : ℤ → ℤ → ℤ → ℤ → ℤ → ℤ → Type 0
-SomeShares ux uy vx vy wx wy = (d : ℕ) × (s : ℕ) × (t : ℕ) × Shares ux uy vx vy wx wy d s t
-
 -- ---- determinants
 abbrev pub det : ℤ → ℤ → ℤ → ℤ → ℤ
 det ux uy vx vy = ux *ℤ vy -ℤ uy *ℤ vx
 
-det-swap : (ux uy vx vy : ℤ) → det ux uy vx vy ≡ neg_ℤ (det vx vy ux uy)
+-- some shares with a d of at most the size of the determinant
+abbrev pub SomeShares : ℤ → ℤ → ℤ → ℤ → ℤ → ℤ → Type 0
+SomeShares ux uy vx vy wx wy = (d : ℕ) × (s : ℕ) × (t : ℕ) × Shares ux uy vx vy wx wy d s t × (d ≤ unsigned_abs (det ux uy vx vy))
+
+pub det-swap : (ux uy vx vy : ℤ) → det ux uy vx vy ≡ neg_ℤ (det vx vy ux uy)
 det-swap ux uy vx vy = simp expand (omega (arith, linear))
 
 -- s u = d w + t v, against v: the term of t falls away
-first_share : (s d t ux uy vx vy wx wy : ℤ) → s *ℤ ux ≡ d *ℤ wx +ℤ t *ℤ vx → s *ℤ uy ≡ d *ℤ wy +ℤ t *ℤ vy → s *ℤ det ux uy vx vy ≡ d *ℤ det wx wy vx vy
+pub first_share : (s d t ux uy vx vy wx wy : ℤ) → s *ℤ ux ≡ d *ℤ wx +ℤ t *ℤ vx → s *ℤ uy ≡ d *ℤ wy +ℤ t *ℤ vy → s *ℤ det ux uy vx vy ≡ d *ℤ det wx wy vx vy
 first_share s d t ux uy vx vy wx wy hx hy =
     let by_vy = simp expand at (ap (λ (z : ℤ). z *ℤ vy) hx) in
     let by_vx = simp expand at (ap (λ (z : ℤ). z *ℤ vx) hy) in
     simp expand (omega (arith, linear, by_vy, by_vx))
 
 -- and against u: the left side falls away
-second_share : (s d t ux uy vx vy wx wy : ℤ) → s *ℤ ux ≡ d *ℤ wx +ℤ t *ℤ vx → s *ℤ uy ≡ d *ℤ wy +ℤ t *ℤ vy → t *ℤ det ux uy vx vy ≡ d *ℤ det wx wy ux uy
+pub second_share : (s d t ux uy vx vy wx wy : ℤ) → s *ℤ ux ≡ d *ℤ wx +ℤ t *ℤ vx → s *ℤ uy ≡ d *ℤ wy +ℤ t *ℤ vy → t *ℤ det ux uy vx vy ≡ d *ℤ det wx wy ux uy
 second_share s d t ux uy vx vy wx wy hx hy =
     let by_uy = simp expand at (ap (λ (z : ℤ). z *ℤ uy) hx) in
     let by_ux = simp expand at (ap (λ (z : ℤ). z *ℤ ux) hy) in
@@ -121,7 +122,7 @@ on_both_sides m n h = by_lt_z (pos 0) m
     (λ q. inl (p, q)))
 
 -- for the determinants D of u and v, N of w and v, and M of w and u: N / D and M / D are the shares
-shares_up : (ux uy vx vy wx wy D N M : ℤ) → D ≡ det ux uy vx vy → N ≡ det wx wy vx vy → M ≡ det wx wy ux uy → pos 0 <ℤ D → pos 0 ≤ℤ N → N ≤ℤ D → pos 0 ≤ℤ M → M ≤ℤ D → SomeShares ux uy vx vy wx wy
+pub shares_up : (ux uy vx vy wx wy D N M : ℤ) → D ≡ det ux uy vx vy → N ≡ det wx wy vx vy → M ≡ det wx wy ux uy → pos 0 <ℤ D → pos 0 ≤ℤ N → N ≤ℤ D → pos 0 ≤ℤ M → M ≤ℤ D → SomeShares ux uy vx vy wx wy
 shares_up ux uy vx vy wx wy D N M e f g p n0 nd m0 md = (
   up D,
   up N,
@@ -133,9 +134,10 @@ shares_up ux uy vx vy wx wy D N M e f g p n0 nd m0 md = (
     in_x = rw (← natural D (omega (arith, linear)), ← natural N n0, ← natural M m0, e, f, g) (cramer_x ux uy vx vy wx wy);
     in_y = rw (← natural D (omega (arith, linear)), ← natural N n0, ← natural M m0, e, f, g) (cramer_y ux uy vx vy wx wy);
   },
+  rw (← e, ← up_is_size D (omega (arith, linear))) (omega arith),
 )
 
-shares_down : (ux uy vx vy wx wy D N M : ℤ) → D ≡ det ux uy vx vy → N ≡ det wx wy vx vy → M ≡ det wx wy ux uy → D <ℤ pos 0 → D ≤ℤ N → N ≤ℤ pos 0 → D ≤ℤ M → M ≤ℤ pos 0 → SomeShares ux uy vx vy wx wy
+pub shares_down : (ux uy vx vy wx wy D N M : ℤ) → D ≡ det ux uy vx vy → N ≡ det wx wy vx vy → M ≡ det wx wy ux uy → D <ℤ pos 0 → D ≤ℤ N → N ≤ℤ pos 0 → D ≤ℤ M → M ≤ℤ pos 0 → SomeShares ux uy vx vy wx wy
 shares_down ux uy vx vy wx wy D N M e f g p nd n0 md m0 =
     let positive : pos 0 <ℤ neg_ℤ D = omega (arith, linear) in
     let d : neg_ℤ D ≡ pos (up (neg_ℤ D)) = natural (neg_ℤ D) (omega (arith, linear)) in
@@ -151,6 +153,7 @@ shares_down ux uy vx vy wx wy D N M e f g p nd n0 md m0 =
         in_x = rw (← d, ← n, ← m) (negated D N M ux wx vx (rw (e, f, g) (cramer_x ux uy vx vy wx wy)));
         in_y = rw (← d, ← n, ← m) (negated D N M uy wy vy (rw (e, f, g) (cramer_y ux uy vx vy wx wy)));
       },
+      rw (← e, ← size-neg D, ← up_is_size (neg_ℤ D) (omega (arith, linear))) (omega arith),
     )
   where
     negated : (D N M u w v : ℤ) → N *ℤ u ≡ D *ℤ w +ℤ M *ℤ v → neg_ℤ N *ℤ u ≡ neg_ℤ D *ℤ w +ℤ neg_ℤ M *ℤ v

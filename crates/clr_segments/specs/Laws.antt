@@ -1,10 +1,12 @@
 -- What holds of segments and boxes by their definitions, whatever the code does.
 use Rattle.std.specs.Prelude.{◌≡◌, ℕ, ℤ, pos, ◌*ℤ◌, ◌≤ℤ◌, ◌<ℤ◌, ◌<◌}
+use Rattle.std.specs.Bool.{Decides}
 use Rattle.clr_rows.specs.declared.places.Place.{Place}
 use Rattle.clr_rows.specs.Places.{Differ}
 use Rattle.clr_segments.specs.declared.boxes.Bounds.{Bounds}
 use Rattle.clr_segments.specs.declared.meeting.Meet.{Meet}
-use Rattle.clr_segments.specs.Segments.{LiesOn, SomeCommonPoint, MeetIs}
+use Rattle.clr_segments.specs.Segments.{LiesOn, SomeCommonPoint, TwoCommonPoints, MeetIs}
+use Rattle.clr_segments.specs.Searches.{lies_on, have_common_point, have_two_common_points}
 use Rattle.clr_segments.specs.Turns.{squared_distance}
 use Rattle.clr_segments.specs.Bounding.{InBox, PointInBox, BoxesTouch, box_between, grown_box}
 
@@ -52,3 +54,21 @@ SegmentsInEitherOrder = (m : Meet) → (p q r u : Place)
 abbrev pub EndsInEitherOrder : Type 0
 EndsInEitherOrder = (m : Meet) → (p q r u : Place)
     → MeetIs m p q r u → MeetIs m q p r u × MeetIs m p q u r
+
+-- a search of a segment's shares finds each place of the segment, and no other
+abbrev pub PointsAreFound : Type 0
+PointsAreFound = (x p q : Place) → Differ p q → Decides (lies_on x p q) (LiesOn x p q)
+
+-- a search of two segments' shares finds a common point exactly where there is one
+abbrev pub CommonPointsAreFound : Type 0
+CommonPointsAreFound = (p q r u : Place)
+    → Differ p q
+    → Differ r u
+    → Decides (have_common_point p q r u) (SomeCommonPoint p q r u)
+
+-- and two exactly where there are two that differ
+abbrev pub TwoCommonPointsAreFound : Type 0
+TwoCommonPointsAreFound = (p q r u : Place)
+    → Differ p q
+    → Differ r u
+    → Decides (have_two_common_points p q r u) (TwoCommonPoints p q r u)

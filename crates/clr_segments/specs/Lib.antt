@@ -1,5 +1,6 @@
 pub mod Axis
 pub mod Bounding
 pub mod Laws
+pub mod Searches
 pub mod Segments
 pub mod Turns

@@ -1,6 +1,7 @@
 ghost use Rattle.clr_segments.specs.Laws.{CommonPointsAreWhole, MeetingBoxesTouch, PointsAreBoxed};
 ghost use Rattle.clr_segments.specs.Laws.{NearBoxesTouch};
 ghost use Rattle.clr_segments.specs.Laws.{MeetIsOne, SegmentsInEitherOrder, EndsInEitherOrder};
+ghost use Rattle.clr_segments.specs.Laws.{PointsAreFound, CommonPointsAreFound, TwoCommonPointsAreFound};
 
 /// Two boxes with a common point have one of whole coordinates.
 #[tactic(auto, using(crate::proofs::BoxLemmas::shared_whole))]
@@ -40,4 +41,22 @@ pub fn segments_in_either_order()
 #[tactic(auto, using(crate::proofs::MeetLaws::ends_swapped))]
 pub fn ends_in_either_order()
     ensures { EndsInEitherOrder }
+{}
+
+/// A search of a segment's shares finds each place of the segment, and no other.
+#[tactic(auto, using(crate::proofs::SearchLemmas::points_found))]
+pub fn points_are_found()
+    ensures { PointsAreFound }
+{}
+
+/// A search of two segments' shares finds a common point exactly where there is one.
+#[tactic(auto, using(crate::proofs::SearchLemmas::common_points_found))]
+pub fn common_points_are_found()
+    ensures { CommonPointsAreFound }
+{}
+
+/// It finds two exactly where there are two that differ.
+#[tactic(auto, using(crate::proofs::SearchLemmas::two_common_points_found))]
+pub fn two_common_points_are_found()
+    ensures { TwoCommonPointsAreFound }
 {}

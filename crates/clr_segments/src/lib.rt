@@ -17,8 +17,9 @@ mod tests;
 pub use boxes::{Bounds, box_of, boxes_touch};
 pub use crossing::meet;
 pub use laws::{
-    common_points_are_whole, ends_in_either_order, meet_is_one, meeting_boxes_touch,
-    near_boxes_touch, points_are_boxed, segments_in_either_order,
+    common_points_are_found, common_points_are_whole, ends_in_either_order, meet_is_one,
+    meeting_boxes_touch, near_boxes_touch, points_are_boxed, points_are_found,
+    segments_in_either_order, two_common_points_are_found,
 };
 pub use meeting::Meet;
 pub use nearness::near;
