@@ -1,19 +1,17 @@
 -- Merges of members in any order.
-use Rattle.std.proofs.Common.{◌≡◌, ◌≢◌, ◌⊎◌, inl, inr, slice_index_or, ℕ, zero, suc, ◌+◌, ◌<◌, ◌≤◌, Bool, true, false, cond, not, ◌||◌, List, [], ◌∷◌, length, Option, Some, None, refl, sym, ap, subst, ◌∙◌, arith}
-use Rattle.std.specs.Prelude.{All, ⊤, sum_by, nat_lt, if◌then◌else◌}
+use Rattle.std.proofs.Common.{◌≡◌, ◌≢◌, ◌⊎◌, inl, inr, slice_index_or, ℕ, zero, suc, ◌+◌, ◌<◌, ◌≤◌, Bool, true, false, cond, ◌||◌, List, [], ◌∷◌, length, Option, Some, None, refl, sym, ap, subst, ◌∙◌, arith}
+use Rattle.std.specs.Prelude.{sum_by, nat_lt, if◌then◌else◌}
 use Rattle.std.proofs.lemmas.Bool.{lt-ltb, ltb-false}
 use Rattle.std.proofs.lemmas.List.Sorted.{sum_by-IsPermutation}
 use Rattle.std.proofs.lemmas.List.Sums.{sum_by-cons}
-use Rattle.std.specs.List.Sorted.{IsPermutation}
 use Rattle.std.specs.Option.{is_some, unwrap_or, option_map}
-use Rattle.std.specs.Str.{bytes_eq}
 use Rattle.std.specs.Cmp.Lexicographic.{bytes_decides}
 use Rattle.std.specs.FinMap as finite
 use Rattle.std.proofs.lemmas.Bool.{false≢true, true≢false}
 use Rattle.clr_rows.specs.declared.cells.CellId.{CellId}
 use Rattle.clr_rows.specs.declared.changes.Change.{Change}
 use Rattle.clr_rows.specs.declared.rows.Row.{Row}
-use Rattle.clr_rows.specs.Contents.{Content, Changes, row_at, change_at, change_of, changes, is_changed, taken_over, conflicts, least_and_count}
+use Rattle.clr_rows.specs.Contents.{row_at, change_at, change_of, changes, is_changed, conflicts, least_and_count}
 use Rattle.clr_rows.proofs.ChangeLemmas.{get-changes, row-merged, IsUntouched, untouched_from_none, none_from_untouched}
 use Rattle.clr_tree.specs.Spaces.{Space}
 use Rattle.clr_engine.specs.declared.commands.Command.TheVariants.{Merge}
@@ -21,8 +19,8 @@ use Rattle.clr_engine.specs.declared.commands.Reply.{Reply}
 use Rattle.clr_engine.specs.declared.commands.Reply.TheVariants.{Done, Conflict}
 use Rattle.clr_engine.specs.Names.{Name, same_name, is_live, has, IsSubset}
 use Rattle.clr_engine.specs.Offices.{Office, find_name, workspace, change, content_of, set_content, current_of}
-use Rattle.clr_engine.specs.Orders.{after, after_in, taken, AreDistinct, IsFitMember, AreDisjoint, AreMergeable, merges, nothing_lost, IsNoConflict, IsAfterMerges, IsPartOf, office_after, replies_to, PartLaw, OrderLaw}
-use Rattle.clr_engine.specs.Steps.{Answer, answer, conflict, changes_of, rebased, merged, merged_content, refusal, done, step, run, settle, first_of, of_workspace, at_workspace, merge_refusals}
+use Rattle.clr_engine.specs.Orders.{after, after_in, taken, AreDistinct, IsFitMember, AreDisjoint, AreMergeable, IsNoConflict, IsAfterMerges, office_after, replies_to, PartLaw, OrderLaw}
+use Rattle.clr_engine.specs.Steps.{Answer, answer, conflict, changes_of, rebased, merged, merged_content, refusal, done, step}
 
 some_is : {A : Type 0} (a b : A) → ◌≡◌ {A = Option A} (Some a) (Some b) → a ≡ b
 some_is a b e = cc

@@ -1,17 +1,14 @@
 -- What each command is answered and leaves, by the places of the names in the tree.
-use Rattle.std.proofs.Common.{◌≡◌, ℕ, zero, suc, ◌+◌, ◌<◌, ◌≤◌, Bool, true, false, List, [], ◌∷◌, ◌++◌, length, Option, Some, None, Result, Ok, Err, refl, sym, ap, subst, ◌∙◌, arith, slice_set}
-use Rattle.std.specs.Prelude.{OnOk, OnErr, slice_get}
-use Rattle.std.specs.FinMap as finite
-use Rattle.std.specs.Option.{option_map, is_some}
+use Rattle.std.proofs.Common.{◌≡◌, ℕ, zero, suc, ◌<◌, ◌≤◌, true, false, List, [], ◌∷◌, length, Option, Some, None, Result, Ok, Err, refl, sym, ap, subst, ◌∙◌, arith, slice_set}
+use Rattle.std.specs.Prelude.{OnOk, OnErr}
+use Rattle.std.specs.Option.{option_map, IsSome}
 use Rattle.std.specs.Cmp.Lexicographic.{bytes_decides}
 use Rattle.std.proofs.lemmas.Bool.{false≢true}
 use Rattle.std.specs.declared.alloc.AllocError.{AllocError}
 use Rattle.clr_rows.specs.declared.cells.CellId.{CellId}
 use Rattle.clr_rows.specs.declared.tables.TableDef.{TableDef}
-use Rattle.clr_rows.specs.Cells.{cell_cmp}
-use Rattle.clr_rows.specs.Contents.{Content, Changes, no_changes, row_at, changes, taken_over, conflicts, least_and_count}
+use Rattle.clr_rows.specs.Contents.{Content, Changes, row_at, changes, taken_over, conflicts, least_and_count}
 use Rattle.clr_rows.specs.Names.{is_good_name}
-use Rattle.clr_rows.specs.Schemas.{FitsSchema}
 use Rattle.clr_rows.proofs.ChangeLemmas.{taken_over-own}
 use Rattle.clr_change.specs.declared.edits.Edit.{Edit}
 use Rattle.clr_change.specs.declared.edits.EditFault.{EditFault}
@@ -19,9 +16,9 @@ use Rattle.clr_change.specs.declared.edits.EditFault.TheVariants as fault
 use Rattle.clr_change.specs.Edits.{all_edited, first_bad_edit, IsRefused}
 use Rattle.clr_tree.specs.Spaces.{Space, Workspaces, IsSound, find, space_at, parent_of, created, written, merged}
 use Rattle.clr_engine.specs.declared.commands.Reply.{Reply}
-use Rattle.clr_engine.specs.declared.commands.Reply.TheVariants.{Done, OutOfMemory, NoWorkspace, NameTaken, BadName, LiveIsFixed, TooMany, BadEdit, Conflict}
-use Rattle.clr_engine.specs.Names.{Name, is_live}
-use Rattle.clr_engine.specs.Offices.{Office, office_of, below_live, workspace, stands, content_of, set_content}
+use Rattle.clr_engine.specs.declared.commands.Reply.TheVariants.{OutOfMemory, NoWorkspace, NameTaken, BadName, LiveIsFixed, TooMany, BadEdit, Conflict}
+use Rattle.clr_engine.specs.Names.{Name}
+use Rattle.clr_engine.specs.Offices.{Office, office_of, workspace, stands, content_of, set_content}
 use Rattle.clr_engine.specs.Steps as model
 use Rattle.clr_engine.proofs.Places as places
 use Rattle.clr_engine.proofs.Refusals as refused
@@ -46,6 +43,16 @@ finishes o next left r (Err x) e ok err = ap (model.answer OutOfMemory) err
 pub either_way : {A : Type 0} (P : A → Type 0) (a b left : A) (done : Result Unit AllocError) → OnOk done (left ≡ a) → OnErr done (left ≡ b) → P a → P b → P left
 either_way P a b left (Ok u) ok err pa pb = subst P (sym ok) pa
 either_way P a b left (Err x) ok err pa pb = subst P (sym err) pb
+
+-- a place that was found under the text of a name
+pub found_under : (spaces : List Space) (given name : Name) (r : Option ℕ) → given ≡ name → r ≡ find spaces given → find spaces name ≡ r
+found_under spaces given name r same e = ap (find spaces) (sym same) ∙ sym e
+
+-- only LIVE, at place 0, has no parent
+pub zero_of : (at : ℕ) (r : Option ℕ) → r ≡ None → (0 < at → IsSome r) → at ≡ 0
+zero_of zero r e f = refl
+zero_of (suc k) None e f = absurd (false≢true (f (omega arith)))
+zero_of (suc k) (Some x) e f = absurd (cc)
 
 -- LIVE has no parent
 no_parent : (spaces : List Space) → IsSound spaces → (above : ℕ) → parent_of spaces 0 ≡ Some above → ⊥

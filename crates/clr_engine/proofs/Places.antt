@@ -1,21 +1,20 @@
 -- The workspaces of a tree by place, and those of an office by name.
-use Rattle.std.proofs.Common.{◌≡◌, ℕ, zero, suc, ◌+◌, ◌-◌, ◌<◌, ◌≤◌, Bool, true, false, cond, not, ◌||◌, nat_lt, List, [], ◌∷◌, ◌++◌, length, Option, Some, None, refl, sym, ap, subst, ◌∙◌, arith, codes, slice_set, slice_index_or}
+use Rattle.std.proofs.Common.{◌≡◌, ℕ, zero, suc, ◌+◌, ◌<◌, Bool, true, false, cond, nat_lt, List, [], ◌∷◌, length, Option, Some, None, refl, sym, ap, subst, ◌∙◌, arith, slice_set}
 use Rattle.std.specs.Prelude.{position}
 use Rattle.std.specs.List.{position_or_len}
-use Rattle.std.specs.Option.{option_map, is_some, IsSome}
+use Rattle.std.specs.Option.{option_map}
 use Rattle.std.specs.Str.{bytes_eq}
 use Rattle.std.specs.Cmp.Lexicographic.{bytes_decides}
-use Rattle.std.proofs.lemmas.Bool.{false≢true, true≢false, ltb-true, ltb-false, lt-ltb}
-use Rattle.std.proofs.lemmas.Bool.Decides.{nat_tests}
-use Rattle.std.proofs.lemmas.List.{length-set, get_or-set_same, get_or-set_other}
+use Rattle.std.proofs.lemmas.Bool.{true≢false, ltb-true, lt-ltb}
+use Rattle.std.proofs.lemmas.List.{length-set, get_or-set_other}
 use Rattle.std.specs.FinMap as finite
 use Rattle.clr_rows.specs.declared.cells.CellId.{CellId}
 use Rattle.clr_rows.specs.declared.tables.TableDef.{TableDef}
 use Rattle.clr_rows.specs.Cells.{cell_cmp}
-use Rattle.clr_rows.specs.Contents.{Content, Changes, row_at, taken_over, changes, no_rows}
-use Rattle.clr_tree.specs.Spaces.{Space, IsSound, find, space_at, no_space, parent_of, written, written_if_any, merged, created, root, without_saved}
+use Rattle.clr_rows.specs.Contents.{Content, row_at, taken_over, changes}
+use Rattle.clr_tree.specs.Spaces.{Space, IsSound, find, space_at, no_space, parent_of, merged, created}
 use Rattle.clr_engine.specs.Names.{Name, same_name, is_live}
-use Rattle.clr_engine.specs.Offices.{Office, office_of, below_live, find_name, workspace, stands, change, content_of, set_content, current_of}
+use Rattle.clr_engine.specs.Offices.{Office, office_of, find_name, workspace, stands, change, content_of, set_content}
 use Rattle.clr_engine.specs.Steps as model
 
 some_is : {A : Type 0} (a b : A) → ◌≡◌ {A = Option A} (Some a) (Some b) → a ≡ b

@@ -1,5 +1,5 @@
 -- What the tests of each command come to, by the places of the names in the tree.
-use Rattle.std.proofs.Common.{◌≡◌, ℕ, zero, suc, ◌+◌, ◌<◌, ◌≤◌, ◌⊎◌, inl, inr, Bool, true, false, not, ◌||◌, nat_le, List, [], ◌∷◌, length, Option, Some, None, refl, sym, ap, ◌∙◌, arith}
+use Rattle.std.proofs.Common.{◌≡◌, ℕ, zero, suc, ◌<◌, ◌≤◌, Bool, true, false, ◌||◌, List, ◌∷◌, length, Option, Some, None, refl, arith}
 use Rattle.std.specs.Option.{option_map, option_or}
 use Rattle.std.proofs.lemmas.Bool.{le-leb, lt-leb}
 use Rattle.clr_rows.specs.declared.cells.CellId.{CellId}
@@ -11,10 +11,10 @@ use Rattle.clr_change.specs.declared.edits.EditFault.{EditFault}
 use Rattle.clr_change.specs.Edits.{first_bad_edit}
 use Rattle.clr_tree.specs.Spaces.{Space, IsSound, find, space_at}
 use Rattle.clr_engine.specs.declared.commands.Reply.{Reply}
-use Rattle.clr_engine.specs.declared.commands.Reply.TheVariants.{Done, NoWorkspace, NameTaken, BadName, LiveIsFixed, TooMany, BadEdit, Conflict}
+use Rattle.clr_engine.specs.declared.commands.Reply.TheVariants.{NoWorkspace, NameTaken, BadName, LiveIsFixed, TooMany, BadEdit, Conflict}
 use Rattle.clr_engine.specs.Names.{Name, is_live}
-use Rattle.clr_engine.specs.Offices.{Office, office_of, workspace, stands, content_of}
-use Rattle.clr_engine.specs.Steps.{first_of, create_refusals, apply_refusals, merge_refusals, of_workspace, conflict, changes_of, depth_of, is_too_deep, is_full}
+use Rattle.clr_engine.specs.Offices.{Office, office_of, workspace}
+use Rattle.clr_engine.specs.Steps.{first_of, create_refusals, apply_refusals, merge_refusals, of_workspace, conflict, changes_of, depth_of, is_full}
 use Rattle.clr_engine.proofs.Places.{stands_none, stands_some, workspace_none, workspace_is, at_none, at_live, at_below, content_is}
 
 -- a name under LIVE is one step under it, at least

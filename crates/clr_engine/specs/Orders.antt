@@ -4,12 +4,12 @@ use Rattle.std.specs.List.Sorted.{IsPermutation}
 use Rattle.std.specs.Option.{is_some, unwrap_or}
 use Rattle.clr_rows.specs.declared.cells.CellId.{CellId}
 use Rattle.clr_rows.specs.declared.rows.Row.{Row}
-use Rattle.clr_rows.specs.Contents.{Content, row_at, change_at}
+use Rattle.clr_rows.specs.Contents.{row_at, change_at}
 use Rattle.clr_tree.specs.Spaces.{Space}
 use Rattle.clr_engine.specs.declared.commands.Command.{Command}
 use Rattle.clr_engine.specs.declared.commands.Command.TheVariants.{Merge}
 use Rattle.clr_engine.specs.declared.commands.Reply.{Reply}
-use Rattle.clr_engine.specs.declared.commands.Reply.TheVariants.{Done, Conflict}
+use Rattle.clr_engine.specs.declared.commands.Reply.TheVariants.{Conflict}
 use Rattle.clr_engine.specs.Names.{Name, is_live, has, IsSubset}
 use Rattle.clr_engine.specs.Offices.{Office, workspace}
 use Rattle.clr_engine.specs.Steps.{conflict, run}

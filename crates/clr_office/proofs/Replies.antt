@@ -1,5 +1,5 @@
 -- What a script prints over an office, by what is read of the two texts.
-use Rattle.std.proofs.Common.{◌≡◌, ℕ, Bool, true, false, List, Result, Ok, Err, refl, sym, ap, ◌∙◌}
+use Rattle.std.proofs.Common.{◌≡◌, ℕ, Bool, List, Ok, sym, ap, ◌∙◌}
 use Rattle.clr_engine.specs.Offices.{Office}
 use Rattle.clr_texts.specs.declared.office_text.OfficeParts.{OfficeParts}
 use Rattle.clr_texts.specs.declared.steps.Step.{Step}

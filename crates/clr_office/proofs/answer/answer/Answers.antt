@@ -1,4 +1,4 @@
-use Rattle.std.proofs.Common.{◌≡◌, ◌≢◌, ℕ, Bool, true, false, List, Result, Ok, sym, ap, subst, ◌∙◌, refl}
+use Rattle.std.proofs.Common.{◌≡◌, ◌≢◌, ℕ, Bool, true, false, List, Ok, sym, ap, subst, ◌∙◌, refl}
 use Rattle.std.specs.Prelude.{All}
 use Rattle.clr_rows.specs.declared.tables.TableDef.{TableDef}
 use Rattle.clr_texts.specs.declared.steps.Step.{Step}

@@ -1,6 +1,6 @@
-use Rattle.std.proofs.Common.{◌≡◌, ◌||◌, Bool, sym, ap, ◌∙◌, refl}
+use Rattle.std.proofs.Common.{sym, ◌∙◌}
 use Rattle.clr_office.specs.Answer.{all_told}
-use Rattle.clr_office.proofs.Telling.{joined, goes_on, ends, or_parts}
+use Rattle.clr_office.proofs.Telling.{goes_on, ends, or_parts}
 use Rattle.clr_office.proofs.told.tell_all.Goals as goal
 
 pub loop-step-preserved : goal.loop-step-preserved

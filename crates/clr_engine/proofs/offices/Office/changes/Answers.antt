@@ -3,7 +3,7 @@ use Rattle.clr_rows.specs.Contents.{Changes, changes, no_changes}
 use Rattle.clr_rows.specs.declared.tables.TableDef.{TableDef}
 use Rattle.clr_tree.specs.Spaces.{Space, IsSound, find, space_at}
 use Rattle.clr_engine.specs.Names.{Name}
-use Rattle.clr_engine.specs.Offices.{Office, office_of, workspace}
+use Rattle.clr_engine.specs.Offices.{Office, office_of}
 use Rattle.clr_engine.specs.Steps.{if_stands, changes_in, changes_of, at_workspace}
 use Rattle.clr_engine.proofs.Performed.{workspace_at, live_is_none, stands_at, stands_not}
 use Rattle.clr_engine.proofs.offices.Office.changes.Goals as goal

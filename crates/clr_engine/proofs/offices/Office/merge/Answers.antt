@@ -1,39 +1,27 @@
-use Rattle.std.proofs.Common.{◌≡◌, ℕ, zero, suc, ◌<◌, ◌∙◌, sym, ap, subst, refl, Option, Some, None, List, arith}
-use Rattle.std.specs.Option.{IsSome}
-use Rattle.std.proofs.lemmas.Bool.{false≢true}
+use Rattle.std.proofs.Common.{◌≡◌, ℕ, ◌∙◌, sym, ap, refl, Option, Some, None, arith}
 use Rattle.clr_rows.specs.declared.cells.CellId.{CellId}
 use Rattle.clr_rows.specs.Contents.{Content, Changes, conflicts, least_and_count}
-use Rattle.clr_tree.specs.Spaces.{Workspaces, Space, find}
+use Rattle.clr_tree.specs.Spaces.{Workspaces}
 use Rattle.clr_engine.specs.declared.commands.Reply.TheVariants.{NoWorkspace, LiveIsFixed}
 use Rattle.clr_engine.specs.Fitting.{EachFits}
 use Rattle.clr_engine.specs.Offices.{workspace}
 use Rattle.clr_engine.specs.Steps.{of_workspace, at_workspace, merge_refusals, merged}
 use Rattle.clr_engine.proofs.FittingLemmas.{merged_fits}
-use Rattle.clr_engine.proofs.Performed.{refuses_at, merge_no_workspace, merge_live, conflict_at, merge_ends_at, either_way}
+use Rattle.clr_engine.proofs.Performed.{refuses_at, merge_no_workspace, merge_live, conflict_at, merge_ends_at, either_way, found_under, zero_of}
 use Rattle.clr_engine.proofs.offices.Office.merge.Goals as goal
-
--- a place that was found under the text of a name
-found : (spaces : List Space) (given name : List ℕ) (r : Option ℕ) → given ≡ name → r ≡ find spaces given → find spaces name ≡ r
-found spaces given name r same e = ap (find spaces) (sym same) ∙ sym e
 
 pub returns-in_default : goal.returns-in_default
 returns-in_default c =
     let s = c.self.inside.tree.spaces in
     refuses_at c.self.inside.schema s c.args.self.now c.self.view_is (λ o. of_workspace o c.args.ws.now (merge_refusals o)) (λ o. at_workspace (workspace o c.args.ws.now) o (merged o)) NoWorkspace
-    (merge_no_workspace c.self.inside.schema s c.find.ensures.sound c.args.ws.now (found s _ _ _ c.as_str.ensures c.in_default.ensures.place)) refl
-
--- only LIVE, at place 0, has no parent
-zero_of : (at : ℕ) (r : Option ℕ) → r ≡ None → (0 < at → IsSome r) → at ≡ 0
-zero_of zero r e f = refl
-zero_of (suc k) None e f = absurd (false≢true (f (omega arith)))
-zero_of (suc k) (Some x) e f = absurd (cc)
+    (merge_no_workspace c.self.inside.schema s c.find.ensures.sound c.args.ws.now (found_under s _ _ _ c.as_str.ensures c.in_default.ensures.place)) refl
 
 pub returns-in_default-parent : goal.returns-in_default-parent
 returns-in_default-parent c =
     let s = c.self.inside.tree.spaces in
     let top = zero_of c.in-Some.at c.parent.result c.in_default-parent.is c.parent.ensures.found.1 in
     refuses_at c.self.inside.schema s c.args.self.now c.self.view_is (λ o. of_workspace o c.args.ws.now (merge_refusals o)) (λ o. at_workspace (workspace o c.args.ws.now) o (merged o)) LiveIsFixed
-    (merge_live c.self.inside.schema s c.find.ensures.sound c.args.ws.now (found s _ _ _ c.as_str.ensures c.in-Some.ensures.place ∙ ap Some top)) refl
+    (merge_live c.self.inside.schema s c.find.ensures.sound c.args.ws.now (found_under s _ _ _ c.as_str.ensures c.in-Some.ensures.place ∙ ap Some top)) refl
 
 -- what was found of the conflicts, over the changes and the parent's content as they are
 looked_at : (found given : Option (CellId × ℕ)) (view content : Content) (changed own : Changes) → found ≡ given → given ≡ least_and_count (conflicts view changed) → view ≡ content → changed ≡ own
@@ -44,7 +32,7 @@ pub returns-in-Some-first_conflict : goal.returns-in-Some-first_conflict
 returns-in-Some-first_conflict c =
     let s = c.self.inside.tree.spaces in
     let given : Option (CellId × ℕ) = Some (c.in-Some-first_conflict.cell, c.in-Some-first_conflict.count) in
-    let e = found s _ _ _ c.as_str.ensures c.in-Some.ensures.place in
+    let e = found_under s _ _ _ c.as_str.ensures c.in-Some.ensures.place in
     let conflict = looked_at given c.first_conflict.result _ _ _ _ (sym c.in-Some-first_conflict.is) c.first_conflict.ensures c.view.ensures c.in-Ok.ensures in
     conflict_at c.self.inside.schema s c.find.ensures.sound c.args.self.now c.self.view_is c.args.ws.now c.in-Some.at c.in-Some-parent.above (c.in-Some-first_conflict.cell, c.in-Some-first_conflict.count) e (sym c.in-Some-parent.ensures.place)
     (omega (arith, c.in-Some-parent.ensures.earlier)) conflict
@@ -57,7 +45,7 @@ invariant_of-self c =
 pub returns : goal.returns
 returns c =
     let s = c.self.inside.tree.spaces in
-    let e = found s _ _ _ c.as_str.ensures c.in-Some.ensures.place in
+    let e = found_under s _ _ _ c.as_str.ensures c.in-Some.ensures.place in
     let none = looked_at None c.first_conflict.result _ _ _ _ (sym c.in_default-first_conflict.is) c.first_conflict.ensures c.view.ensures c.in-Ok.ensures in
     merge_ends_at c.self.inside.schema c.self.inside.tree c.rebase.new.self c.find.ensures.sound c.args.self.now c.self.view_is c.rebase.result c.finished.result c.finished.ensures c.rebase.ensures.err
     c.args.ws.now c.in-Some.at c.in-Some-parent.above e (sym c.in-Some-parent.ensures.place) (omega (arith, c.in-Some-parent.ensures.earlier)) none c.rebase.ensures.ok

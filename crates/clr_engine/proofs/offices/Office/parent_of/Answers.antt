@@ -1,9 +1,8 @@
-use Rattle.std.proofs.Common.{◌≡◌, ℕ, zero, suc, ◌<◌, List, Option, Some, None, sym, ap, ◌∙◌, refl, arith}
-use Rattle.std.specs.Option.{option_map, IsSome}
-use Rattle.std.proofs.lemmas.Bool.{false≢true}
-use Rattle.clr_tree.specs.Spaces.{Space, find}
+use Rattle.std.proofs.Common.{Some, sym, ap, ◌∙◌}
+use Rattle.std.specs.Option.{option_map}
+use Rattle.clr_tree.specs.Spaces.{Space}
 use Rattle.clr_engine.specs.Offices.{Office, workspace}
-use Rattle.clr_engine.proofs.Performed.{parent_named, workspace_not, live_is_none}
+use Rattle.clr_engine.proofs.Performed.{parent_named, workspace_not, live_is_none, zero_of}
 use Rattle.clr_engine.proofs.offices.Office.parent_of.Goals as goal
 
 pub returns-in-Some-parent : goal.returns-in-Some-parent
@@ -11,12 +10,6 @@ returns-in-Some-parent c =
     ap Some c.name_at.ensures
     ∙ parent_named c.self.inside.schema c.self.inside.tree.spaces c.find.ensures.sound c.args.ws.now c.in-Some.at c.in-Some-parent.above (sym c.in-Some.ensures.place) (sym c.in-Some-parent.ensures.place)
     ∙ ap (λ (o : Office). option_map (λ (w : Space). w.parent) (workspace o c.args.ws.now)) c.self.view_is
-
--- only LIVE, at place 0, has no parent
-zero_of : (at : ℕ) (r : Option ℕ) → r ≡ None → (0 < at → IsSome r) → at ≡ 0
-zero_of zero r e f = refl
-zero_of (suc k) None e f = absurd (false≢true (f (omega arith)))
-zero_of (suc k) (Some x) e f = absurd (cc)
 
 pub returns-in-None-parent : goal.returns-in-None-parent
 returns-in-None-parent c =

@@ -1,4 +1,4 @@
-use Rattle.std.proofs.Common.{◌≡◌, sym, ap, subst, ◌∙◌}
+use Rattle.std.proofs.Common.{◌≡◌, sym, subst}
 use Rattle.clr_engine.specs.declared.commands.Command.{Command}
 use Rattle.clr_engine.specs.Steps.{answer, answered, is_lost, step, refusal, done}
 use Rattle.clr_engine.proofs.offices.Office.perform.Goals as goal

@@ -1,5 +1,4 @@
-use Rattle.std.proofs.Common.{Some, sym, ap, ◌∙◌, Bool, cond, None, Option}
-use Rattle.clr_rows.specs.Contents.{Content}
+use Rattle.std.proofs.Common.{Some, sym, ap, ◌∙◌, Bool, cond, None}
 use Rattle.clr_engine.specs.Offices.{Office, office_of, content_of}
 use Rattle.clr_engine.specs.Steps.{if_stands}
 use Rattle.clr_engine.proofs.Performed.{content_at, stands_at, stands_not}
