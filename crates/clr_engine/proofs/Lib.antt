@@ -1,4 +1,5 @@
 pub mod FittingLemmas
+pub mod MergeableLemmas
 pub mod OrderLemmas
 pub mod Performed
 pub mod Places

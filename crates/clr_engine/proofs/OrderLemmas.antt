@@ -25,11 +25,11 @@ use Rattle.clr_engine.specs.Steps.{Answer, answer, conflict, changes_of, rebased
 some_is : {A : Type 0} (a b : A) → ◌≡◌ {A = Option A} (Some a) (Some b) → a ≡ b
 some_is a b e = cc
 
-same_name_is : (a b : Name) → same_name a b ≡ true → a ≡ b
+pub same_name_is : (a b : Name) → same_name a b ≡ true → a ≡ b
 unfolding same_name
 same_name_is a b e = (bytes_decides a b).0 e
 
-same_name_itself : (a : Name) → same_name a a ≡ true
+pub same_name_itself : (a : Name) → same_name a a ≡ true
 unfolding same_name
 same_name_itself a = (bytes_decides a a).1 refl
 
@@ -39,10 +39,10 @@ live_is a b e h = (bytes_decides a _).0 e ∙ sym ((bytes_decides b _).0 h)
 
 -- names in lists -------------------------------------------------------------------------------
 
-has_head : (n : Name) (ns : List Name) → has (n ∷ ns) n ≡ true
+pub has_head : (n : Name) (ns : List Name) → has (n ∷ ns) n ≡ true
 has_head n ns = rw (same_name_itself n) refl
 
-has_rest : (m n : Name) (ns : List Name) → has ns n ≡ true → has (m ∷ ns) n ≡ true
+pub has_rest : (m n : Name) (ns : List Name) → has ns n ≡ true → has (m ∷ ns) n ≡ true
 has_rest m n ns e = by (same_name m n) e
   where
     by : (b : Bool) → has ns n ≡ true → (b || has ns n) ≡ true
@@ -285,7 +285,7 @@ start o members mergeable = record {
 }
 
 pub part_law : PartLaw
-part_law o members order mergeable p =
+part_law o members mergeable order p =
     let ran = all_merged o members mergeable [] order o p.distinct p.part (λ n e. refl) (start o members mergeable) in
     let same : (k : Name) → has (joined [] order) k ≡ has order k = λ k. joined_has [] order k ∙ or_false (has order k) in (
       ran.replies,
@@ -345,9 +345,9 @@ distinct_from (m ∷ ms) few = (has_times m ms ∙ ap (nat_lt 0) none, distinct_
     less n false h = omega (arith, h)
 
 pub order_law : OrderLaw
-order_law o members order mergeable permutation =
+order_law o members mergeable order permutation =
     let counts : (n : Name) → times n members ≡ times n order = λ n. sym (times_sum n members) ∙ sum_by-IsPermutation (is_one n) order members permutation ∙ times_sum n order in
     let same : (n : Name) → has order n ≡ has members n = λ n. has_times n order ∙ ap (nat_lt 0) (sym (counts n)) ∙ sym (has_times n members) in
     let distinct = distinct_from order (λ n. subst (λ k. k ≤ 1) (counts n) (once members mergeable.distinct n)) in
-    let ran = part_law o members order mergeable (record { distinct = distinct; part = λ n e. sym (same n) ∙ e }) in
+    let ran = part_law o members mergeable order (record { distinct = distinct; part = λ n e. sym (same n) ∙ e }) in
     (ran.0, λ cell. ran.1.live cell ∙ taken_same o members members order cell mergeable.disjoint (λ n e. e) same)

@@ -1,4 +1,5 @@
 pub mod Fitting
+pub mod Mergeable
 pub mod Names
 pub mod Offices
 pub mod Orders

@@ -78,11 +78,17 @@ office_after o order = (run o (merges order) nothing_lost).office
 abbrev pub replies_to : Office → List Name → List Reply
 replies_to o order = (run o (merges order) nothing_lost).replies
 
--- after merging any part of the members in any order
-abbrev pub PartLaw : Type 0
-PartLaw = (o : Office) (members order : List Name) → AreMergeable o members → IsPartOf members order → All IsNoConflict (replies_to o order) × IsAfterMerges o members order (office_after o order)
-
 -- in every order of merging all members once, none is answered Conflict, and LIVE ends with the changes of all of them, whatever the order
-abbrev pub OrderLaw : Type 0
-OrderLaw = (o : Office) (members order : List Name) → AreMergeable o members → IsPermutation order members
+abbrev pub MergeInAnyOrder : Office → List Name → Type 0
+MergeInAnyOrder o members = (order : List Name) → IsPermutation order members
     → All IsNoConflict (replies_to o order) × ((cell : CellId) → row_at (office_after o order).live cell ≡ taken o members cell)
+
+-- the same after merging any part of the members, in any order
+abbrev pub MergeInParts : Office → List Name → Type 0
+MergeInParts o members = (order : List Name) → IsPartOf members order → All IsNoConflict (replies_to o order) × IsAfterMerges o members order (office_after o order)
+
+abbrev pub OrderLaw : Type 0
+OrderLaw = (o : Office) (members : List Name) → AreMergeable o members → MergeInAnyOrder o members
+
+abbrev pub PartLaw : Type 0
+PartLaw = (o : Office) (members : List Name) → AreMergeable o members → MergeInParts o members

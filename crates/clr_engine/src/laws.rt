@@ -1,5 +1,6 @@
 //! Laws of runs of commands, each proved by a function that does nothing.
 
+ghost use Rattle.clr_engine.specs.Mergeable.{TestLaw};
 ghost use Rattle.clr_engine.specs.Orders.{OrderLaw, PartLaw};
 
 /// Members that are different children of LIVE, none in conflict with it, and of which no two
@@ -9,4 +10,10 @@ ghost use Rattle.clr_engine.specs.Orders.{OrderLaw, PartLaw};
 pub fn merges_in_any_order()
     ensures whole { OrderLaw }
     ensures part { PartLaw }
+{}
+
+/// The test by which members are judged, `are_mergeable`, is passed by just those that are
+/// different children of LIVE, none in conflict with it, and of which no two change one cell.
+pub fn mergeable_members_pass()
+    ensures { TestLaw }
 {}

@@ -7,5 +7,5 @@ mod offices;
 
 pub use clr_change::{ChangeSet, Edit, EditFault, Edits};
 pub use commands::{Command, Reply};
-pub use laws::merges_in_any_order;
+pub use laws::{mergeable_members_pass, merges_in_any_order};
 pub use offices::Office;
