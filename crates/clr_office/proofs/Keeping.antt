@@ -12,7 +12,7 @@ use Rattle.clr_texts.specs.declared.steps.Step.TheVariants.{Act, Report}
 use Rattle.clr_texts.specs.declared.steps.Word.TheVariants.{Show}
 use Rattle.clr_texts.specs.Edits.{edits_from}
 use Rattle.clr_texts.specs.Records.{field_of, at_record, records_in, ◌>>=◌}
-use Rattle.clr_texts.specs.Scripts.{with_count, edit_count, create_of, merge_of, show_of, apply_of, step_of, edits_in, steps_from, script_of, script_in_text}
+use Rattle.clr_texts.specs.Scripts.{with_count, edit_count, create_of, merge_of, show_of, weak_of, apply_of, step_of, edits_in, steps_from, script_of, script_in_text}
 use Rattle.clr_office.specs.Answer.{StepKeeps}
 
 abbrev Keeps : {E : Type 0} → Result Step E → Type 0
@@ -47,13 +47,15 @@ unfolding step_of
 step_keeps tables n fields rest =
     let word = field_of fields 0 in
     let unknown : Result Step (ℕ × RecordFault) = Err (n, BadWord) in
-    let show = cond (bytes_eq word (codes "show")) (at_record n (show_of fields)) unknown in
+    let weak = cond (bytes_eq word (codes "weak")) (at_record n (weak_of fields)) unknown in
+    let show = cond (bytes_eq word (codes "show")) (at_record n (show_of fields)) weak in
     let merge = cond (bytes_eq word (codes "merge")) (at_record n (merge_of fields)) show in
     let apply = cond (bytes_eq word (codes "apply")) (apply_of tables n fields rest) merge in
     either (bytes_eq word (codes "create")) (at_record n (create_of fields)) apply (at_record_keeps n (create_of fields) (count_keeps 3 fields (Ok (Act (Create (field_of fields 1) (field_of fields 2)))) tt))
     (either (bytes_eq word (codes "apply")) (apply_of tables n fields rest) merge (apply_keeps tables n fields rest)
     (either (bytes_eq word (codes "merge")) (at_record n (merge_of fields)) show (at_record_keeps n (merge_of fields) (count_keeps 3 fields (cond (bytes_eq (field_of fields 2) (codes "keep")) (Ok (Act (Merge (field_of fields 1) false))) (Err BadWord)) (either (bytes_eq (field_of fields 2) (codes "keep")) (Ok (Act (Merge (field_of fields 1) false))) (Err BadWord) refl tt)))
-    (either (bytes_eq word (codes "show")) (at_record n (show_of fields)) unknown (at_record_keeps n (show_of fields) (count_keeps 2 fields (Ok (Report Show (field_of fields 1 ∷ []))) tt)) tt)))
+    (either (bytes_eq word (codes "show")) (at_record n (show_of fields)) weak (at_record_keeps n (show_of fields) (count_keeps 2 fields (Ok (Report Show (field_of fields 1 ∷ []))) tt))
+    (either (bytes_eq word (codes "weak")) (at_record n (weak_of fields)) unknown tt tt))))
 
 abbrev EachKeeps : List Step → Type 0
 EachKeeps [] = Unit {0}

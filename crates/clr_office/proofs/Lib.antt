@@ -1,5 +1,6 @@
 pub mod Keeping
 pub mod Lines
+pub mod Members
 pub mod Pieces
 pub mod Replies
 pub mod Sessions

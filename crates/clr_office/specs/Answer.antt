@@ -1,7 +1,8 @@
 -- What a script prints over an office.
-use Rattle.std.specs.Prelude.{◌≡◌, ℕ, Bool, false, true, ◌||◌, List, [], ◌∷◌, ◌++◌, Result, Ok, Err, if◌then◌else◌}
+use Rattle.std.specs.Prelude.{◌≡◌, ℕ, Bool, false, true, ◌||◌, List, [], ◌∷◌, ◌++◌, Result, Ok, Err, if◌then◌else◌, codes}
 use Rattle.clr_engine.specs.declared.commands.Reply.{Reply}
 use Rattle.clr_engine.specs.declared.commands.Reply.TheVariants.{Done, NoWorkspace}
+use Rattle.clr_engine.specs.Mergeable.{are_mergeable}
 use Rattle.clr_engine.specs.Names.{Name}
 use Rattle.clr_engine.specs.Offices.{Office, stands, content_of}
 use Rattle.clr_engine.specs.Steps.{step, KeepsWorkspaces}
@@ -10,10 +11,12 @@ use Rattle.clr_texts.specs.declared.faults.TextFault.{TextFault}
 use Rattle.clr_texts.specs.declared.office_text.OfficeParts.{OfficeParts}
 use Rattle.clr_texts.specs.declared.steps.Step.{Step}
 use Rattle.clr_texts.specs.declared.steps.Step.TheVariants.{Act, Report}
-use Rattle.clr_texts.specs.declared.steps.Word.TheVariants.{Show}
+use Rattle.clr_texts.specs.declared.steps.Word.TheVariants as word
 use Rattle.clr_texts.specs.Lines.{reply_text, rows_text}
 use Rattle.clr_texts.specs.OfficeText.{office_in}
 use Rattle.clr_texts.specs.Scripts.{script_in_text}
+use Rattle.clr_office.specs.declared.clearance.Weak.{Weak}
+use Rattle.clr_office.specs.declared.clearance.Weak.TheVariants as weak
 use Rattle.clr_office.specs.declared.faults.RunFault.{RunFault}
 use Rattle.clr_office.specs.declared.faults.RunFault.TheVariants as run_fault
 
@@ -36,13 +39,24 @@ shown o name =
     if stands o name then told (rows_text o.schema (content_of o name)) false o
     else told (reply_text o.schema NoWorkspace) true o
 
+-- the line of an answer to the weak test
+abbrev pub weak_text : Weak → List ℕ
+weak_text weak.Yes = codes "weak yes\n"
+weak_text weak.No = codes "weak no\n"
+weak_text weak.OutOfMemory = codes "refused 0 OutOfMemory\n"
+
+-- whether the members of these names can be merged in every order; no counts as a refusal
+abbrev pub judged : Office → List Name → Told
+judged o names = if are_mergeable o names then told (weak_text weak.Yes) false o else told (weak_text weak.No) true o
+
 abbrev pub first_name : List Name → Name
 first_name [] = []
 first_name (name ∷ names) = name
 
 unfoldable pub step_told : Office → Step → Told
 step_told o (Act command) = let a = step o command in told (reply_text a.office.schema a.reply) (is_refused a.reply) a.office
-step_told o (Report Show names) = shown o (first_name names)
+step_told o (Report word.Show names) = shown o (first_name names)
+step_told o (Report word.Weak names) = judged o names
 
 -- what some steps print, and whether something was refused
 pub record Printed : Type 0 where

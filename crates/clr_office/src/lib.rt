@@ -2,6 +2,7 @@
 #![tactic(auto)]
 
 mod answer;
+mod clearance;
 mod devices;
 mod faults;
 mod memory;
@@ -13,6 +14,7 @@ mod tests;
 mod told;
 mod whole;
 
+pub use clearance::{Weak, weak_test};
 pub use devices::{DeviceFault, Sink, Source};
 pub use faults::RunFault;
 pub use memory::{Page, Text};

@@ -1,9 +1,12 @@
 //! The steps of a script, performed one after another, and the lines that they print.
 ghost use Rattle.std.specs.Prelude.{◌≡◌, ◌≢◌, ◌++◌, ◌||◌, true, false, All, IfOk, OnOk};
+ghost use Rattle.clr_engine.specs.Mergeable.{are_mergeable};
 ghost use Rattle.clr_engine.specs.Steps.{KeepsWorkspaces, is_lost as is_lost_reply};
 ghost use Rattle.clr_texts.specs.declared.steps.Step.TheVariants.{Act};
-ghost use Rattle.clr_office.specs.Answer.{StepKeeps, all_told, first_name as first_of_names, is_refused as is_refused_reply, printed, shown, status_of, step_told, told as told_as};
+ghost use Rattle.clr_office.specs.Answer.{StepKeeps, all_told, first_name as first_of_names, is_refused as is_refused_reply, judged, printed, shown, status_of, step_told, told as told_as, weak_text};
+ghost use Rattle.clr_office.specs.Clearance.{Judges, names_in};
 
+use crate::clearance::{Weak, weak_test};
 use clr_engine::{Command, Office, Reply};
 use clr_texts::{Names, Step, Word, reply_line, rows_lines};
 use std::alloc::{AllocError, Global};
@@ -84,6 +87,50 @@ fn show(alloc: Global, office: &Office, name: &str) -> Result<Told, AllocError>
     }
 }
 
+/// The names as texts.
+fn texts(alloc: Global, names: &Names) -> Result<Vec<&str>, AllocError>
+    ensures { IfOk result (λ list. names_in list.items ≡ names.now) }
+{
+    let mut list = Vec::new(alloc);
+    for name in names.as_slice() {
+        list.push(name.as_str())?;
+    }
+    Ok(list)
+}
+
+/// Whether the members of these names can be merged in every order.
+fn test(alloc: Global, office: &Office, names: &Names) -> Weak
+    ensures { Judges result (are_mergeable office.now names.now) }
+{
+    match texts(alloc, names) {
+        Ok(list) => weak_test(alloc, office, list.as_slice()),
+        Err(_) => Weak::OutOfMemory,
+    }
+}
+
+/// The line of an answer.
+fn weak_line(alloc: Global, answer: Weak) -> Result<Vec<u8>, AllocError>
+    ensures { IfOk result (λ line. line.items ≡ weak_text answer) }
+{
+    match answer {
+        Weak::Yes => Vec::from_slice(alloc, b"weak yes\n"),
+        Weak::No => Vec::from_slice(alloc, b"weak no\n"),
+        Weak::OutOfMemory => Vec::from_slice(alloc, b"refused 0 OutOfMemory\n"),
+    }
+}
+
+/// Tells whether the members of these names can be merged in every order.
+fn weak(alloc: Global, office: &Office, names: &Names) -> Result<Told, AllocError>
+    ensures { IfOk result (λ t. t.lost ≡ false → told_as t.lines.items t.refused office.now ≡ judged office.now names.now) }
+{
+    let answer = test(alloc, office, names);
+    Ok(Told {
+        lines: weak_line(alloc, answer)?,
+        refused: answer != Weak::Yes,
+        lost: answer == Weak::OutOfMemory,
+    })
+}
+
 fn first_name(names: &Names) -> &str
     ensures { result.now ≡ first_of_names names.now }
 {
@@ -102,6 +149,7 @@ fn tell(alloc: Global, office: &mut Office, step: &Step) -> Result<Told, AllocEr
     match step {
         Step::Act(command) => act(alloc, office, command),
         Step::Report(Word::Show, names) => show(alloc, office, first_name(names)),
+        Step::Report(Word::Weak, names) => weak(alloc, office, names),
     }
 }
 

@@ -1,5 +1,5 @@
 -- The script that records are: its steps, or the first fault with the number of its record.
-use Rattle.std.specs.Prelude.{ℕ, zero, suc, ◌+◌, ◌==◌, ℤ, pos, negsuc, false, List, [], ◌∷◌, length, take, codes, nat_le, Result, Ok, Err, if◌then◌else◌}
+use Rattle.std.specs.Prelude.{ℕ, zero, suc, ◌+◌, ◌==◌, ℤ, pos, negsuc, false, List, [], ◌∷◌, length, take, drop, codes, nat_le, Result, Ok, Err, if◌then◌else◌}
 use Rattle.std.specs.Str.{bytes_eq}
 use Rattle.clr_rows.specs.declared.tables.TableDef.{TableDef}
 use Rattle.clr_engine.specs.declared.commands.Command.TheVariants.{Create, Apply, Merge}
@@ -7,7 +7,7 @@ use Rattle.clr_texts.specs.declared.faults.RecordFault.{RecordFault}
 use Rattle.clr_texts.specs.declared.faults.RecordFault.TheVariants.{FieldCount, BadWord, BadNumber}
 use Rattle.clr_texts.specs.declared.steps.Step.{Step}
 use Rattle.clr_texts.specs.declared.steps.Step.TheVariants.{Act, Report}
-use Rattle.clr_texts.specs.declared.steps.Word.TheVariants.{Show}
+use Rattle.clr_texts.specs.declared.steps.Word.TheVariants.{Show, Weak}
 use Rattle.clr_texts.specs.Records.{field_of, ◌>>=◌, at_record, records_in}
 use Rattle.clr_texts.specs.Edits.{edits_from, whole_number}
 
@@ -24,6 +24,10 @@ merge_of fields = with_count 3 fields (if bytes_eq (field_of fields 2) (codes "k
 
 abbrev pub show_of : List (List ℕ) → Result Step RecordFault
 show_of fields = with_count 2 fields (Ok (Report Show (field_of fields 1 ∷ [])))
+
+-- the names are all fields but the first, none or more
+abbrev pub weak_of : List (List ℕ) → Result Step RecordFault
+weak_of fields = Ok (Report Weak (drop 1 fields))
 
 -- a count is no negative number
 abbrev pub count_of : ℤ → Result ℕ RecordFault
@@ -48,7 +52,8 @@ step_of tables n fields rest =
     else (if bytes_eq (field_of fields 0) (codes "apply") then apply_of tables n fields rest
     else (if bytes_eq (field_of fields 0) (codes "merge") then at_record n (merge_of fields)
     else (if bytes_eq (field_of fields 0) (codes "show") then at_record n (show_of fields)
-    else Err (n, BadWord))))
+    else (if bytes_eq (field_of fields 0) (codes "weak") then at_record n (weak_of fields)
+    else Err (n, BadWord)))))
 
 -- how many of the records after it are a step's own
 abbrev pub edits_in : Step → ℕ

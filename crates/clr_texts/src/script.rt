@@ -1,7 +1,7 @@
-ghost use Rattle.std.specs.Prelude.{◌≡◌, ◌+◌, ◌<◌, ◌^◌, ◌++◌, ◌∷◌, [], Ok, IfErr, OnOk, length, map};
+ghost use Rattle.std.specs.Prelude.{◌≡◌, ◌+◌, ◌<◌, ◌^◌, ◌++◌, ◌∷◌, [], Ok, IfErr, OnOk, length, map, drop};
 ghost use Rattle.csv.specs.Records.{fields_of};
 ghost use Rattle.clr_texts.specs.Records.{Gives, GivesAt, field_of};
-ghost use Rattle.clr_texts.specs.Scripts.{apply_of, create_of, edit_count, edits_in, merge_of, script_in_text, script_of, show_of, step_of};
+ghost use Rattle.clr_texts.specs.Scripts.{apply_of, create_of, edit_count, edits_in, merge_of, script_in_text, script_of, show_of, step_of, weak_of};
 ghost use Rattle.clr_texts.specs.declared.faults.RecordFault.TheVariants as fault;
 
 use crate::edits::{edits, number};
@@ -53,6 +53,23 @@ fn show(alloc: Global, fields: &StringRecord) -> Result<Step, RecordFault>
     let mut list = Vec::new(alloc);
     list.push(words(alloc, fields, 1)?)?;
     Ok(Step::Report(Word::Show, Names::new(list)))
+}
+
+/// The fields of a record behind its first, as names.
+fn names(alloc: Global, fields: &StringRecord) -> Result<Names, RecordFault>
+    ensures { Gives result (Ok (drop 1 (fields_of fields.now))) }
+{
+    let mut list = Vec::new(alloc);
+    for at in 1..fields.len() {
+        list.push(words(alloc, fields, at)?)?;
+    }
+    Ok(Names::new(list))
+}
+
+fn weak(alloc: Global, fields: &StringRecord) -> Result<Step, RecordFault>
+    ensures { Gives result (weak_of (fields_of fields.now)) }
+{
+    Ok(Step::Report(Word::Weak, names(alloc, fields)?))
 }
 
 /// How many edits an `apply` says that it has.
@@ -113,6 +130,7 @@ fn step(
         "apply" => return apply(alloc, schema, at, fields, rest),
         "merge" => merge(alloc, fields),
         "show" => show(alloc, fields),
+        "weak" => weak(alloc, fields),
         _ => Err(RecordFault::BadWord),
     };
     match step {
@@ -164,9 +182,10 @@ fn steps(
 }
 
 /// Reads a script, a CSV record for each step: `create,NAME,PARENT`, `apply,WS,n` and the next n
-/// records, which are edits, `merge,WS,keep` or `show,WS`. Names are taken as they stand. A fault
-/// is that of the first record that has one, beside the record's number from 1; in each record the
-/// word is tested first, then the count of fields, and then the fields from left to right.
+/// records, which are edits, `merge,WS,keep`, `show,WS` or `weak,NAME..` with none or more names.
+/// Names are taken as they stand. A fault is that of the first record that has one, beside the
+/// record's number from 1; in each record the word is tested first, then the count of fields, and
+/// then the fields from left to right.
 ///
 /// # Errors
 ///

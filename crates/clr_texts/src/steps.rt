@@ -39,6 +39,8 @@ impl Names {
 pub enum Word {
     /// The rows of a workspace.
     Show,
+    /// Whether the named workspaces can be merged in every order.
+    Weak,
 }
 
 /// A step of a script: a command that is performed, or a report that is printed.

@@ -244,6 +244,24 @@ fn scripts_are_read(rt: HostRuntime) -> Result<(), Fail> {
 }
 
 #[test]
+fn weak_takes_any_count_of_names(rt: HostRuntime) -> Result<(), Fail> {
+    let alloc = rt.alloc();
+    let text = b"weak\nweak,\nweak,W1,LIVE,W1";
+    let steps = read_script(alloc, &network(alloc)?, text)?;
+    assert_eq!(rt; steps.len(), 3);
+    let (word, names) = reported(&steps[0]).ok_or("no report")?;
+    assert_eq!(rt; word, Word::Weak);
+    assert_eq!(rt; names.as_slice().len(), 0);
+    let (_, names) = reported(&steps[1]).ok_or("no report")?;
+    assert_eq!(rt; names.as_slice().len(), 1);
+    assert_eq!(rt; names.as_slice()[0].as_str(), "");
+    let (_, names) = reported(&steps[2]).ok_or("no report")?;
+    assert_eq!(rt; names.as_slice().len(), 3);
+    assert_eq!(rt; names.as_slice()[1].as_str(), "LIVE");
+    Ok(())
+}
+
+#[test]
 fn faults_of_scripts(rt: HostRuntime) -> Result<(), Fail> {
     let alloc = rt.alloc();
     let schema = network(alloc)?;
