@@ -3,6 +3,8 @@
 #![tactic(auto)]
 
 #[cfg(test)]
+mod clearance;
+#[cfg(test)]
 mod commands;
 #[cfg(test)]
 mod memory;
