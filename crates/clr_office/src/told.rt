@@ -11,7 +11,8 @@ use clr_engine::{Command, Office, Reply};
 use clr_texts::{Names, Step, Word, reply_line, rows_lines};
 use std::alloc::{AllocError, Global};
 
-/// The lines of some steps, whether something was refused, and whether a command found no memory.
+/// The lines of some steps, whether something was refused, and whether a command or a test found
+/// no memory.
 #[derive(Drop)]
 pub struct Told {
     pub lines: Vec<u8>,
@@ -21,7 +22,7 @@ pub struct Told {
 
 impl Told {
     /// The exit status: 0 where all was done, 1 where something was refused, and 3 where a command
-    /// found no memory.
+    /// or a test found no memory.
     pub fn status(&self) -> u8
         ensures lost { self.now.lost ≡ true → result ≡ 3 }
         ensures all { self.now.lost ≡ false → result ≡ status_of self.now.refused }
