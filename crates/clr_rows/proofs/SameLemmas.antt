@@ -13,17 +13,20 @@ use Rattle.clr_rows.specs.declared.rows.Value.TheVariants.{Int, Words}
 use Rattle.clr_rows.specs.declared.rows.Row.{Row}
 use Rattle.clr_rows.specs.Same.{same_value, same_values, same_place, same_shape, same_row, same}
 
-value_is : (v w : Value) → same_value v w ≡ true → v ≡ w
+pub value_is : (v w : Value) → same_value v w ≡ true → v ≡ w
 value_is (Int a) (Int b) e = ap Int ((Decides-int_eq a b).0 e)
 value_is (Words a) (Words b) e = ap Words ((bytes_decides a b).0 e)
 value_is (Int a) (Words b) e = absurd (false≢true e)
 value_is (Words a) (Int b) e = absurd (false≢true e)
 
-value_same : (v : Value) → same_value v v ≡ true
+pub value_same : (v : Value) → same_value v v ≡ true
 value_same (Int a) = (Decides-int_eq a a).1 refl
 value_same (Words a) = (bytes_decides a a).1 refl
 
-values_are : (vs ws : List Value) → same_values vs ws ≡ true → vs ≡ ws
+pub value_decides : (v w : Value) → Decides (same_value v w) (v ≡ w)
+value_decides v w = (value_is v w, λ e. subst (λ u. same_value v u ≡ true) e (value_same v))
+
+pub values_are : (vs ws : List Value) → same_values vs ws ≡ true → vs ≡ ws
 values_are [] [] e = refl
 values_are [] (w ∷ ws) e = absurd (false≢true e)
 values_are (v ∷ vs) [] e = absurd (false≢true e)
@@ -33,11 +36,11 @@ values_are (v ∷ vs) (w ∷ ws) e =
     let rest = values_are vs ws parts.1 in
     λ i. head i ∷ rest i
 
-values_same : (vs : List Value) → same_values vs vs ≡ true
+pub values_same : (vs : List Value) → same_values vs vs ≡ true
 values_same [] = refl
 values_same (v ∷ vs) = rw (value_same v, values_same vs) refl
 
-place_is : (p q : Place) → same_place p q ≡ true → p ≡ q
+pub place_is : (p q : Place) → same_place p q ≡ true → p ≡ q
 place_is p q e =
     let parts = and_parts (int_eq p.x q.x) (int_eq p.y q.y) e in
     let x = (Decides-int_eq p.x q.x).0 parts.0 in
@@ -46,6 +49,9 @@ place_is p q e =
 
 place_same : (p : Place) → same_place p p ≡ true
 place_same p = rw ((Decides-int_eq p.x p.x).1 refl, (Decides-int_eq p.y p.y).1 refl) refl
+
+pub place_decides : (p q : Place) → Decides (same_place p q) (p ≡ q)
+place_decides p q = (place_is p q, λ e. subst (λ u. same_place p u ≡ true) e (place_same p))
 
 shape_is : (s t : Shape) → same_shape s t ≡ true → s ≡ t
 shape_is Bare Bare e = refl

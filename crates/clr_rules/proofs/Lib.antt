@@ -1,0 +1,14 @@
+pub mod AuditSteps
+pub mod BrokenLemmas
+pub mod Elements
+pub mod FieldLemmas
+pub mod FiledLemmas
+pub mod Fits
+pub mod FittingLemmas
+pub mod IndexLemmas
+pub mod NearLemmas
+pub mod ShareLaws
+pub mod SharedSpots
+pub mod SideLemmas
+pub mod SpotLemmas
+pub mod SquareLemmas

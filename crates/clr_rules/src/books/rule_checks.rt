@@ -1,0 +1,283 @@
+ghost use Rattle.std.specs.Prelude.{◌≡◌, ◌≤◌, not, length};
+ghost use Rattle.std.specs.List.{list_all, zip};
+ghost use Rattle.clr_rows.specs.Schemas.{Answers};
+ghost use Rattle.clr_rules.specs.Books.{has_table, has_tables, kind_of, is_column_of, are_columns_of, is_primary_key, has_columns, same_kind, has_same_kinds, has_form, has_forms, is_distance, has_distance, is_of_some_kind, has_filter, has_filters, rule_fault, first_fault};
+
+use crate::columns::{Col, ColumnList};
+use crate::faults::RuleFault;
+use crate::rules::Rule;
+use crate::sides::Side;
+use clr_rows::{Form, Kind, Schema, Value};
+
+/// In millimetres.
+const GREATEST_DISTANCE: i64 = 1_000_000;
+
+fn has_table(schema: &Schema, side: &Side) -> bool
+    ensures { result ≡ has_table schema.now side.now }
+{
+    schema.def(side.table).is_some()
+}
+
+fn has_tables(schema: &Schema, rule: &Rule) -> bool
+    ensures { result ≡ has_tables schema.now rule.now }
+{
+    match rule {
+        Rule::Unique { subject, .. } => has_table(schema, subject),
+        Rule::Partner {
+            subject,
+            server,
+            ..
+        } => has_table(schema, subject) && has_table(schema, server),
+        Rule::EndNode {
+            subject,
+            server,
+            ..
+        } => has_table(schema, subject) && has_table(schema, server),
+        Rule::Crossing { a, b, server } => {
+            has_table(schema, a) && has_table(schema, b) && has_table(schema, server)
+        }
+        Rule::Near { a, b, .. } => has_table(schema, a) && has_table(schema, b),
+    }
+}
+
+/// The kind of a column of a table, or none where there is no such column.
+fn kind_of(schema: &Schema, table: u16, column: Col) -> Option<Kind>
+    ensures { result ≡ kind_of schema.now table column }
+{
+    let table = schema.def(table)?;
+    match column {
+        Col::Key => Some(Kind::Int),
+        Col::At(number) => match table.columns.as_slice().get(number as usize) {
+            Some(column) => Some(column.1),
+            None => None,
+        },
+    }
+}
+
+fn is_column_of(schema: &Schema, side: &Side, column: Col) -> bool
+    ensures { result ≡ is_column_of schema.now side.now column }
+{
+    kind_of(schema, side.table, column).is_some()
+}
+
+fn is_primary_key(column: Col) -> bool
+    ensures { result ≡ is_primary_key column }
+{
+    match column {
+        Col::Key => true,
+        Col::At(_) => false,
+    }
+}
+
+fn all_are_columns_of(schema: &Schema, side: &Side, columns: &[Col]) -> bool
+    ensures { result ≡ list_all (is_column_of schema.now side.now) columns.now }
+{
+    columns
+        .iter()
+        .all(|column| is_column_of(schema, side, *column))
+}
+
+fn are_columns_of(schema: &Schema, side: &Side, columns: &ColumnList) -> bool
+    ensures { result ≡ are_columns_of schema.now side.now columns.now }
+{
+    let columns = columns.as_slice();
+    columns.len() != 0 && all_are_columns_of(schema, side, columns)
+}
+
+fn have_no_primary_key(columns: &ColumnList) -> bool
+    ensures { result ≡ list_all (λ c. not (is_primary_key c)) columns.now }
+{
+    columns
+        .as_slice()
+        .iter()
+        .all(|column| !is_primary_key(*column))
+}
+
+fn has_columns(schema: &Schema, rule: &Rule) -> bool
+    ensures { result ≡ has_columns schema.now rule.now }
+{
+    match rule {
+        Rule::Unique { subject, columns } => {
+            are_columns_of(schema, subject, columns) && have_no_primary_key(columns)
+        }
+        Rule::Partner {
+            subject,
+            columns,
+            server,
+            server_columns,
+        } => {
+            are_columns_of(schema, subject, columns)
+                && are_columns_of(schema, server, server_columns)
+        }
+        _ => true,
+    }
+}
+
+fn same_kind(one: Option<Kind>, other: Option<Kind>) -> bool
+    ensures { result ≡ same_kind one other }
+{
+    match (one, other) {
+        (Some(Kind::Int), Some(Kind::Int)) => true,
+        (Some(Kind::Words), Some(Kind::Words)) => true,
+        _ => false,
+    }
+}
+
+/// Whether each column of the subject is of the same kind as the server's in its place.
+fn are_of_same_kinds(
+    schema: &Schema,
+    subject: &Side,
+    columns: &[Col],
+    server: &Side,
+    others: &[Col],
+) -> bool
+    ensures { result ≡ list_all (λ p. same_kind (kind_of schema.now subject.now.table p.0) (kind_of schema.now server.now.table p.1)) (zip columns.now others.now) }
+{
+    columns.iter().zip(others.iter()).all(|(one, other)| {
+        same_kind(
+            kind_of(schema, subject.table, *one),
+            kind_of(schema, server.table, *other),
+        )
+    })
+}
+
+fn has_same_kinds(schema: &Schema, rule: &Rule) -> bool
+    ensures { result ≡ has_same_kinds schema.now rule.now }
+{
+    match rule {
+        Rule::Partner {
+            subject,
+            columns,
+            server,
+            server_columns,
+        } => {
+            let columns = columns.as_slice();
+            let others = server_columns.as_slice();
+            columns.len() == others.len()
+                && are_of_same_kinds(schema, subject, columns, server, others)
+        }
+        _ => true,
+    }
+}
+
+fn has_form(schema: &Schema, form: Form, side: &Side) -> bool
+    ensures { result ≡ has_form schema.now form side.now }
+{
+    match schema.def(side.table) {
+        Some(table) => table.shape == form,
+        None => false,
+    }
+}
+
+fn has_forms(schema: &Schema, rule: &Rule) -> bool
+    ensures { result ≡ has_forms schema.now rule.now }
+{
+    match rule {
+        Rule::EndNode {
+            subject,
+            server,
+            ..
+        } => has_form(schema, Form::Segment, subject) && has_form(schema, Form::Point, server),
+        Rule::Crossing { a, b, server } => {
+            has_form(schema, Form::Segment, a)
+                && has_form(schema, Form::Segment, b)
+                && has_form(schema, Form::Point, server)
+        }
+        Rule::Near { a, b, .. } => {
+            has_form(schema, Form::Point, a) && has_form(schema, Form::Point, b)
+        }
+        _ => true,
+    }
+}
+
+fn is_distance(distance: i64) -> bool
+    ensures { result ≡ is_distance distance }
+{
+    1 <= distance && distance <= GREATEST_DISTANCE
+}
+
+fn has_distance(rule: &Rule) -> bool
+    ensures { result ≡ has_distance rule.now }
+{
+    match rule {
+        Rule::Near { d, .. } => is_distance(*d),
+        _ => true,
+    }
+}
+
+fn is_of_some_kind(kind: Option<Kind>, value: &Value) -> bool
+    ensures { result ≡ is_of_some_kind kind value.now }
+{
+    match (kind, value) {
+        (Some(Kind::Int), Value::Int(_)) => true,
+        (Some(Kind::Words), Value::Words(_)) => true,
+        _ => false,
+    }
+}
+
+fn has_filter(schema: &Schema, side: &Side) -> bool
+    ensures { result ≡ has_filter schema.now side.now }
+{
+    side.filter.as_slice().iter().all(|part| is_of_some_kind(
+        kind_of(schema, side.table, Col::At(part.0)),
+        &part.1,
+    ))
+}
+
+fn has_filters(schema: &Schema, rule: &Rule) -> bool
+    ensures { result ≡ has_filters schema.now rule.now }
+{
+    match rule {
+        Rule::Unique { subject, .. } => has_filter(schema, subject),
+        Rule::Partner {
+            subject,
+            server,
+            ..
+        } => has_filter(schema, subject) && has_filter(schema, server),
+        Rule::EndNode {
+            subject,
+            server,
+            ..
+        } => has_filter(schema, subject) && has_filter(schema, server),
+        Rule::Crossing { a, b, server } => {
+            has_filter(schema, a) && has_filter(schema, b) && has_filter(schema, server)
+        }
+        Rule::Near { a, b, .. } => has_filter(schema, a) && has_filter(schema, b),
+    }
+}
+
+/// Whether a rule can stand over the schema, or the first test that it fails.
+#[tactic(auto, unfolding(crate::specs::Books::rule_fault))]
+fn check_rule(schema: &Schema, rule: &Rule) -> Result<(), RuleFault>
+    ensures { Answers result (rule_fault schema.now rule.now) }
+{
+    if !has_tables(schema, rule) {
+        Err(RuleFault::NoTable)
+    } else if !has_columns(schema, rule) {
+        Err(RuleFault::NoColumn)
+    } else if !has_same_kinds(schema, rule) {
+        Err(RuleFault::KindsDiffer)
+    } else if !has_forms(schema, rule) {
+        Err(RuleFault::WrongShape)
+    } else if !has_distance(rule) {
+        Err(RuleFault::BadDistance)
+    } else if !has_filters(schema, rule) {
+        Err(RuleFault::BadFilter)
+    } else {
+        Ok(())
+    }
+}
+
+/// Whether each of at most 64 rules can stand over the schema, or the number of the first that
+/// can't with its fault.
+pub(super) fn check_rules(schema: &Schema, rules: &[Rule]) -> Result<(), (u16, RuleFault)>
+    requires { length rules.now ≤ 64 }
+    ensures { Answers result (first_fault schema.now 0 rules.now) }
+{
+    for number in 0..rules.len() {
+        if let Err(fault) = check_rule(schema, &rules[number]) {
+            return Err((number as u16, fault));
+        }
+    }
+    Ok(())
+}

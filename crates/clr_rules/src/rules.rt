@@ -1,0 +1,48 @@
+use crate::columns::ColumnList;
+use crate::sides::Side;
+
+/// An end of a segment.
+#[derive(Clone, Copy, Debug, PartialEq, Eq)]
+pub enum Tip {
+    First,
+    Second,
+}
+
+/// A rule of the network: wherever its subjects stand, some serving row must stand too. Subjects
+/// are one row, or two rows of different cells, in either arrangement.
+#[derive(Debug, Drop)]
+pub enum Rule {
+    /// No two rows of the subject are equal in all columns: none can serve them.
+    Unique {
+        subject: Side,
+        columns: ColumnList,
+    },
+    /// Each row of the subject has a row of the server whose columns equal its columns, in order.
+    /// `Col::Key` stands for the primary key. A row may serve itself.
+    Partner {
+        subject: Side,
+        columns: ColumnList,
+        server: Side,
+        server_columns: ColumnList,
+    },
+    /// Each segment of the subject has a point of the server at this end.
+    EndNode {
+        subject: Side,
+        tip: Tip,
+        server: Side,
+    },
+    /// Where segments of a and b have a common point, a point of the server is on both of them.
+    /// None serves two segments that overlap.
+    Crossing {
+        a: Side,
+        b: Side,
+        server: Side,
+    },
+    /// No point of a is nearer than d millimetres to a point of b: none can serve them. The
+    /// distance d is 1 to 1,000,000.
+    Near {
+        a: Side,
+        b: Side,
+        d: i64,
+    },
+}

@@ -1,0 +1,123 @@
+ghost use Rattle.std.specs.Prelude.{◌≡◌, Some, slice_get, option_map};
+ghost use Rattle.std.specs.List.{list_all, zip};
+ghost use Rattle.clr_rules.specs.Sides.{same_field, passes, is_of_side, field, are_equal_in};
+
+use crate::columns::Col;
+use clr_rows::{Held, Row, Value};
+use std::marker::Model;
+
+/// What a side asks of its rows: each row has the literal in the column, for all the pairs of the
+/// list. Columns are numbered from 0.
+#[derive(Debug, Drop)]
+pub struct Filter {
+    list: Vec<(u16, Value)>,
+}
+
+impl Model for Filter {
+    ghost use Rattle.std.specs.Prelude.{List, ℕ};
+    ghost use Rattle.clr_rows.specs.declared.rows.Value.{Value as OneValue};
+
+    ghost Value = { List (ℕ × OneValue) };
+
+    ghost view = { λ a. a.list.items };
+}
+
+impl Filter {
+    /// The filter of these columns with their literals.
+    pub fn new(list: Vec<(u16, Value)>) -> Filter
+        ensures { result ≡ list.items }
+    {
+        Filter { list }
+    }
+
+    /// The columns with their literals as a slice.
+    pub fn as_slice(&self) -> &[(u16, Value)]
+        ensures { result.now ≡ self.now }
+    {
+        self.list.as_slice()
+    }
+}
+
+/// A side of a rule: the rows of a table that pass a filter. Tables are numbered as in the schema.
+#[derive(Debug, Drop)]
+pub struct Side {
+    pub table: u16,
+    pub filter: Filter,
+}
+
+/// The value of a row in a column, if it has the column.
+fn value_in(row: &Row, column: u16) -> Option<&Value>
+    ensures { option_map (λ v. v.now) result ≡ slice_get row.now.values column }
+{
+    row.values.as_slice().get(column as usize)
+}
+
+/// Whether a row has a value in a column.
+#[tactic(auto, using(crate::proofs::FieldLemmas::field_told))]
+fn has_value(row: &Row, column: u16, value: &Value) -> bool
+    ensures { result ≡ same_field (slice_get row.now.values column) (Some value.now) }
+{
+    match value_in(row, column) {
+        Some(other) => other.same(value),
+        None => false,
+    }
+}
+
+/// Whether a row has each literal of a filter in its column.
+fn passes(filter: &Filter, row: &Row) -> bool
+    ensures { result ≡ passes filter.now row.now }
+{
+    filter
+        .as_slice()
+        .iter()
+        .all(|(column, value)| has_value(row, *column, value))
+}
+
+/// Whether a row is in the side's table and passes its filter.
+#[tactic(auto, unfolding(crate::specs::Sides::is_of_side))]
+pub(crate) fn is_of_side(side: &Side, held: Held) -> bool
+    ensures { result ≡ is_of_side side.now (held.entry.cell, held.entry.row.now) }
+{
+    held.cell.table == side.table && passes(&side.filter, held.row)
+}
+
+/// Whether the one row has in a column what the other has in another.
+fn have_same_field(first: Held, column: Col, second: Held, other: Col) -> bool
+    ensures { result ≡ same_field (field (first.entry.cell, first.entry.row.now) column) (field (second.entry.cell, second.entry.row.now) other) }
+{
+    match (column, other) {
+        (Col::Key, Col::Key) => first.cell.key == second.cell.key,
+        (Col::Key, Col::At(n)) => has_value(second.row, n, &Value::Int(first.cell.key)),
+        (Col::At(n), Col::Key) => has_value(first.row, n, &Value::Int(second.cell.key)),
+        (Col::At(n), Col::At(m)) => have_same_value(first.row, n, second.row, m),
+    }
+}
+
+/// Whether the one row has in a column what the other has in another, or both have none.
+#[tactic(auto, using(crate::proofs::FieldLemmas::field_told))]
+fn have_same_value(first: &Row, column: u16, second: &Row, other: u16) -> bool
+    ensures { result ≡ same_field (slice_get first.now.values column) (slice_get second.now.values other) }
+{
+    match (value_in(first, column), value_in(second, other)) {
+        (Some(value), Some(other)) => value.same(other),
+        (None, None) => true,
+        _ => false,
+    }
+}
+
+/// Whether the one row has in each column what the other has in the one beside it.
+fn are_equal_beside(first: Held, columns: &[Col], second: Held, others: &[Col]) -> bool
+    ensures { result ≡ list_all (λ p. same_field (field (first.entry.cell, first.entry.row.now) p.0) (field (second.entry.cell, second.entry.row.now) p.1)) (zip columns.now others.now) }
+{
+    columns.iter().zip(others.iter()).all(|(column, other)| have_same_field(
+        first, *column, second, *other,
+    ))
+}
+
+/// Whether the one row has in its columns what the other has in its own, in order.
+#[tactic(auto, unfolding(crate::specs::Sides::are_equal_in))]
+pub(crate) fn are_equal_in(first: Held, columns: &[Col], second: Held, others: &[Col]) -> bool
+    ensures { result ≡ are_equal_in (first.entry.cell, first.entry.row.now) columns.now (second.entry.cell, second.entry.row.now) others.now }
+{
+    columns.len() == others.len() && are_equal_beside(first, columns, second, others)
+}
