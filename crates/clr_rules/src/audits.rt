@@ -15,15 +15,24 @@ use crate::index::SpotIndex;
 use clr_rows::{CellId, Held, Sheet};
 use std::alloc::{AllocError, Global};
 
-/// The rows of a sheet, in the order of cells.
-fn rows_of<'a>(alloc: Global, sheet: &'a Sheet) -> Result<Vec<Held<'a>>, AllocError>
-    ensures { IfOk result (λ rows. standings rows.items ≡ rows_in sheet.now) }
-{
-    let mut rows = Vec::with_capacity(alloc, sheet.len())?;
-    for (cell, row) in sheet.iter() {
-        rows.push(Held { cell: *cell, row })?;
+/// A sheet with all its rows, in the order of cells.
+#[derive(Drop)]
+struct Rows<'a> {
+    sheet: &'a Sheet,
+    list: Vec<Held<'a>>,
+    ghost all: { standings list.items ≡ rows_in sheet.now },
+}
+
+impl<'a> Rows<'a> {
+    fn new(alloc: Global, sheet: &'a Sheet) -> Result<Rows<'a>, AllocError>
+        ensures { IfOk result (λ rows. rows.sheet.now ≡ sheet.entry.now) }
+    {
+        let mut list = Vec::with_capacity(alloc, sheet.len())?;
+        for (cell, row) in sheet.iter() {
+            list.push(Held { cell: *cell, row })?;
+        }
+        Ok(Rows { sheet, list })
     }
-    Ok(rows)
 }
 
 /// The rows that stand at some cells of a sheet.
@@ -62,32 +71,30 @@ fn index_of(
     Ok(index)
 }
 
-/// Adds the broken needs of a rule whose lesser subject is a row of a sheet, in order. The rows are
-/// all that the sheet has, and the index is theirs.
+/// Adds the broken needs of a rule whose lesser subject is one of the rows, in order. The index is
+/// that of the rows.
 fn add_broken_near(
     alloc: Global,
     book: &RuleBook,
     rule: u16,
-    sheet: &Sheet,
-    rows: &[Held],
+    rows: &Rows,
     index: &SpotIndex,
     row: Held,
     list: &mut Vec<Broken>,
 ) -> Result<(), AllocError>
     requires number { rule < length book.now }
-    requires fit { FitTogether book.now (standings rows.now) }
-    requires all { standings rows.now ≡ rows_in sheet.now }
-    requires filed { index.now ≡ filed_rows book.now rule no_cells (standings rows.now) }
-    requires one { Contains (standings rows.now) (standing row) }
-    ensures { OnOk result (list.new.items ≡ list.old.items ++ broken_from book.now rule (standings rows.now) (standing row.entry)) }
+    requires fit { FitTogether book.now (standings rows.now.list.items) }
+    requires filed { index.now ≡ filed_rows book.now rule no_cells (standings rows.now.list.items) }
+    requires one { Contains (standings rows.now.list.items) (standing row) }
+    ensures { OnOk result (list.new.items ≡ list.old.items ++ broken_from book.now rule (standings rows.now.list.items) (standing row.entry)) }
 {
     let spots = book.spots_of(alloc, rule, row)?;
     if spots.wide {
-        add_broken_from(book, rule, row, rows, list)?;
+        add_broken_from(book, rule, row, rows.list.as_slice(), list)?;
         return Ok(());
     }
     let cells = index.found(alloc, spots.list.as_slice())?;
-    let near = rows_at(alloc, sheet, cells.as_slice())?;
+    let near = rows_at(alloc, rows.sheet, cells.as_slice())?;
     add_broken_from(book, rule, row, near.as_slice(), list)?;
     Ok(())
 }
@@ -97,18 +104,16 @@ fn add_broken_of(
     alloc: Global,
     book: &RuleBook,
     rule: u16,
-    sheet: &Sheet,
-    rows: &[Held],
+    rows: &Rows,
     list: &mut Vec<Broken>,
 ) -> Result<(), AllocError>
     requires number { rule < length book.now }
-    requires fit { FitTogether book.now (standings rows.now) }
-    requires all { standings rows.now ≡ rows_in sheet.now }
-    ensures { OnOk result (list.new.items ≡ list.old.items ++ broken_of book.now rule (standings rows.now)) }
+    requires fit { FitTogether book.now (standings rows.now.list.items) }
+    ensures { OnOk result (list.new.items ≡ list.old.items ++ broken_of book.now rule (standings rows.now.list.items)) }
 {
-    let index = index_of(alloc, book, rule, rows)?;
-    for row in rows {
-        add_broken_near(alloc, book, rule, sheet, rows, &index, *row, list)?;
+    let index = index_of(alloc, book, rule, rows.list.as_slice())?;
+    for row in &rows.list {
+        add_broken_near(alloc, book, rule, rows, &index, *row, list)?;
     }
     Ok(())
 }
@@ -121,10 +126,10 @@ pub fn audit(alloc: Global, book: &RuleBook, sheet: &Sheet) -> Result<Vec<Broken
     ensures list { IfOk result (λ list. list.items ≡ broken book.now sheet.now) }
     ensures lists { IfOk result (λ list. IsAudit book.now (row_at sheet.now) list.items) }
 {
-    let rows = rows_of(alloc, sheet)?;
+    let rows = Rows::new(alloc, sheet)?;
     let mut list = Vec::new(alloc);
     for rule in 0..book.len() {
-        add_broken_of(alloc, book, rule as u16, sheet, rows.as_slice(), &mut list)?;
+        add_broken_of(alloc, book, rule as u16, &rows, &mut list)?;
     }
     Ok(list)
 }
