@@ -1,5 +1,6 @@
 pub mod AuditSteps
 pub mod BrokenLemmas
+pub mod DistinctSpots
 pub mod Elements
 pub mod FieldLemmas
 pub mod FiledLemmas

@@ -1,5 +1,6 @@
 -- What holds of needs and spots by their definitions, whatever the code does.
 use Rattle.std.specs.Prelude.{◌≡◌, ◌↔◌, ℤ, ◌≤ℤ◌, true, Contains, List, Some, None, Option, ⊤}
+use Rattle.std.specs.List.{IsDistinct}
 use Rattle.clr_rows.specs.Contents.{Content, row_at}
 use Rattle.clr_segments.specs.declared.boxes.Bounds.{Bounds}
 use Rattle.clr_rules.specs.declared.rules.Rule.{Rule}
@@ -9,7 +10,8 @@ use Rattle.clr_rules.specs.Sides.{Standing}
 use Rattle.clr_rules.specs.Calls.{are_subjects, is_server}
 use Rattle.clr_rules.specs.Audits.{IsAudit}
 use Rattle.clr_rules.specs.Needs.{broken}
-use Rattle.clr_rules.specs.Spots.{SquareMeets, squares_of, share}
+use Rattle.clr_rules.specs.SpotOrder.{same_spot}
+use Rattle.clr_rules.specs.Spots.{SquareMeets, squares_of, spots, share}
 
 -- a content's broken needs are listed exactly, ascending, each once
 abbrev pub BrokenLaw : Type 0
@@ -18,6 +20,10 @@ BrokenLaw = (rules : List Rule) (content : Content) → IsAudit rules (row_at co
 -- the squares of a box are exactly those that meet it
 abbrev pub SquaresLaw : Type 0
 SquaresLaw = (b : Bounds) (i j : ℤ) → b.least.x ≤ℤ b.most.x → b.least.y ≤ℤ b.most.y → Contains (squares_of b) (Square i j) ↔ SquareMeets i j b
+
+-- a row has each of its spots once
+abbrev pub SpotsDiffer : Type 0
+SpotsDiffer = (rule : Rule) (s : Standing) → IsDistinct same_spot (spots rule s)
 
 -- the second subject, if there is one, shares a spot with the first, or one of them is wide
 abbrev pub SharesBeside : Rule → Standing → Option Standing → Type 0

@@ -1,7 +1,7 @@
 //! Laws of needs and spots, each proved by a function that does nothing.
 
 ghost use Rattle.clr_rules.specs.Laws.{BrokenLaw};
-ghost use Rattle.clr_rules.specs.Laws.{SquaresLaw, SubjectsShare, ServersShare, SharedBothWays};
+ghost use Rattle.clr_rules.specs.Laws.{SquaresLaw, SpotsDiffer, SubjectsShare, ServersShare, SharedBothWays};
 
 /// The broken needs of a content are listed exactly, ascending, each once: every rule holds where
 /// none is listed, and else the first is the least.
@@ -12,6 +12,12 @@ pub fn broken_needs_are_listed()
 /// The squares of a box are exactly those that meet it.
 pub fn squares_of_a_box()
     ensures { SquaresLaw }
+{}
+
+/// A row has each of its spots under a rule once.
+#[tactic(auto, using(crate::proofs::DistinctSpots::spots_differ))]
+pub fn spots_stand_once()
+    ensures { SpotsDiffer }
 {}
 
 /// Two subjects of a need share a spot, or one of them is wide.

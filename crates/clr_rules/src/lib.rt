@@ -31,8 +31,8 @@ pub use broken::Broken;
 pub use columns::{Col, ColumnList};
 pub use faults::RuleFault;
 pub use laws::{
-    broken_needs_are_listed, servers_share_spots, spots_are_shared_both_ways, squares_of_a_box,
-    subjects_share_spots,
+    broken_needs_are_listed, servers_share_spots, spots_are_shared_both_ways, spots_stand_once,
+    squares_of_a_box, subjects_share_spots,
 };
 pub use rules::{Rule, Tip};
 pub use sides::{Filter, Side};

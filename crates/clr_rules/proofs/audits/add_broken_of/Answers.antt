@@ -1,4 +1,4 @@
-use Rattle.std.proofs.Common.{◌≡◌, ◌++◌, ◌∙◌, ◌≤◌, ap, subst, length, List}
+use Rattle.std.proofs.Common.{◌++◌, ◌∙◌, ◌≤◌, ap, subst, length, List}
 use Rattle.std.proofs.lemmas.List.{take_all}
 use Rattle.std.specs.List.{flat_map}
 use Rattle.clr_rows.specs.declared.cells.Held.{Held}

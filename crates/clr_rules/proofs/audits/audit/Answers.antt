@@ -1,5 +1,4 @@
 use Rattle.std.proofs.Common.{◌≡◌, ◌++◌, ◌∙◌, ap, sym, subst, List, ℕ, length, arith}
-use Rattle.clr_rows.specs.declared.cells.Held.{Held}
 use Rattle.clr_rows.specs.Contents.{row_at}
 use Rattle.clr_rules.specs.declared.broken.Broken.{Broken}
 use Rattle.clr_rules.specs.Audits.{IsAudit, standings}
