@@ -289,7 +289,7 @@ part_law o members mergeable order p =
     let ran = all_merged o members mergeable [] order o p.distinct p.part (λ n e. refl) (start o members mergeable) in
     let same : (k : Name) → has (joined [] order) k ≡ has order k = λ k. joined_has [] order k ∙ or_false (has order k) in (
       ran.replies,
-      record {
+      λ within. record {
         live = λ cell. ran.after_all.live cell ∙ taken_same o members order (joined [] order) cell mergeable.disjoint p.part same;
         left = λ member e h. ran.after_all.left member e (same member ∙ h);
         agrees = λ member w cell e h. ran.after_all.agrees member w cell e (same member ∙ h);
@@ -350,4 +350,4 @@ order_law o members mergeable order permutation =
     let same : (n : Name) → has order n ≡ has members n = λ n. has_times n order ∙ ap (nat_lt 0) (sym (counts n)) ∙ sym (has_times n members) in
     let distinct = distinct_from order (λ n. subst (λ k. k ≤ 1) (counts n) (once members mergeable.distinct n)) in
     let ran = part_law o members mergeable order (record { distinct = distinct; part = λ n e. sym (same n) ∙ e }) in
-    (ran.0, λ cell. ran.1.live cell ∙ taken_same o members members order cell mergeable.disjoint (λ n e. e) same)
+    (ran.0, λ within cell. (ran.1 within).live cell ∙ taken_same o members members order cell mergeable.disjoint (λ n e. e) same)

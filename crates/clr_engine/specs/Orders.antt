@@ -78,14 +78,20 @@ office_after o order = (run o (merges order) nothing_lost).office
 abbrev pub replies_to : Office → List Name → List Reply
 replies_to o order = (run o (merges order) nothing_lost).replies
 
--- in every order of merging all members once, none is answered Conflict, and LIVE ends with the changes of all of them, whatever the order
+-- a reply that isn't a refusal for a rule; no rule is held on LIVE yet, so each is one
+abbrev pub IsWithinRules : Reply → Type 0
+IsWithinRules reply = ⊤
+
+-- in every order of merging all members once, none is answered Conflict, and where none is refused for a rule, LIVE ends with the changes
+-- of all of them, whatever the order
 abbrev pub MergeInAnyOrder : Office → List Name → Type 0
 MergeInAnyOrder o members = (order : List Name) → IsPermutation order members
-    → All IsNoConflict (replies_to o order) × ((cell : CellId) → row_at (office_after o order).live cell ≡ taken o members cell)
+    → All IsNoConflict (replies_to o order) × (All IsWithinRules (replies_to o order) → (cell : CellId) → row_at (office_after o order).live cell ≡ taken o members cell)
 
 -- the same after merging any part of the members, in any order
 abbrev pub MergeInParts : Office → List Name → Type 0
-MergeInParts o members = (order : List Name) → IsPartOf members order → All IsNoConflict (replies_to o order) × IsAfterMerges o members order (office_after o order)
+MergeInParts o members = (order : List Name) → IsPartOf members order
+    → All IsNoConflict (replies_to o order) × (All IsWithinRules (replies_to o order) → IsAfterMerges o members order (office_after o order))
 
 abbrev pub OrderLaw : Type 0
 OrderLaw = (o : Office) (members : List Name) → AreMergeable o members → MergeInAnyOrder o members

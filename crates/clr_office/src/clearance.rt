@@ -134,8 +134,8 @@ fn are_mergeable(alloc: Global, office: &Office, members: &[&str]) -> Result<boo
 /// Whether members can be merged in every order: yes where they are different children of LIVE,
 /// none of them is in conflict with it, and no cell is changed by two. In each order of merging
 /// all of them once, with nothing between and the workspaces kept, no merge is then answered
-/// Conflict, and LIVE ends with the changes of all of them, whatever the order. Nothing is said of
-/// other commands between the merges.
+/// Conflict, and where none is refused for a rule, LIVE ends with the changes of all of them,
+/// whatever the order. Nothing is said of other commands between the merges.
 pub fn weak_test(alloc: Global, office: &Office, members: &[&str]) -> Weak
     ensures answer { Judges result (are_members_mergeable office.now (names_in members.now)) }
     ensures whole { result ≡ Yes → MergeInAnyOrder office.now (names_in members.now) }

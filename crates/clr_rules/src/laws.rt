@@ -9,7 +9,7 @@ pub fn broken_needs_are_listed()
     ensures { BrokenLaw }
 {}
 
-/// The squares of a box are exactly those that meet it.
+/// The squares of a box, its least corner below its most, are exactly those that meet it.
 pub fn squares_of_a_box()
     ensures { SquaresLaw }
 {}
@@ -20,7 +20,8 @@ pub fn spots_stand_once()
     ensures { SpotsDiffer }
 {}
 
-/// Two subjects of a need share a spot, or one of them is wide.
+/// Two subjects of a need share a spot, or one of them is wide, where the rule's distance, if it has
+/// one, is within its range.
 pub fn subjects_share_spots()
     ensures { SubjectsShare }
 {}

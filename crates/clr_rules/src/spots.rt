@@ -11,7 +11,7 @@ pub enum Spot {
     Values(Values),
 }
 
-/// Spots in an order, each once.
+/// Spots in an order.
 #[derive(Debug, Drop)]
 pub struct SpotList {
     list: Vec<Spot>,
