@@ -2,39 +2,36 @@
 use Rattle.std.specs.Prelude.{◌≡◌, ℕ, ◌+◌, List, [], ◌∷◌, Option, Some, None, is_some, if◌then◌else◌}
 use Rattle.std.specs.FinMap as finite
 use Rattle.std.specs.Option.{option_or, option_map}
-use Rattle.clr_rows.specs.declared.cells.CellId.{CellId}
 use Rattle.clr_rows.specs.declared.rows.Row.{Row}
-use Rattle.clr_rows.specs.declared.changes.Change.{Change}
 use Rattle.clr_rows.specs.declared.tables.TableDef.{TableDef}
 use Rattle.clr_rows.specs.Contents.{Content, Changes, row_at, changes}
-use Rattle.clr_rows.specs.Same.{same}
 use Rattle.clr_rows.specs.Schemas.{row_fault, cell_fault}
 use Rattle.clr_change.specs.declared.edits.Edit.{Edit}
 use Rattle.clr_change.specs.declared.edits.Edit.TheVariants.{Insert, Update, Delete}
 use Rattle.clr_change.specs.declared.edits.EditFault.{EditFault}
 use Rattle.clr_change.specs.declared.edits.EditFault.TheVariants as fault
 
-abbrev pub taken : Option Row → Option EditFault
-taken row = if is_some row then Some fault.KeyTaken else None
+abbrev pub taken_fault : Option Row → Option EditFault
+taken_fault row = if is_some row then Some fault.KeyTaken else None
 
 abbrev pub missing : Option Row → Option EditFault
 missing row = if is_some row then None else Some fault.NoRow
 
 -- why an edit of a content can't be made, if it can't
 abbrev pub edit_fault : List TableDef → Content → Edit → Option EditFault
-edit_fault tables content (Insert cell row) = option_or (option_map fault.Row (row_fault tables cell row)) (taken (row_at content cell))
+edit_fault tables content (Insert cell row) = option_or (option_map fault.Row (row_fault tables cell row)) (taken_fault (row_at content cell))
 edit_fault tables content (Update cell row) = option_or (option_map fault.Row (row_fault tables cell row)) (missing (row_at content cell))
 edit_fault tables content (Delete cell) = option_or (option_map fault.Row (cell_fault tables cell)) (missing (row_at content cell))
 
-abbrev pub edited : Content → Edit → Content
-edited content (Insert cell row) = finite.insert content cell row
-edited content (Update cell row) = finite.insert content cell row
-edited content (Delete cell) = finite.remove content cell
+abbrev pub after_edit : Content → Edit → Content
+after_edit content (Insert cell row) = finite.insert content cell row
+after_edit content (Update cell row) = finite.insert content cell row
+after_edit content (Delete cell) = finite.remove content cell
 
 -- a content after edits, each made over what the one before left
-unfoldable pub all_edited : Content → List Edit → Content
-all_edited content [] = content
-all_edited content (edit ∷ edits) = all_edited (edited content edit) edits
+unfoldable pub after_edits : Content → List Edit → Content
+after_edits content [] = content
+after_edits content (edit ∷ edits) = after_edits (after_edit content edit) edits
 
 abbrev pub first_fault : ℕ → Option EditFault → Option (ℕ × EditFault) → Option (ℕ × EditFault)
 first_fault n None later = later
@@ -43,9 +40,9 @@ first_fault n (Some why) later = Some (n, why)
 -- the number of the first edit that can't be made, counted on from this number, and why
 unfoldable pub first_bad_edit : List TableDef → Content → ℕ → List Edit → Option (ℕ × EditFault)
 first_bad_edit tables content n [] = None
-first_bad_edit tables content n (edit ∷ edits) = first_fault n (edit_fault tables content edit) (first_bad_edit tables (edited content edit) (n + 1) edits)
+first_bad_edit tables content n (edit ∷ edits) = first_fault n (edit_fault tables content edit) (first_bad_edit tables (after_edit content edit) (n + 1) edits)
 
--- the number in the answer to a fault at this place: edits count from 1, and want of memory is no edit's
+-- the number in the answer to a fault at this position: edits count from 1, and want of memory is no edit's
 abbrev pub number_of : ℕ → EditFault → ℕ
 number_of at fault.OutOfMemory = 0
 number_of at _ = at + 1
@@ -57,15 +54,10 @@ IsRefused first (n, fault.Row why) = first ≡ Some (n, fault.Row why)
 IsRefused first (n, fault.KeyTaken) = first ≡ Some (n, fault.KeyTaken)
 IsRefused first (n, fault.NoRow) = first ≡ Some (n, fault.NoRow)
 
--- changes of a content, with a row, or none, set at a cell: no change where it is the content's own
-abbrev pub settled : Content → Changes → CellId → Option Row → Changes
-settled content changed cell row =
-    let change : Change = record { before = row_at content cell; after = row } in
-    if same (row_at content cell) row then finite.remove changed cell else finite.insert changed cell change
-
 -- changes of a content, over which an edit is made
 abbrev pub IsMade : List TableDef → Content → Edit → Changes → Changes → Type 0
-IsMade tables content edit old new = (current : Content) → old ≡ changes content current → (edit_fault tables current edit ≡ None) × (new ≡ changes content (edited current edit))
+IsMade tables content edit old new = (current : Content) → old ≡ changes content current
+    → (edit_fault tables current edit ≡ None) × (new ≡ changes content (after_edit current edit))
 
 -- why an edit isn't made over changes of a content
 abbrev pub FaultIs : List TableDef → Content → Edit → Changes → EditFault → Type 0

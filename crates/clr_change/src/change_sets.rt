@@ -1,15 +1,13 @@
-ghost use Rattle.std.specs.Prelude.{◌≡◌, ◌<◌, ◌^◌, length, slice_get, true, false, Some, IfOk, OnOk, OnErr, IsSome};
+ghost use Rattle.std.specs.Prelude.{◌≡◌, ◌<◌, ◌^◌, length, slice_get, false, Some, IfOk, OnOk, OnErr, IsSome};
 ghost use Rattle.std.specs.BTreeMap.{keys};
 ghost use Rattle.std.specs.FinMap as finite;
-ghost use Rattle.std.specs.List.{list_all};
 ghost use Rattle.std.specs.Map.Iter.{ShowsInOrder, deref_pair};
 ghost use Rattle.std.specs.Option.{option_copied};
 ghost use Rattle.clr_rows.specs.Contents.{changes, rows_after};
-ghost use Rattle.clr_rows.specs.Ranges.{is_entry_within};
 ghost use Rattle.clr_rows.specs.Same.{same};
 ghost use Rattle.clr_rows.specs.declared.cells.CellId.{CellId as Cell};
-ghost use Rattle.clr_rows.specs.declared.changes.Change.{Change as OneChange};
-ghost use Rattle.clr_change.specs.ChangeSets.{AreChangesWithin, AreDifferent, AreNoted, is_change_within, noted};
+ghost use Rattle.clr_rows.specs.declared.cells.Change.{Change as OneChange};
+ghost use Rattle.clr_change.specs.ChangeSets.{AreDifferent, AreNoted, set_change};
 
 use clr_rows::{CellId, Change, Row, Sheet};
 use std::alloc::{AllocError, Global};
@@ -39,7 +37,7 @@ impl Model for ChangeSet {
 }
 
 /// Whether two rows are the same, a missing row counting as a value.
-pub(crate) fn are_same(a: Option<&Row>, b: Option<&Row>) -> bool
+pub fn are_same(a: Option<&Row>, b: Option<&Row>) -> bool
     ensures { result ≡ same (option_copied a.entry) (option_copied b.entry) }
 {
     match a {
@@ -52,7 +50,7 @@ pub(crate) fn are_same(a: Option<&Row>, b: Option<&Row>) -> bool
 }
 
 /// A second row that is the same, or none. It fails for want of memory alone.
-pub(crate) fn copied(row: Option<&Row>) -> Result<Option<Row>, AllocError>
+pub fn copy_row(row: Option<&Row>) -> Result<Option<Row>, AllocError>
     ensures { IfOk result (λ copy. copy ≡ option_copied row.entry) }
 {
     match row {
@@ -78,10 +76,32 @@ impl ChangeSet {
         }
     }
 
-    /// Puts a change at a cell. It fails for want of memory alone, and changes nothing then.
-    pub(crate) fn put(&mut self, cell: CellId, change: Change) -> Result<(), AllocError>
-        requires within { is_change_within cell change ≡ true }
-        requires differs { same change.before change.after ≡ false }
+    /// Sets the change at a cell to the one from the row before, or none, to the row after, or
+    /// none: where they are the same the cell has no change. It fails for want of memory alone, and
+    /// changes nothing then.
+    pub fn set(
+        &mut self,
+        cell: CellId,
+        before: Option<&Row>,
+        after: Option<&Row>,
+    ) -> Result<(), AllocError>
+        ensures ok { OnOk result (self.new ≡ set_change self.old cell (option_copied before.entry) (option_copied after.entry)) }
+        ensures err { OnErr result (self.new ≡ self.old) }
+    {
+        if are_same(before, after) {
+            self.take(cell);
+            return Ok(());
+        }
+        let change = Change {
+            before: copy_row(before)?,
+            after: copy_row(after)?,
+        };
+        self.put(cell, change)
+    }
+
+    /// Puts a change at a cell.
+    fn put(&mut self, cell: CellId, change: Change) -> Result<(), AllocError>
+        requires { same change.before change.after ≡ false }
         ensures ok { OnOk result (self.new ≡ finite.insert self.old cell change) }
         ensures err { OnErr result (self.new ≡ self.old) }
     {
@@ -90,7 +110,7 @@ impl ChangeSet {
     }
 
     /// Takes the change at a cell away, if there is one.
-    pub(crate) fn take(&mut self, cell: CellId)
+    fn take(&mut self, cell: CellId)
         ensures { self.new ≡ finite.remove self.old cell }
     {
         self.changes.remove(&cell);
@@ -99,7 +119,6 @@ impl ChangeSet {
     /// The change at a cell, or none.
     pub fn get(&self, cell: CellId) -> Option<&Change>
         ensures change { option_copied result ≡ finite.get self.now cell }
-        ensures within { AreChangesWithin self.now }
         ensures differ { AreDifferent self.now }
     {
         self.changes.get(&cell)
@@ -112,11 +131,11 @@ impl ChangeSet {
         self.changes.len()
     }
 
-    /// The changed cell at a place in the order of cells, which is found by going over the changes
-    /// before it.
+    /// The changed cell at a position in the order of cells, which is found by going over the
+    /// changes before it.
     pub fn cell_at(&self, at: usize) -> CellId
         requires { at < length (finite.keys self.now) }
-        ensures place { slice_get (finite.keys self.now) at ≡ Some result }
+        ensures position { slice_get (finite.keys self.now) at ≡ Some result }
         ensures held { IsSome (finite.get self.now result) }
     {
         *key_at(&self.changes, at).unwrap()
@@ -126,7 +145,6 @@ impl ChangeSet {
     pub fn iter(&self) -> Iter<'_, CellId, Change>
         ensures rest { result ≡ finite.entries self.now }
         ensures runs { ShowsInOrder (deref_pair {K = Cell} {X = OneChange}) }
-        ensures within { AreChangesWithin self.now }
         ensures differ { AreDifferent self.now }
         ensures small { length (finite.entries self.now) < 2 ^ 63 }
     {
@@ -148,23 +166,7 @@ impl ChangeSet {
         ensures ok { OnOk result (AreNoted base.now current.now cells.now self.old self.new) }
     {
         for (cell, _) in cells.iter() {
-            self.note(base, current, *cell)?;
-        }
-        Ok(())
-    }
-
-    /// Notes what changes from one content to another at a cell.
-    fn note(&mut self, base: &Sheet, current: &Sheet, cell: CellId) -> Result<(), AllocError>
-        ensures ok { OnOk result (self.new ≡ noted base.now current.now self.old cell) }
-    {
-        let before = base.get(cell);
-        let after = current.get(cell);
-        if !are_same(before, after) {
-            let change = Change {
-                before: copied(before)?,
-                after: copied(after)?,
-            };
-            self.put(cell, change)?;
+            self.set(*cell, base.get(*cell), current.get(*cell))?;
         }
         Ok(())
     }
@@ -172,12 +174,11 @@ impl ChangeSet {
     /// The rows after the changes, by cell, in the order of cells. It fails for want of memory
     /// alone.
     pub fn rows_after(&self) -> Result<Vec<(CellId, Option<Row>)>, AllocError>
-        ensures rows { IfOk result (λ rows. rows.items ≡ rows_after self.now) }
-        ensures within { IfOk result (λ rows. list_all is_entry_within rows.items ≡ true) }
+        ensures { IfOk result (λ rows. rows.items ≡ rows_after self.now) }
     {
         let mut rows = Vec::new(self.alloc);
         for (cell, change) in self.iter() {
-            let row = copied(change.after.as_ref())?;
+            let row = copy_row(change.after.as_ref())?;
             rows.push((*cell, row))?;
         }
         Ok(rows)

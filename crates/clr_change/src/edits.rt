@@ -43,6 +43,13 @@ impl Edits {
     {
         self.list.as_slice()
     }
+
+    /// The list back again.
+    pub fn into_vec(self) -> Vec<Edit>
+        ensures { result.items ≡ self }
+    {
+        self.list
+    }
 }
 
 /// Why an edit can't be made.

@@ -6,10 +6,7 @@ mod conflicts;
 mod edits;
 mod staging;
 
-pub use change_sets::ChangeSet;
+pub use change_sets::{ChangeSet, are_same, copy_row};
 pub use conflicts::first_conflict;
 pub use edits::{Edit, EditFault, Edits};
 pub use staging::stage;
-
-#[cfg(test)]
-mod tests;

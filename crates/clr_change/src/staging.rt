@@ -1,16 +1,16 @@
-ghost use Rattle.std.specs.Prelude.{◌≡◌, ◌<◌, ◌^◌, true, None, is_some, IfOk, IfErr, OnOk, OnErr};
+ghost use Rattle.std.specs.Prelude.{◌≡◌, ◌<◌, ◌^◌, None, is_some, IfOk, IfErr, OnOk, OnErr};
 ghost use Rattle.std.specs.Option.{option_copied, option_map};
 ghost use Rattle.clr_rows.specs.Contents.{row_at, changes, taken_over};
-ghost use Rattle.clr_rows.specs.Ranges.{is_entry_within, is_within};
 ghost use Rattle.clr_rows.specs.Schemas.{Answers, row_fault, cell_fault};
 ghost use Rattle.clr_change.specs.declared.edits.Edit.TheVariants.{Insert, Update, Delete};
 ghost use Rattle.clr_change.specs.declared.edits.EditFault.TheVariants.{OutOfMemory, Row as Unfit};
-ghost use Rattle.clr_change.specs.Edits.{all_edited, first_bad_edit, settled, FaultIs, IsMade, IsRefused, number_of};
+ghost use Rattle.clr_change.specs.ChangeSets.{set_change};
+ghost use Rattle.clr_change.specs.Edits.{after_edits, first_bad_edit, FaultIs, IsMade, IsRefused, number_of};
 
-use crate::change_sets::{ChangeSet, are_same, copied};
+use crate::change_sets::ChangeSet;
 use crate::edits::{Edit, EditFault};
-use clr_rows::{CellId, Change, Row, RowView, Schema};
-use std::alloc::{AllocError, Global};
+use clr_rows::{CellId, Row, RowView, Schema};
+use std::alloc::Global;
 
 /// What edits change, made one after another over a view. The view itself stays as it is. It
 /// answers the first edit that can't be made, numbered from 1, and why, or 0 and `OutOfMemory`.
@@ -21,7 +21,7 @@ pub fn stage<V: RowView>(
     edits: &[Edit],
 ) -> Result<ChangeSet, (usize, EditFault)>
     ensures passed { OnOk result (first_bad_edit schema.now (V.content view.now) 1 edits.now ≡ None) }
-    ensures changes { IfOk result (λ set. set ≡ changes (V.content view.now) (all_edited (V.content view.now) edits.now)) }
+    ensures changes { IfOk result (λ set. set ≡ changes (V.content view.now) (after_edits (V.content view.now) edits.now)) }
     ensures refused { IfErr result (IsRefused (first_bad_edit schema.now (V.content view.now) 1 edits.now)) }
 {
     let mut staged = ChangeSet::new(alloc);
@@ -33,7 +33,7 @@ pub fn stage<V: RowView>(
     Ok(staged)
 }
 
-/// The number of the edit at this place, which is refused, or 0 for want of memory.
+/// The number of the edit at this position, which is refused, or 0 for want of memory.
 fn number(at: usize, fault: EditFault) -> usize
     requires { at < 2 ^ 63 }
     ensures { result ≡ number_of at fault }
@@ -113,8 +113,7 @@ fn delete<V: RowView>(
 
 /// Whether a row can stand at a cell.
 fn judge_row(schema: &Schema, cell: CellId, row: &Row) -> Result<(), EditFault>
-    ensures judged { Answers result (option_map Unfit (row_fault schema.now cell row.now)) }
-    ensures within { OnOk result (is_within cell row.now ≡ true) }
+    ensures { Answers result (option_map Unfit (row_fault schema.now cell row.now)) }
 {
     match schema.fits(cell, row) {
         Ok(()) => Ok(()),
@@ -149,35 +148,11 @@ fn set<V: RowView>(
     cell: CellId,
     row: Option<&Row>,
 ) -> Result<(), EditFault>
-    requires { is_entry_within (cell, option_copied row) ≡ true }
-    ensures ok { OnOk result (staged.new ≡ settled (V.content view.now) staged.old cell (option_copied row.entry)) }
+    ensures ok { OnOk result (staged.new ≡ set_change staged.old cell (row_at (V.content view.now) cell) (option_copied row.entry)) }
     ensures err { IfErr result (λ fault. fault ≡ OutOfMemory) }
 {
-    match settle(staged, view, cell, row) {
+    match staged.set(cell, view.row(cell), row) {
         Ok(()) => Ok(()),
         Err(_) => Err(EditFault::OutOfMemory),
     }
-}
-
-/// Sets a cell to a row, or to none.
-fn settle<V: RowView>(
-    staged: &mut ChangeSet,
-    view: &V,
-    cell: CellId,
-    row: Option<&Row>,
-) -> Result<(), AllocError>
-    requires { is_entry_within (cell, option_copied row) ≡ true }
-    ensures { OnOk result (staged.new ≡ settled (V.content view.now) staged.old cell (option_copied row.entry)) }
-{
-    let before = view.row(cell);
-    if are_same(before, row) {
-        staged.take(cell);
-    } else {
-        let change = Change {
-            before: copied(before)?,
-            after: copied(row)?,
-        };
-        staged.put(cell, change)?;
-    }
-    Ok(())
 }

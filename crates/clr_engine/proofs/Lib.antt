@@ -1,6 +1,8 @@
-pub mod FittingLemmas
-pub mod MergeableLemmas
-pub mod OrderLemmas
-pub mod Performed
-pub mod Places
-pub mod Refusals
+pub mod Answered
+pub mod Contents
+pub mod Dispatch
+pub mod Fits
+pub mod Positions
+pub mod Readings
+pub mod Steps
+pub mod Unheld

@@ -1,6 +1,2 @@
-pub mod Fitting
-pub mod Mergeable
-pub mod Names
-pub mod Offices
-pub mod Orders
-pub mod Steps
+pub mod Drafts
+pub mod Trees

@@ -1,11 +1,15 @@
-//! Offices, and the commands that are performed in them.
+//! Offices: workspaces under LIVE over one schema, and rules that hold in LIVE and in each workspace
+//! that is kept.
 #![tactic(auto)]
 
 mod commands;
-mod laws;
+mod conflicts;
+mod drafts;
+mod judges;
 mod offices;
 
-pub use clr_change::{ChangeSet, Edit, EditFault, Edits};
-pub use commands::{Command, Reply};
-pub use laws::{mergeable_members_pass, merges_in_any_order};
+pub use clr_rules::{Broken, RuleBook};
+pub use clr_steps::{Command, Reply};
+pub use clr_tree::{MarkPart, Part, PartFault};
+pub use drafts::{AdmitFault, Draft};
 pub use offices::Office;

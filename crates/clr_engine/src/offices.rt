@@ -1,88 +1,78 @@
-ghost use Rattle.std.specs.Prelude.{◌≡◌, ◌+◌, [], length, option_map, IfOk};
+ghost use Rattle.std.specs.Prelude.{◌≡◌, ◌+◌, false, length, option_map, IfOk, OnErr};
 ghost use Rattle.std.specs.Option.{option_copied};
 ghost use Rattle.clr_rows.specs.Contents.{row_at};
-ghost use Rattle.clr_rows.specs.Schemas.{FitsSchema};
-ghost use Rattle.clr_engine.specs.Offices.{content_of, workspace};
-ghost use Rattle.clr_engine.specs.Steps.{answer, answered, is_lost, reply_of, unmade_reply, settle, first_of, create_refusals, created, apply_refusals, applied, merge_refusals, of_workspace, at_workspace, merged, step, KeepsWorkspaces, if_stands, changes_in, name_of_place};
+ghost use Rattle.clr_tree.specs.Parts.{workspace_of};
+ghost use Rattle.clr_steps.specs.Offices.{content_of, is_kept, office_of};
+ghost use Rattle.clr_steps.specs.Readings.{changes_in, conflicts_in, if_stands, name_at, parent_in};
+ghost use Rattle.clr_steps.specs.Steps.{is_lost, lost_in, run, IsAnswer, TakesNoMemory};
+ghost use Rattle.clr_engine.specs.Drafts.{IsAdmitted, part_at};
 
-use crate::commands::{Command, Reply};
-use clr_change::{ChangeSet, EditFault, Edits, first_conflict, stage};
-use clr_rows::{CellId, Row, Schema, Sheet, Words, good_name};
-use clr_tree::{Rebase, Tree};
-use std::alloc::{AllocError, Global};
+use crate::commands::perform;
+use crate::conflicts::conflicting_cells;
+use crate::judges::Judge;
+use clr_change::ChangeSet;
+use clr_rows::{CellId, Row, Schema, Sheet};
+use clr_rules::RuleBook;
+use clr_steps::{Command, Reply};
+use clr_tree::{Part, Tree};
+use std::alloc::AllocError;
 use std::marker::Model;
 
-/// At most so many workspaces, LIVE counted.
-const WORKSPACES: usize = 256;
-
-/// A database: its schema, LIVE's content and the workspaces under LIVE. Each row of each content
-/// fits the schema.
+/// A database: its schema, its rules, LIVE's content and the workspaces under LIVE. The rules and
+/// each row of each content fit the schema, and every rule holds in LIVE and in each workspace that
+/// is kept.
 #[derive(Drop)]
 pub struct Office {
-    alloc: Global,
     schema: Schema,
+    judge: Judge,
     tree: Tree,
 }
 
 impl Model for Office {
-    ghost use Rattle.clr_engine.specs.Offices.{Office as Whole, office_code};
+    ghost use Rattle.clr_steps.specs.Offices.{Office as Whole, office_code, office_of};
+    ghost use Rattle.clr_engine.specs.Drafts.{IsAdmitted};
 
     ghost Value = { Whole };
 
     ghost coded = { office_code };
 
-    ghost use Rattle.clr_engine.specs.Offices.{office_of};
-    ghost use Rattle.clr_engine.specs.Fitting.{EachFits};
+    ghost view = { λ o. office_of o.schema o.judge o.tree.list };
 
-    ghost view = { λ o. office_of o.schema o.tree.spaces };
-
-    ghost invariant = { λ o. EachFits o.schema o.tree.spaces };
-}
-
-/// What a call is answered that can fail for want of memory alone.
-fn finished(done: Result<(), AllocError>) -> Reply
-    ensures { result ≡ reply_of done }
-{
-    match done {
-        Ok(()) => Reply::Done,
-        Err(_) => Reply::OutOfMemory,
-    }
-}
-
-/// What a command is answered where an edit can't be made.
-fn unmade(number: usize, fault: EditFault) -> Reply
-    ensures { result ≡ unmade_reply number fault }
-{
-    match fault {
-        EditFault::OutOfMemory => Reply::OutOfMemory,
-        EditFault::Row(_) | EditFault::KeyTaken | EditFault::NoRow => Reply::BadEdit(number, fault),
-    }
+    ghost invariant = { λ o. IsAdmitted (office_of o.schema o.judge o.tree.list) };
 }
 
 impl Office {
-    /// An office without rules or workspaces. Each row of LIVE fits the schema. It fails for want
-    /// of memory alone.
-    pub fn plain(alloc: Global, schema: Schema, live: Sheet) -> Result<Office, AllocError>
-        requires { FitsSchema schema live }
-        ensures { IfOk result (λ office. office ≡ record { schema = schema; live = live; workspaces = [] }) }
+    pub(crate) fn of_parts(schema: Schema, judge: Judge, tree: Tree) -> Office
+        requires { IsAdmitted (office_of schema judge tree.list) }
+        ensures { result ≡ office_of schema judge tree.list }
     {
-        Ok(Office {
-            alloc,
+        Office {
             schema,
-            tree: Tree::new(alloc, live)?,
-        })
+            judge,
+            tree,
+        }
     }
 
-    /// The schema of every row.
+    /// The schema of every row and rule.
     pub fn schema(&self) -> &Schema
-        ensures { result.now ≡ self.now.schema }
+        ensures value { result.now ≡ self.now.schema }
+        ensures admitted { IsAdmitted self.now }
     {
         &self.schema
     }
 
+    /// The rules, which hold in LIVE and in each workspace that is kept.
+    pub fn book(&self) -> &RuleBook
+        ensures value { result.now ≡ self.now.book }
+        ensures admitted { IsAdmitted self.now }
+    {
+        self.judge.book()
+    }
+
     /// LIVE's content.
     pub fn live(&self) -> &Sheet
-        ensures { result.now ≡ self.now.live }
+        ensures value { result.now ≡ self.now.live }
+        ensures admitted { IsAdmitted self.now }
     {
         self.tree.live()
     }
@@ -94,13 +84,13 @@ impl Office {
         self.tree.len()
     }
 
-    /// The name of the workspace at a place in order of creation, LIVE having place 0, or none
+    /// The name of the workspace at a position in order of creation, LIVE having position 0, or none
     /// past the end.
-    pub fn name_at(&self, place: usize) -> Option<&str>
-        ensures { option_map (λ name. name.now) result ≡ name_of_place self.now place }
+    pub fn name_at(&self, position: usize) -> Option<&str>
+        ensures { option_map (λ name. name.now) result ≡ name_at self.now position }
     {
-        if place < self.tree.len() {
-            Some(self.tree.name_at(place))
+        if position < self.tree.len() {
+            Some(self.tree.name_at(position))
         } else {
             None
         }
@@ -108,7 +98,7 @@ impl Office {
 
     /// The name of a workspace's parent, or none for LIVE and for an unknown name.
     pub fn parent_of(&self, ws: &str) -> Option<&str>
-        ensures { option_map (λ name. name.now) result ≡ option_map (λ w. w.parent) (workspace self.now ws.now) }
+        ensures { option_map (λ name. name.now) result ≡ parent_in self.now ws.now }
     {
         match self.tree.find(ws) {
             Some(at) => match self.tree.parent(at) {
@@ -119,8 +109,20 @@ impl Office {
         }
     }
 
-    /// The row at a cell in the current content of LIVE or a workspace, or none, also for an
-    /// unknown name.
+    /// Whether every rule is to hold in LIVE or a workspace, and so it does; or none for an unknown
+    /// name.
+    pub fn kept(&self, ws: &str) -> Option<bool>
+        ensures value { result ≡ if_stands self.now ws.now (is_kept self.now ws.now) }
+        ensures admitted { IsAdmitted self.now }
+    {
+        match self.tree.find(ws) {
+            Some(at) => Some(self.tree.kept(at)),
+            None => None,
+        }
+    }
+
+    /// The row at a cell in the current content of LIVE or a workspace, or none, also for an unknown
+    /// name.
     pub fn read(&self, ws: &str, cell: CellId) -> Option<&Row>
         ensures { option_copied result ≡ row_at (content_of self.now ws.now) cell }
     {
@@ -130,8 +132,8 @@ impl Office {
         }
     }
 
-    /// A copy of the current content of LIVE or a workspace, or none for an unknown name. It
-    /// fails for want of memory alone.
+    /// A copy of the current content of LIVE or a workspace, or none for an unknown name. It fails
+    /// for want of memory alone.
     pub fn rows(&self, ws: &str) -> Result<Option<Sheet>, AllocError>
         ensures { IfOk result (λ rows. rows ≡ if_stands self.now ws.now (content_of self.now ws.now)) }
     {
@@ -147,75 +149,63 @@ impl Office {
         ensures { IfOk result (λ set. set ≡ if_stands self.now ws.now (changes_in self.now ws.now)) }
     {
         match self.tree.find(ws) {
-            Some(0) => Ok(Some(ChangeSet::new(self.alloc))),
+            Some(0) => Ok(Some(ChangeSet::new(self.judge.allocator()))),
             Some(at) => Ok(Some(self.tree.changes(at)?)),
             None => Ok(None),
         }
     }
 
-    /// Performs one command, whole or not at all: the first refusal that applies is answered and
-    /// changes nothing, and so is want of memory. A merge keeps its workspace.
-    pub fn perform(&mut self, command: &Command) -> Reply
-        requires { KeepsWorkspaces command.now }
-        ensures { answer result self.new ≡ answered (is_lost result) self.old (step self.old command.now) }
+    /// The cells that a workspace changed and where its parent has another row than the one that it
+    /// took over, in the order of cells, none for LIVE; or none for an unknown name. It fails for
+    /// want of memory alone.
+    pub fn conflicts(&self, ws: &str) -> Result<Option<Vec<CellId>>, AllocError>
+        ensures { IfOk result (λ cells. option_map (λ list. list.items) cells ≡ if_stands self.now ws.now (conflicts_in self.now ws.now)) }
     {
-        match command {
-            Command::Create { name, parent } => self.create(name, parent),
-            Command::Apply { ws, edits } => self.apply(ws, edits),
-            Command::Merge { ws, .. } => self.merge(ws),
-        }
-    }
-
-    fn create(&mut self, name: &Words, parent: &Words) -> Reply
-        ensures { answer result self.new ≡ answered (is_lost result) self.old (settle (first_of (create_refusals self.old name.now parent.now)) self.old (created self.old name.now parent.now)) }
-    {
-        let Some(above) = self.tree.find(parent.as_str()) else {
-            return Reply::NoWorkspace;
-        };
-        if !good_name(name.as_str()) {
-            return Reply::BadName;
-        }
-        if self.tree.find(name.as_str()).is_some() {
-            return Reply::NameTaken;
-        }
-        if self.tree.len() >= WORKSPACES || above != 0 {
-            return Reply::TooMany;
-        }
-        finished(self.tree.create(name.as_str(), above))
-    }
-
-    fn apply(&mut self, ws: &Words, edits: &Edits) -> Reply
-        ensures { answer result self.new ≡ answered (is_lost result) self.old (settle (first_of (apply_refusals self.old ws.now edits.now)) self.old (applied self.old ws.now edits.now)) }
-    {
-        let Some(at) = self.tree.find(ws.as_str()) else {
-            return Reply::NoWorkspace;
-        };
-        match stage(
-            self.alloc,
-            &self.schema,
-            &self.tree.view(at),
-            edits.as_slice(),
-        ) {
-            Ok(changed) => finished(self.tree.write_all(at, &changed)),
-            Err((number, fault)) => unmade(number, fault),
-        }
-    }
-
-    fn merge(&mut self, ws: &Words) -> Reply
-        ensures { answer result self.new ≡ answered (is_lost result) self.old (settle (of_workspace self.old ws.now (merge_refusals self.old)) self.old (at_workspace (workspace self.old ws.now) self.old (merged self.old))) }
-    {
-        let Some(at) = self.tree.find(ws.as_str()) else {
-            return Reply::NoWorkspace;
+        let Some(at) = self.tree.find(ws) else {
+            return Ok(None);
         };
         let Some(above) = self.tree.parent(at) else {
-            return Reply::LiveIsFixed;
+            return Ok(Some(Vec::new(self.judge.allocator())));
         };
-        let Ok(changed) = self.tree.changes(at) else {
-            return Reply::OutOfMemory;
-        };
-        if let Some((cell, count)) = first_conflict(&changed, &self.tree.view(above)) {
-            return Reply::Conflict(cell, count);
+        let changed = self.tree.changes(at)?;
+        let cells = conflicting_cells(self.judge.allocator(), &changed, &self.tree.view(above))?;
+        Ok(Some(cells))
+    }
+
+    /// The workspace at a position in order of creation, with whole contents, or none for LIVE, which
+    /// has position 0, and past the end. It fails for want of memory alone.
+    pub fn part(&self, position: usize) -> Result<Option<Part>, AllocError>
+        ensures { IfOk result (λ part. option_map workspace_of part ≡ part_at self.now position) }
+    {
+        if position == 0 || position >= self.tree.len() {
+            return Ok(None);
         }
-        finished(self.tree.rebase(at, Rebase::Merge))
+        Ok(Some(self.tree.part(position)?))
+    }
+
+    /// Performs one command, whole or not at all: the first refusal that applies is answered, and
+    /// changes nothing. So does `OutOfMemory`, which may come in place of any other answer, but never
+    /// to `Remove`, `Unmark` and `Release`. A content in which the rules are to hold, and which
+    /// would break one, is refused as the last.
+    pub fn perform(&mut self, command: &Command) -> Reply
+        ensures answer { IsAnswer self.old command.now result self.new }
+        ensures no_memory { TakesNoMemory command.now → is_lost result ≡ false }
+    {
+        perform(&self.schema, &self.judge, &mut self.tree, command)
+    }
+
+    /// Performs commands one after another, also after one that is refused, and answers their
+    /// replies. It fails where no memory is found for the replies, and performs none then.
+    pub fn perform_all(&mut self, commands: &[Command]) -> Result<Vec<Reply>, AllocError>
+        ensures run { IfOk result (λ replies. run self.old commands.now (lost_in replies.items)
+            ≡ record { replies = replies.items; office = self.new }) }
+        ensures err { OnErr result (self.new ≡ self.old) }
+    {
+        let mut replies = Vec::with_capacity(self.judge.allocator(), commands.len())?;
+        for command in commands {
+            let reply = self.perform(command);
+            replies.push(reply).unwrap();
+        }
+        Ok(replies)
     }
 }

@@ -1,7 +1,4 @@
-pub mod Keeping
+pub mod Interpretations
 pub mod Lines
-pub mod Members
-pub mod Pieces
-pub mod Replies
+pub mod ScriptOutcomes
 pub mod Sessions
-pub mod Telling

@@ -3,7 +3,7 @@ use Rattle.std.proofs.Common.{◌≡◌, ℕ, suc, ◌+◌, ◌==◌, ◌<◌, �
 use Rattle.std.proofs.lemmas.List.{drop_all}
 use Rattle.std.specs.List.{concat, position, position_or_len}
 use Rattle.std.specs.Io.BufRead.{take_through}
-use Rattle.clr_office.specs.Separator.{lines_of, onto_first, is_separator, around_line, cut_text}
+use Rattle.clr_office.specs.Separator.{lines_of, onto_first, is_separator, around_line, around_separator}
 
 -- how long a text's first line is
 abbrev pub line_size : List ℕ → ℕ
@@ -86,30 +86,30 @@ regroup front line (Some parts) = rw append_assoc refl
 
 -- the separator is the first line from i on
 pub found_at : (text : List ℕ) (i : ℕ) (whole : Option (List ℕ × List ℕ)) → i < length text → is_separator (take (line_size (drop i text)) (drop i text)) ≡ true
-    → with_front (take i text) (cut_text (drop i text)) ≡ whole → Some (take i text, drop (line_size (drop i text)) (drop i text)) ≡ whole
-unfolding cut_text
+    → with_front (take i text) (around_separator (drop i text)) ≡ whole → Some (take i text, drop (line_size (drop i text)) (drop i text)) ≡ whole
+unfolding around_separator
 found_at text i whole below is so_far =
     let rest = drop i text in
     let left : 0 < length rest = omega (arith, below, length-drop i text) in
     let after = drop (line_size rest) rest in
-    let here : cut_text rest ≡ Some ([], after) = ap cut_lines (first_line rest left) ∙ found (take (line_size rest) rest) (lines_of after) is ∙ ap (λ xs. Some ([], xs)) (joined after) in
+    let here : around_separator rest ≡ Some ([], after) = ap cut_lines (first_line rest left) ∙ found (take (line_size rest) rest) (lines_of after) is ∙ ap (λ xs. Some ([], xs)) (joined after) in
     sym (ap (with_front (take i text)) here ∙ ap (λ front. Some (front, after)) (append-nil (take i text))) ∙ so_far
 
 -- the first line from i on is passed
 pub passed_at : (text : List ℕ) (i : ℕ) (whole : Option (List ℕ × List ℕ)) → i < length text → is_separator (take (line_size (drop i text)) (drop i text)) ≡ false
-    → with_front (take i text) (cut_text (drop i text)) ≡ whole
-    → with_front (take (i + line_size (drop i text)) text) (cut_text (drop (i + line_size (drop i text)) text)) ≡ whole
-unfolding cut_text
+    → with_front (take i text) (around_separator (drop i text)) ≡ whole
+    → with_front (take (i + line_size (drop i text)) text) (around_separator (drop (i + line_size (drop i text)) text)) ≡ whole
+unfolding around_separator
 passed_at text i whole below is so_far =
     let rest = drop i text in
     let left : 0 < length rest = omega (arith, below, length-drop i text) in
     let size = line_size rest in
     let line = take size rest in
     let after = drop size rest in
-    let here : cut_text rest ≡ with_front line (cut_text after) = ap cut_lines (first_line rest left) ∙ passed line (lines_of after) is in
-    rw (take-add i size text, ← drop-drop size i text) (sym (regroup (take i text) line (cut_text after)) ∙ sym (ap (with_front (take i text)) here) ∙ so_far)
+    let here : around_separator rest ≡ with_front line (around_separator after) = ap cut_lines (first_line rest left) ∙ passed line (lines_of after) is in
+    rw (take-add i size text, ← drop-drop size i text) (sym (regroup (take i text) line (around_separator after)) ∙ sym (ap (with_front (take i text)) here) ∙ so_far)
 
 -- all lines were passed
-pub none_left : (text : List ℕ) (i : ℕ) (whole : Option (List ℕ × List ℕ)) → length text ≤ i → with_front (take i text) (cut_text (drop i text)) ≡ whole → whole ≡ None
-unfolding cut_text
+pub none_left : (text : List ℕ) (i : ℕ) (whole : Option (List ℕ × List ℕ)) → length text ≤ i → with_front (take i text) (around_separator (drop i text)) ≡ whole → whole ≡ None
+unfolding around_separator
 none_left text i whole past so_far = sym so_far ∙ rw (drop_all i text past) refl

@@ -2,12 +2,12 @@
 use Rattle.std.specs.Prelude.{ℕ, Bool, List}
 
 -- a page: what was put on it, how many bytes it has room for, and whether a put has failed
-pub record Written : Type 0 where
+pub record PageState : Type 0 where
   pub contents : List ℕ
   pub room : ℕ
   pub failed : Bool
 
 -- a port: its reader or writer, and whether a call of it has failed
-pub record Wrapped (T : Type 0) : Type 0 where
+pub record PortState (T : Type 0) : Type 0 where
   pub inner : T
   pub failed : Bool

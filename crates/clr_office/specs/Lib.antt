@@ -1,7 +1,5 @@
-pub mod Answer
-pub mod Clearance
 pub mod Devices
-pub mod Faults
 pub mod Input
+pub mod Outcomes
 pub mod Separator
 pub mod Session

@@ -18,10 +18,10 @@ lines_of (byte ∷ rest) = if byte == 10 then (byte ∷ []) ∷ lines_of rest el
 abbrev pub is_separator : List ℕ → Bool
 is_separator line = bytes_eq (strip_last 10 line) (codes "---") || bytes_eq (strip_last 10 line) (codes "---\r")
 
--- the text before the line at this place from 0, and the text after it
+-- the text before the line at a position, and the text after it
 abbrev pub around_line : List (List ℕ) → ℕ → List ℕ × List ℕ
-around_line lines place = (concat (take place lines), concat (drop (place + 1) lines))
+around_line lines position = (concat (take position lines), concat (drop (position + 1) lines))
 
 -- the text before the first line that is the separator, and the text after it
-unfoldable pub cut_text : List ℕ → Option (List ℕ × List ℕ)
-cut_text text = option_map (around_line (lines_of text)) (position is_separator (lines_of text))
+unfoldable pub around_separator : List ℕ → Option (List ℕ × List ℕ)
+around_separator text = option_map (around_line (lines_of text)) (position is_separator (lines_of text))

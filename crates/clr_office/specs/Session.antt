@@ -1,20 +1,20 @@
 -- What a run prints for an input, and what it leaves of its reader and writer.
 use Rattle.std.specs.Prelude.{◌≡◌, ◌≢◌, ℕ, List, Bool, true, false, Option, Some, None, Result, Ok, Err}
 use Rattle.std.specs.Io.KnownBytes.{Appends}
-use Rattle.clr_office.specs.Answer.{answer_of}
-use Rattle.clr_office.specs.Input.{GivesWhole, GivesTooMuch}
-use Rattle.clr_office.specs.Separator.{cut_text}
+use Rattle.clr_office.specs.Outcomes.{interpretation}
+use Rattle.clr_office.specs.Input.{GivesInput, GivesTooMuch}
+use Rattle.clr_office.specs.Separator.{around_separator}
 use Rattle.clr_office.specs.declared.faults.RunFault.{RunFault}
 use Rattle.clr_office.specs.declared.faults.RunFault.TheVariants as run_fault
 
 -- the answer to the office text and the script that stand on both sides of the separator
 abbrev pub session_of : Option (List ℕ × List ℕ) → Result (List ℕ × ℕ) RunFault
 session_of None = Err run_fault.NoSeparator
-session_of (Some parts) = answer_of parts.0 parts.1
+session_of (Some parts) = interpretation parts.0 parts.1
 
 -- the lines and the exit status for an input, or the fault that it has
 unfoldable pub session : List ℕ → Result (List ℕ × ℕ) RunFault
-session input = session_of (cut_text input)
+session input = session_of (around_separator input)
 
 -- a run as its devices show it: what the reader had to give and what is left of it, what the
 -- writer held and what it holds, each where it is told, and whether they failed
@@ -28,7 +28,7 @@ pub record Run : Type 0 where
 
 -- the whole input was read
 abbrev pub Reads : Run → List ℕ → Type 0
-Reads run input = GivesWhole run.input run.left input × (run.read_failed ≡ false)
+Reads run input = GivesInput run.input run.left input × (run.read_failed ≡ false)
 
 -- the whole input was read, and its lines went out; of the lines nothing is said where one found
 -- no memory
@@ -47,7 +47,7 @@ IsRunFault run run_fault.WriteFailed = (run.write_failed ≡ true) × ((input : 
 IsRunFault run run_fault.TooLong = GivesTooMuch run.input run.left × (run.read_failed ≡ false)
 IsRunFault run run_fault.NoSeparator = Refuses run run_fault.NoSeparator
 IsRunFault run (run_fault.BadOffice e) = Refuses run (run_fault.BadOffice e)
-IsRunFault run (run_fault.BadScript place e) = Refuses run (run_fault.BadScript place e)
+IsRunFault run (run_fault.BadScript number e) = Refuses run (run_fault.BadScript number e)
 IsRunFault run run_fault.OutOfMemory = run.read_failed ≡ false
 
 -- a run answered so

@@ -1,8 +1,9 @@
 ghost use Rattle.std.specs.Prelude.{◌≡◌};
-ghost use Rattle.clr_office.specs.Faults.{exit_status};
+ghost use Rattle.clr_office.specs.Outcomes.{exit_status};
 ghost use Rattle.clr_office.specs.declared.faults.RunFault.TheVariants as run_fault;
 
-use clr_texts::{RecordFault, TextFault};
+use clr_office_text::TextFault;
+use clr_scripts::RecordFault;
 use std::alloc::{AllocError, AllocFailed};
 use thiserror::Error;
 
@@ -15,7 +16,7 @@ pub enum RunFault {
     /// The writer failed. How much of the output went out is not known.
     #[error("write failed")]
     WriteFailed,
-    /// The input has more than 67,108,864 bytes.
+    /// The input has more than `MOST_INPUT_BYTES`.
     #[error("too long")]
     TooLong,
     /// No line of the input is the separator.
@@ -24,8 +25,8 @@ pub enum RunFault {
     /// The text before the separator is no office.
     #[error("unreadable office {number} {fault:?}", number = *.0 as u8, fault = .0)]
     BadOffice(TextFault),
-    /// The number of the first record that can't be read, from 1, and why.
-    #[error("unreadable script {number} {fault:?} at {place}", number = *.1 as u8, fault = .1, place = .0)]
+    /// The number of the first record of the script that can't be read, from 1, and why.
+    #[error("unreadable script {number} {fault:?} at {record}", number = *.1 as u8, fault = .1, record = .0)]
     BadScript(usize, RecordFault),
     /// No memory was found. It may come in place of any other answer.
     #[error("out of memory")]

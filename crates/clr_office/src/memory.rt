@@ -62,9 +62,9 @@ pub struct Page {
 
 impl Model for Page {
     ghost use Rattle.std.specs.Prelude.{◌≤◌, length, vec_capacity};
-    ghost use Rattle.clr_office.specs.Devices.{Written};
+    ghost use Rattle.clr_office.specs.Devices.{PageState};
 
-    ghost Value = { Written };
+    ghost Value = { PageState };
 
     ghost view = { λ a. record { contents = a.bytes.items; room = a.room; failed = a.failed } };
 

@@ -4,7 +4,8 @@ use crate::devices::{DeviceFault, Sink, Source};
 use std::io::{Read, Write};
 use std::marker::Model;
 
-/// A source over a reader of `std`, or a sink over a writer. It tells the bytes that these tell.
+/// A source over a reader of `std`, or a sink over a writer. Contracts know its bytes where they
+/// know those of the reader or writer.
 #[derive(Drop)]
 pub struct Port<T> {
     inner: T,
@@ -12,9 +13,9 @@ pub struct Port<T> {
 }
 
 impl<T> Model for Port<T> {
-    ghost use Rattle.clr_office.specs.Devices.{Wrapped};
+    ghost use Rattle.clr_office.specs.Devices.{PortState};
 
-    ghost Value = { Wrapped T };
+    ghost Value = { PortState T };
 
     ghost view = { λ a. record { inner = a.inner; failed = a.failed } };
 }
@@ -36,7 +37,7 @@ impl<R: Read> Source for Port<R> {
 
     ghost failed = { λ port. port.failed };
 
-    /// One read. It fails where the reader gives any error, one that speaks of an interruption too.
+    /// One read. It fails where the reader gives an error, also that it was interrupted.
     fn read_some(&mut self, buffer: &mut [u8]) -> Result<usize, DeviceFault> {
         match self.inner.read(buffer) {
             Ok(count) => Ok(count),
@@ -53,7 +54,7 @@ impl<W: Write> Sink for Port<W> {
 
     ghost failed = { λ port. port.failed };
 
-    /// Writes all the bytes and flushes the writer. It fails where one of both gives an error.
+    /// Writes all the bytes and flushes the writer. It fails where either gives an error.
     fn put(&mut self, bytes: &[u8]) -> Result<(), DeviceFault> {
         if self.inner.write_all(bytes).is_ok() && self.inner.flush().is_ok() {
             return Ok(());

@@ -1,6 +1,6 @@
 ghost use Rattle.std.specs.Prelude.{◌≡◌, length, option_map};
 ghost use Rattle.std.specs.Io.BufRead.{take_through};
-ghost use Rattle.clr_office.specs.Separator.{is_separator as separates, cut_text};
+ghost use Rattle.clr_office.specs.Separator.{is_separator as separates, around_separator};
 
 /// How many bytes the first line of a text has, with the `\n` that ends it.
 fn line_len(text: &[u8]) -> usize
@@ -22,10 +22,10 @@ fn is_separator(line: &[u8]) -> bool
     line == b"---".as_slice() || line == b"---\r".as_slice()
 }
 
-/// The text before the first line that is the separator, and the text after that line. None where
-/// no line is the separator.
-pub fn cut(text: &[u8]) -> Option<(&[u8], &[u8])>
-    ensures { option_map (λ parts. (parts.0.now, parts.1.now)) result ≡ cut_text text.now }
+/// The text before the first line that is the separator, and the text after that line, or none
+/// where no line is the separator.
+pub fn split_at_separator(text: &[u8]) -> Option<(&[u8], &[u8])>
+    ensures { option_map (λ parts. (parts.0.now, parts.1.now)) result ≡ around_separator text.now }
 {
     let mut start = 0;
     while start < text.len() {

@@ -5,21 +5,21 @@ use Rattle.std.specs.FinMap.Entries.{find, is_sorted, below_all}
 use Rattle.std.specs.List.{list_any, AllByRecursion}
 use Rattle.std.specs.List.Sorted.{IsStrictlySortedBy}
 use Rattle.std.specs.Option.{option_map}
-use Rattle.std.specs.Ordering.{eq_by_cmp, is_eq, is_lt}
+use Rattle.std.specs.Ordering.{eq_by_cmp, is_eq}
 use Rattle.std.specs.Cmp.{tied_itself}
-use Rattle.std.specs.declared.cmp.Ordering.{Ordering}
-use Rattle.std.specs.declared.cmp.Ordering.TheVariants.{Less, Equal, Greater}
+use Rattle.std.specs.declared.cmp.Ordering.TheVariants.{Less}
 use Rattle.std.proofs.lemmas.Bool.{false≢true}
 use Rattle.std.proofs.lemmas.List.Folds.{list_any-append}
 use Rattle.clr_rows.specs.declared.cells.CellId.{CellId}
 use Rattle.clr_rows.specs.declared.rows.Row.{Row}
-use Rattle.clr_rows.specs.declared.changes.Change.{Change}
+use Rattle.clr_rows.specs.declared.cells.Change.{Change}
 use Rattle.clr_rows.specs.Cells.{cell_cmp}
 use Rattle.clr_rows.specs.Same.{same}
 use Rattle.clr_rows.specs.Contents.{Content, Changes, row_at, cells_of, set_cell, over, is_changed, change_at, change_of, changes, rows_after, taken_over, is_conflict, conflicts}
 use Rattle.clr_rows.proofs.CellOrder.{cell_cmp_total, cell_cmp_exact}
 use Rattle.clr_rows.proofs.RowLemmas.{tied_cells}
 use Rattle.clr_rows.proofs.SameLemmas.{same_is, same_itself}
+use Rattle.clr_rows.proofs.Tests.{first, second, both, less}
 
 pub same_content : (m n : Content) → ((q : CellId) → row_at m q ≡ row_at n q) → m ≡ n
 same_content = finite.same_map cell_cmp_total cell_cmp_exact
@@ -109,23 +109,6 @@ row-over content (e ∷ es) q apart =
       | true ↦ λ t. ap (λ (found : Option (Option Row)). unwrap_or found e.1) (ap (λ c. find cell_cmp c es) (tied_cells q e.0 t) ∙ apart.0)
       | false ↦ λ t. refl
     ] refl
-
-first : (a b : Bool) → T (a && b) → T a
-first true b p = tt
-first false b p = p
-
-second : (a b : Bool) → T (a && b) → T b
-second true b p = p
-second false b p = absurd p
-
-both : (a b : Bool) → T a → T b → T (a && b)
-both true b p q = q
-both false b p q = p
-
-less : (r : Ordering) → T (is_lt r) → r ≡ Less
-less Less p = refl
-less Equal p = absurd p
-less Greater p = absurd p
 
 module _ {X : Type 0} where
   -- a cell below all others isn't among them

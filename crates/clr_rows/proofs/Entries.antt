@@ -1,5 +1,6 @@
 -- A finite map by its entries in the order of their keys.
-use Rattle.std.proofs.Common.{◌≡◌, ℕ, suc, zero, ◌<◌, Bool, true, false, cond, ◌&&◌, T, List, [], ◌∷◌, length, Some, None, ◌||◌, refl, sym, ap, subst, ◌∙◌, arith}
+use Rattle.std.proofs.Common.{◌≡◌, ℕ, suc, zero, ◌<◌, Bool, true, cond, T, List, [], ◌∷◌, length, map, Option, Some, None, Bor, refl, sym, ap, subst, ◌∙◌, arith}
+use Rattle.std.proofs.lemmas.Bool.{or_right}
 use Rattle.std.specs.List.{AllByRecursion}
 use Rattle.std.specs.List.Sorted.{IsStrictlySortedBy}
 use Rattle.std.specs.Ordering.{is_lt, is_eq, eq_by_cmp}
@@ -9,13 +10,10 @@ use Rattle.std.specs.Cmp.{IsTotalOrder, eq_by_cmp_equiv, tied_itself}
 use Rattle.std.specs.BTreeMap.{is_at}
 use Rattle.std.specs.Map.{lookup, keys_of}
 use Rattle.std.specs.FinMap.Entries.{find, below_all, is_sorted}
-use Rattle.std.specs.FinMap.{FinMap, IsAntisymmetric, get, keys, insert, remove, empty, get-empty, from_sorted, get-from_sorted, get-insert, get-remove, same_map, contains_key-keys}
+use Rattle.std.specs.FinMap.{FinMap, IsAntisymmetric, get, keys, insert, remove, empty, get-empty, from_sorted, get-from_sorted, get-insert, get-remove, same_map, contains_key-keys, entries-from_sorted}
 use Rattle.std.specs.List.{list_any, slice_get}
-use Rattle.std.specs.Option.{is_some}
-
-pub both : (a b : Bool) → T a → T b → T (a && b)
-both true b p q = q
-both false b p q = p
+use Rattle.std.specs.Option.{is_some, option_copied}
+use Rattle.clr_rows.proofs.Tests.{both}
 
 module _ {K X : Type 0} (R : K → K → Ordering) where
   below_from_all : (x : K) (es : List (K × X)) → AllByRecursion (λ y. R x y ≡ Less) (keys_of es) → T (below_all R x es)
@@ -58,18 +56,23 @@ from_no_entries {R = R} o exact = same_map o exact _ _ (λ q. get-from_sorted R 
 pub any_at : {A : Type 0} (p : A → Bool) (xs : List A) (i : ℕ) (x : A) → slice_get xs i ≡ Some x → p x ≡ true → list_any p xs ≡ true
 any_at p [] i x e h = absurd (cc)
 any_at p (y ∷ ys) zero x e h = let same : y ≡ x = cc in rw (same, h) refl
-any_at p (y ∷ ys) (suc i) x e h = rw (any_at p ys i x e h) (or_true (p y))
-  where
-    or_true : (b : Bool) → (b || true) ≡ true
-    or_true true = refl
-    or_true false = refl
+any_at p (y ∷ ys) (suc i) x e h = or_right (p y) (list_any p ys) (any_at p ys i x e h)
 
--- a key that stands at a place has a value
+-- a key at a position has a value
 pub held_at : {K X : Type 0} {R : K → K → Ordering} → IsTotalOrder R → (m : FinMap R X) (i : ℕ) (k : K) → slice_get (keys m) i ≡ Some k → is_some (get m k) ≡ true
 held_at {R = R} o m i k e = contains_key-keys m k ∙ any_at (eq_by_cmp R k) (keys m) i k e (ap is_eq (tied_itself o k))
 
--- each place below the length has an element
+-- each position below the length has an element
 pub some_at : {A : Type 0} (xs : List A) (i : ℕ) → i < length xs → is_some (slice_get xs i) ≡ true
 some_at [] i lt = absurd (omega arith)
 some_at (x ∷ xs) zero lt = refl
 some_at (x ∷ xs) (suc i) lt = some_at xs i (omega arith)
+
+-- the keys of sorted entries are those of the map that they make
+pub keys-from_sorted : {K X : Type 0} {R : K → K → Ordering} (es : List (K × X)) (m : FinMap R X) → T (is_sorted R es) → from_sorted es ≡ m → map (λ e. e.0) es ≡ keys m
+keys-from_sorted {K = K} {X = X} {R = R} es m ascending is = ap (λ (xs : List (K × X)). map (λ e. e.0) xs) (sym (entries-from_sorted R es ascending)) ∙ ap (λ (n : FinMap R X). keys n) is
+
+-- a reference is found where a copy of what it points to is
+pub found_copied : {A : Type 0} (found : Option (Bor A)) → is_some (option_copied found) ≡ true → is_some found ≡ true
+found_copied (Some x) e = e
+found_copied None e = e

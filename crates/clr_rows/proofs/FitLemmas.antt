@@ -1,44 +1,49 @@
--- A row that fits a schema is within 64 bits.
-use Rattle.std.proofs.Common.{◌≡◌, ℤ, pos, negsuc, ◌≤◌, ◌<◌, ◌^◌, true, List, length, refl, arith, unsigned_abs}
-use Rattle.std.proofs.lemmas.Bool.{and_parts, and_from, leb-true, lt-ltb, false≢true}
+-- What holds of each value of a map still holds once one is put in or taken out, and so rows that fit a schema.
+use Rattle.std.proofs.Common.{◌≡◌, ◌∙◌, Bool, true, false, cond, List, Option, Some, None, refl, sym, subst}
+use Rattle.std.proofs.lemmas.Option.{none-some, same_Some}
+use Rattle.std.specs.FinMap as finite
+use Rattle.std.specs.FinMap.{FinMap}
+use Rattle.std.specs.Ordering.{eq_by_cmp}
+use Rattle.std.specs.Prelude.{OnOk, OnErr, Result, Ok, Err}
+use Rattle.std.specs.declared.alloc.AllocError.{AllocError}
 use Rattle.clr_rows.specs.declared.cells.CellId.{CellId}
-use Rattle.clr_rows.specs.declared.places.Place.{Place}
-use Rattle.clr_rows.specs.declared.places.Shape.{Shape}
-use Rattle.clr_rows.specs.declared.places.Shape.TheVariants.{Bare, At, Line}
 use Rattle.clr_rows.specs.declared.rows.Row.{Row}
 use Rattle.clr_rows.specs.declared.tables.TableDef.{TableDef}
-use Rattle.std.specs.declared.option.Option.TheVariants.{None}
-use Rattle.clr_rows.specs.Numbers.{is_i64}
-use Rattle.clr_rows.specs.Ranges.{is_within, is_shape_within, is_place_within}
-use Rattle.clr_rows.specs.Schemas.{is_key, is_coordinate, is_place, has_coordinates, row_fault}
-use Rattle.clr_rows.proofs.SchemaLemmas.{fits_table, row_table}
+use Rattle.clr_rows.specs.Cells.{cell_cmp}
+use Rattle.clr_rows.specs.Contents.{Content, no_rows}
+use Rattle.clr_rows.specs.Schemas.{FitsSchema, row_fault}
+use Rattle.clr_rows.proofs.CellOrder.{cell_cmp_total}
+use Rattle.clr_rows.proofs.RowLemmas.{tied_cells}
 
-key_within : (z : ℤ) → is_key z ≡ true → is_i64 z ≡ true
-key_within (pos n) e = lt-ltb n (2 ^ 63) (omega (arith, leb-true n 999999999999999 (and_parts _ _ e).1))
-key_within (negsuc n) e = absurd (false≢true e)
+module _ {X : Type 0} (P : CellId → X → Type 0) where
+  abbrev pub HoldsOfEach : FinMap cell_cmp X → Type 0
+  HoldsOfEach m = (cell : CellId) (x : X) → finite.get m cell ≡ Some x → P cell x
 
-coordinate_within : (z : ℤ) → is_coordinate z ≡ true → is_i64 z ≡ true
-coordinate_within (pos n) e = lt-ltb n (2 ^ 63) (omega (arith, leb-true n 1000000000 e))
-coordinate_within (negsuc n) e = lt-ltb n (2 ^ 63) (omega (arith, leb-true (unsigned_abs (negsuc n)) 1000000000 e))
+  pub put_keeps : (m : FinMap cell_cmp X) (cell : CellId) (x : X) → HoldsOfEach m → P cell x → HoldsOfEach (finite.insert m cell x)
+  put_keeps m cell x all one = λ c y e. by c y (eq_by_cmp cell_cmp c cell) refl (sym (finite.get-insert cell_cmp_total m cell x c) ∙ e)
+    where
+      by : (c : CellId) (y : X) (tie : Bool) → eq_by_cmp cell_cmp c cell ≡ tie → cond tie (Some x) (finite.get m c) ≡ Some y → P c y
+      by c y true tie e = subst (λ k. P k y) (sym (tied_cells c cell tie)) (subst (λ z. P cell z) (same_Some x y e) one)
+      by c y false tie e = all c y e
 
-place_within : (p : Place) → is_place p ≡ true → is_place_within p ≡ true
-place_within p e =
-    let parts = and_parts (is_coordinate p.x) (is_coordinate p.y) e in
-    and_from _ _ (coordinate_within p.x parts.0) (coordinate_within p.y parts.1)
+  pub take_keeps : (m : FinMap cell_cmp X) (cell : CellId) → HoldsOfEach m → HoldsOfEach (finite.remove m cell)
+  take_keeps m cell all = λ c y e. by c y (eq_by_cmp cell_cmp c cell) (sym (finite.get-remove cell_cmp_total m cell c) ∙ e)
+    where
+      by : (c : CellId) (y : X) (tie : Bool) → cond tie None (finite.get m c) ≡ Some y → P c y
+      by c y true e = absurd (none-some y e)
+      by c y false e = all c y e
 
-shape_within : (s : Shape) → has_coordinates s ≡ true → is_shape_within s ≡ true
-shape_within Bare e = refl
-shape_within (At p) e = place_within p e
-shape_within (Line p q) e =
-    let parts = and_parts (is_place p) (is_place q) e in
-    and_from _ _ (place_within p parts.0) (place_within q parts.1)
+  pub none_keeps : HoldsOfEach finite.empty
+  none_keeps cell x e = absurd (none-some x (sym (finite.get-empty cell_cmp cell) ∙ e))
 
--- the number of a table is within 16 bits, as a program's is
-pub row_within : (tables : List TableDef) (cell : CellId) (row : Row) → cell.table < 65536 → row_fault tables cell row ≡ None → is_within cell row ≡ true
-unfolding is_within
-row_within tables cell row small fit =
-    let f = (fits_table tables cell row fit).2 in
-    and_from _ _ (and_from _ _ (and_from _ _ (lt-ltb cell.table 65536 small) (key_within cell.key f.key)) f.numbers) (shape_within row.shape f.coordinates)
+module _ (tables : List TableDef) where
+  -- a content that a row is put into, or that finds no memory for it, still fits
+  pub put_fits : (old new : Content) (cell : CellId) (row : Row) (r : Result (Option Row) AllocError) → OnOk r (new ≡ finite.insert old cell row) → OnErr r (new ≡ old) → FitsSchema tables old → row_fault tables cell row ≡ None → FitsSchema tables new
+  put_fits old new cell row (Ok before) put left all one = subst (λ (m : Content). FitsSchema tables m) (sym put) (put_keeps (λ c r. row_fault tables c r ≡ None) old cell row all one)
+  put_fits old new cell row (Err e) put left all one = subst (λ (m : Content). FitsSchema tables m) (sym left) all
 
-pub fits_within : (tables : List TableDef) (cell : CellId) (row : Row) → length tables ≤ 32 → row_fault tables cell row ≡ None → is_within cell row ≡ true
-fits_within tables cell row few fit = row_within tables cell row (omega (arith, row_table tables cell row fit, few)) fit
+  pub none_fit : FitsSchema tables no_rows
+  none_fit = none_keeps (λ c r. row_fault tables c r ≡ None)
+
+  pub no_rows_fit : (rows : Content) → rows ≡ no_rows → FitsSchema tables rows
+  no_rows_fit rows is = subst (λ (m : Content). FitsSchema tables m) (sym is) none_fit

@@ -3,6 +3,9 @@ pub mod ChangeLemmas
 pub mod Entries
 pub mod FitLemmas
 pub mod Fronts
+pub mod PartLemmas
 pub mod RowLemmas
 pub mod SameLemmas
 pub mod SchemaLemmas
+pub mod Tests
+pub mod WriteLemmas

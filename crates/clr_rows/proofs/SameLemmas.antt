@@ -7,11 +7,11 @@ use Rattle.std.proofs.lemmas.Bool.{and_parts, false≢true}
 use Rattle.std.proofs.lemmas.Bool.Decides.{Decides-int_eq}
 use Rattle.clr_rows.specs.declared.places.Place.{Place}
 use Rattle.clr_rows.specs.declared.places.Shape.{Shape}
-use Rattle.clr_rows.specs.declared.places.Shape.TheVariants.{Bare, At, Line}
+use Rattle.clr_rows.specs.declared.places.Shape.TheVariants.{Bare, At, Line, Chain}
 use Rattle.clr_rows.specs.declared.rows.Value.{Value}
 use Rattle.clr_rows.specs.declared.rows.Value.TheVariants.{Int, Words}
 use Rattle.clr_rows.specs.declared.rows.Row.{Row}
-use Rattle.clr_rows.specs.Same.{same_value, same_values, same_place, same_shape, same_row, same}
+use Rattle.clr_rows.specs.Same.{same_value, same_values, same_place, same_places, same_shape, same_row, same}
 
 pub value_is : (v w : Value) → same_value v w ≡ true → v ≡ w
 value_is (Int a) (Int b) e = ap Int ((Decides-int_eq a b).0 e)
@@ -53,13 +53,29 @@ place_same p = rw ((Decides-int_eq p.x p.x).1 refl, (Decides-int_eq p.y p.y).1 r
 pub place_decides : (p q : Place) → Decides (same_place p q) (p ≡ q)
 place_decides p q = (place_is p q, λ e. subst (λ u. same_place p u ≡ true) e (place_same p))
 
+places_are : (ps qs : List Place) → same_places ps qs ≡ true → ps ≡ qs
+places_are [] [] e = refl
+places_are [] (q ∷ qs) e = absurd (false≢true e)
+places_are (p ∷ ps) [] e = absurd (false≢true e)
+places_are (p ∷ ps) (q ∷ qs) e =
+    let parts = and_parts (same_place p q) (same_places ps qs) e in
+    let head = place_is p q parts.0 in
+    let rest = places_are ps qs parts.1 in
+    λ i. head i ∷ rest i
+
+places_same : (ps : List Place) → same_places ps ps ≡ true
+places_same [] = refl
+places_same (p ∷ ps) = rw (place_same p, places_same ps) refl
+
 shape_is : (s t : Shape) → same_shape s t ≡ true → s ≡ t
 shape_is Bare Bare e = refl
 shape_is Bare (At q) e = absurd (false≢true e)
 shape_is Bare (Line q r) e = absurd (false≢true e)
+shape_is Bare (Chain qs) e = absurd (false≢true e)
 shape_is (At p) Bare e = absurd (false≢true e)
 shape_is (At p) (At q) e = ap At (place_is p q e)
 shape_is (At p) (Line q r) e = absurd (false≢true e)
+shape_is (At p) (Chain qs) e = absurd (false≢true e)
 shape_is (Line p u) Bare e = absurd (false≢true e)
 shape_is (Line p u) (At q) e = absurd (false≢true e)
 shape_is (Line p u) (Line q r) e =
@@ -67,11 +83,17 @@ shape_is (Line p u) (Line q r) e =
     let first = place_is p q parts.0 in
     let second = place_is u r parts.1 in
     λ i. Line (first i) (second i)
+shape_is (Line p u) (Chain qs) e = absurd (false≢true e)
+shape_is (Chain ps) Bare e = absurd (false≢true e)
+shape_is (Chain ps) (At q) e = absurd (false≢true e)
+shape_is (Chain ps) (Line q r) e = absurd (false≢true e)
+shape_is (Chain ps) (Chain qs) e = ap Chain (places_are ps qs e)
 
 shape_same : (s : Shape) → same_shape s s ≡ true
 shape_same Bare = refl
 shape_same (At p) = place_same p
 shape_same (Line p q) = rw (place_same p, place_same q) refl
+shape_same (Chain ps) = places_same ps
 
 row_is : (a b : Row) → same_row a b ≡ true → a ≡ b
 row_is a b e =

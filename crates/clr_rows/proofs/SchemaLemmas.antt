@@ -2,18 +2,21 @@
 use Rattle.std.proofs.Common.{◌≡◌, ℕ, ◌+◌, ◌<◌, ◌≤◌, Bool, true, false, not, ◌&&◌, ◌||◌, List, [], ◌∷◌, length, ℤ, pos, negsuc, map, drop, get_or, refl, ap, subst, suc, zero, add-one, arith, Option, Some, None}
 use Rattle.std.specs.Prelude.{if◌then◌else◌, slice_get, position, nat_le, ◌==◌, unsigned_abs}
 use Rattle.std.proofs.Math.Seq.{drop-cons}
-use Rattle.std.proofs.lemmas.Bool.{not-true, lt-ltb, and_parts, and_from, or_parts, leb-true, eqb-true, both_ways}
+use Rattle.std.proofs.lemmas.Bool.{not-true, not-false, lt-ltb, and_parts, and_from, or_parts, leb-true, eqb-true, both_ways}
 use Rattle.std.proofs.lemmas.Bool.Decides.{Decides-int_eq}
-use Rattle.std.proofs.lemmas.Option.{slice_get_within}
+use Rattle.std.proofs.lemmas.Option.{same_Some, slice_get_within}
 use Rattle.std.proofs.lemmas.Slice.Eq.{bytes_eq-Decides}
 use Rattle.std.specs.List.{list_all, list_any, position_or_len}
 use Rattle.std.specs.Ordering.{int_eq}
 use Rattle.std.specs.Str.{bytes_eq}
+use Rattle.clr_rows.proofs.PartLemmas.{path_part, length-path_parts}
 use Rattle.clr_rows.specs.declared.cells.CellId.{CellId}
 use Rattle.clr_rows.specs.declared.faults.SchemaFault.TheVariants as unfit
-use Rattle.clr_rows.specs.declared.faults.RowFault.TheVariants.{WrongCount, WrongKind, WordsTooLong, WrongShape, OutOfRange, ZeroSegment}
+use Rattle.clr_rows.specs.declared.faults.RowFault.TheVariants.{WrongCount, WrongKind, WordsTooLong, WrongShape, OutOfRange, ZeroSegment, BadPath}
+use Rattle.clr_rows.specs.declared.limits.TheConstants.{MOST_TABLES, MOST_COLUMNS, MOST_TEXT_BYTES, GREATEST_KEY, GREATEST_COORDINATE, LEAST_VERTICES, MOST_VERTICES}
 use Rattle.clr_rows.specs.declared.places.Place.{Place}
-use Rattle.clr_rows.specs.declared.places.Shape.TheVariants.{At, Line}
+use Rattle.clr_rows.specs.declared.places.Shape.{Shape}
+use Rattle.clr_rows.specs.declared.places.Shape.TheVariants.{Bare, At, Line, Chain}
 use Rattle.clr_rows.specs.declared.rows.Row.{Row}
 use Rattle.clr_rows.specs.declared.rows.Value.{Value}
 use Rattle.clr_rows.specs.declared.rows.Value.TheVariants.{Int, Words}
@@ -21,12 +24,14 @@ use Rattle.clr_rows.specs.declared.tables.Kind.{Kind}
 use Rattle.clr_rows.specs.declared.tables.TableDef.{TableDef}
 use Rattle.clr_rows.specs.Names.{is_good_name}
 use Rattle.clr_rows.specs.Numbers.{is_i64}
+use Rattle.clr_rows.specs.Parts.{path_parts, parts_of}
 use Rattle.clr_rows.specs.Places.{InRange, Differ}
-use Rattle.clr_rows.specs.Schemas.{are_distinct, schema_fault, has_room, has_good_names, has_distinct_columns, is_column_name, table_named, column_named, is_of_kind, are_of_kinds, is_short, is_of_form, is_key, is_place, is_coordinate, has_coordinates, is_number, is_in_range, is_zero_segment, fault_in, fault_at, row_fault, key_fault, cell_fault}
+use Rattle.clr_rows.specs.Same.{same_place}
+use Rattle.clr_rows.specs.Schemas.{are_distinct, schema_fault, has_room, has_good_names, has_distinct_columns, is_column_name, table_named, column_named, is_of_kind, are_of_kinds, is_short, is_of_form, is_key, is_place, is_coordinate, has_coordinates, is_number, is_in_range, has_zero_part, is_bad_path, fault_in, fault_at, row_fault, key_fault, cell_fault}
 
 -- names that differ --------------------------------------------------------------------------
 
-list_any-map : {X Y : Type 0} (p : Y → Bool) (f : X → Y) (xs : List X) → list_any p (map f xs) ≡ list_any (λ x. p (f x)) xs
+pub list_any-map : {X Y : Type 0} (p : Y → Bool) (f : X → Y) (xs : List X) → list_any p (map f xs) ≡ list_any (λ x. p (f x)) xs
 list_any-map p f [] = refl
 list_any-map p f (x ∷ xs) = ap (λ b. p (f x) || b) (list_any-map p f xs)
 
@@ -48,22 +53,22 @@ at_each p (y ∷ ys) (suc i) x all is = at_each p ys i x (and_parts (p y) (list_
 
 -- limits of a schema -------------------------------------------------------------------------
 
-few : (tables : List TableDef) → schema_fault tables ≡ None → (nat_le (length tables) 32 ≡ true) × (list_all has_room tables ≡ true)
+few : (tables : List TableDef) → schema_fault tables ≡ None → (nat_le (length tables) MOST_TABLES ≡ true) × (list_all has_room tables ≡ true)
 unfolding schema_fault
-few tables h = and_parts _ _ (passed (nat_le (length tables) 32 && list_all has_room tables) unfit.TooMany _ h).0
+few tables h = and_parts _ _ (passed (nat_le (length tables) MOST_TABLES && list_all has_room tables) unfit.TooMany _ h).0
 
-pub few_tables : (tables : List TableDef) → schema_fault tables ≡ None → length tables ≤ 32
-few_tables tables h = leb-true (length tables) 32 (few tables h).0
+pub few_tables : (tables : List TableDef) → schema_fault tables ≡ None → length tables ≤ MOST_TABLES
+few_tables tables h = leb-true (length tables) MOST_TABLES (few tables h).0
 
-pub few_columns : (tables : List TableDef) (i : ℕ) (table : TableDef) → schema_fault tables ≡ None → slice_get tables i ≡ Some table → length table.columns ≤ 16
-few_columns tables i table h is = leb-true (length table.columns) 16 (at_each has_room tables i table (few tables h).1 is)
+pub few_columns : (tables : List TableDef) (i : ℕ) (table : TableDef) → schema_fault tables ≡ None → slice_get tables i ≡ Some table → length table.columns ≤ MOST_COLUMNS
+few_columns tables i table h is = leb-true (length table.columns) MOST_COLUMNS (at_each has_room tables i table (few tables h).1 is)
 
 -- names of a schema --------------------------------------------------------------------------
 
 names : (tables : List TableDef) → schema_fault tables ≡ None → (list_all has_good_names tables ≡ true) × (are_distinct (map (λ t. t.name) tables) ≡ true) × (list_all has_distinct_columns tables ≡ true)
 unfolding schema_fault
 names tables h =
-    let a = passed (nat_le (length tables) 32 && list_all has_room tables) unfit.TooMany _ h in
+    let a = passed (nat_le (length tables) MOST_TABLES && list_all has_room tables) unfit.TooMany _ h in
     let b = passed (list_all has_good_names tables) unfit.BadName _ a.1 in
     let d = passed (are_distinct (map (λ t. t.name) tables) && list_all has_distinct_columns tables) unfit.NameTaken _ b.1 in
     let e = and_parts (are_distinct (map (λ t. t.name) tables)) (list_all has_distinct_columns tables) d.0 in
@@ -81,29 +86,29 @@ apart f name [] i x none is = cc
 apart f name (y ∷ ys) zero x none is = let h = or_parts (bytes_eq name (f y)) (list_any (bytes_eq name) (map f ys)) none in cc
 apart f name (y ∷ ys) (suc i) x none is = apart f name ys i x (or_parts (bytes_eq name (f y)) (list_any (bytes_eq name) (map f ys)) none).1 is
 
-place_by_name : {X : Type 0} (f : X → List ℕ) (xs : List X) (i : ℕ) (x : X) → are_distinct (map f xs) ≡ true → slice_get xs i ≡ Some x → position_or_len (λ y. bytes_eq (f y) (f x)) xs ≡ i
-place_by_name f [] i x h is = cc
-place_by_name f (y ∷ ys) zero x h is =
+position_by_name : {X : Type 0} (f : X → List ℕ) (xs : List X) (i : ℕ) (x : X) → are_distinct (map f xs) ≡ true → slice_get xs i ≡ Some x → position_or_len (λ y. bytes_eq (f y) (f x)) xs ≡ i
+position_by_name f [] i x h is = cc
+position_by_name f (y ∷ ys) zero x h is =
     let e : y ≡ x = cc in
     let same = (bytes_eq-Decides (f y) (f x)).1 (ap f e) in
     rw same refl
-place_by_name f (y ∷ ys) (suc i) x h is =
+position_by_name f (y ∷ ys) (suc i) x h is =
     let a = and_parts (not (list_any (bytes_eq (f y)) (map f ys))) (are_distinct (map f ys)) h in
     let other = apart f (f y) ys i x (not-true (list_any (bytes_eq (f y)) (map f ys)) a.0) is in
-    let rest = place_by_name f ys i x a.1 is in
+    let rest = position_by_name f ys i x a.1 is in
     rw (other, rest) (omega arith)
 
 -- where names differ, the first element of a name is the one that has it
-place_of_name : {X : Type 0} (f : X → List ℕ) (xs : List X) (i : ℕ) (x : X) → are_distinct (map f xs) ≡ true → slice_get xs i ≡ Some x → position (λ y. bytes_eq (f y) (f x)) xs ≡ Some i
-place_of_name f xs i x h is = rw (place_by_name f xs i x h is, lt-ltb i (length xs) (slice_get_within xs i x is)) refl
+position_of_name : {X : Type 0} (f : X → List ℕ) (xs : List X) (i : ℕ) (x : X) → are_distinct (map f xs) ≡ true → slice_get xs i ≡ Some x → position (λ y. bytes_eq (f y) (f x)) xs ≡ Some i
+position_of_name f xs i x h is = rw (position_by_name f xs i x h is, lt-ltb i (length xs) (slice_get_within xs i x is)) refl
 
 -- a table, and a column, is found by its name
 pub table_of_name : (tables : List TableDef) (i : ℕ) (table : TableDef) → schema_fault tables ≡ None → slice_get tables i ≡ Some table → table_named tables table.name ≡ Some i
-table_of_name tables i table h is = place_of_name (λ t. t.name) tables i table (names tables h).1 is
+table_of_name tables i table h is = position_of_name (λ t. t.name) tables i table (names tables h).1 is
 
 pub column_of_name : (tables : List TableDef) (i j : ℕ) (table : TableDef) (column : List ℕ × Kind) → schema_fault tables ≡ None → slice_get tables i ≡ Some table → slice_get table.columns j ≡ Some column → column_named tables i column.0 ≡ Some j
 column_of_name tables i j table column h is at =
-    rw is (place_of_name (λ c. c.0) table.columns j column (at_each has_distinct_columns tables i table (names tables h).2 is) at)
+    rw is (position_of_name (λ c. c.0) table.columns j column (at_each has_distinct_columns tables i table (names tables h).2 is) at)
 
 -- a row that fits a table --------------------------------------------------------------------
 
@@ -116,11 +121,13 @@ pub record Fits (table : TableDef) (cell : CellId) (row : Row) : Type 0 where
   pub key : is_key cell.key ≡ true
   pub coordinates : has_coordinates row.shape ≡ true
   pub numbers : list_all is_number row.values ≡ true
-  pub ends : is_zero_segment row.shape ≡ false
+  pub parts : has_zero_part row.shape ≡ false
+  pub vertices : is_bad_path row.shape ≡ false
 
-ends_differ : (b : Bool) → (if b then Some ZeroSegment else None) ≡ None → b ≡ false
-ends_differ true h = cc
-ends_differ false h = refl
+-- a chain of tests that lets pass has not met the first of these faults
+unmet : {E : Type 0} (b : Bool) (e : E) (rest : Option E) → (if b then Some e else rest) ≡ None → (b ≡ false) × (rest ≡ None)
+unmet true e rest h = cc
+unmet false e rest h = (refl, h)
 
 in_range : (cell : CellId) (row : Row) → is_in_range cell row ≡ true → (is_key cell.key ≡ true) × (has_coordinates row.shape ≡ true) × (list_all is_number row.values ≡ true)
 in_range cell row h =
@@ -136,7 +143,9 @@ fits_in table cell row h =
     let e = passed (is_of_form table.shape row.shape) WrongShape _ d.1 in
     let f = passed (is_in_range cell row) OutOfRange _ e.1 in
     let g = in_range cell row f.0 in
-    record { count = eqb-true _ _ a.0; kinds = b.0; short = d.0; form = e.0; key = g.0; coordinates = g.1; numbers = g.2; ends = ends_differ (is_zero_segment row.shape) f.1 }
+    let parts = unmet (has_zero_part row.shape) ZeroSegment _ f.1 in
+    let path = unmet (is_bad_path row.shape) BadPath _ parts.1 in
+    record { count = eqb-true _ _ a.0; kinds = b.0; short = d.0; form = e.0; key = g.0; coordinates = g.1; numbers = g.2; parts = parts.0; vertices = path.0 }
 
 fits_at : (found : Option TableDef) (cell : CellId) (row : Row) → fault_at found cell row ≡ None → (table : TableDef) × (found ≡ Some table) × Fits table cell row
 fits_at None cell row h = cc
@@ -150,17 +159,53 @@ fits_table tables cell row h = fits_at (slice_get tables cell.table) cell row h
 -- what a fit gives ---------------------------------------------------------------------------
 
 -- a key as a number from 1 on
-pub key_of : (key : ℤ) → is_key key ≡ true → (n : ℕ) × (key ≡ pos n) × (1 ≤ n) × (n ≤ 999999999999999)
-key_of (pos n) h = let a = and_parts (nat_le 1 n) (nat_le n 999999999999999) h in (n, refl, leb-true 1 n a.0, leb-true n 999999999999999 a.1)
+pub key_of : (key : ℤ) → is_key key ≡ true → (n : ℕ) × (key ≡ pos n) × (1 ≤ n) × (n ≤ unsigned_abs GREATEST_KEY)
+key_of (pos n) h = let a = and_parts (nat_le 1 n) (nat_le n (unsigned_abs GREATEST_KEY)) h in (n, refl, leb-true 1 n a.0, leb-true n (unsigned_abs GREATEST_KEY) a.1)
 key_of (negsuc n) h = cc
 
 place_in_range : (p : Place) → is_place p ≡ true → InRange p
 place_in_range p h =
     let a = and_parts (is_coordinate p.x) (is_coordinate p.y) h in
-    record { in_x = leb-true (unsigned_abs p.x) 1000000000 a.0; in_y = leb-true (unsigned_abs p.y) 1000000000 a.1 }
+    record { in_x = leb-true (unsigned_abs p.x) GREATEST_COORDINATE a.0; in_y = leb-true (unsigned_abs p.y) GREATEST_COORDINATE a.1 }
 
-both_same : (a b x y : ℤ) → (int_eq a x && int_eq b y) ≡ false → a ≡ x → b ≡ y → ⊥
-both_same a b x y h p q = both_ways (int_eq a x && int_eq b y) h (and_from (int_eq a x) (int_eq b y) ((Decides-int_eq a x).1 p) ((Decides-int_eq b y).1 q))
+places_differ : (p q : Place) → same_place p q ≡ false → Differ p q
+places_differ p q h = λ x y. both_ways (same_place p q) h (and_from (int_eq p.x q.x) (int_eq p.y q.y) ((Decides-int_eq p.x q.x).1 x) ((Decides-int_eq p.y q.y).1 y))
+
+-- a test that no element passes is passed by none
+at_none : {X : Type 0} (p : X → Bool) (xs : List X) (i : ℕ) (x : X) → list_any p xs ≡ false → slice_get xs i ≡ Some x → p x ≡ false
+at_none p [] i x none is = cc
+at_none p (y ∷ ys) zero x none is = let h = or_parts (p y) (list_any p ys) none in cc
+at_none p (y ∷ ys) (suc i) x none is = at_none p ys i x (or_parts (p y) (list_any p ys) none).1 is
+
+-- the ends of each part are in range and differ
+part_ends : (shape : Shape) (n : ℕ) (p q : Place) → has_coordinates shape ≡ true → has_zero_part shape ≡ false → slice_get (parts_of shape) n ≡ Some (p, q) → InRange p × InRange q × Differ p q
+part_ends Bare n p q all none is = cc
+part_ends (At r) n p q all none is = cc
+part_ends (Line r u) zero p q all none is =
+    let a = and_parts (is_place r) (is_place u) all in
+    let same = same_Some (r, u) (p, q) is in
+    let first = ap (λ (e : Place × Place). e.0) same in
+    let second = ap (λ (e : Place × Place). e.1) same in
+    let apart = places_differ r u (or_parts (same_place r u) false none).0 in
+    (subst InRange first (place_in_range r a.0), subst InRange second (place_in_range u a.1), subst (λ e. Differ p e) second (subst (λ e. Differ e u) first apart))
+part_ends (Line r u) (suc n) p q all none is = cc
+part_ends (Chain vertices) n p q all none is =
+    let ends = path_part vertices n (p, q) is in (
+      place_in_range p (at_each is_place vertices n p all ends.0),
+      place_in_range q (at_each is_place vertices (suc n) q all ends.1),
+      places_differ p q (at_none (λ part. same_place part.0 part.1) (path_parts vertices) n (p, q) none is),
+    )
+
+path_length : (vertices : List Place) → is_bad_path (Chain vertices) ≡ false → (LEAST_VERTICES ≤ length vertices) × (length vertices ≤ MOST_VERTICES)
+path_length vertices h =
+    let a = and_parts (nat_le LEAST_VERTICES (length vertices)) (nat_le (length vertices) MOST_VERTICES) (not-false _ h) in
+    (leb-true LEAST_VERTICES (length vertices) a.0, leb-true (length vertices) MOST_VERTICES a.1)
+
+few_parts : (shape : Shape) → is_bad_path shape ≡ false → length (parts_of shape) < MOST_VERTICES
+few_parts Bare h = omega arith
+few_parts (At p) h = omega arith
+few_parts (Line p q) h = omega arith
+few_parts (Chain vertices) h = omega (arith, length-path_parts vertices, (path_length vertices h).1)
 
 -- a value beside its column is of its kind
 kind_at : (columns : List (List ℕ × Kind)) (values : List Value) (i : ℕ) (column : List ℕ × Kind) (value : Value) → are_of_kinds columns values ≡ true → slice_get columns i ≡ Some column → slice_get values i ≡ Some value → is_of_kind column.1 value ≡ true
@@ -205,25 +250,36 @@ module _ (tables : List TableDef) (cell : CellId) (row : Row) (fit : row_fault t
   pub row_key : is_key cell.key ≡ true
   row_key = (fits_table tables cell row fit).2.key
 
-  -- its numbers are within 64 bits, its texts of at most 200 bytes
+  -- its numbers are within 64 bits, its texts of no more bytes than the most
   pub row_numbers : list_all is_number row.values ≡ true
   row_numbers = (fits_table tables cell row fit).2.numbers
 
   pub row_number : (i : ℕ) (n : ℤ) → slice_get row.values i ≡ Some (Int n) → is_i64 n ≡ true
   row_number i n is = at_each is_number row.values i (Int n) row_numbers is
 
-  pub row_text : (i : ℕ) (text : List ℕ) → slice_get row.values i ≡ Some (Words text) → length text ≤ 200
-  row_text i text is = leb-true (length text) 200 (at_each is_short row.values i (Words text) (fits_table tables cell row fit).2.short is)
+  pub row_text : (i : ℕ) (text : List ℕ) → slice_get row.values i ≡ Some (Words text) → length text ≤ MOST_TEXT_BYTES
+  row_text i text is = leb-true (length text) MOST_TEXT_BYTES (at_each is_short row.values i (Words text) (fits_table tables cell row fit).2.short is)
 
-  -- its places are in range, and the ends of a segment differ
+  -- its places are in range, and the ends of each of its parts differ
+  pub row_part : (n : ℕ) (p q : Place) → slice_get (parts_of row.shape) n ≡ Some (p, q) → InRange p × InRange q × Differ p q
+  row_part n p q is = let f = (fits_table tables cell row fit).2 in part_ends row.shape n p q f.coordinates f.parts is
+
   pub row_point : (p : Place) → row.shape ≡ At p → InRange p
   row_point p is = place_in_range p (subst (λ s. has_coordinates s ≡ true) is (fits_table tables cell row fit).2.coordinates)
 
+  -- a part fewer than the most vertices, at the most
+  pub row_parts : length (parts_of row.shape) < MOST_VERTICES
+  row_parts = few_parts row.shape (fits_table tables cell row fit).2.vertices
+
   pub row_line : (p q : Place) → row.shape ≡ Line p q → InRange p × InRange q × Differ p q
-  row_line p q is =
-      let f = (fits_table tables cell row fit).2 in
-      let a = and_parts (is_place p) (is_place q) (subst (λ s. has_coordinates s ≡ true) is f.coordinates) in
-      (place_in_range p a.0, place_in_range q a.1, both_same p.x p.y q.x q.y (subst (λ s. is_zero_segment s ≡ false) is f.ends))
+  row_line p q is = row_part 0 p q (ap (λ s. slice_get (parts_of s) 0) is)
+
+  pub row_vertex : (vertices : List Place) (n : ℕ) (p : Place) → row.shape ≡ Chain vertices → slice_get vertices n ≡ Some p → InRange p
+  row_vertex vertices n p is at = place_in_range p (at_each is_place vertices n p (subst (λ s. has_coordinates s ≡ true) is (fits_table tables cell row fit).2.coordinates) at)
+
+  -- a path has no fewer vertices than the fewest, and no more than the most
+  pub row_vertices : (vertices : List Place) → row.shape ≡ Chain vertices → (LEAST_VERTICES ≤ length vertices) × (length vertices ≤ MOST_VERTICES)
+  row_vertices vertices is = path_length vertices (subst (λ s. is_bad_path s ≡ false) is (fits_table tables cell row fit).2.vertices)
 
   -- it has its table's form, and a value of its kind for each column
   pub row_fits : (table : TableDef) → slice_get tables cell.table ≡ Some table → Fits table cell row

@@ -4,9 +4,9 @@ use Rattle.std.specs.Coded.{Coded}
 use Rattle.std.specs.FinMap as finite
 use Rattle.clr_rows.specs.declared.cells.CellId.{CellId}
 use Rattle.clr_rows.specs.declared.rows.Row.{Row}
-use Rattle.clr_rows.specs.declared.changes.Change.{Change}
+use Rattle.clr_rows.specs.declared.cells.Change.{Change}
 use Rattle.clr_rows.specs.contracts.rows.Row as row_type
-use Rattle.clr_rows.specs.contracts.changes.Change as change_type
+use Rattle.clr_rows.specs.contracts.cells.Change as change_type
 use Rattle.clr_rows.specs.Cells.{cell_cmp, coded_cell}
 use Rattle.clr_rows.specs.Same.{same}
 
@@ -68,7 +68,8 @@ change_of base current cell = record { before = row_at base cell; after = row_at
 
 -- the changed cells, with both rows
 unfoldable pub changes : Content → Content → Changes
-changes base current = finite.from_entries (map (λ cell. (cell, change_of base current cell)) (filter (is_changed base current) (cells_of base ++ cells_of current)))
+changes base current =
+    finite.from_entries (map (λ cell. (cell, change_of base current cell)) (filter (is_changed base current) (cells_of base ++ cells_of current)))
 
 -- the rows after the changes, by cell
 abbrev pub rows_after : Changes → List (CellId × Option Row)

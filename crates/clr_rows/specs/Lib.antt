@@ -1,8 +1,10 @@
 pub mod Cells
 pub mod Contents
+pub mod Held
 pub mod Laws
 pub mod Names
 pub mod Numbers
+pub mod Parts
 pub mod Places
 pub mod Ranges
 pub mod Same

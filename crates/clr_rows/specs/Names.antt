@@ -2,6 +2,7 @@
 use Rattle.std.specs.Prelude.{ℕ, Bool, false, List, [], ◌∷◌, length, ◌&&◌, ◌||◌, ◌==◌, nat_le, codes}
 use Rattle.std.specs.List.{list_all}
 use Rattle.std.specs.Str.{bytes_eq}
+use Rattle.clr_rows.specs.declared.limits.TheConstants.{MOST_NAME_BYTES}
 
 abbrev pub is_between : ℕ → ℕ → ℕ → Bool
 is_between low c high = nat_le low c && nat_le c high
@@ -18,9 +19,9 @@ abbrev pub begins_with_letter : List ℕ → Bool
 begins_with_letter [] = false
 begins_with_letter (c ∷ cs) = is_letter c
 
--- 1 to 30 bytes: a letter, and then letters, digits or `_`
+-- no more bytes than the most: a letter, and then letters, digits or `_`
 unfoldable pub is_good_name : List ℕ → Bool
-is_good_name name = begins_with_letter name && nat_le (length name) 30 && list_all is_name_byte name
+is_good_name name = begins_with_letter name && nat_le (length name) MOST_NAME_BYTES && list_all is_name_byte name
 
 -- a name that a column may have: `KEY` stands for the primary key
 abbrev pub is_key_word : List ℕ → Bool

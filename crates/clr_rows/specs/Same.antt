@@ -4,7 +4,7 @@ use Rattle.std.specs.Ordering.{int_eq}
 use Rattle.std.specs.Str.{bytes_eq}
 use Rattle.clr_rows.specs.declared.places.Place.{Place}
 use Rattle.clr_rows.specs.declared.places.Shape.{Shape}
-use Rattle.clr_rows.specs.declared.places.Shape.TheVariants.{Bare, At, Line}
+use Rattle.clr_rows.specs.declared.places.Shape.TheVariants.{Bare, At, Line, Chain}
 use Rattle.clr_rows.specs.declared.rows.Value.{Value}
 use Rattle.clr_rows.specs.declared.rows.Value.TheVariants.{Int, Words}
 use Rattle.clr_rows.specs.declared.rows.Row.{Row}
@@ -24,10 +24,17 @@ same_values (v ∷ vs) (w ∷ ws) = same_value v w && same_values vs ws
 abbrev pub same_place : Place → Place → Bool
 same_place a b = int_eq a.x b.x && int_eq a.y b.y
 
+abbrev pub same_places : List Place → List Place → Bool
+same_places [] [] = true
+same_places [] (q ∷ qs) = false
+same_places (p ∷ ps) [] = false
+same_places (p ∷ ps) (q ∷ qs) = same_place p q && same_places ps qs
+
 abbrev pub same_shape : Shape → Shape → Bool
 same_shape Bare Bare = true
 same_shape (At a) (At b) = same_place a b
 same_shape (Line a b) (Line c d) = same_place a c && same_place b d
+same_shape (Chain ps) (Chain qs) = same_places ps qs
 same_shape _ _ = false
 
 abbrev pub same_row : Row → Row → Bool

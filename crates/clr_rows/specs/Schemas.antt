@@ -1,5 +1,6 @@
 -- Schemas: which tables make one, and which rows fit one.
-use Rattle.std.specs.Prelude.{◌≡◌, ℕ, ℤ, pos, Bool, true, false, not, List, [], ◌∷◌, ◌&&◌, ◌==◌, length, map, nat_le, int_le, Option, Some, None, slice_get, position, unsigned_abs, if◌then◌else◌, Result, Ok, Err}
+use Rattle.std.specs.Prelude.{◌≡◌, ℕ, ℤ, pos, Bool, true, false, not, List, [], ◌∷◌, ◌&&◌, ◌==◌, length, map}
+use Rattle.std.specs.Prelude.{nat_le, int_le, Option, Some, None, slice_get, position, unsigned_abs, if◌then◌else◌, Result, Ok, Err}
 use Rattle.std.specs.List.{list_all, list_any, zip}
 use Rattle.std.specs.Option.{option_and_then}
 use Rattle.std.specs.Str.{bytes_eq}
@@ -11,10 +12,12 @@ use Rattle.clr_rows.specs.declared.tables.Form.TheVariants as form
 use Rattle.clr_rows.specs.declared.faults.SchemaFault.{SchemaFault}
 use Rattle.clr_rows.specs.declared.faults.SchemaFault.TheVariants as unfit
 use Rattle.clr_rows.specs.declared.faults.RowFault.{RowFault}
-use Rattle.clr_rows.specs.declared.faults.RowFault.TheVariants.{NoTable, WrongCount, WrongKind, WordsTooLong, WrongShape, OutOfRange, ZeroSegment}
+use Rattle.clr_rows.specs.declared.faults.RowFault.TheVariants.{NoTable, WrongCount, WrongKind, WordsTooLong, WrongShape, OutOfRange, ZeroSegment, BadPath}
+use Rattle.clr_rows.specs.declared.limits.TheConstants.{MOST_TABLES, MOST_COLUMNS, MOST_TEXT_BYTES}
+use Rattle.clr_rows.specs.declared.limits.TheConstants.{GREATEST_KEY, GREATEST_COORDINATE, LEAST_VERTICES, MOST_VERTICES}
 use Rattle.clr_rows.specs.declared.places.Place.{Place}
 use Rattle.clr_rows.specs.declared.places.Shape.{Shape}
-use Rattle.clr_rows.specs.declared.places.Shape.TheVariants.{Bare, At, Line}
+use Rattle.clr_rows.specs.declared.places.Shape.TheVariants.{Bare, At, Line, Chain}
 use Rattle.clr_rows.specs.declared.rows.Value.{Value}
 use Rattle.clr_rows.specs.declared.rows.Value.TheVariants.{Int, Words}
 use Rattle.clr_rows.specs.declared.rows.Row.{Row}
@@ -22,6 +25,7 @@ use Rattle.clr_rows.specs.declared.cells.CellId.{CellId}
 use Rattle.clr_rows.specs.Names.{is_good_name, is_key_word}
 use Rattle.clr_rows.specs.Contents.{Content, row_at}
 use Rattle.clr_rows.specs.Numbers.{is_i64}
+use Rattle.clr_rows.specs.Parts.{parts_of}
 use Rattle.clr_rows.specs.Same.{same_place}
 
 -- a call's answer, where a fault answers and none lets pass
@@ -40,7 +44,7 @@ are_distinct [] = true
 are_distinct (name ∷ names) = not (list_any (bytes_eq name) names) && are_distinct names
 
 abbrev pub has_room : TableDef → Bool
-has_room table = nat_le (length table.columns) 16
+has_room table = nat_le (length table.columns) MOST_COLUMNS
 
 abbrev pub is_column_name : List ℕ → Bool
 is_column_name name = is_good_name name && not (is_key_word name)
@@ -54,7 +58,7 @@ has_distinct_columns table = are_distinct (names_of table.columns)
 -- the first test that fails, each made over all tables before the next
 unfoldable pub schema_fault : List TableDef → Option SchemaFault
 schema_fault tables =
-    if not (nat_le (length tables) 32 && list_all has_room tables) then Some unfit.TooMany
+    if not (nat_le (length tables) MOST_TABLES && list_all has_room tables) then Some unfit.TooMany
     else (if not (list_all has_good_names tables) then Some unfit.BadName
     else (if not (are_distinct (map (λ t. t.name) tables) && list_all has_distinct_columns tables) then Some unfit.NameTaken
     else None))
@@ -80,22 +84,23 @@ is_of_kind _ _ = false
 abbrev pub are_of_kinds : List (List ℕ × Kind) → List Value → Bool
 are_of_kinds columns values = list_all (λ p. is_of_kind p.0.1 p.1) (zip columns values)
 
--- at most 200 bytes
+-- no more bytes than the most
 abbrev pub is_short : Value → Bool
 is_short (Int n) = true
-is_short (Words text) = nat_le (length text) 200
+is_short (Words text) = nat_le (length text) MOST_TEXT_BYTES
 
 abbrev pub is_of_form : Form → Shape → Bool
 is_of_form form.Bare Bare = true
 is_of_form form.Point (At p) = true
 is_of_form form.Segment (Line p q) = true
+is_of_form form.Path (Chain vertices) = true
 is_of_form _ _ = false
 
 abbrev pub is_key : ℤ → Bool
-is_key key = int_le (pos 1) key && int_le key (pos 999999999999999)
+is_key key = int_le (pos 1) key && int_le key GREATEST_KEY
 
 abbrev pub is_coordinate : ℤ → Bool
-is_coordinate z = nat_le (unsigned_abs z) 1000000000
+is_coordinate z = nat_le (unsigned_abs z) GREATEST_COORDINATE
 
 abbrev pub is_place : Place → Bool
 is_place p = is_coordinate p.x && is_coordinate p.y
@@ -104,16 +109,21 @@ abbrev pub has_coordinates : Shape → Bool
 has_coordinates Bare = true
 has_coordinates (At p) = is_place p
 has_coordinates (Line p q) = is_place p && is_place q
+has_coordinates (Chain vertices) = list_all is_place vertices
 
 -- a whole number within 64 bits, as every number of the program is
 abbrev pub is_number : Value → Bool
 is_number (Int n) = is_i64 n
 is_number (Words text) = true
 
-abbrev pub is_zero_segment : Shape → Bool
-is_zero_segment Bare = false
-is_zero_segment (At p) = false
-is_zero_segment (Line p q) = same_place p q
+-- a part ends where it begins
+abbrev pub has_zero_part : Shape → Bool
+has_zero_part shape = list_any (λ part. same_place part.0 part.1) (parts_of shape)
+
+-- a path of too few or too many vertices
+abbrev pub is_bad_path : Shape → Bool
+is_bad_path (Chain vertices) = not (nat_le LEAST_VERTICES (length vertices) && nat_le (length vertices) MOST_VERTICES)
+is_bad_path _ = false
 
 -- the key, each coordinate and each number is within its range
 abbrev pub is_in_range : CellId → Row → Bool
@@ -127,8 +137,9 @@ fault_in table cell row =
     else (if not (list_all is_short row.values) then Some WordsTooLong
     else (if not (is_of_form table.shape row.shape) then Some WrongShape
     else (if not (is_in_range cell row) then Some OutOfRange
-    else (if is_zero_segment row.shape then Some ZeroSegment
-    else None)))))
+    else (if has_zero_part row.shape then Some ZeroSegment
+    else (if is_bad_path row.shape then Some BadPath
+    else None))))))
 
 abbrev pub fault_at : Option TableDef → CellId → Row → Option RowFault
 fault_at None cell row = Some NoTable

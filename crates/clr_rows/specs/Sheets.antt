@@ -1,10 +1,11 @@
 -- What a sheet's entries mean.
-use Rattle.std.specs.Prelude.{T, List}
+use Rattle.std.specs.Prelude.{T, List, [], Option, Some, None, map, filter, not, is_some}
 use Rattle.std.specs.FinMap as finite
 use Rattle.clr_rows.specs.declared.cells.CellId.{CellId}
+use Rattle.clr_rows.specs.declared.places.Shape.TheVariants.{Bare}
 use Rattle.clr_rows.specs.declared.rows.Row.{Row}
 use Rattle.clr_rows.specs.Cells.{cell_cmp}
-use Rattle.clr_rows.specs.Contents.{Content}
+use Rattle.clr_rows.specs.Contents.{Content, row_at}
 use Rattle.clr_rows.specs.Ranges.{AreWithin}
 
 abbrev pub content_of : List (CellId × Row) → Content
@@ -14,3 +15,27 @@ content_of entries = finite.from_sorted entries
 pub record IsSound (entries : List (CellId × Row)) : Type 0 where
   pub ascending : T (finite.is_sorted cell_cmp entries)
   pub within : AreWithin (content_of entries)
+
+-- the row at a cell that is to get another
+abbrev pub placeholder : Row
+placeholder = record { values = []; shape = Bare }
+
+-- no row at each of these cells
+abbrev pub with_none : List CellId → List (CellId × Option Row)
+with_none cells = map (λ cell. (cell, None)) cells
+
+-- a placeholder at each of these cells
+abbrev pub with_placeholders : List CellId → List (CellId × Option Row)
+with_placeholders cells = map (λ cell. (cell, Some placeholder)) cells
+
+-- these rows at their cells
+abbrev pub with_rows : List (CellId × Row) → List (CellId × Option Row)
+with_rows entries = map (λ e. (e.0, Some e.1)) entries
+
+-- the cells of a list
+abbrev pub named_cells : List (CellId × Option Row) → List CellId
+named_cells rows = map (λ e. e.0) rows
+
+-- those of some cells that have no row
+abbrev pub missing : Content → List CellId → List CellId
+missing content cells = filter (λ cell. not (is_some (row_at content cell))) cells

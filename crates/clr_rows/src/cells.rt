@@ -13,3 +13,10 @@ pub struct Held<'a> {
     pub cell: CellId,
     pub row: &'a Row,
 }
+
+/// A change at a cell: the row that stood there, or none, and the row that stands there, or none.
+#[derive(Debug, Drop)]
+pub struct Change {
+    pub before: Option<Row>,
+    pub after: Option<Row>,
+}

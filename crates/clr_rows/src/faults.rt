@@ -25,6 +25,8 @@ pub enum RowFault {
     /// A key outside 1 to 999,999,999,999,999, or a coordinate outside -1,000,000,000 to
     /// 1,000,000,000 millimetres.
     OutOfRange = 6,
-    /// A segment whose ends are one point.
+    /// A segment whose ends are one point, or a path with two equal vertices in a row.
     ZeroSegment = 7,
+    /// A path of fewer than 2 or more than 32 vertices.
+    BadPath = 8,
 }

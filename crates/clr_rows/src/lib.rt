@@ -2,22 +2,27 @@
 #![tactic(auto)]
 
 mod cells;
-mod changes;
 mod faults;
 mod laws;
+mod limits;
 mod names;
+mod numbers;
 mod places;
 mod rows;
 mod schemas;
 mod sheets;
 mod tables;
 mod texts;
+mod vertices;
 mod views;
 
-pub use cells::{CellId, Held};
-pub use changes::Change;
+pub use cells::{CellId, Change, Held};
 pub use faults::{RowFault, SchemaFault};
 pub use laws::{changes_law, over_law};
+pub use limits::{
+    GREATEST_COORDINATE, GREATEST_KEY, LEAST_VERTICES, MOST_COLUMNS, MOST_NAME_BYTES, MOST_TABLES,
+    MOST_TEXT_BYTES, MOST_VERTICES,
+};
 pub use names::good_name;
 pub use places::{Place, Shape};
 pub use rows::{Row, Value, Values};
@@ -25,7 +30,5 @@ pub use schemas::Schema;
 pub use sheets::Sheet;
 pub use tables::{Columns, Form, Kind, TableDef};
 pub use texts::Words;
+pub use vertices::Vertices;
 pub use views::RowView;
-
-#[cfg(test)]
-mod tests;

@@ -2,6 +2,8 @@ ghost use Rattle.std.specs.Prelude.{◌≡◌};
 ghost use Rattle.std.specs.List.{list_all};
 ghost use Rattle.clr_rows.specs.Names.{is_good_name, is_name_byte};
 
+use crate::limits::MOST_NAME_BYTES;
+
 fn is_name_byte(byte: u8) -> bool
     ensures { result ≡ is_name_byte byte }
 {
@@ -22,23 +24,9 @@ pub fn good_name(name: &str) -> bool
 {
     let bytes = name.as_bytes();
     match bytes.first() {
-        Some(first) => { first.is_ascii_alphabetic() && bytes.len() <= 30 && are_name_bytes(bytes) }
+        Some(first) => {
+            first.is_ascii_alphabetic() && bytes.len() <= MOST_NAME_BYTES && are_name_bytes(bytes)
+        }
         None => false,
-    }
-}
-
-#[cfg(test)]
-mod tests {
-    use super::*;
-
-    #[test]
-    fn names(rt: HostRuntime) {
-        for name in ["a", "Z9_", "LIVE", "KEY", "a23456789012345678901234567890"] {
-            assert!(rt; good_name(name), "{name}");
-        }
-        let long = "a234567890123456789012345678901";
-        for name in ["", "1a", "_a", "a b", "a-b", "é", "aé", long] {
-            assert!(rt; !good_name(name), "{name}");
-        }
     }
 }

@@ -1,4 +1,7 @@
-ghost use Rattle.std.specs.Prelude.{◌≡◌, ◌↔◌, IsTrue};
+ghost use Rattle.std.specs.Prelude.{◌≡◌, ◌↔◌, IfOk, IsTrue};
+
+use crate::vertices::Vertices;
+use std::alloc::AllocError;
 
 /// A point of the plane, in whole millimetres.
 #[derive(Clone, Copy, Debug, PartialEq, Eq)]
@@ -16,16 +19,30 @@ impl Place {
     }
 }
 
-/// The shape of a row: none, a point, or a segment with its two ends.
-#[derive(Clone, Copy, Debug, PartialEq, Eq)]
+/// The shape of a row: none, a point, a segment with its two ends, or a path.
+#[derive(Debug, Drop)]
 pub enum Shape {
     Bare,
     At(Place),
     Line(Place, Place),
+    Chain(Vertices),
 }
 
 impl Shape {
-    /// Whether both shapes are the same, the ends of a segment in their order.
+    /// A second shape that is the same. It fails for want of memory alone.
+    pub fn copy(&self) -> Result<Shape, AllocError>
+        ensures { IfOk result (λ shape. shape ≡ self.now) }
+    {
+        match self {
+            Shape::Bare => Ok(Shape::Bare),
+            Shape::At(place) => Ok(Shape::At(*place)),
+            Shape::Line(first, second) => Ok(Shape::Line(*first, *second)),
+            Shape::Chain(vertices) => Ok(Shape::Chain(vertices.copy()?)),
+        }
+    }
+
+    /// Whether both shapes are the same, the ends of a segment and the vertices of a path in their
+    /// order.
     pub fn same(&self, other: &Shape) -> bool
         ensures { IsTrue result ↔ (self.now ≡ other.now) }
     {
@@ -33,6 +50,7 @@ impl Shape {
             (Shape::Bare, Shape::Bare) => true,
             (Shape::At(a), Shape::At(b)) => a.same(b),
             (Shape::Line(a, b), Shape::Line(c, d)) => a.same(c) && b.same(d),
+            (Shape::Chain(a), Shape::Chain(b)) => a.same(b),
             _ => false,
         }
     }

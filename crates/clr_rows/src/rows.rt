@@ -114,7 +114,7 @@ impl Row {
     {
         Ok(Row {
             values: self.values.copy()?,
-            shape: self.shape,
+            shape: self.shape.copy()?,
         })
     }
 

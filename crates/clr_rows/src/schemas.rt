@@ -7,6 +7,7 @@ mod table_checks;
 
 use crate::cells::CellId;
 use crate::faults::{RowFault, SchemaFault};
+use crate::limits::MOST_TABLES;
 use crate::rows::Row;
 use crate::schemas::row_checks::{check_row, is_key};
 use crate::schemas::table_checks::check_tables;
@@ -49,12 +50,20 @@ impl Schema {
         }
     }
 
+    /// The tables in the order of their numbers.
+    pub fn tables(&self) -> &[TableDef]
+        ensures value { result.now ≡ self.now }
+        ensures sound { schema_fault self.now ≡ None }
+    {
+        self.tables.as_slice()
+    }
+
     /// The number of the table of this name, or none. Case counts.
     pub fn table(&self, name: &str) -> Option<u16>
         ensures value { result ≡ table_named self.now name.now }
-        ensures small { length self.now ≤ 32 }
+        ensures small { length self.now ≤ MOST_TABLES }
     {
-        match table_position(self.tables.as_slice(), name) {
+        match table_position(self.tables(), name) {
             Some(at) => Some(at as u16),
             None => None,
         }
@@ -86,7 +95,7 @@ impl Schema {
     pub fn def(&self, table: u16) -> Option<&TableDef>
         ensures value { option_copied result ≡ slice_get self.now table }
         ensures sound { schema_fault self.now ≡ None }
-        ensures small { length self.now ≤ 32 }
+        ensures small { length self.now ≤ MOST_TABLES }
     {
         self.tables.get(table as usize)
     }
@@ -108,7 +117,8 @@ impl Schema {
     /// `WrongCount` for another number of values than columns; `WrongKind`; `WordsTooLong` for
     /// a text of more than 200 bytes; `WrongShape`; `OutOfRange` for a key outside 1 to
     /// 999,999,999,999,999 or a coordinate beyond 1,000,000,000 millimetres either way;
-    /// `ZeroSegment` for a segment whose ends are one point.
+    /// `ZeroSegment` for a segment whose ends are one point, or a path with two equal vertices
+    /// in a row; `BadPath` for a path of fewer than 2 or more than 32 vertices.
     #[tactic(auto, unfolding(crate::specs::Schemas::row_fault))]
     pub fn fits(&self, cell: CellId, row: &Row) -> Result<(), RowFault>
         ensures { Answers result (row_fault self.now cell row.now) }
@@ -133,6 +143,3 @@ fn column_position(columns: &[(Words, Kind)], name: &str) -> Option<usize>
 {
     columns.iter().position(|column| column.0.as_str() == name)
 }
-
-#[cfg(test)]
-mod tests;

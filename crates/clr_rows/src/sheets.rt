@@ -1,20 +1,23 @@
-ghost use Rattle.std.specs.Prelude.{◌≡◌, ◌<◌, length, slice_get, true, Some, None, IfOk, OnOk, OnErr, IsSome, IsOk};
+ghost use Rattle.std.specs.Prelude.{◌≡◌, ◌<◌, length, slice_get, Some, None, IfOk, OnOk, OnErr, IsSome, IsOk};
 ghost use Rattle.std.specs.FinMap as finite;
 ghost use Rattle.std.specs.Option.{option_copied};
 ghost use Rattle.std.specs.BTreeMap.{keys};
-ghost use Rattle.std.specs.List.{list_all};
-ghost use Rattle.std.specs.Map.Iter.{ShowsInOrder, deref_pair};
-ghost use Rattle.clr_rows.specs.Contents.{Content, row_at, cells_of, no_rows, over, set_cell};
-ghost use Rattle.clr_rows.specs.Ranges.{is_within, is_entry_within, AreWithin};
+ghost use Rattle.std.specs.Map.Iter.{GivesInOrder, ShowsInOrder, deref_pair};
+ghost use Rattle.clr_rows.specs.Contents.{Content, row_at, cells_of, no_rows, over};
+ghost use Rattle.clr_rows.specs.Ranges.{AreWithin};
 ghost use Rattle.clr_rows.specs.declared.cells.CellId.{CellId as Cell};
 ghost use Rattle.clr_rows.specs.declared.rows.Row.{Row as OneRow};
 
+mod writes;
+
 use crate::cells::CellId;
+use crate::numbers::read_row;
 use crate::rows::Row;
+use crate::sheets::writes::write_all;
 use crate::views::RowView;
 use std::alloc::{AllocError, Global};
 use std::collections::BTreeMap;
-use std::collections::btree_map::Iter;
+use std::collections::btree_map::{IntoIter, Iter};
 use std::marker::Model;
 
 /// A content: a finite map from cells to rows.
@@ -55,8 +58,7 @@ impl Sheet {
 
     /// The row at a cell, or none.
     pub fn get(&self, cell: CellId) -> Option<&Row>
-        ensures row { option_copied result ≡ row_at self.now cell }
-        ensures within { AreWithin self.now }
+        ensures { option_copied result ≡ row_at self.now cell }
     {
         self.rows.get(&cell)
     }
@@ -64,47 +66,24 @@ impl Sheet {
     /// Puts a row at a cell, and answers the row that stood there. It fails for want of memory
     /// alone, never where the cell has a row, and changes nothing then.
     pub fn put(&mut self, cell: CellId, row: Row) -> Result<Option<Row>, AllocError>
-        requires { is_within cell row ≡ true }
         ensures before { IfOk result (λ before. before ≡ row_at self.old cell) }
         ensures ok { OnOk result (self.new ≡ finite.insert self.old cell row) }
         ensures err { OnErr result (self.new ≡ self.old) }
         ensures held { IsSome (row_at self.old cell) → IsOk result }
     {
+        read_row(cell, &row);
         let before = self.rows.insert(cell, row)?;
         Ok(before)
     }
 
-    /// Sets a cell to a row, or to none.
-    fn set(&mut self, cell: CellId, row: Option<Row>) -> Result<(), AllocError>
-        requires { is_entry_within (cell, row) ≡ true }
-        ensures ok { OnOk result (self.new ≡ set_cell self.old cell row) }
-        ensures err { OnErr result (self.new ≡ self.old) }
-    {
-        match row {
-            Some(row) => {
-                self.put(cell, row)?;
-            }
-            None => {
-                self.take(cell);
-            }
-        }
-        Ok(())
-    }
-
     /// Puts rows, or none, over this content at some cells, one after another, all of them or
-    /// nothing: it fails for want of memory alone, and changes nothing then.
-    #[tactic(auto, unfolding(crate::specs::Contents::over))]
+    /// nothing: it fails for want of memory alone, and changes nothing then. Its cost goes by the
+    /// rows that it puts.
     pub fn put_all(&mut self, cells: Vec<(CellId, Option<Row>)>) -> Result<(), AllocError>
-        requires { list_all is_entry_within cells.items ≡ true }
         ensures ok { OnOk result (self.new ≡ over self.old cells.items) }
         ensures err { OnErr result (self.new ≡ self.old) }
     {
-        let mut sheet = self.copy()?;
-        for (cell, row) in cells {
-            sheet.set(cell, row)?;
-        }
-        *self = sheet;
-        Ok(())
+        write_all(self, cells)
     }
 
     /// Takes the row at a cell away, and answers it, or none.
@@ -122,11 +101,11 @@ impl Sheet {
         self.rows.len()
     }
 
-    /// The cell of the row at a place in the order of cells, which is found by going over the
+    /// The cell of the row at a position in the order of cells, which is found by going over the
     /// rows before it.
     pub fn cell_at(&self, at: usize) -> CellId
         requires { at < length (cells_of self.now) }
-        ensures place { slice_get (cells_of self.now) at ≡ Some result }
+        ensures position { slice_get (cells_of self.now) at ≡ Some result }
         ensures held { IsSome (row_at self.now result) }
     {
         *key_at(&self.rows, at).unwrap()
@@ -139,6 +118,14 @@ impl Sheet {
         ensures within { AreWithin self.now }
     {
         self.rows.iter()
+    }
+
+    /// The cells with their rows, in the order of cells, by value.
+    fn into_entries(self) -> IntoIter<CellId, Row>
+        ensures rest { result ≡ finite.entries self }
+        ensures runs { GivesInOrder (Cell × OneRow) }
+    {
+        self.rows.into_iter()
     }
 
     /// A second sheet of the same rows. It fails for want of memory alone.

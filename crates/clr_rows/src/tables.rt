@@ -16,6 +16,7 @@ pub enum Form {
     Bare,
     Point,
     Segment,
+    Path,
 }
 
 /// The columns of a table, each with its name and kind.
@@ -46,6 +47,13 @@ impl Columns {
         ensures { result.now ≡ self.now }
     {
         self.list.as_slice()
+    }
+
+    /// The list back again.
+    pub fn into_vec(self) -> Vec<(Words, Kind)>
+        ensures { result.items ≡ self }
+    {
+        self.list
     }
 }
 

@@ -1,7 +1,6 @@
 ghost use Rattle.std.specs.Prelude.{◌≡◌};
 ghost use Rattle.std.specs.Option.{option_copied};
 ghost use Rattle.clr_rows.specs.Contents.{Content, row_at};
-ghost use Rattle.clr_rows.specs.Ranges.{AreWithin};
 
 use crate::cells::CellId;
 use crate::rows::Row;
@@ -12,6 +11,5 @@ pub trait RowView {
 
     /// The row at a cell, or none.
     fn row(&self, cell: CellId) -> Option<&Row>
-        ensures row { option_copied result ≡ row_at (content self.now) cell }
-        ensures within { AreWithin (content self.now) };
+        ensures { option_copied result ≡ row_at (content self.now) cell };
 }

@@ -1,35 +1,39 @@
 -- The broken needs that are listed for a content are exactly those that its rows have, in order.
-use Rattle.std.proofs.Common.{◌≡◌, ◌⊎◌, inl, inr, ℕ, zero, suc, ◌+◌, ◌<◌, Bool, true, false, cond, not, ◌&&◌, T, List, [], ◌∷◌, ◌++◌, length, map, filter, Option, Some, None, slice_get, refl, sym, ap, subst, ◌∙◌, arith, add-one, All}
-use Rattle.std.proofs.lemmas.Bool.{and_parts, false≢true, lt-ltb, cases_lt}
+use Rattle.std.proofs.Common.{◌≡◌, ◌⊎◌, inl, inr, ℕ, zero, suc, ◌<◌, Bool, true, false, cond, not, T, List, [], ◌∷◌, length, map, filter, Option, Some, None, slice_get, refl, sym, ap, subst, ◌∙◌, arith, All}
+use Rattle.std.proofs.lemmas.Bool.{and_parts, false≢true, cases_lt}
 use Rattle.std.proofs.lemmas.Cmp.{nat_cmp_total}
 use Rattle.std.proofs.lemmas.List.Elements.{All-nil, All-cons}
 use Rattle.std.proofs.lemmas.List.Kept.{IsStrictlySortedBy-filter}
 use Rattle.std.specs.Cmp.{Equal-is, tied_itself}
+use Rattle.std.specs.Cmp.Lexicographic.{options_total}
 use Rattle.std.specs.FinMap.{entries, find, get-entries, entries_sorted, is_sorted}
 use Rattle.std.specs.FinMap.Entries.{below_all}
 use Rattle.std.specs.List.{list_any}
 use Rattle.std.specs.List.Sorted.{IsStrictlySortedBy}
 use Rattle.std.specs.Option.{option_map, option_cmp}
-use Rattle.std.specs.Ordering.{eq_by_cmp, is_eq, is_lt, is_gt, nat_cmp, ordering_reverse}
+use Rattle.std.specs.Ordering.{eq_by_cmp, is_eq, is_lt, is_gt, ordering_reverse}
 use Rattle.std.specs.declared.cmp.Ordering.{Ordering}
 use Rattle.std.specs.declared.cmp.Ordering.TheVariants.{Less, Equal, Greater}
 use Rattle.clr_rows.specs.declared.cells.CellId.{CellId}
 use Rattle.clr_rows.specs.declared.rows.Row.{Row}
 use Rattle.clr_rows.specs.Cells.{cell_cmp}
 use Rattle.clr_rows.specs.Contents.{Content, row_at}
+use Rattle.clr_rows.proofs.Tests.{first, second, less}
 use Rattle.clr_rows.proofs.CellOrder.{cell_cmp_total, cell_cmp_exact}
-use Rattle.clr_rules.specs.declared.broken.Broken.{Broken}
+use Rattle.clr_rules.specs.declared.needs.Broken.{Broken}
 use Rattle.clr_rules.specs.declared.rules.Rule.{Rule}
-use Rattle.clr_rules.specs.Sides.{Standing}
-use Rattle.clr_rules.specs.Calls.{calls, serves}
-use Rattle.clr_rules.specs.Calls as call
+use Rattle.clr_rows.specs.Held.{Held}
+use Rattle.clr_rules.specs.declared.needs.Ask.{Ask}
+use Rattle.clr_rules.specs.Calls.{asks, calls, serves}
 use Rattle.clr_rules.specs.Books.{FitsCell, FitTogether, FitsContent}
 use Rattle.clr_rules.specs.Laws.{BrokenLaw}
-use Rattle.clr_rules.specs.Needs.{Stands, StandsBeside, IsNeed, IsMet, broken_cmp, broken_at, is_after, choices, is_broken, broken_from, broken_of, broken_below, rows_in, broken, IsBroken, IsFirstBroken}
-use Rattle.clr_rules.proofs.Elements.{Among, among_left, among_right, among_either, kept_among, among_kept, any_by, some_of, contained, among, each_of, all_by, mapped_among, among_mapped, flat_among, among_flat, AllBelow, rising_joined, rising_flat, rising_mapped}
+use Rattle.clr_rules.specs.Needs.{ask_of, broken_between, Stands, StandsBeside, IsNeed, IsMet, broken_cmp, broken_at, is_after, choices, is_broken, broken_from, broken_of, broken_below, rows_in, broken, IsBroken, IsFirstBroken}
+use Rattle.clr_rules.proofs.AskLemmas.{ask_cmp, less_number, asks_rise, asked, asked_rule, rule_there}
+use Rattle.clr_rules.proofs.BrokenOrder.{broken_total}
+use Rattle.clr_rules.proofs.Elements.{clash, Among, among_left, among_right, among_either, kept_among, among_kept, any_by, some_of, contained, among, each_of, all_by, mapped_among, among_mapped, flat_among, among_flat, AllBelow, rising_joined, rising_flat, rising_mapped}
 
 -- the rows of a content, as a list and by cell ------------------------------------------------
-found : (q : CellId) (r : Row) (es : List Standing) → find cell_cmp q es ≡ Some r → Among (q, r) es
+found : (q : CellId) (r : Row) (es : List Held) → find cell_cmp q es ≡ Some r → Among (q, r) es
 found q r [] e = absurd (cc)
 found q r (x ∷ es) e = go (eq_by_cmp cell_cmp q x.0) refl e (found q r es)
   where
@@ -37,48 +41,41 @@ found q r (x ∷ es) e = go (eq_by_cmp cell_cmp q x.0) refl e (found q r es)
     go true p d more = let i : q ≡ x.0 = cell_cmp_exact q x.0 ((Equal-is (cell_cmp q x.0)).0 p) in let j : x.1 ≡ r = cc in inl (λ k. (sym i k, j k))
     go false p d more = inr (more d)
 
-both : (a b : Bool) → T (a && b) → T a × T b
-both true b h = (tt, h)
-both false b h = absurd h
-
-less_is : (r : Ordering) → T (is_lt r) → r ≡ Less
-less_is Less h = refl
-less_is Equal h = absurd h
-less_is Greater h = absurd h
-
-below_among : (x : CellId) (s : Standing) (es : List Standing) → T (below_all cell_cmp x es) → Among s es → cell_cmp x s.0 ≡ Less
+below_among : (x : CellId) (s : Held) (es : List Held) → T (below_all cell_cmp x es) → Among s es → cell_cmp x s.0 ≡ Less
 below_among x s [] b h = absurd h
-below_among x s (e ∷ es) b (inl same) = subst (λ (k : Standing). cell_cmp x k.0 ≡ Less) same (less_is (cell_cmp x e.0) (both _ _ b).0)
-below_among x s (e ∷ es) b (inr h) = below_among x s es (both (is_lt (cell_cmp x e.0)) (below_all cell_cmp x es) b).1 h
+below_among x s (e ∷ es) b (inl same) = subst (λ (k : Held). cell_cmp x k.0 ≡ Less) same (less (cell_cmp x e.0) (first _ _ b))
+below_among x s (e ∷ es) b (inr h) = below_among x s es (second (is_lt (cell_cmp x e.0)) (below_all cell_cmp x es) b) h
 
-found_back : (s : Standing) (es : List Standing) → T (is_sorted cell_cmp es) → Among s es → find cell_cmp s.0 es ≡ Some s.1
+found_back : (s : Held) (es : List Held) → T (is_sorted cell_cmp es) → Among s es → find cell_cmp s.0 es ≡ Some s.1
 found_back s [] b h = absurd h
-found_back s (e ∷ es) b (inl same) = subst (λ (k : Standing). find cell_cmp k.0 (e ∷ es) ≡ Some k.1) same
+found_back s (e ∷ es) b (inl same) = subst (λ (k : Held). find cell_cmp k.0 (e ∷ es) ≡ Some k.1) same
     (ap (λ r. cond (is_eq r) (Some e.1) (find cell_cmp e.0 es)) (tied_itself cell_cmp_total e.0))
 found_back s (e ∷ es) b (inr h) =
-    let c = both (below_all cell_cmp e.0 es) (is_sorted cell_cmp es) b in
-    let less : cell_cmp e.0 s.0 ≡ Less = below_among e.0 s es c.0 h in
+    let below = first (below_all cell_cmp e.0 es) (is_sorted cell_cmp es) b in
+    let later = second (below_all cell_cmp e.0 es) (is_sorted cell_cmp es) b in
+    let less : cell_cmp e.0 s.0 ≡ Less = below_among e.0 s es below h in
     let apart : eq_by_cmp cell_cmp s.0 e.0 ≡ false = ap is_eq (cell_cmp_total.antisymm s.0 e.0 ∙ ap ordering_reverse less) in
-    rw apart (found_back s es c.1 h)
+    rw apart (found_back s es later h)
 
-pub standing_listed : (content : Content) (s : Standing) → Stands (row_at content) s → Among s (rows_in content)
-standing_listed content s e = found s.0 s.1 (entries content) (sym (get-entries content s.0) ∙ e)
+pub held_listed : (content : Content) (s : Held) → Stands (row_at content) s → Among s (rows_in content)
+held_listed content s e = found s.0 s.1 (entries content) (sym (get-entries content s.0) ∙ e)
 
-pub listed_stands : (content : Content) (s : Standing) → Among s (rows_in content) → Stands (row_at content) s
+pub listed_stands : (content : Content) (s : Held) → Among s (rows_in content) → Stands (row_at content) s
 listed_stands content s h = get-entries content s.0 ∙ found_back s (entries content) (entries_sorted content) h
 
 -- rows in the order of their cells
-abbrev pub standing_cmp : Standing → Standing → Ordering
-standing_cmp s t = cell_cmp s.0 t.0
+abbrev pub held_cmp : Held → Held → Ordering
+held_cmp s t = cell_cmp s.0 t.0
 
-rising_entries : (es : List Standing) → T (is_sorted cell_cmp es) → IsStrictlySortedBy standing_cmp es
+rising_entries : (es : List Held) → T (is_sorted cell_cmp es) → IsStrictlySortedBy held_cmp es
 unfolding IsStrictlySortedBy
 rising_entries [] b = tt
 rising_entries (e ∷ es) b =
-    let c = both (below_all cell_cmp e.0 es) (is_sorted cell_cmp es) b in
-    (all_by (λ s. cell_cmp e.0 s.0 ≡ Less) es (λ s h. below_among e.0 s es c.0 h), rising_entries es c.1)
+    let below = first (below_all cell_cmp e.0 es) (is_sorted cell_cmp es) b in
+    let later = second (below_all cell_cmp e.0 es) (is_sorted cell_cmp es) b in
+    (all_by (λ s. cell_cmp e.0 s.0 ≡ Less) es (λ s h. below_among e.0 s es below h), rising_entries es later)
 
-pub rows_rise : (content : Content) → IsStrictlySortedBy standing_cmp (rows_in content)
+pub rows_rise : (content : Content) → IsStrictlySortedBy held_cmp (rows_in content)
 rows_rise content = rising_entries (entries content) (entries_sorted content)
 
 -- the choices of subjects ---------------------------------------------------------------------
@@ -87,11 +84,11 @@ lt_is Less e = refl
 lt_is Equal e = absurd (false≢true e)
 lt_is Greater e = absurd (false≢true e)
 
-chosen : (content : Content) (s : Standing) (t : Option Standing) → StandsBeside (row_at content) s t → Among t (choices s (rows_in content))
+chosen : (content : Content) (s : Held) (t : Option Held) → StandsBeside (row_at content) s t → Among t (choices s (rows_in content))
 chosen content s None h = inl refl
-chosen content s (Some t) h = inr (mapped_among Some t (filter (is_after s) (rows_in content)) (kept_among (is_after s) t (rows_in content) (standing_listed content t h.0) (ap is_lt h.1)))
+chosen content s (Some t) h = inr (mapped_among Some t (filter (is_after s) (rows_in content)) (kept_among (is_after s) t (rows_in content) (held_listed content t h.0) (ap is_lt h.1)))
 
-choice_stands : (content : Content) (s : Standing) (t : Option Standing) → Among t (choices s (rows_in content)) → StandsBeside (row_at content) s t
+choice_stands : (content : Content) (s : Held) (t : Option Held) → Among t (choices s (rows_in content)) → StandsBeside (row_at content) s t
 choice_stands content s t (inl e) = subst (StandsBeside (row_at content) s) e tt
 choice_stands content s t (inr h) =
     let m = among_mapped Some t (filter (is_after s) (rows_in content)) h in
@@ -99,33 +96,55 @@ choice_stands content s t (inr h) =
     subst (StandsBeside (row_at content) s) m.2 (listed_stands content m.0 k.0, lt_is (cell_cmp s.0 m.0.0) k.1)
 
 -- what is listed for the rules below a number ------------------------------------------------
-pub record Origin (rules : List Rule) (n : ℕ) (rows : List Standing) (b : Broken) : Type 0 where
+pub record Origin (rules : List Rule) (n : ℕ) (rows : List Held) (b : Broken) : Type 0 where
   pub below : b.rule < n
-  pub first : Standing
-  pub second : Option Standing
+  pub first : Held
+  pub second : Option Held
   pub first_listed : Among first rows
   pub second_listed : Among second (choices first rows)
-  pub broken : is_broken rules b.rule rows first second ≡ true
-  pub named : broken_at b.rule first second ≡ b
+  pub broken : is_broken rules (ask_of b) rows first second ≡ true
+  pub named : b ≡ broken_at (ask_of b) first second
 
-from_one : (rules : List Rule) (n m : ℕ) (rows : List Standing) (b : Broken) → n < m → Among b (broken_of rules n rows) → Origin rules m rows b
+-- the rows and the ask of what is listed for one rule
+record Source (rules : List Rule) (n : ℕ) (rows : List Held) (b : Broken) : Type 0 where
+  first : Held
+  second : Option Held
+  ask : Ask
+  first_listed : Among first rows
+  second_listed : Among second (choices first rows)
+  asked : Among ask (asks rules n first second)
+  broken : is_broken rules ask rows first second ≡ true
+  named : broken_at ask first second ≡ b
+
+source : (rules : List Rule) (n : ℕ) (rows : List Held) (b : Broken) → Among b (broken_of rules n rows) → Source rules n rows b
 unfolding broken_of broken_from
-from_one rules n m rows b less h =
+source rules n rows b h =
     let (s, k, f) = among_flat (broken_from rules n rows) b rows h in
-    let (t, c, e) = among_mapped (broken_at n s) b (filter (is_broken rules n rows s) (choices s rows)) f in
-    let g = among_kept (is_broken rules n rows s) t (choices s rows) c in
-    let number : n ≡ b.rule = ap (λ (a : Broken). a.rule) e in
+    let (t, c, g) = among_flat (broken_between rules n rows s) b (choices s rows) f in
+    let (ask, l, e) = among_mapped (λ ask. broken_at ask s t) b (filter (λ ask. is_broken rules ask rows s t) (asks rules n s t)) g in
+    let m = among_kept (λ ask. is_broken rules ask rows s t) ask (asks rules n s t) l in
+    record { first = s; second = t; ask = ask; first_listed = k; second_listed = c; asked = m.0; broken = m.1; named = e }
+
+rule_from : (rules : List Rule) (n : ℕ) (rows : List Held) (b : Broken) → Among b (broken_of rules n rows) → b.rule ≡ n
+rule_from rules n rows b h =
+    let from = source rules n rows b h in
+    sym (ap (λ (c : Broken). c.rule) from.named) ∙ asked_rule rules n from.first from.second from.ask from.asked
+
+from_one : (rules : List Rule) (n m : ℕ) (rows : List Held) (b : Broken) → n < m → Among b (broken_of rules n rows) → Origin rules m rows b
+from_one rules n m rows b less h =
+    let from = source rules n rows b h in
+    let ask : from.ask ≡ ask_of b = ap ask_of from.named in
     record {
-      below = subst (λ (i : ℕ). i < m) number less;
-      first = s;
-      second = t;
-      first_listed = k;
-      second_listed = g.0;
-      broken = subst (λ (i : ℕ). is_broken rules i rows s t ≡ true) number g.1;
-      named = subst (λ (i : ℕ). broken_at i s t ≡ b) number e;
+      below = subst (λ (i : ℕ). i < m) (sym (rule_from rules n rows b h)) less;
+      first = from.first;
+      second = from.second;
+      first_listed = from.first_listed;
+      second_listed = from.second_listed;
+      broken = subst (λ (a : Ask). is_broken rules a rows from.first from.second ≡ true) ask from.broken;
+      named = sym from.named ∙ ap (λ (a : Ask). broken_at a from.first from.second) ask;
     }
 
-pub origin : (rules : List Rule) (n : ℕ) (rows : List Standing) (b : Broken) → Among b (broken_below rules n rows) → Origin rules n rows b
+pub origin : (rules : List Rule) (n : ℕ) (rows : List Held) (b : Broken) → Among b (broken_below rules n rows) → Origin rules n rows b
 unfolding broken_below
 origin rules zero rows b h = absurd h
 origin rules (suc n) rows b h = elim (among_either b (broken_below rules n rows) (broken_of rules n rows) h) [
@@ -134,12 +153,16 @@ origin rules (suc n) rows b h = elim (among_either b (broken_below rules n rows)
   | inr k ↦ from_one rules n (suc n) rows b (omega arith) k
 ]
 
-pub listed_from : (rules : List Rule) (n : ℕ) (rows : List Standing) (s : Standing) (t : Option Standing) → Among s rows → Among t (choices s rows) → is_broken rules n rows s t ≡ true → Among (broken_at n s t) (broken_of rules n rows)
+listed_from : (rules : List Rule) (ask : Ask) (rows : List Held) (s : Held) (t : Option Held) → Among s rows → Among t (choices s rows) → is_broken rules ask rows s t ≡ true
+    → calls rules ask s t ≡ true
+    → Among (broken_at ask s t) (broken_of rules ask.rule rows)
 unfolding broken_of broken_from
-listed_from rules n rows s t h c e = flat_among (broken_from rules n rows) s (broken_at n s t) rows h
-    (mapped_among (broken_at n s) t (filter (is_broken rules n rows s) (choices s rows)) (kept_among (is_broken rules n rows s) t (choices s rows) c e))
+listed_from rules ask rows s t h c e called = flat_among (broken_from rules ask.rule rows) s (broken_at ask s t) rows h
+    (flat_among (broken_between rules ask.rule rows s) t (broken_at ask s t) (choices s rows) c
+    (mapped_among (λ a. broken_at a s t) ask (filter (λ a. is_broken rules a rows s t) (asks rules ask.rule s t))
+    (kept_among (λ a. is_broken rules a rows s t) ask (asks rules ask.rule s t) (asked rules ask s t called) e)))
 
-below_listed : (rules : List Rule) (k n : ℕ) (rows : List Standing) (b : Broken) → k < n → Among b (broken_of rules k rows) → Among b (broken_below rules n rows)
+below_listed : (rules : List Rule) (k n : ℕ) (rows : List Held) (b : Broken) → k < n → Among b (broken_of rules k rows) → Among b (broken_below rules n rows)
 unfolding broken_below
 below_listed rules k zero rows b less h = absurd (omega (arith, less))
 below_listed rules k (suc n) rows b less h = elim (cases_lt k n) [
@@ -148,27 +171,9 @@ below_listed rules k (suc n) rows b less h = elim (cases_lt k n) [
 ]
 
 -- listed and broken ----------------------------------------------------------------------------
-slice_get-length : {X : Type 0} (xs : List X) (k : ℕ) (x : X) → slice_get xs k ≡ Some x → k < length xs
-slice_get-length [] k x e = absurd (cc)
-slice_get-length (y ∷ xs) zero x e = omega arith
-slice_get-length (y ∷ xs) (suc k) x e = let h = slice_get-length xs k x e in omega arith
-
--- a rule that calls is there
-there : (rules : List Rule) (number : ℕ) (s : Standing) (t : Option Standing) → calls rules number s t ≡ true → number < length rules
-unfolding calls
-there rules number s t e = go (slice_get rules number) refl e
-  where
-    go : (r : Option Rule) → slice_get rules number ≡ r → call.are_subjects_of r s t ≡ true → number < length rules
-    go None at f = absurd (false≢true f)
-    go (Some rule) at f = slice_get-length rules number rule at
-
-clash : (b : Bool) → b ≡ true → not b ≡ true → ⊥
-clash true e f = false≢true f
-clash false e f = false≢true e
-
 is_broken_there : (rules : List Rule) (content : Content) (b : Broken) → Origin rules (length rules) (rows_in content) b → IsBroken rules (row_at content) b
 is_broken_there rules content b o =
-    let parts = and_parts (calls rules b.rule o.first o.second) (not (list_any (serves rules b.rule o.first o.second) (rows_in content))) o.broken in
+    let parts = and_parts (calls rules (ask_of b) o.first o.second) (not (list_any (serves rules (ask_of b) o.first o.second) (rows_in content))) o.broken in
     record {
       first = o.first;
       second = o.second;
@@ -177,27 +182,27 @@ is_broken_there rules content b o =
         beside = choice_stands content o.first o.second o.second_listed;
         they_call = parts.0;
       };
-      unmet = λ m. clash (list_any (serves rules b.rule o.first o.second) (rows_in content))
-          (any_by (serves rules b.rule o.first o.second) m.0 (rows_in content) (standing_listed content m.0 m.1) m.2) parts.1;
-      named = sym o.named;
+      unmet = λ m. clash (list_any (serves rules (ask_of b) o.first o.second) (rows_in content))
+          (any_by (serves rules (ask_of b) o.first o.second) m.0 (rows_in content) (held_listed content m.0 m.1) m.2) parts.1;
+      named = o.named;
     }
 
 -- a need that no row serves is listed
-unmet_listed : (rules : List Rule) (content : Content) (number : ℕ) (s : Standing) (t : Option Standing) → IsNeed rules (row_at content) number s t
-    → IsMet rules (row_at content) number s t ⊎ Among (broken_at number s t) (broken rules content)
+unmet_listed : (rules : List Rule) (content : Content) (ask : Ask) (s : Held) (t : Option Held) → IsNeed rules (row_at content) ask s t
+    → IsMet rules (row_at content) ask s t ⊎ Among (broken_at ask s t) (broken rules content)
 unfolding broken
-unmet_listed rules content number s t need = go (list_any (serves rules number s t) (rows_in content)) refl
+unmet_listed rules content ask s t need = go (list_any (serves rules ask s t) (rows_in content)) refl
   where
-    go : (b : Bool) → list_any (serves rules number s t) (rows_in content) ≡ b
-        → IsMet rules (row_at content) number s t ⊎ Among (broken_at number s t) (broken_below rules (length rules) (rows_in content))
+    go : (b : Bool) → list_any (serves rules ask s t) (rows_in content) ≡ b
+        → IsMet rules (row_at content) ask s t ⊎ Among (broken_at ask s t) (broken_below rules (length rules) (rows_in content))
     go true e =
-        let (r, h, f) = some_of (serves rules number s t) (rows_in content) e in
+        let (r, h, f) = some_of (serves rules ask s t) (rows_in content) e in
         inl (r, listed_stands content r h, f)
-    go false e = inr (below_listed rules number (length rules) (rows_in content) (broken_at number s t) (there rules number s t need.they_call)
-        (listed_from rules number (rows_in content) s t (standing_listed content s need.stands) (chosen content s t need.beside) (rw (need.they_call, e) refl)))
+    go false e = inr (below_listed rules ask.rule (length rules) (rows_in content) (broken_at ask s t) (rule_there rules ask s t need.they_call)
+        (listed_from rules ask (rows_in content) s t (held_listed content s need.stands) (chosen content s t need.beside) (rw (need.they_call, e) refl) need.they_call))
 
 pub broken_listed : (rules : List Rule) (content : Content) (b : Broken) → IsBroken rules (row_at content) b → Among b (broken rules content)
-broken_listed rules content b h = elim (unmet_listed rules content b.rule h.first h.second h.need) [
+broken_listed rules content b h = elim (unmet_listed rules content (ask_of b) h.first h.second h.need) [
   | inl m ↦ absurd (h.unmet m)
   | inr a ↦ subst (λ (c : Broken). Among c (broken rules content)) (sym h.named) a
 ]
@@ -207,67 +212,75 @@ unfolding broken
 listed_broken rules content b h = is_broken_there rules content b (origin rules (length rules) (rows_in content) b h)
 
 -- the order ------------------------------------------------------------------------------------
-abbrev pub choice_cmp : Option Standing → Option Standing → Ordering
-choice_cmp = option_cmp standing_cmp
+abbrev pub choice_cmp : Option Held → Option Held → Ordering
+choice_cmp = option_cmp held_cmp
 
-some_choices_rise : (rows : List Standing) → IsStrictlySortedBy standing_cmp rows → IsStrictlySortedBy choice_cmp (map Some rows)
-some_choices_rise rows p = rising_mapped standing_cmp choice_cmp Some (λ x z e. e) rows p
+some_choices_rise : (rows : List Held) → IsStrictlySortedBy held_cmp rows → IsStrictlySortedBy choice_cmp (map Some rows)
+some_choices_rise rows p = rising_mapped held_cmp choice_cmp Some (λ x z e. e) rows p
 
-pub choices_rise : (s : Standing) (rows : List Standing) → IsStrictlySortedBy standing_cmp rows → IsStrictlySortedBy choice_cmp (choices s rows)
+pub choices_rise : (s : Held) (rows : List Held) → IsStrictlySortedBy held_cmp rows → IsStrictlySortedBy choice_cmp (choices s rows)
 unfolding IsStrictlySortedBy
 choices_rise s rows p = (
   all_by (λ t. choice_cmp None t ≡ Less) (map Some (filter (is_after s) rows)) (λ t h. let m = among_mapped Some t (filter (is_after s) rows) h in subst (λ u. choice_cmp None u ≡ Less) m.2 refl),
-  some_choices_rise (filter (is_after s) rows) (IsStrictlySortedBy-filter standing_cmp (is_after s) rows p),
+  some_choices_rise (filter (is_after s) rows) (IsStrictlySortedBy-filter held_cmp (is_after s) rows p),
 )
 
-same_number : (n : ℕ) → nat_cmp n n ≡ Equal
-same_number n = tied_itself nat_cmp_total n
-
-less_number : (m n : ℕ) → m < n → nat_cmp m n ≡ Less
-less_number m n h = rw (lt-ltb m n h) refl
-
-by_second : (n : ℕ) (s : Standing) (t u : Option Standing) → choice_cmp t u ≡ Less → broken_cmp (broken_at n s t) (broken_at n s u) ≡ Less
+by_ask : (a b : Ask) (s : Held) (t : Option Held) → ask_cmp a b ≡ Less → broken_cmp (broken_at a s t) (broken_at b s t) ≡ Less
 unfolding broken_cmp
-by_second n s t u e = rw (same_number n, tied_itself cell_cmp_total s.0) (seconds t u e)
+by_ask a b s t e = rw (tied_itself cell_cmp_total s.0, tied_itself (options_total cell_cmp_total) (option_map (λ x. x.0) t)) e
+
+by_second : (a b : Ask) (s : Held) (t u : Option Held) → a.rule ≡ b.rule → choice_cmp t u ≡ Less → broken_cmp (broken_at a s t) (broken_at b s u) ≡ Less
+unfolding broken_cmp
+by_second a b s t u same e = rw (same, tied_itself nat_cmp_total b.rule, tied_itself cell_cmp_total s.0, seconds t u e) refl
   where
-    seconds : (t u : Option Standing) → choice_cmp t u ≡ Less → option_cmp cell_cmp (option_map (λ x. x.0) t) (option_map (λ x. x.0) u) ≡ Less
+    seconds : (t u : Option Held) → choice_cmp t u ≡ Less → option_cmp cell_cmp (option_map (λ x. x.0) t) (option_map (λ x. x.0) u) ≡ Less
     seconds None None e = absurd (cc)
     seconds None (Some u) e = refl
     seconds (Some t) None e = absurd (cc)
     seconds (Some t) (Some u) e = e
 
-by_first : (n : ℕ) (s r : Standing) (t u : Option Standing) → standing_cmp s r ≡ Less → broken_cmp (broken_at n s t) (broken_at n r u) ≡ Less
+by_first : (a b : Ask) (s r : Held) (t u : Option Held) → a.rule ≡ b.rule → held_cmp s r ≡ Less → broken_cmp (broken_at a s t) (broken_at b r u) ≡ Less
 unfolding broken_cmp
-by_first n s r t u e = rw (same_number n, e) refl
+by_first a b s r t u same e = rw (same, tied_itself nat_cmp_total b.rule, e) refl
 
 by_rule : (x y : Broken) → x.rule < y.rule → broken_cmp x y ≡ Less
 unfolding broken_cmp
 by_rule x y h = rw (less_number x.rule y.rule h) refl
 
-from_rises : (rules : List Rule) (n : ℕ) (rows : List Standing) (s : Standing) → IsStrictlySortedBy standing_cmp rows → IsStrictlySortedBy broken_cmp (broken_from rules n rows s)
-unfolding broken_from
-from_rises rules n rows s p = rising_mapped choice_cmp broken_cmp (broken_at n s) (by_second n s) (filter (is_broken rules n rows s) (choices s rows))
-    (IsStrictlySortedBy-filter choice_cmp (is_broken rules n rows s) (choices s rows) (choices_rise s rows p))
+between_rises : (rules : List Rule) (n : ℕ) (rows : List Held) (s : Held) (t : Option Held) → IsStrictlySortedBy broken_cmp (broken_between rules n rows s t)
+between_rises rules n rows s t = rising_mapped ask_cmp broken_cmp (λ ask. broken_at ask s t) (λ a b e. by_ask a b s t e) (filter (λ ask. is_broken rules ask rows s t) (asks rules n s t))
+    (IsStrictlySortedBy-filter ask_cmp (λ ask. is_broken rules ask rows s t) (asks rules n s t) (asks_rise rules n s t))
 
-from_below : (rules : List Rule) (n : ℕ) (rows : List Standing) (s r : Standing) → standing_cmp s r ≡ Less → AllBelow broken_cmp (broken_from rules n rows s) (broken_from rules n rows r)
+-- what is listed for two subjects, by its ask
+between_from : (rules : List Rule) (n : ℕ) (rows : List Held) (s : Held) (t : Option Held) (b : Broken) → Among b (broken_between rules n rows s t) → (ask : Ask) × (ask.rule ≡ n) × (broken_at ask s t ≡ b)
+between_from rules n rows s t b h =
+    let (ask, l, e) = among_mapped (λ ask. broken_at ask s t) b (filter (λ ask. is_broken rules ask rows s t) (asks rules n s t)) h in
+    (ask, asked_rule rules n s t ask (among_kept (λ ask. is_broken rules ask rows s t) ask (asks rules n s t) l).0, e)
+
+between_below : (rules : List Rule) (n : ℕ) (rows : List Held) (s r : Held) (t u : Option Held) → ((a b : Ask) → a.rule ≡ b.rule → broken_cmp (broken_at a s t) (broken_at b r u) ≡ Less)
+    → AllBelow broken_cmp (broken_between rules n rows s t) (broken_between rules n rows r u)
+between_below rules n rows s r t u less x y h k =
+    let (a, i, p) = between_from rules n rows s t x h in
+    let (b, j, q) = between_from rules n rows r u y k in
+    subst (λ (z : Broken). broken_cmp z y ≡ Less) p (subst (λ (z : Broken). broken_cmp (broken_at a s t) z ≡ Less) q (less a b (i ∙ sym j)))
+
+from_rises : (rules : List Rule) (n : ℕ) (rows : List Held) (s : Held) → IsStrictlySortedBy held_cmp rows → IsStrictlySortedBy broken_cmp (broken_from rules n rows s)
+unfolding broken_from
+from_rises rules n rows s p = rising_flat choice_cmp broken_cmp (broken_between rules n rows s) (between_rises rules n rows s)
+    (λ t u e. between_below rules n rows s s t u (λ a b same. by_second a b s t u same e)) (choices s rows) (choices_rise s rows p)
+
+from_below : (rules : List Rule) (n : ℕ) (rows : List Held) (s r : Held) → held_cmp s r ≡ Less → AllBelow broken_cmp (broken_from rules n rows s) (broken_from rules n rows r)
 unfolding broken_from
 from_below rules n rows s r e x y h k =
-    let (t, _, p) = among_mapped (broken_at n s) x (filter (is_broken rules n rows s) (choices s rows)) h in
-    let (u, _, q) = among_mapped (broken_at n r) y (filter (is_broken rules n rows r) (choices r rows)) k in
-    subst (λ (z : Broken). broken_cmp z y ≡ Less) p (subst (λ (z : Broken). broken_cmp (broken_at n s t) z ≡ Less) q (by_first n s r t u e))
+    let (t, _, p) = among_flat (broken_between rules n rows s) x (choices s rows) h in
+    let (u, _, q) = among_flat (broken_between rules n rows r) y (choices r rows) k in
+    between_below rules n rows s r t u (λ a b same. by_first a b s r t u same e) x y p q
 
-of_rises : (rules : List Rule) (n : ℕ) (rows : List Standing) → IsStrictlySortedBy standing_cmp rows → IsStrictlySortedBy broken_cmp (broken_of rules n rows)
+of_rises : (rules : List Rule) (n : ℕ) (rows : List Held) → IsStrictlySortedBy held_cmp rows → IsStrictlySortedBy broken_cmp (broken_of rules n rows)
 unfolding broken_of
-of_rises rules n rows p = rising_flat standing_cmp broken_cmp (broken_from rules n rows) (λ s. from_rises rules n rows s p) (from_below rules n rows) rows p
+of_rises rules n rows p = rising_flat held_cmp broken_cmp (broken_from rules n rows) (λ s. from_rises rules n rows s p) (from_below rules n rows) rows p
 
-rule_from : (rules : List Rule) (n : ℕ) (rows : List Standing) (b : Broken) → Among b (broken_of rules n rows) → b.rule ≡ n
-unfolding broken_of broken_from
-rule_from rules n rows b h =
-    let (s, _, m) = among_flat (broken_from rules n rows) b rows h in
-    let (t, _, e) = among_mapped (broken_at n s) b (filter (is_broken rules n rows s) (choices s rows)) m in
-    sym (ap (λ (c : Broken). c.rule) e)
-
-below_rises : (rules : List Rule) (n : ℕ) (rows : List Standing) → IsStrictlySortedBy standing_cmp rows → IsStrictlySortedBy broken_cmp (broken_below rules n rows)
+below_rises : (rules : List Rule) (n : ℕ) (rows : List Held) → IsStrictlySortedBy held_cmp rows → IsStrictlySortedBy broken_cmp (broken_below rules n rows)
 unfolding broken_below IsStrictlySortedBy
 below_rises rules zero rows p = tt
 below_rises rules (suc n) rows p = rising_joined broken_cmp (broken_below rules n rows) (broken_of rules n rows) (below_rises rules n rows p) (of_rises rules n rows p)
@@ -284,18 +297,13 @@ not_greater Equal e = refl
 not_greater Greater e = absurd (cc)
 
 not_before_itself : (b : Broken) → is_gt (broken_cmp b b) ≡ false
-unfolding broken_cmp
-not_before_itself b = rw (same_number b.rule, tied_itself cell_cmp_total b.first) (seconds b.second)
-  where
-    seconds : (t : Option CellId) → is_gt (option_cmp cell_cmp t t) ≡ false
-    seconds None = refl
-    seconds (Some q) = ap is_gt (tied_itself cell_cmp_total q)
+not_before_itself b = ap is_gt (tied_itself broken_total b)
 
 first_is : (rules : List Rule) (content : Content) (bs : List Broken) → broken rules content ≡ bs → IsFirstBroken rules (row_at content) (slice_get bs 0)
 unfolding IsStrictlySortedBy
-first_is rules content [] e = λ number s t need. elim (unmet_listed rules content number s t need) [
+first_is rules content [] e = λ ask s t need. elim (unmet_listed rules content ask s t need) [
   | inl m ↦ m
-  | inr a ↦ absurd (subst (λ (l : List Broken). Among (broken_at number s t) l) e a)
+  | inr a ↦ absurd (subst (λ (l : List Broken). Among (broken_at ask s t) l) e a)
 ]
 first_is rules content (b ∷ bs) e = record {
   broken = listed_broken rules content b (subst (λ (l : List Broken). Among b l) (sym e) (inl refl));
@@ -317,14 +325,6 @@ lists_broken rules content = record {
 pub rows_fit : (rules : List Rule) (content : Content) → FitsContent rules content → FitTogether rules (rows_in content)
 rows_fit rules content fit = record { tables = fit.tables; book = fit.book; each = all_fit (rows_in content) (λ s h. fit.rows s.0 s.1 (listed_stands content s h)) }
   where
-    all_fit : (rows : List Standing) → ((s : Standing) → Among s rows → FitsCell fit.tables s) → All (FitsCell fit.tables) rows
+    all_fit : (rows : List Held) → ((s : Held) → Among s rows → FitsCell fit.tables s) → All (FitsCell fit.tables) rows
     all_fit [] h = All-nil (FitsCell fit.tables)
     all_fit (s ∷ rows) h = All-cons (FitsCell fit.tables) s rows (h s (inl refl)) (all_fit rows (λ r k. h r (inr k)))
-
-pub below_none : (rules : List Rule) (rows : List Standing) → broken_below rules 0 rows ≡ []
-unfolding broken_below
-below_none rules rows = refl
-
-pub below_more : (rules : List Rule) (n : ℕ) (rows : List Standing) → broken_below rules (n + 1) rows ≡ broken_below rules n rows ++ broken_of rules n rows
-unfolding broken_below
-below_more rules n rows = rw add-one refl

@@ -1,5 +1,6 @@
 -- What is in a list, and lists that rise.
-use Rattle.std.proofs.Common.{◌≡◌, ◌⊎◌, inl, inr, zero, suc, Bool, true, false, cond, ◌||◌, List, [], ◌∷◌, ◌++◌, map, filter, Contains, refl, sym, ap, subst, ◌∙◌, arith}
+use Rattle.std.proofs.Common.{◌≡◌, ◌⊎◌, inl, inr, zero, suc, Bool, true, false, cond, not, List, [], ◌∷◌, ◌++◌, map, filter, Contains, refl, sym, ap, subst, ◌∙◌, arith}
+use Rattle.std.proofs.lemmas.Bool.{or_cases, or_left, or_right}
 use Rattle.std.specs.List.{list_any, flat_map, AllByRecursion}
 use Rattle.std.specs.List.Sorted.{IsStrictlySortedBy}
 use Rattle.std.specs.declared.cmp.Ordering.{Ordering}
@@ -12,16 +13,10 @@ abbrev pub Among : {X : Type 0} → X → List X → Type 0
 Among x [] = ⊥
 Among x (y ∷ ys) = (y ≡ x) ⊎ Among x ys
 
-by_or : (a b : Bool) → (a || b) ≡ true → (a ≡ true) ⊎ (b ≡ true)
-by_or true b e = inl refl
-by_or false b e = inr e
-
-or_first : (a b : Bool) → a ≡ true → (a || b) ≡ true
-or_first a b e = rw e refl
-
-or_second : (a b : Bool) → b ≡ true → (a || b) ≡ true
-or_second true b e = refl
-or_second false b e = e
+-- a test isn't passed and failed
+pub clash : (b : Bool) → b ≡ true → not b ≡ true → ⊥
+clash true e f = absurd (cc)
+clash false e f = absurd (cc)
 
 module _ {X : Type 0} where
   pub among_left : (x : X) (xs ys : List X) → Among x xs → Among x (xs ++ ys)
@@ -58,12 +53,12 @@ module _ {X : Type 0} where
 
   pub any_by : (p : X → Bool) (x : X) (xs : List X) → Among x xs → p x ≡ true → list_any p xs ≡ true
   any_by p x [] h e = absurd h
-  any_by p x (z ∷ xs) (inl s) e = let d : p z ≡ true = rw s e in or_first (p z) (list_any p xs) d
-  any_by p x (z ∷ xs) (inr h) e = or_second (p z) (list_any p xs) (any_by p x xs h e)
+  any_by p x (z ∷ xs) (inl s) e = let d : p z ≡ true = rw s e in or_left (p z) (list_any p xs) d
+  any_by p x (z ∷ xs) (inr h) e = or_right (p z) (list_any p xs) (any_by p x xs h e)
 
   pub some_of : (p : X → Bool) (xs : List X) → list_any p xs ≡ true → (x : X) × Among x xs × (p x ≡ true)
   some_of p [] e = absurd (cc)
-  some_of p (z ∷ xs) e = elim (by_or (p z) (list_any p xs) e) [ inl h ↦ (z, inl refl, h) | inr h ↦ (let m = some_of p xs h in (m.0, inr m.1, m.2)) ]
+  some_of p (z ∷ xs) e = elim (or_cases (p z) (list_any p xs) e) [ inl h ↦ (z, inl refl, h) | inr h ↦ (let m = some_of p xs h in (m.0, inr m.1, m.2)) ]
 
   -- among the elements, and at a place of the list
   pub contained : (x : X) (xs : List X) → Among x xs → Contains xs x
@@ -137,13 +132,9 @@ module _ {X Y : Type 0} (c : X → X → Ordering) (d : Y → Y → Ordering) wh
     rising_mapped f keeps xs p.1,
   )
 
-pub any_mapped : {X Y : Type 0} (p : Y → Bool) (f : X → Y) (xs : List X) → list_any p (map f xs) ≡ list_any (λ x. p (f x)) xs
-any_mapped p f [] = refl
-any_mapped p f (x ∷ xs) = ap (λ b. p (f x) || b) (any_mapped p f xs)
-
 -- rising lists of the same elements are one list
 module _ {X : Type 0} {c : X → X → Ordering} (o : IsTotalOrder c) where
-  not_both : (x y : X) → c x y ≡ Less → c y x ≡ Less → ⊥
+  pub not_both : (x y : X) → c x y ≡ Less → c y x ≡ Less → ⊥
   not_both x y p q = absurd_less (c x y) p (o.antisymm x y ∙ ap ordering_reverse q)
     where
       absurd_less : (r : Ordering) → r ≡ Less → r ≡ Greater → ⊥
@@ -151,7 +142,7 @@ module _ {X : Type 0} {c : X → X → Ordering} (o : IsTotalOrder c) where
       absurd_less Equal p q = absurd (cc)
       absurd_less Greater p q = absurd (cc)
 
-  not_itself : (x : X) → c x x ≡ Less → ⊥
+  pub not_itself : (x : X) → c x x ≡ Less → ⊥
   not_itself x p = not_both x x p p
 
   heads : (x y : X) (xs ys : List X) → IsStrictlySortedBy c (x ∷ xs) → IsStrictlySortedBy c (y ∷ ys) → Among x (y ∷ ys) → Among y (x ∷ xs) → y ≡ x

@@ -1,5 +1,6 @@
 -- Books of rules: which rules make one over a schema, and what fits one.
-use Rattle.std.specs.Prelude.{◌≡◌, ℕ, ◌+◌, ℤ, pos, Bool, true, false, not, List, [], ◌∷◌, ◌&&◌, ◌==◌, length, nat_lt, nat_le, int_le, Option, Some, None, slice_get, if◌then◌else◌, All}
+use Rattle.std.specs.Prelude.{◌≡◌, ◌≤◌, ℕ, ◌+◌, ℤ, Bool, true, false, not, List, [], ◌∷◌, ◌&&◌, ◌==◌, length, nat_lt, nat_le, int_le}
+use Rattle.std.specs.Prelude.{Option, Some, None, slice_get, if◌then◌else◌, All}
 use Rattle.std.specs.Option.{option_map}
 use Rattle.std.specs.List.{list_all, zip}
 use Rattle.clr_rows.specs.declared.rows.Value.{Value}
@@ -9,15 +10,17 @@ use Rattle.clr_rows.specs.declared.tables.Kind.TheVariants as kind
 use Rattle.clr_rows.specs.declared.tables.Form.{Form}
 use Rattle.clr_rows.specs.declared.tables.Form.TheVariants as form
 use Rattle.clr_rows.specs.Contents.{Content}
-use Rattle.clr_rows.specs.Schemas.{FitsSchema, is_of_kind, row_fault}
+use Rattle.clr_rows.specs.Held.{Held}
+use Rattle.clr_rows.specs.Schemas.{FitsSchema, is_of_kind, is_number, row_fault}
+use Rattle.clr_segments.specs.declared.limits.TheConstants.{GREATEST_DISTANCE}
 use Rattle.clr_rules.specs.declared.columns.Col.{Col}
 use Rattle.clr_rules.specs.declared.columns.Col.TheVariants as column
-use Rattle.clr_rules.specs.declared.faults.RuleFault.{RuleFault}
-use Rattle.clr_rules.specs.declared.faults.RuleFault.TheVariants.{NoTable, NoColumn, KindsDiffer, WrongShape, BadDistance, BadFilter, TooMany}
+use Rattle.clr_rules.specs.declared.books.faults.RuleFault.{RuleFault}
+use Rattle.clr_rules.specs.declared.books.faults.RuleFault.TheVariants.{NoTable, NoColumn, KindsDiffer, WrongShape, BadDistance, BadFilter, TooMany}
+use Rattle.clr_rules.specs.declared.limits.TheConstants.{MOST_RULES, LEAST_DISTANCE}
 use Rattle.clr_rules.specs.declared.rules.Rule.{Rule}
 use Rattle.clr_rules.specs.declared.rules.Rule.TheVariants.{Unique, Partner, EndNode, Crossing, Near}
 use Rattle.clr_rules.specs.declared.sides.Side.{Side}
-use Rattle.clr_rules.specs.Sides.{Standing}
 
 -- tables -------------------------------------------------------------------------------------
 
@@ -69,45 +72,51 @@ same_kind _ _ = false
 
 abbrev pub has_same_kinds : List TableDef → Rule → Bool
 has_same_kinds tables (Partner subject columns server server_columns) =
-    length columns == length server_columns && list_all (λ p. same_kind (kind_of tables subject.table p.0) (kind_of tables server.table p.1)) (zip columns server_columns)
+    length columns == length server_columns
+    && list_all (λ p. same_kind (kind_of tables subject.table p.0) (kind_of tables server.table p.1)) (zip columns server_columns)
 has_same_kinds tables _ = true
 
 -- shapes, distances and filters ---------------------------------------------------------------
 
-abbrev pub is_form : Form → Form → Bool
-is_form form.Bare form.Bare = true
-is_form form.Point form.Point = true
-is_form form.Segment form.Segment = true
-is_form _ _ = false
+abbrev pub is_point_form : Form → Bool
+is_point_form form.Point = true
+is_point_form _ = false
 
-abbrev pub has_form_in : Form → Option TableDef → Bool
-has_form_in form None = false
-has_form_in form (Some table) = is_form form table.shape
+abbrev pub is_line_form : Form → Bool
+is_line_form form.Segment = true
+is_line_form form.Path = true
+is_line_form _ = false
 
-abbrev pub has_form : List TableDef → Form → Side → Bool
-has_form tables form side = has_form_in form (slice_get tables side.table)
+abbrev pub has_form_in : (Form → Bool) → Option TableDef → Bool
+has_form_in test None = false
+has_form_in test (Some table) = test table.shape
 
--- segments and points where the rule asks for them
+-- the side's table has a shape that passes the test
+abbrev pub has_form : List TableDef → (Form → Bool) → Side → Bool
+has_form tables test side = has_form_in test (slice_get tables side.table)
+
+-- segments or paths, and points, where the rule asks for them
 abbrev pub has_forms : List TableDef → Rule → Bool
-has_forms tables (EndNode subject tip server) = has_form tables form.Segment subject && has_form tables form.Point server
-has_forms tables (Crossing a b server) = has_form tables form.Segment a && (has_form tables form.Segment b && has_form tables form.Point server)
-has_forms tables (Near a b d) = has_form tables form.Point a && has_form tables form.Point b
+has_forms tables (EndNode subject tip server) = has_form tables is_line_form subject && has_form tables is_point_form server
+has_forms tables (Crossing a b server) = has_form tables is_line_form a && (has_form tables is_line_form b && has_form tables is_point_form server)
+has_forms tables (Near a b d) = has_form tables is_point_form a && has_form tables is_point_form b
 has_forms tables _ = true
 
 abbrev pub is_distance : ℤ → Bool
-is_distance d = int_le (pos 1) d && int_le d (pos 1000000)
+is_distance d = int_le LEAST_DISTANCE d && int_le d GREATEST_DISTANCE
 
 abbrev pub has_distance : Rule → Bool
 has_distance (Near a b d) = is_distance d
 has_distance _ = true
 
-abbrev pub is_of_some_kind : Option Kind → Value → Bool
-is_of_some_kind None v = false
-is_of_some_kind (Some k) v = is_of_kind k v
+-- a value of the kind of a column that is there, and within 64 bits if it is a number
+abbrev pub is_literal_of : Option Kind → Value → Bool
+is_literal_of None v = false
+is_literal_of (Some k) v = is_of_kind k v && is_number v
 
--- each literal is of the kind of its column
+-- each literal is one of its column
 abbrev pub has_filter : List TableDef → Side → Bool
-has_filter tables side = list_all (λ f. is_of_some_kind (kind_of tables side.table (column.At f.0)) f.1) side.filter
+has_filter tables side = list_all (λ f. is_literal_of (kind_of tables side.table (column.At f.0)) f.1) side.filter
 
 abbrev pub has_filters : List TableDef → Rule → Bool
 has_filters tables (Unique subject columns) = has_filter tables subject
@@ -116,7 +125,24 @@ has_filters tables (EndNode subject tip server) = has_filter tables subject && h
 has_filters tables (Crossing a b server) = has_filter tables a && (has_filter tables b && has_filter tables server)
 has_filters tables (Near a b d) = has_filter tables a && has_filter tables b
 
+-- a literal that is a number is within 64 bits
+abbrev pub is_side_within : Side → Bool
+is_side_within side = list_all (λ f. is_number f.1) side.filter
+
+-- so is each one of a rule
+unfoldable pub is_rule_within : Rule → Bool
+is_rule_within (Unique subject columns) = is_side_within subject
+is_rule_within (Partner subject columns server server_columns) = is_side_within subject && is_side_within server
+is_rule_within (EndNode subject tip server) = is_side_within subject && is_side_within server
+is_rule_within (Crossing a b server) = is_side_within a && (is_side_within b && is_side_within server)
+is_rule_within (Near a b d) = is_side_within a && is_side_within b
+
 -- books --------------------------------------------------------------------------------------
+
+-- what every book of the program has
+pub record IsBook (rules : List Rule) : Type 0 where
+  pub few : length rules ≤ MOST_RULES
+  pub within : list_all is_rule_within rules ≡ true
 
 -- the first test that a rule fails
 unfoldable pub rule_fault : List TableDef → Rule → Option RuleFault
@@ -138,20 +164,20 @@ unfoldable pub first_fault : List TableDef → ℕ → List Rule → Option (ℕ
 first_fault tables number [] = None
 first_fault tables number (rule ∷ rules) = fault_or_later number (rule_fault tables rule) (first_fault tables (number + 1) rules)
 
--- why rules make no book over a schema: more than 64, or the first rule with a fault
+-- why rules make no book over a schema: more than the most, or the first rule with a fault
 unfoldable pub book_fault : List TableDef → List Rule → Option (ℕ × RuleFault)
-book_fault tables rules = if nat_le (length rules) 64 then first_fault tables 0 rules else Some (64, TooMany)
+book_fault tables rules = if nat_le (length rules) MOST_RULES then first_fault tables 0 rules else Some (MOST_RULES, TooMany)
 
 -- the rules make a book over the schema
 abbrev pub FitsBook : List TableDef → List Rule → Type 0
 FitsBook tables rules = book_fault tables rules ≡ None
 
 -- the row can stand at its cell
-abbrev pub FitsCell : List TableDef → Standing → Type 0
+abbrev pub FitsCell : List TableDef → Held → Type 0
 FitsCell tables s = row_fault tables s.0 s.1 ≡ None
 
 -- one schema that a book and some rows fit
-pub record FitTogether (rules : List Rule) (rows : List Standing) : Type 0 where
+pub record FitTogether (rules : List Rule) (rows : List Held) : Type 0 where
   pub tables : List TableDef
   pub book : FitsBook tables rules
   pub each : All (FitsCell tables) rows

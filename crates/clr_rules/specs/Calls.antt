@@ -1,12 +1,47 @@
--- Which rows call a rule, and which rows serve them.
-use Rattle.std.specs.Prelude.{ℕ, ℤ, ◌*ℤ◌, Bool, false, not, List, ◌&&◌, Option, Some, None, slice_get, int_lt}
+-- What is asked of rows: which of them call a rule, and which serve them.
+use Rattle.std.specs.Prelude.{ℕ, ℤ, ◌*ℤ◌, Bool, false, not, List, [], ◌∷◌, ◌&&◌, ◌==◌, length, map, Option, Some, None, slice_get, int_lt}
+use Rattle.std.specs.List.{flat_map, range_with_len}
 use Rattle.clr_rows.specs.declared.places.Place.{Place}
+use Rattle.clr_rows.specs.Held.{Held}
+use Rattle.clr_rows.specs.Parts.{parts_of, part_of}
 use Rattle.clr_rows.specs.Same.{same_place}
 use Rattle.clr_segments.specs.Searches.{lies_on, have_common_point, have_two_common_points}
 use Rattle.clr_segments.specs.Turns.{squared_distance}
+use Rattle.clr_rules.specs.declared.needs.Ask.{Ask}
 use Rattle.clr_rules.specs.declared.rules.Rule.{Rule}
 use Rattle.clr_rules.specs.declared.rules.Rule.TheVariants.{Unique, Partner, EndNode, Crossing, Near}
-use Rattle.clr_rules.specs.Sides.{Standing, Segment, is_of_side, are_of_sides, are_equal_in, segment_of, point_of, end_of}
+use Rattle.clr_rules.specs.Sides.{Segment, is_of_side, are_of_sides, are_equal_in, point_of, end_of}
+
+-- asks ---------------------------------------------------------------------------------------
+
+abbrev pub ask_of_parts : ℕ → ℕ → ℕ → Ask
+ask_of_parts number m n = record { rule = number; first_part = m; second_part = n }
+
+-- a rule asked of whole rows
+abbrev pub plain_ask : ℕ → Ask
+plain_ask number = ask_of_parts number 1 1
+
+abbrev pub is_plain : Ask → Bool
+is_plain ask = ask.first_part == 1 && ask.second_part == 1
+
+-- how many parts of a row a rule is asked of: of a crossing all, of another rule the row as a whole
+abbrev pub part_count_by : Option Rule → Held → ℕ
+part_count_by (Some (Crossing a b server)) s = length (parts_of s.1.shape)
+part_count_by _ s = 1
+
+unfoldable pub part_count : List Rule → ℕ → Held → ℕ
+part_count rules number s = part_count_by (slice_get rules number) s
+
+-- the asks of the first m parts of one row beside the first n of another, ascending
+abbrev pub asks_up_to : ℕ → ℕ → ℕ → List Ask
+asks_up_to number m n = flat_map (λ i. map (λ j. ask_of_parts number i j) (range_with_len 1 n)) (range_with_len 1 m)
+
+-- all that a rule can be asked of some rows
+abbrev pub asks : List Rule → ℕ → Held → Option Held → List Ask
+asks rules number s None = plain_ask number ∷ []
+asks rules number s (Some t) = asks_up_to number (part_count rules number s) (part_count rules number t)
+
+-- answers ------------------------------------------------------------------------------------
 
 -- two segments with a common point
 abbrev pub have_meeting : Option Segment → Option Segment → Bool
@@ -28,33 +63,37 @@ abbrev pub is_crossing_at : Option Segment → Option Segment → Option Place �
 is_crossing_at (Some a) (Some b) (Some p) = not (have_two_common_points a.0 a.1 b.0 b.1) && (lies_on p a.0 a.1 && lies_on p b.0 b.1)
 is_crossing_at _ _ _ = false
 
--- whether a row, or two of different cells, call a rule: a row that serves them must stand
-unfoldable pub are_subjects : Rule → Standing → Option Standing → Bool
-are_subjects (Unique subject columns) s (Some t) = is_of_side subject s && (is_of_side subject t && are_equal_in s columns t columns)
-are_subjects (Partner subject columns server server_columns) s None = is_of_side subject s
-are_subjects (EndNode subject tip server) s None = is_of_side subject s
-are_subjects (Crossing a b server) s (Some t) = are_of_sides a b s t && have_meeting (segment_of s.1) (segment_of t.1)
-are_subjects (Near a b d) s (Some t) = are_of_sides a b s t && are_nearer d (point_of s.1) (point_of t.1)
-are_subjects _ _ _ = false
+-- whether a row, or two of different cells, call a rule: a row that serves them must stand. Under a crossing
+-- the parts of the ask call, and none calls that isn't there; another rule is asked of whole rows
+unfoldable pub are_subjects : Rule → Ask → Held → Option Held → Bool
+are_subjects (Unique subject columns) ask s (Some t) = is_plain ask && (is_of_side subject s && (is_of_side subject t && are_equal_in s columns t columns))
+are_subjects (Partner subject columns server server_columns) ask s None = is_plain ask && is_of_side subject s
+are_subjects (EndNode subject tip server) ask s None = is_plain ask && is_of_side subject s
+are_subjects (Crossing a b server) ask s (Some t) = are_of_sides a b s t && have_meeting (part_of s.1.shape ask.first_part) (part_of t.1.shape ask.second_part)
+are_subjects (Near a b d) ask s (Some t) = is_plain ask && (are_of_sides a b s t && are_nearer d (point_of s) (point_of t))
+are_subjects _ _ _ _ = false
 
 -- whether a row serves such subjects
-unfoldable pub is_server : Rule → Standing → Option Standing → Standing → Bool
-is_server (Partner subject columns server server_columns) s None r = is_of_side subject s && (is_of_side server r && are_equal_in s columns r server_columns)
-is_server (EndNode subject tip server) s None r = is_of_side subject s && (is_of_side server r && are_one_point (end_of tip s.1) (point_of r.1))
-is_server (Crossing a b server) s (Some t) r = is_of_side server r && is_crossing_at (segment_of s.1) (segment_of t.1) (point_of r.1)
-is_server _ _ _ _ = false
+unfoldable pub is_server : Rule → Ask → Held → Option Held → Held → Bool
+is_server (Partner subject columns server server_columns) ask s None r =
+    is_plain ask && (is_of_side subject s && (is_of_side server r && are_equal_in s columns r server_columns))
+is_server (EndNode subject tip server) ask s None r =
+    is_plain ask && (is_of_side subject s && (is_of_side server r && are_one_point (end_of tip s) (point_of r)))
+is_server (Crossing a b server) ask s (Some t) r =
+    is_of_side server r && is_crossing_at (part_of s.1.shape ask.first_part) (part_of t.1.shape ask.second_part) (point_of r)
+is_server _ _ _ _ _ = false
 
-abbrev pub are_subjects_of : Option Rule → Standing → Option Standing → Bool
-are_subjects_of None s t = false
-are_subjects_of (Some rule) s t = are_subjects rule s t
+abbrev pub are_subjects_of : Option Rule → Ask → Held → Option Held → Bool
+are_subjects_of None ask s t = false
+are_subjects_of (Some rule) ask s t = are_subjects rule ask s t
 
-abbrev pub is_server_of : Option Rule → Standing → Option Standing → Standing → Bool
-is_server_of None s t r = false
-is_server_of (Some rule) s t r = is_server rule s t r
+abbrev pub is_server_of : Option Rule → Ask → Held → Option Held → Held → Bool
+is_server_of None ask s t r = false
+is_server_of (Some rule) ask s t r = is_server rule ask s t r
 
--- the same for the rule of a number; one that isn't there has no subjects
-unfoldable pub calls : List Rule → ℕ → Standing → Option Standing → Bool
-calls rules number s t = are_subjects_of (slice_get rules number) s t
+-- the same for the rule of the ask; one that isn't there has no subjects
+unfoldable pub calls : List Rule → Ask → Held → Option Held → Bool
+calls rules ask s t = are_subjects_of (slice_get rules ask.rule) ask s t
 
-unfoldable pub serves : List Rule → ℕ → Standing → Option Standing → Standing → Bool
-serves rules number s t r = is_server_of (slice_get rules number) s t r
+unfoldable pub serves : List Rule → Ask → Held → Option Held → Held → Bool
+serves rules ask s t r = is_server_of (slice_get rules ask.rule) ask s t r

@@ -1,43 +1,71 @@
--- What holds of needs and spots by their definitions, whatever the code does.
-use Rattle.std.specs.Prelude.{◌≡◌, ◌↔◌, ℤ, ◌≤ℤ◌, true, Contains, List, Some, None, Option, ⊤}
-use Rattle.std.specs.List.{IsDistinct}
+-- What holds of needs by their definitions, whatever the code does.
+use Rattle.std.specs.Prelude.{◌≡◌, ◌↔◌, true, List, Some, None, Option, ⊤}
+use Rattle.clr_rows.specs.declared.places.Place.{Place}
+use Rattle.clr_rows.specs.declared.tables.TableDef.{TableDef}
 use Rattle.clr_rows.specs.Contents.{Content, row_at}
-use Rattle.clr_segments.specs.declared.boxes.Bounds.{Bounds}
+use Rattle.clr_rows.specs.Held.{Held}
+use Rattle.clr_rows.specs.Parts.{part_of}
+use Rattle.clr_segments.specs.Segments.{LiesOn, SomeCommonPoint, TwoCommonPoints}
+use Rattle.clr_rules.specs.declared.needs.Ask.{Ask}
 use Rattle.clr_rules.specs.declared.rules.Rule.{Rule}
-use Rattle.clr_rules.specs.declared.spots.Spot.TheVariants.{Square}
-use Rattle.clr_rules.specs.Books.{has_distance}
-use Rattle.clr_rules.specs.Sides.{Standing}
+use Rattle.clr_rules.specs.declared.rules.Rule.TheVariants.{Crossing}
+use Rattle.clr_rules.specs.declared.sides.Side.{Side}
+use Rattle.clr_rules.specs.Books.{FitsCell}
 use Rattle.clr_rules.specs.Calls.{are_subjects, is_server}
-use Rattle.clr_rules.specs.Audits.{IsAudit}
-use Rattle.clr_rules.specs.Needs.{broken}
-use Rattle.clr_rules.specs.SpotOrder.{same_spot}
-use Rattle.clr_rules.specs.Spots.{SquareMeets, squares_of, spots, share}
+use Rattle.clr_rules.specs.Needs.{IsAudit, broken}
+use Rattle.clr_rules.specs.Sides.{Segment, is_of_side, are_of_sides, has_role_in, point_of}
 
 -- a content's broken needs are listed exactly, ascending, each once
 abbrev pub BrokenLaw : Type 0
 BrokenLaw = (rules : List Rule) (content : Content) → IsAudit rules (row_at content) (broken rules content)
 
--- the squares of a box are exactly those that meet it
-abbrev pub SquaresLaw : Type 0
-SquaresLaw = (b : Bounds) (i j : ℤ) → b.least.x ≤ℤ b.most.x → b.least.y ≤ℤ b.most.y → Contains (squares_of b) (Square i j) ↔ SquareMeets i j b
+-- crossings ----------------------------------------------------------------------------------
 
--- a row has each of its spots once
-abbrev pub SpotsDiffer : Type 0
-SpotsDiffer = (rule : Rule) (s : Standing) → IsDistinct same_spot (spots rule s)
+-- both parts of an ask are there, with a common point
+pub record PartsMeet (ask : Ask) (s t : Held) : Type 0 where
+  pub one : Segment
+  pub other : Segment
+  pub is_one : part_of s.1.shape ask.first_part ≡ Some one
+  pub is_other : part_of t.1.shape ask.second_part ≡ Some other
+  pub common : SomeCommonPoint one.0 one.1 other.0 other.1
 
--- the second subject, if there is one, shares a spot with the first, or one of them is wide
-abbrev pub SharesBeside : Rule → Standing → Option Standing → Type 0
-SharesBeside rule s None = ⊤
-SharesBeside rule s (Some t) = share rule s t ≡ true
+-- a row is a point of both parts of an ask, which are there and have no two common points that differ
+pub record IsAtCrossing (ask : Ask) (s t r : Held) : Type 0 where
+  pub one : Segment
+  pub other : Segment
+  pub point : Place
+  pub is_one : part_of s.1.shape ask.first_part ≡ Some one
+  pub is_other : part_of t.1.shape ask.second_part ≡ Some other
+  pub is_point : point_of r ≡ Some point
+  pub on_one : LiesOn point one.0 one.1
+  pub on_other : LiesOn point other.0 other.1
+  pub no_two : TwoCommonPoints one.0 one.1 other.0 other.1 → ⊥
 
--- any two of the subjects share a spot, or one of them is wide; a distance is within its range
-abbrev pub SubjectsShare : Type 0
-SubjectsShare = (rule : Rule) (s : Standing) (t : Option Standing) → has_distance rule ≡ true → are_subjects rule s t ≡ true → SharesBeside rule s t
+-- rows of a schema call a crossing exactly where the sides fit and the parts have a common point
+abbrev pub CrossingSubjects : Type 0
+CrossingSubjects = (tables : List TableDef) (a b server : Side) (ask : Ask) (s t : Held)
+    → FitsCell tables s
+    → FitsCell tables t
+    → (are_subjects (Crossing a b server) ask s (Some t) ≡ true) ↔ (are_of_sides a b s t ≡ true) × PartsMeet ask s t
 
--- and so does a serving row with each of them
-abbrev pub ServersShare : Type 0
-ServersShare = (rule : Rule) (s : Standing) (t : Option Standing) (r : Standing) → are_subjects rule s t ≡ true → is_server rule s t r ≡ true → (share rule s r ≡ true) × SharesBeside rule r t
+-- and a row of the server's side serves them exactly where it is a point of both
+abbrev pub CrossingServers : Type 0
+CrossingServers = (tables : List TableDef) (a b server : Side) (ask : Ask) (s t r : Held)
+    → FitsCell tables s
+    → FitsCell tables t
+    → (is_server (Crossing a b server) ask s (Some t) r ≡ true) ↔ (is_of_side server r ≡ true) × IsAtCrossing ask s t r
 
--- in either order
-abbrev pub SharedBothWays : Type 0
-SharedBothWays = (rule : Rule) (s t : Standing) → share rule s t ≡ share rule t s
+-- roles --------------------------------------------------------------------------------------
+
+-- the second subject, if there is one, has a role
+abbrev pub HasRoleToo : Rule → Option Held → Type 0
+HasRoleToo rule None = ⊤
+HasRoleToo rule (Some t) = has_role_in rule t ≡ true
+
+-- subjects have a role in their rule
+abbrev pub SubjectsHaveRoles : Type 0
+SubjectsHaveRoles = (rule : Rule) (ask : Ask) (s : Held) (t : Option Held) → are_subjects rule ask s t ≡ true → (has_role_in rule s ≡ true) × HasRoleToo rule t
+
+-- and so has a row that serves
+abbrev pub ServersHaveRoles : Type 0
+ServersHaveRoles = (rule : Rule) (ask : Ask) (s : Held) (t : Option Held) (r : Held) → is_server rule ask s t r ≡ true → has_role_in rule r ≡ true

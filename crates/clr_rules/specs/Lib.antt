@@ -1,12 +1,7 @@
-pub mod Audits
 pub mod Books
 pub mod Calls
 pub mod Fitting
-pub mod Index
 pub mod Laws
 pub mod Needs
-pub mod Reach
+pub mod Roles
 pub mod Sides
-pub mod SpotOrder
-pub mod SpotOrderLaws
-pub mod Spots

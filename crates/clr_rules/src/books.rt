@@ -1,15 +1,17 @@
-ghost use Rattle.std.specs.Prelude.{◌≡◌, ◌<◌, ◌≤◌, length, IfOk, MatchResult, Some, slice_get};
-ghost use Rattle.clr_rules.specs.Books.{FitsBook, book_fault};
+ghost use Rattle.std.specs.Prelude.{◌≡◌, ◌<◌, ◌≤◌, true, length, IfOk, MatchResult, Some, slice_get};
+ghost use Rattle.clr_rules.specs.declared.limits.TheConstants.{MOST_RULES};
+ghost use Rattle.std.specs.List.{list_all};
+ghost use Rattle.clr_rules.specs.Books.{FitsBook, book_fault, is_rule_within};
 
+mod faults;
 mod rule_checks;
 
 use crate::books::rule_checks::check_rules;
-use crate::faults::RuleFault;
+use crate::limits::MOST_RULES;
 use crate::rules::Rule;
 use clr_rows::Schema;
+pub use faults::RuleFault;
 use std::marker::Model;
-
-const MOST_RULES: usize = 64;
 
 /// Rules over the rows of a schema, numbered from 0: at most 64.
 #[derive(Debug, Drop)]
@@ -18,26 +20,27 @@ pub struct RuleBook {
 }
 
 impl Model for RuleBook {
-    ghost use Rattle.std.specs.Prelude.{◌≤◌, List, length};
+    ghost use Rattle.std.specs.Prelude.{List};
     ghost use Rattle.clr_rules.specs.declared.rules.Rule.{Rule as OneRule};
+    ghost use Rattle.clr_rules.specs.Books.{IsBook};
 
     ghost Value = { List OneRule };
 
     ghost view = { λ a. a.rules.items };
 
-    ghost invariant = { λ a. length a.rules.items ≤ 64 };
+    ghost invariant = { λ a. IsBook a.rules.items };
 }
 
 impl RuleBook {
-    /// The book of these rules, numbered in their order, for the rows of this schema. Otherwise
-    /// the number of a rule and its fault: 64 and `TooMany` for more than 64 rules, before all
-    /// else; then of the first rule that fails a test the first test that it fails. `NoTable`: the
-    /// table of a side isn't in the schema. `NoColumn`: a list of columns is empty or names a
-    /// column that its table hasn't, or `Col::Key` stands in a `Unique`. `KindsDiffer`: the two
-    /// lists of a `Partner` differ in length or kinds. `WrongShape`: the table of a side hasn't
-    /// the shape that the rule asks for. `BadDistance`: a distance outside 1 to 1,000,000
-    /// millimetres. `BadFilter`: a filter names a column that its table hasn't, or a literal is of
-    /// another kind than its column.
+    /// The book of these rules, numbered in their order, for the rows of this schema. Fails with
+    /// number 64 and `TooMany` where there are more than 64 rules. Else it fails with the number of
+    /// the first rule that fails a test, and with `NoTable` where the table of a side isn't in the
+    /// schema, with `NoColumn` where a list of columns is empty or names a column that its table
+    /// hasn't or `Col::Key` stands in a `Unique`, with `KindsDiffer` where the lists of a `Partner`
+    /// differ in length or kinds, with `WrongShape` where the table of a side hasn't the shape that
+    /// the rule asks for, with `BadDistance` where a distance isn't 1 to 1,000,000 millimetres, and
+    /// with `BadFilter` where a filter names a column that its table hasn't or a literal is of
+    /// another kind than its column. The tests are made in this order.
     #[tactic(auto, unfolding(crate::specs::Books::book_fault))]
     pub fn new(schema: &Schema, rules: Vec<Rule>) -> Result<RuleBook, (u16, RuleFault)>
         ensures made { IfOk result (λ book. book ≡ rules.items) }
@@ -55,7 +58,7 @@ impl RuleBook {
     /// How many rules there are.
     pub fn len(&self) -> usize
         ensures value { result ≡ length self.now }
-        ensures small { length self.now ≤ 64 }
+        ensures small { length self.now ≤ MOST_RULES }
     {
         self.rules.len()
     }
@@ -67,7 +70,12 @@ impl RuleBook {
     {
         &self.rules[number as usize]
     }
-}
 
-#[cfg(test)]
-mod tests;
+    /// The rules, in the order of their numbers.
+    pub fn rules(&self) -> &[Rule]
+        ensures value { result.now ≡ self.now }
+        ensures within { list_all is_rule_within self.now ≡ true }
+    {
+        self.rules.as_slice()
+    }
+}

@@ -38,4 +38,11 @@ impl ColumnList {
     {
         self.list.as_slice()
     }
+
+    /// The list back again.
+    pub fn into_vec(self) -> Vec<Col>
+        ensures { result.items ≡ self }
+    {
+        self.list
+    }
 }

@@ -1,7 +1,6 @@
-//! Laws of needs and spots, each proved by a function that does nothing.
+//! Laws of needs, each proved by a function that does nothing.
 
-ghost use Rattle.clr_rules.specs.Laws.{BrokenLaw};
-ghost use Rattle.clr_rules.specs.Laws.{SquaresLaw, SpotsDiffer, SubjectsShare, ServersShare, SharedBothWays};
+ghost use Rattle.clr_rules.specs.Laws.{BrokenLaw, CrossingSubjects, CrossingServers, SubjectsHaveRoles, ServersHaveRoles};
 
 /// The broken needs of a content are listed exactly, ascending, each once: every rule holds where
 /// none is listed, and else the first is the least.
@@ -9,29 +8,24 @@ pub fn broken_needs_are_listed()
     ensures { BrokenLaw }
 {}
 
-/// The squares of a box, its least corner below its most, are exactly those that meet it.
-pub fn squares_of_a_box()
-    ensures { SquaresLaw }
+/// Rows that fit a schema call a crossing exactly where they are of its sides, in either
+/// arrangement, and the parts of the ask have a common point.
+pub fn crossing_subjects_have_common_points()
+    ensures { CrossingSubjects }
 {}
 
-/// A row has each of its spots under a rule once.
-#[tactic(auto, using(crate::proofs::DistinctSpots::spots_differ))]
-pub fn spots_stand_once()
-    ensures { SpotsDiffer }
+/// Where they fit a schema, a row serves them exactly where it is of the server's side and a point
+/// of both parts, which have no two common points that differ.
+pub fn crossing_servers_are_common_points()
+    ensures { CrossingServers }
 {}
 
-/// Two subjects of a need share a spot, or one of them is wide, where the rule's distance, if it has
-/// one, is within its range.
-pub fn subjects_share_spots()
-    ensures { SubjectsShare }
+/// The subjects of a rule have a role in it.
+pub fn subjects_have_roles()
+    ensures { SubjectsHaveRoles }
 {}
 
-/// A row that serves subjects shares a spot with each of them, or one of the two is wide.
-pub fn servers_share_spots()
-    ensures { ServersShare }
-{}
-
-/// Two rows share a spot in either order.
-pub fn spots_are_shared_both_ways()
-    ensures { SharedBothWays }
+/// A row that serves subjects of a rule has a role in it.
+pub fn servers_have_roles()
+    ensures { ServersHaveRoles }
 {}

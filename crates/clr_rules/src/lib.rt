@@ -1,39 +1,27 @@
-//! Rules over the rows of a network: which rows call a rule, which serve them, and which needs no
-//! row serves.
+//! Rules over the rows of a network: which rows call a rule, which serve them, and what the needs
+//! are that no row serves.
 #![tactic(auto)]
 
-mod audits;
 mod books;
-mod broken;
-mod broken_needs;
-mod calling;
-mod cell_sets;
+mod calls;
 mod columns;
-mod faults;
-#[cfg(test)]
-mod fixtures;
-mod index;
 mod laws;
+mod limits;
+mod needs;
+mod roles;
 mod rules;
-mod segments;
-mod serving;
 mod shapes;
 mod sides;
-mod spot_order;
-mod spot_values;
-mod spots;
-mod spots_of;
-mod squares;
 
-pub use audits::audit;
-pub use books::RuleBook;
-pub use broken::Broken;
+pub use books::{RuleBook, RuleFault};
 pub use columns::{Col, ColumnList};
-pub use faults::RuleFault;
 pub use laws::{
-    broken_needs_are_listed, servers_share_spots, spots_are_shared_both_ways, spots_stand_once,
-    squares_of_a_box, subjects_share_spots,
+    broken_needs_are_listed, crossing_servers_are_common_points,
+    crossing_subjects_have_common_points, servers_have_roles, subjects_have_roles,
 };
+pub use limits::{LEAST_DISTANCE, MOST_RULES};
+pub use needs::{Ask, Broken};
+pub use roles::Roles;
 pub use rules::{Rule, Tip};
-pub use sides::{Filter, Side};
-pub use spots::{Spot, SpotList, Spots};
+pub use shapes::{end_in, point_in};
+pub use sides::{Filter, Side, is_of_side};

@@ -1,7 +1,7 @@
 use crate::columns::ColumnList;
 use crate::sides::Side;
 
-/// An end of a segment.
+/// An end of a segment, or of a path: its first vertex, or its last.
 #[derive(Clone, Copy, Debug, PartialEq, Eq)]
 pub enum Tip {
     First,
@@ -25,14 +25,14 @@ pub enum Rule {
         server: Side,
         server_columns: ColumnList,
     },
-    /// Each segment of the subject has a point of the server at this end.
+    /// Each segment or path of the subject has a point of the server at this end.
     EndNode {
         subject: Side,
         tip: Tip,
         server: Side,
     },
     /// Where segments of a and b have a common point, a point of the server is on both of them.
-    /// None serves two segments that overlap.
+    /// None serves two segments that overlap. A path is taken part by part.
     Crossing {
         a: Side,
         b: Side,

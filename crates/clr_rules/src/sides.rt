@@ -1,5 +1,6 @@
 ghost use Rattle.std.specs.Prelude.{◌≡◌, Some, slice_get, option_map};
 ghost use Rattle.std.specs.List.{list_all, zip};
+ghost use Rattle.clr_rows.specs.Held.{held_of};
 ghost use Rattle.clr_rules.specs.Sides.{same_field, passes, is_of_side, field, are_equal_in};
 
 use crate::columns::Col;
@@ -35,6 +36,13 @@ impl Filter {
         ensures { result.now ≡ self.now }
     {
         self.list.as_slice()
+    }
+
+    /// The list back again.
+    pub fn into_vec(self) -> Vec<(u16, Value)>
+        ensures { result.items ≡ self }
+    {
+        self.list
     }
 }
 
@@ -75,15 +83,15 @@ fn passes(filter: &Filter, row: &Row) -> bool
 
 /// Whether a row is in the side's table and passes its filter.
 #[tactic(auto, unfolding(crate::specs::Sides::is_of_side))]
-pub(crate) fn is_of_side(side: &Side, held: Held) -> bool
-    ensures { result ≡ is_of_side side.now (held.entry.cell, held.entry.row.now) }
+pub fn is_of_side(side: &Side, held: Held) -> bool
+    ensures { result ≡ is_of_side side.now (held_of held.entry) }
 {
     held.cell.table == side.table && passes(&side.filter, held.row)
 }
 
 /// Whether the one row has in a column what the other has in another.
 fn have_same_field(first: Held, column: Col, second: Held, other: Col) -> bool
-    ensures { result ≡ same_field (field (first.entry.cell, first.entry.row.now) column) (field (second.entry.cell, second.entry.row.now) other) }
+    ensures { result ≡ same_field (field (held_of first.entry) column) (field (held_of second.entry) other) }
 {
     match (column, other) {
         (Col::Key, Col::Key) => first.cell.key == second.cell.key,
@@ -107,7 +115,7 @@ fn have_same_value(first: &Row, column: u16, second: &Row, other: u16) -> bool
 
 /// Whether the one row has in each column what the other has in the one beside it.
 fn are_equal_beside(first: Held, columns: &[Col], second: Held, others: &[Col]) -> bool
-    ensures { result ≡ list_all (λ p. same_field (field (first.entry.cell, first.entry.row.now) p.0) (field (second.entry.cell, second.entry.row.now) p.1)) (zip columns.now others.now) }
+    ensures { result ≡ list_all (λ p. same_field (field (held_of first.entry) p.0) (field (held_of second.entry) p.1)) (zip columns.now others.now) }
 {
     columns.iter().zip(others.iter()).all(|(column, other)| have_same_field(
         first, *column, second, *other,
@@ -117,7 +125,7 @@ fn are_equal_beside(first: Held, columns: &[Col], second: Held, others: &[Col]) 
 /// Whether the one row has in its columns what the other has in its own, in order.
 #[tactic(auto, unfolding(crate::specs::Sides::are_equal_in))]
 pub(crate) fn are_equal_in(first: Held, columns: &[Col], second: Held, others: &[Col]) -> bool
-    ensures { result ≡ are_equal_in (first.entry.cell, first.entry.row.now) columns.now (second.entry.cell, second.entry.row.now) others.now }
+    ensures { result ≡ are_equal_in (held_of first.entry) columns.now (held_of second.entry) others.now }
 {
     columns.len() == others.len() && are_equal_beside(first, columns, second, others)
 }

@@ -6,5 +6,6 @@ pub mod PointLemmas
 pub mod CommonLimits
 pub mod SearchLemmas
 pub mod BoxLemmas
+pub mod ShapeBoxes
 pub mod MeetLaws
 pub mod Words64

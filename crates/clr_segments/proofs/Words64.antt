@@ -1,9 +1,11 @@
 -- Numbers that went into words of 64 bits and came back: those of the sizes met here are kept.
-use Rattle.std.proofs.Common.{◌≡◌, ◌≢◌, ℤ, pos, negsuc, ◌≤◌, ◌<ℤ◌, ◌↔◌, Bool, true, false, IsTrue, inl, inr, subst₂, ◌*ℤ◌, ◌-ℤ◌, ◌+ℤ◌, unsigned_abs, mul-le-mul, lit<, lit≤, le_trans, lt_of_le_of_lt, ◌∙◌, arith, ap, ap₂, sym, refl, to_z, of_z, SFits, w64, to_z-of_z}
+use Rattle.std.proofs.Common.{◌≡◌, ◌≢◌, ℤ, pos, negsuc, ◌≤◌, ◌<ℤ◌, ◌↔◌, Bool, true, false, IsTrue, inl, inr, subst₂, ◌*◌, ◌*ℤ◌, ◌-ℤ◌, ◌+ℤ◌, unsigned_abs, mul-le-mul, lit<, lit≤, le_trans, lt_of_le_of_lt, ◌∙◌, arith, ap, ap₂, sym, refl, to_z, of_z, SFits, w64, to_z-of_z}
 use lib.Signed.{lt_z}
 use Rattle.std.proofs.lemmas.Int.{ints, fits_signed_from_abs, unsigned_abs-mul}
 use Rattle.std.specs.Int.{int_signum}
 use Rattle.clr_segments.proofs.Integers.{linear}
+use Rattle.clr_rows.specs.declared.limits.TheConstants.{GREATEST_COORDINATE}
+use Rattle.clr_segments.specs.Sizes.{greatest_difference, greatest_product}
 use Rattle.clr_segments.specs.Turns.{SameSign}
 
 -- the number that a word of 64 bits holds, after this one was put into it
@@ -11,16 +13,16 @@ abbrev pub word_value : ℤ → ℤ
 word_value z = to_z w64 (of_z w64 z)
 
 -- numbers of these sizes fit
-pub fits : (z : ℤ) → unsigned_abs z ≤ 8000000000000000000 → SFits w64 z
+pub fits : (z : ℤ) → unsigned_abs z ≤ 2 * greatest_product → SFits w64 z
 fits z h = fits_signed_from_abs w64 z (lt_of_le_of_lt h (lit< tt))
 
-pub coordinate_fits : (z : ℤ) → unsigned_abs z ≤ 1000000000 → SFits w64 z
+pub coordinate_fits : (z : ℤ) → unsigned_abs z ≤ GREATEST_COORDINATE → SFits w64 z
 coordinate_fits z h = fits z (le_trans h (lit≤ tt))
 
-pub difference_fits : (z : ℤ) → unsigned_abs z ≤ 2000000000 → SFits w64 z
+pub difference_fits : (z : ℤ) → unsigned_abs z ≤ greatest_difference → SFits w64 z
 difference_fits z h = fits z (le_trans h (lit≤ tt))
 
-pub product_fits : (z : ℤ) → unsigned_abs z ≤ 4000000000000000000 → SFits w64 z
+pub product_fits : (z : ℤ) → unsigned_abs z ≤ greatest_product → SFits w64 z
 product_fits z h = fits z (le_trans h (lit≤ tt))
 
 -- a number of two words is that of the numbers that they hold
@@ -35,29 +37,29 @@ pub holds_of_words : (f : ℤ → ℤ → ℤ → ℤ → Type 0) (p q r u : ℤ
 holds_of_words f p q r u a b c d h = subst₂ (λ (x y : ℤ). f p q x y) (to_z-of_z c) (to_z-of_z d) (subst₂ (λ (x y : ℤ). f x y (word_value r) (word_value u)) (to_z-of_z a) (to_z-of_z b) h)
 
 -- ---- differences, products and their sums
-pub difference_is : (x y d : ℤ) → unsigned_abs x ≤ 1000000000 → unsigned_abs y ≤ 1000000000 → d ≡ word_value x -ℤ word_value y → d ≡ x -ℤ y
+pub difference_is : (x y d : ℤ) → unsigned_abs x ≤ GREATEST_COORDINATE → unsigned_abs y ≤ GREATEST_COORDINATE → d ≡ word_value x -ℤ word_value y → d ≡ x -ℤ y
 difference_is x y d h k e = e ∙ two_words (λ (a b : ℤ). a -ℤ b) x y (coordinate_fits x h) (coordinate_fits y k)
 
-pub product_is : (x y p : ℤ) → unsigned_abs x ≤ 2000000000 → unsigned_abs y ≤ 2000000000 → p ≡ word_value x *ℤ word_value y → p ≡ x *ℤ y
+pub product_is : (x y p : ℤ) → unsigned_abs x ≤ greatest_difference → unsigned_abs y ≤ greatest_difference → p ≡ word_value x *ℤ word_value y → p ≡ x *ℤ y
 product_is x y p h k e = e ∙ two_words (λ (a b : ℤ). a *ℤ b) x y (difference_fits x h) (difference_fits y k)
 
-pub product_bound : (x y : ℤ) → unsigned_abs x ≤ 2000000000 → unsigned_abs y ≤ 2000000000 → unsigned_abs (x *ℤ y) ≤ 4000000000000000000
+pub product_bound : (x y : ℤ) → unsigned_abs x ≤ greatest_difference → unsigned_abs y ≤ greatest_difference → unsigned_abs (x *ℤ y) ≤ greatest_product
 product_bound x y h k = rw (unsigned_abs-mul x y) (mul-le-mul h k)
 
-pub product_in_word : (x y : ℤ) → unsigned_abs x ≤ 2000000000 → unsigned_abs y ≤ 2000000000 → word_value (word_value x *ℤ word_value y) ≡ x *ℤ y
+pub product_in_word : (x y : ℤ) → unsigned_abs x ≤ greatest_difference → unsigned_abs y ≤ greatest_difference → word_value (word_value x *ℤ word_value y) ≡ x *ℤ y
 product_in_word x y h k =
     ap word_value (two_words (λ (a b : ℤ). a *ℤ b) x y (difference_fits x h) (difference_fits y k)) ∙ to_z-of_z (product_fits (x *ℤ y) (product_bound x y h k))
 
-pub minus_fits : (m n : ℤ) → unsigned_abs m ≤ 4000000000000000000 → unsigned_abs n ≤ 4000000000000000000 → SFits w64 (word_value m -ℤ word_value n)
+pub minus_fits : (m n : ℤ) → unsigned_abs m ≤ greatest_product → unsigned_abs n ≤ greatest_product → SFits w64 (word_value m -ℤ word_value n)
 minus_fits m n h k = omega (arith, ints)
 
-pub minus_in_word : (m n : ℤ) → unsigned_abs m ≤ 4000000000000000000 → unsigned_abs n ≤ 4000000000000000000 → word_value (word_value m -ℤ word_value n) ≡ m -ℤ n
+pub minus_in_word : (m n : ℤ) → unsigned_abs m ≤ greatest_product → unsigned_abs n ≤ greatest_product → word_value (word_value m -ℤ word_value n) ≡ m -ℤ n
 minus_in_word m n h k = to_z-of_z (minus_fits m n h k) ∙ two_words (λ (a b : ℤ). a -ℤ b) m n (product_fits m h) (product_fits n k)
 
-pub plus_fits : (m n : ℤ) → unsigned_abs m ≤ 4000000000000000000 → unsigned_abs n ≤ 4000000000000000000 → SFits w64 (word_value m +ℤ word_value n)
+pub plus_fits : (m n : ℤ) → unsigned_abs m ≤ greatest_product → unsigned_abs n ≤ greatest_product → SFits w64 (word_value m +ℤ word_value n)
 plus_fits m n h k = omega (arith, ints)
 
-pub plus_in_word : (m n : ℤ) → unsigned_abs m ≤ 4000000000000000000 → unsigned_abs n ≤ 4000000000000000000 → word_value (word_value m +ℤ word_value n) ≡ m +ℤ n
+pub plus_in_word : (m n : ℤ) → unsigned_abs m ≤ greatest_product → unsigned_abs n ≤ greatest_product → word_value (word_value m +ℤ word_value n) ≡ m +ℤ n
 plus_in_word m n h k = to_z-of_z (plus_fits m n h k) ∙ two_words (λ (a b : ℤ). a +ℤ b) m n (product_fits m h) (product_fits n k)
 
 -- ---- signs
@@ -102,10 +104,10 @@ pub tested_if_zero : (x m : ℤ) → x ≡ int_signum m → m ≡ pos 0 → of_z
 tested_if_zero x m e f = ap (of_z w64) (e ∙ ap int_signum f)
 
 -- ---- coordinates that differ or are the same
-pub words_apart : (x y : ℤ) → unsigned_abs x ≤ 1000000000 → unsigned_abs y ≤ 1000000000 → x ≢ y → word_value x ≢ word_value y
+pub words_apart : (x y : ℤ) → unsigned_abs x ≤ GREATEST_COORDINATE → unsigned_abs y ≤ GREATEST_COORDINATE → x ≢ y → word_value x ≢ word_value y
 words_apart x y h k n e = n (sym (to_z-of_z (coordinate_fits x h)) ∙ e ∙ to_z-of_z (coordinate_fits y k))
 
-pub same_words : (x y : ℤ) → unsigned_abs x ≤ 1000000000 → unsigned_abs y ≤ 1000000000 → of_z w64 x ≡ of_z w64 y → x ≡ y
+pub same_words : (x y : ℤ) → unsigned_abs x ≤ GREATEST_COORDINATE → unsigned_abs y ≤ GREATEST_COORDINATE → of_z w64 x ≡ of_z w64 y → x ≡ y
 same_words x y h k e = sym (to_z-of_z (coordinate_fits x h)) ∙ ap (to_z w64) e ∙ to_z-of_z (coordinate_fits y k)
 
 -- ---- answers of tests

@@ -1,7 +1,10 @@
 -- Boxes with sides along the axes.
-use Rattle.std.specs.Prelude.{ℕ, ℤ, pos, ◌+ℤ◌, ◌-ℤ◌, ◌*ℤ◌, ◌≤ℤ◌, ◌<◌, ◌≤◌}
+use Rattle.std.specs.Prelude.{ℕ, ℤ, pos, ◌+ℤ◌, ◌-ℤ◌, ◌*ℤ◌, ◌≤ℤ◌, ◌<◌, ◌≤◌, List, [], ◌∷◌, Option, Some, None}
 use Rattle.std.specs.Int.{int_min, int_max}
+use Rattle.std.specs.List.{AllByRecursion}
 use Rattle.clr_rows.specs.declared.places.Place.{Place}
+use Rattle.clr_rows.specs.declared.places.Shape.{Shape}
+use Rattle.clr_rows.specs.declared.places.Shape.TheVariants.{Bare, At, Line, Chain}
 use Rattle.clr_segments.specs.declared.boxes.Bounds.{Bounds}
 use Rattle.clr_segments.specs.Segments.{part_way}
 
@@ -52,3 +55,36 @@ grown_box b d = record {
   least = record { x = b.least.x -ℤ d; y = b.least.y -ℤ d };
   most = record { x = b.most.x +ℤ d; y = b.most.y +ℤ d };
 }
+
+-- each of the places is in the box
+abbrev pub HoldsPlaces : List Place → Bounds → Type 0
+HoldsPlaces places b = AllByRecursion (λ p. InBox p b) places
+
+-- c is the least box that holds the places
+pub record IsLeastBoxOf (places : List Place) (c : Bounds) : Type 0 where
+  pub holds : HoldsPlaces places c
+  pub least : (e : Bounds) → HoldsPlaces places e → IsWithin c e
+
+-- the box widened to hold a place too
+abbrev pub box_with : Bounds → Place → Bounds
+box_with b p = record {
+  least = record { x = int_min b.least.x p.x; y = int_min b.least.y p.y };
+  most = record { x = int_max b.most.x p.x; y = int_max b.most.y p.y };
+}
+
+-- the box widened to hold each of the places
+abbrev pub box_with_all : Bounds → List Place → Bounds
+box_with_all b [] = b
+box_with_all b (p ∷ ps) = box_with_all (box_with b p) ps
+
+-- the least box of a path
+abbrev pub box_of_path : List Place → Option Bounds
+box_of_path [] = None
+box_of_path (p ∷ ps) = Some (box_with_all (box_between p p) ps)
+
+-- the least box of a shape that has one
+abbrev pub box_of_shape : Shape → Option Bounds
+box_of_shape Bare = None
+box_of_shape (At p) = Some (box_between p p)
+box_of_shape (Line p q) = Some (box_between p q)
+box_of_shape (Chain vertices) = box_of_path vertices

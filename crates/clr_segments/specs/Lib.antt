@@ -3,4 +3,5 @@ pub mod Bounding
 pub mod Laws
 pub mod Searches
 pub mod Segments
+pub mod Sizes
 pub mod Turns

@@ -1,7 +1,7 @@
 ghost use Rattle.std.specs.Prelude.{◌≡◌, ◌↔◌, ℤ, IsTrue};
-ghost use Rattle.clr_segments.specs.Bounding.{Between, InBox, BoxesTouch, IsLeastBox, box_between};
+ghost use Rattle.clr_segments.specs.Bounding.{Between, InBox, BoxesTouch, IsLeastBox, box_between, box_with, box_of_path, box_of_shape};
 
-use clr_rows::Place;
+use clr_rows::{Place, Shape};
 
 /// A box with sides along the axes, in millimetres: the places from the least to the most in both
 /// coordinates, its edges counted in.
@@ -25,6 +25,41 @@ pub fn box_of(a: Place, b: Place) -> Bounds
             x: a.x.max(b.x),
             y: a.y.max(b.y),
         },
+    }
+}
+
+// The box widened to hold a place too.
+fn widen(bounds: Bounds, place: Place) -> Bounds
+    ensures { result ≡ box_with bounds place }
+{
+    Bounds {
+        least: box_of(bounds.least, place).least,
+        most: box_of(bounds.most, place).most,
+    }
+}
+
+// The least box of a path's vertices, or none where there are none.
+fn box_of_path(vertices: &[Place]) -> Option<Bounds>
+    ensures { result ≡ box_of_path vertices.now }
+{
+    let first = *vertices.first()?;
+    let mut bounds = box_of(first, first);
+    for vertex in &vertices[1..] {
+        bounds = widen(bounds, *vertex);
+    }
+    Some(bounds)
+}
+
+/// The least box that holds every vertex of a shape, or none of a shape without vertices. It holds
+/// each part of the shape.
+pub fn box_of_shape(shape: &Shape) -> Option<Bounds>
+    ensures { result ≡ box_of_shape shape.now }
+{
+    match shape {
+        Shape::Bare => None,
+        Shape::At(place) => Some(box_of(*place, *place)),
+        Shape::Line(first, second) => Some(box_of(*first, *second)),
+        Shape::Chain(vertices) => box_of_path(vertices.as_slice()),
     }
 }
 

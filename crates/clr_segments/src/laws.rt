@@ -1,5 +1,5 @@
 ghost use Rattle.clr_segments.specs.Laws.{CommonPointsAreWhole, MeetingBoxesTouch, PointsAreBoxed};
-ghost use Rattle.clr_segments.specs.Laws.{NearBoxesTouch};
+ghost use Rattle.clr_segments.specs.Laws.{ShapesAreBoxed, PartsAreBoxed, MeetingShapesTouch, NearBoxesTouch};
 ghost use Rattle.clr_segments.specs.Laws.{MeetIsOne, SegmentsInEitherOrder, EndsInEitherOrder};
 ghost use Rattle.clr_segments.specs.Laws.{PointsAreFound, CommonPointsAreFound, TwoCommonPointsAreFound};
 
@@ -18,6 +18,21 @@ pub fn meeting_boxes_touch()
 /// A point of a segment is in the segment's box.
 pub fn points_are_boxed()
     ensures { PointsAreBoxed }
+{}
+
+/// A shape's box is the least that holds its vertices.
+pub fn shapes_are_boxed()
+    ensures { ShapesAreBoxed }
+{}
+
+/// A part's box, and so each point of the part, is in its shape's box.
+pub fn parts_are_boxed()
+    ensures { PartsAreBoxed }
+{}
+
+/// The boxes of two shapes touch where parts of them have a common point.
+pub fn meeting_shapes_touch()
+    ensures { MeetingShapesTouch }
 {}
 
 /// The boxes of two points nearer than d, grown by d, touch.

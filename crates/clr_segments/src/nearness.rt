@@ -2,6 +2,7 @@ ghost use Rattle.std.specs.Prelude.{◌↔◌, ◌≤ℤ◌, ◌<ℤ◌, ◌*ℤ
 ghost use Rattle.clr_rows.specs.Places.{InRange};
 ghost use Rattle.clr_segments.specs.Turns.{squared_distance};
 
+use crate::limits::GREATEST_DISTANCE;
 use crate::sides::{difference, product};
 use clr_rows::Place;
 
@@ -11,7 +12,7 @@ pub fn near(p: Place, q: Place, d: i64) -> bool
     requires p_in { InRange p }
     requires q_in { InRange q }
     requires d_least { pos 1 ≤ℤ d }
-    requires d_most { d ≤ℤ pos 1000000 }
+    requires d_most { d ≤ℤ GREATEST_DISTANCE }
     ensures { IsTrue result ↔ (squared_distance p q <ℤ (d *ℤ d)) }
 {
     let x = difference(q.x, p.x);

@@ -1,26 +1,28 @@
 ghost use Rattle.std.specs.Prelude.{◌≡◌, ◌≤◌, ◌-ℤ◌, ◌*ℤ◌, unsigned_abs};
 ghost use Rattle.std.specs.Int.{int_signum};
+ghost use Rattle.clr_rows.specs.declared.limits.TheConstants.{GREATEST_COORDINATE};
 ghost use Rattle.clr_rows.specs.Places.{InRange};
+ghost use Rattle.clr_segments.specs.Sizes.{greatest_difference, greatest_product};
 ghost use Rattle.clr_segments.specs.Turns.{cross_product};
 
 use clr_rows::Place;
 
 // How far the coordinate `to` is above `from`.
 pub(crate) fn difference(to: i64, from: i64) -> i64
-    requires to_in { unsigned_abs to ≤ 1000000000 }
-    requires from_in { unsigned_abs from ≤ 1000000000 }
+    requires to_in { unsigned_abs to ≤ GREATEST_COORDINATE }
+    requires from_in { unsigned_abs from ≤ GREATEST_COORDINATE }
     ensures value { result ≡ to -ℤ from }
-    ensures bound { unsigned_abs result ≤ 2000000000 }
+    ensures bound { unsigned_abs result ≤ greatest_difference }
 {
     to - from
 }
 
 // The product of two differences.
 pub(crate) fn product(m: i64, n: i64) -> i64
-    requires m_in { unsigned_abs m ≤ 2000000000 }
-    requires n_in { unsigned_abs n ≤ 2000000000 }
+    requires m_in { unsigned_abs m ≤ greatest_difference }
+    requires n_in { unsigned_abs n ≤ greatest_difference }
     ensures value { result ≡ m *ℤ n }
-    ensures bound { unsigned_abs result ≤ 4000000000000000000 }
+    ensures bound { unsigned_abs result ≤ greatest_product }
 {
     m * n
 }

@@ -1,104 +1,115 @@
--- What keeps workspaces sound.
-use Rattle.std.proofs.Common.{◌≡◌, ℕ, suc, zero, ◌+◌, ◌<◌, ◌≢◌, Bool, true, false, List, [], ◌∷◌, ◌++◌, Some, None, length, refl, ap, sym, ◌∙◌, subst, arith, slice_set, get_or-set_other, ◌⊎◌, inl, inr, nat_lt, is_some}
-use Rattle.std.specs.Prelude.{IfSome, IsSome, ◌↔◌}
-use Rattle.std.proofs.lemmas.Bool.{ltb-true, ltb-false, false≢true}
-use Rattle.std.proofs.lemmas.List.{length-set, length-append}
-use Rattle.std.proofs.Math.ListN.{get_or, get_or-append, get_or-map}
-use Rattle.std.proofs.Math.Seq.{get_or-append_seam, map-set_same}
-use Rattle.clr_rows.specs.Names.{is_good_name}
-use Rattle.clr_rows.specs.Contents.{Content}
-use Rattle.clr_tree.specs.Spaces.{Space, no_space, space_at, find, parent_of, root, IsSound}
-use Rattle.clr_tree.proofs.FindLemmas.{find_set, find_more, find_last, find_within, no_empty_name}
+-- What keeps a tree sound.
+use Rattle.std.proofs.Common.{◌≡◌, ℕ, suc, zero, ◌+◌, ◌<◌, ◌≢◌, ⊎_elim, Bool, true, false, cond, not, ◌&&◌, List, [], ◌∷◌, ◌++◌, length, take, drop, refl, ap, sym, ◌∙◌, subst, arith, slice_set, remove}
+use Rattle.std.specs.Str.{bytes_eq}
+use Rattle.std.specs.Cmp.Lexicographic.{bytes_decides}
+use Rattle.std.proofs.lemmas.Bool.{cases_eq}
+use Rattle.std.proofs.lemmas.List.{length-set, get_or-set_same, get_or-set_other}
+use Rattle.clr_rows.specs.Contents.{no_rows}
+use Rattle.clr_layers.specs.Marks.{Name, Mark, Saved, ChildMark, is_saved, is_mark_of, mark_at, mark_count, saved_names, without_saved, without_mark_of}
+use Rattle.clr_layers.specs.Workspaces.{Workspace, no_workspace, workspace_at, is_child_named, child_count}
+use Rattle.clr_tree.specs.Soundness.{are_good_savepoints, IsSound}
+use Rattle.clr_tree.proofs.CountLemmas.{tally, count-tally, count-append, count-set}
+use Rattle.clr_tree.proofs.RootLemmas.{rooted_set, parent_set}
+use Rattle.clr_tree.proofs.DepthLemmas.{depth_same}
 
--- LIVE alone
-pub root_sound : (live : Content) → IsSound (root live ∷ [])
-unfolding is_good_name
-root_sound live = record {
-  filled = omega arith;
-  live = refl;
-  top = refl;
-  good = λ i lt. let first : i ≡ 0 = omega arith in rw first refl;
-  own = λ i lt. let first : i ≡ 0 = omega arith in rw first refl;
-  under = λ i later lt. absurd (omega arith);
-}
+-- marks --------------------------------------------------------------------------------------------
 
--- a field that a new workspace shares with the one that it replaces is as it was everywhere
-kept : (f : Space → List ℕ) (ws : List Space) (at : ℕ) (w : Space) → f w ≡ f (space_at ws at) → (i : ℕ) → f (space_at (slice_set ws at w) i) ≡ f (space_at ws i)
-kept f ws at w e i =
-    sym (get_or-map f (slice_set ws at w) i no_space) ∙ ap (λ (fs : List (List ℕ)). get_or fs i (f no_space)) (map-set_same f ws at w no_space e) ∙ get_or-map f ws i no_space
+module _ (n : Name) where
+  -- savepoints don't count
+  pub count-without_saved : (ms : List Mark) → mark_count (without_saved ms) n ≡ mark_count ms n
+  count-without_saved ms = count-tally (is_mark_of n) (without_saved ms) ∙ by ms ∙ sym (count-tally (is_mark_of n) ms)
+    where
+      by : (ms : List Mark) → tally (is_mark_of n) (without_saved ms) ≡ tally (is_mark_of n) ms
+      by [] = refl
+      by (Saved name content ∷ ms) = by ms
+      by (ChildMark name ∷ ms) = ap (λ k. cond (bytes_eq n name) (suc k) k) (by ms)
 
--- a workspace replaced by one of the same name and parent
-pub sound_set : (ws : List Space) (at : ℕ) (w : Space) → w.name ≡ (space_at ws at).name → w.parent ≡ (space_at ws at).parent → IsSound ws → IsSound (slice_set ws at w)
-sound_set ws at w name parent sound =
-    let new = slice_set ws at w in
-    let names = kept (λ v. v.name) ws at w name in
-    let parents = kept (λ v. v.parent) ws at w parent in
-    let as_before : (i : ℕ) → i < length new → i < length ws = λ i lt. subst (λ n. i < n) (length-set ws at w) lt in
-    record {
-      filled = subst (λ n. 0 < n) (sym (length-set ws at w)) sound.filled;
-      live = names 0 ∙ sound.live;
-      top = parents 0 ∙ sound.top;
-      good = λ i lt. ap is_good_name (names i) ∙ sound.good i (as_before i lt);
-      own = λ i lt. find_set ws at w _ name ∙ ap (find ws) (names i) ∙ sound.own i (as_before i lt);
-      under = λ i later lt. let p = sound.under i later (as_before i lt) in (p.0, find_set ws at w _ name ∙ ap (find ws) (parents i) ∙ p.1, p.2);
-    }
+  pub count-cut : (ms : List Mark) (i : ℕ) → mark_count (take i ms ++ without_saved (drop i ms)) n ≡ mark_count ms n
+  count-cut ms i =
+      count-append (is_mark_of n) (take i ms) (without_saved (drop i ms)) ∙ ap (λ k. mark_count (take i ms) n + k) (count-without_saved (drop i ms))
+      ∙ sym (count-append (is_mark_of n) (take i ms) (drop i ms)) ∙ ap (λ (xs : List Mark). mark_count xs n) (whole i ms)
+    where
+      whole : (i : ℕ) (ms : List Mark) → take i ms ++ drop i ms ≡ ms
+      whole zero ms = refl
+      whole (suc i) [] = refl
+      whole (suc i) (m ∷ ms) = ap (λ xs. m ∷ xs) (whole i ms)
 
-split : (n : ℕ) → (n ≡ 0) ⊎ (0 < n)
-split zero = inl refl
-split (suc n) = inr (omega arith)
+  -- a savepoint that goes didn't count
+  pub count-unmarked : (ms : List Mark) (i : ℕ) → is_saved (mark_at ms i) ≡ true → mark_count (remove ms i) n ≡ mark_count ms n
+  count-unmarked ms i saved = count-tally (is_mark_of n) (remove ms i) ∙ by ms i saved ∙ sym (count-tally (is_mark_of n) ms)
+    where
+      by : (ms : List Mark) (i : ℕ) → is_saved (mark_at ms i) ≡ true → tally (is_mark_of n) (remove ms i) ≡ tally (is_mark_of n) ms
+      by [] i saved = absurd (cc)
+      by (Saved name content ∷ ms) zero saved = refl
+      by (ChildMark name ∷ ms) zero saved = absurd (cc)
+      by (m ∷ ms) (suc i) saved = ap (λ k. cond (is_mark_of n m) (suc k) k) (by ms i saved)
 
--- its parent stands earlier
-abbrev IsUnder : List Space → ℕ → Type 0
-IsUnder ws i = (p : ℕ) × (parent_of ws i ≡ Some p) × (p < i)
+  -- the marks of a child dropped
+  same_child : (child name : Name) → bytes_eq child name ≡ true → bytes_eq n name ≡ bytes_eq n child
+  same_child child name e = ap (bytes_eq n) (sym ((bytes_decides child name).0 e))
 
--- each place is an old one or the last
-placed : {P : ℕ → Type 0} (ws : List Space) (w : Space) → ((i : ℕ) → i < length ws → P i) → P (length ws) → (i : ℕ) → i < length (ws ++ w ∷ []) → P i
-placed {P} ws w old last i lt = by (old_or_last i (length ws) more)
-  where
-    more : i < length ws + 1
-    more = subst (λ n. i < n) (length-append ws (w ∷ [])) lt
+  other_child : (child name : Name) → bytes_eq n child ≡ true → bytes_eq child name ≡ false → bytes_eq n name ≡ false
+  other_child child name e d = ap (λ m. bytes_eq m name) ((bytes_decides n child).0 e) ∙ d
 
-    old_or_last : (j n : ℕ) → j < n + 1 → (j < n) ⊎ (j ≡ n)
-    old_or_last j n lt = choose (nat_lt j n) refl
-      where
-        choose : (b : Bool) → nat_lt j n ≡ b → (j < n) ⊎ (j ≡ n)
-        choose true e = inl (ltb-true j n e)
-        choose false e = inr (let le = ltb-false j n e in omega arith)
+  tally-child : (child : Name) (ms : List Mark) → bytes_eq n child ≡ true → tally (is_mark_of n) (without_mark_of child ms) ≡ 0
+  tally-child child [] e = refl
+  tally-child child (Saved name content ∷ ms) e = tally-child child ms e
+  tally-child child (ChildMark name ∷ ms) e = by (bytes_eq child name) refl (tally-child child ms e)
+    where
+      by : (c : Bool) → bytes_eq child name ≡ c → tally (is_mark_of n) (without_mark_of child ms) ≡ 0 → tally (is_mark_of n) (cond (not c) (ChildMark name ∷ without_mark_of child ms) (without_mark_of child ms)) ≡ 0
+      by true d rest = rest
+      by false d rest = ap (λ t. cond t (suc (tally (is_mark_of n) (without_mark_of child ms))) (tally (is_mark_of n) (without_mark_of child ms))) (other_child child name e d) ∙ rest
 
-    by : (i < length ws) ⊎ (i ≡ length ws) → P i
-    by (inl earlier) = old i earlier
-    by (inr same) = subst P (sym same) last
+  tally-others : (child : Name) (ms : List Mark) → bytes_eq n child ≡ false → tally (is_mark_of n) (without_mark_of child ms) ≡ tally (is_mark_of n) ms
+  tally-others child [] e = refl
+  tally-others child (Saved name content ∷ ms) e = tally-others child ms e
+  tally-others child (ChildMark name ∷ ms) e = by (bytes_eq child name) refl (tally-others child ms e)
+    where
+      by : (c : Bool) → bytes_eq child name ≡ c → tally (is_mark_of n) (without_mark_of child ms) ≡ tally (is_mark_of n) ms
+          → tally (is_mark_of n) (cond (not c) (ChildMark name ∷ without_mark_of child ms) (without_mark_of child ms)) ≡ cond (bytes_eq n name) (suc (tally (is_mark_of n) ms)) (tally (is_mark_of n) ms)
+      by true d rest = rest ∙ sym (ap (λ t. cond t (suc (tally (is_mark_of n) ms)) (tally (is_mark_of n) ms)) (same_child child name d ∙ e))
+      by false d rest = ap (λ k. cond (bytes_eq n name) (suc k) k) rest
 
--- a workspace of a new good name whose parent stands
-pub sound_more : (ws : List Space) (w : Space) (p : ℕ) → find ws w.name ≡ None → is_good_name w.name ≡ true → find ws w.parent ≡ Some p → IsSound ws → IsSound (ws ++ w ∷ [])
-sound_more ws w p none good parent sound =
-    let at_old : (i : ℕ) → i < length ws → space_at (ws ++ w ∷ []) i ≡ space_at ws i = λ i lt. get_or-append ws (w ∷ []) no_space i lt in
-    let at_last : space_at (ws ++ w ∷ []) (length ws) ≡ w = get_or-append_seam ws w [] no_space in
-    record {
-      filled = subst (λ n. 0 < n) (sym (length-append ws (w ∷ []))) (omega arith);
-      live = ap (λ (v : Space). v.name) (at_old 0 sound.filled) ∙ sound.live;
-      top = ap (λ (v : Space). v.parent) (at_old 0 sound.filled) ∙ sound.top;
-      good = placed ws w (λ i lt. rw (at_old i lt) (sound.good i lt)) (rw at_last good);
-      own = placed ws w (λ i lt. rw (at_old i lt) (find_more ws w _ i (sound.own i lt))) (rw at_last (find_last ws w none));
-      under = λ i later lt. placed {P = λ i. 0 < i → IsUnder (ws ++ w ∷ []) i} ws w
-          (λ i lt later. let q = sound.under i later lt in (q.0, ap (λ (v : Space). find (ws ++ w ∷ []) v.parent) (at_old i lt) ∙ find_more ws w _ q.0 q.1, q.2))
-          (λ later. (p, ap (λ (v : Space). find (ws ++ w ∷ []) v.parent) at_last ∙ find_more ws w _ p parent, find_within ws w.parent p parent)) i lt later;
-    }
+  pub count-dropped : (child : Name) (ms : List Mark) → mark_count (without_mark_of child ms) n ≡ cond (bytes_eq n child) 0 (mark_count ms n)
+  count-dropped child ms = by (bytes_eq n child) refl
+    where
+      by : (b : Bool) → bytes_eq n child ≡ b → mark_count (without_mark_of child ms) n ≡ cond b 0 (mark_count ms n)
+      by true e = count-tally (is_mark_of n) (without_mark_of child ms) ∙ tally-child child ms e
+      by false e = count-tally (is_mark_of n) (without_mark_of child ms) ∙ tally-others child ms e ∙ sym (count-tally (is_mark_of n) ms)
 
--- a later workspace stays where an earlier one is replaced
-pub later_stays : (ws : List Space) (at p : ℕ) (w : Space) → p < at → space_at (slice_set ws p w) at ≡ space_at ws at
-later_stays ws at p w lt = let ne : at ≢ p = omega arith in get_or-set_other ws p at w no_space ne
+-- one workspace replaced ---------------------------------------------------------------------------
 
-pub parent_earlier : (ws : List Space) (at : ℕ) → IsSound ws → at < length ws → IfSome (parent_of ws at) (λ p. p < at)
-parent_earlier ws at sound lt = by (split at)
-  where
-    by : (at ≡ 0) ⊎ (0 < at) → IfSome (parent_of ws at) (λ p. p < at)
-    by (inl first) = rw (first, sound.top, no_empty_name ws sound.good) tt
-    by (inr later) = let q = sound.under at later lt in rw q.1 q.2
+-- what holds of the new one, and of each other, holds at each position
+pub each_set : (P : Workspace → Type 0) (ws : List Workspace) (at : ℕ) (w : Workspace) (i : ℕ) → at < length ws → (i ≡ at → P w) → (i ≢ at → P (workspace_at ws i)) → P (workspace_at (slice_set ws at w) i)
+each_set P ws at w i lt here there = ⊎_elim
+    (λ (same : i ≡ at). subst P (sym (ap (workspace_at (slice_set ws at w)) same ∙ get_or-set_same ws at w no_workspace lt)) (here same))
+    (λ (other : i ≢ at). subst P (sym (get_or-set_other ws at i w no_workspace other)) (there other))
+    (cases_eq i at)
 
-pub parent_found : (ws : List Space) (at : ℕ) → IsSound ws → at < length ws → IsSome (parent_of ws at) ↔ (0 < at)
-parent_found ws at sound lt = by (split at)
-  where
-    by : (at ≡ 0) ⊎ (0 < at) → IsSome (parent_of ws at) ↔ (0 < at)
-    by (inl first) = (λ some. absurd (let none : parent_of ws at ≡ None = rw (first, sound.top) (no_empty_name ws sound.good) in false≢true (sym (ap is_some none) ∙ some)), λ later. absurd (omega arith))
-    by (inr later) = let q = sound.under at later lt in (λ some. later, λ above. ap is_some q.1)
+-- what LIVE has besides its content
+abbrev pub IsLive : Workspace → Type 0
+IsLive w = (w.base ≡ no_rows) × (w.marks ≡ []) × (w.kept ≡ true)
+
+module _ (ws : List Workspace) (at : ℕ) (w : Workspace) (s : IsSound ws) (lt : at < length ws) (name : w.name ≡ (workspace_at ws at).name) (parent : w.parent ≡ (workspace_at ws at).parent) where
+  abbrev new : List Workspace
+  new = slice_set ws at w
+
+  children_set : (p n : Name) → child_count (slice_set ws at w) p n ≡ child_count ws p n
+  children_set p n = count-set (is_child_named p n) ws at w no_workspace (λ i. bytes_eq p (parent i) && bytes_eq n (name i))
+
+  pub sound_set : (at ≡ 0 → IsLive w) → are_good_savepoints (saved_names w.marks) ≡ true → ((n : Name) → mark_count w.marks n ≡ mark_count (workspace_at ws at).marks n) → IsSound (slice_set ws at w)
+  sound_set live saved marks =
+      let before : (i : ℕ) → i < length new → i < length ws = λ i i_lt. subst (λ n. i < n) (length-set ws at w) i_lt in
+      let top = each_set IsLive ws at w 0 lt (λ same. live (sym same)) (λ other. (s.base, s.bare, s.held)) in
+      record {
+        rooted = rooted_set ws at w name parent s.rooted;
+        few = let few = s.few in let same = length-set ws at w in omega (arith, few, same);
+        shallow = λ i i_lt. let was = s.shallow i (before i i_lt) in let same = depth_same ws new i i (parent_set ws at w name parent) in omega (arith, was, same);
+        base = top.0;
+        bare = top.1;
+        held = top.2;
+        saved = λ i i_lt. each_set (λ v. are_good_savepoints (saved_names v.marks) ≡ true) ws at w i lt (λ same. saved) (λ other. s.saved i (before i i_lt));
+        marked = λ i some i_lt n. each_set (λ v. mark_count v.marks n ≡ child_count new v.name n) ws at w i lt
+            (λ same. marks n ∙ s.marked at (subst (λ k. 0 < k) same some) lt n ∙ ap (λ m. child_count ws m n) (sym name) ∙ sym (children_set w.name n))
+            (λ other. s.marked i some (before i i_lt) n ∙ sym (children_set (workspace_at ws i).name n));
+      }

@@ -1,2 +1,5 @@
-pub mod Entries
-pub mod Spaces
+pub mod Holding
+pub mod Operations
+pub mod Parts
+pub mod Soundness
+pub mod Trees

@@ -1,15 +1,23 @@
-//! Workspaces in a tree under LIVE, with whole contents.
+//! Workspaces in a tree under LIVE, stored by their differences and seen with whole contents.
 #![tactic(auto)]
 
+mod builds;
+mod holds;
+mod limits;
+mod operations;
+mod part_checks;
+mod part_reads;
+mod parts;
+mod reads;
 mod rebases;
-mod table;
+mod sweeps;
 mod tree;
 mod views;
+mod wholes;
 
 pub use clr_change::{ChangeSet, Edit, EditFault, Edits, first_conflict, stage};
-pub use rebases::Rebase;
+pub use limits::{MOST_LEVELS, MOST_SAVEPOINTS, MOST_WORKSPACES};
+pub use parts::{MarkPart, Part, PartFault};
+pub use rebases::{Keep, Rebase};
 pub use tree::Tree;
 pub use views::View;
-
-#[cfg(test)]
-mod tests;

@@ -1,207 +1,381 @@
-ghost use Rattle.std.specs.Prelude.{◌≡◌, ◌<◌, ◌↔◌, [], ◌∷◌, None, true, length, OnOk, OnErr, IfOk, IfSome, IsSome};
+ghost use Rattle.std.specs.Prelude.{ℕ, ◌≡◌, ◌<◌, ◌↔◌, [], ◌∷◌, None, false, true, length, OnOk, OnErr, IfOk, IfErr, IfSome, IsSome};
 ghost use Rattle.std.specs.Option.{option_copied};
-ghost use Rattle.clr_rows.specs.Contents.{row_at, changes, taken_over};
+ghost use Rattle.clr_rows.specs.Contents.{row_at, changes};
 ghost use Rattle.clr_rows.specs.Names.{is_good_name};
-ghost use Rattle.clr_tree.specs.Spaces.{space_at, find, parent_of, children_of, root, created, written, merged, rebased, IsSound};
+ghost use Rattle.clr_layers.specs.Marks.{find_mark, is_held, is_saved, mark_at, saved_content, saved_count};
+ghost use Rattle.clr_layers.specs.Workspaces.{workspace_at, find, parent_of as position_of_parent, children_of, depth_of, root};
+ghost use Rattle.clr_tree.specs.Operations.{after_create, after_remove, after_write, after_mark, after_unmark};
+ghost use Rattle.clr_tree.specs.Operations.{after_roll_to, after_roll_all, after_rebase, set_kept};
+ghost use Rattle.clr_tree.specs.Parts.{workspace_of, list_of, first_fault, IsRefused};
+ghost use Rattle.clr_tree.specs.Soundness.{IsSound};
+ghost use Rattle.clr_tree.specs.Trees.{stored_at, needed};
 
+use crate::builds::push_parts;
+use crate::limits::{MOST_LEVELS, MOST_SAVEPOINTS, MOST_WORKSPACES};
+use crate::operations::{create, live_alone, mark, put_rows, rebase, remove, roll_all, roll_to};
+use crate::part_checks::judge_marks;
+use crate::part_reads::part_at;
+use crate::parts::{Part, PartFault};
+use crate::reads::{base_row_of, depth_at, row_of};
 use crate::rebases::Rebase;
-use crate::table::Table;
+use crate::sweeps::sweep;
 use crate::views::View;
+use crate::wholes::{base_rows, changes_of, saved_rows, whole_rows};
 use clr_change::ChangeSet;
-use clr_rows::{CellId, Row, Sheet, Words};
+use clr_layers::{WorkspaceMap, count_saved, find_saved, has_child_after};
+use clr_rows::{CellId, Row, Sheet};
 use std::alloc::{AllocError, Global};
 use std::marker::Model;
 
-/// A content with changes over it, made apart. It fails for want of memory alone.
-fn with_changes(content: &Sheet, changed: &ChangeSet) -> Result<Sheet, AllocError>
-    ensures { IfOk result (λ sheet. sheet ≡ taken_over content.now changed.now) }
-{
-    let mut sheet = content.copy()?;
-    sheet.put_all(changed.rows_after()?)?;
-    Ok(sheet)
-}
-
-/// The workspaces in order of creation, LIVE first. A workspace is named by its place, which is
-/// below `len`.
+/// The workspaces in order of creation, LIVE first, each with whole contents. A workspace is named
+/// by its position, which is below `len`. LIVE is stored whole; of every other workspace the base is
+/// stored by its differences from the parent's current content, and the current content and the
+/// savepoints by theirs from the base.
 #[derive(Drop)]
 pub struct Tree {
-    table: Table,
+    live: Sheet,
+    map: WorkspaceMap,
 }
 
 impl Model for Tree {
-    ghost use Rattle.clr_tree.specs.Spaces.{Workspaces, coded_workspaces, IsSound};
+    ghost use Rattle.clr_tree.specs.Trees.{Tree as Whole, coded_tree, tree_of};
+    ghost use Rattle.clr_tree.specs.Soundness.{IsSound};
+    ghost use Rattle.clr_layers.specs.Layers.{wholes};
 
-    ghost Value = { Workspaces };
+    ghost Value = { Whole };
 
-    ghost coded = { coded_workspaces };
+    ghost coded = { coded_tree };
 
-    ghost view = { λ t. record { spaces = t.table } };
+    ghost view = { λ t. tree_of t.live t.map };
 
-    ghost invariant = { λ t. IsSound t.table };
+    ghost invariant = { λ t. IsSound (wholes t.live t.map) };
 }
 
 impl Tree {
     /// A tree of LIVE alone, with this content. It fails for want of memory alone.
     pub fn new(alloc: Global, live: Sheet) -> Result<Tree, AllocError>
-        ensures { IfOk result (λ tree. tree ≡ record { spaces = root live ∷ [] }) }
+        ensures { IfOk result (λ tree. tree.list ≡ root live ∷ []) }
     {
-        let mut table = Table::new(alloc);
-        let name = String::from_str(alloc, "LIVE")?;
-        let no_name = Words::new(String::new(alloc));
-        table.push(name, no_name, Sheet::new(alloc), live)?;
-        Ok(Tree { table })
+        let map = live_alone(alloc)?;
+        Ok(Tree { live, map })
+    }
+
+    /// A tree of LIVE with this content and of these parts, or the position of the first part with a
+    /// fault and which fault: `BadName`, `NameTaken`, `NoParent` or `TooMany` part by part, and only
+    /// then `BadMarks` part by part. Want of memory is `OutOfMemory`, at 0.
+    pub fn build(alloc: Global, live: Sheet, parts: Vec<Part>) -> Result<Tree, (usize, PartFault)>
+        ensures made { IfOk result (λ tree. tree.list ≡ list_of live parts.items) }
+        ensures passed { OnOk result (first_fault live parts.items ≡ None) }
+        ensures refused { IfErr result (IsRefused (first_fault live parts.items)) }
+    {
+        let parts = parts.as_slice();
+        let map = push_parts(alloc, &live, parts)?;
+        if let Err(at) = judge_marks(&live, &map, parts) {
+            return Err((at, PartFault::BadMarks));
+        }
+        Ok(Tree { live, map })
     }
 
     /// LIVE's current content.
     pub fn live(&self) -> &Sheet
-        ensures { result.now ≡ (space_at self.now.spaces 0).current }
+        ensures { result.now ≡ (workspace_at self.now.list 0).current }
     {
-        self.table.current(0)
+        &self.live
     }
 
     /// How many workspaces there are, with LIVE.
     pub fn len(&self) -> usize
-        ensures count { result ≡ length self.now.spaces }
-        ensures sound { IsSound self.now.spaces }
+        ensures count { result ≡ length self.now.list }
+        ensures sound { IsSound self.now.list }
     {
-        self.table.len()
+        self.map.len()
     }
 
-    /// The place of the workspace of this name, or none.
+    /// The position of the workspace of this name, or none.
     pub fn find(&self, name: &str) -> Option<usize>
-        ensures place { result ≡ find self.now.spaces name.now }
-        ensures within { IfSome result (λ at. at < length self.now.spaces) }
-        ensures sound { IsSound self.now.spaces }
+        ensures found { result ≡ find self.now.list name.now }
+        ensures within { IfSome result (λ at. at < length self.now.list) }
+        ensures sound { IsSound self.now.list }
     {
-        self.table.find(name)
+        self.map.find(name)
     }
 
-    /// The name of the workspace at a place.
+    /// The name of the workspace at a position.
     pub fn name_at(&self, at: usize) -> &str
-        requires { at < length self.now.spaces }
-        ensures { result.now ≡ (space_at self.now.spaces at).name }
+        requires { at < length self.now.list }
+        ensures { result.now ≡ (workspace_at self.now.list at).name }
     {
-        self.table.name_at(at)
+        self.map.name_at(at)
     }
 
-    /// The place of the parent of the workspace at a place, which comes earlier, or none for LIVE.
+    /// The position of the parent of the workspace at a position, which comes earlier, or none for
+    /// LIVE.
     pub fn parent(&self, at: usize) -> Option<usize>
-        requires { at < length self.now.spaces }
-        ensures place { result ≡ parent_of self.now.spaces at }
+        requires { at < length self.now.list }
+        ensures found { result ≡ position_of_parent self.now.list at }
         ensures earlier { IfSome result (λ above. above < at) }
-        ensures found { IsSome result ↔ (0 < at) }
+        ensures child { IsSome result ↔ (0 < at) }
     {
-        self.table.find(self.table.parent_name(at))
+        self.map.find(self.map.parent_name(at))
     }
 
-    /// How many children the workspace at a place has.
+    /// How many children the workspace at a position has.
     pub fn children(&self, at: usize) -> usize
-        requires { at < length self.now.spaces }
-        ensures { result ≡ children_of self.now.spaces (space_at self.now.spaces at).name }
+        requires { at < length self.now.list }
+        ensures { result ≡ children_of self.now.list (workspace_at self.now.list at).name }
     {
-        self.table.children(self.table.name_at(at))
+        self.map.children(self.map.name_at(at))
     }
 
-    /// The row at a cell in the current content of the workspace at a place, or none.
+    /// How many workspaces are above the one at a position.
+    pub fn depth(&self, at: usize) -> usize
+        requires { at < length self.now.list }
+        ensures { result ≡ depth_of self.now.list at }
+    {
+        depth_at(&self.live, &self.map, at)
+    }
+
+    /// Whether every rule is to hold in the workspace at a position.
+    pub fn kept(&self, at: usize) -> bool
+        requires { at < length self.now.list }
+        ensures { result ≡ (workspace_at self.now.list at).kept }
+    {
+        at == 0 || self.map.kept(at)
+    }
+
+    /// How many savepoints the workspace at a position has, which isn't LIVE.
+    pub fn saved(&self, at: usize) -> usize
+        requires child { 0 < at }
+        requires within { at < length self.now.list }
+        ensures { result ≡ saved_count (workspace_at self.now.list at).marks }
+    {
+        count_saved(self.map.marks(at))
+    }
+
+    /// The position of a savepoint among the marks of the workspace at a position, which isn't
+    /// LIVE, or none.
+    pub fn find_mark(&self, at: usize, name: &str) -> Option<usize>
+        requires child { 0 < at }
+        requires within { at < length self.now.list }
+        ensures { result ≡ find_mark (workspace_at self.now.list at).marks name.now }
+    {
+        find_saved(self.map.marks(at), name)
+    }
+
+    /// Whether the mark of a child stands after a mark of the workspace at a position, which isn't
+    /// LIVE.
+    pub fn held(&self, at: usize, mark: usize) -> bool
+        requires child { 0 < at }
+        requires within { at < length self.now.list }
+        requires marked { mark < length (workspace_at self.now.list at).marks }
+        ensures { result ≡ is_held (workspace_at self.now.list at).marks mark }
+    {
+        has_child_after(self.map.marks(at), mark)
+    }
+
+    /// The row at a cell in the current content of the workspace at a position, or none.
     pub fn read(&self, at: usize, cell: CellId) -> Option<&Row>
-        requires { at < length self.now.spaces }
-        ensures { option_copied result ≡ row_at (space_at self.now.spaces at).current cell }
+        requires { at < length self.now.list }
+        ensures { option_copied result ≡ row_at (workspace_at self.now.list at).current cell }
     {
-        self.table.current(at).get(cell)
+        row_of(&self.live, &self.map, at, cell)
     }
 
-    /// The row at a cell in the base content of the workspace at a place, or none.
+    /// The row at a cell in the base of the workspace at a position, which isn't LIVE, or none.
     pub fn base(&self, at: usize, cell: CellId) -> Option<&Row>
-        requires { at < length self.now.spaces }
-        ensures { option_copied result ≡ row_at (space_at self.now.spaces at).base cell }
+        requires child { 0 < at }
+        requires within { at < length self.now.list }
+        ensures { option_copied result ≡ row_at (workspace_at self.now.list at).base cell }
     {
-        self.table.base(at).get(cell)
+        base_row_of(&self.live, &self.map, at, cell)
     }
 
-    /// The current content of the workspace at a place.
+    /// How many entries are stored of the base and of the current content of the workspace at a
+    /// position, which isn't LIVE.
+    pub fn stored(&self, at: usize) -> usize
+        requires child { 0 < at }
+        requires within { at < length self.now.list }
+        ensures { result ≡ stored_at self.now.stored at }
+    {
+        self.map.stored(at)
+    }
+
+    /// The current content of the workspace at a position, seen by cell.
     pub fn view(&self, at: usize) -> View<'_>
-        requires { at < length self.now.spaces }
-        ensures { result ≡ (space_at self.now.spaces at).current }
+        requires { at < length self.now.list }
+        ensures { result ≡ (workspace_at self.now.list at).current }
     {
-        View::new(self.table.current(at))
+        View::new(&self.live, &self.map, at)
     }
 
-    /// What the workspace at a place changed: the cells where its base and its current content
-    /// differ. It fails for want of memory alone.
-    pub fn changes(&self, at: usize) -> Result<ChangeSet, AllocError>
-        requires { at < length self.now.spaces }
-        ensures { IfOk result (λ set. set ≡ changes (space_at self.now.spaces at).base (space_at self.now.spaces at).current) }
-    {
-        let alloc = self.table.allocator();
-        ChangeSet::between(alloc, self.table.base(at), self.table.current(at))
-    }
-
-    /// A copy of the current content of the workspace at a place. It fails for want of memory
+    /// The current content of the workspace at a position, whole. It fails for want of memory
     /// alone.
     pub fn rows(&self, at: usize) -> Result<Sheet, AllocError>
-        requires { at < length self.now.spaces }
-        ensures { IfOk result (λ sheet. sheet ≡ (space_at self.now.spaces at).current) }
+        requires { at < length self.now.list }
+        ensures { IfOk result (λ sheet. sheet ≡ (workspace_at self.now.list at).current) }
     {
-        self.table.current(at).copy()
+        whole_rows(&self.live, &self.map, at)
     }
 
-    /// Makes a workspace of a new name under LIVE, whose base and current content are that of
-    /// LIVE. It fails for want of memory alone, and changes nothing then.
+    /// The workspace at a position, which isn't LIVE, with whole contents. It fails for want of
+    /// memory alone.
+    pub fn part(&self, at: usize) -> Result<Part, AllocError>
+        requires child { 0 < at }
+        requires within { at < length self.now.list }
+        ensures { IfOk result (λ part. workspace_of part ≡ workspace_at self.now.list at) }
+    {
+        part_at(&self.live, &self.map, at)
+    }
+
+    /// The base of the workspace at a position, which isn't LIVE, whole. It fails for want of memory
+    /// alone.
+    pub fn base_rows(&self, at: usize) -> Result<Sheet, AllocError>
+        requires child { 0 < at }
+        requires within { at < length self.now.list }
+        ensures { IfOk result (λ sheet. sheet ≡ (workspace_at self.now.list at).base) }
+    {
+        base_rows(&self.live, &self.map, at)
+    }
+
+    /// The content of a savepoint of the workspace at a position, which isn't LIVE, whole. It fails
+    /// for want of memory alone.
+    pub fn saved_rows(&self, at: usize, mark: usize) -> Result<Sheet, AllocError>
+        requires child { 0 < at }
+        requires within { at < length self.now.list }
+        requires saved { is_saved (mark_at (workspace_at self.now.list at).marks mark) ≡ true }
+        ensures { IfOk result (λ sheet. sheet ≡ saved_content (mark_at (workspace_at self.now.list at).marks mark)) }
+    {
+        saved_rows(&self.live, &self.map, at, mark)
+    }
+
+    /// What the workspace at a position, which isn't LIVE, changed. It fails for want of memory
+    /// alone.
+    pub fn changes(&self, at: usize) -> Result<ChangeSet, AllocError>
+        requires child { 0 < at }
+        requires within { at < length self.now.list }
+        ensures { IfOk result (λ set. set ≡ changes (workspace_at self.now.list at).base (workspace_at self.now.list at).current) }
+    {
+        changes_of(&self.live, &self.map, at)
+    }
+
+    /// Makes a workspace of a new name under the one at a position, whose base and current content
+    /// are that one's. It fails for want of memory alone, and changes nothing then.
     pub fn create(&mut self, name: &str, parent: usize) -> Result<(), AllocError>
-        requires under_live { parent ≡ 0 }
+        requires within { parent < length self.old.list }
         requires good { is_good_name name.now ≡ true }
-        requires absent { find self.old.spaces name.now ≡ None }
-        ensures ok { OnOk result (self.new ≡ record { spaces = created self.old.spaces name.now parent }) }
-        ensures err { OnErr result (self.new ≡ self.old) }
+        requires absent { find self.old.list name.now ≡ None }
+        requires room { length self.old.list < MOST_WORKSPACES }
+        requires shallow { depth_of self.old.list parent < MOST_LEVELS }
+        ensures ok { OnOk result (self.new.list ≡ after_create self.old.list name.now parent) }
+        ensures err { OnErr result (self.new.list ≡ self.old.list) }
     {
-        let alloc = self.table.allocator();
-        let above = self.table.current(parent);
-        let base = above.copy()?;
-        let current = above.copy()?;
-        let parent_name = String::from_str(alloc, self.table.name_at(parent))?;
-        let name = String::from_str(alloc, name)?;
-        self.table
-            .push(name, Words::new(parent_name), base, current)?;
-        Ok(())
+        create(&self.live, &mut self.map, name, parent)
     }
 
-    /// Takes changes over into the current content of the workspace at a place, all of them or
+    /// Takes the leaf at a position, which isn't LIVE, away, and its mark.
+    pub fn remove(&mut self, at: usize)
+        requires child { 0 < at }
+        requires within { at < length self.old.list }
+        requires leaf { children_of self.old.list (workspace_at self.old.list at).name ≡ 0 }
+        ensures { self.new.list ≡ after_remove self.old.list at }
+    {
+        remove(&self.live, &mut self.map, at);
+    }
+
+    /// Takes changes over into the current content of the workspace at a position, all of them or
     /// none. It fails for want of memory alone, and changes nothing then.
     pub fn write_all(&mut self, at: usize, changed: &ChangeSet) -> Result<(), AllocError>
-        requires { at < length self.old.spaces }
-        ensures ok { OnOk result (self.new ≡ record { spaces = written self.old.spaces at changed.now }) }
-        ensures err { OnErr result (self.new ≡ self.old) }
+        requires { at < length self.old.list }
+        ensures ok { OnOk result (self.new.list ≡ after_write self.old.list at changed.now) }
+        ensures err { OnErr result (self.new.list ≡ self.old.list) }
     {
-        let current = with_changes(self.table.current(at), changed)?;
-        self.table.set_current(at, current);
-        Ok(())
+        let rows = changed.rows_after()?;
+        put_rows(&mut self.live, &mut self.map, at, rows)
     }
 
-    /// Moves the base of the workspace at a place, which isn't LIVE. It fails for want of memory
-    /// alone, and changes nothing then.
-    pub fn rebase(&mut self, at: usize, rebase: Rebase) -> Result<(), AllocError>
+    /// Puts a savepoint of a new name, with the current content, at the end of the marks of the
+    /// workspace at a position, which isn't LIVE. It fails for want of memory alone, and changes
+    /// nothing then.
+    pub fn mark(&mut self, at: usize, name: &str) -> Result<(), AllocError>
         requires child { 0 < at }
-        requires within { at < length self.old.spaces }
-        ensures ok { OnOk result (self.new ≡ record { spaces = rebased self.old.spaces at rebase }) }
-        ensures err { OnErr result (self.new ≡ self.old) }
+        requires within { at < length self.old.list }
+        requires good { is_good_name name.now ≡ true }
+        requires absent { find_mark (workspace_at self.old.list at).marks name.now ≡ None }
+        requires room { saved_count (workspace_at self.old.list at).marks < MOST_SAVEPOINTS }
+        ensures ok { OnOk result (self.new.list ≡ after_mark self.old.list at name.now) }
+        ensures err { OnErr result (self.new.list ≡ self.old.list) }
     {
-        match rebase {
-            Rebase::Merge => self.merge(at),
-        }
+        mark(&self.live, &mut self.map, at, name)
     }
 
-    fn merge(&mut self, at: usize) -> Result<(), AllocError>
+    /// Takes the savepoint at a position of the marks of a workspace, which isn't LIVE, away.
+    pub fn unmark(&mut self, at: usize, mark: usize)
         requires child { 0 < at }
-        requires within { at < length self.old.spaces }
-        ensures ok { OnOk result (self.new ≡ record { spaces = merged self.old.spaces at }) }
-        ensures err { OnErr result (self.new ≡ self.old) }
+        requires within { at < length self.old.list }
+        requires saved { is_saved (mark_at (workspace_at self.old.list at).marks mark) ≡ true }
+        ensures { self.new.list ≡ after_unmark self.old.list at mark }
     {
-        let above = self.parent(at).unwrap();
-        let changed = self.changes(at)?;
-        let content = with_changes(self.table.current(above), &changed)?;
-        let base = with_changes(self.table.base(at), &changed)?;
-        self.table.set_current(above, content);
-        self.table.set_base(at, base);
-        Ok(())
+        self.map.drop_mark(at, mark);
+    }
+
+    /// Makes the content of a savepoint of a workspace, which isn't LIVE, its current content; the
+    /// later savepoints go. It fails for want of memory alone, and changes nothing then.
+    pub fn roll_to(&mut self, at: usize, mark: usize) -> Result<(), AllocError>
+        requires child { 0 < at }
+        requires within { at < length self.old.list }
+        requires saved { is_saved (mark_at (workspace_at self.old.list at).marks mark) ≡ true }
+        requires free { is_held (workspace_at self.old.list at).marks mark ≡ false }
+        ensures ok { OnOk result (self.new.list ≡ after_roll_to self.old.list at mark) }
+        ensures err { OnErr result (self.new.list ≡ self.old.list) }
+    {
+        roll_to(&self.live, &mut self.map, at, mark)
+    }
+
+    /// Makes the base of a leaf, which isn't LIVE, its current content; its savepoints go.
+    pub fn roll_all(&mut self, at: usize)
+        requires child { 0 < at }
+        requires within { at < length self.old.list }
+        requires leaf { children_of self.old.list (workspace_at self.old.list at).name ≡ 0 }
+        ensures { self.new.list ≡ after_roll_all self.old.list at }
+    {
+        roll_all(&self.live, &mut self.map, at);
+    }
+
+    /// Moves the base of the workspace at a position, which isn't LIVE. It fails for want of
+    /// memory alone, and changes nothing then.
+    pub fn rebase(&mut self, at: usize, how: Rebase) -> Result<(), AllocError>
+        requires child { 0 < at }
+        requires within { at < length self.old.list }
+        ensures ok { OnOk result (self.new.list ≡ after_rebase self.old.list at how) }
+        ensures err { OnErr result (self.new.list ≡ self.old.list) }
+    {
+        rebase(&mut self.live, &mut self.map, at, how)
+    }
+
+    /// From now on every rule is to hold in the workspace at a position, which isn't LIVE.
+    pub fn hold(&mut self, at: usize)
+        requires child { 0 < at }
+        requires within { at < length self.old.list }
+        ensures { self.new.list ≡ set_kept self.old.list at true }
+    {
+        self.map.set_kept(at, true);
+    }
+
+    /// From now on no rule need hold in the workspace at a position, which isn't LIVE.
+    pub fn release(&mut self, at: usize)
+        requires child { 0 < at }
+        requires within { at < length self.old.list }
+        ensures { self.new.list ≡ set_kept self.old.list at false }
+    {
+        self.map.set_kept(at, false);
+    }
+
+    /// Takes away every entry of a base or of a current content that has the row of what it lies
+    /// over. No content changes.
+    pub fn sweep(&mut self)
+        ensures contents { self.new.list ≡ self.old.list }
+        ensures counts { (at : ℕ) → 0 < at → at < length self.new.list → stored_at self.new.stored at ≡ needed self.new.list at }
+    {
+        sweep(&self.live, &mut self.map);
     }
 }

@@ -1,19 +1,20 @@
-ghost use Rattle.std.specs.Prelude.{◌≡◌, true, ◌&&◌, IsTrue};
-ghost use Rattle.std.specs.List.{list_all};
-ghost use Rattle.clr_rows.specs.Schemas.{Answers, fault_in, is_of_kind, are_of_kinds, is_short, is_of_form, is_key, is_place, has_coordinates, is_number, is_zero_segment};
+ghost use Rattle.std.specs.Prelude.{◌≡◌, ◌&&◌, List, nat_le, length};
+ghost use Rattle.std.specs.List.{list_all, list_any};
+ghost use Rattle.clr_rows.specs.Parts.{path_parts};
+ghost use Rattle.clr_rows.specs.Same.{same_place};
+ghost use Rattle.clr_rows.specs.Schemas.{Answers, fault_in, is_of_kind, are_of_kinds, is_short, is_of_form, is_key};
+ghost use Rattle.clr_rows.specs.Schemas.{is_place, has_coordinates, is_number, has_zero_part, is_bad_path};
 
 use crate::cells::CellId;
 use crate::faults::RowFault;
+use crate::limits::{
+    GREATEST_COORDINATE, GREATEST_KEY, LEAST_VERTICES, MOST_TEXT_BYTES, MOST_VERTICES,
+};
+use crate::numbers::read_values;
 use crate::places::{Place, Shape};
 use crate::rows::{Row, Value};
 use crate::tables::{Form, Kind, TableDef};
 use crate::texts::Words;
-
-const GREATEST_KEY: i64 = 999_999_999_999_999;
-
-const MOST_BYTES: usize = 200;
-/// In millimetres.
-const GREATEST_COORDINATE: u64 = 1_000_000_000;
 
 /// Whether a primary key is one that a row may have.
 pub(super) fn is_key(key: i64) -> bool
@@ -28,40 +29,77 @@ fn is_place(place: Place) -> bool
     place.x.unsigned_abs() <= GREATEST_COORDINATE && place.y.unsigned_abs() <= GREATEST_COORDINATE
 }
 
-fn has_coordinates(shape: Shape) -> bool
-    ensures { result ≡ has_coordinates shape }
+fn are_places(places: &[Place]) -> bool
+    ensures { result ≡ list_all is_place places.now }
+{
+    places.iter().all(|place| is_place(*place))
+}
+
+fn has_coordinates(shape: &Shape) -> bool
+    ensures { result ≡ has_coordinates shape.now }
 {
     match shape {
         Shape::Bare => true,
-        Shape::At(place) => is_place(place),
-        Shape::Line(first, second) => is_place(first) && is_place(second),
+        Shape::At(place) => is_place(*place),
+        Shape::Line(first, second) => is_place(*first) && is_place(*second),
+        Shape::Chain(vertices) => are_places(vertices.as_slice()),
     }
 }
 
 /// Whether a key and the coordinates of a shape are in range.
-fn is_within(key: i64, shape: Shape) -> bool
-    ensures { result ≡ (is_key key && has_coordinates shape) }
+fn is_within(key: i64, shape: &Shape) -> bool
+    ensures { result ≡ (is_key key && has_coordinates shape.now) }
 {
     is_key(key) && has_coordinates(shape)
 }
 
-fn is_zero_segment(shape: Shape) -> bool
-    ensures { result ≡ is_zero_segment shape }
+fn are_one(first: &Place, second: &Place) -> bool
+    ensures { result ≡ same_place first.now second.now }
+{
+    first.x == second.x && first.y == second.y
+}
+
+/// Whether two neighbours are one place.
+fn have_repeat(vertices: &[Place]) -> bool
+    ensures { result ≡ list_any (λ part. same_place part.0 part.1) (path_parts vertices.now) }
+{
+    vertices
+        .iter()
+        .zip(vertices.iter().skip(1))
+        .any(|(first, second)| are_one(first, second))
+}
+
+fn has_zero_part(shape: &Shape) -> bool
+    ensures { result ≡ has_zero_part shape.now }
 {
     match shape {
         Shape::Bare => false,
         Shape::At(_) => false,
-        Shape::Line(first, second) => first.same(&second),
+        Shape::Line(first, second) => are_one(first, second),
+        Shape::Chain(vertices) => have_repeat(vertices.as_slice()),
     }
 }
 
-fn is_of_form(form: Form, shape: Shape) -> bool
-    ensures { result ≡ is_of_form form shape }
+fn is_bad_path(shape: &Shape) -> bool
+    ensures { result ≡ is_bad_path shape.now }
+{
+    match shape {
+        Shape::Chain(vertices) => {
+            let count = vertices.as_slice().len();
+            !(LEAST_VERTICES <= count && count <= MOST_VERTICES)
+        }
+        _ => false,
+    }
+}
+
+fn is_of_form(form: Form, shape: &Shape) -> bool
+    ensures { result ≡ is_of_form form shape.now }
 {
     match (form, shape) {
         (Form::Bare, Shape::Bare) => true,
         (Form::Point, Shape::At(_)) => true,
         (Form::Segment, Shape::Line(_, _)) => true,
+        (Form::Path, Shape::Chain(_)) => true,
         _ => false,
     }
 }
@@ -86,29 +124,18 @@ fn are_of_kinds(columns: &[(Words, Kind)], values: &[Value]) -> bool
 }
 
 fn is_short(value: &Value) -> bool
-    ensures value { result ≡ is_short value.now }
-    ensures number { is_number value.now ≡ true }
+    ensures { result ≡ is_short value.now }
 {
     match value {
-        Value::Int(number) => {
-            // reading it shows that it is within 64 bits
-            let _number = *number;
-            true
-        }
-        Value::Words(text) => text.as_str().len() <= MOST_BYTES,
+        Value::Int(_) => true,
+        Value::Words(text) => text.as_str().len() <= MOST_TEXT_BYTES,
     }
 }
 
 fn are_short(values: &[Value]) -> bool
-    ensures value { result ≡ list_all is_short values.now }
-    ensures numbers { IsTrue result → list_all is_number values.now ≡ true }
+    ensures { result ≡ list_all is_short values.now }
 {
-    for value in values {
-        if !is_short(value) {
-            return false;
-        }
-    }
-    true
+    values.iter().all(is_short)
 }
 
 /// Whether a row can stand at a cell of this table, or the first test that it fails.
@@ -116,6 +143,7 @@ pub(super) fn check_row(table: &TableDef, cell: CellId, row: &Row) -> Result<(),
     ensures { Answers result (fault_in table.now cell row.now) }
 {
     let values = row.values.as_slice();
+    read_values(values);
     let columns = table.columns.as_slice();
     if values.len() != columns.len() {
         Err(RowFault::WrongCount)
@@ -123,12 +151,14 @@ pub(super) fn check_row(table: &TableDef, cell: CellId, row: &Row) -> Result<(),
         Err(RowFault::WrongKind)
     } else if !are_short(values) {
         Err(RowFault::WordsTooLong)
-    } else if !is_of_form(table.shape, row.shape) {
+    } else if !is_of_form(table.shape, &row.shape) {
         Err(RowFault::WrongShape)
-    } else if !is_within(cell.key, row.shape) {
+    } else if !is_within(cell.key, &row.shape) {
         Err(RowFault::OutOfRange)
-    } else if is_zero_segment(row.shape) {
+    } else if has_zero_part(&row.shape) {
         Err(RowFault::ZeroSegment)
+    } else if is_bad_path(&row.shape) {
+        Err(RowFault::BadPath)
     } else {
         Ok(())
     }

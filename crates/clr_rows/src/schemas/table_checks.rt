@@ -4,13 +4,10 @@ ghost use Rattle.std.specs.Str.{bytes_eq};
 ghost use Rattle.clr_rows.specs.Schemas.{Answers, schema_fault, names_of, are_distinct, has_room, is_column_name, has_good_names, has_distinct_columns};
 
 use crate::faults::SchemaFault;
+use crate::limits::{MOST_COLUMNS, MOST_TABLES};
 use crate::names::good_name;
 use crate::tables::{Kind, TableDef};
 use crate::texts::Words;
-
-const MOST_TABLES: usize = 32;
-
-const MOST_COLUMNS: usize = 16;
 
 fn has_room(table: &TableDef) -> bool
     ensures { result ≡ has_room table.now }
@@ -25,7 +22,7 @@ fn have_room(tables: &[TableDef]) -> bool
 }
 
 fn are_few(tables: &[TableDef]) -> bool
-    ensures { result ≡ (nat_le (length tables.now) 32 && list_all has_room tables.now) }
+    ensures { result ≡ (nat_le (length tables.now) MOST_TABLES && list_all has_room tables.now) }
 {
     tables.len() <= MOST_TABLES && have_room(tables)
 }

@@ -1,16 +1,18 @@
 ghost use Rattle.std.specs.Prelude.{◌≡◌, ◌≤◌, not, length};
 ghost use Rattle.std.specs.List.{list_all, zip};
 ghost use Rattle.clr_rows.specs.Schemas.{Answers};
-ghost use Rattle.clr_rules.specs.Books.{has_table, has_tables, kind_of, is_column_of, are_columns_of, is_primary_key, has_columns, same_kind, has_same_kinds, has_form, has_forms, is_distance, has_distance, is_of_some_kind, has_filter, has_filters, rule_fault, first_fault};
+ghost use Rattle.clr_rules.specs.declared.limits.TheConstants.{MOST_RULES};
+ghost use Rattle.clr_rules.specs.Books.{has_table, has_tables, kind_of, is_column_of, are_columns_of, is_primary_key, has_columns};
+ghost use Rattle.clr_rules.specs.Books.{same_kind, has_same_kinds, is_point_form, is_line_form, has_form, has_forms};
+ghost use Rattle.clr_rules.specs.Books.{is_distance, has_distance, is_literal_of, has_filter, has_filters, rule_fault, first_fault};
 
+use crate::books::RuleFault;
 use crate::columns::{Col, ColumnList};
-use crate::faults::RuleFault;
+use crate::limits::LEAST_DISTANCE;
 use crate::rules::Rule;
 use crate::sides::Side;
 use clr_rows::{Form, Kind, Schema, Value};
-
-/// In millimetres.
-const GREATEST_DISTANCE: i64 = 1_000_000;
+use clr_segments::GREATEST_DISTANCE;
 
 fn has_table(schema: &Schema, side: &Side) -> bool
     ensures { result ≡ has_table schema.now side.now }
@@ -131,7 +133,8 @@ fn are_of_same_kinds(
     server: &Side,
     others: &[Col],
 ) -> bool
-    ensures { result ≡ list_all (λ p. same_kind (kind_of schema.now subject.now.table p.0) (kind_of schema.now server.now.table p.1)) (zip columns.now others.now) }
+    ensures { result ≡ list_all
+        (λ p. same_kind (kind_of schema.now subject.now.table p.0) (kind_of schema.now server.now.table p.1)) (zip columns.now others.now) }
 {
     columns.iter().zip(others.iter()).all(|(one, other)| {
         same_kind(
@@ -160,11 +163,38 @@ fn has_same_kinds(schema: &Schema, rule: &Rule) -> bool
     }
 }
 
-fn has_form(schema: &Schema, form: Form, side: &Side) -> bool
-    ensures { result ≡ has_form schema.now form side.now }
+fn is_point_form(form: Form) -> bool
+    ensures { result ≡ is_point_form form }
+{
+    match form {
+        Form::Point => true,
+        Form::Bare | Form::Segment | Form::Path => false,
+    }
+}
+
+fn is_line_form(form: Form) -> bool
+    ensures { result ≡ is_line_form form }
+{
+    match form {
+        Form::Segment | Form::Path => true,
+        Form::Bare | Form::Point => false,
+    }
+}
+
+fn has_points(schema: &Schema, side: &Side) -> bool
+    ensures { result ≡ has_form schema.now is_point_form side.now }
 {
     match schema.def(side.table) {
-        Some(table) => table.shape == form,
+        Some(table) => is_point_form(table.shape),
+        None => false,
+    }
+}
+
+fn has_lines(schema: &Schema, side: &Side) -> bool
+    ensures { result ≡ has_form schema.now is_line_form side.now }
+{
+    match schema.def(side.table) {
+        Some(table) => is_line_form(table.shape),
         None => false,
     }
 }
@@ -177,15 +207,11 @@ fn has_forms(schema: &Schema, rule: &Rule) -> bool
             subject,
             server,
             ..
-        } => has_form(schema, Form::Segment, subject) && has_form(schema, Form::Point, server),
+        } => has_lines(schema, subject) && has_points(schema, server),
         Rule::Crossing { a, b, server } => {
-            has_form(schema, Form::Segment, a)
-                && has_form(schema, Form::Segment, b)
-                && has_form(schema, Form::Point, server)
+            has_lines(schema, a) && has_lines(schema, b) && has_points(schema, server)
         }
-        Rule::Near { a, b, .. } => {
-            has_form(schema, Form::Point, a) && has_form(schema, Form::Point, b)
-        }
+        Rule::Near { a, b, .. } => has_points(schema, a) && has_points(schema, b),
         _ => true,
     }
 }
@@ -193,7 +219,7 @@ fn has_forms(schema: &Schema, rule: &Rule) -> bool
 fn is_distance(distance: i64) -> bool
     ensures { result ≡ is_distance distance }
 {
-    1 <= distance && distance <= GREATEST_DISTANCE
+    LEAST_DISTANCE <= distance && distance <= GREATEST_DISTANCE
 }
 
 fn has_distance(rule: &Rule) -> bool
@@ -205,11 +231,16 @@ fn has_distance(rule: &Rule) -> bool
     }
 }
 
-fn is_of_some_kind(kind: Option<Kind>, value: &Value) -> bool
-    ensures { result ≡ is_of_some_kind kind value.now }
+/// Whether a value is of the kind of a column that is there. Reading a number shows that it is
+/// within 64 bits.
+fn is_literal_of(kind: Option<Kind>, value: &Value) -> bool
+    ensures { result ≡ is_literal_of kind value.now }
 {
     match (kind, value) {
-        (Some(Kind::Int), Value::Int(_)) => true,
+        (Some(Kind::Int), Value::Int(number)) => {
+            let _number = *number;
+            true
+        }
         (Some(Kind::Words), Value::Words(_)) => true,
         _ => false,
     }
@@ -218,7 +249,7 @@ fn is_of_some_kind(kind: Option<Kind>, value: &Value) -> bool
 fn has_filter(schema: &Schema, side: &Side) -> bool
     ensures { result ≡ has_filter schema.now side.now }
 {
-    side.filter.as_slice().iter().all(|part| is_of_some_kind(
+    side.filter.as_slice().iter().all(|part| is_literal_of(
         kind_of(schema, side.table, Col::At(part.0)),
         &part.1,
     ))
@@ -271,7 +302,7 @@ fn check_rule(schema: &Schema, rule: &Rule) -> Result<(), RuleFault>
 /// Whether each of at most 64 rules can stand over the schema, or the number of the first that
 /// can't with its fault.
 pub(super) fn check_rules(schema: &Schema, rules: &[Rule]) -> Result<(), (u16, RuleFault)>
-    requires { length rules.now ≤ 64 }
+    requires { length rules.now ≤ MOST_RULES }
     ensures { Answers result (first_fault schema.now 0 rules.now) }
 {
     for number in 0..rules.len() {

@@ -4,11 +4,11 @@ use Rattle.std.proofs.lemmas.Bool.Decides.{same_from_decides}
 use Rattle.clr_rows.specs.declared.rows.Row.{Row}
 use Rattle.clr_rows.specs.Same.{same}
 use Rattle.clr_rows.proofs.SameLemmas.{same_decides}
-use Rattle.clr_rows.proofs.RowLemmas.{some_is}
+use Rattle.std.proofs.lemmas.Option.{same_Some}
 use Rattle.clr_change.proofs.change_sets.are_same.Goals as goal
 
 same_rows : (r : Bool) (a b : Row) → (IsTrue r ↔ (a ≡ b)) → r ≡ same (Some a) (Some b)
-same_rows r a b h = same_from_decides r (same (Some a) (Some b)) (λ e. ap Some (h.0 e), λ e. h.1 (some_is a b e)) (same_decides (Some a) (Some b))
+same_rows r a b h = same_from_decides r (same (Some a) (Some b)) (λ e. ap Some (h.0 e), λ e. h.1 (same_Some a b e)) (same_decides (Some a) (Some b))
 
 same_as_none : (r : Bool) (b : Option (Bor Row)) → is_some b ≡ not r → r ≡ same None (option_copied b)
 unfolding same

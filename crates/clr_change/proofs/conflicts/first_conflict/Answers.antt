@@ -1,7 +1,7 @@
 use Rattle.std.proofs.Common.{◌≡◌, List, length, map, filter, ap, ◌∙◌, arith}
 use Rattle.std.specs.FinMap as finite
 use Rattle.clr_rows.specs.declared.cells.CellId.{CellId}
-use Rattle.clr_rows.specs.declared.changes.Change.{Change}
+use Rattle.clr_rows.specs.declared.cells.Change.{Change}
 use Rattle.clr_rows.specs.Contents.{conflicts, is_conflict, least_and_count}
 use Rattle.clr_change.proofs.conflicts.first_conflict.Goals as goal
 

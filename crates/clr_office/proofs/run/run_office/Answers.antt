@@ -1,6 +1,6 @@
 use Rattle.std.proofs.Common.{◌∙◌, ap, rules}
 use Rattle.std.proofs.lemmas.Result.{err_from_is_err_and}
-use Rattle.clr_office.specs.Separator.{cut_text}
+use Rattle.clr_office.specs.Separator.{around_separator}
 use Rattle.clr_office.specs.Session.{Run}
 use Rattle.clr_office.proofs.Sessions.{session_uncut, session_cut, refused}
 use Rattle.clr_office.proofs.run.run_office.Goals as goal
@@ -13,11 +13,11 @@ returns-in_default-clause-answers g c =
 pub returns-in_err-lines-clause-answers : goal.returns-in_err-lines-clause-answers
 returns-in_err-lines-clause-answers g c =
     let passed_on = err_from_is_err_and c.from_residual-in_err-lines.result c.from_residual-in_err-lines.ensures.1 in
-    let cut = c.in-Some.ensures ∙ ap cut_text c.as_slice.ensures.value in
+    let cut = c.in-Some.ensures ∙ ap around_separator c.as_slice.ensures.value in
     let run : Run = record {
       input = g.R.Source.remaining c.args.reader.now;
-      left = g.R.Source.remaining c.read_whole.new.reader;
-      read_failed = g.R.Source.failed c.read_whole.new.reader;
+      left = g.R.Source.remaining c.read_input.new.reader;
+      read_failed = g.R.Source.failed c.read_input.new.reader;
       held = g.W.Sink.contents c.args.writer.now;
       holds = g.W.Sink.contents c.args.writer.now;
       write_failed = g.W.Sink.failed c.args.writer.now;

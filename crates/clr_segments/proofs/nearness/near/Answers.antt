@@ -1,13 +1,15 @@
 use Rattle.std.proofs.Common.{◌≤◌, ◌≤ℤ◌, ◌*ℤ◌, ◌+ℤ◌, ℤ, pos, ◌∙◌, ap₂, arith, unsigned_abs, to_z-of_z}
 use Rattle.std.proofs.lemmas.Int.{ints}
+use Rattle.clr_segments.specs.declared.limits.TheConstants.{GREATEST_DISTANCE}
+use Rattle.clr_segments.specs.Sizes.{greatest_difference}
 use Rattle.clr_segments.specs.Turns.{squared_distance}
 use Rattle.clr_segments.proofs.Words64.{word_value, plus_fits, plus_in_word, product_is, product_fits, difference_is, difference_fits, less_by}
 use Rattle.clr_segments.proofs.nearness.near.Goals as goal
 
-distance_bound : (d : ℤ) → pos 1 ≤ℤ d → d ≤ℤ pos 1000000 → unsigned_abs d ≤ 2000000000
+distance_bound : (d : ℤ) → pos 1 ≤ℤ d → d ≤ℤ GREATEST_DISTANCE → unsigned_abs d ≤ greatest_difference
 distance_bound d h k = omega (arith, ints)
 
-distance_in_word : (d : ℤ) → pos 1 ≤ℤ d → d ≤ℤ pos 1000000 → unsigned_abs (word_value d) ≤ 2000000000
+distance_in_word : (d : ℤ) → pos 1 ≤ℤ d → d ≤ℤ GREATEST_DISTANCE → unsigned_abs (word_value d) ≤ greatest_difference
 distance_in_word d h k = rw (to_z-of_z (difference_fits d (distance_bound d h k))) (distance_bound d h k)
 
 pub overflow_add-result : goal.overflow_add-result

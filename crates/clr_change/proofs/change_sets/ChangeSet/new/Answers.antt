@@ -1,14 +1,15 @@
 use Rattle.std.proofs.Common.{[], ap, subst, sym, ◌∙◌}
 use Rattle.clr_rows.proofs.CellOrder.{cell_cmp_total, cell_cmp_exact}
 use Rattle.clr_rows.proofs.Entries.{from_no_entries}
-use Rattle.clr_change.specs.ChangeSets.{IsSound, AreChangesWithin, AreDifferent, changes_of}
-use Rattle.clr_change.proofs.SetLemmas.{no_changes_within, no_changes_differ}
+use Rattle.clr_change.specs.ChangeSets.{IsSound, AreDifferent, changes_of}
+use Rattle.clr_rows.proofs.FitLemmas.{none_keeps}
+use Rattle.clr_change.proofs.SetLemmas.{is_different}
 use Rattle.clr_change.proofs.change_sets.ChangeSet.new.Goals as goal
 
 none_sound : IsSound []
 none_sound =
     let none = sym (from_no_entries cell_cmp_total cell_cmp_exact) in
-    record { ascending = tt; within = subst AreChangesWithin none no_changes_within; differ = subst AreDifferent none no_changes_differ }
+    record { ascending = tt; differ = subst AreDifferent none (none_keeps is_different) }
 
 pub invariant_of-result : goal.invariant_of-result
 invariant_of-result c = subst IsSound (sym c.new.ensures.empty) none_sound

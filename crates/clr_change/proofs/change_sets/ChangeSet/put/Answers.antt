@@ -4,8 +4,9 @@ use Rattle.clr_rows.specs.Cells.{cell_cmp}
 use Rattle.clr_rows.specs.Contents.{Changes}
 use Rattle.clr_rows.proofs.CellOrder.{cell_cmp_total, cell_cmp_exact}
 use Rattle.clr_rows.proofs.Entries.{one_put, sorted_from_ordered}
-use Rattle.clr_change.specs.ChangeSets.{AreChangesWithin, AreDifferent}
-use Rattle.clr_change.proofs.SetLemmas.{put_within, put_differ}
+use Rattle.clr_change.specs.ChangeSets.{AreDifferent}
+use Rattle.clr_rows.proofs.FitLemmas.{put_keeps}
+use Rattle.clr_change.proofs.SetLemmas.{is_different}
 use Rattle.clr_change.proofs.change_sets.ChangeSet.put.Goals as goal
 
 pub invariant_of-self-2 : goal.invariant_of-self-2
@@ -16,8 +17,7 @@ invariant_of-self-2 c =
     let put = sym (one_put cell_cmp_total cell_cmp_exact es fs c.args.cell c.args.change c.self.invariant.ascending ascending c.in_ok-insert.ensures.updates.0) in
     record {
       ascending = ascending;
-      within = subst AreChangesWithin put (put_within _ c.args.cell c.args.change c.self.invariant.within c.requires.within);
-      differ = subst AreDifferent put (put_differ _ c.args.cell c.args.change c.self.invariant.differ c.requires.differs);
+      differ = subst AreDifferent put (put_keeps is_different _ c.args.cell c.args.change c.self.invariant.differ c.requires);
     }
 
 pub returns-clause-ok : goal.returns-clause-ok

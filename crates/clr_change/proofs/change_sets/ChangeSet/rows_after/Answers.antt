@@ -1,13 +1,9 @@
 use Rattle.std.proofs.Common.{◌≡◌, ◌++◌, ◌∷◌, List, [], map, Option, append_assoc, sym, ap, ◌∙◌}
-use Rattle.std.specs.List.{list_all}
 use Rattle.std.specs.Map.Iter.{deref_pair}
-use Rattle.std.proofs.lemmas.Map.Iter.{rest_more, rest_all}
-use Rattle.std.proofs.lemmas.List.{append-nil}
+use Rattle.std.proofs.lemmas.Map.Iter.{rest_more}
 use Rattle.clr_rows.specs.declared.cells.CellId.{CellId}
 use Rattle.clr_rows.specs.declared.rows.Row.{Row}
-use Rattle.clr_rows.specs.declared.changes.Change.{Change}
-use Rattle.clr_rows.specs.Ranges.{is_entry_within}
-use Rattle.clr_change.proofs.SetLemmas.{rows_after_within}
+use Rattle.clr_rows.specs.declared.cells.Change.{Change}
 use Rattle.clr_change.proofs.change_sets.ChangeSet.rows_after.Goals as goal
 
 abbrev Rows : Type 0
@@ -27,10 +23,3 @@ loop-cell-preserved c =
     ap (λ (rows : Rows). rows ++ map (λ e. (e.0, e.1.after)) left) c.in_ok-push.ensures.items
     ∙ pushed c.loop-cell.rows.items c.in-Some.cell.now c.in-Some.change.now c.in_ok-row.row left c.loop-cell.cell-iterator rest (c.in_ok-row.ensures ∙ c.as_ref.ensures.value)
     ∙ c.loop-cell.invariant
-
-pub returns-clause-within : goal.returns-clause-within
-returns-clause-within c =
-    let whole = sym (append-nil c.loop-cell.rows.items)
-    ∙ ap (λ (es : List (CellId × Change)). c.loop-cell.rows.items ++ map (λ e. (e.0, e.1.after)) es) (sym (rest_all deref_pair c.loop-cell.cell-iterator c.next.new.self c.next.result c.in-None.is c.next.ensures.steps))
-    ∙ c.loop-cell.invariant in
-    ap (list_all is_entry_within) whole ∙ rows_after_within c.args.self.now c.iter-cell-items.ensures.within

@@ -4,8 +4,9 @@ use Rattle.clr_rows.specs.Cells.{cell_cmp}
 use Rattle.clr_rows.specs.Contents.{Changes}
 use Rattle.clr_rows.proofs.CellOrder.{cell_cmp_total, cell_cmp_exact}
 use Rattle.clr_rows.proofs.Entries.{one_taken, sorted_from_ordered}
-use Rattle.clr_change.specs.ChangeSets.{AreChangesWithin, AreDifferent}
-use Rattle.clr_change.proofs.SetLemmas.{taken_within, taken_differ}
+use Rattle.clr_change.specs.ChangeSets.{AreDifferent}
+use Rattle.clr_rows.proofs.FitLemmas.{take_keeps}
+use Rattle.clr_change.proofs.SetLemmas.{is_different}
 use Rattle.clr_change.proofs.change_sets.ChangeSet.take.Goals as goal
 
 pub invariant_of-self : goal.invariant_of-self
@@ -16,8 +17,7 @@ invariant_of-self c =
     let taken = sym (one_taken cell_cmp_total cell_cmp_exact es fs c.args.cell c.self.invariant.ascending ascending c.remove.ensures.updates.0) in
     record {
       ascending = ascending;
-      within = subst AreChangesWithin taken (taken_within _ c.args.cell c.self.invariant.within);
-      differ = subst AreDifferent taken (taken_differ _ c.args.cell c.self.invariant.differ);
+      differ = subst AreDifferent taken (take_keeps is_different _ c.args.cell c.self.invariant.differ);
     }
 
 pub returns : goal.returns

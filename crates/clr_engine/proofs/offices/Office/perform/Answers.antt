@@ -1,16 +1,23 @@
-use Rattle.std.proofs.Common.{◌≡◌, sym, subst}
-use Rattle.clr_engine.specs.declared.commands.Command.{Command}
-use Rattle.clr_engine.specs.Steps.{answer, answered, is_lost, step, refusal, done}
+use Rattle.std.proofs.Common.{subst}
+use Rattle.clr_steps.specs.Offices.{Office, office_of}
+use Rattle.clr_steps.specs.Steps.{IsAnswer}
+use Rattle.clr_steps.proofs.StepLemmas.{answer_law}
+use Rattle.clr_engine.proofs.Steps.{fits_after, holds_after}
 use Rattle.clr_engine.proofs.offices.Office.perform.Goals as goal
 
-pub returns-in-Create : goal.returns-in-Create
-unfolding step refusal done
-returns-in-Create c = subst (λ (d : Command). answer c.create.result c.create.new.self ≡ answered (is_lost c.create.result) c.args.self.now (step c.args.self.now d)) (sym c.in-Create.is) c.create.ensures
+pub invariant_of-self : goal.invariant_of-self
+invariant_of-self c =
+    let inside = c.self.inside in
+    let o = office_of inside.schema inside.judge inside.tree.list in
+    let left = office_of inside.schema inside.judge c.perform.new.tree.list in
+    let answered = answer_law inside.schema inside.judge inside.tree.list c.perform.ensures.sound c.args.command.now c.perform.result c.perform.new.tree.list c.perform.ensures.performed in
+    record {
+      fit = fits_after o c.args.command.now c.perform.result left c.self.invariant.fit answered;
+      holds = holds_after o c.args.command.now c.perform.result left c.self.invariant.holds answered;
+    }
 
-pub returns-in-Apply : goal.returns-in-Apply
-unfolding step refusal done
-returns-in-Apply c = subst (λ (d : Command). answer c.apply.result c.apply.new.self ≡ answered (is_lost c.apply.result) c.args.self.now (step c.args.self.now d)) (sym c.in-Apply.is) c.apply.ensures
-
-pub returns-in-Merge : goal.returns-in-Merge
-unfolding step refusal done
-returns-in-Merge c = subst (λ (d : Command). answer c.merge.result c.merge.new.self ≡ answered (is_lost c.merge.result) c.args.self.now (step c.args.self.now d)) (sym c.in-Merge.is) c.merge.ensures
+pub returns-clause-answer : goal.returns-clause-answer
+returns-clause-answer c =
+    let inside = c.self.inside in
+    subst (λ (o : Office). IsAnswer o c.args.command.now c.perform.result (office_of inside.schema inside.judge c.perform.new.tree.list)) c.self.view_is
+    (answer_law inside.schema inside.judge inside.tree.list c.perform.ensures.sound c.args.command.now c.perform.result c.perform.new.tree.list c.perform.ensures.performed)

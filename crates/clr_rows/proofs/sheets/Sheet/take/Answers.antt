@@ -1,11 +1,11 @@
-use Rattle.std.proofs.Common.{sym, ◌∙◌, ap, subst}
+use Rattle.std.proofs.Common.{◌≡◌, true, sym, ◌∙◌, ap, subst}
 use Rattle.std.specs.FinMap as finite
 use Rattle.clr_rows.specs.Cells.{cell_cmp}
 use Rattle.clr_rows.specs.Contents.{Content, row_at}
-use Rattle.clr_rows.specs.Ranges.{AreWithin}
+use Rattle.clr_rows.specs.Ranges.{AreWithin, is_within}
 use Rattle.clr_rows.proofs.CellOrder.{cell_cmp_total, cell_cmp_exact}
 use Rattle.clr_rows.proofs.Entries.{get_sorted, one_taken, sorted_from_ordered}
-use Rattle.clr_rows.proofs.RowLemmas.{taken_within}
+use Rattle.clr_rows.proofs.FitLemmas.{take_keeps}
 use Rattle.clr_rows.proofs.sheets.Sheet.take.Goals as goal
 
 pub invariant_of-self : goal.invariant_of-self
@@ -14,7 +14,7 @@ invariant_of-self c =
     let fs = c.remove.new.self.entries in
     let ascending = sorted_from_ordered cell_cmp fs c.remove.ensures.ordered in
     let taken = one_taken cell_cmp_total cell_cmp_exact es fs c.args.cell c.self.invariant.ascending ascending c.remove.ensures.updates.0 in
-    record { ascending = ascending; within = subst AreWithin (sym taken) (taken_within _ c.args.cell c.self.invariant.within) }
+    record { ascending = ascending; within = subst AreWithin (sym taken) (take_keeps (λ c r. is_within c r ≡ true) _ c.args.cell c.self.invariant.within) }
 
 pub returns-clause-before : goal.returns-clause-before
 returns-clause-before c = c.remove.ensures.value ∙ sym (get_sorted cell_cmp c.self.inside.rows.entries c.args.cell c.self.invariant.ascending) ∙ ap (λ m. row_at m c.args.cell) c.self.view_is

@@ -1,5 +1,39 @@
-use Rattle.clr_tree.proofs.MergeLemmas.{sound_current}
+use Rattle.std.proofs.Common.{ap, sym, subst, ◌∙◌}
+use Rattle.clr_differences.specs.Differences.{Rows}
+use Rattle.clr_tree.specs.Holding.{put_into}
+use Rattle.clr_tree.specs.Operations.{after_write}
+use Rattle.clr_tree.proofs.TreeLemmas.{sound_current}
+use Rattle.clr_layers.specs.Layers.{wholes}
+use Rattle.clr_tree.specs.Soundness.{IsSound}
+use Rattle.clr_tree.proofs.ReadLemmas.{within_wholes}
+use Rattle.clr_tree.proofs.ModelLemmas.{within_tree, became, either}
+use Rattle.clr_layers.proofs.Answered.{on_ok, on_err}
 use Rattle.clr_tree.proofs.tree.Tree.write_all.Goals as goal
 
+pub put_rows-requires-clause-within : goal.put_rows-requires-clause-within
+put_rows-requires-clause-within c = within_tree c.self.inside.live c.self.inside.map c.args.self.now c.args.at c.self.view_is c.requires
+
 pub invariant_of-self : goal.invariant_of-self
-invariant_of-self c = rw c.set_current.ensures (sound_current c.self.inside.table c.args.at _ c.self.invariant)
+invariant_of-self c =
+    let live = c.self.inside.live in
+    let ls = c.self.inside.map in
+    let ws = wholes live ls in
+    let at = c.args.at in
+    let in_ls = within_tree c.self.inside.live c.self.inside.map c.args.self.now c.args.at c.self.view_is c.requires in
+    let lt = within_wholes live ls at in_ls in
+    let s = c.self.invariant in
+    either c.put_rows.result _ _ _ (λ is. subst IsSound (sym (is ∙ ap (λ (rs : Rows). put_into ws at rs) c.in_ok-rows.ensures)) (sound_current ws at s lt _)) (λ is. subst IsSound (sym is) s) c.put_rows.ensures.ok c.put_rows.ensures.err
+
+pub returns-clause-ok : goal.returns-clause-ok
+returns-clause-ok c =
+    let live = c.self.inside.live in
+    let ls = c.self.inside.map in
+    let ws = wholes live ls in
+    let at = c.args.at in
+    let in_ls = within_tree c.self.inside.live c.self.inside.map c.args.self.now c.args.at c.self.view_is c.requires in
+    let lt = within_wholes live ls at in_ls in
+    let s = c.self.invariant in
+    on_ok c.put_rows.result _ _ (λ is. became live c.put_rows.new.live ls c.put_rows.new.map c.args.self.now (λ ws. after_write ws c.args.at c.args.changed.now) c.self.view_is (is ∙ ap (λ (rs : Rows). put_into ws at rs) c.in_ok-rows.ensures)) c.put_rows.ensures.ok
+
+pub returns-clause-err : goal.returns-clause-err
+returns-clause-err c = on_err c.put_rows.result _ _ (λ is. became c.self.inside.live c.put_rows.new.live c.self.inside.map c.put_rows.new.map c.args.self.now (λ ws. ws) c.self.view_is is) c.put_rows.ensures.err

@@ -1,0 +1,63 @@
+# What the program is built from, and where it is kept. To be read by other scripts, with the repository's folder in `top`.
+#
+# bin/out/stamp has the name, the size and the time of the last change of each source and of the program, as they
+# were: where they are so still, the program is current. bin/out/digests has a digest of all sources and the
+# program's: where these are as they were, as in a copy of the checkout, it is stamped anew.
+out=$top/bin/out
+
+# The crates that the program stands on, lowest first, and then its own; and all its sources.
+declare -A uses=() added=()
+crates=()
+add_crate() {
+    local used
+    added[$1]=yes
+    for used in ${uses[$1]}; do
+        if [ -n "${uses[$used]+known}" ] && [ -z "${added[$used]+yes}" ]; then add_crate "$used"; fi
+    done
+    crates+=("$1")
+}
+while IFS= read -r line; do
+    case $line in '#'*) ;; *:*) uses[${line%%:*}]=${line#*:} ;; esac
+done <"$top/crates.txt"
+if [ -n "${uses[clr_program]+known}" ]; then add_crate clr_program; fi
+
+sources=(crates.txt bin/clr_office bin/program.sh)
+for crate in "${crates[@]}"; do
+    for folder in src specs proofs; do
+        if [ -d "$top/crates/$crate/$folder" ]; then sources+=("crates/$crate/$folder"); fi
+    done
+done
+
+# The name, the size and the time of the last change of each source, and of other files.
+listing() { cd -P -- "$top" && exec find "${sources[@]}" "$@" -type f -printf '%p %s %C@\n' 2>/dev/null; }
+
+digest_of_sources() {
+    cd -P -- "$top" && find "${sources[@]}" -type f -print0 | LC_ALL=C sort -z | xargs -0 sha256sum | sha256sum
+}
+
+digest_of_program() { sha256sum 2>/dev/null <"$out/clr_office"; }
+
+# Stamps the program that stands in bin/out as built from sources of this listing.
+write_stamp() {
+    (echo "$1" && listing bin/out/clr_office | tail -n 1) >"$out/stamp.$$.new" && mv -f "$out/stamp.$$.new" "$out/stamp"
+}
+
+# Whether the program that stands in bin/out is whole and was built from the sources as they are.
+is_current() {
+    local before
+    [ -f "$out/stamp" ] && [ -f "$out/digests" ] || return 1
+    if [ "$(listing bin/out/clr_office)" = "$(<"$out/stamp")" ]; then return 0; fi
+    before=$(listing)
+    [ "$(digest_of_sources && digest_of_program)" = "$(<"$out/digests")" ] || return 1
+    # (a checkout that can't be written has its digests compared at each start)
+    write_stamp "$before" 2>/dev/null
+    return 0
+}
+
+# Puts a program into bin/out that was built from sources of this digest and this listing.
+write_program() {
+    local made=$1 digest=$2 before=$3
+    rm -f "$out/stamp" "$out/digests"
+    cp "$made" "$out/clr_office.new" && mv -f "$out/clr_office.new" "$out/clr_office" &&
+        (echo "$digest" && digest_of_program) >"$out/digests" && write_stamp "$before"
+}

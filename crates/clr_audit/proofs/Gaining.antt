@@ -1,0 +1,37 @@
+-- Lists that gain broken needs, one step after another.
+use Rattle.std.proofs.Common.{◌≡◌, ◌⊎◌, inl, inr, List, ◌++◌, Contains, sym, subst}
+use Rattle.clr_rules.specs.declared.needs.Broken.{Broken}
+use Rattle.clr_rules.specs.declared.rules.Rule.{Rule}
+use Rattle.clr_rows.specs.Held.{Held}
+use Rattle.clr_rules.proofs.Elements.{Among, among, contained, among_left, among_right, among_either}
+use Rattle.clr_audit.specs.Searches.{Gains, IsBrokenAmong}
+
+module _ (rules : List Rule) (rows : List Held) where
+  abbrev pub Wanted : Type 1
+  Wanted = (b : Broken) → IsBrokenAmong rules rows b → Type 0
+
+  -- nothing is wanted, and nothing is added
+  pub gains_none : (W : Wanted) (xs : List Broken) → ((b : Broken) (h : IsBrokenAmong rules rows b) → W b h → ⊥) → Gains rules rows W xs xs
+  gains_none W xs none = record { stay = λ b h. h; only = λ b h. inl h; found = λ b h w. absurd (none b h w) }
+
+  -- what is wanted is gained in the first step or in the second
+  pub gains_more : (U V W : Wanted) (xs ys zs : List Broken) → Gains rules rows U xs ys → Gains rules rows V ys zs
+      → ((b : Broken) (h : IsBrokenAmong rules rows b) → W b h → U b h ⊎ V b h) → Gains rules rows W xs zs
+  gains_more U V W xs ys zs g k split = record {
+    stay = λ b h. k.stay b (g.stay b h);
+    only = λ b h. elim (k.only b h) [ inl m ↦ g.only b m | inr m ↦ inr m ];
+    found = λ b h w. elim (split b h w) [ inl u ↦ k.stay b (g.found b h u) | inr v ↦ k.found b h v ];
+  }
+
+  -- less is wanted
+  pub gains_less : (V W : Wanted) (xs ys : List Broken) → Gains rules rows V xs ys → ((b : Broken) (h : IsBrokenAmong rules rows b) → W b h → V b h) → Gains rules rows W xs ys
+  gains_less V W xs ys g less = record { stay = g.stay; only = g.only; found = λ b h w. g.found b h (less b h w) }
+
+  -- a list of broken needs is added, with all that are wanted
+  pub gains_listed : (W : Wanted) (xs ys more : List Broken) → ys ≡ xs ++ more → ((b : Broken) → Among b more → IsBrokenAmong rules rows b)
+      → ((b : Broken) (h : IsBrokenAmong rules rows b) → W b h → Among b more) → Gains rules rows W xs ys
+  gains_listed W xs ys more is each all = record {
+    stay = λ b h. subst (λ l. Contains l b) (sym is) (contained b (xs ++ more) (among_left b xs more (among b xs h)));
+    only = λ b h. elim (among_either b xs more (among b (xs ++ more) (subst (λ l. Contains l b) is h))) [ inl m ↦ inl (contained b xs m) | inr m ↦ inr (each b m) ];
+    found = λ b h w. subst (λ l. Contains l b) (sym is) (contained b (xs ++ more) (among_right b xs more (all b h w)));
+  }

@@ -1,0 +1,7 @@
+pub mod AuditLaws
+pub mod Filed
+pub mod FitLaws
+pub mod Gaining
+pub mod MapLemmas
+pub mod NeedLaws
+pub mod RoleFiled

@@ -1,0 +1,108 @@
+-- The broken needs of listed rows, and what a search among them adds to a list.
+use Rattle.std.specs.Prelude.{◌≡◌, ◌⊎◌, ℕ, Bool, true, false, not, List, [], ◌∷◌, ◌&&◌, Option, Some, None, Contains, ⊤, IsSome}
+use Rattle.std.specs.Prelude.{map, slice_get, if◌then◌else◌}
+use Rattle.std.specs.List.{flat_map, list_any}
+use Rattle.clr_rows.specs.Held.{Held, held_of}
+use Rattle.clr_rules.specs.declared.needs.Ask.{Ask}
+use Rattle.clr_rules.specs.declared.needs.Broken.{Broken}
+use Rattle.clr_rules.specs.declared.rules.Rule.{Rule}
+use Rattle.clr_spots.specs.declared.spots.Spot.{Spot}
+use Rattle.clr_spots.specs.declared.spots.Spots.{Spots}
+use Rattle.clr_rules.specs.Calls.{ask_of_parts, calls, serves}
+use Rattle.clr_rules.specs.Needs.{ask_of, broken_at, is_after}
+use Rattle.clr_audit.specs.declared.searching.Search.{Search}
+use Rattle.clr_audit.specs.declared.spot_maps.Entry.{Entry}
+use Rattle.clr_audit.specs.Filing.{entries_at, near}
+use Rattle.clr_audit.specs.RoleFiling.{filed_rows, no_rows_filed}
+
+abbrev pub serves_if : List Rule → Ask → Held → Option Held → Option Held → Bool
+serves_if rules ask s t None = false
+serves_if rules ask s t (Some r) = serves rules ask s t r
+
+-- the row of an entry serves these subjects
+abbrev pub serves_at : List Rule → Ask → List Held → Held → Option Held → Entry → Bool
+serves_at rules ask rows s t e = serves_if rules ask s t (slice_get rows e.position)
+
+-- the rows of a search
+abbrev pub rows_of : Search → List Held
+rows_of search = map held_of search.rows.now
+
+-- all of them are filed under its rule
+abbrev pub AreRowsFiled : Search → Type 0
+AreRowsFiled search = search.index.now ≡ filed_rows search.book.now search.rule no_rows_filed 0 (rows_of search)
+
+-- one of some entries is of a row that serves these subjects
+abbrev pub serves_among : Search → Ask → Held → Option Held → List Entry → Bool
+serves_among search ask s t entries = list_any (serves_at search.book.now ask (rows_of search) s t) entries
+
+-- the servers of some spots
+abbrev pub servers_at_spots : Search → List Spot → List Entry
+servers_at_spots search spots = flat_map (entries_at search.index.now.servers.by_spot) spots
+
+-- the servers that may serve a row of these spots
+abbrev pub servers_near : Search → Spots → List Entry
+servers_near search spots = near search.index.now.servers spots.list spots.wide
+
+-- the need, where its subjects call and no server near these spots serves them
+abbrev pub need_if_broken : Search → Spots → Ask → Held → Option Held → List Broken
+need_if_broken search spots ask s t =
+    if calls search.book.now ask s t && not (serves_among search ask s t (servers_near search spots))
+    then broken_at ask s t ∷ []
+    else []
+
+abbrev pub need_with : Search → Spots → Ask → Held → Option Held → List Broken
+need_with search spots ask s None = []
+need_with search spots ask s (Some t) = if is_after s t then need_if_broken search spots ask s (Some t) else []
+
+-- the need of a part of a row with the part and the row of an entry, if it comes after the first one
+abbrev pub need_beside : Search → Spots → Held → ℕ → Entry → List Broken
+need_beside search spots s part e = need_with search spots (ask_of_parts search.rule part e.part) s (slice_get (map held_of search.rows.now) e.position)
+
+-- a second subject is one of the rows too, at a greater cell
+abbrev pub IsBeside : List Held → Held → Option Held → Type 0
+IsBeside rows s None = ⊤
+IsBeside rows s (Some t) = Contains rows t × (is_after s t ≡ true)
+
+-- a need of listed rows that none of them serves
+pub record IsBrokenAmong (rules : List Rule) (rows : List Held) (b : Broken) : Type 0 where
+  pub first : Held
+  pub second : Option Held
+  pub listed : Contains rows first
+  pub beside : IsBeside rows first second
+  pub they_call : calls rules (ask_of b) first second ≡ true
+  pub unmet : list_any (serves rules (ask_of b) first second) rows ≡ false
+  pub named : b ≡ broken_at (ask_of b) first second
+
+-- which broken needs are wanted
+abbrev pub WantedOf : List Rule → List Held → Type 1
+WantedOf rules rows = (b : Broken) → IsBrokenAmong rules rows b → Type 0
+
+-- the later list has the earlier one, besides it broken needs alone, and of those all that are wanted
+pub record Gains (rules : List Rule) (rows : List Held) (Wanted : WantedOf rules rows) (before after : List Broken) : Type 0 where
+  pub stay : (b : Broken) → Contains before b → Contains after b
+  pub only : (b : Broken) → Contains after b → Contains before b ⊎ IsBrokenAmong rules rows b
+  pub found : (b : Broken) (h : IsBrokenAmong rules rows b) → Wanted b h → Contains after b
+
+-- of one rule
+abbrev pub IsOfRule : {rules : List Rule} {rows : List Held} → ℕ → (b : Broken) → IsBrokenAmong rules rows b → Type 0
+IsOfRule n b h = b.rule ≡ n
+
+-- whose first subject is this row
+abbrev pub IsOfRow : {rules : List Rule} {rows : List Held} → ℕ → Held → (b : Broken) → IsBrokenAmong rules rows b → Type 0
+IsOfRow n s b h = (b.rule ≡ n) × (h.first ≡ s)
+
+-- of this row alone
+abbrev pub IsAlone : {rules : List Rule} {rows : List Held} → ℕ → Held → (b : Broken) → IsBrokenAmong rules rows b → Type 0
+IsAlone n s b h = (b.rule ≡ n) × (h.first ≡ s) × (h.second ≡ None)
+
+-- of this row and another
+abbrev pub IsPaired : {rules : List Rule} {rows : List Held} → ℕ → Held → (b : Broken) → IsBrokenAmong rules rows b → Type 0
+IsPaired n s b h = (b.rule ≡ n) × (h.first ≡ s) × IsSome h.second
+
+-- of this part of the row and another row
+abbrev pub IsOfPart : {rules : List Rule} {rows : List Held} → ℕ → Held → ℕ → (b : Broken) → IsBrokenAmong rules rows b → Type 0
+IsOfPart n s part b h = (b.rule ≡ n) × (h.first ≡ s) × IsSome h.second × (b.first_part ≡ part)
+
+-- the same among the rows of a search
+abbrev pub GainsAll : (search : Search) → WantedOf search.book.now (rows_of search) → List Broken → List Broken → Type 0
+GainsAll search Wanted before after = Gains search.book.now (rows_of search) Wanted before after

@@ -1,0 +1,65 @@
+ghost use Rattle.std.specs.Prelude.{◌≡◌, ◌<◌, length, map, IfOk, OnOk};
+ghost use Rattle.clr_rows.specs.Contents.{row_at};
+ghost use Rattle.clr_rows.specs.Held.{held_of};
+ghost use Rattle.clr_rules.specs.Books.{FitsContent, FitTogether};
+ghost use Rattle.clr_rules.specs.Needs.{IsAudit, broken, rows_in};
+ghost use Rattle.clr_audit.specs.Searches.{Gains, IsOfRule};
+
+use crate::role_index::RoleIndex;
+use crate::searching::Search;
+use crate::sorting::sort_and_dedup;
+use clr_rows::{Held, Sheet};
+use clr_rules::{Broken, RuleBook};
+use std::alloc::{AllocError, Global};
+
+/// All rows of a sheet, in the order of cells.
+fn rows_of<'a>(alloc: Global, sheet: &'a Sheet) -> Result<Vec<Held<'a>>, AllocError>
+    ensures { IfOk result (λ rows. map held_of rows.items ≡ rows_in sheet.now) }
+{
+    let mut rows = Vec::with_capacity(alloc, sheet.len())?;
+    for (cell, row) in sheet.iter() {
+        rows.push(Held { cell: *cell, row })?;
+    }
+    Ok(rows)
+}
+
+/// Adds the broken needs of a rule among rows in the order of their cells.
+fn add_of_rule(
+    alloc: Global,
+    book: &RuleBook,
+    rule: u16,
+    rows: &[Held],
+    list: &mut Vec<Broken>,
+) -> Result<(), AllocError>
+    requires number { rule < length book.now }
+    requires fit { FitTogether book.now (map held_of rows.now) }
+    ensures { OnOk result (Gains book.now (map held_of rows.now) (IsOfRule rule) list.old.items list.new.items) }
+{
+    let index = RoleIndex::of_rows(alloc, book, rule, rows)?;
+    let search = Search {
+        book,
+        rule,
+        rows,
+        index: &index,
+    };
+    search.add_all(alloc, list)?;
+    Ok(())
+}
+
+/// The broken needs of a content, ascending by rule, first cell, second cell, first
+/// part, second part, each once. Every rule
+/// holds where there is none, and else the first is the least. The book and the rows fit one
+/// schema. It fails for want of memory alone.
+pub fn audit(alloc: Global, book: &RuleBook, sheet: &Sheet) -> Result<Vec<Broken>, AllocError>
+    requires { FitsContent book.now sheet.now }
+    ensures list { IfOk result (λ list. list.items ≡ broken book.now sheet.now) }
+    ensures lists { IfOk result (λ list. IsAudit book.now (row_at sheet.now) list.items) }
+{
+    let rows = rows_of(alloc, sheet)?;
+    let mut list = Vec::new(alloc);
+    for rule in 0..book.len() {
+        add_of_rule(alloc, book, rule as u16, rows.as_slice(), &mut list)?;
+    }
+    sort_and_dedup(&mut list);
+    Ok(list)
+}

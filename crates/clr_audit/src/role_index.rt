@@ -1,0 +1,140 @@
+//! The rows of a content under one rule, filed by their spots, each role apart.
+
+ghost use Rattle.std.specs.Prelude.{◌≡◌, ◌<◌, ◌++◌, ◌∷◌, [], length, map, IfOk, OnOk};
+ghost use Rattle.clr_rows.specs.Held.{held_of};
+ghost use Rattle.clr_rules.specs.Books.{FitTogether};
+ghost use Rattle.clr_audit.specs.RoleFiling.{no_rows_filed, with_subject, with_pairs, with_server, filed_rows, partners};
+
+use crate::spot_maps::{Entry, SpotMap};
+use clr_rows::Held;
+use clr_rules::{Roles, RuleBook};
+use clr_spots::{Spots, server_spots, subject_spots};
+use std::alloc::{AllocError, Global};
+
+/// Subjects that may be the first of two alone, the second alone, or both, and servers.
+#[derive(Drop)]
+pub(crate) struct RoleIndex {
+    pub firsts: SpotMap,
+    pub seconds: SpotMap,
+    pub boths: SpotMap,
+    pub servers: SpotMap,
+}
+
+impl RoleIndex {
+    fn new(alloc: Global) -> RoleIndex
+        ensures { result ≡ no_rows_filed }
+    {
+        RoleIndex {
+            firsts: SpotMap::new(alloc),
+            seconds: SpotMap::new(alloc),
+            boths: SpotMap::new(alloc),
+            servers: SpotMap::new(alloc),
+        }
+    }
+
+    fn file_subject(
+        &mut self,
+        alloc: Global,
+        roles: Roles,
+        entry: Entry,
+        spots: Spots,
+    ) -> Result<(), AllocError>
+        ensures { OnOk result (self.new ≡ with_subject self.old roles entry spots.list spots.wide) }
+    {
+        match (roles.first, roles.second) {
+            (true, true) => self.boths.file(alloc, entry, spots),
+            (true, false) => self.firsts.file(alloc, entry, spots),
+            (false, true) => self.seconds.file(alloc, entry, spots),
+            (false, false) => Ok(()),
+        }
+    }
+
+    /// Files each part of a row that may be one of two subjects.
+    fn file_parts(
+        &mut self,
+        alloc: Global,
+        book: &RuleBook,
+        rule: u16,
+        position: usize,
+        held: Held,
+    ) -> Result<(), AllocError>
+        requires number { rule < length book.now }
+        requires fit { FitTogether book.now (held_of held ∷ []) }
+        ensures { OnOk result (self.new ≡ with_pairs book.now rule self.old position (held_of held.entry)) }
+    {
+        let roles = book.roles_of(rule, held);
+        if !(roles.first || roles.second) {
+            return Ok(());
+        }
+        for part in 0..book.part_count(rule, held) {
+            let entry = Entry {
+                position,
+                part: part + 1,
+            };
+            let spots = subject_spots(alloc, book, rule, entry.part, held)?;
+            self.file_subject(alloc, roles, entry, spots)?;
+        }
+        Ok(())
+    }
+
+    /// Files a row that may be a server.
+    fn file_server(
+        &mut self,
+        alloc: Global,
+        book: &RuleBook,
+        rule: u16,
+        position: usize,
+        held: Held,
+    ) -> Result<(), AllocError>
+        requires number { rule < length book.now }
+        requires fit { FitTogether book.now (held_of held ∷ []) }
+        ensures { OnOk result (self.new ≡ with_server book.now rule self.old position (held_of held.entry)) }
+    {
+        if book.roles_of(rule, held).server {
+            let spots = server_spots(alloc, book, rule, held)?;
+            self.servers
+                .file(alloc, Entry { position, part: 1 }, spots)?;
+        }
+        Ok(())
+    }
+
+    /// The rows filed under a rule, by their positions. It fails for want of memory alone.
+    pub(crate) fn of_rows(
+        alloc: Global,
+        book: &RuleBook,
+        rule: u16,
+        rows: &[Held],
+    ) -> Result<RoleIndex, AllocError>
+        requires number { rule < length book.now }
+        requires fit { FitTogether book.now (map held_of rows.now) }
+        ensures { IfOk result (λ index. index ≡ filed_rows book.now rule no_rows_filed 0 (map held_of rows.now)) }
+    {
+        let mut index = RoleIndex::new(alloc);
+        for position in 0..rows.len() {
+            let held = rows[position];
+            index.file_server(alloc, book, rule, position, held)?;
+            index.file_parts(alloc, book, rule, position, held)?;
+        }
+        Ok(index)
+    }
+
+    /// Adds the entries of the subjects that may stand beside a row of these roles and spots. It
+    /// fails for want of memory alone.
+    pub(crate) fn add_partners(
+        &self,
+        roles: Roles,
+        spots: &Spots,
+        list: &mut Vec<Entry>,
+    ) -> Result<(), AllocError>
+        ensures { OnOk result (list.new.items ≡ list.old.items ++ partners self.now roles spots.now.list spots.now.wide) }
+    {
+        self.boths.add_near(spots, list)?;
+        if roles.second {
+            self.firsts.add_near(spots, list)?;
+        }
+        if roles.first {
+            self.seconds.add_near(spots, list)?;
+        }
+        Ok(())
+    }
+}

@@ -1,0 +1,276 @@
+//! The broken needs of one rule among rows that are filed under it. Subjects are paired with those
+//! alone that share a spot with them, and a server is looked for among such servers alone: no other
+//! row can stand in a need with them.
+
+ghost use Rattle.std.specs.Prelude.{◌≡◌, ◌<◌, ◌++◌, ◌∷◌, length, slice_get, Contains, OnOk, None, Some, option_map, option_to_list};
+ghost use Rattle.std.specs.List.{flat_map};
+ghost use Rattle.clr_rows.specs.Held.{held_of};
+ghost use Rattle.clr_rules.specs.Books.{FitTogether};
+ghost use Rattle.clr_rules.specs.Calls.{plain_ask};
+ghost use Rattle.clr_rules.specs.Roles.{roles_under};
+ghost use Rattle.clr_audit.specs.Searches.{AreRowsFiled, GainsAll, IsAlone, IsOfPart, IsOfRow, IsOfRule, IsPaired};
+ghost use Rattle.clr_audit.specs.Searches.{need_if_broken, need_beside, rows_of, serves_among, serves_at, servers_at_spots, servers_near};
+
+use crate::role_index::RoleIndex;
+use crate::sorting::sort_and_dedup;
+use crate::spot_maps::Entry;
+use clr_rows::Held;
+use clr_rules::{Ask, Broken, Roles, RuleBook};
+use clr_spots::{Spot, Spots, subject_spots};
+use std::alloc::{AllocError, Global};
+
+fn held_at<'a, 'b>(rows: &'a [Held<'b>], position: usize) -> Option<&'a Held<'b>>
+    ensures { option_map (λ h. h.now) result ≡ slice_get rows.now position }
+{
+    rows.get(position)
+}
+
+/// A rule of a book, and rows in the order of their cells, filed under it.
+#[derive(Clone, Copy)]
+pub(crate) struct Search<'a> {
+    pub book: &'a RuleBook,
+    pub rule: u16,
+    pub rows: &'a [Held<'a>],
+    pub index: &'a RoleIndex,
+}
+
+impl<'a> Search<'a> {
+    fn row_at(&self, position: usize) -> Option<Held<'a>>
+        ensures { option_map held_of result ≡ slice_get (rows_of self.now) position }
+    {
+        held_at(self.rows, position).copied()
+    }
+
+    /// Whether the row of an entry serves these subjects.
+    fn serves_at(&self, ask: Ask, first: Held, second: Option<Held>, entry: Entry) -> bool
+        requires number { ask.rule < length self.now.book.now }
+        requires fit { FitTogether self.now.book.now (held_of first ∷ (option_to_list (option_map held_of second) ++ rows_of self.now)) }
+        ensures { result ≡ serves_at self.now.book.now ask (rows_of self.now) (held_of first.entry) (option_map held_of second.entry) entry }
+    {
+        match self.row_at(entry.position) {
+            Some(server) => self.book.serves(ask, first, second, server),
+            None => false,
+        }
+    }
+
+    fn serves_among(&self, ask: Ask, first: Held, second: Option<Held>, entries: &[Entry]) -> bool
+        requires number { ask.rule < length self.now.book.now }
+        requires fit { FitTogether self.now.book.now (held_of first ∷ (option_to_list (option_map held_of second) ++ rows_of self.now)) }
+        ensures { result ≡ serves_among self.now ask (held_of first.entry) (option_map held_of second.entry) entries.now }
+    {
+        for entry in entries {
+            if self.serves_at(ask, first, second, *entry) {
+                return true;
+            }
+        }
+        false
+    }
+
+    fn serves_at_spots(&self, ask: Ask, first: Held, second: Option<Held>, spots: &[Spot]) -> bool
+        requires number { ask.rule < length self.now.book.now }
+        requires fit { FitTogether self.now.book.now (held_of first ∷ (option_to_list (option_map held_of second) ++ rows_of self.now)) }
+        ensures { result ≡ serves_among self.now ask (held_of first.entry) (option_map held_of second.entry) (servers_at_spots self.now spots.now) }
+    {
+        for spot in spots {
+            if self.serves_among(ask, first, second, self.index.servers.entries_at(spot)) {
+                return true;
+            }
+        }
+        false
+    }
+
+    /// Whether a server serves these subjects, the first one being a row of these spots.
+    fn is_served(&self, ask: Ask, first: Held, second: Option<Held>, spots: &Spots) -> bool
+        requires number { ask.rule < length self.now.book.now }
+        requires fit { FitTogether self.now.book.now (held_of first ∷ (option_to_list (option_map held_of second) ++ rows_of self.now)) }
+        ensures { result ≡ serves_among self.now ask (held_of first.entry) (option_map held_of second.entry) (servers_near self.now spots.now) }
+    {
+        if spots.wide {
+            return self.serves_among(ask, first, second, self.index.servers.all());
+        }
+        self.serves_among(ask, first, second, self.index.servers.wide())
+            || self.serves_at_spots(ask, first, second, spots.list.as_slice())
+    }
+
+    /// Adds the need of a row alone, where it calls and no server of these spots serves it.
+    fn add_one_if_broken(
+        &self,
+        first: Held,
+        spots: &Spots,
+        list: &mut Vec<Broken>,
+    ) -> Result<(), AllocError>
+        requires number { self.now.rule < length self.now.book.now }
+        requires fit { FitTogether self.now.book.now (held_of first ∷ rows_of self.now) }
+        ensures { OnOk result (list.new.items ≡ list.old.items ++ need_if_broken self.now spots.now (plain_ask self.now.rule) (held_of first.entry) None) }
+    {
+        let ask = Ask::plain(self.rule);
+        if self.book.calls_one(self.rule, first) && !self.is_served(ask, first, None, spots) {
+            list.push(Broken::new(ask, first.cell, None))?;
+        }
+        Ok(())
+    }
+
+    /// Adds the need of two rows, where they call and no server of these spots serves them.
+    fn add_two_if_broken(
+        &self,
+        ask: Ask,
+        first: Held,
+        second: Held,
+        spots: &Spots,
+        list: &mut Vec<Broken>,
+    ) -> Result<(), AllocError>
+        requires number { ask.rule < length self.now.book.now }
+        requires fit { FitTogether self.now.book.now (held_of first ∷ held_of second ∷ rows_of self.now) }
+        ensures { OnOk result (list.new.items ≡ list.old.items ++ need_if_broken self.now spots.now ask (held_of first.entry) (Some (held_of second.entry))) }
+    {
+        if self.book.calls_two(ask, first, second)
+            && !self.is_served(ask, first, Some(second), spots)
+        {
+            list.push(Broken::new(ask, first.cell, Some(second.cell)))?;
+        }
+        Ok(())
+    }
+
+    /// Adds the need of a part of a row with that of an entry, if its row comes after it.
+    fn add_beside(
+        &self,
+        first: Held,
+        part: u16,
+        spots: &Spots,
+        entry: Entry,
+        list: &mut Vec<Broken>,
+    ) -> Result<(), AllocError>
+        requires number { self.now.rule < length self.now.book.now }
+        requires fit { FitTogether self.now.book.now (held_of first ∷ rows_of self.now) }
+        ensures { OnOk result (list.new.items ≡ list.old.items ++ need_beside self.now spots.now (held_of first.entry) part entry) }
+    {
+        let ask = Ask {
+            rule: self.rule,
+            first_part: part,
+            second_part: entry.part,
+        };
+        match self.row_at(entry.position) {
+            Some(second) if first.cell.cmp(&second.cell).is_lt() => {
+                self.add_two_if_broken(ask, first, second, spots, list)
+            }
+            _ => Ok(()),
+        }
+    }
+
+    fn add_beside_all(
+        &self,
+        first: Held,
+        part: u16,
+        spots: &Spots,
+        entries: &[Entry],
+        list: &mut Vec<Broken>,
+    ) -> Result<(), AllocError>
+        requires number { self.now.rule < length self.now.book.now }
+        requires fit { FitTogether self.now.book.now (held_of first ∷ rows_of self.now) }
+        ensures { OnOk result (list.new.items ≡ list.old.items ++ flat_map (need_beside self.now spots.now (held_of first.entry) part) entries.now) }
+    {
+        for entry in entries {
+            self.add_beside(first, part, spots, *entry, list)?;
+        }
+        Ok(())
+    }
+
+    /// Adds the broken need of a row alone.
+    fn add_alone(
+        &self,
+        alloc: Global,
+        first: Held,
+        list: &mut Vec<Broken>,
+    ) -> Result<(), AllocError>
+        requires number { self.now.rule < length self.now.book.now }
+        requires fit { FitTogether self.now.book.now (rows_of self.now) }
+        requires filed { AreRowsFiled self.now }
+        requires one { Contains (rows_of self.now) (held_of first) }
+        ensures { OnOk result (GainsAll self.now (IsAlone self.now.rule (held_of first.entry)) list.old.items list.new.items) }
+    {
+        let spots = subject_spots(alloc, self.book, self.rule, 1, first)?;
+        self.add_one_if_broken(first, &spots, list)?;
+        Ok(())
+    }
+
+    /// Adds the broken needs of this part of a row and another row.
+    fn add_of_part(
+        &self,
+        alloc: Global,
+        first: Held,
+        roles: Roles,
+        part: u16,
+        list: &mut Vec<Broken>,
+    ) -> Result<(), AllocError>
+        requires number { self.now.rule < length self.now.book.now }
+        requires fit { FitTogether self.now.book.now (rows_of self.now) }
+        requires filed { AreRowsFiled self.now }
+        requires one { Contains (rows_of self.now) (held_of first) }
+        requires roles { roles ≡ roles_under self.now.book.now self.now.rule (held_of first) }
+        ensures { OnOk result (GainsAll self.now (IsOfPart self.now.rule (held_of first.entry) part) list.old.items list.new.items) }
+    {
+        let spots = subject_spots(alloc, self.book, self.rule, part, first)?;
+        let mut beside = Vec::new(alloc);
+        self.index.add_partners(roles, &spots, &mut beside)?;
+        sort_and_dedup(&mut beside);
+        self.add_beside_all(first, part, &spots, beside.as_slice(), list)?;
+        Ok(())
+    }
+
+    /// Adds the broken needs of a row and another row, part by part.
+    fn add_pairs(
+        &self,
+        alloc: Global,
+        first: Held,
+        roles: Roles,
+        list: &mut Vec<Broken>,
+    ) -> Result<(), AllocError>
+        requires number { self.now.rule < length self.now.book.now }
+        requires fit { FitTogether self.now.book.now (rows_of self.now) }
+        requires filed { AreRowsFiled self.now }
+        requires one { Contains (rows_of self.now) (held_of first) }
+        requires roles { roles ≡ roles_under self.now.book.now self.now.rule (held_of first) }
+        ensures { OnOk result (GainsAll self.now (IsPaired self.now.rule (held_of first.entry)) list.old.items list.new.items) }
+    {
+        for part in 0..self.book.part_count(self.rule, first) {
+            self.add_of_part(alloc, first, roles, part + 1, list)?;
+        }
+        Ok(())
+    }
+
+    /// Adds the broken needs whose first subject is this row.
+    fn add_of_row(
+        &self,
+        alloc: Global,
+        first: Held,
+        list: &mut Vec<Broken>,
+    ) -> Result<(), AllocError>
+        requires number { self.now.rule < length self.now.book.now }
+        requires fit { FitTogether self.now.book.now (rows_of self.now) }
+        requires filed { AreRowsFiled self.now }
+        requires one { Contains (rows_of self.now) (held_of first) }
+        ensures { OnOk result (GainsAll self.now (IsOfRow self.now.rule (held_of first.entry)) list.old.items list.new.items) }
+    {
+        let roles = self.book.roles_of(self.rule, first);
+        if roles.alone {
+            self.add_alone(alloc, first, list)?;
+        }
+        if roles.first || roles.second {
+            self.add_pairs(alloc, first, roles, list)?;
+        }
+        Ok(())
+    }
+
+    /// Adds the broken needs of the rule. It fails for want of memory alone.
+    pub(crate) fn add_all(&self, alloc: Global, list: &mut Vec<Broken>) -> Result<(), AllocError>
+        requires number { self.now.rule < length self.now.book.now }
+        requires fit { FitTogether self.now.book.now (rows_of self.now) }
+        requires filed { AreRowsFiled self.now }
+        ensures { OnOk result (GainsAll self.now (IsOfRule self.now.rule) list.old.items list.new.items) }
+    {
+        for first in self.rows {
+            self.add_of_row(alloc, *first, list)?;
+        }
+        Ok(())
+    }
+}

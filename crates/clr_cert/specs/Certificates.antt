@@ -1,0 +1,81 @@
+-- The certificate that records are, or the first fault with the number of its record.
+use Rattle.std.specs.Prelude.{ℕ, ◌+◌, ◌==◌, ◌&&◌, ◌||◌, List, [], ◌∷◌, ◌++◌, length, codes}
+use Rattle.std.specs.Prelude.{Bool, true, false, Option, Some, None, option_map, Result, Ok, Err, if◌then◌else◌}
+use Rattle.std.specs.Str.{bytes_eq}
+use Rattle.clr_rows.specs.declared.tables.TableDef.{TableDef}
+use Rattle.clr_rows.specs.Names.{is_good_name}
+use Rattle.clr_records.specs.Records.{◌>>=◌, at_record, field_of, or_fault, records_in}
+use Rattle.clr_cert.specs.declared.certificates.Certificate.{Certificate}
+use Rattle.clr_cert.specs.declared.faults.CertFault.{CertFault}
+use Rattle.clr_cert.specs.declared.faults.CertFault.TheVariants.{NotCsv, FieldCount, BadKind, BadReference}
+use Rattle.clr_cert.specs.declared.limits.TheConstants.{LIVE, RECORD_FIELDS}
+use Rattle.clr_cert.specs.declared.items.Item.{Item}
+use Rattle.clr_cert.specs.declared.items.Item.TheVariants.{Root, Member, Need}
+use Rattle.clr_cert.specs.Versions.{entry_of, is_empty}
+
+abbrev pub live_name : List ℕ
+live_name = LIVE.now
+
+abbrev pub is_live : List ℕ → Bool
+is_live name = bytes_eq name live_name
+
+-- the fields of a record behind its name are empty
+abbrev pub is_empty_behind : List (List ℕ) → Bool
+is_empty_behind fields = is_empty (field_of fields 2) && is_empty (field_of fields 3) && is_empty (field_of fields 4) && is_empty (field_of fields 5)
+
+-- the name in a record whose fields behind it are empty
+abbrev pub name_of : List (List ℕ) → Option (List ℕ)
+name_of fields = if is_good_name (field_of fields 1) && is_empty_behind fields then Some (field_of fields 1) else None
+
+-- the root that a record names: not LIVE, and none where a root record stands before it
+abbrev pub root_of : Bool → List (List ℕ) → Option (List ℕ)
+root_of rooted fields = if rooted || is_live (field_of fields 1) then None else name_of fields
+
+-- what a record says, by its first field; `rooted` where a root record stands before it
+abbrev pub item_by_word : List TableDef → Bool → List (List ℕ) → Result Item CertFault
+item_by_word tables rooted fields =
+    if bytes_eq (field_of fields 0) (codes "root") then or_fault BadReference (option_map Root (root_of rooted fields))
+    else (if bytes_eq (field_of fields 0) (codes "member") then or_fault BadReference (option_map Member (name_of fields))
+    else (if bytes_eq (field_of fields 0) (codes "need") then or_fault BadReference (option_map Need (entry_of tables fields))
+    else Err BadKind))
+
+-- the count of fields, then the first field, and then the others
+unfoldable pub item_of : List TableDef → Bool → List (List ℕ) → Result Item CertFault
+item_of tables rooted fields = if length fields == RECORD_FIELDS then item_by_word tables rooted fields else Err FieldCount
+
+abbrev pub is_root : Item → Bool
+is_root (Root name) = true
+is_root (Member name) = false
+is_root (Need entry) = false
+
+-- what a record says, before what the records behind it say
+abbrev pub with_item : Item → Certificate → Certificate
+with_item (Root name) c = record c { root = name }
+with_item (Member name) c = record c { members = name ∷ c.members }
+with_item (Need entry) c = record c { entries = entry ∷ c.entries }
+
+-- what records say, and then what the next record says
+abbrev pub with_next : Certificate → Item → Certificate
+with_next c (Root name) = record c { root = name }
+with_next c (Member name) = record c { members = c.members ++ name ∷ [] }
+with_next c (Need entry) = record c { entries = c.entries ++ entry ∷ [] }
+
+-- what no record says
+abbrev pub nothing_said : Certificate
+nothing_said = record { root = live_name; members = []; entries = [] }
+
+-- the certificate of records that are numbered from n; its root is LIVE where no record names another
+unfoldable pub certificate_from : List TableDef → Bool → ℕ → List (List (List ℕ)) → Result Certificate (ℕ × CertFault)
+certificate_from tables rooted n [] = Ok nothing_said
+certificate_from tables rooted n (fields ∷ rest) = do
+  item ← at_record n (item_of tables rooted fields)
+  others ← certificate_from tables (rooted || is_root item) (n + 1) rest
+  Ok (with_item item others)
+
+-- the certificate of records
+abbrev pub certificate_of : List TableDef → List (List (List ℕ)) → Result Certificate (ℕ × CertFault)
+certificate_of tables rows = certificate_from tables false 1 rows
+
+-- the certificate of a text
+abbrev pub certificate_in : List TableDef → List ℕ → Result Certificate (ℕ × CertFault)
+certificate_in tables bytes = or_fault (1, NotCsv) (records_in bytes) >>= λ rows. certificate_of tables rows

@@ -1,0 +1,4 @@
+pub mod Certificates
+pub mod Faults
+pub mod Texts
+pub mod Versions

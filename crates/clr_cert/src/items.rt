@@ -1,0 +1,110 @@
+ghost use Rattle.std.specs.Prelude.{◌≡◌, IfOk, option_map};
+ghost use Rattle.csv.specs.Records.{fields_of};
+ghost use Rattle.clr_cert.specs.Certificates.{is_empty_behind, is_root, item_by_word, item_of, name_of, root_of};
+ghost use Rattle.clr_cert.specs.Faults.{Gives};
+
+use crate::entries::Entry;
+use crate::faults::CertFault;
+use crate::limits::{LIVE, RECORD_FIELDS};
+use crate::versions::read_entry;
+use clr_records::field;
+use clr_rows::{Schema, Words, good_name};
+use csv::StringRecord;
+use std::alloc::{AllocError, Global};
+
+/// What a record says.
+#[derive(Debug, Drop)]
+pub(crate) enum Item {
+    Root(Words),
+    Member(Words),
+    Need(Entry),
+}
+
+impl Item {
+    pub(crate) fn is_root(&self) -> bool
+        ensures { result ≡ is_root self.now }
+    {
+        matches!(self, Item::Root(_))
+    }
+}
+
+/// Whether the fields of a record behind its name are empty.
+fn ends_empty(fields: &StringRecord) -> bool
+    ensures { result ≡ is_empty_behind (fields_of fields.now) }
+{
+    field(fields, 2).is_empty()
+        && field(fields, 3).is_empty()
+        && field(fields, 4).is_empty()
+        && field(fields, 5).is_empty()
+}
+
+/// The name in a record whose fields behind it are empty.
+fn name(fields: &StringRecord) -> Option<&str>
+    ensures { option_map (λ name. name.now) result ≡ name_of (fields_of fields.now) }
+{
+    let name = field(fields, 1);
+    (good_name(name) && ends_empty(fields)).then_some(name)
+}
+
+/// The root that a record names; `rooted` where a root record stands before it.
+fn root(rooted: bool, fields: &StringRecord) -> Option<&str>
+    ensures { option_map (λ name. name.now) result ≡ root_of rooted (fields_of fields.now) }
+{
+    if rooted {
+        return None;
+    }
+    if field(fields, 1) == LIVE {
+        return None;
+    }
+    name(fields)
+}
+
+/// A name as a text of its own.
+fn words(alloc: Global, name: &str) -> Result<Words, AllocError>
+    ensures { IfOk result (λ words. words ≡ name.now) }
+{
+    Ok(Words::new(String::from_str(alloc, name)?))
+}
+
+/// What a record of the right count of fields says; `rooted` where a root record stands before it.
+fn item_of_six(
+    alloc: Global,
+    schema: &Schema,
+    rooted: bool,
+    fields: &StringRecord,
+) -> Result<Item, CertFault>
+    ensures { Gives result (item_by_word schema.now rooted (fields_of fields.now)) }
+{
+    match field(fields, 0) {
+        "root" => {
+            let name = root(rooted, fields).ok_or(CertFault::BadReference)?;
+            Ok(Item::Root(words(alloc, name)?))
+        }
+        "member" => {
+            let name = name(fields).ok_or(CertFault::BadReference)?;
+            Ok(Item::Member(words(alloc, name)?))
+        }
+        "need" => {
+            let entry = read_entry(schema, fields).ok_or(CertFault::BadReference)?;
+            Ok(Item::Need(entry))
+        }
+        _ => Err(CertFault::BadKind),
+    }
+}
+
+/// What a record says; `rooted` where a root record stands before it.
+#[tactic(auto, unfolding(crate::specs::Certificates::item_of))]
+pub(crate) fn read_item(
+    alloc: Global,
+    schema: &Schema,
+    rooted: bool,
+    fields: &StringRecord,
+) -> Result<Item, CertFault>
+    ensures { Gives result (item_of schema.now rooted (fields_of fields.now)) }
+{
+    if fields.len() == RECORD_FIELDS {
+        item_of_six(alloc, schema, rooted, fields)
+    } else {
+        Err(CertFault::FieldCount)
+    }
+}

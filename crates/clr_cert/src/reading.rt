@@ -1,0 +1,101 @@
+ghost use Rattle.std.specs.Prelude.{◌≡◌, IfErr, IfOk, OnOk, map};
+ghost use Rattle.csv.specs.Records.{fields_of};
+ghost use Rattle.clr_cert.specs.Certificates.{certificate_in, certificate_of, nothing_said, with_next};
+ghost use Rattle.clr_cert.specs.Faults.{GivesAt};
+ghost use Rattle.clr_cert.specs.Texts.{IsWellFormed};
+ghost use Rattle.clr_cert.specs.declared.faults.CertFault.TheVariants as fault;
+
+use crate::certificates::Certificate;
+use crate::entries::Entries;
+use crate::faults::{CertFault, numbered_fault};
+use crate::items::{Item, read_item};
+use crate::limits::LIVE;
+use crate::names::Names;
+use clr_records::records_of;
+use clr_rows::{Schema, Words};
+use csv::StringRecord;
+use std::alloc::{AllocError, Global};
+
+/// The certificate of no record.
+fn empty(alloc: Global) -> Result<Certificate, AllocError>
+    ensures { IfOk result (λ certificate. certificate ≡ nothing_said) }
+{
+    Ok(Certificate {
+        root: Words::new(String::from_str(alloc, LIVE)?),
+        members: Names::new(Vec::new(alloc)),
+        entries: Entries::new(Vec::new(alloc)),
+    })
+}
+
+/// Adds what the next record says.
+fn add(certificate: &mut Certificate, item: Item) -> Result<(), CertFault>
+    ensures ok { OnOk result (certificate.new ≡ with_next certificate.old item) }
+    ensures err { IfErr result (λ e. e ≡ fault.OutOfMemory) }
+{
+    match item {
+        Item::Root(name) => certificate.root = name,
+        Item::Member(name) => certificate.members.push(name)?,
+        Item::Need(entry) => certificate.entries.push(entry)?,
+    }
+    Ok(())
+}
+
+/// The certificate of all records.
+fn read_records(
+    alloc: Global,
+    schema: &Schema,
+    records: &[StringRecord],
+) -> Result<Certificate, (usize, CertFault)>
+    ensures { GivesAt result (certificate_of schema.now (map fields_of records.now)) }
+{
+    let Ok(mut certificate) = empty(alloc) else {
+        return Err((0, CertFault::OutOfMemory));
+    };
+    let mut rooted = false;
+    for (i, fields) in records.iter().enumerate() {
+        let item = match read_item(alloc, schema, rooted, fields) {
+            Ok(item) => item,
+            Err(fault) => return Err(numbered_fault(i + 1, fault)),
+        };
+        rooted |= item.is_root();
+        if add(&mut certificate, item).is_err() {
+            return Err((0, CertFault::OutOfMemory));
+        }
+    }
+    Ok(certificate)
+}
+
+/// Reads a certificate, a CSV record of six fields each, in any order: `root,NAME,,,,` at most
+/// once and never with LIVE, `member,NAME,,,,`, and `need,RULE,FIRST,SECOND,ONE,TWO` with a rule's
+/// number, one or two subjects and one or two witnesses. A version is `TABLE/KEY/old` or
+/// `TABLE/KEY/new`; behind a subject `/` and the number of its part follow where that is above 1.
+/// Without a root record the root is LIVE. Members stand in the order of their records, and so do
+/// entries; nothing is asked of them beyond this form. What is read can be written. A fault is that
+/// of the first record that has one, beside the record's number from 1; in each record the count
+/// of fields is tested first, then the first field, and then the others.
+///
+/// # Errors
+///
+/// - `NotCsv` at 1: the bytes aren't UTF-8.
+/// - `FieldCount`: a record hasn't six fields.
+/// - `BadKind`: the first field is none of `root`, `member` and `need`.
+/// - `BadReference`: a name that isn't good; a field that must be empty and isn't; a second root
+///   record, or one that names LIVE; a rule that isn't a number from 0 to 65,535; a version of
+///   another form, of a table that the schema hasn't, or of a key outside 1 to
+///   999,999,999,999,999; a part outside 2 to 31, or one behind a witness; a number that isn't
+///   decimal in its one form.
+/// - `OutOfMemory` at 0: no memory was found. It may come in place of any other answer.
+pub fn read_certificate(
+    alloc: Global,
+    schema: &Schema,
+    bytes: &[u8],
+) -> Result<Certificate, (usize, CertFault)>
+    ensures value { GivesAt result (certificate_in schema.now bytes.now) }
+    ensures named { IfOk result (λ certificate. IsWellFormed schema.now certificate) }
+{
+    match records_of(alloc, bytes) {
+        Ok(Some(records)) => read_records(alloc, schema, records.as_slice()),
+        Ok(None) => Err((1, CertFault::NotCsv)),
+        Err(_) => Err((0, CertFault::OutOfMemory)),
+    }
+}

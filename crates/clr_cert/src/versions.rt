@@ -1,0 +1,137 @@
+ghost use Rattle.std.specs.Prelude.{◌≡◌, option_map};
+ghost use Rattle.csv.specs.Records.{fields_of};
+ghost use Rattle.clr_cert.specs.Versions.{cell_and_rest, cut_of, entry_of, fresh_of, if_named, part_of};
+ghost use Rattle.clr_cert.specs.Versions.{rule_of, second_of, subject_of, two_of, version_of, word_and_part};
+
+use crate::entries::Entry;
+use crate::limits::GREATEST_PART;
+use clr_foot::{Need, VersionId};
+use clr_records::{field, read_number};
+use clr_rows::{CellId, Schema};
+use csv::StringRecord;
+
+/// What stands before and behind the first `/` of a text.
+#[tactic(auto, unfolding(crate::specs::Versions::cut_of))]
+fn cut(text: &str) -> Option<(&str, &str)>
+    ensures { option_map (λ parts. (parts.0.now, parts.1.now)) result ≡ cut_of text.now }
+{
+    text.split_once('/')
+}
+
+/// A cell that the schema names.
+fn known_cell(schema: &Schema, cell: CellId) -> Option<CellId>
+    ensures { result ≡ if_named schema.now cell }
+{
+    match schema.names_cell(cell) {
+        Ok(()) => Some(cell),
+        Err(_) => None,
+    }
+}
+
+/// The cell of a text `TABLE/KEY/..`, and what stands behind it.
+#[tactic(auto, unfolding(crate::specs::Versions::cell_and_rest))]
+fn cell<'a>(schema: &Schema, text: &'a str) -> Option<(CellId, &'a str)>
+    ensures { option_map (λ found. (found.0, found.1.now)) result ≡ cell_and_rest schema.now text.now }
+{
+    let (name, behind) = cut(text)?;
+    let (digits, rest) = cut(behind)?;
+    let table = schema.table(name)?;
+    let key = read_number(digits)?;
+    let cell = known_cell(schema, CellId { table, key })?;
+    Some((cell, rest))
+}
+
+fn fresh(word: &str) -> Option<bool>
+    ensures { result ≡ fresh_of word.now }
+{
+    match word {
+        "old" => Some(false),
+        "new" => Some(true),
+        _ => None,
+    }
+}
+
+#[tactic(auto, unfolding(crate::specs::Versions::version_of))]
+fn version(schema: &Schema, text: &str) -> Option<VersionId>
+    ensures { result ≡ version_of schema.now text.now }
+{
+    let (cell, word) = cell(schema, text)?;
+    let fresh = fresh(word)?;
+    Some(VersionId { cell, fresh })
+}
+
+fn part(number: i64) -> Option<u16>
+    ensures { result ≡ part_of number }
+{
+    if 1 < number && number <= GREATEST_PART as i64 {
+        Some(number as u16)
+    } else {
+        None
+    }
+}
+
+/// The word of a version, and the part behind it, which is 1 where none is written.
+fn word_with_part(text: &str) -> Option<(&str, u16)>
+    ensures { option_map (λ found. (found.0.now, found.1)) result ≡ word_and_part text.now }
+{
+    match cut(text) {
+        None => Some((text, 1)),
+        Some((word, digits)) => Some((word, part(read_number(digits)?)?)),
+    }
+}
+
+#[tactic(auto, unfolding(crate::specs::Versions::subject_of))]
+fn subject(schema: &Schema, text: &str) -> Option<(VersionId, u16)>
+    ensures { result ≡ subject_of schema.now text.now }
+{
+    let (cell, last) = cell(schema, text)?;
+    let (word, part) = word_with_part(last)?;
+    let fresh = fresh(word)?;
+    Some((VersionId { cell, fresh }, part))
+}
+
+fn second(schema: &Schema, text: &str) -> Option<(Option<VersionId>, u16)>
+    ensures { result ≡ second_of schema.now text.now }
+{
+    if text.is_empty() {
+        return Some((None, 1));
+    }
+    let (version, part) = subject(schema, text)?;
+    Some((Some(version), part))
+}
+
+fn two(schema: &Schema, text: &str) -> Option<Option<VersionId>>
+    ensures { result ≡ two_of schema.now text.now }
+{
+    if text.is_empty() {
+        Some(None)
+    } else {
+        Some(Some(version(schema, text)?))
+    }
+}
+
+fn rule(number: i64) -> Option<u16>
+    ensures { result ≡ rule_of number }
+{
+    u16::try_from(number).ok()
+}
+
+/// The need of a record, and its witnesses.
+#[tactic(auto, unfolding(crate::specs::Versions::entry_of))]
+pub(crate) fn read_entry(schema: &Schema, fields: &StringRecord) -> Option<Entry>
+    ensures { result ≡ entry_of schema.now (fields_of fields.now) }
+{
+    let rule = rule(read_number(field(fields, 1))?)?;
+    let (first, first_part) = subject(schema, field(fields, 2))?;
+    let (second, second_part) = second(schema, field(fields, 3))?;
+    let one = version(schema, field(fields, 4))?;
+    let two = two(schema, field(fields, 5))?;
+    let need = Need {
+        rule,
+        first,
+        second,
+        first_part,
+        second_part,
+    };
+    Some(Entry { need, one, two })
+}

@@ -1,0 +1,223 @@
+ghost use Rattle.std.specs.Prelude.{◌≡◌, ◌++◌, Ok, None, IfOk, OnOk, MatchOption, IfSome, map};
+ghost use Rattle.std.specs.List.{All};
+ghost use Rattle.csv.specs.Writing.{default_writer, row_text};
+ghost use Rattle.clr_rows.specs.Schemas.{schema_fault};
+ghost use Rattle.clr_cert.specs.Certificates.{certificate_in};
+ghost use Rattle.clr_cert.specs.Texts.{IsBetween, IsWellFormed, IsWellFormedEntry, IsReadBack, certificate_text, entry_fields, member_fields, name_fields};
+ghost use Rattle.clr_cert.specs.Texts.{fresh_word, name_of_table, part_text, records_text, root_records};
+ghost use Rattle.clr_cert.specs.Texts.{second_text, subject_text, text_of, two_text, version_text};
+
+use crate::certificates::Certificate;
+use crate::entries::Entry;
+use crate::limits::LIVE;
+use clr_foot::VersionId;
+use clr_rows::{Schema, Words};
+use csv::{Writer, WriterBuilder};
+use itoa::Buffer;
+use std::alloc::{AllocError, Global};
+
+/// The name of a table, or no bytes where the schema has no such table.
+fn table_name(schema: &Schema, table: u16) -> &str
+    ensures value { result.now ≡ name_of_table schema.now table }
+    ensures sound { schema_fault schema.now ≡ None }
+{
+    match schema.def(table) {
+        Some(table) => table.name.as_str(),
+        None => "",
+    }
+}
+
+fn fresh_text(fresh: bool) -> &'static str
+    ensures { result.now ≡ fresh_word fresh }
+{
+    if fresh { "new" } else { "old" }
+}
+
+/// A version as it is written.
+fn version_in_text(
+    alloc: Global,
+    schema: &Schema,
+    version: VersionId,
+) -> Result<Vec<u8>, AllocError>
+    ensures value { IfOk result (λ text. text.items ≡ version_text schema.now version) }
+    ensures sound { OnOk result (schema_fault schema.now ≡ None) }
+{
+    let mut text = Vec::from_slice(alloc, table_name(schema, version.cell.table).as_bytes())?;
+    text.extend_from_slice(b"/")?;
+    text.extend_from_slice(Buffer::new().format(version.cell.key).as_bytes())?;
+    text.extend_from_slice(b"/")?;
+    text.extend_from_slice(fresh_text(version.fresh).as_bytes())?;
+    Ok(text)
+}
+
+fn add_part(text: &mut Vec<u8>, part: u16) -> Result<(), AllocError>
+    ensures { OnOk result (text.new.items ≡ text.old.items ++ part_text part) }
+{
+    if part != 1 {
+        text.extend_from_slice(b"/")?;
+        text.extend_from_slice(Buffer::new().format(part).as_bytes())?;
+    }
+    Ok(())
+}
+
+/// A subject as it is written.
+fn subject_in_text(
+    alloc: Global,
+    schema: &Schema,
+    version: VersionId,
+    part: u16,
+) -> Result<Vec<u8>, AllocError>
+    ensures { IfOk result (λ text. text.items ≡ subject_text schema.now version part) }
+{
+    let mut text = version_in_text(alloc, schema, version)?;
+    add_part(&mut text, part)?;
+    Ok(text)
+}
+
+fn second_in_text(
+    alloc: Global,
+    schema: &Schema,
+    second: Option<VersionId>,
+    part: u16,
+) -> Result<Vec<u8>, AllocError>
+    ensures { IfOk result (λ text. text.items ≡ second_text schema.now second part) }
+{
+    match second {
+        None => Ok(Vec::new(alloc)),
+        Some(version) => subject_in_text(alloc, schema, version, part),
+    }
+}
+
+fn two_in_text(
+    alloc: Global,
+    schema: &Schema,
+    two: Option<VersionId>,
+) -> Result<Vec<u8>, AllocError>
+    ensures { IfOk result (λ text. text.items ≡ two_text schema.now two) }
+{
+    match two {
+        None => Ok(Vec::new(alloc)),
+        Some(version) => version_in_text(alloc, schema, version),
+    }
+}
+
+/// Writes a record by a writer that is between two records.
+fn add_record(writer: &mut Writer<Vec<u8>>, fields: &[&[u8]]) -> Result<(), AllocError>
+    requires { IsBetween writer.old }
+    ensures between { OnOk result (IsBetween writer.new) }
+    ensures written { OnOk result (text_of writer.new ≡ text_of writer.old ++ row_text default_writer (map (λ field. field.now) fields.now)) }
+{
+    match writer.write_fields(fields) {
+        Ok(()) => Ok(()),
+        Err(_) => Err(AllocError),
+    }
+}
+
+/// Writes the record of a word and a name.
+fn add_name(writer: &mut Writer<Vec<u8>>, word: &str, name: &str) -> Result<(), AllocError>
+    requires { IsBetween writer.old }
+    ensures between { OnOk result (IsBetween writer.new) }
+    ensures written { OnOk result (text_of writer.new ≡ text_of writer.old ++ row_text default_writer (name_fields word.now name.now)) }
+{
+    let empty = b"".as_slice();
+    add_record(
+        writer,
+        &[word.as_bytes(), name.as_bytes(), empty, empty, empty, empty],
+    )
+}
+
+/// Writes the root's record, where one is written.
+fn add_root(writer: &mut Writer<Vec<u8>>, root: &str) -> Result<(), AllocError>
+    requires { IsBetween writer.old }
+    ensures between { OnOk result (IsBetween writer.new) }
+    ensures written { OnOk result (text_of writer.new ≡ text_of writer.old ++ records_text (root_records root.now)) }
+{
+    if root == LIVE {
+        return Ok(());
+    }
+    add_name(writer, "root", root)
+}
+
+fn add_members(writer: &mut Writer<Vec<u8>>, members: &[Words]) -> Result<(), AllocError>
+    requires { IsBetween writer.old }
+    ensures between { OnOk result (IsBetween writer.new) }
+    ensures written { OnOk result (text_of writer.new ≡ text_of writer.old ++ records_text (map member_fields members.now)) }
+{
+    for name in members {
+        add_name(writer, "member", name.as_str())?;
+    }
+    Ok(())
+}
+
+fn add_entry(
+    alloc: Global,
+    writer: &mut Writer<Vec<u8>>,
+    schema: &Schema,
+    entry: Entry,
+) -> Result<(), AllocError>
+    requires between { IsBetween writer.old }
+    requires named { IsWellFormedEntry schema.now entry }
+    ensures between { OnOk result (IsBetween writer.new) }
+    ensures written { OnOk result (text_of writer.new ≡ text_of writer.old ++ row_text default_writer (entry_fields schema.now entry)) }
+    ensures read_back { OnOk result (IsReadBack schema.now entry) }
+{
+    let need = entry.need;
+    let mut digits = Buffer::new();
+    let rule = digits.format(need.rule);
+    let first = subject_in_text(alloc, schema, need.first, need.first_part)?;
+    let second = second_in_text(alloc, schema, need.second, need.second_part)?;
+    let one = version_in_text(alloc, schema, entry.one)?;
+    let two = two_in_text(alloc, schema, entry.two)?;
+    add_record(
+        writer,
+        &[
+            b"need".as_slice(),
+            rule.as_bytes(),
+            first.as_slice(),
+            second.as_slice(),
+            one.as_slice(),
+            two.as_slice(),
+        ],
+    )
+}
+
+fn add_entries(
+    alloc: Global,
+    writer: &mut Writer<Vec<u8>>,
+    schema: &Schema,
+    entries: &[Entry],
+) -> Result<(), AllocError>
+    requires between { IsBetween writer.old }
+    requires named { All (IsWellFormedEntry schema.now) entries.now }
+    ensures between { OnOk result (IsBetween writer.new) }
+    ensures written { OnOk result (text_of writer.new ≡ text_of writer.old ++ records_text (map (entry_fields schema.now) entries.now)) }
+    ensures read_back { OnOk result (All (IsReadBack schema.now) entries.now) }
+{
+    for entry in entries {
+        add_entry(alloc, writer, schema, *entry)?;
+    }
+    Ok(())
+}
+
+/// The text of a certificate, a CSV record of six fields on each line, ended by `\n`: the root
+/// where it isn't LIVE, the members in order, and the entries in order. Read as a certificate it
+/// gives the same one. The names are good, the schema names each cell, and parts are 1 to 31, and
+/// 1 where there is no second subject. It fails for want of memory alone.
+pub fn write_certificate(
+    alloc: Global,
+    schema: &Schema,
+    certificate: &Certificate,
+) -> Result<Vec<u8>, AllocError>
+    requires { IsWellFormed schema.now certificate.now }
+    ensures written { IfOk result (λ text. text.items ≡ certificate_text schema.now certificate.now) }
+    ensures read_back { IfOk result (λ text. certificate_in schema.now text.items ≡ Ok certificate.now) }
+{
+    let mut writer = WriterBuilder::new().from_writer(Vec::new(alloc));
+    add_root(&mut writer, certificate.root.as_str())?;
+    add_members(&mut writer, certificate.members.as_slice())?;
+    add_entries(alloc, &mut writer, schema, certificate.entries.as_slice())?;
+    match writer.into_inner() {
+        Ok(text) => Ok(text),
+        Err(_) => Err(AllocError),
+    }
+}

@@ -1,0 +1,16 @@
+pub mod AnswerLemmas
+pub mod CheckLemmas
+pub mod ClearLemmas
+pub mod EffectLemmas
+pub mod MemberLemmas
+pub mod NameLemmas
+pub mod OrderLemmas
+pub mod PickLemmas
+pub mod PlanLemmas
+pub mod RefusedLemmas
+pub mod RunLemmas
+pub mod SafeLemmas
+pub mod SharedLemmas
+pub mod SiteLemmas
+pub mod StaticLemmas
+pub mod VerdictLemmas

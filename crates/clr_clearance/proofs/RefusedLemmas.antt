@@ -1,0 +1,248 @@
+-- Orders of merges in which one is refused.
+use Rattle.std.proofs.Common.{◌≡◌, ◌⊎◌, ℕ, suc, ◌+◌, Bool, true, false, ◌||◌, cond, List, [], ◌∷◌, ◌++◌, inl, inr, refl, sym, ap, ◌∙◌, subst, arith, Option, Some, None, is_some, slice_get, unwrap_or}
+use Rattle.std.specs.List.{cons_option}
+use Rattle.std.specs.Option.{option_map, option_map_or, option_or}
+use Rattle.std.proofs.lemmas.Bool.{cases_Bool, false≢true, true≢false, or_cases, or_left, or_right}
+use Rattle.std.proofs.lemmas.List.{append_assoc, append-nil}
+use Rattle.clr_rows.specs.declared.cells.CellId.{CellId}
+use Rattle.clr_rows.specs.Contents.{Content, conflicts, least_and_count, row_at}
+use Rattle.clr_rows.specs.Same.{same}
+use Rattle.clr_rules.specs.declared.needs.Broken.{Broken}
+use Rattle.clr_rules.specs.Needs.{Holds}
+use Rattle.clr_layers.specs.Marks.{Name}
+use Rattle.clr_layers.specs.Workspaces.{Workspace}
+use Rattle.clr_tree.specs.Operations.{own_changes}
+use Rattle.clr_foot.specs.declared.needs.Need.{Need}
+use Rattle.clr_foot.specs.Covers.{AreBlockers, IsUncovered}
+use Rattle.clr_foot.specs.Picks.{Blocks}
+use Rattle.clr_foot.proofs.BrokenLaws.{uncovered_breaks}
+use Rattle.clr_steps.specs.Readings.{conflicts_in}
+use Rattle.clr_foot.specs.Positions.{after_member, by_position}
+use Rattle.clr_foot.specs.Settings.{IsPart, taken, has as has_by}
+use Rattle.clr_foot.proofs.Merges.{root_is, taken_over as taken_cons}
+use Rattle.clr_steps.specs.declared.commands.Command.{Command}
+use Rattle.clr_steps.specs.declared.commands.Command.TheVariants as command
+use Rattle.clr_steps.specs.declared.commands.Reply.{Reply}
+use Rattle.clr_steps.specs.declared.commands.Reply.TheVariants.{Done, RuleBroken}
+use Rattle.clr_steps.specs.Names.{same_name}
+use Rattle.clr_steps.specs.Offices.{Office, content_of, is_kept, workspace}
+use Rattle.clr_steps.specs.Effects.{after_merge, after_remove, effect, merged_content}
+use Rattle.clr_steps.specs.Quiet.{Member, Site, is_member, is_root, member_of}
+use Rattle.clr_steps.specs.Refusals.{breaks, conflict, first_broken, first_of, in_conflict, refusal, refusals_of}
+use Rattle.clr_steps.specs.Steps.{Answer, answer, step}
+use Rattle.clr_steps.proofs.FindLemmas.{found_name, same_is as same_name_is, same_itself as same_name_itself}
+use Rattle.clr_steps.proofs.NeedLemmas.{holds_if_none}
+use Rattle.clr_clearance.specs.Invariants.{Invariant}
+use Rattle.clr_clearance.specs.declared.verdicts.Verdict.TheVariants as verdict
+use Rattle.clr_clearance.specs.Plans.{IsFirstUnpicked, is_refused, names_at}
+use Rattle.clr_clearance.specs.Verdicts.{first_conflict}
+use Rattle.clr_clearance.proofs.PickLemmas.{blockers_are, unpicked_is_uncovered}
+use Rattle.clr_clearance.specs.Runs.{merged_by}
+use Rattle.clr_clearance.specs.Safety.{is_clash}
+use Rattle.clr_clearance.specs.Sites.{AreMergeable, RootHolds, numbered, rows_with, setting_of}
+use Rattle.clr_clearance.proofs.AnswerLemmas.{broken_or_none, merge_claim, of_standing, performed_as, step_as}
+use Rattle.clr_clearance.proofs.EffectLemmas.{StepsTo, merge_steps, shown}
+use Rattle.clr_clearance.proofs.MemberLemmas.{it, merged_rows, not_root, rows_last}
+use Rattle.clr_clearance.proofs.SafeLemmas.{at_first}
+use Rattle.clr_clearance.proofs.NameLemmas.{has_is}
+use Rattle.clr_clearance.proofs.StaticLemmas.{apart_by_position, child_under, member_there, numbered_is}
+
+-- one merge -----------------------------------------------------------------------------------------------
+
+abbrev pub merge_of : Name → Command
+merge_of name = command.Merge name false
+
+-- a merge of a workspace that stands clashes, or is done where it is neither in conflict nor breaks a rule
+pub data IsMerged (o : Office) (name : Name) (w : Workspace) : Type 0 where
+  clashes : is_clash (step o (merge_of name)).reply ≡ true → IsMerged o name w
+  merged : conflict o w ≡ None → breaks o w.parent (merged_content o w) ≡ None → step o (merge_of name) ≡ answer Done (after_merge o w) → IsMerged o name w
+
+refusal_at : (o : Office) (name : Name) (w : Workspace) → workspace o name ≡ Some w → refusal o (merge_of name) ≡ first_of (conflict o w ∷ breaks o w.parent (merged_content o w) ∷ [])
+unfolding refusal refusals_of
+refusal_at o name w e = of_standing o (merge_of name) w e
+
+pub conflict_or_none : (o : Office) (w : Workspace) → (conflict o w ≡ None) ⊎ ((c : CellId × ℕ) × (conflict o w ≡ Some (in_conflict c)))
+unfolding conflict
+conflict_or_none o w = by (least_and_count (conflicts (content_of o w.parent) (own_changes w)))
+  where
+    by : (r : Option (CellId × ℕ)) → (option_map in_conflict r ≡ None) ⊎ ((c : CellId × ℕ) × (option_map in_conflict r ≡ Some (in_conflict c)))
+    by None = inl refl
+    by (Some c) = inr (c, refl)
+
+clash_of : (o : Office) (c : Command) (reply : Reply) → refusal o c ≡ Some reply → is_clash reply ≡ true → is_clash (step o c).reply ≡ true
+clash_of o c reply e h = ap (λ (a : Answer). is_clash a.reply) (step_as o c (Some reply) e) ∙ h
+
+pub merge_clashes : (o : Office) (name : Name) (w : Workspace) (c : CellId × ℕ) → workspace o name ≡ Some w → conflict o w ≡ Some (in_conflict c) → is_clash (step o (merge_of name)).reply ≡ true
+merge_clashes o name w c e h = clash_of o (merge_of name) (in_conflict c) (refusal_at o name w e ∙ ap (λ r. first_of (r ∷ breaks o w.parent (merged_content o w) ∷ [])) h) refl
+
+pub merge_ends : (o : Office) (name : Name) (w : Workspace) → workspace o name ≡ Some w → IsMerged o name w
+unfolding effect
+merge_ends o name w e = elim (conflict_or_none o w) [
+  | inr (c, h) ↦ clashes (merge_clashes o name w c e h)
+  | inl free ↦ (let is = refusal_at o name w e ∙ ap (λ r. first_of (r ∷ breaks o w.parent (merged_content o w) ∷ [])) free in
+      elim (broken_or_none o w.parent (merged_content o w)) [
+        | inl none ↦ merged free none (performed_as o (merge_of name) (λ v. cond false (after_remove (after_merge o v) v) (after_merge o v)) w e refl (is ∙ ap (λ r. first_of (r ∷ [])) none))
+        | inr (need, broken) ↦ clashes (clash_of o (merge_of name) (RuleBroken need) (is ∙ ap (λ r. first_of (r ∷ [])) broken) refl)
+      ])
+]
+
+unbroken_holds : (o : Office) (name : Name) (content : Content) → is_kept o name ≡ true → breaks o name content ≡ None → Holds o.book (row_at content)
+unfolding breaks
+unbroken_holds o name content kept none = holds_if_none o.book content (by (first_broken o.book content) (sym (ap (λ b. cond b (option_map RuleBroken (first_broken o.book content)) None) kept) ∙ none))
+  where
+    by : (r : Option Broken) → option_map RuleBroken r ≡ None → r ≡ None
+    by None e = refl
+    by (Some need) e = absurd (cc)
+
+-- merges of members one after another -------------------------------------------------------------------------
+
+neither_true : (a b : Bool) → (a || b) ≡ false → (a ≡ false) × (b ≡ false)
+neither_true true b e = absurd (true≢false e)
+neither_true false b e = (refl, e)
+
+module _ (first : Office) (site : Site) (mergeable : AreMergeable first site) where
+  abbrev AllStand : Office → Type 0
+  AllStand now = (name : Name) → is_member site name ≡ true → is_some (shown now name) ≡ true
+
+  stands_as : (r : Option Workspace) → is_some (option_map member_of r) ≡ true → (w : Workspace) × (r ≡ Some w)
+  stands_as None h = absurd (false≢true h)
+  stands_as (Some w) h = (w, refl)
+
+  module _ (names : List Name) (now : Office) (inv : Invariant first site names now) (name : Name) (member : is_member site name ≡ true) where
+    kept_above : (w : Workspace) → is_root site w.parent ≡ true → is_kept now w.parent ≡ true
+    unfolding is_root
+    kept_above w under = ap (is_kept now) (same_name_is w.parent site.root under) ∙ inv.kept
+
+    stands_still : (w : Workspace) (m : Member) → StepsTo site now (after_merge now w) w.name (merged_content now w) (Some m) → AllStand now → AllStand (after_merge now w)
+    stands_still w m steps stand other h = by (same_name w.name other) refl
+      where
+        by : (b : Bool) → same_name w.name other ≡ b → is_some (shown (after_merge now w) other) ≡ true
+        by true p = ap (λ k. is_some (shown (after_merge now w) k)) (sym (same_name_is w.name other p)) ∙ ap is_some steps.here
+        by false p = ap is_some (steps.others other (not_root first site mergeable names now inv other h) p) ∙ stand other h
+
+    -- the next office, where the merge doesn't clash
+    record IsNext (next : Office) : Type 0 where
+      lasts : Invariant first site (names ++ name ∷ []) next
+      stand : AllStand now → AllStand next
+      holds : Holds first.book (rows_with first site (names ++ name ∷ []))
+
+    next_is : (w : Workspace) → workspace now name ≡ Some w → is_clash (step now (merge_of name)).reply ≡ false → IsNext (step now (merge_of name)).office
+    next_is w e calm = by (merge_ends now name w e)
+      where
+        last : step now (merge_of name) ≡ answer Done (after_merge now w) → names ++ merged_by site (merge_of name) (step now (merge_of name)).reply ≡ names ++ name ∷ []
+        last is = ap (λ (a : Answer). names ++ merged_by site (merge_of name) a.reply) is ∙ ap (λ b. names ++ cond b (name ∷ []) []) member
+
+        by : IsMerged now name w → IsNext (step now (merge_of name)).office
+        by (clashes h) = absurd (false≢true (sym calm ∙ h))
+        by (merged free none is) =
+            let named = found_name now name w e in
+            let own : workspace now w.name ≡ Some w = ap (workspace now) named ∙ e in
+            let under = (it first site mergeable names now inv name member w e).under in
+            let out : is_root site w.name ≡ false = ap (is_root site) named ∙ not_root first site mergeable names now inv name member in
+            let steps = merge_steps site now w inv.kept own out under in
+            let office : (step now (merge_of name)).office ≡ after_merge now w = ap (λ (a : Answer). a.office) is in
+            let good : Holds now.book (row_at (merged_content now w)) = unbroken_holds now w.parent (merged_content now w) (kept_above w under) none in
+            record {
+              lasts = subst (λ ns. Invariant first site ns (step now (merge_of name)).office) (last is) (merge_claim first site names now name false mergeable inv member).0;
+              stand = λ stand other h. ap (λ p. is_some (shown p other)) office ∙ stands_still w _ steps stand other h;
+              holds = subst (Holds first.book) (λ i cell. (merged_rows first site mergeable names now inv name member w e cell ∙ rows_last first site mergeable names now inv name member cell) i)
+                  (subst (λ b. Holds b (row_at (merged_content now w))) inv.book good);
+            }
+
+  -- where none clashes, every rule holds with the changes of all of them
+  all_done : (ns names : List Name) (now : Office) → Invariant first site names now → AllStand now → IsPart (setting_of first site) ns site.members → is_refused now ns ≡ false
+      → Holds first.book (rows_with first site names) → Holds first.book (rows_with first site (names ++ ns))
+  all_done [] names now inv stand part calm holds = subst (λ ms. Holds first.book (rows_with first site ms)) (sym (append-nil names)) holds
+  all_done (n ∷ ns) names now inv stand part calm holds =
+      let member : is_member site n ≡ true = sym (has_is site.members n) ∙ part n (or_left (same_name n n) (has_by same_name ns n) (same_name_itself n)) in
+      let both = neither_true (is_clash (step now (merge_of n)).reply) (is_refused (step now (merge_of n)).office ns) calm in
+      let (w, e) = stands_as (workspace now n) (stand n member) in
+      let next = next_is names now inv n member w e both.0 in
+      subst (λ ms. Holds first.book (rows_with first site ms)) (append_assoc names (n ∷ []) ns)
+      (all_done ns (names ++ n ∷ []) (step now (merge_of n)).office next.lasts (next.stand stand) (λ k h. part k (or_right (same_name n k) (has_by same_name ns k) h)) both.1 next.holds)
+
+  -- so an order of merges that break a rule is refused
+  pub breaking_is_refused : (names : List Name) → IsPart (setting_of first site) names site.members → RootHolds first site → ¬ (Holds first.book (rows_with first site names)) → is_refused first names ≡ true
+  breaking_is_refused names part holds breaking = elim (cases_Bool (is_refused first names)) [
+    | inl refused ↦ refused
+    | inr calm ↦ absurd (breaking (all_done names [] first (at_first first site mergeable) all_stand part calm (subst (Holds first.book) (λ i cell. sym (root_is (setting_of first site) cell) i) holds)))
+  ]
+    where
+      all_stand : AllStand first
+      all_stand name h = let child = child_under first site name (mergeable.children name h) in ap (λ r. is_some (option_map member_of r)) child.is
+
+-- members by position ----------------------------------------------------------------------------------------
+
+module _ (o : Office) (site : Site) where
+  pub names_part : (order : List ℕ) → IsPart (setting_of o site) (names_at site order) site.members
+  names_part [] name h = absurd (false≢true h)
+  names_part (k ∷ ks) name h = by (slice_get site.members k) refl h (names_part ks name)
+    where
+      by : (r : Option Name) → slice_get site.members k ≡ r → has_by same_name (cons_option r (names_at site ks)) name ≡ true → (has_by same_name (names_at site ks) name ≡ true → has_by same_name site.members name ≡ true) → has_by same_name site.members name ≡ true
+      by None e h more = more h
+      by (Some n) e h more = elim (or_cases (same_name n name) (has_by same_name (names_at site ks) name) h) [
+        | inl same ↦ ap (has_by same_name site.members) (sym (same_name_is n name same)) ∙ member_there o site site.members k n e
+        | inr other ↦ more other
+      ]
+
+  pub rows_at : (order : List ℕ) (cell : CellId) → taken (by_position (setting_of o site)) order cell ≡ rows_with o site (names_at site order) cell
+  rows_at [] cell = root_is (by_position (setting_of o site)) cell ∙ sym (root_is (setting_of o site) cell)
+  rows_at (k ∷ ks) cell = taken_cons (by_position (setting_of o site)) k ks cell ∙ by (slice_get site.members k) (rows_at ks cell)
+    where
+      by : (r : Option Name) → taken (by_position (setting_of o site)) ks cell ≡ rows_with o site (names_at site ks) cell
+          → unwrap_or (after_member (setting_of o site) r cell) (taken (by_position (setting_of o site)) ks cell) ≡ rows_with o site (cons_option r (names_at site ks)) cell
+      by None more = more
+      by (Some n) more = ap (unwrap_or ((setting_of o site).after n cell)) more ∙ sym (taken_cons (setting_of o site) n (names_at site ks) cell)
+
+-- a need that nothing covers ------------------------------------------------------------------------------------
+
+pub unpicked_is_refused : (o : Office) (site : Site) (order : List ℕ) (n : Need) → AreMergeable o site → RootHolds o site → IsFirstUnpicked (numbered o site) n → Blocks (numbered o site) n order
+    → is_refused o (names_at site order) ≡ true
+unpicked_is_refused o site order n mergeable holds first blocks = breaking_is_refused o site mergeable (names_at site order) (names_part o site order) holds breaking
+  where
+    breaking : Holds o.book (rows_with o site (names_at site order)) → ⊥
+    breaking good =
+        let (a, b, possible, touched) = first.touched in
+        let uncovered = unpicked_is_uncovered (numbered o site) n a b possible (first.none a b possible) in
+        let blockers = blockers_are (numbered o site) n a b order possible (blocks a b possible) in
+        uncovered_breaks (by_position (setting_of o site)) n a b order
+        (subst (λ c. IsUncovered c n a b) (numbered_is o site) uncovered)
+        (subst (λ c. AreBlockers c n a b order) (numbered_is o site) blockers)
+        (apart_by_position o site mergeable)
+        (subst (Holds o.book) (λ i cell. sym (rows_at o site order cell) i) good)
+
+-- a member in conflict ---------------------------------------------------------------------------------------------
+
+record IsInConflict (o : Office) (names : List Name) (at : ℕ) (cell : CellId) (count : ℕ) : Type 0 where
+  name : Name
+  is_at : slice_get names at ≡ Some name
+  conflicts_are : least_and_count (conflicts_in o name) ≡ Some (cell, count)
+
+in_conflict_at : (o : Office) (from : ℕ) (names : List Name) (at : ℕ) (cell : CellId) (count : ℕ) → first_conflict o from names ≡ Some (verdict.Conflict at cell count)
+    → (j : ℕ) × (at ≡ from + j) × IsInConflict o names j cell count
+unfolding first_conflict
+in_conflict_at o from [] at cell count e = absurd (cc)
+in_conflict_at o from (n ∷ ns) at cell count e = by (least_and_count (conflicts_in o n)) refl e (in_conflict_at o (suc from) ns at cell count)
+  where
+    by : (r : Option (CellId × ℕ)) → least_and_count (conflicts_in o n) ≡ r → option_or (option_map (λ (c : CellId × ℕ). verdict.Conflict from c.0 c.1) r) (first_conflict o (suc from) ns) ≡ Some (verdict.Conflict at cell count)
+        → (first_conflict o (suc from) ns ≡ Some (verdict.Conflict at cell count) → (j : ℕ) × (at ≡ suc from + j) × IsInConflict o ns j cell count)
+        → (j : ℕ) × (at ≡ from + j) × IsInConflict o (n ∷ ns) j cell count
+    by None f d more = let (j, same, rest) = more d in (suc j, omega (arith, same), record { name = rest.name; is_at = rest.is_at; conflicts_are = rest.conflicts_are })
+    by (Some c) f d more =
+        let one : from ≡ at = cc in
+        let two : c.0 ≡ cell = cc in
+        let three : c.1 ≡ count = cc in
+        (0, omega (arith, one), record { name = n; is_at = refl; conflicts_are = f ∙ (λ i. Some (two i, three i)) })
+
+pub conflict_is_refused : (o : Office) (site : Site) (at : ℕ) (cell : CellId) (count : ℕ) → first_conflict o 0 site.members ≡ Some (verdict.Conflict at cell count) → is_refused o (names_at site (at ∷ [])) ≡ true
+unfolding conflict
+conflict_is_refused o site at cell count e =
+    let (j, same, found) = in_conflict_at o 0 site.members at cell count e in
+    let here : slice_get site.members at ≡ Some found.name = (let one : at ≡ j = omega (arith, same) in ap (slice_get site.members) one ∙ found.is_at) in
+    ap (λ r. is_refused o (cons_option r [])) here ∙ by found.name (workspace o found.name) refl found.conflicts_are
+  where
+    by : (name : Name) (r : Option Workspace) → workspace o name ≡ r → least_and_count (conflicts_in o name) ≡ Some (cell, count) → is_refused o (name ∷ []) ≡ true
+    by name None e h = let none : least_and_count (conflicts_in o name) ≡ None = ap (λ r. least_and_count (option_map_or (λ (w : Workspace). conflicts (content_of o w.parent) (own_changes w)) r [])) e in absurd (cc)
+    by name (Some w) e h =
+        let list : conflicts_in o name ≡ conflicts (content_of o w.parent) (own_changes w) = ap (λ r. option_map_or (λ (v : Workspace). conflicts (content_of o v.parent) (own_changes v)) r []) e in
+        or_left _ false (merge_clashes o name w (cell, count) e (ap (λ cells. option_map in_conflict (least_and_count cells)) (sym list) ∙ ap (option_map in_conflict) h))

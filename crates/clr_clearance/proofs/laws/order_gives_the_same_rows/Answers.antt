@@ -1,0 +1,5 @@
+use Rattle.clr_clearance.proofs.SiteLemmas.{order_law}
+use Rattle.clr_clearance.proofs.laws.order_gives_the_same_rows.Goals as goal
+
+pub returns : goal.returns
+returns c = order_law

@@ -1,0 +1,42 @@
+-- How a verdict and a run come about one need, and one command, after another.
+use Rattle.std.specs.Prelude.{◌≡◌, ℕ, ◌<◌, true, List, [], ◌∷◌, ◌++◌, Option, Some, Contains, slice_get}
+use Rattle.clr_foot.specs.declared.needs.Need.{Need}
+use Rattle.clr_foot.specs.Covers.{AreCovered, Entry, HasEntry}
+use Rattle.clr_foot.specs.Needs.{AreTouchedNeeds, IsPossible}
+use Rattle.clr_foot.specs.Settings.{Setting, Lived}
+use Rattle.clr_steps.specs.declared.commands.Command.{Command}
+use Rattle.clr_steps.specs.declared.commands.Reply.{Reply}
+use Rattle.clr_steps.specs.Offices.{Office}
+use Rattle.clr_steps.specs.Quiet.{Site, is_quiet}
+use Rattle.clr_steps.specs.Steps.{AreAnswers, IsAnswer, lost_in}
+use Rattle.clr_clearance.specs.Runs.{AreQuiet}
+use Rattle.clr_clearance.specs.Verdicts.{IsFirstUncovered}
+
+-- an entry covers the need, whatever rows and lives its subjects have
+abbrev pub IsCovered : Setting ℕ → List Entry → Need → Type 0
+IsCovered c entries n = (a : Lived ℕ) (b : Option (Lived ℕ)) → IsPossible c n a b → HasEntry c n a b entries
+
+-- where each need of the list of touched ones is covered, all are
+abbrev pub AllJudgedLaw : Type 0
+AllJudgedLaw = (c : Setting ℕ) (entries : List Entry) (needs : List Need)
+    → AreTouchedNeeds c needs
+    → ((n : Need) → Contains needs n → IsCovered c entries n)
+    → AreCovered c entries
+
+-- and the first of the list that isn't covered is the least
+abbrev pub FirstJudgedLaw : Type 0
+FirstJudgedLaw = (c : Setting ℕ) (entries : List Entry) (needs : List Need) (at : ℕ) (n : Need)
+    → AreTouchedNeeds c needs
+    → slice_get needs at ≡ Some n
+    → ((before : ℕ) (m : Need) → before < at → slice_get needs before ≡ Some m → IsCovered c entries m)
+    → ¬ (IsCovered c entries n)
+    → (a : Lived ℕ) × (b : Option (Lived ℕ)) × IsFirstUncovered c entries n a b
+
+-- a list of quiet commands that were answered, and one more
+abbrev pub OneMoreLaw : Type 0
+OneMoreLaw = (o : Office) (site : Site) (commands : List Command) (replies : List Reply) (now : Office) (c : Command) (reply : Reply) (left : Office)
+    → AreAnswers o commands replies now
+    → AreQuiet o site commands (lost_in replies)
+    → is_quiet now site c ≡ true
+    → IsAnswer now c reply left
+    → AreAnswers o (commands ++ c ∷ []) (replies ++ reply ∷ []) left × AreQuiet o site (commands ++ c ∷ []) (lost_in (replies ++ reply ∷ []))

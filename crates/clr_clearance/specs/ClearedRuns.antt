@@ -1,0 +1,29 @@
+-- Runs of the first commands of a list, up to one that isn't quiet.
+use Rattle.std.specs.Prelude.{◌≡◌, ℕ, ◌+◌, true, false, List, Option, Some, None, length, slice_get, take}
+use Rattle.clr_steps.specs.declared.commands.Command.{Command}
+use Rattle.clr_steps.specs.declared.commands.Reply.{Reply}
+use Rattle.clr_steps.specs.Offices.{Office}
+use Rattle.clr_steps.specs.Quiet.{Site, is_of_member, is_quiet, root_content}
+use Rattle.clr_steps.specs.Steps.{AreAnswers, lost_in, run}
+use Rattle.clr_clearance.specs.Runs.{AreQuiet, merged_in}
+use Rattle.clr_clearance.specs.Safety.{IsMergeOf, is_clash}
+
+-- no command is left, or the next one, numbered from 1, isn't quiet in this office
+abbrev pub IsStop : Site → List Command → List Reply → Office → Option ℕ → Type 0
+IsStop site commands replies left None = length replies ≡ length commands
+IsStop site commands replies left (Some number) =
+    (number ≡ length replies + 1)
+    × ((c : Command) × (slice_get commands (length replies) ≡ Some c) × (is_quiet left site c ≡ false))
+
+-- the replies to the first commands of a list, each quiet in the office in which it was given, what is left, and why it stopped there
+pub record IsQuietStart (o : Office) (site : Site) (commands : List Command) (replies : List Reply) (left : Office) (stopped : Option ℕ) : Type 0 where
+  pub answers : AreAnswers o (take (length replies) commands) replies left
+  pub quiet : AreQuiet o site (take (length replies) commands) (lost_in replies)
+  pub stop : IsStop site commands replies left stopped
+
+-- it is a run in which no merge and no refresh of a member clashes, and that leaves the root as the merge of those that were done
+pub record IsClearedRun (o : Office) (site : Site) (commands : List Command) (replies : List Reply) (left : Office) : Type 0 where
+  pub runs : run o commands (lost_in replies) ≡ record { replies = replies; office = left }
+  pub no_clash : (at : ℕ) (c : Command) (reply : Reply) → slice_get commands at ≡ Some c → slice_get replies at ≡ Some reply
+      → is_of_member site c ≡ true → is_clash reply ≡ false
+  pub root : IsMergeOf o site (merged_in site commands replies) (root_content left site)

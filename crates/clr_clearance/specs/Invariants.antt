@@ -1,0 +1,27 @@
+-- What every list of quiet commands leaves so of a site.
+use Rattle.std.specs.Prelude.{◌≡◌, true, List, Some, None, if◌then◌else◌}
+use Rattle.std.specs.Option.{option_map}
+use Rattle.clr_rows.specs.declared.cells.CellId.{CellId}
+use Rattle.clr_rows.specs.Contents.{change_at, row_at}
+use Rattle.clr_layers.specs.Marks.{Name}
+use Rattle.clr_foot.specs.Settings.{IsPart}
+use Rattle.clr_steps.specs.Names.{has}
+use Rattle.clr_steps.specs.Offices.{Office, workspace}
+use Rattle.clr_steps.specs.Quiet.{IsRootKept, Member, Site, is_member, is_root, member_of, root_content}
+use Rattle.clr_clearance.specs.Sites.{AgreesWith, changed_by, rows_with, setting_of}
+
+-- a member that stands is a child of the root; once it is merged it has no changes, and until then those that it had; where it has changes, the root
+-- has the row that it took over
+pub record IsMemberNow (first : Office) (site : Site) (names : List Name) (now : Office) (name : Name) (m : Member) : Type 0 where
+  pub under : is_root site m.parent ≡ true
+  pub changes : (cell : CellId) → change_at m.base m.current cell ≡ (if has names name then None else changed_by first name cell)
+  pub agrees : AgreesWith (row_at (root_content now site)) m.base m.current
+
+-- the root is kept and has its first rows with the changes of the merged members over them
+pub record Invariant (first : Office) (site : Site) (names : List Name) (now : Office) : Type 0 where
+  pub book : now.book ≡ first.book
+  pub kept : IsRootKept now site
+  pub part : IsPart (setting_of first site) names site.members
+  pub rows : (cell : CellId) → row_at (root_content now site) cell ≡ rows_with first site names cell
+  pub members : (name : Name) (m : Member) → is_member site name ≡ true → option_map member_of (workspace now name) ≡ Some m
+      → IsMemberNow first site names now name m

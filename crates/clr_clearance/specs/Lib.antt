@@ -1,0 +1,11 @@
+pub mod CheckLaws
+pub mod ClearedRuns
+pub mod Examples
+pub mod Invariants
+pub mod Laws
+pub mod Plans
+pub mod PlanLaws
+pub mod Runs
+pub mod Safety
+pub mod Sites
+pub mod Verdicts

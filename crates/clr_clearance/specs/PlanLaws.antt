@@ -1,0 +1,51 @@
+-- What a plan promises, by definitions alone.
+use Rattle.std.specs.Prelude.{◌≡◌, ℕ, Bool, true, false, List, None}
+use Rattle.clr_layers.specs.Marks.{Name}
+use Rattle.clr_foot.specs.Covers.{Entry}
+use Rattle.clr_foot.specs.Settings.{IsPart}
+use Rattle.clr_steps.specs.declared.commands.Command.{Command}
+use Rattle.clr_steps.specs.Offices.{Office}
+use Rattle.clr_steps.specs.Quiet.{Site}
+use Rattle.clr_steps.specs.Steps.{run}
+use Rattle.clr_clearance.specs.declared.verdicts.Verdict.{Verdict}
+use Rattle.clr_clearance.specs.Plans.{IsBlocked, IsCleared, is_refused, names_at, standing}
+use Rattle.clr_clearance.specs.Runs.{AreQuiet}
+use Rattle.clr_clearance.specs.Safety.{Safe}
+use Rattle.clr_clearance.specs.Sites.{AreMergeable, Covers, RootHolds, setting_of}
+use Rattle.clr_clearance.specs.Verdicts.{member_fault}
+
+-- a cleared plan covers the site
+abbrev pub ClearedPlanLaw : Type 0
+ClearedPlanLaw = (o : Office) (site : Site) (entries : List Entry) → IsCleared o site entries → Covers o site entries
+
+-- so that the site is safe
+abbrev pub ClearedIsSafeLaw : Type 0
+ClearedIsSafeLaw = (o : Office) (site : Site) (entries : List Entry) → IsCleared o site entries → RootHolds o site → Safe o site
+
+-- the order of a blocked plan is refused
+abbrev pub BlockedPlanLaw : Type 0
+BlockedPlanLaw = (o : Office) (site : Site) (order : List ℕ) (cause : Verdict)
+    → IsBlocked o site order cause
+    → RootHolds o site
+    → is_refused o (names_at site order) ≡ true
+
+-- and no order of merges of members of a safe site is, so that no safe site is blocked
+abbrev pub SafeOrderLaw : Type 0
+SafeOrderLaw = (o : Office) (site : Site) (names : List Name) → Safe o site → IsPart (setting_of o site) names site.members → is_refused o names ≡ false
+
+abbrev pub SafePlanLaw : Type 0
+SafePlanLaw = (o : Office) (site : Site) (order : List ℕ) (cause : Verdict) → Safe o site → RootHolds o site → ¬ (IsBlocked o site order cause)
+
+-- after quiet commands, no test of the members that stand fails, and no plan for them is blocked
+pub record StaysClear (now : Office) (site : Site) : Type 0 where
+  pub free : member_fault now site ≡ None
+  pub mergeable : AreMergeable now site
+  pub holds : RootHolds now site
+  pub unblocked : (order : List ℕ) (cause : Verdict) → ¬ (IsBlocked now site order cause)
+
+abbrev pub LastingLaw : Type 0
+LastingLaw = (o : Office) (site : Site) (entries : List Entry) (commands : List Command) (lost : ℕ → Bool)
+    → Covers o site entries
+    → RootHolds o site
+    → AreQuiet o site commands lost
+    → let now = (run o commands lost).office in StaysClear now (standing now site)

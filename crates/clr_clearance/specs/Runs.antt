@@ -1,0 +1,28 @@
+-- Lists of commands that are quiet for a site, and the members that they merge.
+use Rattle.std.specs.Prelude.{◌≡◌, ℕ, Bool, true, List, [], ◌∷◌, ◌++◌, Some, if◌then◌else◌, slice_get, take}
+use Rattle.clr_layers.specs.Marks.{Name}
+use Rattle.clr_steps.specs.declared.commands.Command.{Command}
+use Rattle.clr_steps.specs.declared.commands.Command.TheVariants as command
+use Rattle.clr_steps.specs.declared.commands.Reply.{Reply}
+use Rattle.clr_steps.specs.declared.commands.Reply.TheVariants.{Done}
+use Rattle.clr_steps.specs.Offices.{Office}
+use Rattle.clr_steps.specs.Quiet.{Site, is_member, is_quiet}
+use Rattle.clr_steps.specs.Steps.{run}
+
+-- the office in which the command of a position is given
+abbrev pub office_before : Office → List Command → (ℕ → Bool) → ℕ → Office
+office_before o commands lost at = (run o (take at commands) lost).office
+
+-- each command is quiet there
+abbrev pub AreQuiet : Office → Site → List Command → (ℕ → Bool) → Type 0
+AreQuiet o site commands lost = (at : ℕ) (c : Command) → slice_get commands at ≡ Some c → is_quiet (office_before o commands lost at) site c ≡ true
+
+-- the member whose merge was done, if that is what was
+abbrev pub merged_by : Site → Command → Reply → List Name
+merged_by site (command.Merge name remove) Done = if is_member site name then name ∷ [] else []
+merged_by site _ _ = []
+
+-- the members that had a merge done
+unfoldable pub merged_in : Site → List Command → List Reply → List Name
+merged_in site (c ∷ cs) (reply ∷ replies) = merged_by site c reply ++ merged_in site cs replies
+merged_in site _ _ = []

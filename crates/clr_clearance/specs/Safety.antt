@@ -1,0 +1,53 @@
+-- What a site promises over every list of quiet commands, whichever of them find no memory.
+use Rattle.std.specs.Prelude.{◌≡◌, ℕ, Bool, true, false, not, ◌&&◌, List, ◌∷◌, Some, is_some}
+use Rattle.clr_rows.specs.declared.cells.CellId.{CellId}
+use Rattle.clr_rows.specs.Contents.{Content, row_at}
+use Rattle.clr_rules.specs.Needs.{Holds}
+use Rattle.clr_layers.specs.Marks.{Name}
+use Rattle.clr_layers.specs.Workspaces.{Workspace}
+use Rattle.clr_steps.specs.declared.commands.Command.{Command}
+use Rattle.clr_steps.specs.declared.commands.Command.TheVariants as command
+use Rattle.clr_steps.specs.declared.commands.Reply.{Reply}
+use Rattle.clr_steps.specs.declared.commands.Reply.TheVariants.{Conflict, Done, RuleBroken}
+use Rattle.clr_steps.specs.Offices.{Office, workspace}
+use Rattle.clr_steps.specs.Quiet.{Site, is_member, is_of_member, root_content}
+use Rattle.clr_steps.specs.Refusals.{has_child}
+use Rattle.clr_steps.specs.Steps.{run, step}
+use Rattle.clr_clearance.specs.Runs.{AreQuiet, merged_in}
+use Rattle.clr_clearance.specs.Sites.{rows_with}
+
+-- a content has the root's rows with the changes of some members over them, and every rule holds in it
+pub record IsMergeOf (o : Office) (site : Site) (names : List Name) (content : Content) : Type 0 where
+  pub rows : (cell : CellId) → row_at content cell ≡ rows_with o site names cell
+  pub holds : Holds o.book (row_at content)
+
+-- a conflict, or a broken rule
+abbrev pub is_clash : Reply → Bool
+is_clash (Conflict cell count) = true
+is_clash (RuleBroken need) = true
+is_clash _ = false
+
+-- the workspace that is to be merged or refreshed stands and, where it is to go, has no children
+abbrev pub is_ready : Office → Command → Bool
+is_ready o (command.Merge name remove) = is_some (workspace o name) && not (remove && has_child o name)
+is_ready o (command.Refresh name) = is_some (workspace o name)
+is_ready o _ = false
+
+-- no clash, and done where the workspace is ready
+pub record IsSafeAnswer (o : Office) (c : Command) : Type 0 where
+  pub no_clash : is_clash (step o c).reply ≡ false
+  pub is_done : is_ready o c ≡ true → (step o c).reply ≡ Done
+
+-- an office after commands that merged some members: the root is their merge, each merge and each refresh of a member is safe, and a refresh that is
+-- done gives the member the merge of those and itself
+pub record IsSafeAt (first : Office) (site : Site) (names : List Name) (now : Office) : Type 0 where
+  pub book : now.book ≡ first.book
+  pub root : IsMergeOf first site names (root_content now site)
+  pub answers : (c : Command) → is_of_member site c ≡ true → IsSafeAnswer now c
+  pub refreshes : (name : Name) (w : Workspace) → is_member site name ≡ true → (step now (command.Refresh name)).reply ≡ Done
+      → workspace (step now (command.Refresh name)).office name ≡ Some w → IsMergeOf first site (name ∷ names) w.current
+
+-- so it is after every list of quiet commands
+abbrev pub Safe : Office → Site → Type 0
+Safe o site = (commands : List Command) (lost : ℕ → Bool) → AreQuiet o site commands lost
+    → let done = run o commands lost in IsSafeAt o site (merged_in site commands done.replies) done.office

@@ -1,0 +1,77 @@
+-- A site in an office: the rows of its root, what each member changed, and when entries cover its members.
+use Rattle.std.specs.Prelude.{◌≡◌, ℕ, Bool, true, false, not, ◌&&◌, List, [], map, Option, Decides}
+use Rattle.std.specs.Cmp.Lexicographic.{bytes_decides}
+use Rattle.std.specs.Option.{option_map_or}
+use Rattle.clr_rows.specs.declared.cells.CellId.{CellId}
+use Rattle.clr_rows.specs.declared.rows.Row.{Row}
+use Rattle.clr_rows.specs.Contents.{Changes, Content, is_changed, row_at}
+use Rattle.clr_rules.specs.Needs.{Holds, View}
+use Rattle.clr_layers.specs.Marks.{Name}
+use Rattle.clr_foot.specs.Covers.{AreCovered, Entry}
+use Rattle.clr_foot.specs.Members.{after_in, setting}
+use Rattle.clr_foot.specs.Positions.{AreDistinct}
+use Rattle.clr_foot.specs.Settings.{Setting, AreDisjoint, IsPart, taken}
+use Rattle.clr_steps.specs.Names.{same_name}
+use Rattle.clr_steps.specs.Offices.{Office, workspace}
+use Rattle.clr_steps.specs.Quiet.{Site, IsRootKept, is_member, is_root, root_content}
+use Rattle.clr_steps.specs.Readings.{changes_in, conflicts_in}
+
+pub same_name_decides : (a b : Name) → Decides (same_name a b) (a ≡ b)
+unfolding same_name
+same_name_decides = bytes_decides
+
+-- what the workspace of a name has at a cell that it changed
+abbrev pub changed_by : Office → Name → CellId → Option (Option Row)
+changed_by o name = after_in (changes_in o name)
+
+-- the root's rows, and the changes of each member by name
+abbrev pub setting_of : Office → Site → Setting Name
+setting_of o site = record {
+  rules = o.book;
+  root = row_at (root_content o site);
+  members = site.members;
+  after = changed_by o;
+  same = same_name;
+  decides = same_name_decides;
+}
+
+-- the root's rows taken over by the changes of each of some members
+abbrev pub rows_with : Office → Site → List Name → View
+rows_with o site names = taken (setting_of o site) names
+
+-- what each member changed, in the order of the list
+abbrev pub change_sets : Office → Site → List Changes
+change_sets o site = map (changes_in o) site.members
+
+-- the members by position
+abbrev pub numbered : Office → Site → Setting ℕ
+numbered o site = setting o.book (root_content o site) (change_sets o site)
+
+-- a workspace under the root, which is no child of itself
+abbrev pub is_child : Office → Site → Name → Bool
+is_child o site name = not (is_root site name) && option_map_or (λ w. is_root site w.parent) (workspace o name) false
+
+-- different children of a kept root, none in conflict with it, and no cell changed by two
+pub record AreMergeable (o : Office) (site : Site) : Type 0 where
+  pub kept : IsRootKept o site
+  pub distinct : AreDistinct (setting_of o site)
+  pub children : (name : Name) → is_member site name ≡ true → is_child o site name ≡ true
+  pub free : (name : Name) → is_member site name ≡ true → conflicts_in o name ≡ []
+  pub apart : AreDisjoint (setting_of o site)
+
+-- and each need that they touch has an entry that covers it
+pub record Covers (o : Office) (site : Site) (entries : List Entry) : Type 0 where
+  pub mergeable : AreMergeable o site
+  pub covered : AreCovered (numbered o site) entries
+
+-- every rule holds in the root
+abbrev pub RootHolds : Office → Site → Type 0
+RootHolds o site = Holds o.book (row_at (root_content o site))
+
+-- every rule holds whichever members' changes are over the root
+abbrev pub KeepsRules : Office → Site → Type 0
+KeepsRules o site = (names : List Name) → IsPart (setting_of o site) names site.members → Holds o.book (rows_with o site names)
+
+-- at each cell where a content differs from its base, these rows have the row of the base
+abbrev pub AgreesWith : View → Content → Content → Type 0
+AgreesWith view base current = (cell : CellId) → is_changed base current cell ≡ true → view cell ≡ row_at base cell

@@ -1,0 +1,36 @@
+use clr_foot::Need;
+use clr_rows::CellId;
+
+/// What a check says of a root, of members that are to be merged into it, and of the entries of a
+/// certificate: clear, or the first test that fails. Each test is made over the whole list before
+/// the next. Members are named by position.
+#[derive(Clone, Copy, Debug, PartialEq, Eq)]
+pub enum Verdict {
+    /// In every order, between other work, no merge of a member meets a conflict or breaks a rule.
+    Clear,
+    /// No memory was found. It may come in place of any answer from `Conflict` on, or of a clear one.
+    OutOfMemory,
+    /// The root doesn't stand, or isn't kept.
+    NotKept,
+    /// The first member whose name stands earlier in the list.
+    RepeatedMember(usize),
+    /// The first member of whose name there is no workspace.
+    NoWorkspace(usize),
+    /// The first member that isn't a child of the root.
+    NotUnderRoot(usize),
+    /// The first member in conflict with the root, its least cell in conflict, and how many there
+    /// are.
+    Conflict {
+        member: usize,
+        cell: CellId,
+        count: usize,
+    },
+    /// The least cell that two members change, with the first two that do.
+    SharedCell {
+        cell: CellId,
+        first: usize,
+        second: usize,
+    },
+    /// The least touched need that no entry covers.
+    Uncovered(Need),
+}

@@ -1,0 +1,106 @@
+-- The entries that are left are the changed cells.
+use Rattle.std.proofs.Common.{◌≡◌, Bool, true, false, cond, not, T, suc, List, [], ◌∷◌, length, map, filter, Some, None, unwrap_or, refl, ap, sym, subst, ◌∙◌}
+use Rattle.std.specs.declared.option.Option.{Option}
+use Rattle.std.specs.FinMap as finite
+use Rattle.std.specs.FinMap.Entries.{find, is_sorted}
+use Rattle.std.specs.Map.Calls.{RetainsPairs}
+use Rattle.std.specs.Option.{option_map}
+use Rattle.std.specs.Ordering.{eq_by_cmp}
+use Rattle.clr_rows.specs.declared.cells.CellId.{CellId}
+use Rattle.clr_rows.specs.declared.rows.Row.{Row}
+use Rattle.clr_rows.specs.declared.cells.Change.{Change}
+use Rattle.clr_rows.specs.Cells.{cell_cmp}
+use Rattle.clr_rows.specs.Contents.{Content, Changes, row_at, is_changed, change_at, change_of, changes, rows_after}
+use Rattle.clr_rows.specs.Same.{same}
+use Rattle.clr_rows.proofs.CellOrder.{cell_cmp_total, cell_cmp_exact}
+use Rattle.clr_rows.proofs.ChangeLemmas.{same_content, get-changes, find_below, sorted-filter, sorted-map, find-map, after_of}
+use Rattle.clr_rows.proofs.Entries.{keys-from_sorted}
+use Rattle.clr_rows.proofs.RowLemmas.{tied_cells}
+use Rattle.clr_rows.proofs.SameLemmas.{same_is, same_itself}
+use Rattle.clr_rows.proofs.Tests.{first, second}
+use Rattle.clr_differences.specs.Differences.{Differences, Rows, seen_over, is_own, swept}
+use Rattle.clr_differences.proofs.DifferenceLemmas.{row-seen_over}
+
+-- what `retain` leaves, where the test keeps no state and changes no value
+pub filtered_from_retain : {K X F : Type 0} (T : F → K → X → Bool → X → F → Type 0) (p : K × X → Bool) (f : F) → ((k : K) (v : X) (b : Bool) (w : X) (g : F) → T f k v b w g → (b ≡ p (k, v)) × (w ≡ v) × (g ≡ f))
+    → (es kept : List (K × X)) → RetainsPairs T f es kept → kept ≡ filter p es
+filtered_from_retain T p f says [] kept h = h
+filtered_from_retain T p f says (e ∷ es) kept h =
+    let s = says e.0 e.1 h.0 h.1 h.2 h.4 in
+    let rest = filtered_from_retain T p f says es h.3 (subst (λ u. RetainsPairs T u es h.3) s.2 h.5) in
+    h.6 ∙ (λ j. cond (s.0 j) ((e.0, s.1 j) ∷ rest j) (rest j))
+
+pub swept_entries : (below : Content) (es kept : Rows) → T (is_sorted cell_cmp es) → kept ≡ filter (is_own below) es → finite.from_sorted kept ≡ swept below (finite.from_sorted es)
+unfolding swept
+swept_entries below es kept sorted e = ap (λ (es : Rows). finite.from_sorted es) (e ∙ ap (filter (is_own below)) (sym (finite.entries-from_sorted cell_cmp es sorted)))
+
+-- what a filter leaves of a cell
+abbrev kept_of : Content → CellId → Option (Option Row) → Option (Option Row)
+kept_of below q None = None
+kept_of below q (Some row) = cond (is_own below (q, row)) (Some row) None
+
+find_own : (below : Content) (es : Rows) (q : CellId) → T (is_sorted cell_cmp es) → find cell_cmp q (filter (is_own below) es) ≡ kept_of below q (find cell_cmp q es)
+find_own below [] q sorted = refl
+find_own below (e ∷ es) q sorted =
+    let rest = find_own below es q (second _ _ sorted) in
+    elim (eq_by_cmp cell_cmp q e.0) as (λ t. eq_by_cmp cell_cmp q e.0 ≡ t → find cell_cmp q (filter (is_own below) (e ∷ es)) ≡ kept_of below q (cond t (Some e.1) (find cell_cmp q es))) [
+      | true ↦ λ t. let none : find cell_cmp q es ≡ None = ap (λ c. find cell_cmp c es) (tied_cells q e.0 t) ∙ find_below e.0 es (first _ _ sorted) in
+          ap (λ (c : CellId). find cell_cmp q (cond (not (same (row_at below c) e.1)) (e ∷ filter (is_own below) es) (filter (is_own below) es))) (sym (tied_cells q e.0 t))
+          ∙ elim (not (same (row_at below q) e.1)) as (λ r. find cell_cmp q (cond r (e ∷ filter (is_own below) es) (filter (is_own below) es)) ≡ cond r (Some e.1) None) [
+            | true ↦ ap (λ b. cond b (Some e.1) (find cell_cmp q (filter (is_own below) es))) t
+            | false ↦ rest ∙ ap (kept_of below q) none
+          ]
+      | false ↦ λ t.
+          elim (is_own below e) as (λ r. find cell_cmp q (cond r (e ∷ filter (is_own below) es) (filter (is_own below) es)) ≡ find cell_cmp q (filter (is_own below) es)) [
+            | true ↦ ap (λ b. cond b (Some e.1) (find cell_cmp q (filter (is_own below) es))) t
+            | false ↦ refl
+          ] ∙ rest
+    ] refl
+
+-- an entry is left at just the changed cells
+pub get-swept : (below : Content) (d : Differences) (q : CellId) → finite.get (swept below d) q ≡ change_at below (seen_over below d) q
+unfolding swept
+get-swept below d q =
+    finite.get-from_sorted cell_cmp _ q (sorted-filter (is_own below) (finite.entries d) (finite.entries_sorted d))
+    ∙ find_own below (finite.entries d) q (finite.entries_sorted d)
+    ∙ ap (kept_of below q) (sym (finite.get-entries d q))
+    ∙ by (finite.get d q)
+    ∙ ap (λ (row : Option Row). cond (not (same (row_at below q) row)) (Some row) None) (sym (row-seen_over below d q))
+  where
+    none : (row : Option Row) → None ≡ cond (not (same row row)) (Some row) None
+    none row = sym (ap (λ b. cond (not b) (Some row) None) (same_itself row))
+
+    by : (o : Option (Option Row)) → kept_of below q o ≡ cond (not (same (row_at below q) (unwrap_or o (row_at below q)))) (Some (unwrap_or o (row_at below q))) None
+    by None = none (row_at below q)
+    by (Some row) = refl
+
+pub seen-swept : (below : Content) (d : Differences) → seen_over below (swept below d) ≡ seen_over below d
+seen-swept below d = same_content _ _ (λ q.
+    row-seen_over below (swept below d) q ∙ ap (λ o. unwrap_or o (row_at below q)) (get-swept below d q)
+    ∙ by (row_at below q) (row_at (seen_over below d) q) (same (row_at below q) (row_at (seen_over below d) q)) refl)
+  where
+    by : (a b : Option Row) (t : Bool) → same a b ≡ t → unwrap_or (cond (not t) (Some b) None) a ≡ b
+    by a b true e = same_is a b e
+    by a b false e = refl
+
+after_sorted : (changed : Changes) → T (is_sorted cell_cmp (rows_after changed))
+after_sorted changed = sorted-map after_of (finite.entries changed) (finite.entries_sorted changed)
+
+cells_after : (es : List (CellId × Change)) → length (map (λ (e : CellId × Option Row). e.0) (map (λ (e : CellId × Change). (e.0, e.1.after)) es)) ≡ length (map (λ (e : CellId × Change). e.0) es)
+cells_after [] = refl
+cells_after (e ∷ es) = ap suc (cells_after es)
+
+pub count-swept : (below : Content) (d : Differences) → length (finite.keys (swept below d)) ≡ length (finite.keys (changes below (seen_over below d)))
+count-swept below d =
+    let changed = changes below (seen_over below d) in
+    let alike : finite.from_sorted (rows_after changed) ≡ swept below d = finite.same_map cell_cmp_total cell_cmp_exact _ _ (λ q.
+    finite.get-from_sorted cell_cmp _ q (after_sorted changed) ∙ find-map after_of (finite.entries changed) q ∙ ap (option_map after_of) (sym (finite.get-entries changed q) ∙ get-changes below (seen_over below d) q)
+    ∙ by q (is_changed below (seen_over below d) q) ∙ sym (get-swept below d q)) in
+    sym (ap length (keys-from_sorted (rows_after changed) (swept below d) (after_sorted changed) alike)) ∙ cells_after (finite.entries changed) ∙ keys_are changed
+  where
+    by : (q : CellId) (b : Bool) → option_map after_of (cond b (Some (change_of below (seen_over below d) q)) None) ≡ cond b (Some (row_at (seen_over below d) q)) None
+    by q true = refl
+    by q false = refl
+
+    keys_are : (changed : Changes) → length (map (λ (e : CellId × Change). e.0) (finite.entries changed)) ≡ length (finite.keys changed)
+    keys_are changed = refl

@@ -1,0 +1,12 @@
+use Rattle.std.proofs.Common.{ap, sym, subst, ◌∙◌}
+use Rattle.clr_differences.specs.Differences.{Differences, seen_over, HasEntry}
+use Rattle.clr_differences.proofs.DifferenceLemmas.{neutral_new, entry_made, nothing_found}
+use Rattle.clr_differences.proofs.differences.Differences.hold.Goals as goal
+
+pub returns-clause-seen : goal.returns-clause-seen
+returns-clause-seen c = λ below is.
+    let none = sym c.get.ensures ∙ nothing_found c.get.result (sym c.is_some.ensures ∙ c.if-is_some.false) in
+    ap (seen_over below) c.in_ok-put.ensures.ok ∙ neutral_new below c.args.self.now c.args.cell c.in_ok-row.row none (c.in_ok-row.ensures ∙ sym is)
+
+pub returns-clause-held : goal.returns-clause-held
+returns-clause-held c = subst (λ (d : Differences). HasEntry d c.args.cell) (sym c.in_ok-put.ensures.ok) (entry_made c.args.self.now c.args.cell c.in_ok-row.row)

@@ -1,0 +1,57 @@
+-- Differences from a content: at some cells a row, or none.
+use Rattle.std.specs.Prelude.{◌≡◌, T, Bool, true, not, filter, List, [], ◌∷◌, Option, is_some, map}
+use Rattle.std.specs.Coded.{Coded, coded_option}
+use Rattle.std.specs.FinMap as finite
+use Rattle.clr_rows.specs.declared.cells.CellId.{CellId}
+use Rattle.clr_rows.specs.declared.rows.Row.{Row}
+use Rattle.clr_rows.specs.Cells.{cell_cmp, coded_cell}
+use Rattle.clr_rows.specs.Contents.{Content, coded_row, row_at, over}
+use Rattle.clr_rows.specs.Same.{same}
+
+abbrev pub Differences : Type 0
+Differences = finite.FinMap cell_cmp (Option Row)
+
+abbrev pub coded_differences : Coded Differences
+coded_differences = finite.code coded_cell (coded_option coded_row)
+
+-- rows, or none, by cell
+abbrev pub Rows : Type 0
+Rows = List (CellId × Option Row)
+
+abbrev pub cells_in : Rows → List CellId
+cells_in rows = map (λ e. e.0) rows
+
+abbrev pub differences_of : Rows → Differences
+differences_of entries = finite.from_sorted entries
+
+abbrev pub no_differences : Differences
+no_differences = finite.empty
+
+-- in the order of cells
+abbrev pub IsSound : Rows → Type 0
+IsSound entries = T (finite.is_sorted cell_cmp entries)
+
+-- the content that is seen where differences lie over another
+unfoldable pub seen_over : Content → Differences → Content
+seen_over below d = over below (finite.entries d)
+
+-- an entry that hasn't the row of the content below
+abbrev pub is_own : Content → CellId × Option Row → Bool
+is_own below e = not (same (row_at below e.0) e.1)
+
+-- the entries that haven't the row of the content below
+unfoldable pub swept : Content → Differences → Differences
+swept below d = finite.from_sorted (filter (is_own below) (finite.entries d))
+
+-- entries put one after another
+unfoldable pub put_each : Differences → Rows → Differences
+put_each d [] = d
+put_each d (e ∷ es) = put_each (finite.insert d e.0 e.1) es
+
+abbrev pub HasEntry : Differences → CellId → Type 0
+HasEntry d cell = is_some (finite.get d cell) ≡ true
+
+-- an entry at each of these cells
+abbrev pub HasEntries : Differences → List CellId → Type 0
+HasEntries d [] = Unit {0}
+HasEntries d (cell ∷ cells) = HasEntry d cell × HasEntries d cells

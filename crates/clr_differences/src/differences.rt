@@ -1,0 +1,173 @@
+ghost use Rattle.std.specs.Prelude.{◌≡◌, ◌<◌, ◌^◌, length, IfOk, OnOk, OnErr, IsOk};
+ghost use Rattle.std.specs.FinMap as finite;
+ghost use Rattle.std.specs.Option.{option_copied};
+ghost use Rattle.clr_rows.specs.Contents.{Content, row_at};
+ghost use Rattle.clr_rows.specs.Same.{same};
+ghost use Rattle.clr_differences.specs.Differences.{no_differences, put_each, seen_over, swept, cells_in, HasEntry, HasEntries};
+
+use clr_change::{are_same, copy_row};
+use clr_rows::{CellId, Row, RowView};
+use std::alloc::{AllocError, Global};
+use std::collections::BTreeMap;
+use std::marker::Model;
+
+/// Differences from a content: at some cells a row, or none.
+#[derive(Drop)]
+pub struct Differences {
+    alloc: Global,
+    rows: BTreeMap<CellId, Option<Row>>,
+}
+
+impl Model for Differences {
+    ghost use Rattle.clr_differences.specs.Differences as differences;
+
+    ghost Value = { differences.Differences };
+
+    ghost coded = { differences.coded_differences };
+
+    ghost view = { λ d. differences.differences_of d.rows.entries };
+
+    ghost invariant = { λ d. differences.IsSound d.rows.entries };
+}
+
+/// Whether an entry at a cell has the row of the content below.
+fn is_neutral<V: RowView>(below: &V, cell: CellId, row: &Option<Row>) -> bool
+    ensures { result ≡ same (row_at (V.content below.now) cell) row.now }
+{
+    are_same(below.row(cell), row.as_ref())
+}
+
+impl Differences {
+    /// No differences.
+    pub fn new(alloc: Global) -> Differences
+        ensures { result ≡ no_differences }
+    {
+        Differences {
+            alloc,
+            rows: BTreeMap::new(alloc),
+        }
+    }
+
+    /// The entry at a cell: a row, or no row; or none where there is no entry.
+    pub fn get(&self, cell: CellId) -> Option<&Option<Row>>
+        ensures { option_copied result ≡ finite.get self.now cell }
+    {
+        self.rows.get(&cell)
+    }
+
+    /// How many entries there are.
+    pub fn len(&self) -> usize
+        ensures count { result ≡ length (finite.keys self.now) }
+        ensures small { result < 2 ^ 63 }
+    {
+        self.rows.len()
+    }
+
+    /// Takes away each entry with the row of the content below, so that what is seen stays. It
+    /// takes no memory.
+    pub fn sweep<V: RowView>(&mut self, below: &V)
+        ensures { self.new ≡ swept (V.content below.now) self.old }
+    {
+        self.rows.retain(|cell, row| !is_neutral(below, *cell, row));
+    }
+
+    /// Puts an entry at a cell. It fails for want of memory alone, never where the cell has an
+    /// entry, and changes nothing then.
+    pub fn put(&mut self, cell: CellId, row: Option<Row>) -> Result<(), AllocError>
+        ensures ok { OnOk result (self.new ≡ finite.insert self.old cell row) }
+        ensures err { OnErr result (self.new ≡ self.old) }
+        ensures held { HasEntry self.old cell → IsOk result }
+    {
+        self.rows.insert(cell, row)?;
+        Ok(())
+    }
+
+    /// Sets an entry that is there to a row, or to none.
+    pub fn set(&mut self, cell: CellId, row: Option<Row>)
+        requires { HasEntry self.old cell }
+        ensures { self.new ≡ finite.insert self.old cell row }
+    {
+        let put: Result<_, _> = self.put(cell, row);
+        put.unwrap();
+    }
+
+    /// Sets entries that are there, one after another.
+    #[tactic(auto, using(crate::proofs::DifferenceLemmas::entries_stay), unfolding(crate::specs::Differences::put_each))]
+    pub fn set_each(&mut self, rows: Vec<(CellId, Option<Row>)>)
+        requires { HasEntries self.old (cells_in rows.items) }
+        ensures { self.new ≡ put_each self.old rows.items }
+    {
+        for (cell, row) in rows {
+            self.set(cell, row);
+        }
+    }
+
+    /// Takes the entry at a cell away, if there is one.
+    pub fn take(&mut self, cell: CellId)
+        ensures { self.new ≡ finite.remove self.old cell }
+    {
+        self.rows.remove(&cell);
+    }
+
+    /// Makes an entry at a cell that has none, with the row of the content below, so that what is
+    /// seen stays. It fails for want of memory alone, and what is seen stays then too.
+    pub fn hold(&mut self, cell: CellId, row: Option<&Row>) -> Result<(), AllocError>
+        ensures seen { (below : Content) → row_at below cell ≡ option_copied row.entry → seen_over below self.new ≡ seen_over below self.old }
+        ensures held { OnOk result (HasEntry self.new cell) }
+    {
+        if self.get(cell).is_some() {
+            return Ok(());
+        }
+        let row = copy_row(row)?;
+        self.put(cell, row)?;
+        Ok(())
+    }
+
+    /// The cells of the entries, ascending. It fails for want of memory alone.
+    pub fn cells(&self) -> Result<Vec<CellId>, AllocError>
+        ensures { IfOk result (λ cells. cells.items ≡ finite.keys self.now) }
+    {
+        let mut cells = Vec::new(self.alloc);
+        for (cell, _) in self.rows.iter() {
+            cells.push(*cell)?;
+        }
+        Ok(cells)
+    }
+
+    /// The entries, in the order of cells. It fails for want of memory alone.
+    pub fn rows(&self) -> Result<Vec<(CellId, Option<Row>)>, AllocError>
+        ensures { IfOk result (λ rows. rows.items ≡ finite.entries self.now) }
+    {
+        let mut rows = Vec::new(self.alloc);
+        for (cell, row) in self.rows.iter() {
+            let row = copy_row(row.as_ref())?;
+            rows.push((*cell, row))?;
+        }
+        Ok(rows)
+    }
+
+    /// Differences with these rows, put one after another. It fails for want of memory alone.
+    #[tactic(auto, unfolding(crate::specs::Differences::put_each))]
+    pub fn of_rows(
+        alloc: Global,
+        rows: Vec<(CellId, Option<Row>)>,
+    ) -> Result<Differences, AllocError>
+        ensures { IfOk result (λ differences. differences ≡ put_each no_differences rows.items) }
+    {
+        let mut differences = Differences::new(alloc);
+        for (cell, row) in rows {
+            differences.put(cell, row)?;
+        }
+        Ok(differences)
+    }
+
+    /// A second set of the same differences. It fails for want of memory alone.
+    pub fn copy(&self) -> Result<Differences, AllocError>
+        ensures { IfOk result (λ differences. differences ≡ self.now) }
+    {
+        Ok(Differences {
+            alloc: self.alloc,
+            rows: self.rows.clone()?,
+        })
+    }
+}

@@ -1,0 +1,33 @@
+-- What commands leave keeps fitting, and keeps the rules.
+use Rattle.std.proofs.Common.{Bool, true, false, sym, ap, subst}
+use Rattle.clr_rules.specs.Books.{FitsBook}
+use Rattle.clr_steps.specs.declared.commands.Command.{Command}
+use Rattle.clr_steps.specs.declared.commands.Reply.{Reply}
+use Rattle.clr_steps.specs.Invariants.{HoldsWhereKept}
+use Rattle.clr_steps.specs.Offices.{Office}
+use Rattle.clr_steps.specs.Steps.{Answer, IsAnswer, is_lost, step, step_or_lost}
+use Rattle.clr_steps.proofs.FitLemmas.{fit_law}
+use Rattle.clr_steps.proofs.RuleLemmas.{rules_law}
+use Rattle.clr_steps.proofs.SchemaLemmas.{schema_law}
+use Rattle.clr_engine.specs.Drafts.{IsFitting}
+
+-- what holds before a step and after it holds after an answer
+after_answer : (P : Office → Type 0) (o : Office) (c : Command) (reply : Reply) (left : Office) → P o → P (step o c).office → IsAnswer o c reply left → P left
+after_answer P o c reply left was is e = subst P (sym (ap (λ (a : Answer). a.office) e)) (by (is_lost reply))
+  where
+    by : (lost : Bool) → P (step_or_lost lost o c).office
+    by true = was
+    by false = is
+
+fits_step : (o : Office) (c : Command) → IsFitting o → IsFitting (step o c).office
+fits_step o c h =
+    let same = schema_law o c in
+    record { book = subst (λ schema. FitsBook schema (step o c).office.book) (sym same.0) (subst (FitsBook o.schema) (sym same.1) h.book); rows = fit_law o c h.rows }
+
+-- rules and rows fit after every command
+pub fits_after : (o : Office) (c : Command) (reply : Reply) (left : Office) → IsFitting o → IsAnswer o c reply left → IsFitting left
+fits_after o c reply left h answered = after_answer IsFitting o c reply left h (fits_step o c h) answered
+
+-- and rules hold where they are to hold
+pub holds_after : (o : Office) (c : Command) (reply : Reply) (left : Office) → HoldsWhereKept o → IsAnswer o c reply left → HoldsWhereKept left
+holds_after o c reply left h answered = after_answer HoldsWhereKept o c reply left h (rules_law o c h) answered

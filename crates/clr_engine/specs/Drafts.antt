@@ -1,0 +1,44 @@
+-- Drafts, whose rows and rules fit one schema, and offices, in which the rules hold.
+use Rattle.std.specs.Prelude.{◌≡◌, ℕ, zero, suc, List, map, Option, Some, None, slice_get}
+use Rattle.std.specs.Option.{option_or, option_map}
+use Rattle.clr_rows.specs.Contents.{Content}
+use Rattle.clr_rows.specs.declared.tables.TableDef.{TableDef}
+use Rattle.clr_layers.specs.Workspaces.{Workspace}
+use Rattle.clr_tree.specs.Parts.{workspace_of}
+use Rattle.clr_tree.specs.declared.parts.Part.{Part}
+use Rattle.clr_rules.specs.declared.rules.Rule.{Rule}
+use Rattle.clr_rules.specs.Books.{FitsBook}
+use Rattle.clr_rules.specs.declared.needs.Broken.{Broken}
+use Rattle.clr_engine.specs.declared.drafts.AdmitFault.{AdmitFault}
+use Rattle.clr_engine.specs.declared.drafts.AdmitFault.TheVariants as fault
+use Rattle.clr_steps.specs.Invariants.{HoldsWhereKept, OfficeFits, unheld_from}
+use Rattle.clr_steps.specs.Offices.{Office}
+use Rattle.clr_steps.specs.Refusals.{first_broken}
+
+-- of a schema, rules, LIVE's content and parts
+abbrev pub office_of_parts : List TableDef → List Rule → Content → List Part → Office
+office_of_parts schema book live parts = record { schema = schema; book = book; live = live; workspaces = map workspace_of parts }
+
+-- the workspace at a position in order of creation, where it isn't LIVE
+abbrev pub part_at : Office → ℕ → Option Workspace
+part_at o zero = None
+part_at o (suc k) = slice_get o.workspaces k
+
+-- the rules and each row fit the schema
+pub record IsFitting (o : Office) : Type 0 where
+  pub book : FitsBook o.schema o.book
+  pub rows : OfficeFits o
+
+-- so they do, and every rule holds in LIVE and in each workspace that is kept
+pub record IsAdmitted (o : Office) : Type 0 where
+  pub fit : IsFitting o
+  pub holds : HoldsWhereKept o
+
+-- the first that breaks a rule of LIVE, with position 0, and of the workspaces that are kept, in order of creation, and its least broken need
+abbrev pub unheld_in : Office → Option (ℕ × Broken)
+unheld_in o = option_or (option_map (λ need. (0, need)) (first_broken o.book o.live)) (unheld_from o.book 1 o.workspaces)
+
+-- a draft isn't admitted for that, or for want of memory
+abbrev pub IsUnheld : Option (ℕ × Broken) → AdmitFault → Type 0
+IsUnheld first fault.OutOfMemory = Unit {0}
+IsUnheld first (fault.Broken position need) = first ≡ Some (position, need)

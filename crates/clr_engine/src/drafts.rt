@@ -1,0 +1,122 @@
+ghost use Rattle.std.specs.Prelude.{◌≡◌, None, option_map, IfOk, IfErr, OnOk};
+ghost use Rattle.clr_steps.specs.Readings.{name_at};
+ghost use Rattle.clr_tree.specs.Parts.{first_fault, IsRefused};
+ghost use Rattle.clr_engine.specs.Drafts.{IsFitting, IsUnheld, office_of_parts, unheld_in};
+
+use crate::judges::Judge;
+use crate::offices::Office;
+use clr_rows::{Schema, Sheet};
+use clr_rules::{Broken, RuleBook};
+use clr_tree::{Part, PartFault, Tree};
+use std::alloc::Global;
+use std::marker::Model;
+
+/// A database whose rules aren't yet known to hold: its schema, its rules, LIVE's content and the
+/// workspaces under LIVE. The rules and each row of each content fit the schema.
+#[derive(Drop)]
+pub struct Draft {
+    schema: Schema,
+    judge: Judge,
+    tree: Tree,
+}
+
+impl Model for Draft {
+    ghost use Rattle.clr_steps.specs.Offices.{Office as Whole, office_code, office_of};
+    ghost use Rattle.clr_engine.specs.Drafts.{IsFitting};
+
+    ghost Value = { Whole };
+
+    ghost coded = { office_code };
+
+    ghost view = { λ d. office_of d.schema d.judge d.tree.list };
+
+    ghost invariant = { λ d. IsFitting (office_of d.schema d.judge d.tree.list) };
+}
+
+/// Why a draft is no office.
+#[derive(Clone, Copy, Debug, PartialEq, Eq)]
+pub enum AdmitFault {
+    /// No memory was found.
+    OutOfMemory,
+    /// The position of the first workspace that breaks a rule, LIVE having position 0 and then those
+    /// that are kept in order of creation, and its least broken need.
+    Broken { position: usize, need: Broken },
+}
+
+impl Draft {
+    /// A draft of LIVE and of parts, each a workspace, in order of creation. The rules and each row
+    /// fit the schema. It fails with the position of the first part that can't stand, from 0, and
+    /// why: part by part for its name, its parent, and for too many workspaces or levels, and only
+    /// then part by part for its marks; or with 0 and `OutOfMemory`.
+    pub fn build(
+        alloc: Global,
+        schema: Schema,
+        book: RuleBook,
+        live: Sheet,
+        parts: Vec<Part>,
+    ) -> Result<Draft, (usize, PartFault)>
+        requires { IsFitting (office_of_parts schema book live parts.items) }
+        ensures made { IfOk result (λ draft. draft ≡ office_of_parts schema book live parts.items) }
+        ensures passed { OnOk result (first_fault live parts.items ≡ None) }
+        ensures refused { IfErr result (IsRefused (first_fault live parts.items)) }
+    {
+        let tree = Tree::build(alloc, live, parts)?;
+        Ok(Draft {
+            schema,
+            judge: Judge::new(alloc, book),
+            tree,
+        })
+    }
+
+    /// The schema of every row and rule.
+    pub fn schema(&self) -> &Schema
+        ensures value { result.now ≡ self.now.schema }
+        ensures fit { IsFitting self.now }
+    {
+        &self.schema
+    }
+
+    /// The rules, which aren't yet known to hold.
+    pub fn book(&self) -> &RuleBook
+        ensures value { result.now ≡ self.now.book }
+        ensures fit { IsFitting self.now }
+    {
+        self.judge.book()
+    }
+
+    /// LIVE's content.
+    pub fn live(&self) -> &Sheet
+        ensures value { result.now ≡ self.now.live }
+        ensures fit { IsFitting self.now }
+    {
+        self.tree.live()
+    }
+
+    /// The name of the workspace at a position in order of creation, LIVE having position 0, or none
+    /// past the end.
+    pub fn name_at(&self, position: usize) -> Option<&str>
+        ensures { option_map (λ name. name.now) result ≡ name_at self.now position }
+    {
+        if position < self.tree.len() {
+            Some(self.tree.name_at(position))
+        } else {
+            None
+        }
+    }
+
+    /// The office that has all that the draft has, where every rule holds in LIVE and in each
+    /// workspace that is kept; else the draft back, and the first of these that breaks a rule, or
+    /// want of memory.
+    pub fn admit(self) -> Result<Office, (Draft, AdmitFault)>
+        ensures office { IfOk result (λ office. office ≡ self) }
+        ensures held { OnOk result (unheld_in self ≡ None) }
+        ensures draft { IfErr result (λ refused. refused.0 ≡ self) }
+        ensures fault { IfErr result (λ refused. IsUnheld (unheld_in self) refused.1) }
+    {
+        match self.judge.first_unheld(&self.tree) {
+            Ok(None) => Ok(Office::of_parts(self.schema, self.judge, self.tree)),
+            Ok(Some((position, need))) => Err((self, AdmitFault::Broken { position, need })),
+            Err(_) => Err((self, AdmitFault::OutOfMemory)),
+        }
+    }
+}

@@ -1,0 +1,158 @@
+-- Versions that stand in one need are found near one another.
+use Rattle.std.proofs.Common.{◌≡◌, ◌∙◌, ◌<◌, ℕ, Bool, true, false, cond, ◌&&◌, ◌||◌, not, List, [], Option, Some, None, Contains, length, slice_get, refl, sym, ap, subst}
+use Rattle.std.specs.FinMap as finite
+use Rattle.std.specs.Cmp.{Equal-is, tied_itself}
+use Rattle.std.specs.Option.{option_map}
+use Rattle.std.specs.Ordering.{eq_by_cmp, is_eq}
+use Rattle.std.proofs.lemmas.Bool.{and_parts, false≢true}
+use Rattle.std.proofs.lemmas.List.Elements.{All-nil}
+use Rattle.clr_rows.specs.declared.cells.CellId.{CellId}
+use Rattle.clr_rows.specs.declared.rows.Row.{Row}
+use Rattle.clr_rows.specs.Cells.{cell_cmp}
+use Rattle.clr_rows.specs.Contents.{Content, row_at}
+use Rattle.clr_rows.specs.Held.{Held}
+use Rattle.clr_rows.proofs.CellOrder.{cell_cmp_exact, cell_cmp_total}
+use Rattle.clr_rules.specs.declared.needs.Ask.{Ask}
+use Rattle.clr_rules.specs.declared.rules.Rule.{Rule}
+use Rattle.clr_rules.specs.declared.rules.Rule.TheVariants.{Unique, Partner, EndNode, Crossing, Near}
+use Rattle.clr_rules.specs.Books.{FitTogether, FitsCell}
+use Rattle.clr_rules.specs.Calls.{are_subjects, are_subjects_of, calls, is_plain, is_server, is_server_of, serves}
+use Rattle.clr_rules.specs.Sides.{has_role, has_role_by, has_role_in, is_of_side}
+use Rattle.clr_spots.specs.Spots.{are_sharing, share, share_by, share_under}
+use Rattle.clr_rules.proofs.Elements.{Among, contained}
+use Rattle.clr_rules.proofs.FittingLemmas.{distance_fits}
+use Rattle.clr_rules.proofs.RoleLemmas.{servers_have_roles, subjects_have_roles}
+use Rattle.clr_spots.proofs.ShareLaws.{servers_share, subjects_share}
+use Rattle.clr_spots.proofs.SharedSpots.{share_back}
+use Rattle.clr_grid.specs.declared.row_spots.RuleSpots.{RuleSpots}
+use Rattle.clr_grid.specs.Sharing.{IsSettledFor, Settled, found_cells, is_met_at, may_serve, may_serve_by, may_serve_under, row_spots, rule_spots, sharing, sharing_servers}
+use Rattle.clr_grid.proofs.EntryLemmas.{in_passes, passes_in}
+use Rattle.clr_grid.proofs.SharingLemmas.{found_servers, found_sharing}
+use Rattle.clr_foot.specs.Settings.{Setting}
+use Rattle.clr_foot.specs.Touches.{IsNear}
+use Rattle.clr_foot.specs.Versions.{FitsSetting}
+
+-- ---- the rule of an ask
+
+abbrev IsRule : List Rule → ℕ → Rule → Type 0
+IsRule rules number rule = slice_get rules number ≡ Some rule
+
+called_by : (rules : List Rule) (ask : Ask) (s : Held) (t : Option Held) → calls rules ask s t ≡ true → (rule : Rule) × IsRule rules ask.rule rule × (are_subjects rule ask s t ≡ true)
+unfolding calls
+called_by rules ask s t e = by (slice_get rules ask.rule) refl e
+  where
+    by : (r : Option Rule) → slice_get rules ask.rule ≡ r → are_subjects_of r ask s t ≡ true → (rule : Rule) × IsRule rules ask.rule rule × (are_subjects rule ask s t ≡ true)
+    by None at f = absurd (false≢true f)
+    by (Some rule) at f = (rule, at, f)
+
+served_by : (rules : List Rule) (ask : Ask) (s : Held) (t : Option Held) (r : Held) (rule : Rule) → IsRule rules ask.rule rule → serves rules ask s t r ≡ true → is_server rule ask s t r ≡ true
+unfolding serves
+served_by rules ask s t r rule at e = sym (ap (λ o. is_server_of o ask s t r) at) ∙ e
+
+rule_shares : (rules : List Rule) (number : ℕ) (rule : Rule) (s t : Held) → IsRule rules number rule → has_role_in rule s ≡ true → has_role_in rule t ≡ true → share rule s t ≡ true → are_sharing rules number s t ≡ true
+unfolding has_role share_under
+rule_shares rules number rule s t at first second shared =
+    (λ i. has_role_by (at i) s && (has_role_by (at i) t && share_by (at i) s t)) ∙ (λ i. first i && (second i && shared i))
+
+-- ---- subjects and servers
+
+module _ (c : Setting ℕ) (fits : FitsSetting c) (ask : Ask) where
+  pub subjects_near : (s t : Held) → calls c.rules ask s (Some t) ≡ true → (are_sharing c.rules ask.rule s t ≡ true) × (are_sharing c.rules ask.rule t s ≡ true)
+  subjects_near s t e =
+      let (rule, at, called) = called_by c.rules ask s (Some t) e in
+      let roles = subjects_have_roles rule ask s (Some t) called in
+      let fit : FitTogether c.rules [] = record { tables = fits.tables; book = fits.book; each = All-nil (FitsCell fits.tables) } in
+      let shared = subjects_share rule ask s (Some t) (distance_fits c.rules [] ask.rule rule fit at) called in
+      (rule_shares c.rules ask.rule rule s t at roles.0 roles.1 shared, rule_shares c.rules ask.rule rule t s at roles.1 roles.0 (sym (share_back rule s t) ∙ shared))
+
+module _ (rules : List Rule) (ask : Ask) (s : Held) (t : Option Held) (r : Held) (e : calls rules ask s t ≡ true) (f : serves rules ask s t r ≡ true) where
+  -- the first subject and the server
+  pub server_near : (are_sharing rules ask.rule s r ≡ true) × (are_sharing rules ask.rule r s ≡ true)
+  server_near =
+      let (rule, at, called) = called_by rules ask s t e in
+      let serve = served_by rules ask s t r rule at f in
+      let first = (subjects_have_roles rule ask s t called).0 in
+      let role = servers_have_roles rule ask s t r serve in
+      let shared = (servers_share rule ask s t r called serve).0 in
+      (rule_shares rules ask.rule rule s r at first role shared, rule_shares rules ask.rule rule r s at role first (sym (share_back rule s r) ∙ shared))
+
+-- the server and the second subject
+pub server_near_second : (rules : List Rule) (ask : Ask) (s t r : Held) → calls rules ask s (Some t) ≡ true → serves rules ask s (Some t) r ≡ true → are_sharing rules ask.rule r t ≡ true
+server_near_second rules ask s t r e f =
+    let (rule, at, called) = called_by rules ask s (Some t) e in
+    let serve = served_by rules ask s (Some t) r rule at f in
+    rule_shares rules ask.rule rule r t at (servers_have_roles rule ask s (Some t) r serve) (subjects_have_roles rule ask s (Some t) called).1 (servers_share rule ask s (Some t) r called serve).1
+
+-- a server is of the side that serves
+of_server_side : (rule : Rule) (ask : Ask) (s : Held) (t : Option Held) (r : Held) → is_server rule ask s t r ≡ true → may_serve rule r ≡ true
+unfolding is_server
+of_server_side (Unique subject columns) ask s t r e = absurd (false≢true e)
+of_server_side (Partner subject columns server server_columns) ask s None r e =
+    (and_parts (is_of_side server r) _ (and_parts (is_of_side subject s) _ (and_parts (is_plain ask) _ e).1).1).0
+of_server_side (Partner subject columns server server_columns) ask s (Some t) r e = absurd (false≢true e)
+of_server_side (EndNode subject tip server) ask s None r e = (and_parts (is_of_side server r) _ (and_parts (is_of_side subject s) _ (and_parts (is_plain ask) _ e).1).1).0
+of_server_side (EndNode subject tip server) ask s (Some t) r e = absurd (false≢true e)
+of_server_side (Crossing a b server) ask s None r e = absurd (false≢true e)
+of_server_side (Crossing a b server) ask s (Some t) r e = (and_parts (is_of_side server r) _ e).0
+of_server_side (Near a b d) ask s t r e = absurd (false≢true e)
+
+pub may_serve_there : (rules : List Rule) (ask : Ask) (s : Held) (t : Option Held) (r : Held) → calls rules ask s t ≡ true → serves rules ask s t r ≡ true → may_serve_under rules ask.rule r ≡ true
+unfolding may_serve_under
+may_serve_there rules ask s t r e f =
+    let (rule, at, called) = called_by rules ask s t e in
+    ap (λ o. may_serve_by o r) at ∙ of_server_side rule ask s t r (served_by rules ask s t r rule at f)
+
+-- ---- what finders find
+
+pub near_all : (rules : List Rule) (number : ℕ) (s t : Held) → are_sharing rules number s t ≡ true → IsNear false rules number s t
+near_all rules number s t e = ap (λ b. b && (not false || may_serve_under rules number t)) e
+
+pub near_server : (rules : List Rule) (number : ℕ) (s t : Held) → are_sharing rules number s t ≡ true → may_serve_under rules number t ≡ true → IsNear true rules number s t
+near_server rules number s t e f = λ i. e i && (not true || f i)
+
+-- one row alone is a content, and what is found of it is found of any
+module _ (servers : Bool) (rules : List Rule) (number : ℕ) (s : Held) (q : CellId) (row : Row) where
+  one_row : Content
+  one_row = finite.insert finite.empty q row
+
+  one_settled : Settled
+  one_settled = finite.insert finite.empty q (row_spots rules (q, row))
+
+  is_settled : IsSettledFor one_settled rules one_row
+  unfolding one_row one_settled
+  is_settled p =
+      finite.get-insert cell_cmp_total finite.empty q (row_spots rules (q, row)) p ∙ by (eq_by_cmp cell_cmp p q) refl
+      ∙ sym (ap (option_map (λ r. row_spots rules (p, r))) (finite.get-insert cell_cmp_total finite.empty q row p))
+    where
+      by : (b : Bool) → eq_by_cmp cell_cmp p q ≡ b
+          → cond b (Some (row_spots rules (q, row))) (finite.get (finite.empty {X = List RuleSpots} {R = cell_cmp}) p)
+          ≡ option_map (λ r. row_spots rules (p, r)) (cond b (Some row) (finite.get (finite.empty {X = Row} {R = cell_cmp}) p))
+      by true tie = ap (λ k. Some (row_spots rules (k, row))) (sym (cell_cmp_exact p q ((Equal-is (cell_cmp p q)).0 tie)))
+      by false apart = finite.get-empty {X = List RuleSpots} cell_cmp p ∙ sym (ap (option_map (λ r. row_spots rules (p, r))) (finite.get-empty {X = Row} cell_cmp p))
+
+  has_row : row_at one_row q ≡ Some row
+  unfolding one_row
+  has_row = finite.get-insert cell_cmp_total finite.empty q row q ∙ ap (λ b. cond b (Some row) (finite.get (finite.empty {X = Row} {R = cell_cmp}) q)) (ap is_eq (tied_itself cell_cmp_total q))
+
+  is_met : number < length rules → IsNear servers rules number s (q, row) → is_met_at servers (rule_spots rules number s) number (Some (row_spots rules (q, row))) ≡ true
+  unfolding found_cells sharing sharing_servers
+  is_met below near = by servers near
+    where
+      met : (b : Bool) → Among q (found_cells b one_settled number (rule_spots rules number s)) → is_met_at b (rule_spots rules number s) number (Some (row_spots rules (q, row))) ≡ true
+      met b h =
+          let (ys, at, met) = in_passes (λ e. is_met_at b (rule_spots rules number s) number (Some e.1)) one_settled q h in
+          let same : Some ys ≡ Some (row_spots rules (q, row)) = sym at ∙ is_settled q ∙ ap (option_map (λ r. row_spots rules (q, r))) has_row in
+          ap (is_met_at b (rule_spots rules number s) number) (sym same) ∙ met
+
+      by : (b : Bool) → IsNear b rules number s (q, row) → is_met_at b (rule_spots rules number s) number (Some (row_spots rules (q, row))) ≡ true
+      by false h = met false (subst (Among q) (sym (found_sharing rules one_row one_settled number s is_settled below))
+          (passes_in (are_sharing rules number s) one_row q row has_row (and_parts (are_sharing rules number s (q, row)) _ h).0))
+      by true h = met true (subst (Among q) (sym (found_servers rules one_row one_settled number s is_settled below))
+          (passes_in (λ t. are_sharing rules number s t && may_serve_under rules number t) one_row q row has_row h))
+
+  pub found_near : (settled : Settled) → number < length rules → finite.get settled q ≡ Some (row_spots rules (q, row)) → IsNear servers rules number s (q, row)
+      → Contains (found_cells servers settled number (rule_spots rules number s)) q
+  unfolding found_cells
+  found_near settled below at near =
+      contained q (found_cells servers settled number (rule_spots rules number s))
+      (passes_in (λ e. is_met_at servers (rule_spots rules number s) number (Some e.1)) settled q (row_spots rules (q, row)) at (is_met below near))

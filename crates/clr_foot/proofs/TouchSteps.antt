@@ -1,0 +1,243 @@
+-- The touched needs, added by version, by cell and by rule.
+use Rattle.std.proofs.Common.{◌≡◌, ◌∙◌, ◌<◌, ◌≤◌, ◌+◌, ℕ, zero, suc, Bool, true, false, ◌||◌, List, [], ◌∷◌, ◌⊎◌, inl, inr, Option, Some, None, Contains, get_or, is_some, length, take, refl, sym, ap, subst, arith}
+use Rattle.std.specs.Prelude.{◌↔◌, if◌then◌else◌}
+use Rattle.std.specs.FinMap as finite
+use Rattle.std.specs.FinMap.{contains_key-keys}
+use Rattle.std.specs.Cmp.{tied_itself}
+use Rattle.std.specs.List.{flat_map}
+use Rattle.std.specs.Option.{option_map}
+use Rattle.std.specs.Ordering.{eq_by_cmp, is_eq}
+use Rattle.std.proofs.lemmas.Bool.{cases_Bool, cases_lt, false≢true}
+use Rattle.clr_rows.specs.declared.cells.CellId.{CellId}
+use Rattle.clr_rows.specs.declared.cells.Change.{Change}
+use Rattle.clr_rows.specs.Cells.{cell_cmp}
+use Rattle.clr_rows.specs.Contents.{Changes, Content}
+use Rattle.clr_rows.proofs.CellOrder.{cell_cmp_total}
+use Rattle.clr_rules.specs.declared.rules.Rule.{Rule}
+use Rattle.clr_rules.proofs.AskLemmas.{rule_there}
+use Rattle.clr_rules.proofs.Elements.{Among, among, any_by, among_either, contained}
+use Rattle.clr_foot.specs.declared.needs.Need.{Need}
+use Rattle.clr_foot.specs.declared.needs.VersionId.{VersionId}
+use Rattle.clr_foot.specs.declared.versions.Version.{Version}
+use Rattle.clr_foot.specs.Candidates.{IsNeedAmong, IsNeedAt, IsNeedOf, IsNeedServedBy, IsNeedWith}
+use Rattle.clr_foot.specs.Gains.{Gains}
+use Rattle.clr_foot.specs.Members.{ChangesCell, after_in, changed_cells, setting}
+use Rattle.clr_foot.specs.Needs.{IsBesideToo, IsChanged, IsTouched, IsTouchedBy, ask_of, held_too, is_fresh}
+use Rattle.clr_foot.specs.Settings.{Setting, Lived, changer, held, new_version, old_life, old_version, version}
+use Rattle.clr_foot.specs.Touches.{IsNear, IsNeedAtCells, IsNeedServedAmong, IsTouchedOf}
+use Rattle.clr_foot.specs.Versions.{Finds, FitsSetting, IsAt, lived, row_of, version_of}
+use Rattle.clr_foot.proofs.Gaining.{all_taken, gains_as, gains_both, gains_none, none_taken, one_more}
+use Rattle.clr_foot.proofs.Lives.{new_is, old_is}
+use Rattle.clr_foot.proofs.Merges.{IsChanger, changer_is}
+use Rattle.clr_foot.proofs.NewRows.{brought_is_listed}
+use Rattle.clr_foot.proofs.PositionLaws.{range_has}
+use Rattle.clr_foot.proofs.SharedCells.{changed_is_listed}
+use Rattle.clr_foot.proofs.TouchLaws.{alone_touched, among_touched, served_found, served_touched, with_found}
+
+-- ---- changed cells
+
+changed_key : (s : Changes) (q : CellId) → Among q (finite.keys s) → is_some (after_in s q) ≡ true
+changed_key s q h = by (finite.get s q) (contains_key-keys s q ∙ any_by (eq_by_cmp cell_cmp q) q (finite.keys s) h (ap is_eq (tied_itself cell_cmp_total q)))
+  where
+    by : (o : Option Change) → is_some o ≡ true → is_some (option_map (λ (e : Change). e.after) o) ≡ true
+    by None e = e
+    by (Some x) e = refl
+
+-- the position of a set that changes a listed cell
+listed_changes : (sets : List Changes) (q : CellId) → Among q (changed_cells sets) → (k : ℕ) × (k < length sets) × ChangesCell sets q k
+unfolding changed_cells
+listed_changes [] q h = absurd h
+listed_changes (s ∷ sets) q h = elim (among_either q (finite.keys s) (flat_map (λ (s : Changes). finite.keys s) sets) h) [
+  | inl here ↦ (zero, omega arith, changed_key s q here)
+  | inr later ↦ (let at = listed_changes sets q later in (suc at.0, (let less = at.1 in omega (arith, less)), at.2))
+]
+
+module _ (rules : List Rule) (root : Content) (sets : List Changes) where
+  abbrev c : Setting ℕ
+  c = setting rules root sets
+
+  -- the old version of a listed cell is changed
+  pub listed_is_changed : (q : CellId) (l : Lived ℕ) → Contains (changed_cells sets) q → version c (version_of false q) ≡ Some l → IsChanged l.life
+  unfolding version
+  listed_is_changed q l h is = subst IsChanged (sym (old_is c (changer c q) (c.root q) l is).1) (by (changer c q) (changer_is c q))
+    where
+      at : (k : ℕ) × (k < length sets) × ChangesCell sets q k
+      at = listed_changes sets q (among q (changed_cells sets) h)
+
+      by : (x : Option ℕ) → IsChanger c c.members q x → IsChanged (old_life x)
+      by (Some n) f = tt
+      by None f = let less = at.1 in absurd (false≢true (ap is_some (sym (f at.0 (range_has (length sets) 0 at.0 (omega arith) (omega (arith, less))))) ∙ at.2))
+
+  -- and what is changed is old and listed
+  pub changed_is_old : (v : VersionId) (l : Lived ℕ) → version c v ≡ Some l → IsChanged l.life → (v.fresh ≡ false) × Contains (changed_cells sets) v.cell
+  unfolding version
+  changed_is_old v l is changed = by v.fresh refl (changer c v.cell) refl (changer_is c v.cell) is
+    where
+      listed : (n : ℕ) → is_some (c.after n v.cell) ≡ true → Contains (changed_cells sets) v.cell
+      listed n e = contained v.cell (changed_cells sets) (changed_is_listed sets n v.cell e)
+
+      by : (fresh : Bool) → v.fresh ≡ fresh → (x : Option ℕ) → changer c v.cell ≡ x → IsChanger c c.members v.cell x
+          → (if fresh then new_version c.after v.cell x else old_version x (c.root v.cell)) ≡ Some l → (v.fresh ≡ false) × Contains (changed_cells sets) v.cell
+      by true f None e h k = cc
+      by true f (Some n) e h k = absurd (subst IsChanged (new_is c n (c.after n v.cell) l k).1 changed)
+      by false f None e h k = absurd (subst IsChanged (old_is c None (c.root v.cell) l k).1 changed)
+      by false f (Some n) e h k = (f, listed n h.1)
+
+  pub new_is_listed : (v : VersionId) (l : Lived ℕ) → v.fresh ≡ true → version c v ≡ Some l → Contains (changed_cells sets) v.cell
+  unfolding version
+  new_is_listed v l new is = brought_is_listed sets v.cell l (ap (λ b. if b then new_version c.after v.cell (changer c v.cell) else old_version (changer c v.cell) (c.root v.cell)) (sym new) ∙ is)
+
+  -- ---- cell after cell
+
+  named : (v : VersionId) (fresh : Bool) → v.fresh ≡ fresh → v ≡ version_of fresh v.cell
+  named v fresh e = λ i. record { cell = v.cell; fresh = e i }
+
+  -- a touched need is that of a changed cell
+  pub touched_at : (n : Need) → IsTouched c n → (q : CellId) × Contains (changed_cells sets) q × IsNeedAt c n.rule q n
+  touched_at n (a, b, p, touched) = by n.first.fresh refl n.second b refl p.second_is
+    where
+      first_new : n.first.fresh ≡ true → (q : CellId) × Contains (changed_cells sets) q × IsNeedAt c n.rule q n
+      first_new e = (n.first.cell, new_is_listed n.first a e p.first_is, inl (refl, inl (named n.first true e), a, b, p))
+
+      second_new : (w : VersionId) (m : Lived ℕ) → n.second ≡ Some w → version c w ≡ Some m → w.fresh ≡ true → (q : CellId) × Contains (changed_cells sets) q × IsNeedAt c n.rule q n
+      second_new w m is at e = (w.cell, new_is_listed w m e at, inl (refl, inr (is ∙ ap Some (named w true e)), a, b, p))
+
+      old : n.first.fresh ≡ false → is_fresh n.second ≡ false → IsTouchedBy c n a b → (q : CellId) × Contains (changed_cells sets) q × IsNeedAt c n.rule q n
+      old e f (inl new) = absurd (false≢true (sym (λ i. e i || f i) ∙ new))
+      old e f (inr (v, l, serve, changed)) =
+          let is = changed_is_old v l serve.is changed in
+          (v.cell, is.1, inr (subst (λ u. IsNeedServedBy c n.rule u n) (named v false is.0) (refl, e, f, a, b, l, p, serve)))
+
+      by : (fresh : Bool) → n.first.fresh ≡ fresh → (w : Option VersionId) (m : Option (Lived ℕ)) → n.second ≡ w → IsBesideToo c n.first a w m → (q : CellId) × Contains (changed_cells sets) q × IsNeedAt c n.rule q n
+      by true e w m is beside = first_new e
+      by false e None m is beside = old e (ap is_fresh is) touched
+      by false e (Some w) None is beside = absurd beside
+      by false e (Some w) (Some m) is beside = elim (cases_Bool w.fresh) [ inl new ↦ second_new w m is beside.is new | inr f ↦ old e (ap is_fresh is ∙ f) touched ]
+
+module _ (c : Setting ℕ) (number : ℕ) where
+  pub new_gains : (fits : FitsSetting c) (new : Version) (old others : List Version) (first second third last : List Need) → IsAt c new → new.id.fresh ≡ true
+      → Finds c false (IsNear false c.rules number (row_of new)) old
+      → Finds c true (IsNear false c.rules number (row_of new)) others
+      → Gains (IsNeedOf c.rules number None new None) (IsNeedOf c.rules number None new None) first second
+      → Gains (IsNeedAmong c.rules number None new old) (IsNeedAmong c.rules number None new old) second third
+      → Gains (IsNeedAmong c.rules number None new others) (IsNeedAmong c.rules number None new others) third last
+      → Gains (IsTouched c) (IsNeedWith c number new.id) first last
+  new_gains fits new old others first second third last at fresh found found_too alone olds news =
+      gains_both (IsTouched c) (IsNeedOf c.rules number None new None) Later (IsNeedWith c number new.id) first second last (λ n w. with_found c fits number new at old others n found found_too w)
+      (gains_as (IsNeedOf c.rules number None new None) (IsNeedOf c.rules number None new None) (IsTouched c) (IsNeedOf c.rules number None new None) first second
+      (alone_touched c number new at fresh) (λ n w. w) alone)
+      (gains_both (IsTouched c) (IsNeedAmong c.rules number None new old) (IsNeedAmong c.rules number None new others) Later second third last (λ n w. w)
+      (gains_as (IsNeedAmong c.rules number None new old) (IsNeedAmong c.rules number None new old) (IsTouched c) (IsNeedAmong c.rules number None new old) second third
+      (λ n w. among_touched c number new at fresh old n found.are w) (λ n w. w) olds)
+      (gains_as (IsNeedAmong c.rules number None new others) (IsNeedAmong c.rules number None new others) (IsTouched c) (IsNeedAmong c.rules number None new others) third last
+      (λ n w. among_touched c number new at fresh others n found_too.are w) (λ n w. w) news))
+    where
+      Later : Need → Type 0
+      Later n = IsNeedAmong c.rules number None new old n ⊎ IsNeedAmong c.rules number None new others n
+
+  pub changed_gains : (r : Version) (near : List Version) (old new : List Need) → IsAt c r → IsChanged (lived r).life
+      → Finds c false (IsNear false c.rules number (row_of r)) near
+      → Gains (IsNeedServedAmong c.rules number r near near) (IsNeedServedAmong c.rules number r near near) old new
+      → Gains (IsTouched c) (IsNeedServedBy c number r.id) old new
+  changed_gains r near old new at changed found g =
+      gains_as (IsNeedServedAmong c.rules number r near near) (IsNeedServedAmong c.rules number r near near) (IsTouched c) (IsNeedServedBy c number r.id) old new
+      (λ n w. served_touched c number r near n at changed found.are w) (served_found c number r at near found) g
+
+  -- ---- a cell's new version and its old one
+
+  pub no_new : (q : CellId) (needs : List Need) → version c (version_of true q) ≡ None → Gains (IsTouched c) (IsNeedWith c number (version_of true q)) needs needs
+  no_new q needs none = gains_none (IsTouched c) (IsNeedWith c number (version_of true q)) needs (λ n w. by n w)
+    where
+      clash : (l : Lived ℕ) → version c (version_of true q) ≡ Some l → ⊥
+      clash l is = let e : None ≡ Some l = sym none ∙ is in cc
+
+      by : (n : Need) → IsNeedWith c number (version_of true q) n → ⊥
+      by n (rule, inl e, a, b, p) = clash a (ap (version c) (sym e) ∙ p.first_is)
+      by n (rule, inr e, a, b, p) = beside n.second b refl p.second_is
+        where
+          beside : (w : Option VersionId) (b : Option (Lived ℕ)) → n.second ≡ w → IsBesideToo c n.first a w b → ⊥
+          beside None None is h = let f : None ≡ Some (version_of true q) = sym is ∙ e in cc
+          beside None (Some b) is h = h
+          beside (Some w) None is h = h
+          beside (Some w) (Some b) is h = let same : w ≡ version_of true q = let f : Some w ≡ Some (version_of true q) = sym is ∙ e in cc in clash b (ap (version c) (sym same) ∙ h.is)
+
+  pub no_old : (q : CellId) (needs : List Need) → version c (version_of false q) ≡ None → Gains (IsTouched c) (IsNeedServedBy c number (version_of false q)) needs needs
+  no_old q needs none = gains_none (IsTouched c) (IsNeedServedBy c number (version_of false q)) needs by
+    where
+      by : (n : Need) → IsNeedServedBy c number (version_of false q) n → ⊥
+      by n (rule, e, f, a, b, l, p, serve) = let clash : None ≡ Some l = sym none ∙ serve.is in cc
+
+  -- whatever list stands for the last one
+  pub new_added : (q : CellId) (id : VersionId) (old new last : List Need) → id ≡ version_of true q → last ≡ new → Gains (IsTouched c) (IsNeedWith c number id) old new → Gains (IsTouched c) (IsNeedWith c number (version_of true q)) old last
+  new_added q id old new last same is g = subst (Gains (IsTouched c) (IsNeedWith c number (version_of true q)) old) (sym is) (subst (λ v. Gains (IsTouched c) (IsNeedWith c number v) old new) same g)
+
+  pub none_added : (q : CellId) (old last : List Need) → version c (version_of true q) ≡ None → last ≡ old → Gains (IsTouched c) (IsNeedWith c number (version_of true q)) old last
+  none_added q old last none is = subst (Gains (IsTouched c) (IsNeedWith c number (version_of true q)) old) (sym is) (no_new q old none)
+
+  pub changed_added : (q : CellId) (id : VersionId) (old new : List Need) → id ≡ version_of false q → Gains (IsTouched c) (IsNeedServedBy c number id) old new → Gains (IsTouched c) (IsNeedServedBy c number (version_of false q)) old new
+  changed_added q id old new same g = subst (λ v. Gains (IsTouched c) (IsNeedServedBy c number v) old new) same g
+
+  pub cell_gains : (q : CellId) (old middle new : List Need) → Gains (IsTouched c) (IsNeedWith c number (version_of true q)) old middle
+      → Gains (IsTouched c) (IsNeedServedBy c number (version_of false q)) middle new
+      → Gains (IsTouched c) (IsNeedAt c number q) old new
+  cell_gains q old middle new g h = gains_both (IsTouched c) (IsNeedWith c number (version_of true q)) (IsNeedServedBy c number (version_of false q)) (IsNeedAt c number q) old middle new (λ n w. w) g h
+
+  -- ---- the cells of a rule
+
+  pub no_cell_yet : (cells : List CellId) (needs : List Need) → Gains (IsTouched c) (IsNeedAtCells c number (take 0 cells)) needs needs
+  no_cell_yet cells needs = gains_none (IsTouched c) (IsNeedAtCells c number (take 0 cells)) needs (λ n w. none_taken cells w.0 w.1)
+
+  pub one_cell_more : (cells : List CellId) (k : ℕ) (d : CellId) (old middle new : List Need) → k < length cells → Gains (IsTouched c) (IsNeedAtCells c number (take k cells)) old middle
+      → Gains (IsTouched c) (IsNeedAt c number (get_or cells k d)) middle new
+      → Gains (IsTouched c) (IsNeedAtCells c number (take (k + 1) cells)) old new
+  one_cell_more cells k d old middle new less g h =
+      gains_both (IsTouched c) (IsNeedAtCells c number (take k cells)) (IsNeedAt c number (get_or cells k d)) (IsNeedAtCells c number (take (k + 1) cells)) old middle new split g h
+    where
+      split : (n : Need) → IsNeedAtCells c number (take (k + 1) cells) n → IsNeedAtCells c number (take k cells) n ⊎ IsNeedAt c number (get_or cells k d) n
+      split n w = by (one_more cells k d w.0 less w.1)
+        where
+          by : Contains (take k cells) w.0 ⊎ (w.0 ≡ get_or cells k d) → IsNeedAtCells c number (take k cells) n ⊎ IsNeedAt c number (get_or cells k d) n
+          by (inl before) = inl (w.0, before, w.2)
+          by (inr last) = inr (subst (λ q. IsNeedAt c number q n) last w.2)
+
+-- the touched needs of one rule, and of the rules below a number
+module _ (rules : List Rule) (root : Content) (sets : List Changes) where
+  abbrev s : Setting ℕ
+  s = setting rules root sets
+
+  pub rule_gains : (number : ℕ) (cells : List CellId) (k : ℕ) (old new : List Need) → cells ≡ changed_cells sets → length cells ≤ k → Gains (IsTouched s) (IsNeedAtCells s number (take k cells)) old new
+      → Gains (IsTouched s) (IsTouchedOf s number) old new
+  rule_gains number cells k old new all past g = gains_as (IsTouched s) (IsNeedAtCells s number (take k cells)) (IsTouched s) (IsTouchedOf s number) old new (λ n w. w) find g
+    where
+      find : (n : Need) → IsTouchedOf s number n → IsNeedAtCells s number (take k cells) n
+      find n (touched, rule) =
+          let (q, h, at) = touched_at rules root sets n touched in
+          (q, all_taken cells k q past (subst (λ qs. Contains qs q) (sym all) h), subst (λ j. IsNeedAt s j q n) rule at)
+
+  pub record IsTouchedBelow (number : ℕ) (n : Need) : Type 0 where
+    pub touched : IsTouched s n
+    pub below : n.rule < number
+
+  pub no_rule_yet : (needs : List Need) → Gains (IsTouched s) (IsTouchedBelow 0) needs needs
+  no_rule_yet needs = gains_none (IsTouched s) (IsTouchedBelow 0) needs (λ n w. let less = w.below in omega (arith, less))
+
+  pub one_rule_more : (number : ℕ) (old middle new : List Need) → Gains (IsTouched s) (IsTouchedBelow number) old middle → Gains (IsTouched s) (IsTouchedOf s number) middle new
+      → Gains (IsTouched s) (IsTouchedBelow (number + 1)) old new
+  one_rule_more number old middle new g h = gains_both (IsTouched s) (IsTouchedBelow number) (IsTouchedOf s number) (IsTouchedBelow (number + 1)) old middle new split g h
+    where
+      split : (n : Need) → IsTouchedBelow (number + 1) n → IsTouchedBelow number n ⊎ IsTouchedOf s number n
+      split n w = elim (cases_lt n.rule number) [
+        | inl less ↦ inl (record { touched = w.touched; below = less })
+        | inr last ↦ inr (w.touched, (let less = w.below in omega (arith, less, last)))
+      ]
+
+  -- all of them, added to an empty list
+  pub all_touched : (number : ℕ) (empty new : List Need) → length rules ≤ number → empty ≡ [] → Gains (IsTouched s) (IsTouchedBelow number) empty new → (n : Need) → Contains new n ↔ IsTouched s n
+  all_touched number empty new past none g n = (λ h. only (g.only n h), λ t. g.every n (record { touched = t; below = below t }))
+    where
+      only : Contains empty n ⊎ IsTouched s n → IsTouched s n
+      only (inl h) = absurd (among n [] (subst (λ ns. Contains ns n) none h))
+      only (inr t) = t
+
+      below : IsTouched s n → n.rule < number
+      below (a, b, p, touched) = let less = rule_there rules (ask_of n) (held n.first a) (held_too n.second b) p.they_call in omega (arith, less, past)

@@ -1,0 +1,110 @@
+-- The versions of some cells, one cell after another.
+use Rattle.std.proofs.Common.{◌≡◌, ◌∙◌, ◌<◌, ◌≤◌, ◌+◌, ℕ, Bool, true, false, List, [], ◌∷◌, ◌++◌, ◌⊎◌, inl, inr, Some, None, Contains, get_or, length, take, refl, sym, ap, subst}
+use Rattle.std.proofs.lemmas.List.Elements.{Contains-append_left, Contains-append_right, Contains-append_cases}
+use Rattle.std.specs.Option.{option_map}
+use Rattle.clr_rows.specs.declared.cells.CellId.{CellId}
+use Rattle.clr_rows.specs.Contents.{Changes, Content}
+use Rattle.clr_rows.specs.Held.{Held}
+use Rattle.clr_rules.specs.declared.rules.Rule.{Rule}
+use Rattle.clr_rules.proofs.Elements.{among, contained}
+use Rattle.clr_grid.specs.Sharing.{IsSettledFor, Settled, found_cells, row_spots, rule_spots}
+use Rattle.clr_foot.specs.declared.versions.Version.{Version}
+use Rattle.clr_foot.specs.declared.needs.VersionId.{VersionId}
+use Rattle.clr_foot.specs.Members.{setting}
+use Rattle.clr_foot.specs.Settings.{Setting, Lived, changer, version}
+use Rattle.clr_foot.specs.Touches.{IsInCells, IsNear}
+use Rattle.clr_foot.specs.Versions.{AreNewRowsFiled, Finds, HasVersion, IsAt, IsNamed, version_of}
+use Rattle.clr_foot.proofs.Gaining.{all_taken, none_taken, one_more}
+use Rattle.clr_foot.proofs.Lives.{old_is}
+use Rattle.clr_foot.proofs.SharingLaws.{found_near}
+
+module _ (c : Setting ℕ) (fresh : Bool) (cells : List CellId) where
+  -- those of the first cells
+  abbrev pub FindsTo : ℕ → List Version → Type 0
+  FindsTo k vs = Finds c fresh (IsInCells (take k cells)) vs
+
+  pub none_found : FindsTo 0 []
+  none_found = record {
+    are = λ v h. absurd (among v [] h);
+    alike = λ v h. absurd (among v [] h);
+    every = λ q l is h. absurd (none_taken cells q h);
+  }
+
+  pub one_found : (k : ℕ) (d : CellId) (v : Version) (old new : List Version) → k < length cells → IsNamed c (version_of fresh (get_or cells k d)) v → new ≡ old ++ v ∷ [] → FindsTo k old → FindsTo (k + 1) new
+  one_found k d v old new less named put before = record {
+    are = λ w h. are w (split w h);
+    alike = λ w h. alike w (split w h);
+    every = λ q l is h. every q l is (one_more cells k d q less h);
+  }
+    where
+      split : (w : Version) → Contains new w → Contains old w ⊎ (w ≡ v)
+      split w h = by (Contains-append_cases old (v ∷ []) w (subst (λ vs. Contains vs w) put h))
+        where
+          last : Contains (v ∷ []) w → w ≡ v
+          last g = go (among w (v ∷ []) g)
+            where
+              go : (v ≡ w) ⊎ ⊥ → w ≡ v
+              go (inl e) = sym e
+              go (inr f) = absurd f
+
+          by : Contains old w ⊎ Contains (v ∷ []) w → Contains old w ⊎ (w ≡ v)
+          by (inl g) = inl g
+          by (inr g) = inr (last g)
+
+      are : (w : Version) → Contains old w ⊎ (w ≡ v) → IsAt c w
+      are w (inl h) = before.are w h
+      are w (inr e) = subst (IsAt c) (sym e) named.1
+
+      alike : (w : Version) → Contains old w ⊎ (w ≡ v) → w.id.fresh ≡ fresh
+      alike w (inl h) = before.alike w h
+      alike w (inr e) = ap (λ u. u.id.fresh) e ∙ ap (λ i. i.fresh) named.0
+
+      still : (id : VersionId) → HasVersion old id → HasVersion new id
+      still id (w, h, e) = (w, subst (λ vs. Contains vs w) (sym put) (Contains-append_left old (v ∷ []) w h), e)
+
+      every : (q : CellId) (l : Lived ℕ) → version c (version_of fresh q) ≡ Some l → Contains (take k cells) q ⊎ (q ≡ get_or cells k d) → HasVersion new (version_of fresh q)
+      every q l is (inl h) = still (version_of fresh q) (before.every q l is h)
+      every q l is (inr e) =
+          (v, subst (λ vs. Contains vs v) (sym put) (Contains-append_right old (v ∷ []) v (contained v (v ∷ []) (inl refl))), named.0 ∙ ap (version_of fresh) (sym e))
+
+  pub not_found : (k : ℕ) (d : CellId) (vs : List Version) → k < length cells → version c (version_of fresh (get_or cells k d)) ≡ None → FindsTo k vs → FindsTo (k + 1) vs
+  not_found k d vs less none before = record {
+    are = before.are;
+    alike = before.alike;
+    every = λ q l is h. every q l is (one_more cells k d q less h);
+  }
+    where
+      every : (q : CellId) (l : Lived ℕ) → version c (version_of fresh q) ≡ Some l → Contains (take k cells) q ⊎ (q ≡ get_or cells k d) → HasVersion vs (version_of fresh q)
+      every q l is (inl h) = before.every q l is h
+      every q l is (inr e) = let clash : None ≡ Some l = sym none ∙ ap (λ p. version c (version_of fresh p)) (sym e) ∙ is in cc
+
+  pub all_found : (k : ℕ) (vs : List Version) → length cells ≤ k → FindsTo k vs → Finds c fresh (IsInCells cells) vs
+  all_found k vs past h = record { are = h.are; alike = h.alike; every = λ q l is among. h.every q l is (all_taken cells k q past among) }
+
+-- what is wanted may be less
+pub finds_as : (c : Setting ℕ) (fresh : Bool) (wanted less : Held → Type 0) (vs : List Version) → ((q : CellId) (l : Lived ℕ) → version c (version_of fresh q) ≡ Some l → less (q, l.row) → wanted (q, l.row))
+    → Finds c fresh wanted vs → Finds c fresh less vs
+finds_as c fresh wanted less vs want h = record { are = h.are; alike = h.alike; every = λ q l is w. h.every q l is (want q l is w) }
+
+-- ---- those that a finder finds
+
+module _ (rules : List Rule) (root : Content) (sets : List Changes) (servers : Bool) (number : ℕ) (s : Held) (below : number < length rules) where
+  abbrev c : Setting ℕ
+  c = setting rules root sets
+
+  old_row : (q : CellId) (l : Lived ℕ) → version c (version_of false q) ≡ Some l → c.root q ≡ Some l.row
+  unfolding version
+  old_row q l is = (old_is c (changer c q) (c.root q) l is).0
+
+  pub old_found : (settled : Settled) (cells : List CellId) (vs : List Version) → IsSettledFor settled rules root → cells ≡ found_cells servers settled number (rule_spots rules number s)
+      → Finds c false (IsInCells cells) vs → Finds c false (IsNear servers rules number s) vs
+  old_found settled cells vs holds are = finds_as c false (IsInCells cells) (IsNear servers rules number s) vs
+      (λ q l is near. subst (λ cs. Contains cs q) (sym are)
+      (found_near servers rules number s q l.row settled below (holds q ∙ ap (option_map (λ row. row_spots rules (q, row))) (old_row q l is)) near))
+
+  pub new_found : (settled : Settled) (cells : List CellId) (vs : List Version) → AreNewRowsFiled settled rules sets → cells ≡ found_cells servers settled number (rule_spots rules number s)
+      → Finds c true (IsInCells cells) vs → Finds c true (IsNear servers rules number s) vs
+  unfolding version
+  new_found settled cells vs holds are = finds_as c true (IsInCells cells) (IsNear servers rules number s) vs
+      (λ q l is near. subst (λ cs. Contains cs q) (sym are)
+      (found_near servers rules number s q l.row settled below (holds q ∙ ap (option_map (λ (m : Lived ℕ). row_spots rules (q, m.row))) is) near))

@@ -1,0 +1,9 @@
+use Rattle.std.proofs.Common.{◌≡◌, take}
+use Rattle.std.specs.FinMap as finite
+use Rattle.clr_foot.proofs.NewRows.{AreFiledAt}
+use Rattle.clr_foot.proofs.Searches.{sets_of}
+use Rattle.clr_foot.proofs.members.Members.file_new_rows.Given as goal
+
+-- the rows of the cells so far are filed
+abbrev pub invariant-loop-cell : goal.invariant-loop-cell
+invariant-loop-cell l = (l.index.pending ≡ finite.empty) × AreFiledAt l.book (sets_of l.self.sets.items) (take l.cell-index l.cell-items) l.index.settled

@@ -1,0 +1,16 @@
+use Rattle.clr_foot.proofs.CandidateLaws.{all_pairs, no_pair_yet, one_pair_more}
+use Rattle.clr_foot.proofs.Gaining.{item_in}
+use Rattle.clr_foot.proofs.scenes.Scene.add_pairs.Goals as goal
+
+pub add_pair-requires-clause-other : goal.add_pair-requires-clause-other
+add_pair-requires-clause-other g c = c.requires.others c.other-item.result (item_in c.args.others.now c.loop-other.other-index c.other-item.result c.loop-other-test.true c.other-item.is)
+
+pub loop-other-init : goal.loop-other-init
+loop-other-init g c = no_pair_yet c.args.self.now.book.now c.args.rule c.args.server c.args.one c.args.others.now c.args.needs.now.items
+
+pub loop-other-preserved : goal.loop-other-preserved
+loop-other-preserved g c =
+    one_pair_more c.args.self.now.book.now c.args.rule c.args.server c.args.one c.args.others.now c.loop-other.other-index c.other-item.result _ _ _ c.loop-other-test.true c.other-item.is c.loop-other.invariant c.in_ok-add_pair.ensures
+
+pub returns : goal.returns
+returns g c = all_pairs c.args.self.now.book.now c.args.rule c.args.server c.args.one c.args.others.now c.loop-other.other-index _ _ c.loop-other-test.false c.loop-other.invariant

@@ -1,0 +1,26 @@
+use Rattle.std.proofs.Common.{◌∙◌, ◌+◌, ap, sym, subst, take}
+use Rattle.clr_foot.specs.Candidates.{IsServerAmong}
+use Rattle.clr_foot.specs.Gains.{Gains}
+use Rattle.clr_foot.proofs.CandidateLaws.{all_servers, no_server_yet, not_one_server, one_server_more}
+use Rattle.clr_foot.proofs.scenes.Scene.add_servers.Goals as goal
+use Rattle.clr_foot.proofs.scenes.Scene.add_servers.Goals.{else-serves_if_any, then-serves_if_any+in_ok-push}
+
+pub loop-other-init : goal.loop-other-init
+loop-other-init g c = no_server_yet c.args.self.now.book.now c.args.ask c.args.first c.args.second c.args.others.now c.args.names.now.items
+
+pub loop-other-preserved : goal.loop-other-preserved
+loop-other-preserved g c =
+    let rules = c.args.self.now.book.now in
+    let others = c.args.others.now in
+    let k = c.loop-other.other-index in
+    let r = c.other-item.result in
+    elim c.if-serves_if_any.branch [
+      | then-serves_if_any+in_ok-push w ↦ one_server_more rules c.args.ask c.args.first c.args.second others k r _ _ _ c.loop-other-test.true c.other-item.is
+          (sym c.serves_if_any.ensures ∙ w.if-serves_if_any.true) (ap (λ v. v.items) w.names-is ∙ w.in_ok-push.ensures.items) c.loop-other.invariant
+      | else-serves_if_any w ↦ subst (λ v. Gains (IsServerAmong rules c.args.ask c.args.first c.args.second others) (IsServerAmong rules c.args.ask c.args.first c.args.second (take (k + 1) others)) c.args.names.now.items v.items)
+          (sym w.names-is) (not_one_server rules c.args.ask c.args.first c.args.second others k r _ _ c.loop-other-test.true c.other-item.is
+          (sym c.serves_if_any.ensures ∙ w.if-serves_if_any.false) c.loop-other.invariant)
+    ]
+
+pub returns : goal.returns
+returns g c = all_servers c.args.self.now.book.now c.args.ask c.args.first c.args.second c.args.others.now c.loop-other.other-index _ _ c.loop-other-test.false c.loop-other.invariant

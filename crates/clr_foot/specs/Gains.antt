@@ -1,0 +1,8 @@
+-- What a call adds to a list.
+use Rattle.std.specs.Prelude.{List, ◌⊎◌, Contains}
+
+-- the later list has the earlier one, besides it allowed elements alone, and all that are wanted
+pub record Gains {X : Type 0} (allowed wanted : X → Type 0) (old new : List X) : Type 0 where
+  pub kept : (x : X) → Contains old x → Contains new x
+  pub only : (x : X) → Contains new x → Contains old x ⊎ allowed x
+  pub every : (x : X) → wanted x → Contains new x

@@ -1,0 +1,68 @@
+-- What covered settings promise, by definitions alone.
+use Rattle.std.specs.Prelude.{◌≡◌, ℕ, List, [], ◌∷◌, Option, slice_get}
+use Rattle.clr_rows.specs.Contents.{Changes, Content, row_at, taken_over}
+use Rattle.clr_rules.specs.declared.needs.Broken.{Broken}
+use Rattle.clr_rules.specs.declared.rules.Rule.{Rule}
+use Rattle.clr_rules.specs.Needs.{Holds, IsFirstBroken, broken}
+use Rattle.clr_foot.specs.declared.needs.Need.{Need}
+use Rattle.clr_foot.specs.Covers.{AreBlockers, AreCovered, Entry, IsUncovered}
+use Rattle.clr_foot.specs.Broken.{merged}
+use Rattle.clr_foot.specs.Members.{setting}
+use Rattle.clr_foot.specs.Positions.{by_position}
+use Rattle.clr_foot.specs.Settings.{Setting, Lived, AreDisjoint, IsPart, taken}
+
+-- where each touched need is covered and every rule holds in the root, every rule holds in the root with the changes of any of the members over it
+abbrev pub CoveredHolds : {A : Type 0} → Setting A → Type 0
+CoveredHolds {A} c = (es : List Entry)
+    → AreDisjoint c
+    → AreCovered c es
+    → Holds c.rules c.root
+    → (ts : List A)
+    → IsPart c ts c.members
+    → Holds c.rules (taken c ts)
+
+-- a need that nothing covers is broken where its blockers' changes are over the root
+abbrev pub UncoveredBreaks : {A : Type 0} → Setting A → Type 0
+UncoveredBreaks {A} c = (ts : List A) (n : Need) (a : Lived A) (b : Option (Lived A))
+    → AreDisjoint c
+    → IsUncovered c n a b
+    → AreBlockers c n a b ts
+    → ¬ (Holds c.rules (taken c ts))
+
+-- members by position, and by name
+abbrev pub CoveredByPosition : Type 0
+CoveredByPosition = (c : Setting ℕ) → CoveredHolds c
+
+abbrev pub CoveredByName : Type 0
+CoveredByName = (c : Setting (List ℕ)) → CoveredHolds c
+
+abbrev pub UncoveredByPosition : Type 0
+UncoveredByPosition = (c : Setting ℕ) → UncoveredBreaks c
+
+abbrev pub UncoveredByName : Type 0
+UncoveredByName = (c : Setting (List ℕ)) → UncoveredBreaks c
+
+-- what is covered by positions keeps every rule, whoever the members are
+abbrev pub CoveredAtPositions : {A : Type 0} → Setting A → Type 0
+CoveredAtPositions {A} c = (es : List Entry)
+    → AreDisjoint (by_position c)
+    → AreCovered (by_position c) es
+    → Holds c.rules c.root
+    → (ts : List A)
+    → IsPart c ts c.members
+    → Holds c.rules (taken c ts)
+
+abbrev pub NamesByPosition : Type 0
+NamesByPosition = (c : Setting (List ℕ)) → CoveredAtPositions c
+
+-- what is told of the merge of one change set is told of the content with the changes over it
+abbrev pub FirstBrokenAfter : Type 0
+FirstBrokenAfter = (rules : List Rule) (content : Content) (changes : Changes) (first : Option Broken)
+    → IsFirstBroken rules (merged (setting rules content (changes ∷ []))) first
+    → IsFirstBroken rules (row_at (taken_over content changes)) first
+
+-- and an audit of it lists that need first
+abbrev pub FirstBrokenIsListed : Type 0
+FirstBrokenIsListed = (rules : List Rule) (content : Content) (changes : Changes) (first : Option Broken)
+    → IsFirstBroken rules (merged (setting rules content (changes ∷ []))) first
+    → first ≡ slice_get (broken rules (taken_over content changes)) 0

@@ -1,0 +1,16 @@
+pub mod Blocking
+pub mod Broken
+pub mod Candidates
+pub mod Covers
+pub mod Gains
+pub mod Independence
+pub mod Laws
+pub mod Members
+pub mod Needs
+pub mod Orders
+pub mod Picks
+pub mod Positions
+pub mod Scenes
+pub mod Settings
+pub mod Touches
+pub mod Versions

@@ -1,0 +1,41 @@
+-- Versions near one another, and the needs that they make.
+use Rattle.std.specs.Prelude.{◌≡◌, ℕ, Bool, true, not, ◌&&◌, ◌||◌, ◌⊎◌, List, Option, Some, None, Contains}
+use Rattle.std.specs.Option.{option_map}
+use Rattle.clr_rows.specs.declared.cells.CellId.{CellId}
+use Rattle.clr_rows.specs.Held.{Held}
+use Rattle.clr_rules.specs.declared.rules.Rule.{Rule}
+use Rattle.clr_rules.specs.declared.needs.Ask.{Ask}
+use Rattle.clr_rules.specs.Calls.{serves}
+use Rattle.clr_spots.specs.Spots.{are_sharing}
+use Rattle.clr_grid.specs.Sharing.{may_serve_under}
+use Rattle.clr_foot.specs.declared.needs.Need.{Need}
+use Rattle.clr_foot.specs.declared.needs.VersionId.{VersionId}
+use Rattle.clr_foot.specs.declared.versions.Version.{Version}
+use Rattle.clr_foot.specs.Candidates.{IsNeedAmong, IsNeedAt, IsNeedOf}
+use Rattle.clr_foot.specs.Needs.{IsTouched}
+use Rattle.clr_foot.specs.Settings.{Setting, Lived, held, version}
+use Rattle.clr_foot.specs.Versions.{row_of}
+
+abbrev pub IsInCells : List CellId → Held → Type 0
+IsInCells cells s = Contains cells s.0
+
+-- the row shares with another one, and is of the side that serves where servers alone are looked for
+abbrev pub IsNear : Bool → List Rule → ℕ → Held → Held → Type 0
+IsNear servers rules number s t = (are_sharing rules number s t && (not servers || may_serve_under rules number t)) ≡ true
+
+-- a need of one of some versions, alone or with another, that the server serves
+abbrev pub IsNeedServedAmong : List Rule → ℕ → Version → List Version → List Version → Need → Type 0
+IsNeedServedAmong rules number r firsts near n =
+    (s : Version) × Contains firsts s × (IsNeedOf rules number (Some r) s None n ⊎ IsNeedAmong rules number (Some r) s near n)
+
+-- a need with the new version of one of some cells, or served by its old one
+abbrev pub IsNeedAtCells : Setting ℕ → ℕ → List CellId → Need → Type 0
+IsNeedAtCells c number cells n = (q : CellId) × Contains cells q × IsNeedAt c number q n
+
+-- a touched need of one rule
+abbrev pub IsTouchedOf : Setting ℕ → ℕ → Need → Type 0
+IsTouchedOf c number n = IsTouched c n × (n.rule ≡ number)
+
+-- a version that serves what is asked of two others
+abbrev pub IsServerOf : Setting ℕ → Ask → Version → Option Version → VersionId → Type 0
+IsServerOf c ask s t v = (l : Lived ℕ) × (version c v ≡ Some l) × (serves c.rules ask (row_of s) (option_map row_of t) (held v l) ≡ true)

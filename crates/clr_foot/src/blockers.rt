@@ -1,0 +1,96 @@
+//! The members that break a need.
+
+ghost use Rattle.std.specs.Prelude.{◌≡◌, true, Contains, IfOk, MatchOption};
+ghost use Rattle.clr_foot.specs.Blocking.{IsToldBlocker, has_life, has_life_too, same_life};
+ghost use Rattle.clr_foot.specs.Members.{lifetime};
+ghost use Rattle.clr_foot.specs.Needs.{AreServers, IsPossibleNeed};
+ghost use Rattle.clr_foot.specs.Picks.{Blocks};
+ghost use Rattle.clr_foot.specs.Scenes.{IsReady, model_of, setting_in, setting_of};
+ghost use Rattle.clr_foot.specs.Settings.{With, version};
+ghost use Rattle.clr_foot.specs.declared.needs.VersionId.{VersionId as Id};
+
+use crate::needs::{Life, Need, VersionId};
+use crate::scenes::Scene;
+use clr_grid::RowFinder;
+use clr_rows::RowView;
+use std::alloc::AllocError;
+
+/// Whether two lives are one.
+fn are_same(one: Life, other: Life) -> bool
+    ensures { result ≡ same_life (lifetime one) (lifetime other) }
+{
+    match (one, other) {
+        (Life::Always, Life::Always) => true,
+        (Life::With(member), Life::With(other)) => member == other,
+        (Life::Without(member), Life::Without(other)) => member == other,
+        _ => false,
+    }
+}
+
+impl<V: RowView, F: RowFinder> Scene<'_, V, F> {
+    /// Whether the version of a name has this life.
+    fn has_life(&self, id: VersionId, life: Life) -> bool
+        ensures { result ≡ has_life (lifetime life) (version (setting_in V.content self.now) id) }
+    {
+        match self.version(id) {
+            None => false,
+            Some(version) => are_same(version.life, life),
+        }
+    }
+
+    /// The first of some versions that has this life.
+    fn first_with_life(&self, ids: &[VersionId], life: Life) -> Option<VersionId>
+        ensures { MatchOption result ((v : Id) → Contains ids.now v → has_life (lifetime life) (version (setting_in V.content self.now) v) ≡ true → ⊥)
+            (λ v. Contains ids.now v × (has_life (lifetime life) (version (setting_in V.content self.now) v) ≡ true)) }
+    {
+        for id in ids {
+            if self.has_life(*id, life) {
+                return Some(*id);
+            }
+        }
+        None
+    }
+
+    /// Whether a member brings a subject of a possible need.
+    fn brings_subject(&self, need: &Need, position: u16) -> bool
+        ensures { result ≡ has_life_too (With position) (setting_in V.content self.now) need.now }
+    {
+        let life = Life::With(position);
+        match need.second {
+            None => self.has_life(need.first, life),
+            Some(second) => self.has_life(need.first, life) || self.has_life(second, life),
+        }
+    }
+
+    /// Whether a member brings a subject of a possible need or takes one of its servers away.
+    fn is_blocker(&self, need: &Need, servers: &[VersionId], position: u16) -> bool
+        requires possible { IsPossibleNeed (setting_in V.content self.now) need.now }
+        requires servers { AreServers (setting_in V.content self.now) need.now servers.now }
+        ensures { IsToldBlocker (setting_in V.content self.now) need.now position result }
+    {
+        if self.brings_subject(need, position) {
+            return true;
+        }
+        match self.first_with_life(servers, Life::Without(position)) {
+            None => false,
+            Some(_) => true,
+        }
+    }
+
+    /// The members that break a possible need, by position, ascending: those that bring a subject or
+    /// take a version away that serves it. It fails for want of memory alone.
+    pub fn blockers(&self, need: &Need) -> Result<Vec<u16>, AllocError>
+        requires ready { IsReady F.settled (model_of V.content self.now) }
+        requires possible { IsPossibleNeed (setting_of (model_of V.content self.now)) need.now }
+        ensures { IfOk result (λ list. Blocks (setting_of (model_of V.content self.now)) need.now list.items) }
+    {
+        let servers = self.servers(need)?;
+        let mut list = Vec::new(self.alloc);
+        for position in 0..self.members.sets.len() {
+            if self.is_blocker(need, servers.as_slice(), position as u16) {
+                list.push(position as u16)?;
+            }
+        }
+        Ok(list)
+    }
+}

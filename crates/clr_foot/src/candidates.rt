@@ -1,0 +1,232 @@
+//! Versions that are held against one another: each need that a rule asks of them is added to a
+//! list.
+
+ghost use Rattle.std.specs.Prelude.{◌≡◌, ◌<◌, length, None, Some, OnOk};
+ghost use Rattle.clr_foot.specs.Candidates.{IsNeedAmong, IsNeedOf, IsNeedOfAsk, IsNeedOfPair, IsNeedOfPart, IsServerAmong, are_opposed, serves_too};
+ghost use Rattle.clr_foot.specs.Gains.{Gains};
+ghost use Rattle.clr_foot.specs.Members.{lifetime};
+ghost use Rattle.clr_foot.specs.Scenes.{setting_in};
+ghost use Rattle.clr_foot.specs.Versions.{AreAt, FitsSetting, IsAt, IsAtToo};
+
+use crate::needs::{Life, Need, VersionId};
+use crate::scenes::Scene;
+use crate::versions::{Version, held_if_any};
+use clr_grid::RowFinder;
+use clr_rows::RowView;
+use clr_rules::Ask;
+use std::alloc::AllocError;
+use std::cmp::Ordering;
+
+/// Whether of two versions one lives with a member and the other without it.
+fn are_opposed(first: Life, second: Life) -> bool
+    ensures { result ≡ are_opposed (lifetime first) (lifetime second) }
+{
+    match (first, second) {
+        (Life::With(with), Life::Without(without)) => with == without,
+        (Life::Without(without), Life::With(with)) => with == without,
+        _ => false,
+    }
+}
+
+impl<V: RowView, F: RowFinder> Scene<'_, V, F> {
+    /// Whether the server, if one is given, serves what is asked of the subjects.
+    fn serves_if_any(
+        &self,
+        ask: Ask,
+        first: Version,
+        second: Option<Version>,
+        server: Option<Version>,
+    ) -> bool
+        requires number { ask.rule < length self.now.book.now }
+        requires fit { FitsSetting (setting_in V.content self.now) }
+        requires first { IsAt (setting_in V.content self.now) first }
+        requires second { IsAtToo (setting_in V.content self.now) second }
+        requires server { IsAtToo (setting_in V.content self.now) server }
+        ensures { result ≡ serves_too self.now.book.now ask first.entry second.entry server.entry }
+    {
+        match server {
+            None => true,
+            Some(server) => {
+                self.book
+                    .serves(ask, first.held(), held_if_any(second), server.held())
+            }
+        }
+    }
+
+    /// Adds the need of a version alone, where the rule asks it and the server, if one is given,
+    /// serves it.
+    pub(crate) fn add_alone(
+        &self,
+        rule: u16,
+        server: Option<Version>,
+        first: Version,
+        needs: &mut Vec<Need>,
+    ) -> Result<(), AllocError>
+        requires number { rule < length self.now.book.now }
+        requires fit { FitsSetting (setting_in V.content self.now) }
+        requires server { IsAtToo (setting_in V.content self.now) server }
+        requires first { IsAt (setting_in V.content self.now) first }
+        ensures { OnOk result (Gains (IsNeedOf self.now.book.now rule server.entry first.entry None)
+            (IsNeedOf self.now.book.now rule server.entry first.entry None)
+            needs.old.items needs.new.items) }
+    {
+        let ask = Ask::plain(rule);
+        if self.serves_if_any(ask, first, None, server) && self.book.calls_one(rule, first.held()) {
+            needs.push(Need::new(ask, first.id, None))?;
+        }
+        Ok(())
+    }
+
+    /// Adds the need of two versions in these parts.
+    fn add_of_ask(
+        &self,
+        ask: Ask,
+        server: Option<Version>,
+        first: Version,
+        second: Version,
+        needs: &mut Vec<Need>,
+    ) -> Result<(), AllocError>
+        requires number { ask.rule < length self.now.book.now }
+        requires fit { FitsSetting (setting_in V.content self.now) }
+        requires server { IsAtToo (setting_in V.content self.now) server }
+        requires first { IsAt (setting_in V.content self.now) first }
+        requires second { IsAt (setting_in V.content self.now) second }
+        ensures { OnOk result (Gains (IsNeedOf self.now.book.now ask.rule server.entry first.entry (Some second.entry))
+            (IsNeedOfAsk self.now.book.now ask server.entry first.entry second.entry) needs.old.items needs.new.items) }
+    {
+        if self.serves_if_any(ask, first, Some(second), server)
+            && self.book.calls_two(ask, first.held(), second.held())
+        {
+            needs.push(Need::new(ask, first.id, Some(second.id)))?;
+        }
+        Ok(())
+    }
+
+    /// Adds the needs of a part of a version with each part of another one.
+    fn add_of_part(
+        &self,
+        rule: u16,
+        part: u16,
+        server: Option<Version>,
+        first: Version,
+        second: Version,
+        needs: &mut Vec<Need>,
+    ) -> Result<(), AllocError>
+        requires number { rule < length self.now.book.now }
+        requires fit { FitsSetting (setting_in V.content self.now) }
+        requires server { IsAtToo (setting_in V.content self.now) server }
+        requires first { IsAt (setting_in V.content self.now) first }
+        requires second { IsAt (setting_in V.content self.now) second }
+        ensures { OnOk result (Gains (IsNeedOf self.now.book.now rule server.entry first.entry (Some second.entry))
+            (IsNeedOfPart self.now.book.now rule server.entry first.entry second.entry part) needs.old.items needs.new.items) }
+    {
+        for other in 0..self.book.part_count(rule, second.held()) {
+            let ask = Ask {
+                rule,
+                first_part: part,
+                second_part: other + 1,
+            };
+            self.add_of_ask(ask, server, first, second, needs)?;
+        }
+        Ok(())
+    }
+
+    /// Adds the needs of two versions in this order.
+    fn add_of_two(
+        &self,
+        rule: u16,
+        server: Option<Version>,
+        first: Version,
+        second: Version,
+        needs: &mut Vec<Need>,
+    ) -> Result<(), AllocError>
+        requires number { rule < length self.now.book.now }
+        requires fit { FitsSetting (setting_in V.content self.now) }
+        requires server { IsAtToo (setting_in V.content self.now) server }
+        requires first { IsAt (setting_in V.content self.now) first }
+        requires second { IsAt (setting_in V.content self.now) second }
+        ensures { OnOk result (Gains (IsNeedOf self.now.book.now rule server.entry first.entry (Some second.entry))
+            (IsNeedOf self.now.book.now rule server.entry first.entry (Some second.entry)) needs.old.items needs.new.items) }
+    {
+        for part in 0..self.book.part_count(rule, first.held()) {
+            self.add_of_part(rule, part + 1, server, first, second, needs)?;
+        }
+        Ok(())
+    }
+
+    /// Adds the needs of two versions in the order of their cells, if they ever stand together.
+    fn add_pair(
+        &self,
+        rule: u16,
+        server: Option<Version>,
+        one: Version,
+        other: Version,
+        needs: &mut Vec<Need>,
+    ) -> Result<(), AllocError>
+        requires number { rule < length self.now.book.now }
+        requires fit { FitsSetting (setting_in V.content self.now) }
+        requires server { IsAtToo (setting_in V.content self.now) server }
+        requires one { IsAt (setting_in V.content self.now) one }
+        requires other { IsAt (setting_in V.content self.now) other }
+        ensures { OnOk result (Gains (IsNeedOfPair self.now.book.now rule server.entry one.entry other.entry)
+            (IsNeedOfPair self.now.book.now rule server.entry one.entry other.entry) needs.old.items needs.new.items) }
+    {
+        if are_opposed(one.life, other.life) {
+            return Ok(());
+        }
+        match one.id.cell.cmp(&other.id.cell) {
+            Ordering::Less => self.add_of_two(rule, server, one, other, needs)?,
+            Ordering::Equal => {}
+            Ordering::Greater => self.add_of_two(rule, server, other, one, needs)?,
+        }
+        Ok(())
+    }
+
+    /// Adds the needs of a version with each of some others.
+    pub(crate) fn add_pairs(
+        &self,
+        rule: u16,
+        server: Option<Version>,
+        one: Version,
+        others: &[Version],
+        needs: &mut Vec<Need>,
+    ) -> Result<(), AllocError>
+        requires number { rule < length self.now.book.now }
+        requires fit { FitsSetting (setting_in V.content self.now) }
+        requires server { IsAtToo (setting_in V.content self.now) server }
+        requires one { IsAt (setting_in V.content self.now) one }
+        requires others { AreAt (setting_in V.content self.now) others.now }
+        ensures { OnOk result (Gains (IsNeedAmong self.now.book.now rule server.entry one.entry others.now)
+            (IsNeedAmong self.now.book.now rule server.entry one.entry others.now) needs.old.items needs.new.items) }
+    {
+        for other in others {
+            self.add_pair(rule, server, one, *other, needs)?;
+        }
+        Ok(())
+    }
+
+    /// Adds the names of those of some versions that serve.
+    pub(crate) fn add_servers(
+        &self,
+        ask: Ask,
+        first: Version,
+        second: Option<Version>,
+        others: &[Version],
+        names: &mut Vec<VersionId>,
+    ) -> Result<(), AllocError>
+        requires number { ask.rule < length self.now.book.now }
+        requires fit { FitsSetting (setting_in V.content self.now) }
+        requires first { IsAt (setting_in V.content self.now) first }
+        requires second { IsAtToo (setting_in V.content self.now) second }
+        requires others { AreAt (setting_in V.content self.now) others.now }
+        ensures { OnOk result (Gains (IsServerAmong self.now.book.now ask first.entry second.entry others.now)
+            (IsServerAmong self.now.book.now ask first.entry second.entry others.now) names.old.items names.new.items) }
+    {
+        for other in others {
+            if self.serves_if_any(ask, first, second, Some(*other)) {
+                names.push(other.id)?;
+            }
+        }
+        Ok(())
+    }
+}

@@ -1,0 +1,32 @@
+//! Laws of covered and uncovered needs, each proved by a function that does nothing.
+
+ghost use Rattle.clr_foot.specs.Laws.{CoveredByName, CoveredByPosition, NamesByPosition, UncoveredByName, UncoveredByPosition};
+ghost use Rattle.clr_foot.specs.Laws.{FirstBrokenAfter, FirstBrokenIsListed};
+
+/// Where each touched need is covered and every rule holds in the root, every rule holds in the root
+/// with the changes of any of the members over it.
+pub fn covered_members_keep_rules()
+    ensures by_position { CoveredByPosition }
+    ensures by_name { CoveredByName }
+{}
+
+/// A need that nothing covers is broken where the changes of its blockers are over the root.
+pub fn uncovered_needs_are_broken()
+    ensures by_position { UncoveredByPosition }
+    ensures by_name { UncoveredByName }
+{}
+
+/// What holds of a setting by the positions of its members holds of it by their names: where each
+/// need touched by positions is covered, every rule holds with the changes of any of the named
+/// members over the root.
+pub fn positions_stand_for_names()
+    ensures { NamesByPosition }
+{}
+
+/// The least need that the merge of one change set breaks is the least broken need of the content
+/// with the changes over it, which an audit lists first: there is none exactly where every rule
+/// holds there.
+pub fn first_broken_is_listed_first()
+    ensures after { FirstBrokenAfter }
+    ensures listed { FirstBrokenIsListed }
+{}

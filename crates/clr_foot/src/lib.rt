@@ -1,0 +1,24 @@
+//! Versions of rows over a root and its members' changes, and the needs that the changes touch.
+#![tactic(auto)]
+
+mod blockers;
+mod breaks;
+mod candidates;
+mod faults;
+mod laws;
+mod lists;
+mod members;
+mod needs;
+mod scene_versions;
+mod scenes;
+mod servers;
+mod touches;
+mod versions;
+
+pub use faults::SceneFault;
+pub use laws::{
+    covered_members_keep_rules, first_broken_is_listed_first, positions_stand_for_names,
+    uncovered_needs_are_broken,
+};
+pub use needs::{Life, Need, VersionId};
+pub use scenes::Scene;

@@ -1,0 +1,165 @@
+//! The members of a scene: change sets, and the cells that they change.
+
+ghost use Rattle.std.specs.Prelude.{◌≡◌, ◌<◌, ◌≤◌, ◌-◌, ◌++◌, true, Some, None, length, map, IfOk, IfSome, MatchOption, OnOk};
+ghost use Rattle.std.specs.FinMap as finite;
+ghost use Rattle.std.specs.List.{range_with_len};
+ghost use Rattle.clr_foot.specs.Members.{AreApart, AreFirstTwo, IsApart, IsLeastShared, after_of, changed_cells, lesser, positions};
+ghost use Rattle.clr_foot.specs.Settings.{first_changer};
+ghost use Rattle.clr_foot.specs.Versions.{AreNewRowsFiled, FitNewRows, new_version_at, lived, version_of};
+
+use crate::needs::{Life, VersionId};
+use crate::versions::Version;
+use clr_change::ChangeSet;
+use clr_grid::{RowFinder, SpotIndex};
+use clr_rows::CellId;
+use clr_rules::RuleBook;
+use std::alloc::{AllocError, Global};
+
+/// A cell with the first two members that change it.
+#[derive(Clone, Copy, Debug)]
+pub(crate) struct SharedCell {
+    pub(crate) cell: CellId,
+    pub(crate) first: u16,
+    pub(crate) second: u16,
+}
+
+/// Change sets, and the cells that they change.
+#[derive(Drop)]
+pub(crate) struct Members<'a> {
+    pub(crate) sets: Vec<&'a ChangeSet>,
+    pub(crate) cells: Vec<CellId>,
+    ghost few: { length sets.items ≤ 255 },
+    ghost all: { cells.items ≡ changed_cells (map (λ s. s.now) sets.items) },
+}
+
+/// Adds the cells that a change set changes.
+fn add_cells(set: &ChangeSet, cells: &mut Vec<CellId>) -> Result<(), AllocError>
+    ensures { OnOk result (cells.new.items ≡ cells.old.items ++ finite.keys set.now) }
+{
+    for (cell, _) in set.iter() {
+        cells.push(*cell)?;
+    }
+    Ok(())
+}
+
+/// The cells that change sets change, one set after another.
+fn changed_cells(alloc: Global, sets: &[&ChangeSet]) -> Result<Vec<CellId>, AllocError>
+    ensures { IfOk result (λ cells. cells.items ≡ changed_cells (map (λ s. s.now) sets.now)) }
+{
+    let mut cells = Vec::new(alloc);
+    for set in sets {
+        add_cells(set, &mut cells)?;
+    }
+    Ok(cells)
+}
+
+/// The lesser of the cell that was found, if any, and one more.
+fn lesser(found: Option<SharedCell>, other: SharedCell) -> SharedCell
+    ensures { result ≡ lesser found other }
+{
+    match found {
+        Some(found) if !other.cell.cmp(&found.cell).is_lt() => found,
+        _ => other,
+    }
+}
+
+impl<'a> Members<'a> {
+    /// The members of these change sets. It fails for want of memory alone.
+    pub(crate) fn new(alloc: Global, sets: Vec<&'a ChangeSet>) -> Result<Members<'a>, AllocError>
+        requires { length sets.items ≤ 255 }
+        ensures { IfOk result (λ members. members.sets.items ≡ sets.entry.items) }
+    {
+        let cells = changed_cells(alloc, sets.as_slice())?;
+        Ok(Members { sets, cells })
+    }
+
+    /// The first member from a position on that changes a cell.
+    fn changer_from(&self, from: usize, cell: CellId) -> Option<u16>
+        ensures first { result
+            ≡ first_changer (after_of (map (λ s. s.now) self.now.sets.items)) (range_with_len from (length self.now.sets.items - from)) cell }
+        ensures position { IfSome result (λ n. n < length self.now.sets.items) }
+    {
+        for position in from..self.sets.len() {
+            if self.sets[position].get(cell).is_some() {
+                return Some(position as u16);
+            }
+        }
+        None
+    }
+
+    /// The first member that changes a cell.
+    pub(crate) fn changer(&self, cell: CellId) -> Option<u16>
+        ensures first { result ≡ first_changer (after_of (map (λ s. s.now) self.now.sets.items)) (positions (map (λ s. s.now) self.now.sets.items)) cell }
+        ensures position { IfSome result (λ n. n < length self.now.sets.items) }
+    {
+        self.changer_from(0, cell)
+    }
+
+    /// The new version of a cell, if its changer brings a row there.
+    pub(crate) fn new_version(&self, cell: CellId) -> Option<Version<'_>>
+        ensures { MatchOption result (new_version_at (map (λ s. s.now) self.now.sets.items) cell ≡ None)
+            (λ v. (v.id ≡ version_of true cell) × (new_version_at (map (λ s. s.now) self.now.sets.items) cell ≡ Some (lived v))) }
+    {
+        let position = self.changer(cell)?;
+        let change = self.sets[position as usize].get(cell)?;
+        match &change.after {
+            None => None,
+            Some(row) => Some(Version {
+                id: VersionId { cell, fresh: true },
+                row,
+                life: Life::With(position),
+            }),
+        }
+    }
+
+    /// The first two members that change a cell, if two do.
+    fn first_two(&self, cell: CellId) -> Option<(u16, u16)>
+        ensures { MatchOption result (IsApart (map (λ s. s.now) self.now.sets.items) cell)
+            (λ two. AreFirstTwo (map (λ s. s.now) self.now.sets.items) cell two.0 two.1) }
+    {
+        match self.changer_from(0, cell) {
+            None => None,
+            Some(first) => match self.changer_from(first as usize + 1, cell) {
+                None => None,
+                Some(second) => Some((first, second)),
+            },
+        }
+    }
+
+    /// The least cell that two members change, with the first two that do, if there is one.
+    pub(crate) fn least_shared(&self) -> Option<SharedCell>
+        ensures { MatchOption result (AreApart (map (λ s. s.now) self.now.sets.items)) (IsLeastShared (map (λ s. s.now) self.now.sets.items)) }
+    {
+        let mut least = None;
+        for cell in &self.cells {
+            if let Some((first, second)) = self.first_two(*cell) {
+                let other = SharedCell {
+                    cell: *cell,
+                    first,
+                    second,
+                };
+                least = Some(lesser(least, other));
+            }
+        }
+        least
+    }
+
+    /// The rows that members bring, filed by their spots. It fails for want of memory alone.
+    pub(crate) fn file_new_rows(
+        &self,
+        alloc: Global,
+        book: &RuleBook,
+    ) -> Result<SpotIndex, AllocError>
+        requires fit { FitNewRows book.now (map (λ s. s.now) self.now.sets.items) }
+        ensures { IfOk result (λ index. AreNewRowsFiled index.settled book.now (map (λ s. s.now) self.now.sets.items)) }
+    {
+        let mut index = SpotIndex::new(alloc);
+        for cell in &self.cells {
+            if let Some(version) = self.new_version(*cell) {
+                index.note(book, *cell, Some(version.row))?;
+                index.settle();
+            }
+        }
+        Ok(index)
+    }
+}

@@ -1,0 +1,70 @@
+//! The versions that serve a need.
+
+ghost use Rattle.std.specs.Prelude.{◌≡◌, ◌<◌, true, length, option_map, IfOk};
+ghost use Rattle.clr_rules.specs.Calls.{calls};
+ghost use Rattle.clr_foot.specs.Needs.{AreServers, IsPossibleNeed, Lists};
+ghost use Rattle.clr_foot.specs.Orders.{version_cmp};
+ghost use Rattle.clr_foot.specs.Scenes.{IsReady, model_of, setting_in, setting_of};
+ghost use Rattle.clr_foot.specs.Touches.{IsServerOf};
+ghost use Rattle.clr_foot.specs.Versions.{IsAt, IsAtToo, IsNamedToo, row_of};
+
+use crate::lists::put_in_order;
+use crate::needs::{Need, VersionId};
+use crate::scenes::Scene;
+use crate::versions::Version;
+use clr_grid::RowFinder;
+use clr_rows::RowView;
+use clr_rules::Ask;
+use std::alloc::AllocError;
+
+impl<V: RowView, F: RowFinder> Scene<'_, V, F> {
+    /// The version of a name, if one is given and there is one.
+    pub(crate) fn version_if_any(&self, id: Option<VersionId>) -> Option<Version<'_>>
+        ensures { IsNamedToo (setting_in V.content self.now) id result }
+    {
+        match id {
+            None => None,
+            Some(id) => self.version(id),
+        }
+    }
+
+    /// The names of the versions that serve what is asked of subjects that call.
+    fn servers_of(
+        &self,
+        ask: Ask,
+        first: Version,
+        second: Option<Version>,
+    ) -> Result<Vec<VersionId>, AllocError>
+        requires number { ask.rule < length self.now.book.now }
+        requires ready { IsReady F.settled (model_of V.content self.now) }
+        requires first { IsAt (setting_in V.content self.now) first }
+        requires second { IsAtToo (setting_in V.content self.now) second }
+        requires called { calls self.now.book.now ask (row_of first) (option_map row_of second) ≡ true }
+        ensures { IfOk result (λ names. Lists version_cmp (IsServerOf (setting_in V.content self.now) ask first.entry second.entry) names.items) }
+    {
+        let old = self.old_near(ask.rule, true, first)?;
+        let new = self.new_near(ask.rule, true, first)?;
+        let mut names = Vec::new(self.alloc);
+        self.add_servers(ask, first, second, old.as_slice(), &mut names)?;
+        self.add_servers(ask, first, second, new.as_slice(), &mut names)?;
+        put_in_order(&mut names);
+        Ok(names)
+    }
+
+    /// The versions that serve a possible need, ascending, each once. It fails for want of memory
+    /// alone.
+    pub fn servers(&self, need: &Need) -> Result<Vec<VersionId>, AllocError>
+        requires ready { IsReady F.settled (model_of V.content self.now) }
+        requires possible { IsPossibleNeed (setting_of (model_of V.content self.now)) need.now }
+        ensures { IfOk result (λ servers. AreServers (setting_of (model_of V.content self.now)) need.now servers.items) }
+    {
+        match self.version(need.first) {
+            None => Ok(Vec::new(self.alloc)),
+            Some(first) => {
+                let second = self.version_if_any(need.second);
+                let servers = self.servers_of(need.ask(), first, second)?;
+                Ok(servers)
+            }
+        }
+    }
+}

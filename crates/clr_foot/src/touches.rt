@@ -1,0 +1,194 @@
+//! The needs that changes touch: each new version is held against the versions that share with it,
+//! and each changed one is tried as a server of the old versions that share with it.
+
+ghost use Rattle.std.specs.Prelude.{◌≡◌, ◌<◌, ◌∷◌, [], true, false, length, Contains, IfOk, OnOk};
+ghost use Rattle.clr_grid.specs.Sharing.{found_cells, rule_spots};
+ghost use Rattle.clr_rows.specs.Held.{held_of};
+ghost use Rattle.clr_rules.specs.Books.{FitTogether};
+ghost use Rattle.clr_foot.specs.Candidates.{IsNeedAt, IsNeedServedBy, IsNeedWith};
+ghost use Rattle.clr_foot.specs.Gains.{Gains};
+ghost use Rattle.clr_foot.specs.Needs.{AreTouchedNeeds, IsChanged, IsTouched};
+ghost use Rattle.clr_foot.specs.Scenes.{IsReady, model_of, setting_in, setting_of};
+ghost use Rattle.clr_foot.specs.Touches.{IsInCells, IsNear, IsNeedServedAmong, IsTouchedOf};
+ghost use Rattle.clr_foot.specs.Versions.{AreAt, Finds, FitsSetting, IsAt, lived, row_of};
+
+use crate::lists::put_in_order;
+use crate::needs::{Need, VersionId};
+use crate::scenes::Scene;
+use crate::versions::Version;
+use clr_grid::RowFinder;
+use clr_rows::{CellId, Held, RowView};
+use clr_rules::RuleBook;
+use std::alloc::AllocError;
+
+/// The cells that a finder finds for a row, servers alone or all.
+fn cells_near<T: RowFinder>(
+    finder: &T,
+    book: &RuleBook,
+    servers: bool,
+    rule: u16,
+    held: Held,
+) -> Result<Vec<CellId>, AllocError>
+    requires number { rule < length book.now }
+    requires fit { FitTogether book.now (held_of held ∷ []) }
+    ensures { IfOk result (λ cells. cells.items ≡ found_cells servers (T.settled finder.now) rule (rule_spots book.now rule (held_of held.entry))) }
+{
+    if servers {
+        finder.sharing_servers(book, rule, held)
+    } else {
+        finder.sharing(book, rule, held)
+    }
+}
+
+impl<V: RowView, F: RowFinder> Scene<'_, V, F> {
+    /// The old versions of some cells, or the new ones.
+    fn versions_at(&self, fresh: bool, cells: &[CellId]) -> Result<Vec<Version<'_>>, AllocError>
+        ensures { IfOk result (λ list. Finds (setting_in V.content self.now) fresh (IsInCells cells.now) list.items) }
+    {
+        let mut list = Vec::with_capacity(self.alloc, cells.len())?;
+        for cell in cells {
+            if let Some(version) = self.version(VersionId { cell: *cell, fresh }) {
+                list.push(version)?;
+            }
+        }
+        Ok(list)
+    }
+
+    /// The old versions whose rows share with that of a version, servers alone or all.
+    pub(crate) fn old_near(
+        &self,
+        rule: u16,
+        servers: bool,
+        version: Version,
+    ) -> Result<Vec<Version<'_>>, AllocError>
+        requires number { rule < length self.now.book.now }
+        requires ready { IsReady F.settled (model_of V.content self.now) }
+        requires at { IsAt (setting_in V.content self.now) version }
+        ensures { IfOk result (λ list. Finds (setting_in V.content self.now) false (IsNear servers self.now.book.now rule (row_of version.entry)) list.items) }
+    {
+        let cells = cells_near(self.finder, self.book, servers, rule, version.held())?;
+        let list = self.versions_at(false, cells.as_slice())?;
+        Ok(list)
+    }
+
+    /// The new versions whose rows share with that of a version, servers alone or all.
+    pub(crate) fn new_near(
+        &self,
+        rule: u16,
+        servers: bool,
+        version: Version,
+    ) -> Result<Vec<Version<'_>>, AllocError>
+        requires number { rule < length self.now.book.now }
+        requires fit { FitsSetting (setting_in V.content self.now) }
+        requires at { IsAt (setting_in V.content self.now) version }
+        ensures { IfOk result (λ list. Finds (setting_in V.content self.now) true (IsNear servers self.now.book.now rule (row_of version.entry)) list.items) }
+    {
+        let cells = cells_near(&self.new_rows, self.book, servers, rule, version.held())?;
+        let list = self.versions_at(true, cells.as_slice())?;
+        Ok(list)
+    }
+
+    /// Adds the needs of a new version: alone, with old versions and with new ones.
+    fn add_of_new(&self, rule: u16, new: Version, needs: &mut Vec<Need>) -> Result<(), AllocError>
+        requires number { rule < length self.now.book.now }
+        requires ready { IsReady F.settled (model_of V.content self.now) }
+        requires at { IsAt (setting_in V.content self.now) new }
+        requires fresh { new.id.fresh ≡ true }
+        ensures { OnOk result (Gains (IsTouched (setting_in V.content self.now)) (IsNeedWith (setting_in V.content self.now) rule new.entry.id)
+            needs.old.items needs.new.items) }
+    {
+        self.add_alone(rule, None, new, needs)?;
+        let old = self.old_near(rule, false, new)?;
+        self.add_pairs(rule, None, new, old.as_slice(), needs)?;
+        let others = self.new_near(rule, false, new)?;
+        self.add_pairs(rule, None, new, others.as_slice(), needs)?;
+        Ok(())
+    }
+
+    /// Adds the needs of some versions, each alone and with others, that a server serves.
+    fn add_served(
+        &self,
+        rule: u16,
+        server: Version,
+        near: &[Version],
+        needs: &mut Vec<Need>,
+    ) -> Result<(), AllocError>
+        requires number { rule < length self.now.book.now }
+        requires fit { FitsSetting (setting_in V.content self.now) }
+        requires server { IsAt (setting_in V.content self.now) server }
+        requires near { AreAt (setting_in V.content self.now) near.now }
+        ensures { OnOk result (Gains (IsNeedServedAmong self.now.book.now rule server.entry near.now near.now)
+            (IsNeedServedAmong self.now.book.now rule server.entry near.now near.now) needs.old.items needs.new.items) }
+    {
+        for first in near {
+            self.add_alone(rule, Some(server), *first, needs)?;
+            self.add_pairs(rule, Some(server), *first, near, needs)?;
+        }
+        Ok(())
+    }
+
+    /// Adds the needs of old versions that a changed one serves.
+    fn add_of_changed(
+        &self,
+        rule: u16,
+        server: Version,
+        needs: &mut Vec<Need>,
+    ) -> Result<(), AllocError>
+        requires number { rule < length self.now.book.now }
+        requires ready { IsReady F.settled (model_of V.content self.now) }
+        requires at { IsAt (setting_in V.content self.now) server }
+        requires changed { IsChanged (lived server).life }
+        ensures { OnOk result (Gains (IsTouched (setting_in V.content self.now)) (IsNeedServedBy (setting_in V.content self.now) rule server.entry.id)
+            needs.old.items needs.new.items) }
+    {
+        let near = self.old_near(rule, false, server)?;
+        self.add_served(rule, server, near.as_slice(), needs)?;
+        Ok(())
+    }
+
+    /// Adds the touched needs of a rule with the new version of a changed cell, and those that its
+    /// old version serves.
+    fn add_of_cell(&self, rule: u16, cell: CellId, needs: &mut Vec<Need>) -> Result<(), AllocError>
+        requires number { rule < length self.now.book.now }
+        requires ready { IsReady F.settled (model_of V.content self.now) }
+        requires changed { Contains self.now.members.cells.items cell }
+        ensures { OnOk result (Gains (IsTouched (setting_in V.content self.now)) (IsNeedAt (setting_in V.content self.now) rule cell)
+            needs.old.items needs.new.items) }
+    {
+        if let Some(new) = self.version(VersionId { cell, fresh: true }) {
+            self.add_of_new(rule, new, needs)?;
+        }
+        if let Some(old) = self.version(VersionId { cell, fresh: false }) {
+            self.add_of_changed(rule, old, needs)?;
+        }
+        Ok(())
+    }
+
+    /// Adds the touched needs of a rule.
+    fn add_of_rule(&self, rule: u16, needs: &mut Vec<Need>) -> Result<(), AllocError>
+        requires number { rule < length self.now.book.now }
+        requires ready { IsReady F.settled (model_of V.content self.now) }
+        ensures { OnOk result (Gains (IsTouched (setting_in V.content self.now)) (IsTouchedOf (setting_in V.content self.now) rule)
+            needs.old.items needs.new.items) }
+    {
+        for cell in &self.members.cells {
+            self.add_of_cell(rule, *cell, needs)?;
+        }
+        Ok(())
+    }
+
+    /// The touched needs: possible ones with a new subject, and those of old subjects that an old
+    /// version serves which a member changes. They are ascending, each once. It fails for want of
+    /// memory alone.
+    pub fn touched_needs(&self) -> Result<Vec<Need>, AllocError>
+        requires ready { IsReady F.settled (model_of V.content self.now) }
+        ensures { IfOk result (λ needs. AreTouchedNeeds (setting_of (model_of V.content self.now)) needs.items) }
+    {
+        let mut needs = Vec::new(self.alloc);
+        for rule in 0..self.book.len() {
+            self.add_of_rule(rule as u16, &mut needs)?;
+        }
+        put_in_order(&mut needs);
+        Ok(needs)
+    }
+}

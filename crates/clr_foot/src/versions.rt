@@ -1,0 +1,36 @@
+ghost use Rattle.std.specs.Prelude.{◌≡◌, option_map};
+ghost use Rattle.clr_rows.specs.Held.{held_of};
+ghost use Rattle.clr_foot.specs.Versions.{row_of};
+
+use crate::needs::{Life, VersionId};
+use clr_rows::{Held, Row};
+
+/// A version with its row and life.
+#[derive(Clone, Copy, Debug)]
+pub(crate) struct Version<'a> {
+    pub(crate) id: VersionId,
+    pub(crate) row: &'a Row,
+    pub(crate) life: Life,
+}
+
+impl<'a> Version<'a> {
+    /// The row at its cell.
+    pub(crate) fn held(self) -> Held<'a>
+        ensures { held_of result ≡ row_of self.entry }
+    {
+        Held {
+            cell: self.id.cell,
+            row: self.row,
+        }
+    }
+}
+
+/// The row of a version, if there is one.
+pub(crate) fn held_if_any(version: Option<Version>) -> Option<Held>
+    ensures { option_map held_of result ≡ option_map row_of version.entry }
+{
+    match version {
+        None => None,
+        Some(version) => Some(version.held()),
+    }
+}

@@ -1,0 +1,196 @@
+-- Cells filed at spots: what stays when one is added or taken away.
+use Rattle.std.proofs.Common.{◌≡◌, inl, inr, ◌+◌, ◌<◌, ℕ, Bool, true, false, cond, not, ◌&&◌, ◌||◌, List, [], ◌∷◌, ◌++◌, take, get_or, length, Option, Some, None, is_some, unwrap_or, refl, ap, sym, subst, ◌∙◌}
+use Rattle.std.specs.Prelude.{Result, Ok, Err, OnErr}
+use Rattle.std.proofs.lemmas.Bool.{false≢true, true≢false, or_left, or_right, or_cases, cases_Bool, not-true, not-false}
+use Rattle.std.proofs.lemmas.List.{take_more}
+use Rattle.std.proofs.lemmas.List.Folds.{list_any-append}
+use Rattle.std.specs.BTreeMap.{get, is_at}
+use Rattle.std.specs.Cmp.{eq_by_cmp_equiv, Equal-is, tied_itself}
+use Rattle.std.specs.FinSet as set
+use Rattle.std.specs.List.{list_any}
+use Rattle.std.specs.Ordering.{eq_by_cmp}
+use Rattle.clr_rows.specs.declared.cells.CellId.{CellId}
+use Rattle.clr_rows.specs.Cells.{cell_cmp}
+use Rattle.clr_rows.proofs.CellOrder.{cell_cmp_total}
+use Rattle.clr_spots.specs.declared.spots.Spot.{Spot}
+use Rattle.clr_spots.specs.SpotOrder.{spot_cmp, same_spot}
+use Rattle.clr_spots.specs.SpotOrderLaws.{spot_cmp_total, spot_cmp_exact, same_spot_is, same_spot_itself, same_spot_equiv}
+use Rattle.clr_rows.proofs.ChangeLemmas.{tied_self}
+use Rattle.clr_grid.proofs.SetLemmas.{or_none}
+use Rattle.clr_grid.specs.CellSets.{Cells, is_one}
+use Rattle.clr_grid.specs.Filing.{Key, All, Wide, At, has_cell, has_key, has_spot, is_filed, is_looked_at, keeps_role, keeps_wide, stays}
+use Rattle.clr_grid.specs.declared.row_spots.RuleSpots.{RuleSpots}
+use Rattle.clr_grid.specs.declared.side_index.SideIndex.{SideIndex}
+
+-- ---- sets
+pub insert_keeps : (m : Cells) (cell q : CellId) → set.contains m q ≡ true → set.contains (set.insert m cell) q ≡ true
+insert_keeps m cell q e = set.contains-insert cell_cmp_total m cell q ∙ or_right (eq_by_cmp cell_cmp q cell) _ e
+
+pub insert_has : (m : Cells) (cell : CellId) → set.contains (set.insert m cell) cell ≡ true
+insert_has m cell = set.contains-insert cell_cmp_total m cell cell ∙ or_left (eq_by_cmp cell_cmp cell cell) _ (tied_self cell)
+
+pub remove_keeps : (m : Cells) (cell q : CellId) → is_one cell q ≡ false → set.contains m q ≡ true → set.contains (set.remove m cell) q ≡ true
+remove_keeps m cell q apart e = set.contains-remove cell_cmp_total m cell q
+    ∙ (λ i. not (((eq_by_cmp_equiv cell_cmp_total).symm q cell ∙ apart) i) && e i)
+
+pub is_not_one : (cell q : CellId) (test : Bool) → (is_one cell q && test) ≡ false → test ≡ true → is_one cell q ≡ false
+is_not_one cell q test p t = go (is_one cell q) p
+  where
+    go : (b : Bool) → (b && test) ≡ false → b ≡ false
+    go true e = absurd (true≢false (sym t ∙ e))
+    go false e = refl
+
+-- ---- spots
+abbrev pub AtSpots : Type 0
+AtSpots = Spot → Option Cells
+
+-- what is filed at each spot stays
+abbrev pub Keeps : AtSpots → AtSpots → Type 0
+Keeps f g = (x : Spot) (q : CellId) → has_cell (f x) q ≡ true → has_cell (g x) q ≡ true
+
+tied_spot : (s x : Spot) → is_at (spot_cmp s) x ≡ true → s ≡ x
+tied_spot s x e = spot_cmp_exact s x ((Equal-is (spot_cmp s x)).0 e)
+
+spot_itself : (x : Spot) → is_at (spot_cmp x) x ≡ true
+spot_itself x = (Equal-is (spot_cmp x x)).1 (tied_itself spot_cmp_total x)
+
+pub cells_or_none : (o : Option Cells) (q : CellId) → has_cell o q ≡ true → set.contains (unwrap_or o set.empty) q ≡ true
+cells_or_none None q e = absurd (false≢true e)
+cells_or_none (Some m) q e = e
+
+pub added_keeps : (f g : AtSpots) (s : Spot) (m : Cells) (cell : CellId) → ((x : Spot) → g x ≡ cond (is_at (spot_cmp s) x) (Some (set.insert m cell)) (f x)) → ((q : CellId) → has_cell (f s) q ≡ true → set.contains m q ≡ true) → Keeps f g
+added_keeps f g s m cell is had x q e = ap (λ o. has_cell o q) (is x) ∙ go (is_at (spot_cmp s) x) refl
+  where
+    go : (b : Bool) → is_at (spot_cmp s) x ≡ b → has_cell (cond b (Some (set.insert m cell)) (f x)) q ≡ true
+    go true t = insert_keeps m cell q (had q (subst (λ y. has_cell (f y) q ≡ true) (sym (tied_spot s x t)) e))
+    go false t = e
+
+pub added_has : (f g : AtSpots) (s : Spot) (m : Cells) (cell : CellId) → ((x : Spot) → g x ≡ cond (is_at (spot_cmp s) x) (Some (set.insert m cell)) (f x)) → has_cell (g s) cell ≡ true
+added_has f g s m cell is = ap (λ o. has_cell o cell) (is s ∙ ap (λ b. cond b (Some (set.insert m cell)) (f s)) (spot_itself s)) ∙ insert_has m cell
+
+-- what is filed for other cells, or at other spots, stays
+abbrev pub KeepsOthers : AtSpots → AtSpots → Spot → CellId → Type 0
+KeepsOthers f g s cell = (x : Spot) (q : CellId) → (is_one cell q && same_spot s x) ≡ false → has_cell (f x) q ≡ true → has_cell (g x) q ≡ true
+
+pub removed_keeps : (f g : AtSpots) (s : Spot) (cell : CellId) → ((x : Spot) → g x ≡ cond (is_at (spot_cmp s) x) (Some (set.remove (unwrap_or (f s) set.empty) cell)) (f x)) → KeepsOthers f g s cell
+removed_keeps f g s cell is x q p e = ap (λ o. has_cell o q) (is x) ∙ go (is_at (spot_cmp s) x) refl
+  where
+    go : (b : Bool) → is_at (spot_cmp s) x ≡ b → has_cell (cond b (Some (set.remove (unwrap_or (f s) set.empty) cell)) (f x)) q ≡ true
+    go true t =
+        let same : s ≡ x = tied_spot s x t in
+        remove_keeps (unwrap_or (f s) set.empty) cell q (is_not_one cell q (same_spot s x) p (subst (λ y. same_spot s y ≡ true) same (same_spot_itself s)))
+        (cells_or_none (f s) q (subst (λ y. has_cell (f y) q ≡ true) (sym same) e))
+    go false t = e
+
+pub emptied_keeps : (f g : AtSpots) (s : Spot) → f s ≡ Some set.empty → ((x : Spot) → g x ≡ cond (is_at (spot_cmp s) x) None (f x)) → Keeps f g
+emptied_keeps f g s empty is x q e = ap (λ o. has_cell o q) (is x) ∙ go (is_at (spot_cmp s) x) refl
+  where
+    go : (b : Bool) → is_at (spot_cmp s) x ≡ b → has_cell (cond b None (f x)) q ≡ true
+    go true t = absurd (false≢true (sym (set.contains-empty cell_cmp q) ∙ sym (ap (λ o. has_cell o q) (ap f (sym (tied_spot s x t)) ∙ empty)) ∙ e))
+    go false t = e
+
+-- ---- lists of spots
+pub any_turned : (x : Spot) (ys : List Spot) → list_any (λ y. same_spot y x) ys ≡ list_any (same_spot x) ys
+any_turned x [] = refl
+any_turned x (y ∷ ys) = λ i. same_spot_equiv.symm y x i || any_turned x ys i
+
+-- one more spot
+pub any_more : (p : Spot → Bool) (xs : List Spot) (k : ℕ) (x : Spot) → k < length xs → x ≡ get_or xs k x → list_any p (take (k + 1) xs) ≡ (list_any p (take k xs) || p x)
+any_more p xs k x less is =
+    ap (list_any p) (take_more xs k x less ∙ ap (λ y. take k xs ++ y ∷ []) (sym is)) ∙ list_any-append p (take k xs) (x ∷ []) ∙ ap (λ b. list_any p (take k xs) || b) (sym (or_none (p x)))
+
+pub filed_more : (f g : AtSpots) (cell : CellId) (xs : List Spot) (k : ℕ) (s : Spot) → k < length xs → s ≡ get_or xs k s → Keeps f g → has_cell (g s) cell ≡ true
+    → ((x : Spot) → list_any (same_spot x) (take k xs) ≡ true → has_cell (f x) cell ≡ true)
+    → (x : Spot) → list_any (same_spot x) (take (k + 1) xs) ≡ true → has_cell (g x) cell ≡ true
+filed_more f g cell xs k s less is keeps here before x e =
+    elim (or_cases (list_any (same_spot x) (take k xs)) (same_spot x s) (sym (any_more (same_spot x) xs k s less is) ∙ e)) [
+      | inl old ↦ keeps x cell (before x old)
+      | inr new ↦ subst (λ y. has_cell (g y) cell ≡ true) (sym (same_spot_is x s new)) here
+    ]
+
+-- a spot that is taken away isn't one of a row that stays
+pub taken_more : (f g h : AtSpots) (cell : CellId) (kept : Option RuleSpots) (s : Spot) → has_spot kept s ≡ false → KeepsOthers g h s cell
+    → ((x : Spot) (q : CellId) → (is_one cell q && not (has_spot kept x)) ≡ false → has_cell (f x) q ≡ true → has_cell (g x) q ≡ true)
+    → (x : Spot) (q : CellId) → (is_one cell q && not (has_spot kept x)) ≡ false → has_cell (f x) q ≡ true → has_cell (h x) q ≡ true
+taken_more f g h cell kept s hasnt taken before x q p e = taken x q (apart (is_one cell q) p) (before x q p e)
+  where
+    other : has_spot kept x ≡ true → same_spot s x ≡ false
+    other has = elim (cases_Bool (same_spot s x)) [
+      | inl same ↦ absurd (false≢true (sym hasnt ∙ ap (has_spot kept) (same_spot_is s x same) ∙ has))
+      | inr differ ↦ differ
+    ]
+
+    apart : (b : Bool) → (b && not (has_spot kept x)) ≡ false → (b && same_spot s x) ≡ false
+    apart true e = other (not-false (has_spot kept x) e)
+    apart false e = refl
+
+-- ---- an index
+pub kept_by : (i j : SideIndex) → ((q : CellId) → set.contains i.all q ≡ true → set.contains j.all q ≡ true) → ((q : CellId) → set.contains i.wide q ≡ true → set.contains j.wide q ≡ true)
+    → ((x : Spot) (q : CellId) → is_filed i (At x) q ≡ true → is_filed j (At x) q ≡ true) → (k : Key) (q : CellId) → is_filed i k q ≡ true → is_filed j k q ≡ true
+kept_by i j all wide spots All q e = all q e
+kept_by i j all wide spots Wide q e = wide q e
+kept_by i j all wide spots (At x) q e = spots x q e
+
+pub none_has : {A : Type 0} (o : Option Cells) (q : CellId) → is_some o ≡ false → has_cell o q ≡ true → A
+none_has None q e h = absurd (false≢true h)
+none_has (Some m) q e h = absurd (true≢false e)
+
+pub filed_by : (i : SideIndex) (x : RuleSpots) (cell : CellId) → (x.has_role ≡ true → set.contains i.all cell ≡ true) → (x.spots.wide ≡ true → set.contains i.wide cell ≡ true)
+    → ((y : Spot) → list_any (same_spot y) x.spots.list ≡ true → is_filed i (At y) cell ≡ true) → (k : Key) → has_key x k ≡ true → is_filed i k cell ≡ true
+filed_by i x cell all wide spots All e = all e
+filed_by i x cell all wide spots Wide e = wide e
+filed_by i x cell all wide spots (At y) e = spots y e
+
+pub stays_by : (i j : SideIndex) (cell : CellId) (kept : Option RuleSpots)
+    → ((q : CellId) → (is_one cell q && not (keeps_role kept)) ≡ false → set.contains i.all q ≡ true → set.contains j.all q ≡ true)
+    → ((q : CellId) → (is_one cell q && not (keeps_wide kept)) ≡ false → set.contains i.wide q ≡ true → set.contains j.wide q ≡ true)
+    → ((x : Spot) (q : CellId) → (is_one cell q && not (has_spot kept x)) ≡ false → is_filed i (At x) q ≡ true → is_filed j (At x) q ≡ true)
+    → (k : Key) (q : CellId) → stays cell kept k q ≡ true → is_filed i k q ≡ true → is_filed j k q ≡ true
+stays_by i j cell kept all wide spots All q s e = all q (not-true _ s) e
+stays_by i j cell kept all wide spots Wide q s e = wide q (not-true _ s) e
+stays_by i j cell kept all wide spots (At x) q s e = spots x q (not-true _ s) e
+
+-- the cells that are looked at, added one part after another
+pub near_by : (i : SideIndex) (x : RuleSpots) (m m' m'' n : Cells) (list : List Spot) → ((q : CellId) → set.contains m' q ≡ (set.contains m q || (x.spots.wide && set.contains i.all q)))
+    → ((q : CellId) → set.contains m'' q ≡ (set.contains m' q || set.contains i.wide q))
+    → ((q : CellId) → set.contains n q ≡ (set.contains m'' q || list_any (λ y. has_cell (get spot_cmp i.by_spot y) q) list))
+    → list ≡ x.spots.list
+    → (k : Key) (q : CellId) → is_looked_at x k ≡ true → is_filed i k q ≡ true → set.contains n q ≡ true
+near_by i x m m' m'' n list all wide spots same All q l e =
+    spots q ∙ or_left _ _ (wide q ∙ or_left _ _ (all q ∙ or_right (set.contains m q) _ (λ j. l j && e j)))
+near_by i x m m' m'' n list all wide spots same Wide q l e = spots q ∙ or_left _ _ (wide q ∙ or_right (set.contains m' q) _ e)
+near_by i x m m' m'' n list all wide spots same (At y) q l e = spots q ∙ or_right (set.contains m'' q) _ (some_at list (ap (list_any (same_spot y)) same ∙ l))
+  where
+    some_at : (ys : List Spot) → list_any (same_spot y) ys ≡ true → list_any (λ z. has_cell (get spot_cmp i.by_spot z) q) ys ≡ true
+    some_at [] h = absurd (false≢true h)
+    some_at (z ∷ ys) h = elim (or_cases (same_spot y z) (list_any (same_spot y) ys) h) [
+      | inl here ↦ or_left _ _ (subst (λ w. has_cell (get spot_cmp i.by_spot w) q ≡ true) (same_spot_is y z here) e)
+      | inr later ↦ or_right (has_cell (get spot_cmp i.by_spot z) q) _ (some_at ys later)
+    ]
+
+pub near_keeps : (i : SideIndex) (x : RuleSpots) (m m' m'' n : Cells) (list : List Spot) → ((q : CellId) → set.contains m' q ≡ (set.contains m q || (x.spots.wide && set.contains i.all q)))
+    → ((q : CellId) → set.contains m'' q ≡ (set.contains m' q || set.contains i.wide q))
+    → ((q : CellId) → set.contains n q ≡ (set.contains m'' q || list_any (λ y. has_cell (get spot_cmp i.by_spot y) q) list))
+    → (q : CellId) → set.contains m q ≡ true → set.contains n q ≡ true
+near_keeps i x m m' m'' n list all wide spots q e = spots q ∙ or_left _ _ (wide q ∙ or_left _ _ (all q ∙ or_left _ _ e))
+
+or_group : (a b c : Bool) → ((a || b) || c) ≡ (a || (b || c))
+or_group true b c = refl
+or_group false b c = refl
+
+-- the cells of one more spot
+pub added_more : (p : Spot → Bool) (xs : List Spot) (k : ℕ) (x : Spot) (a b c : Bool) → k < length xs → x ≡ get_or xs k x → b ≡ (a || list_any p (take k xs)) → c ≡ (b || p x) → c ≡ (a || list_any p (take (k + 1) xs))
+added_more p xs k x a b c less is before now =
+    now ∙ ap (λ e. e || p x) before ∙ or_group a (list_any p (take k xs)) (p x) ∙ ap (λ e. a || e) (sym (any_more p xs k x less is))
+
+-- cells that are written back as they were
+pub same_written : (f g : AtSpots) (s : Spot) (w m : Cells) → ((x : Spot) → g x ≡ cond (is_at (spot_cmp s) x) (Some w) (f x)) → w ≡ m → Some m ≡ f s → (x : Spot) → g x ≡ f x
+same_written f g s w m is same here x = is x ∙ go (is_at (spot_cmp s) x) refl
+  where
+    go : (b : Bool) → is_at (spot_cmp s) x ≡ b → cond b (Some w) (f x) ≡ f x
+    go true t = ap Some same ∙ here ∙ ap f (tied_spot s x t)
+    go false t = refl
+
+pub on_err : {T E P : Type 0} (r : Result T E) → P → OnErr r P
+on_err (Ok x) p = tt
+on_err (Err y) p = p

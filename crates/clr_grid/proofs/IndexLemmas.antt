@@ -1,0 +1,228 @@
+-- Indexes by rule: what stays filed, and that each row is filed.
+use Rattle.std.proofs.Common.{◌≡◌, inl, inr, ◌<◌, ◌+◌, ℕ, zero, suc, Bool, true, false, cond, not, ◌&&◌, ◌||◌, List, [], ◌∷◌, ◌++◌, length, get_or, set, Option, Some, None, slice_get, refl, ap, sym, subst, ◌∙◌, arith}
+use Rattle.std.proofs.lemmas.Bool.{false≢true, true≢false, and_parts, or_cases, cases_lt}
+use Rattle.std.specs.Cmp.{Equal-is}
+use Rattle.std.specs.FinMap as finite
+use Rattle.std.specs.List.{list_any}
+use Rattle.std.specs.Option.{option_flatten}
+use Rattle.std.specs.Ordering.{eq_by_cmp}
+use Rattle.clr_rows.proofs.ChangeLemmas.{tied_self}
+use Rattle.clr_rows.specs.declared.cells.CellId.{CellId}
+use Rattle.clr_rows.specs.Cells.{cell_cmp}
+use Rattle.clr_rows.proofs.CellOrder.{cell_cmp_total, cell_cmp_exact}
+use Rattle.clr_spots.specs.SpotOrder.{same_spot}
+use Rattle.clr_spots.specs.SpotOrderLaws.{same_spot_itself}
+use Rattle.clr_spots.specs.Spots.{have_common_spot}
+use Rattle.clr_rules.proofs.Elements.{some_of, any_by}
+use Rattle.clr_grid.specs.CellSets.{is_one, is_one_of}
+use Rattle.clr_grid.specs.Filing.{Key, All, Wide, At, has_key, has_spot, is_filed, is_filed_under, is_looked_at, side_of, keeps_role, keeps_wide, same_side, of_side, spots_at, stays, IsFiled, IsFiledToo, AreFiled, StayFiled, StayFiledBut, AreNear}
+use Rattle.clr_grid.specs.RowMaps.{Rows, RowOrNone, IsRowAt, no_rows, with_pending, with_settled, without_pending}
+use Rattle.clr_grid.specs.Sharing.{are_meeting, is_met, is_met_at}
+use Rattle.clr_grid.specs.declared.row_spots.RuleSpots.{RuleSpots}
+use Rattle.clr_grid.specs.declared.rule_index.RuleIndex.{RuleIndex}
+use Rattle.clr_grid.proofs.MapLemmas.{get_set_at}
+
+-- ---- lists of indexes
+pub filed_append : (xs : List RuleIndex) (x : RuleIndex) → StayFiled xs (xs ++ x ∷ [])
+filed_append [] x number serves k q e = absurd (false≢true e)
+filed_append (y ∷ ys) x zero serves k q e = e
+filed_append (y ∷ ys) x (suc n) serves k q e = filed_append ys x n serves k q e
+
+-- one index that is changed
+pub filed_set : (xs : List RuleIndex) (m : ℕ) (old new : RuleIndex) (n : ℕ) (b : Bool) (k : Key) (q : CellId) → m < length xs → old ≡ get_or xs m old → (n ≡ m → is_filed (side_of old b) k q ≡ true → is_filed (side_of new b) k q ≡ true)
+    → is_filed_under xs n b k q ≡ true → is_filed_under (set xs m new) n b k q ≡ true
+filed_set [] m old new n b k q less is step e = absurd (false≢true e)
+filed_set (y ∷ ys) zero old new zero b k q less is step e = step refl (subst (λ i. is_filed (side_of i b) k q ≡ true) (sym is) e)
+filed_set (y ∷ ys) zero old new (suc n) b k q less is step e = e
+filed_set (y ∷ ys) (suc m) old new zero b k q less is step e = e
+filed_set (y ∷ ys) (suc m) old new (suc n) b k q less is step e = filed_set ys m old new n b k q (omega (arith, less)) is (λ same. step (ap suc same)) e
+
+pub set_filed : (xs : List RuleIndex) (m : ℕ) (new : RuleIndex) (b : Bool) (k : Key) (q : CellId) → m < length xs → is_filed (side_of new b) k q ≡ true → is_filed_under (set xs m new) m b k q ≡ true
+set_filed [] m new b k q less e = absurd (omega (arith, less))
+set_filed (y ∷ ys) zero new b k q less e = e
+set_filed (y ∷ ys) (suc m) new b k q less e = set_filed ys m new b k q (omega (arith, less)) e
+
+pub got : {X : Type 0} (xs : List X) (n : ℕ) (x d : X) → slice_get xs n ≡ Some x → x ≡ get_or xs n d
+got [] n x d e = absurd (cc)
+got (y ∷ ys) zero x d e = let same : y ≡ x = cc in sym same
+got (y ∷ ys) (suc n) x d e = got ys n x d e
+
+pub below_it : {X : Type 0} (xs : List X) (n : ℕ) (x : X) → slice_get xs n ≡ Some x → n < length xs
+below_it [] n x e = absurd (cc)
+below_it (y ∷ ys) zero x e = omega arith
+below_it (y ∷ ys) (suc n) x e = omega (arith, below_it ys n x e)
+
+-- ---- rows that are filed
+one_is : (cell q : CellId) → is_one cell q ≡ true → cell ≡ q
+one_is cell q e = cell_cmp_exact cell q ((Equal-is (cell_cmp cell q)).0 e)
+
+itself : (b : Bool) → same_side b b ≡ true
+itself true = refl
+itself false = refl
+
+stays_apart : (cell q : CellId) (kept : Option RuleSpots) (k : Key) → is_one cell q ≡ false → stays cell kept k q ≡ true
+stays_apart cell q kept All e = λ i. not (e i && not (keeps_role kept))
+stays_apart cell q kept Wide e = λ i. not (e i && not (keeps_wide kept))
+stays_apart cell q kept (At x) e = λ i. not (e i && not (has_spot kept x))
+
+nand : (b c : Bool) → c ≡ true → not (b && not c) ≡ true
+nand true c e = λ i. not (not (e i))
+nand false c e = refl
+
+stays_kept : (cell q : CellId) (y : RuleSpots) (k : Key) → has_key y k ≡ true → stays cell (Some y) k q ≡ true
+stays_kept cell q y All e = nand (is_one cell q) y.has_role e
+stays_kept cell q y Wide e = nand (is_one cell q) y.spots.wide e
+stays_kept cell q y (At x) e = nand (is_one cell q) (list_any (same_spot x) y.spots.list) e
+
+-- where the rows stay, but for one cell whose row is kept, they stay filed
+pub filed_kept : (rows rows' : Rows) (cell : CellId) (kept : RowOrNone) (xs ys : List RuleIndex) → AreFiled rows xs → StayFiledBut cell kept xs ys
+    → ((q : CellId) (row : List RuleSpots) → IsRowAt rows' q row → IsRowAt rows q row) → ((row : List RuleSpots) → IsRowAt rows' cell row → kept ≡ Some row) → AreFiled rows' ys
+filed_kept rows rows' cell kept xs ys filed stay fewer same q row at number y k is key =
+    stay number y.may_serve k q (go (is_one cell q) refl) (filed q row (fewer q row at) number y k is key)
+  where
+    go : (b : Bool) → is_one cell q ≡ b → stays cell (of_side y.may_serve (spots_at kept number)) k q ≡ true
+    go false apart = stays_apart cell q (of_side y.may_serve (spots_at kept number)) k apart
+    go true one =
+        let here : kept ≡ Some row = same row (subst (λ c. IsRowAt rows' c row) (sym (one_is cell q one)) at) in
+        let of : spots_at kept number ≡ Some y = ap (λ o. spots_at o number) here ∙ is in
+        subst (λ o. stays cell o k q ≡ true) (sym (ap (of_side y.may_serve) of ∙ ap (λ b. cond b (Some y) None) (itself y.may_serve))) (stays_kept cell q y k key)
+
+-- ---- one change less is pending
+gone : (b : Bool) (o : Option RowOrNone) (row : List RuleSpots) → cond b None o ≡ Some (Some row) → (b ≡ false) × (o ≡ Some (Some row))
+gone true o row e = absurd (cc)
+gone false o row e = (refl, e)
+
+was_pending : (o : Option RowOrNone) (row : List RuleSpots) → option_flatten o ≡ Some row → o ≡ Some (Some row)
+was_pending None row e = absurd (cc)
+was_pending (Some r) row e = ap Some e
+
+left_at : (rows : Rows) (cell q : CellId) (row : List RuleSpots) → finite.get (finite.remove rows.pending cell) q ≡ Some (Some row) → (eq_by_cmp cell_cmp q cell ≡ false) × (finite.get rows.pending q ≡ Some (Some row))
+left_at rows cell q row e = gone (eq_by_cmp cell_cmp q cell) (finite.get rows.pending q) row (sym (finite.get-remove cell_cmp_total rows.pending cell q) ∙ e)
+
+none_left : {A : Type 0} (rows : Rows) (cell : CellId) (row : List RuleSpots) → finite.get (finite.remove rows.pending cell) cell ≡ Some (Some row) → A
+none_left rows cell row e = absurd (true≢false (sym (tied_self cell) ∙ (left_at rows cell cell row e).0))
+
+pub settled_fewer : (rows : Rows) (cell q : CellId) (row : List RuleSpots) → IsRowAt (with_settled rows cell) q row → IsRowAt rows q row
+settled_fewer rows cell q row (inr e) = inr (left_at rows cell q row e).1
+settled_fewer rows cell q row (inl e) = go (eq_by_cmp cell_cmp q cell) refl (sym (get_set_at rows.settled cell (option_flatten (finite.get rows.pending cell)) q) ∙ e)
+  where
+    go : (b : Bool) → eq_by_cmp cell_cmp q cell ≡ b → cond b (option_flatten (finite.get rows.pending cell)) (finite.get rows.settled q) ≡ Some row → IsRowAt rows q row
+    go true tie h =
+        let same : q ≡ cell = cell_cmp_exact q cell ((Equal-is (cell_cmp q cell)).0 tie) in
+        inr (ap (λ c. finite.get rows.pending c) same ∙ was_pending (finite.get rows.pending cell) row h)
+    go false tie h = inl h
+
+pub settled_same : (rows : Rows) (cell : CellId) (kept : RowOrNone) (row : List RuleSpots) → kept ≡ finite.get (with_settled rows cell).settled cell → IsRowAt (with_settled rows cell) cell row → kept ≡ Some row
+settled_same rows cell kept row is (inl e) = is ∙ e
+settled_same rows cell kept row is (inr e) = none_left rows cell row e
+
+pub left_fewer : (rows : Rows) (cell q : CellId) (row : List RuleSpots) → IsRowAt (without_pending rows cell) q row → IsRowAt rows q row
+left_fewer rows cell q row (inl e) = inl e
+left_fewer rows cell q row (inr e) = inr (left_at rows cell q row e).1
+
+pub left_same : (rows : Rows) (cell : CellId) (kept : RowOrNone) (row : List RuleSpots) → kept ≡ finite.get rows.settled cell → IsRowAt (without_pending rows cell) cell row → kept ≡ Some row
+left_same rows cell kept row is (inl e) = is ∙ e
+left_same rows cell kept row is (inr e) = none_left rows cell row e
+
+-- ---- what is met is near
+pub met_near : (rows : Rows) (indexes : List RuleIndex) (servers : Bool) (x : RuleSpots) (number : ℕ) (cells : List CellId) → AreFiled rows indexes → AreNear indexes servers number x cells
+    → (q : CellId) → is_met_at servers x number (finite.get rows.settled q) ≡ true → is_one_of cells q ≡ true
+unfolding are_meeting
+met_near rows indexes servers x number cells filed near q met = row (finite.get rows.settled q) refl met
+  where
+    sides : (y : RuleSpots) → (not servers || y.may_serve) ≡ true → servers ≡ true → y.may_serve ≡ true
+    sides y e s = sym (λ i. not (s i) || y.may_serve) ∙ e
+
+    by_spots : (ys : List RuleSpots) (y : RuleSpots) → finite.get rows.settled q ≡ Some ys → slice_get ys number ≡ Some y → are_meeting x y ≡ true → (not servers || y.may_serve) ≡ true → is_one_of cells q ≡ true
+    by_spots ys y at of e s =
+        let found : (k : Key) → is_looked_at x k ≡ true → has_key y k ≡ true → is_one_of cells q ≡ true = λ k looked key. near y.may_serve k q (sides y s) looked (filed q ys (inl at) number y k of key) in
+        let p = and_parts x.has_role _ e in
+        let r = and_parts y.has_role _ p.1 in
+        elim (or_cases (x.spots.wide || y.spots.wide) (have_common_spot x.spots.list y.spots.list) r.1) [
+          | inl wide ↦ (elim (or_cases x.spots.wide y.spots.wide wide) [ inl one ↦ found All one r.0 | inr other ↦ found Wide refl other ])
+          | inr common ↦ (let (z, among, has) = some_of (λ z. list_any (same_spot z) y.spots.list) x.spots.list common in
+              found (At z) (any_by (same_spot z) z x.spots.list among (same_spot_itself z)) has)
+        ]
+
+    one : (ys : List RuleSpots) (o : Option RuleSpots) → finite.get rows.settled q ≡ Some ys → slice_get ys number ≡ o → is_met servers x o ≡ true → is_one_of cells q ≡ true
+    one ys None at of e = absurd (false≢true e)
+    one ys (Some y) at of e = let p = and_parts (are_meeting x y) _ e in by_spots ys y at of p.0 p.1
+
+    row : (o : RowOrNone) → finite.get rows.settled q ≡ o → is_met_at servers x number o ≡ true → is_one_of cells q ≡ true
+    row None at e = absurd (false≢true e)
+    row (Some ys) at e = one ys (slice_get ys number) at refl e
+
+-- ---- the rows of a finder
+pub none_filed : (rows : Rows) (xs : List RuleIndex) → rows ≡ no_rows → AreFiled rows xs
+none_filed rows xs is q ys (inl e) = absurd (cc (ap (λ (r : Rows). finite.get r.settled q) is, finite.get-empty {X = List RuleSpots} cell_cmp q))
+none_filed rows xs is q ys (inr e) = absurd (cc (ap (λ (r : Rows). finite.get r.pending q) is, finite.get-empty {X = RowOrNone} cell_cmp q))
+
+pub filed_settled : (rows rows' : Rows) (cell : CellId) (kept : RowOrNone) (xs ys : List RuleIndex) → AreFiled rows xs → StayFiledBut cell kept xs ys → rows' ≡ with_settled rows cell → kept ≡ finite.get rows'.settled cell → AreFiled rows' ys
+filed_settled rows rows' cell kept xs ys filed stay is same = subst (λ (r : Rows). AreFiled r ys) (sym is)
+    (filed_kept rows (with_settled rows cell) cell kept xs ys filed stay (settled_fewer rows cell) (λ row. settled_same rows cell kept row (same ∙ ap (λ (r : Rows). finite.get r.settled cell) is)))
+
+pub filed_left : (rows rows' : Rows) (cell : CellId) (kept : RowOrNone) (xs ys : List RuleIndex) → AreFiled rows xs → StayFiledBut cell kept xs ys → rows' ≡ without_pending rows cell → kept ≡ finite.get rows'.settled cell → AreFiled rows' ys
+filed_left rows rows' cell kept xs ys filed stay is same = subst (λ (r : Rows). AreFiled r ys) (sym is)
+    (filed_kept rows (without_pending rows cell) cell kept xs ys filed stay (left_fewer rows cell) (λ row. left_same rows cell kept row (same ∙ ap (λ (r : Rows). finite.get r.settled cell) is)))
+
+still_filed : (rows : Rows) (xs ys : List RuleIndex) → AreFiled rows xs → StayFiled xs ys → AreFiled rows ys
+still_filed rows xs ys filed stay q row at number y k is key = stay number y.may_serve k q (filed q row at number y k is key)
+
+filed_row : (ys : List RuleIndex) (cell : CellId) (row : RowOrNone) (zs : List RuleSpots) → IsFiledToo ys cell row → row ≡ Some zs → IsFiled ys cell zs
+filed_row ys cell None zs h e = absurd (cc)
+filed_row ys cell (Some us) zs h e = let same : us ≡ zs = cc in subst (IsFiled ys cell) same h
+
+pub filed_noted : (rows rows' : Rows) (cell : CellId) (row : RowOrNone) (xs ys : List RuleIndex) → AreFiled rows xs → StayFiled xs ys → IsFiledToo ys cell row → rows' ≡ with_pending rows cell row → AreFiled rows' ys
+filed_noted rows rows' cell row xs ys filed stay here is = subst (λ (r : Rows). AreFiled r ys) (sym is) both
+  where
+    old : AreFiled rows ys
+    old = still_filed rows xs ys filed stay
+
+    both : AreFiled (with_pending rows cell row) ys
+    both q zs (inl e) = old q zs (inl e)
+    both q zs (inr e) = go (eq_by_cmp cell_cmp q cell) refl (sym (finite.get-insert cell_cmp_total rows.pending cell row q) ∙ e)
+      where
+        go : (b : Bool) → eq_by_cmp cell_cmp q cell ≡ b → cond b (Some row) (finite.get rows.pending q) ≡ Some (Some zs) → IsFiled ys q zs
+        go true tie h =
+            let same : q ≡ cell = cell_cmp_exact q cell ((Equal-is (cell_cmp q cell)).0 tie) in
+            let is_row : row ≡ Some zs = cc in
+            subst (λ c. IsFiled ys c zs) (sym same) (filed_row ys cell row zs here is_row)
+        go false tie h = old q zs (inr h)
+
+pub filed_refused : (rows rows' : Rows) (cell : CellId) (kept : RowOrNone) (xs ys zs : List RuleIndex) → finite.get rows.pending cell ≡ None → AreFiled rows xs → StayFiled xs ys → StayFiledBut cell kept ys zs → rows' ≡ rows → kept ≡ finite.get rows'.settled cell → AreFiled rows' zs
+filed_refused rows rows' cell kept xs ys zs free filed stay but is same = subst (λ (r : Rows). AreFiled r zs) (sym is)
+    (filed_kept rows rows cell kept ys zs (still_filed rows xs ys filed stay) but (λ q row at. at) here)
+  where
+    here : (row : List RuleSpots) → IsRowAt rows cell row → kept ≡ Some row
+    here row (inl e) = same ∙ ap (λ (r : Rows). finite.get r.settled cell) is ∙ e
+    here row (inr e) = absurd (cc)
+
+-- a change that is dropped again leaves the rows as they were
+pub dropped_again : (rows : Rows) (cell : CellId) (row : RowOrNone) → finite.get rows.pending cell ≡ None → without_pending (with_pending rows cell row) cell ≡ rows
+dropped_again rows cell row free = λ i. record { settled = rows.settled; pending = finite.same_map cell_cmp_total cell_cmp_exact (finite.remove (finite.insert rows.pending cell row) cell) rows.pending same i }
+  where
+    same : (q : CellId) → finite.get (finite.remove (finite.insert rows.pending cell row) cell) q ≡ finite.get rows.pending q
+    same q = finite.get-remove cell_cmp_total (finite.insert rows.pending cell row) cell q ∙ ap (cond (eq_by_cmp cell_cmp q cell) None) (finite.get-insert cell_cmp_total rows.pending cell row q) ∙ go (eq_by_cmp cell_cmp q cell) refl
+      where
+        go : (b : Bool) → eq_by_cmp cell_cmp q cell ≡ b → cond b None (cond b (Some row) (finite.get rows.pending q)) ≡ finite.get rows.pending q
+        go true tie = sym (ap (λ c. finite.get rows.pending c) (cell_cmp_exact q cell ((Equal-is (cell_cmp q cell)).0 tie)) ∙ free)
+        go false tie = refl
+
+-- the cell filed under one more rule
+pub filed_next : (xs ys : List RuleIndex) (cell : CellId) (row : List RuleSpots) (m : ℕ) (s : RuleSpots) → s ≡ get_or row m s → StayFiled xs ys → ((k : Key) → has_key s k ≡ true → is_filed_under ys m s.may_serve k cell ≡ true)
+    → ((n : ℕ) (y : RuleSpots) (k : Key) → n < m → slice_get row n ≡ Some y → has_key y k ≡ true → is_filed_under xs n y.may_serve k cell ≡ true)
+    → (n : ℕ) (y : RuleSpots) (k : Key) → n < m + 1 → slice_get row n ≡ Some y → has_key y k ≡ true → is_filed_under ys n y.may_serve k cell ≡ true
+filed_next xs ys cell row m s at stay here before n y k less is key = elim (cases_lt n m) [
+  | inl lower ↦ stay n y.may_serve k cell (before n y k lower is key)
+  | inr not_lower ↦ (let same : n ≡ m = omega (arith, less, not_lower) in
+      let s_is : y ≡ s = got row n y s is ∙ ap (λ j. get_or row j s) same ∙ sym at in
+      subst (λ j. is_filed_under ys j y.may_serve k cell ≡ true) (sym same) (subst (λ (z : RuleSpots). is_filed_under ys m z.may_serve k cell ≡ true) (sym s_is) (here k (subst (λ (z : RuleSpots). has_key z k ≡ true) s_is key))))
+]
+
+pub noted_row : (rows rows' : Rows) (cell : CellId) (row : RowOrNone) → rows' ≡ with_pending rows cell row → option_flatten (finite.get rows'.pending cell) ≡ row
+noted_row rows rows' cell row is =
+    ap (λ (r : Rows). option_flatten (finite.get r.pending cell)) is
+    ∙ ap option_flatten (finite.get-insert cell_cmp_total rows.pending cell row cell ∙ ap (λ b. cond b (Some row) (finite.get rows.pending cell)) (tied_self cell))
+
+pub noted_dropped : (rows noted left : Rows) (cell : CellId) (row : RowOrNone) → finite.get rows.pending cell ≡ None → noted ≡ with_pending rows cell row → left ≡ without_pending noted cell → left ≡ rows
+noted_dropped rows noted left cell row free is gone = gone ∙ ap (λ (r : Rows). without_pending r cell) is ∙ dropped_again rows cell row free

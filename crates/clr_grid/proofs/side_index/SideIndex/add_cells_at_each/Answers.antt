@@ -1,0 +1,20 @@
+use Rattle.std.proofs.Common.{◌∙◌, ap, ◌||◌}
+use Rattle.std.proofs.lemmas.List.{take_all}
+use Rattle.std.specs.BTreeMap.{get}
+use Rattle.std.specs.FinSet as set
+use Rattle.std.specs.List.{list_any}
+use Rattle.clr_spots.specs.declared.spots.Spot.{Spot}
+use Rattle.clr_spots.specs.SpotOrder.{spot_cmp}
+use Rattle.clr_grid.specs.Filing.{has_cell}
+use Rattle.clr_grid.proofs.FilingLemmas.{added_more}
+use Rattle.clr_grid.proofs.SetLemmas.{or_none}
+use Rattle.clr_grid.proofs.side_index.SideIndex.add_cells_at_each.Goals as goal
+
+pub loop-spot-init : goal.loop-spot-init
+loop-spot-init c q = or_none _
+
+pub loop-spot-preserved : goal.loop-spot-preserved
+loop-spot-preserved c q = added_more (λ x. has_cell (get spot_cmp c.args.self.now.by_spot x) q) c.args.spots.now c.loop-spot.spot-index c.spot-item.result _ _ _ c.loop-spot-test.true c.spot-item.is (c.loop-spot.invariant q) (c.in_ok-add_cells_at.ensures q)
+
+pub returns : goal.returns
+returns c q = c.loop-spot.invariant q ∙ ap (λ xs. set.contains c.args.cells.now q || list_any (λ (x : Spot). has_cell (get spot_cmp c.args.self.now.by_spot x) q) xs) (take_all c.loop-spot.spot-index c.args.spots.now c.loop-spot-test.false)

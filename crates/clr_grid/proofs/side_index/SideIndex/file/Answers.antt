@@ -1,0 +1,21 @@
+use Rattle.std.proofs.Common.{◌∙◌, ap}
+use Rattle.std.specs.List.{list_any}
+use Rattle.clr_spots.specs.SpotOrder.{same_spot}
+use Rattle.clr_grid.proofs.FilingLemmas.{kept_by, filed_by}
+use Rattle.clr_grid.proofs.side_index.SideIndex.file.Goals as goal
+
+pub returns-clause-kept : goal.returns-clause-kept
+returns-clause-kept c = kept_by c.args.self.now (record { by_spot = c.file_at_each.new.by_spot; wide = c.add_if-2.new.self; all = c.add_if.new.self }) c.in_ok-add_if.ensures.kept c.in_ok-add_if-2.ensures.kept c.in_ok-file_at_each.ensures.kept
+
+pub returns-clause-filed : goal.returns-clause-filed
+returns-clause-filed c = filed_by (record { by_spot = c.file_at_each.new.by_spot; wide = c.add_if-2.new.self; all = c.add_if.new.self }) c.args.spots.now c.args.cell c.in_ok-add_if.ensures.added c.in_ok-add_if-2.ensures.added
+    (λ y e. c.in_ok-file_at_each.ensures.filed y (ap (list_any (same_spot y)) c.as_slice.ensures ∙ e))
+
+pub returns-in_err-add_if-clause-kept : goal.returns-in_err-add_if-clause-kept
+returns-in_err-add_if-clause-kept c = kept_by c.args.self.now (record { by_spot = c.args.self.now.by_spot; wide = c.args.self.now.wide; all = c.add_if.new.self }) c.in_err-add_if.ensures.kept (λ q e. e) (λ x q e. e)
+
+pub returns-in_err-add_if-2-clause-kept : goal.returns-in_err-add_if-2-clause-kept
+returns-in_err-add_if-2-clause-kept c = kept_by c.args.self.now (record { by_spot = c.args.self.now.by_spot; wide = c.add_if-2.new.self; all = c.add_if.new.self }) c.in_ok-add_if.ensures.kept c.in_err-add_if-2.ensures.kept (λ x q e. e)
+
+pub returns-in_err-file_at_each-clause-kept : goal.returns-in_err-file_at_each-clause-kept
+returns-in_err-file_at_each-clause-kept c = kept_by c.args.self.now (record { by_spot = c.file_at_each.new.by_spot; wide = c.add_if-2.new.self; all = c.add_if.new.self }) c.in_ok-add_if.ensures.kept c.in_ok-add_if-2.ensures.kept c.in_err-file_at_each.ensures.kept

@@ -1,0 +1,120 @@
+-- Cells filed by the spots of their rows under each rule, so that rows with a common spot are found.
+use Rattle.std.specs.Prelude.{◌≡◌, ℕ, Bool, true, false, not, List, ◌&&◌, Option, Some, None, slice_get, ⊤, if◌then◌else◌}
+use Rattle.std.specs.BTreeMap.{get}
+use Rattle.std.specs.FinSet as set
+use Rattle.std.specs.List.{list_any}
+use Rattle.clr_rows.specs.declared.cells.CellId.{CellId}
+use Rattle.clr_spots.specs.declared.spots.Spot.{Spot}
+use Rattle.clr_spots.specs.SpotOrder.{spot_cmp, same_spot}
+use Rattle.clr_grid.specs.CellSets.{Cells, is_one, is_one_of}
+use Rattle.clr_grid.specs.declared.row_spots.RuleSpots.{RuleSpots}
+use Rattle.clr_grid.specs.declared.side_index.SideIndex.{SideIndex}
+use Rattle.clr_grid.specs.declared.rule_index.RuleIndex.{RuleIndex}
+use Rattle.clr_grid.specs.RowMaps.{Rows, IsRowAt}
+
+-- where a cell is filed: among all rows with a role, among the wide ones, at a spot
+pub data Key : Type 0 where
+  All : Key
+  Wide : Key
+  At : Spot → Key
+
+-- the row is to be filed there
+abbrev pub has_key : RuleSpots → Key → Bool
+has_key x All = x.has_role
+has_key x Wide = x.spots.wide
+has_key x (At y) = list_any (same_spot y) x.spots.list
+
+-- the cells there are found for the row
+abbrev pub is_looked_at : RuleSpots → Key → Bool
+is_looked_at x All = x.spots.wide
+is_looked_at x Wide = true
+is_looked_at x (At y) = list_any (same_spot y) x.spots.list
+
+-- what a row that stays has
+abbrev pub keeps_role : Option RuleSpots → Bool
+keeps_role None = false
+keeps_role (Some y) = y.has_role
+
+abbrev pub keeps_wide : Option RuleSpots → Bool
+keeps_wide None = false
+keeps_wide (Some y) = y.spots.wide
+
+abbrev pub has_spot : Option RuleSpots → Spot → Bool
+has_spot None x = false
+has_spot (Some y) x = list_any (same_spot x) y.spots.list
+
+abbrev pub has_cell : Option Cells → CellId → Bool
+has_cell None q = false
+has_cell (Some cells) q = set.contains cells q
+
+abbrev pub is_filed : SideIndex → Key → CellId → Bool
+is_filed index All q = set.contains index.all q
+is_filed index Wide q = set.contains index.wide q
+is_filed index (At x) q = has_cell (get spot_cmp index.by_spot x) q
+
+-- what is filed for another cell, or for a row that the cell keeps
+abbrev pub stays : CellId → Option RuleSpots → Key → CellId → Bool
+stays cell kept All q = not (is_one cell q && not (keeps_role kept))
+stays cell kept Wide q = not (is_one cell q && not (keeps_wide kept))
+stays cell kept (At x) q = not (is_one cell q && not (has_spot kept x))
+
+-- by rule ------------------------------------------------------------------------------------
+
+abbrev pub side_of : RuleIndex → Bool → SideIndex
+side_of index true = index.servers
+side_of index false = index.others
+
+abbrev pub is_filed_by : Option RuleIndex → Bool → Key → CellId → Bool
+is_filed_by None serves k q = false
+is_filed_by (Some index) serves k q = is_filed (side_of index serves) k q
+
+-- filed under the rule of a number, among the rows that may serve or the others
+abbrev pub is_filed_under : List RuleIndex → ℕ → Bool → Key → CellId → Bool
+is_filed_under indexes number serves k q = is_filed_by (slice_get indexes number) serves k q
+
+abbrev pub same_side : Bool → Bool → Bool
+same_side true serves = serves
+same_side false serves = not serves
+
+-- the row if it is of that side
+abbrev pub of_side : Bool → Option RuleSpots → Option RuleSpots
+of_side serves None = None
+of_side serves (Some y) = if same_side y.may_serve serves then Some y else None
+
+abbrev pub spots_at : Option (List RuleSpots) → ℕ → Option RuleSpots
+spots_at None number = None
+spots_at (Some ys) number = slice_get ys number
+
+-- a row is filed wherever it is to be
+abbrev pub IsFiled : List RuleIndex → CellId → List RuleSpots → Type 0
+IsFiled indexes q ys = (number : ℕ) (y : RuleSpots) (k : Key) → slice_get ys number ≡ Some y → has_key y k ≡ true
+    → is_filed_under indexes number y.may_serve k q ≡ true
+
+-- a row, if there is one
+abbrev pub IsFiledToo : List RuleIndex → CellId → Option (List RuleSpots) → Type 0
+IsFiledToo indexes q None = ⊤
+IsFiledToo indexes q (Some ys) = IsFiled indexes q ys
+
+-- so is each row
+abbrev pub AreFiled : Rows → List RuleIndex → Type 0
+AreFiled rows indexes = (q : CellId) (ys : List RuleSpots) → IsRowAt rows q ys → IsFiled indexes q ys
+
+-- what is filed stays
+abbrev pub StayFiled : List RuleIndex → List RuleIndex → Type 0
+StayFiled old new = (number : ℕ) (serves : Bool) (k : Key) (q : CellId) → is_filed_under old number serves k q ≡ true
+    → is_filed_under new number serves k q ≡ true
+
+-- so does what is filed for other cells than one, or for a row that it keeps
+abbrev pub StayFiledBut : CellId → Option (List RuleSpots) → List RuleIndex → List RuleIndex → Type 0
+StayFiledBut cell kept old new = (number : ℕ) (serves : Bool) (k : Key) (q : CellId)
+    → stays cell (of_side serves (spots_at kept number)) k q ≡ true
+    → is_filed_under old number serves k q ≡ true
+    → is_filed_under new number serves k q ≡ true
+
+-- each cell that is looked at for a row is one of some
+abbrev pub AreNear : List RuleIndex → Bool → ℕ → RuleSpots → List CellId → Type 0
+AreNear indexes servers number x cells = (serves : Bool) (k : Key) (q : CellId)
+    → (servers ≡ true → serves ≡ true)
+    → is_looked_at x k ≡ true
+    → is_filed_under indexes number serves k q ≡ true
+    → is_one_of cells q ≡ true

@@ -1,0 +1,114 @@
+ghost use Rattle.std.specs.Prelude.{◌≡◌, ◌||◌, ◌&&◌, true, false, OnOk, OnErr, IfOk};
+ghost use Rattle.std.specs.FinSet as set;
+ghost use Rattle.std.specs.List.Sorted.{IsStrictlySortedBy};
+ghost use Rattle.clr_rows.specs.Cells.{cell_cmp};
+ghost use Rattle.clr_rows.specs.declared.cells.CellId.{CellId as Cell};
+ghost use Rattle.clr_grid.specs.CellSets.{is_one, is_one_of};
+
+use clr_rows::CellId;
+use std::alloc::{AllocError, Global};
+use std::collections::BTreeSet;
+use std::marker::Model;
+
+/// A set of cells.
+#[derive(Drop)]
+pub(crate) struct CellSet {
+    cells: BTreeSet<CellId>,
+}
+
+impl Model for CellSet {
+    ghost use Rattle.std.specs.FinSet as set;
+    ghost use Rattle.clr_grid.specs.CellSets.{Cells, coded_cells};
+
+    ghost Value = { Cells };
+
+    ghost coded = { coded_cells };
+
+    ghost view = { λ s. set.from_list s.cells.keys };
+}
+
+impl CellSet {
+    /// A set without cells.
+    pub(crate) fn new(alloc: Global) -> CellSet
+        ensures { result ≡ set.empty }
+    {
+        CellSet {
+            cells: BTreeSet::new(alloc),
+        }
+    }
+
+    /// Adds a cell. It fails for want of memory alone, and changes nothing then.
+    pub(crate) fn add(&mut self, cell: CellId) -> Result<(), AllocError>
+        ensures ok { OnOk result (self.new ≡ set.insert self.old cell) }
+        ensures err { OnErr result (self.new ≡ self.old) }
+    {
+        self.cells.insert(cell)?;
+        Ok(())
+    }
+
+    /// Adds a cell, where a test says so.
+    pub(crate) fn add_if(&mut self, test: bool, cell: CellId) -> Result<(), AllocError>
+        ensures kept { (q : Cell) → set.contains self.old q ≡ true → set.contains self.new q ≡ true }
+        ensures added { OnOk result (test ≡ true → set.contains self.new cell ≡ true) }
+    {
+        if test {
+            self.add(cell)?;
+        }
+        Ok(())
+    }
+
+    /// Takes a cell away.
+    pub(crate) fn remove(&mut self, cell: CellId)
+        ensures { self.new ≡ set.remove self.old cell }
+    {
+        self.cells.remove(&cell);
+    }
+
+    /// Takes a cell away, where a test says so.
+    pub(crate) fn remove_if(&mut self, test: bool, cell: CellId)
+        ensures { (q : Cell) → (is_one cell q && test) ≡ false → set.contains self.old q ≡ true → set.contains self.new q ≡ true }
+    {
+        if test {
+            self.remove(cell);
+        }
+    }
+
+    /// Whether there is no cell.
+    pub(crate) fn is_empty(&self) -> bool
+        ensures { result ≡ true → self.now ≡ set.empty }
+    {
+        self.cells.is_empty()
+    }
+
+    /// Adds the cells of another set.
+    fn add_each(&mut self, other: &CellSet) -> Result<(), AllocError>
+        ensures { OnOk result ((q : Cell) → set.contains self.new q ≡ (set.contains self.old q || set.contains other.now q)) }
+    {
+        for cell in &other.cells {
+            self.add(*cell)?;
+        }
+        Ok(())
+    }
+
+    /// Adds the cells of another set, where a test says so. It fails for want of memory alone.
+    pub(crate) fn add_all(&mut self, test: bool, other: &CellSet) -> Result<(), AllocError>
+        ensures { OnOk result ((q : Cell) → set.contains self.new q ≡ (set.contains self.old q || (test && set.contains other.now q))) }
+    {
+        if test {
+            self.add_each(other)?;
+        }
+        Ok(())
+    }
+
+    /// The cells, ascending. It fails for want of memory alone.
+    pub(crate) fn to_vec(&self, alloc: Global) -> Result<Vec<CellId>, AllocError>
+        ensures exact { IfOk result (λ cells. (q : Cell) → is_one_of cells.items q ≡ set.contains self.now q) }
+        ensures rising { IfOk result (λ cells. IsStrictlySortedBy cell_cmp cells.items) }
+    {
+        let mut cells = Vec::new(alloc);
+        for cell in &self.cells {
+            cells.push(*cell)?;
+        }
+        Ok(cells)
+    }
+}

@@ -1,0 +1,15 @@
+//! Laws of finders, each proved by a function that does nothing.
+
+ghost use Rattle.clr_grid.specs.Laws.{FindsServers, FindsSharing};
+
+/// A finder that has settled a content finds exactly the rows that share with a row.
+#[tactic(auto, using(crate::proofs::SharingLemmas::found_sharing))]
+pub fn finders_find_what_shares()
+    ensures { FindsSharing }
+{}
+
+/// Servers alone are exactly those of them that are of the side that serves.
+#[tactic(auto, using(crate::proofs::SharingLemmas::found_servers))]
+pub fn finders_find_servers()
+    ensures { FindsServers }
+{}

@@ -1,0 +1,92 @@
+ghost use Rattle.std.specs.Prelude.{◌≡◌, ◌<◌, ◌∷◌, [], length, IfOk};
+ghost use Rattle.clr_rows.specs.Held.{held_of};
+ghost use Rattle.clr_rules.specs.Books.{FitTogether};
+ghost use Rattle.clr_grid.specs.RowMaps.{no_rows};
+ghost use Rattle.clr_grid.specs.Sharing.{found_cells, rule_spots};
+
+use crate::finders::RowFinder;
+use crate::row_maps::RowMap;
+use crate::row_spots::{RuleSpots, row_spots_at};
+use clr_rows::{CellId, Held, Row};
+use clr_rules::RuleBook;
+use std::alloc::{AllocError, Global};
+use std::marker::Model;
+
+/// A finder that goes over all its rows.
+#[derive(Drop)]
+pub struct ListFinder {
+    alloc: Global,
+    rows: RowMap,
+}
+
+impl Model for ListFinder {
+    ghost use Rattle.clr_grid.specs.RowMaps.{Rows, coded_rows};
+
+    ghost Value = { Rows };
+
+    ghost coded = { coded_rows };
+
+    ghost view = { λ a. a.rows };
+}
+
+impl ListFinder {
+    /// A finder without rows. It takes no memory.
+    pub fn new(alloc: Global) -> ListFinder
+        ensures { result ≡ no_rows }
+    {
+        ListFinder {
+            alloc,
+            rows: RowMap::new(alloc),
+        }
+    }
+
+    /// The cells that are found, servers alone or all.
+    fn find(
+        &self,
+        book: &RuleBook,
+        rule: u16,
+        held: Held,
+        servers: bool,
+    ) -> Result<Vec<CellId>, AllocError>
+        requires number { rule < length book.now }
+        requires fit { FitTogether book.now (held_of held ∷ []) }
+        ensures { IfOk result (λ cells. cells.items ≡ found_cells servers self.now.settled rule (rule_spots book.now rule (held_of held.entry))) }
+    {
+        let spots = RuleSpots::new(self.alloc, book, rule, held)?;
+        let cells = self.rows.cells(self.alloc)?;
+        self.rows
+            .found_among(self.alloc, servers, rule, &spots, cells.as_slice())
+    }
+}
+
+impl RowFinder for ListFinder {
+    ghost settled = { λ finder. finder.settled };
+
+    ghost pending = { λ finder. finder.pending };
+
+    fn sharing(&self, book: &RuleBook, rule: u16, held: Held) -> Result<Vec<CellId>, AllocError> {
+        self.find(book, rule, held, false)
+    }
+
+    fn sharing_servers(
+        &self,
+        book: &RuleBook,
+        rule: u16,
+        held: Held,
+    ) -> Result<Vec<CellId>, AllocError> {
+        self.find(book, rule, held, true)
+    }
+
+    fn note(&mut self, book: &RuleBook, cell: CellId, row: Option<&Row>) -> Result<(), AllocError> {
+        let spots = row_spots_at(self.alloc, book, cell, row)?;
+        self.rows.note(cell, spots)
+    }
+
+    fn settle(&mut self) {
+        self.rows.settle();
+    }
+
+    fn forget(&mut self) {
+        self.rows.forget();
+    }
+}

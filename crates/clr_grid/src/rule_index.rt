@@ -1,0 +1,232 @@
+ghost use Rattle.std.specs.Prelude.{◌≡◌, ◌<◌, ◌≤◌, ℕ, Bool, true, Some, None, IfOk, OnOk, slice_get, length};
+ghost use Rattle.std.specs.FinSet as set;
+ghost use Rattle.std.specs.List.Sorted.{IsStrictlySortedBy};
+ghost use Rattle.std.specs.Option.{option_copied};
+ghost use Rattle.clr_rows.specs.Cells.{cell_cmp};
+ghost use Rattle.clr_rows.specs.declared.cells.CellId.{CellId as Cell};
+ghost use Rattle.clr_grid.specs.Filing.{AreNear, IsFiled, IsFiledToo, Key, StayFiled, StayFiledBut, has_key};
+ghost use Rattle.clr_grid.specs.Filing.{is_filed, is_filed_under, is_looked_at, of_side, side_of, spots_at, stays};
+
+use crate::cell_sets::CellSet;
+use crate::row_spots::{RowSpots, RuleSpots};
+use crate::side_index::SideIndex;
+use clr_rows::CellId;
+use std::alloc::{AllocError, Global};
+
+/// The cells of rows under a rule, those of the side that serves apart.
+#[derive(Drop)]
+pub(crate) struct RuleIndex {
+    servers: SideIndex,
+    others: SideIndex,
+}
+
+/// A row that stays, if it is of that side.
+fn of_side(serves: bool, kept: Option<&RuleSpots>) -> Option<&RuleSpots>
+    ensures { option_copied result ≡ of_side serves (option_copied kept.entry) }
+{
+    match kept {
+        Some(kept) if kept.may_serve == serves => Some(kept),
+        _ => None,
+    }
+}
+
+impl RuleIndex {
+    /// An index without cells.
+    fn new(alloc: Global) -> RuleIndex {
+        RuleIndex {
+            servers: SideIndex::new(alloc),
+            others: SideIndex::new(alloc),
+        }
+    }
+
+    /// Files the cell of a row wherever it is to be. It fails for want of memory alone.
+    fn file(&mut self, alloc: Global, cell: CellId, spots: &RuleSpots) -> Result<(), AllocError>
+        ensures kept { (b : Bool) (k : Key) (q : Cell) → is_filed (side_of self.old b) k q ≡ true → is_filed (side_of self.new b) k q ≡ true }
+        ensures filed { OnOk result ((k : Key) → has_key spots.now k ≡ true → is_filed (side_of self.new spots.now.may_serve) k cell ≡ true) }
+    {
+        if spots.may_serve {
+            self.servers.file(alloc, cell, spots)
+        } else {
+            self.others.file(alloc, cell, spots)
+        }
+    }
+
+    /// Takes the cell of a row away, but for what a row keeps that stays.
+    fn unfile(&mut self, cell: CellId, spots: &RuleSpots, kept: Option<&RuleSpots>)
+        ensures { (b : Bool) (k : Key) (q : Cell) → stays cell (of_side b (option_copied kept.entry)) k q ≡ true
+            → is_filed (side_of self.old b) k q ≡ true → is_filed (side_of self.new b) k q ≡ true }
+    {
+        let kept = of_side(spots.may_serve, kept);
+        if spots.may_serve {
+            self.servers.unfile(cell, spots, kept);
+        } else {
+            self.others.unfile(cell, spots, kept);
+        }
+    }
+
+    /// Adds the cells that are looked at for a row, servers alone or all. It fails for want of
+    /// memory alone.
+    fn add_near(
+        &self,
+        servers: bool,
+        spots: &RuleSpots,
+        cells: &mut CellSet,
+    ) -> Result<(), AllocError>
+        ensures near { OnOk result ((b : Bool) (k : Key) (q : Cell) → (servers ≡ true → b ≡ true) → is_looked_at spots.now k ≡ true
+            → is_filed (side_of self.now b) k q ≡ true → set.contains cells.new q ≡ true) }
+    {
+        self.servers.add_near(spots, cells)?;
+        if !servers {
+            self.others.add_near(spots, cells)?;
+        }
+        Ok(())
+    }
+}
+
+/// The spots of a row that stays under the rule of a number.
+fn spots_at(kept: Option<&RowSpots>, rule: usize) -> Option<&RuleSpots>
+    ensures { option_copied result ≡ spots_at (option_copied kept.entry) rule }
+{
+    match kept {
+        Some(kept) => kept.as_slice().get(rule),
+        None => None,
+    }
+}
+
+/// Makes an index for each rule below a number.
+fn make_rules(rules: &mut Vec<RuleIndex>, alloc: Global, count: usize) -> Result<(), AllocError>
+    ensures kept { StayFiled rules.old.items rules.new.items }
+    ensures enough { OnOk result (count ≤ length rules.new.items) }
+{
+    while rules.len() < count {
+        rules.push(RuleIndex::new(alloc))?;
+    }
+    Ok(())
+}
+
+/// Files a cell under the rule of a number.
+fn file_at(
+    rules: &mut Vec<RuleIndex>,
+    alloc: Global,
+    rule: usize,
+    cell: CellId,
+    spots: &RuleSpots,
+) -> Result<(), AllocError>
+    requires { rule < length rules.old.items }
+    ensures kept { StayFiled rules.old.items rules.new.items }
+    ensures length { length rules.new.items ≡ length rules.old.items }
+    ensures filed { OnOk result ((k : Key) → has_key spots.now k ≡ true → is_filed_under rules.new.items rule spots.now.may_serve k cell ≡ true) }
+{
+    let index = &mut rules[rule];
+    index.file(alloc, cell, spots)
+}
+
+/// Files a cell under each rule by the spots of its row.
+fn file_at_each(
+    rules: &mut Vec<RuleIndex>,
+    alloc: Global,
+    cell: CellId,
+    row: &RowSpots,
+) -> Result<(), AllocError>
+    ensures kept { StayFiled rules.old.items rules.new.items }
+    ensures filed { OnOk result (IsFiled rules.new.items cell row.now) }
+{
+    let spots = row.as_slice();
+    make_rules(rules, alloc, spots.len())?;
+    for rule in 0..spots.len() {
+        file_at(rules, alloc, rule, cell, &spots[rule])?;
+    }
+    Ok(())
+}
+
+/// Files the cell of a row, if there is one. It fails for want of memory alone.
+pub(crate) fn file_row(
+    rules: &mut Vec<RuleIndex>,
+    alloc: Global,
+    cell: CellId,
+    row: Option<&RowSpots>,
+) -> Result<(), AllocError>
+    ensures kept { StayFiled rules.old.items rules.new.items }
+    ensures filed { OnOk result (IsFiledToo rules.new.items cell (option_copied row.entry)) }
+{
+    match row {
+        Some(row) => file_at_each(rules, alloc, cell, row),
+        None => Ok(()),
+    }
+}
+
+/// Takes a cell away under the rule of a number, but for what a row keeps that stays.
+fn unfile_at(
+    rules: &mut Vec<RuleIndex>,
+    rule: usize,
+    cell: CellId,
+    spots: &RuleSpots,
+    kept: Option<&RuleSpots>,
+)
+    ensures { (n : ℕ) (b : Bool) (k : Key) (q : Cell) → (n ≡ rule → stays cell (of_side b (option_copied kept.entry)) k q ≡ true)
+        → is_filed_under rules.old.items n b k q ≡ true → is_filed_under rules.new.items n b k q ≡ true }
+{
+    if rule < rules.len() {
+        let index = &mut rules[rule];
+        index.unfile(cell, spots, kept);
+    }
+}
+
+/// Takes a cell away at the spots of a row, but for what a row keeps that stays.
+fn unfile_at_each(rules: &mut Vec<RuleIndex>, cell: CellId, row: &RowSpots, kept: Option<&RowSpots>)
+    ensures { StayFiledBut cell (option_copied kept.entry) rules.old.items rules.new.items }
+{
+    let spots = row.as_slice();
+    for rule in 0..spots.len() {
+        unfile_at(rules, rule, cell, &spots[rule], spots_at(kept, rule));
+    }
+}
+
+/// Takes the cell of a row away, if there is one, but for what a row keeps that stays.
+pub(crate) fn unfile_row(
+    rules: &mut Vec<RuleIndex>,
+    cell: CellId,
+    row: Option<RowSpots>,
+    kept: Option<&RowSpots>,
+)
+    ensures { StayFiledBut cell (option_copied kept.entry) rules.old.items rules.new.items }
+{
+    if let Some(row) = row {
+        unfile_at_each(rules, cell, &row, kept);
+    }
+}
+
+/// Adds the cells that are looked at for a row under a rule, servers alone or all.
+fn add_cells_near(
+    rules: &[RuleIndex],
+    servers: bool,
+    rule: u16,
+    spots: &RuleSpots,
+    cells: &mut CellSet,
+) -> Result<(), AllocError>
+    ensures { OnOk result ((b : Bool) (k : Key) (q : Cell) → (servers ≡ true → b ≡ true) → is_looked_at spots.now k ≡ true
+        → is_filed_under rules.now rule b k q ≡ true → set.contains cells.new q ≡ true) }
+{
+    match rules.get(rule as usize) {
+        Some(index) => index.add_near(servers, spots, cells),
+        None => Ok(()),
+    }
+}
+
+/// The cells that are looked at for a row under a rule, servers alone or all, ascending. It fails
+/// for want of memory alone.
+pub(crate) fn cells_near(
+    rules: &[RuleIndex],
+    alloc: Global,
+    servers: bool,
+    rule: u16,
+    spots: &RuleSpots,
+) -> Result<Vec<CellId>, AllocError>
+    ensures near { IfOk result (λ cells. AreNear rules.now servers rule spots.now cells.items) }
+    ensures rising { IfOk result (λ cells. IsStrictlySortedBy cell_cmp cells.items) }
+{
+    let mut cells = CellSet::new(alloc);
+    add_cells_near(rules, servers, rule, spots, &mut cells)?;
+    let list = cells.to_vec(alloc)?;
+    Ok(list)
+}

@@ -1,0 +1,151 @@
+ghost use Rattle.std.specs.Prelude.{◌≡◌, ◌<◌, ◌∷◌, [], length, true, Some, None, is_some, IfOk, OnOk, OnErr, MatchOption};
+ghost use Rattle.std.specs.FinMap as finite;
+ghost use Rattle.clr_rows.specs.Held.{held_of};
+ghost use Rattle.clr_rules.specs.Books.{FitTogether};
+ghost use Rattle.clr_grid.specs.RowMaps.{no_rows, with_pending, with_settled, without_pending};
+ghost use Rattle.clr_grid.specs.Sharing.{found_cells, rule_spots};
+
+use crate::finders::RowFinder;
+use crate::row_maps::RowMap;
+use crate::row_spots::{RowSpots, RuleSpots, row_spots_at};
+use crate::rule_index::{RuleIndex, cells_near, file_row, unfile_row};
+use clr_rows::{CellId, Held, Row};
+use clr_rules::RuleBook;
+use std::alloc::{AllocError, Global};
+use std::marker::Model;
+
+/// A finder that looks at the spots of the given row alone: it keeps the cells of its rows by rule
+/// and spot, and those of wide rows apart.
+#[derive(Drop)]
+pub struct SpotIndex {
+    alloc: Global,
+    rows: RowMap,
+    rules: Vec<RuleIndex>,
+}
+
+impl Model for SpotIndex {
+    ghost use Rattle.clr_grid.specs.RowMaps.{Rows, coded_rows};
+
+    ghost Value = { Rows };
+
+    ghost coded = { coded_rows };
+
+    ghost use Rattle.clr_grid.specs.Filing.{AreFiled};
+
+    ghost view = { λ a. a.rows };
+
+    ghost invariant = { λ a. AreFiled a.rows a.rules.items };
+}
+
+impl SpotIndex {
+    /// A finder without rows. It takes no memory.
+    pub fn new(alloc: Global) -> SpotIndex
+        ensures { result ≡ no_rows }
+    {
+        SpotIndex {
+            alloc,
+            rows: RowMap::new(alloc),
+            rules: Vec::new(alloc),
+        }
+    }
+
+    /// The cells that are found, servers alone or all.
+    fn find(
+        &self,
+        book: &RuleBook,
+        rule: u16,
+        held: Held,
+        servers: bool,
+    ) -> Result<Vec<CellId>, AllocError>
+        requires number { rule < length book.now }
+        requires fit { FitTogether book.now (held_of held ∷ []) }
+        ensures { IfOk result (λ cells. cells.items ≡ found_cells servers self.now.settled rule (rule_spots book.now rule (held_of held.entry))) }
+    {
+        let spots = RuleSpots::new(self.alloc, book, rule, held)?;
+        let cells = cells_near(self.rules.as_slice(), self.alloc, servers, rule, &spots)?;
+        self.rows
+            .found_among(self.alloc, servers, rule, &spots, cells.as_slice())
+    }
+
+    /// A cell with a pending change, or none.
+    fn first_pending(&self) -> Option<CellId>
+        ensures { MatchOption result (self.now.pending ≡ finite.empty) (λ cell. is_some (finite.get self.now.pending cell) ≡ true) }
+    {
+        self.rows.first_pending()
+    }
+
+    /// Adds a pending change of a cell that has none.
+    fn note_spots(&mut self, cell: CellId, spots: Option<RowSpots>) -> Result<(), AllocError>
+        requires { finite.get self.old.pending cell ≡ None }
+        ensures ok { OnOk result (self.new ≡ with_pending self.old cell spots) }
+        ensures err { OnErr result (self.new ≡ self.old) }
+    {
+        self.rows.note(cell, spots)?;
+        match file_row(
+            &mut self.rules,
+            self.alloc,
+            cell,
+            self.rows.pending_row(cell),
+        ) {
+            Ok(()) => Ok(()),
+            Err(error) => {
+                let refused = self.rows.forget_at(cell);
+                unfile_row(&mut self.rules, cell, refused, self.rows.settled_row(cell));
+                Err(error)
+            }
+        }
+    }
+
+    /// Takes the pending change of a cell over.
+    fn settle_at(&mut self, cell: CellId)
+        requires { is_some (finite.get self.old.pending cell) ≡ true }
+        ensures { self.new ≡ with_settled self.old cell }
+    {
+        let before = self.rows.settle_at(cell);
+        unfile_row(&mut self.rules, cell, before, self.rows.settled_row(cell));
+    }
+
+    /// Drops the pending change of a cell.
+    fn forget_at(&mut self, cell: CellId)
+        ensures { self.new ≡ without_pending self.old cell }
+    {
+        let row = self.rows.forget_at(cell);
+        unfile_row(&mut self.rules, cell, row, self.rows.settled_row(cell));
+    }
+}
+
+impl RowFinder for SpotIndex {
+    ghost settled = { λ finder. finder.settled };
+
+    ghost pending = { λ finder. finder.pending };
+
+    fn sharing(&self, book: &RuleBook, rule: u16, held: Held) -> Result<Vec<CellId>, AllocError> {
+        self.find(book, rule, held, false)
+    }
+
+    fn sharing_servers(
+        &self,
+        book: &RuleBook,
+        rule: u16,
+        held: Held,
+    ) -> Result<Vec<CellId>, AllocError> {
+        self.find(book, rule, held, true)
+    }
+
+    fn note(&mut self, book: &RuleBook, cell: CellId, row: Option<&Row>) -> Result<(), AllocError> {
+        let spots = row_spots_at(self.alloc, book, cell, row)?;
+        self.note_spots(cell, spots)
+    }
+
+    fn settle(&mut self) {
+        while let Some(cell) = self.first_pending() {
+            self.settle_at(cell);
+        }
+    }
+
+    fn forget(&mut self) {
+        while let Some(cell) = self.first_pending() {
+            self.forget_at(cell);
+        }
+    }
+}

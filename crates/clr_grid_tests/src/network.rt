@@ -1,0 +1,256 @@
+//! Rows of a small network, and a finder that has them.
+ghost use Rattle.std.specs.Prelude.{◌≡◌};
+ghost use Rattle.std.specs.FinMap as finite;
+ghost use Rattle.clr_rules.specs.Books.{FitsBook};
+
+use clr_grid::RowFinder;
+use clr_rows::{
+    CellId, Columns, Form, Held, Kind, Place, Row, Schema, Shape, TableDef, Value, Values, Words,
+};
+use clr_rules::{Col, ColumnList, Filter, Rule, RuleBook, Side};
+use std::alloc::{AllocError, Global};
+use std::test::Fail;
+
+pub(crate) const NODE: u16 = 0;
+
+pub(crate) const MAIN: u16 = 1;
+
+pub(crate) const HYDRANT: u16 = 2;
+
+/// The rule that mains cross at nodes alone.
+pub(crate) const CROSSING: u16 = 0;
+
+/// The rule that the number of a hydrant is the key of a main.
+pub(crate) const PARTNER: u16 = 1;
+
+fn table(alloc: Global, name: &str, shape: Form) -> Result<TableDef, AllocError> {
+    let mut columns = Vec::new(alloc);
+    columns.push((Words::new(String::from_str(alloc, "number")?), Kind::Int))?;
+    Ok(TableDef {
+        name: Words::new(String::from_str(alloc, name)?),
+        columns: Columns::new(columns),
+        shape,
+    })
+}
+
+fn schema(alloc: Global) -> Result<Schema, Fail> {
+    let mut tables = Vec::new(alloc);
+    tables.push(table(alloc, "node", Form::Point)?)?;
+    tables.push(table(alloc, "main", Form::Segment)?)?;
+    tables.push(table(alloc, "hydrant", Form::Point)?)?;
+    Ok(Schema::new(tables)?)
+}
+
+fn rows(alloc: Global, table: u16) -> Side {
+    Side {
+        table,
+        filter: Filter::new(Vec::new(alloc)),
+    }
+}
+
+fn list_of(alloc: Global, column: Col) -> Result<ColumnList, AllocError> {
+    let mut list = Vec::new(alloc);
+    list.push(column)?;
+    Ok(ColumnList::new(list))
+}
+
+fn rules(alloc: Global) -> Result<Vec<Rule>, AllocError> {
+    let mut rules = Vec::new(alloc);
+    rules.push(Rule::Crossing {
+        a: rows(alloc, MAIN),
+        b: rows(alloc, MAIN),
+        server: rows(alloc, NODE),
+    })?;
+    rules.push(Rule::Partner {
+        subject: rows(alloc, HYDRANT),
+        columns: list_of(alloc, Col::At(0))?,
+        server: rows(alloc, MAIN),
+        server_columns: list_of(alloc, Col::Key)?,
+    })?;
+    Ok(rules)
+}
+
+/// A row with its cell.
+#[derive(Drop)]
+pub(crate) struct RowAt {
+    pub cell: CellId,
+    pub row: Row,
+}
+
+impl RowAt {
+    fn held(&self) -> Held
+        ensures cell { result.cell ≡ self.now.cell }
+        ensures row { result.row.now ≡ self.now.row }
+    {
+        Held {
+            cell: self.cell,
+            row: &self.row,
+        }
+    }
+}
+
+fn row_at(
+    alloc: Global,
+    table: u16,
+    key: i64,
+    number: i64,
+    shape: Shape,
+) -> Result<RowAt, AllocError> {
+    let mut values = Vec::new(alloc);
+    values.push(Value::Int(number))?;
+    Ok(RowAt {
+        cell: CellId { table, key },
+        row: Row {
+            values: Values::new(values),
+            shape,
+        },
+    })
+}
+
+/// A point row of a table, with its number.
+pub(crate) fn point(
+    alloc: Global,
+    table: u16,
+    key: i64,
+    number: i64,
+    at: (i64, i64),
+) -> Result<RowAt, AllocError> {
+    row_at(
+        alloc,
+        table,
+        key,
+        number,
+        Shape::At(Place { x: at.0, y: at.1 }),
+    )
+}
+
+/// A main from a place to another.
+pub(crate) fn main(
+    alloc: Global,
+    key: i64,
+    from: (i64, i64),
+    to: (i64, i64),
+) -> Result<RowAt, AllocError> {
+    let (from, to) = (
+        Place {
+            x: from.0,
+            y: from.1,
+        },
+        Place { x: to.0, y: to.1 },
+    );
+    row_at(alloc, MAIN, key, 0, Shape::Line(from, to))
+}
+
+/// The tables and rules of the network.
+#[derive(Drop)]
+pub(crate) struct Network {
+    schema: Schema,
+    book: RuleBook,
+    ghost fits: { FitsBook schema book },
+}
+
+impl Network {
+    pub(crate) fn new(alloc: Global) -> Result<Network, Fail> {
+        let schema = schema(alloc)?;
+        let book = RuleBook::new(&schema, rules(alloc)?).ok().ok_or("no book")?;
+        Ok(Network { schema, book })
+    }
+
+    /// Gives a finder without pending changes a row.
+    pub(crate) fn add<F: RowFinder>(&self, finder: &mut F, row: &RowAt) -> Result<(), Fail>
+        requires { F.pending finder.old ≡ finite.empty }
+        ensures { F.pending finder.new ≡ finite.empty }
+    {
+        self.schema.fits(row.cell, &row.row)?;
+        finder.note(&self.book, row.cell, Some(&row.row))?;
+        finder.settle();
+        Ok(())
+    }
+
+    /// Notes a row that is then forgotten.
+    pub(crate) fn note_and_forget<F: RowFinder>(
+        &self,
+        finder: &mut F,
+        row: &RowAt,
+    ) -> Result<(), Fail>
+        requires { F.pending finder.old ≡ finite.empty }
+        ensures { F.pending finder.new ≡ finite.empty }
+    {
+        self.schema.fits(row.cell, &row.row)?;
+        finder.note(&self.book, row.cell, Some(&row.row))?;
+        finder.forget();
+        Ok(())
+    }
+
+    /// Takes the row of a cell away.
+    pub(crate) fn take<F: RowFinder>(&self, finder: &mut F, cell: CellId) -> Result<(), Fail>
+        requires { F.pending finder.old ≡ finite.empty }
+        ensures { F.pending finder.new ≡ finite.empty }
+    {
+        finder.note(&self.book, cell, None)?;
+        finder.settle();
+        Ok(())
+    }
+
+    fn sharing<F: RowFinder>(
+        &self,
+        finder: &F,
+        rule: u16,
+        row: &RowAt,
+    ) -> Result<Vec<CellId>, Fail> {
+        self.schema.fits(row.cell, &row.row)?;
+        if usize::from(rule) >= self.book.len() {
+            return Err("no such rule".into());
+        }
+        Ok(finder.sharing(&self.book, rule, row.held())?)
+    }
+
+    fn sharing_servers<F: RowFinder>(
+        &self,
+        finder: &F,
+        rule: u16,
+        row: &RowAt,
+    ) -> Result<Vec<CellId>, Fail> {
+        self.schema.fits(row.cell, &row.row)?;
+        if usize::from(rule) >= self.book.len() {
+            return Err("no such rule".into());
+        }
+        Ok(finder.sharing_servers(&self.book, rule, row.held())?)
+    }
+
+    /// Whether a row shares a spot with the rows of just these cells under a rule.
+    pub(crate) fn shares_with<F: RowFinder>(
+        &self,
+        finder: &F,
+        rule: u16,
+        row: &RowAt,
+        cells: &[(u16, i64)],
+    ) -> Result<bool, Fail> {
+        Ok(are_cells(self.sharing(finder, rule, row)?.as_slice(), cells))
+    }
+
+    /// Whether those that may serve are of just these cells.
+    pub(crate) fn finds_servers<F: RowFinder>(
+        &self,
+        finder: &F,
+        rule: u16,
+        row: &RowAt,
+        cells: &[(u16, i64)],
+    ) -> Result<bool, Fail> {
+        Ok(are_cells(self.sharing_servers(finder, rule, row)?.as_slice(), cells))
+    }
+}
+
+/// Whether a list has these cells, by table and key, in this order.
+fn are_cells(found: &[CellId], cells: &[(u16, i64)]) -> bool {
+    if found.len() != cells.len() {
+        return false;
+    }
+    for i in 0..cells.len() {
+        let (table, key) = cells[i];
+        if found[i] != (CellId { table, key }) {
+            return false;
+        }
+    }
+    true
+}

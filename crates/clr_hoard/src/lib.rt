@@ -1,0 +1,98 @@
+//! Want of memory, made by taking all memory that there is.
+//!
+//! This rests on Linux and on glibc's `malloc`: Linux lends address space that is never written
+//! without memory behind it, so that a test can take all of it, and `malloc` gives no more than
+//! what is left in its heap then. A request of 16 bytes more than there are is refused, but freed
+//! blocks of a few sizes are kept apart by `malloc`, so a budget is a budget to within some of
+//! these.
+#![tactic(auto)]
+
+use std::alloc::{AllocError, Global};
+use std::process::Abort;
+
+/// The most blocks in one list: Linux lends no more than 65,530 ranges.
+const MOST_BLOCKS: usize = 60_000;
+
+/// The size of the first block that is tried, in bytes.
+const FIRST_SIZE: usize = 1 << 46;
+
+/// The least size of the blocks that are held from the start.
+const LARGE: usize = 1 << 18;
+
+/// From this size down each size that `malloc` tells apart is tried.
+const SMALL: usize = 2_048;
+
+/// The step between the sizes that `malloc` tells apart.
+const STEP: usize = 16;
+
+/// How many blocks of `CUSHION_SIZE` bytes are left to the test itself, to make its offices.
+const CUSHIONS: usize = 16;
+
+/// Small enough that `malloc` takes it from its heap.
+const CUSHION_SIZE: usize = 1 << 16;
+
+/// All address space of the process, but for what a test leaves free. What is held is never
+/// written.
+#[derive(Drop)]
+pub struct Hoard {
+    alloc: Global,
+    large: Vec<Vec<u8>>,
+    small: Vec<Vec<u8>>,
+}
+
+/// Takes blocks of this size until none is left, then smaller ones, down to a least size. It
+/// answers whether the list had room for all.
+fn take_all(alloc: Global, blocks: &mut Vec<Vec<u8>>, first: usize, least: usize) -> bool {
+    let mut size = first;
+    for _ in 0..MOST_BLOCKS {
+        let block: Result<Vec<u8>, AllocError> = Vec::with_capacity(alloc, size);
+        match block {
+            Ok(block) => {
+                let _ = blocks.push(block);
+            }
+            Err(_) if size <= least => return true,
+            Err(_) if size > SMALL => size /= 2,
+            Err(_) => size = size.saturating_sub(STEP),
+        }
+    }
+    false
+}
+
+impl Hoard {
+    /// Takes all address space but about 1,000,000 bytes, with which the test goes on.
+    pub fn take(rt: &impl Abort, alloc: Global) -> Result<Hoard, AllocError> {
+        let mut hoard = Hoard {
+            alloc,
+            large: Vec::with_capacity(alloc, MOST_BLOCKS)?,
+            small: Vec::with_capacity(alloc, MOST_BLOCKS)?,
+        };
+        for _ in 0..CUSHIONS {
+            hoard.small.push(Vec::with_capacity(alloc, CUSHION_SIZE)?)?;
+        }
+        let whole = take_all(alloc, &mut hoard.large, FIRST_SIZE, LARGE);
+        assert!(rt; whole, "more blocks of address space than the list takes");
+        hoard.small.clear();
+        Ok(hoard)
+    }
+
+    /// Takes what is left, but for this many bytes.
+    pub fn leave(&mut self, rt: &impl Abort, budget: usize) -> Result<(), AllocError> {
+        let room: Vec<u8> = Vec::with_capacity(self.alloc, budget.saturating_add(SMALL))?;
+        let whole = take_all(self.alloc, &mut self.small, LARGE, STEP);
+        assert!(rt; whole, "more small blocks than the list takes");
+        drop(room);
+        let front: Vec<u8> = Vec::with_capacity(self.alloc, SMALL)?;
+        self.small.push(front)?;
+        Ok(())
+    }
+
+    /// Gives back what `leave` took.
+    pub fn give_back(&mut self) {
+        self.small.clear();
+    }
+
+    /// How many blocks of address space are held from the start.
+    pub fn len(&self) -> usize {
+        self.large.len()
+    }
+}

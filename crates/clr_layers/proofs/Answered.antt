@@ -1,0 +1,10 @@
+-- One promise about an answer that gives another.
+use Rattle.std.specs.Prelude.{Result, Ok, Err, OnOk, OnErr}
+
+pub on_ok : {X E : Type 0} (r : Result X E) (P Q : Type 0) → (P → Q) → OnOk r P → OnOk r Q
+on_ok (Ok x) P Q f p = f p
+on_ok (Err e) P Q f p = p
+
+pub on_err : {X E : Type 0} (r : Result X E) (P Q : Type 0) → (P → Q) → OnErr r P → OnErr r Q
+on_err (Ok x) P Q f p = p
+on_err (Err e) P Q f p = f p

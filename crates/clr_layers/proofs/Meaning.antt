@@ -1,0 +1,179 @@
+-- What layers mean: names, parents, positions, and contents.
+use Rattle.std.proofs.Common.{◌≡◌, ℕ, suc, zero, ◌+◌, ◌<◌, ◌≤◌, Bool, true, false, cond, not, nat_lt, List, [], ◌∷◌, ◌++◌, length, map, take, Some, None, refl, ap, sym, subst, ◌∙◌, arith, append_assoc}
+use Rattle.std.proofs.lemmas.List.{append-nil}
+use Rattle.std.proofs.lemmas.Option.{none-some}
+use Rattle.std.specs.declared.option.Option.{Option}
+use Rattle.std.specs.List.{position_or_len}
+use Rattle.std.specs.Option.{option_or}
+use Rattle.std.specs.Str.{bytes_eq}
+use Rattle.std.specs.Cmp.Lexicographic.{bytes_decides}
+use Rattle.std.proofs.lemmas.Bool.{false≢true, ltb-true}
+use Rattle.clr_rows.specs.Contents.{Content}
+use Rattle.std.proofs.lemmas.Option.{same_Some}
+use Rattle.clr_layers.specs.Marks.{Name}
+use Rattle.clr_layers.specs.Workspaces.{Workspace, no_workspace, workspace_at, find}
+use Rattle.clr_layers.specs.Layers.{Layer, no_layer, layer_at, find_layer, whole_of, top, named, above_in, grow, wholes, above_at}
+
+-- lengths, names and parents -------------------------------------------------------------------
+
+length-grow : (ws : List Workspace) (ls : List Layer) → length (grow ws ls) ≡ length ls
+unfolding grow
+length-grow ws [] = refl
+length-grow ws (l ∷ ls) = ap suc (length-grow (ws ++ whole_of (above_in ws l) l ∷ []) ls)
+
+pub length-wholes : (live : Content) (ls : List Layer) → length (wholes live ls) ≡ length ls
+unfolding wholes
+length-wholes live [] = refl
+length-wholes live (l ∷ ls) = ap suc (length-grow (top live l ∷ []) ls)
+
+-- what a workspace shares with its layer, at each position and in the list
+module _ (f : Workspace → Name) (g : Layer → Name) (of_whole : (above : Content) (l : Layer) → f (whole_of above l) ≡ g l) (of_top : (live : Content) (l : Layer) → f (top live l) ≡ g l) (of_none : f no_workspace ≡ g no_layer) where
+  shared_grow : (ws : List Workspace) (ls : List Layer) (i : ℕ) → f (workspace_at (grow ws ls) i) ≡ g (layer_at ls i)
+  unfolding grow
+  shared_grow ws [] i = of_none
+  shared_grow ws (l ∷ ls) zero = of_whole (above_in ws l) l
+  shared_grow ws (l ∷ ls) (suc i) = shared_grow (ws ++ whole_of (above_in ws l) l ∷ []) ls i
+
+  pub shared : (live : Content) (ls : List Layer) (i : ℕ) → f (workspace_at (wholes live ls) i) ≡ g (layer_at ls i)
+  unfolding wholes
+  shared live [] i = of_none
+  shared live (l ∷ ls) zero = of_top live l
+  shared live (l ∷ ls) (suc i) = shared_grow (top live l ∷ []) ls i
+
+  mapped_grow : (ws : List Workspace) (ls : List Layer) → map f (grow ws ls) ≡ map g ls
+  unfolding grow
+  mapped_grow ws [] = refl
+  mapped_grow ws (l ∷ ls) = λ i. of_whole (above_in ws l) l i ∷ mapped_grow (ws ++ whole_of (above_in ws l) l ∷ []) ls i
+
+  pub mapped : (live : Content) (ls : List Layer) → map f (wholes live ls) ≡ map g ls
+  unfolding wholes
+  mapped live [] = refl
+  mapped live (l ∷ ls) = λ i. of_top live l i ∷ mapped_grow (top live l ∷ []) ls i
+
+pub name-whole : (above : Content) (l : Layer) → (whole_of above l).name ≡ l.name
+unfolding whole_of
+name-whole above l = refl
+
+name-top : (live : Content) (l : Layer) → (top live l).name ≡ l.name
+unfolding top
+name-top live l = refl
+
+parent-whole : (above : Content) (l : Layer) → (whole_of above l).parent ≡ l.parent
+unfolding whole_of
+parent-whole above l = refl
+
+parent-top : (live : Content) (l : Layer) → (top live l).parent ≡ l.parent
+unfolding top
+parent-top live l = refl
+
+current-top : (live : Content) (l : Layer) → (top live l).current ≡ live
+unfolding top
+current-top live l = refl
+
+pub name-wholes : (live : Content) (ls : List Layer) (i : ℕ) → (workspace_at (wholes live ls) i).name ≡ (layer_at ls i).name
+name-wholes = shared (λ w. w.name) (λ l. l.name) name-whole name-top refl
+
+pub parent-wholes : (live : Content) (ls : List Layer) (i : ℕ) → (workspace_at (wholes live ls) i).parent ≡ (layer_at ls i).parent
+parent-wholes = shared (λ w. w.parent) (λ l. l.parent) parent-whole parent-top refl
+
+pub names-wholes : (live : Content) (ls : List Layer) → map (λ (w : Workspace). w.name) (wholes live ls) ≡ map (λ (l : Layer). l.name) ls
+names-wholes = mapped (λ w. w.name) (λ l. l.name) name-whole name-top refl
+
+pub parents-wholes : (live : Content) (ls : List Layer) → map (λ (w : Workspace). w.parent) (wholes live ls) ≡ map (λ (l : Layer). l.parent) ls
+parents-wholes = mapped (λ w. w.parent) (λ l. l.parent) parent-whole parent-top refl
+
+-- a search by name is one over the names
+module _ {A : Type 0} (f : A → Name) (name : Name) where
+  first_named : (xs : List A) → position_or_len (λ a. bytes_eq name (f a)) xs ≡ position_or_len (bytes_eq name) (map f xs)
+  first_named [] = refl
+  first_named (x ∷ xs) = ap (λ n. cond (not (bytes_eq name (f x))) (1 + n) 0) (first_named xs)
+
+  length_named : (xs : List A) → length xs ≡ length (map f xs)
+  length_named [] = refl
+  length_named (x ∷ xs) = ap suc (length_named xs)
+
+abbrev found_in : ℕ → ℕ → Option ℕ
+found_in p n = cond (nat_lt p n) (Some p) None
+
+pub find-wholes : (live : Content) (ls : List Layer) (name : Name) → find (wholes live ls) name ≡ find_layer ls name
+find-wholes live ls name =
+    let ws = wholes live ls in
+    (λ i. found_in (first_named (λ (w : Workspace). w.name) name ws i) (length_named (λ (w : Workspace). w.name) name ws i))
+    ∙ ap (λ (names : List Name). found_in (position_or_len (bytes_eq name) names) (length names)) (names-wholes live ls)
+    ∙ sym (λ i. found_in (first_named (λ (l : Layer). l.name) name ls i) (length_named (λ (l : Layer). l.name) name ls i))
+
+-- the workspace at a position --------------------------------------------------------------------
+
+grow-at : (ws : List Workspace) (ls : List Layer) (i : ℕ) → i < length ls → workspace_at (grow ws ls) i ≡ whole_of (above_in (ws ++ take i (grow ws ls)) (layer_at ls i)) (layer_at ls i)
+unfolding grow
+grow-at ws [] i lt = absurd (omega arith)
+grow-at ws (l ∷ ls) zero lt = ap (λ (vs : List Workspace). whole_of (above_in vs l) l) (sym (append-nil ws))
+grow-at ws (l ∷ ls) (suc i) lt =
+    let w = whole_of (above_in ws l) l in
+    grow-at (ws ++ w ∷ []) ls i (omega arith) ∙ ap (λ (vs : List Workspace). whole_of (above_in vs (layer_at ls i)) (layer_at ls i)) (append_assoc ws (w ∷ []) (take i (grow (ws ++ w ∷ []) ls)))
+
+pub wholes-at : (live : Content) (ls : List Layer) (at : ℕ) → 0 < at → at < length ls → workspace_at (wholes live ls) at ≡ whole_of (above_at live ls at) (layer_at ls at)
+unfolding wholes
+wholes-at live [] at some lt = absurd (omega arith)
+wholes-at live (l ∷ ls) zero some lt = absurd (omega arith)
+wholes-at live (l ∷ ls) (suc at) some lt = grow-at (top live l ∷ []) ls at (omega arith)
+
+pub wholes-live : (live : Content) (ls : List Layer) → 0 < length ls → workspace_at (wholes live ls) 0 ≡ top live (layer_at ls 0)
+unfolding wholes
+wholes-live live [] lt = absurd (omega arith)
+wholes-live live (l ∷ ls) lt = refl
+
+pub live-wholes : (live : Content) (ls : List Layer) → 0 < length ls → (workspace_at (wholes live ls) 0).current ≡ live
+live-wholes live ls lt = ap (λ (w : Workspace). w.current) (wholes-live live ls lt) ∙ current-top live (layer_at ls 0)
+
+-- the content that a layer lies over is its parent's
+named_first : (ws : List Workspace) (name : Name) (p n : ℕ) → position_or_len (λ (w : Workspace). bytes_eq name w.name) ws ≡ p → p < length ws → p < n → named (take n ws) name ≡ Some (workspace_at ws p).current
+unfolding named
+named_first [] name p n e within lt = absurd (omega arith)
+named_first (w ∷ ws) name p zero e within lt = absurd (omega arith)
+named_first (w ∷ ws) name zero (suc n) e within lt = by (bytes_eq name w.name) e
+  where
+    by : (b : Bool) → cond (not b) (1 + position_or_len (λ (w : Workspace). bytes_eq name w.name) ws) 0 ≡ 0 → cond b (Some w.current) (named (take n ws) name) ≡ Some w.current
+    by true e = refl
+    by false e = absurd (omega (arith, e))
+named_first (w ∷ ws) name (suc p) (suc n) e within lt = by (bytes_eq name w.name) e (λ same. named_first ws name p n same (omega arith) (omega arith))
+  where
+    by : (b : Bool) → cond (not b) (1 + position_or_len (λ (w : Workspace). bytes_eq name w.name) ws) 0 ≡ suc p
+        → (position_or_len (λ (w : Workspace). bytes_eq name w.name) ws ≡ p → named (take n ws) name ≡ Some (workspace_at ws p).current) → cond b (Some w.current) (named (take n ws) name) ≡ Some (workspace_at ws p).current
+    by true e rest = absurd (omega (arith, e))
+    by false e rest = rest (omega (arith, e))
+
+pub named_found : (ws : List Workspace) (name : Name) (p n : ℕ) → find ws name ≡ Some p → p < n → named (take n ws) name ≡ Some (workspace_at ws p).current
+named_found ws name p n e lt = by (nat_lt (position_or_len (λ (w : Workspace). bytes_eq name w.name) ws) (length ws)) refl e
+  where
+    by : (b : Bool) → nat_lt (position_or_len (λ (w : Workspace). bytes_eq name w.name) ws) (length ws) ≡ b → cond b (Some (position_or_len (λ (w : Workspace). bytes_eq name w.name) ws)) None ≡ Some p → named (take n ws) name ≡ Some (workspace_at ws p).current
+    by true within e = let same = same_Some _ p e in named_first ws name p n same (subst (λ k. k < length ws) same (ltb-true _ _ within)) lt
+    by false within e = absurd (none-some p e)
+
+-- a name whose first position isn't among the first few isn't named there
+pub named_later : (ws : List Workspace) (name : Name) (n : ℕ) → n ≤ position_or_len (λ (w : Workspace). bytes_eq name w.name) ws → named (take n ws) name ≡ None
+unfolding named
+named_later ws name zero le = refl
+named_later [] name (suc n) le = refl
+named_later (w ∷ ws) name (suc n) le = by (bytes_eq name w.name) le (λ less. named_later ws name n less)
+  where
+    by : (b : Bool) → suc n ≤ cond (not b) (1 + position_or_len (λ (w : Workspace). bytes_eq name w.name) ws) 0
+        → (n ≤ position_or_len (λ (w : Workspace). bytes_eq name w.name) ws → named (take n ws) name ≡ None) → cond b (Some w.current) (named (take n ws) name) ≡ None
+    by true le rest = absurd (omega arith)
+    by false le rest = rest (omega arith)
+
+pub named-append : (vs : List Workspace) (w : Workspace) (n : Name) → named (vs ++ w ∷ []) n ≡ option_or (named vs n) (cond (bytes_eq n w.name) (Some w.current) None)
+unfolding named
+named-append [] w n = refl
+named-append (v ∷ vs) w n = ap (cond (bytes_eq n v.name) (Some v.current)) (named-append vs w n) ∙ by (bytes_eq n v.name)
+  where
+    by : (b : Bool) → cond b (Some v.current) (option_or (named vs n) (cond (bytes_eq n w.name) (Some w.current) None)) ≡ option_or (cond b (Some v.current) (named vs n)) (cond (bytes_eq n w.name) (Some w.current) None)
+    by true = refl
+    by false = refl
+
+pub not_from : (b : Bool) → (b ≡ true → ⊥) → b ≡ false
+not_from true h = absurd (h refl)
+not_from false h = refl
+
+pub differ_back : (a b : Name) → bytes_eq a b ≡ false → bytes_eq b a ≡ false
+differ_back a b e = not_from (bytes_eq b a) (λ h. false≢true (sym e ∙ (bytes_decides a b).1 (sym ((bytes_decides b a).0 h))))

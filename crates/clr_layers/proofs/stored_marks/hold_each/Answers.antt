@@ -1,0 +1,26 @@
+use Rattle.std.proofs.Common.{◌≡◌, ℕ, suc, zero, ◌+◌, List, [], ◌∷◌, take, slice_set, subst, arith, ◌∙◌, ap}
+use Rattle.std.proofs.Math.Seq.{map-set_same}
+use Rattle.clr_rows.specs.declared.cells.CellId.{CellId}
+use Rattle.clr_layers.specs.declared.stored_marks.StoredMark.{StoredMark}
+use Rattle.clr_layers.specs.Layers.{whole_mark, MarkHolds, EachMarkHolds}
+use Rattle.clr_layers.proofs.stored_marks.hold_each.Goals as goal
+
+next : (cell : CellId) (ms : List StoredMark) (i : ℕ) (m : StoredMark) → EachMarkHolds (take i ms) cell → MarkHolds cell m → EachMarkHolds (take (suc i) (slice_set ms i m)) cell
+next cell [] i m held one = tt
+next cell (x ∷ ms) zero m held one = (one, tt)
+next cell (x ∷ ms) (suc i) m held one = (held.0, next cell ms i m held.1 one)
+
+-- one more mark has an entry
+one_more : (cell : CellId) (ms : List StoredMark) (i : ℕ) (m : StoredMark) → EachMarkHolds (take i ms) cell → MarkHolds cell m → EachMarkHolds (take (i + 1) (slice_set ms i m)) cell
+one_more cell ms i m held one = let same : suc i ≡ i + 1 = omega arith in subst (λ j. EachMarkHolds (take j (slice_set ms i m)) cell) same (next cell ms i m held one)
+
+pub returns-in_err-hold-clause-seen : goal.returns-in_err-hold-clause-seen
+returns-in_err-hold-clause-seen c = λ base is.
+    map-set_same (whole_mark base) c.loop-i.marks.items c.loop-i.i c.hold.new.mark c.index_mut.result.now (c.hold.ensures.seen base is ∙ ap (whole_mark base) c.index_mut.ensures.value) ∙ c.loop-i.invariant.seen base is
+
+pub loop-i-preserved : goal.loop-i-preserved
+loop-i-preserved c = record {
+  seen = λ base is.
+      map-set_same (whole_mark base) c.loop-i.marks.items c.loop-i.i c.hold.new.mark c.index_mut.result.now (c.hold.ensures.seen base is ∙ ap (whole_mark base) c.index_mut.ensures.value) ∙ c.loop-i.invariant.seen base is;
+  held = one_more c.args.cell c.loop-i.marks.items c.loop-i.i c.hold.new.mark c.loop-i.invariant.held c.in_ok-hold.ensures.held;
+}

@@ -1,0 +1,161 @@
+-- What is stored of workspaces, and the whole contents that it means.
+use Rattle.std.specs.Prelude.{◌≡◌, ℕ, ◌+◌, Bool, true, false, not, ◌⊎◌, if◌then◌else◌, refl, Option, Some, None, unwrap_or}
+use Rattle.std.specs.Prelude.{List, [], ◌∷◌, ◌++◌, length, map, take, filter, position, slice_set, slice_index_or}
+use Rattle.std.proofs.Common.{inl, inr}
+use Rattle.std.specs.Coded.{Coded, code_by, coded×, coded⊎, coded_list, coded_bool}
+use Rattle.std.specs.FinMap as finite
+use Rattle.std.specs.Str.{bytes_eq}
+use Rattle.clr_rows.specs.declared.cells.CellId.{CellId}
+use Rattle.clr_rows.specs.Contents.{Content, no_rows}
+use Rattle.clr_differences.specs.Differences.{Differences, Rows, coded_differences, no_differences, put_each, seen_over, HasEntry}
+use Rattle.clr_layers.specs.Marks.{Name, Mark, Saved, ChildMark, coded_name}
+use Rattle.clr_layers.specs.Workspaces.{Workspace}
+use Rattle.clr_layers.specs.declared.stored_marks.StoredMark.{StoredMark}
+use Rattle.clr_layers.specs.declared.stored_marks.StoredMark.TheVariants as stored
+
+-- what is stored of a workspace: its base by differences from its parent's content, its content and savepoints by those from its base
+pub record Layer : Type 0 where
+  pub name : Name
+  pub parent : Name
+  pub base : Differences
+  pub current : Differences
+  pub marks : List StoredMark
+  pub kept : Bool
+
+abbrev pub StoredParts : Type 0
+StoredParts = (Name × Differences) ⊎ Name
+
+abbrev pub stored_parts : StoredMark → StoredParts
+stored_parts (stored.Saved name d) = inl (name, d)
+stored_parts (stored.Child name) = inr name
+
+abbrev pub stored_of_parts : StoredParts → StoredMark
+stored_of_parts (inl saved) = stored.Saved saved.0 saved.1
+stored_of_parts (inr name) = stored.Child name
+
+pub stored_of_parts_of_stored : (mark : StoredMark) → stored_of_parts (stored_parts mark) ≡ mark
+stored_of_parts_of_stored (stored.Saved name d) = refl
+stored_of_parts_of_stored (stored.Child name) = refl
+
+abbrev pub coded_stored : Coded StoredMark
+coded_stored = code_by StoredParts (coded⊎ (coded× coded_name coded_differences) coded_name) stored_parts stored_of_parts stored_of_parts_of_stored
+
+abbrev pub coded_layer : Coded Layer
+coded_layer =
+    code_by (Name × (Name × (Differences × (Differences × (List StoredMark × Bool)))))
+    (coded× coded_name (coded× coded_name (coded× coded_differences (coded× coded_differences (coded× (coded_list coded_stored) coded_bool)))))
+    (λ l. (l.name, (l.parent, (l.base, (l.current, (l.marks, l.kept))))))
+    (λ p. record { name = p.0; parent = p.1.0; base = p.1.1.0; current = p.1.1.1.0; marks = p.1.1.1.1.0; kept = p.1.1.1.1.1 })
+    (λ _. refl)
+
+abbrev pub no_layer : Layer
+no_layer = record { name = []; parent = []; base = no_differences; current = no_differences; marks = []; kept = false }
+
+-- the layer at a position
+abbrev pub layer_at : List Layer → ℕ → Layer
+layer_at ls at = slice_index_or ls at no_layer
+
+-- the layer at a position changed by f
+abbrev pub layer_changed : List Layer → ℕ → (Layer → Layer) → List Layer
+layer_changed ls at f = slice_set ls at (f (layer_at ls at))
+
+-- the position of a name
+abbrev pub find_layer : List Layer → Name → Option ℕ
+find_layer ls name = position (λ l. bytes_eq name l.name) ls
+
+-- the layer is that of a child of the workspace of this name
+abbrev pub IsUnder : Name → Layer → Type 0
+IsUnder name l = bytes_eq name l.parent ≡ true
+
+-- a layer without differences and marks
+abbrev pub leaf : Name → Name → Layer
+leaf name parent = record { name = name; parent = parent; base = no_differences; current = no_differences; marks = []; kept = false }
+
+-- how many entries a layer has in its base and its current content
+abbrev pub stored_in : Layer → ℕ
+stored_in l = length (finite.keys l.base) + length (finite.keys l.current)
+
+-- MARKS
+
+-- the position of a mark
+abbrev pub stored_at : List StoredMark → ℕ → StoredMark
+stored_at marks i = slice_index_or marks i (stored.Child [])
+
+abbrev pub is_stored_child : StoredMark → Bool
+is_stored_child (stored.Saved name d) = false
+is_stored_child (stored.Child name) = true
+
+abbrev pub is_stored_saved : StoredMark → Bool
+is_stored_saved mark = not (is_stored_child mark)
+
+abbrev pub is_stored_saved_as : Name → StoredMark → Bool
+is_stored_saved_as name (stored.Saved other d) = bytes_eq name other
+is_stored_saved_as name (stored.Child other) = false
+
+abbrev pub is_stored_mark_of : Name → StoredMark → Bool
+is_stored_mark_of child (stored.Saved name d) = false
+is_stored_mark_of child (stored.Child name) = bytes_eq child name
+
+abbrev pub stored_without_mark_of : Name → List StoredMark → List StoredMark
+stored_without_mark_of child marks = filter (λ m. not (is_stored_mark_of child m)) marks
+
+-- the differences of a savepoint from the base
+abbrev pub saved_differences : StoredMark → Differences
+saved_differences (stored.Saved name d) = d
+saved_differences (stored.Child name) = no_differences
+
+abbrev pub MarkHolds : CellId → StoredMark → Type 0
+MarkHolds cell (stored.Saved name d) = HasEntry d cell
+MarkHolds cell (stored.Child name) = Unit {0}
+
+-- each savepoint has an entry at a cell
+abbrev pub EachMarkHolds : List StoredMark → CellId → Type 0
+EachMarkHolds [] cell = Unit {0}
+EachMarkHolds (m ∷ ms) cell = MarkHolds cell m × EachMarkHolds ms cell
+
+-- a layer whose base takes rows over, and whose current content is the base; the savepoints go
+abbrev pub rows_taken_over : Rows → Layer → Layer
+rows_taken_over rows l = record l { base = put_each l.base rows; current = no_differences; marks = filter is_stored_child l.marks }
+
+-- a layer over the parent's content, with these differences; the savepoints go
+abbrev pub restarted_with : Differences → Layer → Layer
+restarted_with current l = record l { base = no_differences; current = current; marks = filter is_stored_child l.marks }
+
+-- MEANING
+
+abbrev pub whole_mark : Content → StoredMark → Mark
+whole_mark base (stored.Saved name d) = Saved name (seen_over base d)
+whole_mark base (stored.Child name) = ChildMark name
+
+-- a workspace whose parent has this content
+unfoldable pub whole_of : Content → Layer → Workspace
+whole_of above l =
+    let base = seen_over above l.base in
+    record { name = l.name; parent = l.parent; base = base; current = seen_over base l.current; marks = map (whole_mark base) l.marks; kept = l.kept }
+
+-- LIVE, which is stored whole beside its layer
+unfoldable pub top : Content → Layer → Workspace
+top live l = record { name = l.name; parent = l.parent; base = no_rows; current = live; marks = []; kept = true }
+
+-- the current content of the first of some workspaces that has the name
+unfoldable pub named : List Workspace → Name → Option Content
+named [] name = None
+named (w ∷ ws) name = if bytes_eq name w.name then Some w.current else named ws name
+
+-- the content of the parent of a layer, from the workspaces before it
+abbrev pub above_in : List Workspace → Layer → Content
+above_in ws l = unwrap_or (named ws l.parent) no_rows
+
+-- the workspaces that layers mean, after those before them
+unfoldable pub grow : List Workspace → List Layer → List Workspace
+grow ws [] = []
+grow ws (l ∷ ls) = let w = whole_of (above_in ws l) l in w ∷ grow (ws ++ w ∷ []) ls
+
+-- the whole workspaces, LIVE first
+unfoldable pub wholes : Content → List Layer → List Workspace
+wholes live [] = []
+wholes live (l ∷ ls) = let w = top live l in w ∷ grow (w ∷ []) ls
+
+-- the content that the layer at a position lies over
+abbrev pub above_at : Content → List Layer → ℕ → Content
+above_at live ls at = above_in (take at (wholes live ls)) (layer_at ls at)

@@ -1,0 +1,4 @@
+pub mod Entries
+pub mod Layers
+pub mod Marks
+pub mod Workspaces

@@ -1,0 +1,8 @@
+//! What is stored of the workspaces of a tree: a map of layers by name, in order of creation.
+#![tactic(auto)]
+
+mod stored_marks;
+mod workspace_maps;
+
+pub use stored_marks::{StoredMark, count_marks_of, count_saved, find_saved, has_child_after};
+pub use workspace_maps::{Layer, WorkspaceMap};

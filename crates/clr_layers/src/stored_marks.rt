@@ -1,0 +1,176 @@
+ghost use Rattle.std.specs.Prelude.{◌≡◌, ◌<◌, ◌++◌, [], ◌∷◌, suc, map, take, drop, filter, remove, length, count_by, position, OnOk, OnErr};
+ghost use Rattle.std.specs.List.{list_any};
+ghost use Rattle.std.specs.Option.{option_copied};
+ghost use Rattle.clr_rows.specs.Contents.{Content, row_at};
+ghost use Rattle.clr_layers.specs.Layers.{whole_mark, is_stored_child, is_stored_saved, is_stored_saved_as, is_stored_mark_of};
+ghost use Rattle.clr_layers.specs.Layers.{stored_without_mark_of, MarkHolds, EachMarkHolds};
+ghost use Rattle.clr_layers.specs.declared.stored_marks.StoredMark.TheVariants.{Child};
+
+use clr_differences::Differences;
+use clr_rows::{CellId, Row, Words};
+use std::alloc::AllocError;
+
+/// A mark as it is stored: a savepoint by its differences from the base, or the mark that the
+/// making of a child left.
+#[derive(Drop)]
+pub enum StoredMark {
+    Saved(Words, Differences),
+    Child(Words),
+}
+
+fn hold(mark: &mut StoredMark, cell: CellId, row: Option<&Row>) -> Result<(), AllocError>
+    ensures seen { (base : Content) → row_at base cell ≡ option_copied row.entry → whole_mark base mark.new ≡ whole_mark base mark.old }
+    ensures held { OnOk result (MarkHolds cell mark.new) }
+{
+    match mark {
+        StoredMark::Saved(_, differences) => differences.hold(cell, row),
+        StoredMark::Child(_) => Ok(()),
+    }
+}
+
+/// Makes an entry at a cell in each savepoint that has none there, with the row of the base, so
+/// that no savepoint's content changes. It fails for want of memory alone.
+pub(crate) fn hold_each(
+    marks: &mut Vec<StoredMark>,
+    cell: CellId,
+    row: Option<&Row>,
+) -> Result<(), AllocError>
+    ensures seen { (b : Content) → row_at b cell ≡ option_copied row.entry → map (whole_mark b) marks.new.items ≡ map (whole_mark b) marks.old.items }
+    ensures held { OnOk result (EachMarkHolds marks.new.items cell) }
+{
+    for i in 0..marks.len() {
+        hold(&mut marks[i], cell, row)?;
+    }
+    Ok(())
+}
+
+fn is_child(mark: &StoredMark) -> bool
+    ensures { result ≡ is_stored_child mark.now }
+{
+    match mark {
+        StoredMark::Saved(_, _) => false,
+        StoredMark::Child(_) => true,
+    }
+}
+
+fn is_saved(mark: &StoredMark) -> bool
+    ensures { result ≡ is_stored_saved mark.now }
+{
+    !is_child(mark)
+}
+
+fn is_saved_as(mark: &StoredMark, name: &str) -> bool
+    ensures { result ≡ is_stored_saved_as name.now mark.now }
+{
+    match mark {
+        StoredMark::Saved(other, _) => name == other.as_str(),
+        StoredMark::Child(_) => false,
+    }
+}
+
+fn is_mark_of(mark: &StoredMark, child: &str) -> bool
+    ensures { result ≡ is_stored_mark_of child.now mark.now }
+{
+    match mark {
+        StoredMark::Saved(_, _) => false,
+        StoredMark::Child(name) => child == name.as_str(),
+    }
+}
+
+/// How many savepoints there are.
+pub fn count_saved(marks: &[StoredMark]) -> usize
+    ensures { result ≡ count_by is_stored_saved marks.now }
+{
+    let mut count = 0;
+    for mark in marks {
+        if is_saved(mark) {
+            count += 1;
+        }
+    }
+    count
+}
+
+/// How many marks a child has.
+pub fn count_marks_of(marks: &[StoredMark], child: &str) -> usize
+    ensures { result ≡ count_by (is_stored_mark_of child.now) marks.now }
+{
+    let mut count = 0;
+    for mark in marks {
+        if is_mark_of(mark, child) {
+            count += 1;
+        }
+    }
+    count
+}
+
+/// The position of the savepoint of a name, or none.
+pub fn find_saved(marks: &[StoredMark], name: &str) -> Option<usize>
+    ensures { result ≡ position (is_stored_saved_as name.now) marks.now }
+{
+    marks.iter().position(|mark| is_saved_as(mark, name))
+}
+
+fn has_child(marks: &[StoredMark]) -> bool
+    ensures { result ≡ list_any is_stored_child marks.now }
+{
+    marks.iter().any(|mark| is_child(mark))
+}
+
+/// Whether the mark of a child stands after a position.
+pub fn has_child_after(marks: &[StoredMark], at: usize) -> bool
+    requires { at < length marks.now }
+    ensures { result ≡ list_any is_stored_child (drop (suc at) marks.now) }
+{
+    has_child(&marks[at + 1..])
+}
+
+/// Puts a mark at the end. It fails for want of memory alone, and changes nothing then.
+pub(crate) fn push_mark(marks: &mut Vec<StoredMark>, mark: StoredMark) -> Result<(), AllocError>
+    ensures ok { OnOk result (marks.new.items ≡ marks.old.items ++ mark ∷ []) }
+    ensures err { OnErr result (marks.new.items ≡ marks.old.items) }
+{
+    marks.push(mark)?;
+    Ok(())
+}
+
+/// Moves the mark of a child to the end. It fails for want of memory alone, and changes nothing
+/// then.
+pub(crate) fn move_last(marks: &mut Vec<StoredMark>, child: Words) -> Result<(), AllocError>
+    ensures ok { OnOk result (marks.new.items ≡ stored_without_mark_of child marks.old.items ++ Child child ∷ []) }
+    ensures err { OnErr result (marks.new.items ≡ marks.old.items) }
+{
+    marks.reserve(1)?;
+    marks.retain(|mark| !is_mark_of(mark, child.as_str()));
+    marks.push_reserved(StoredMark::Child(child));
+    Ok(())
+}
+
+/// Takes the mark of a child away.
+pub(crate) fn drop_mark_of(marks: &mut Vec<StoredMark>, child: &str)
+    ensures { marks.new.items ≡ stored_without_mark_of child.now marks.old.items }
+{
+    marks.retain(|mark| !is_mark_of(mark, child));
+}
+
+/// Takes the savepoints away.
+pub(crate) fn drop_saved(marks: &mut Vec<StoredMark>)
+    ensures { marks.new.items ≡ filter is_stored_child marks.old.items }
+{
+    marks.retain(|mark| is_child(mark));
+}
+
+/// Takes the mark at a position away.
+pub(crate) fn drop_mark(marks: &mut Vec<StoredMark>, at: usize)
+    requires { at < length marks.old.items }
+    ensures { marks.new.items ≡ remove marks.old.items at }
+{
+    let _gone = marks.remove(at);
+}
+
+/// Takes the marks after a position away.
+pub(crate) fn cut_after(marks: &mut Vec<StoredMark>, at: usize)
+    requires { at < length marks.old.items }
+    ensures { marks.new.items ≡ take (suc at) marks.old.items }
+{
+    marks.truncate(at + 1);
+}

@@ -1,0 +1,373 @@
+ghost use Rattle.std.specs.Prelude.{◌≡◌, ◌<◌, ◌++◌, [], ◌∷◌, suc, None, map, take, filter, remove, length, count_by, string_bytes, OnOk, OnErr, IfSome};
+ghost use Rattle.std.specs.FinMap as finite;
+ghost use Rattle.std.specs.Option.{option_copied};
+ghost use Rattle.std.specs.Str.{bytes_eq};
+ghost use Rattle.indexmap.specs.IndexMap.{values};
+ghost use Rattle.clr_rows.specs.Contents.{Content, row_at};
+ghost use Rattle.clr_differences.specs.Differences.{no_differences, put_each, cells_in, HasEntry, HasEntries};
+ghost use Rattle.clr_layers.specs.Layers.{layer_at, layer_changed, find_layer, stored_in, whole_mark, is_stored_child};
+ghost use Rattle.clr_layers.specs.Layers.{stored_without_mark_of, EachMarkHolds, rows_taken_over, restarted_with};
+ghost use Rattle.clr_layers.specs.Entries.{layer_of};
+ghost use Rattle.clr_layers.specs.declared.stored_marks.StoredMark.TheVariants.{Child};
+
+use crate::stored_marks::{
+    StoredMark, cut_after, drop_mark, drop_mark_of, drop_saved, hold_each, move_last, push_mark,
+};
+use clr_differences::Differences;
+use clr_rows::{CellId, Row, Words};
+use indexmap::IndexMap;
+use std::alloc::{AllocError, Global};
+use std::marker::Model;
+use std::mem;
+
+/// What is stored of a workspace under its name: its base by differences from its parent's
+/// content, its current content and its savepoints by differences from its base.
+#[derive(Drop)]
+pub struct Layer {
+    pub parent: Words,
+    pub base: Differences,
+    pub current: Differences,
+    pub marks: Vec<StoredMark>,
+    pub kept: bool,
+}
+
+fn count_children(map: &IndexMap<String, Layer>, name: &str) -> usize
+    ensures { result ≡ count_by (λ l. bytes_eq name.now l.parent) (values map.now) }
+{
+    map.values()
+        .filter(|layer| name == layer.parent.as_str())
+        .count()
+}
+
+/// The layers of workspaces by name, in order of creation.
+#[derive(Drop)]
+pub struct WorkspaceMap {
+    map: IndexMap<String, Layer>,
+}
+
+impl Model for WorkspaceMap {
+    ghost use Rattle.std.specs.Prelude.{List};
+    ghost use Rattle.std.specs.Coded.{coded_list};
+    ghost use Rattle.clr_layers.specs.Layers.{Layer as WholeLayer, coded_layer};
+
+    ghost Value = { List WholeLayer };
+
+    ghost coded = { coded_list coded_layer };
+
+    ghost use Rattle.clr_layers.specs.Entries.{layers_of};
+
+    ghost view = { λ w. layers_of w.map.entries };
+}
+
+impl WorkspaceMap {
+    /// A map of no workspaces.
+    pub fn new(alloc: Global) -> WorkspaceMap
+        ensures { result ≡ [] }
+    {
+        WorkspaceMap {
+            map: IndexMap::new(alloc),
+        }
+    }
+
+    /// The allocator that the map was made with.
+    pub fn allocator(&self) -> Global {
+        *self.map.allocator()
+    }
+
+    /// How many workspaces there are.
+    pub fn len(&self) -> usize
+        ensures { result ≡ length self.now }
+    {
+        self.map.len()
+    }
+
+    /// The position of a name, or none.
+    pub fn find(&self, name: &str) -> Option<usize>
+        ensures found { result ≡ find_layer self.now name.now }
+        ensures within { IfSome result (λ at. at < length self.now) }
+    {
+        self.map.get_index_of(name)
+    }
+
+    /// The name of the workspace at a position.
+    pub fn name_at(&self, at: usize) -> &str
+        requires { at < length self.now }
+        ensures { result.now ≡ (layer_at self.now at).name }
+    {
+        let (name, _) = self.map.get_index(at).unwrap();
+        name.as_str()
+    }
+
+    /// The name of the parent of the workspace at a position.
+    pub fn parent_name(&self, at: usize) -> &str
+        requires { at < length self.now }
+        ensures { result.now ≡ (layer_at self.now at).parent }
+    {
+        let layer = &self.map[at];
+        layer.parent.as_str()
+    }
+
+    /// Whether every rule is to hold in the workspace at a position.
+    pub fn kept(&self, at: usize) -> bool
+        requires { at < length self.now }
+        ensures { result ≡ (layer_at self.now at).kept }
+    {
+        let layer = &self.map[at];
+        layer.kept
+    }
+
+    /// The differences of the base of the workspace at a position.
+    pub fn base(&self, at: usize) -> &Differences
+        requires { at < length self.now }
+        ensures { result.now ≡ (layer_at self.now at).base }
+    {
+        let layer = &self.map[at];
+        &layer.base
+    }
+
+    /// The differences of the current content of the workspace at a position.
+    pub fn current(&self, at: usize) -> &Differences
+        requires { at < length self.now }
+        ensures { result.now ≡ (layer_at self.now at).current }
+    {
+        let layer = &self.map[at];
+        &layer.current
+    }
+
+    /// The marks of the workspace at a position.
+    pub fn marks(&self, at: usize) -> &[StoredMark]
+        requires { at < length self.now }
+        ensures { result.now ≡ (layer_at self.now at).marks }
+    {
+        let layer = &self.map[at];
+        layer.marks.as_slice()
+    }
+
+    /// How many workspaces have this name as that of their parent.
+    pub fn children(&self, name: &str) -> usize
+        ensures { result ≡ count_by (λ l. bytes_eq name.now l.parent) self.now }
+    {
+        count_children(&self.map, name)
+    }
+
+    /// Puts a layer of a new name at the end. It fails for want of memory alone, and changes
+    /// nothing then.
+    pub fn push(&mut self, name: String, layer: Layer) -> Result<(), AllocError>
+        requires { find_layer self.old (string_bytes name) ≡ None }
+        ensures ok { OnOk result (self.new ≡ self.old ++ layer_of (name, layer) ∷ []) }
+        ensures err { OnErr result (self.new ≡ self.old) }
+    {
+        self.map.insert(name, layer)?;
+        Ok(())
+    }
+
+    /// Takes the workspace at a position away, and answers its name.
+    pub fn remove(&mut self, at: usize) -> String
+        requires { at < length self.old }
+        ensures name { string_bytes result ≡ (layer_at self.old at).name }
+        ensures gone { self.new ≡ remove self.old at }
+    {
+        let (name, _) = self.map.shift_remove_index(at).unwrap();
+        name
+    }
+
+    /// Puts an entry into a base. It fails for want of memory alone, and changes nothing then.
+    pub fn put_base(&mut self, at: usize, cell: CellId, row: Option<Row>) -> Result<(), AllocError>
+        requires { at < length self.old }
+        ensures ok { OnOk result (self.new ≡ layer_changed self.old at (λ l. record l { base = finite.insert l.base cell row })) }
+        ensures err { OnErr result (self.new ≡ self.old) }
+    {
+        let (_, layer) = self.map.pair_mut(at);
+        layer.base.put(cell, row)
+    }
+
+    /// Puts an entry into a current content. It fails for want of memory alone, and changes
+    /// nothing then.
+    pub fn put_current(
+        &mut self,
+        at: usize,
+        cell: CellId,
+        row: Option<Row>,
+    ) -> Result<(), AllocError>
+        requires { at < length self.old }
+        ensures ok { OnOk result (self.new ≡ layer_changed self.old at (λ l. record l { current = finite.insert l.current cell row })) }
+        ensures err { OnErr result (self.new ≡ self.old) }
+    {
+        let (_, layer) = self.map.pair_mut(at);
+        layer.current.put(cell, row)
+    }
+
+    /// Makes an entry at a cell in each savepoint that has none there, with the row of the base,
+    /// so that no savepoint's content changes. It fails for want of memory alone.
+    pub fn hold_saved(
+        &mut self,
+        at: usize,
+        cell: CellId,
+        row: Option<&Row>,
+    ) -> Result<(), AllocError>
+        requires { at < length self.old }
+        ensures others { self.new ≡ layer_changed self.old at (λ l. record l { marks = (layer_at self.new at).marks }) }
+        ensures seen { (base : Content) → row_at base cell ≡ option_copied row.entry
+            → map (whole_mark base) (layer_at self.new at).marks ≡ map (whole_mark base) (layer_at self.old at).marks }
+        ensures held { OnOk result (EachMarkHolds (layer_at self.new at).marks cell) }
+    {
+        let (_, layer) = self.map.pair_mut(at);
+        hold_each(&mut layer.marks, cell, row)
+    }
+
+    /// Sets entries that a current content has.
+    pub fn set_current(&mut self, at: usize, rows: Vec<(CellId, Option<Row>)>)
+        requires there { at < length self.old }
+        requires held { HasEntries (layer_at self.old at).current (cells_in rows.items) }
+        ensures { self.new ≡ layer_changed self.old at (λ l. record l { current = put_each l.current rows.items }) }
+    {
+        let (_, layer) = self.map.pair_mut(at);
+        layer.current.set_each(rows);
+    }
+
+    /// Sets entries that a base has; the current content becomes the base, and the savepoints go.
+    pub fn take_over(&mut self, at: usize, rows: Vec<(CellId, Option<Row>)>)
+        requires there { at < length self.old }
+        requires held { HasEntries (layer_at self.old at).base (cells_in rows.items) }
+        ensures { self.new ≡ layer_changed self.old at (rows_taken_over rows.items) }
+    {
+        let alloc = self.allocator();
+        let (_, layer) = self.map.pair_mut(at);
+        layer.base.set_each(rows);
+        layer.current = Differences::new(alloc);
+        drop_saved(&mut layer.marks);
+    }
+
+    /// The base becomes the parent's content, and the current content has these differences from
+    /// it; the savepoints go.
+    pub fn restart(&mut self, at: usize, current: Differences)
+        requires { at < length self.old }
+        ensures { self.new ≡ layer_changed self.old at (restarted_with current) }
+    {
+        let alloc = self.allocator();
+        let (_, layer) = self.map.pair_mut(at);
+        layer.base = Differences::new(alloc);
+        layer.current = current;
+        drop_saved(&mut layer.marks);
+    }
+
+    /// The current content becomes the base, and the savepoints go.
+    pub fn roll_all(&mut self, at: usize)
+        requires { at < length self.old }
+        ensures { self.new ≡ layer_changed self.old at (λ l. record l { current = no_differences; marks = filter is_stored_child l.marks }) }
+    {
+        let alloc = self.allocator();
+        let (_, layer) = self.map.pair_mut(at);
+        layer.current = Differences::new(alloc);
+        drop_saved(&mut layer.marks);
+    }
+
+    /// The current content has other differences from the base, and the marks after a position go.
+    pub fn roll_to(&mut self, at: usize, current: Differences, mark: usize)
+        requires there { at < length self.old }
+        requires marked { mark < length (layer_at self.old at).marks }
+        ensures { self.new ≡ layer_changed self.old at (λ l. record l { current = current; marks = take (suc mark) l.marks }) }
+    {
+        let (_, layer) = self.map.pair_mut(at);
+        layer.current = current;
+        cut_after(&mut layer.marks, mark);
+    }
+
+    /// Takes the entry at a cell out of a base.
+    pub fn take_base(&mut self, at: usize, cell: CellId)
+        requires { at < length self.old }
+        ensures { self.new ≡ layer_changed self.old at (λ l. record l { base = finite.remove l.base cell }) }
+    {
+        let (_, layer) = self.map.pair_mut(at);
+        layer.base.take(cell);
+    }
+
+    /// Takes the entry at a cell out of a base, and sets the one that the current content has.
+    pub fn move_row(&mut self, at: usize, cell: CellId, row: Option<Row>)
+        requires there { at < length self.old }
+        requires held { HasEntry (layer_at self.old at).current cell }
+        ensures { self.new ≡ layer_changed self.old at (λ l. record l { base = finite.remove l.base cell; current = finite.insert l.current cell row }) }
+    {
+        let (_, layer) = self.map.pair_mut(at);
+        layer.base.take(cell);
+        layer.current.set(cell, row);
+    }
+
+    /// How many entries the base and the current content of the workspace at a position have.
+    pub fn stored(&self, at: usize) -> usize
+        requires { at < length self.now }
+        ensures { result ≡ stored_in (layer_at self.now at) }
+    {
+        let layer = &self.map[at];
+        layer.base.len() + layer.current.len()
+    }
+
+    /// Replaces the differences of a base, and answers the old ones.
+    pub fn replace_base(&mut self, at: usize, base: Differences) -> Differences
+        requires { at < length self.old }
+        ensures before { result ≡ (layer_at self.old at).base }
+        ensures new { self.new ≡ layer_changed self.old at (λ l. record l { base = base }) }
+    {
+        let (_, layer) = self.map.pair_mut(at);
+        mem::replace(&mut layer.base, base)
+    }
+
+    /// Replaces the differences of a current content, and answers the old ones.
+    pub fn replace_current(&mut self, at: usize, current: Differences) -> Differences
+        requires { at < length self.old }
+        ensures before { result ≡ (layer_at self.old at).current }
+        ensures new { self.new ≡ layer_changed self.old at (λ l. record l { current = current }) }
+    {
+        let (_, layer) = self.map.pair_mut(at);
+        mem::replace(&mut layer.current, current)
+    }
+
+    /// Puts a mark at the end. It fails for want of memory alone, and changes nothing then.
+    pub fn push_mark(&mut self, at: usize, mark: StoredMark) -> Result<(), AllocError>
+        requires { at < length self.old }
+        ensures ok { OnOk result (self.new ≡ layer_changed self.old at (λ l. record l { marks = l.marks ++ mark ∷ [] })) }
+        ensures err { OnErr result (self.new ≡ self.old) }
+    {
+        let (_, layer) = self.map.pair_mut(at);
+        push_mark(&mut layer.marks, mark)
+    }
+
+    /// Moves the mark of a child to the end. It fails for want of memory alone, and changes
+    /// nothing then.
+    pub fn move_mark_last(&mut self, at: usize, child: Words) -> Result<(), AllocError>
+        requires { at < length self.old }
+        ensures ok { OnOk result (self.new ≡ layer_changed self.old at (λ l. record l { marks = stored_without_mark_of child l.marks ++ Child child ∷ [] })) }
+        ensures err { OnErr result (self.new ≡ self.old) }
+    {
+        let (_, layer) = self.map.pair_mut(at);
+        move_last(&mut layer.marks, child)
+    }
+
+    /// Takes the mark of a child away.
+    pub fn drop_mark_of(&mut self, at: usize, child: &str)
+        requires { at < length self.old }
+        ensures { self.new ≡ layer_changed self.old at (λ l. record l { marks = stored_without_mark_of child.now l.marks }) }
+    {
+        let (_, layer) = self.map.pair_mut(at);
+        drop_mark_of(&mut layer.marks, child);
+    }
+
+    /// Takes the mark at a position away.
+    pub fn drop_mark(&mut self, at: usize, mark: usize)
+        requires there { at < length self.old }
+        requires marked { mark < length (layer_at self.old at).marks }
+        ensures { self.new ≡ layer_changed self.old at (λ l. record l { marks = remove l.marks mark }) }
+    {
+        let (_, layer) = self.map.pair_mut(at);
+        drop_mark(&mut layer.marks, mark);
+    }
+
+    /// Sets whether every rule is to hold in the workspace at a position.
+    pub fn set_kept(&mut self, at: usize, kept: bool)
+        requires { at < length self.old }
+        ensures { self.new ≡ layer_changed self.old at (λ l. record l { kept = kept }) }
+    {
+        let (_, layer) = self.map.pair_mut(at);
+        layer.kept = kept;
+    }
+}

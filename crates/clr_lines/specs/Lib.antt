@@ -1,0 +1,4 @@
+pub mod Pieces
+pub mod Replies
+pub mod Reports
+pub mod Rows

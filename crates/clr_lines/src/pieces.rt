@@ -1,0 +1,86 @@
+ghost use Rattle.std.specs.Prelude.{◌≡◌, ◌++◌, decimal, OnOk};
+ghost use Rattle.clr_lines.specs.Pieces.{cell_text, name_of_table, need_text, part_text, second_text, subject_text};
+
+use clr_rows::{CellId, Schema};
+use clr_rules::Broken;
+use itoa::Buffer;
+use std::alloc::AllocError;
+
+/// The name of a table, or no bytes where the schema has no such table.
+pub fn table_name(schema: &Schema, table: u16) -> &str
+    ensures { result.now ≡ name_of_table schema.now table }
+{
+    match schema.table_name(table) {
+        Some(name) => name,
+        None => "",
+    }
+}
+
+/// Adds a count in decimal digits. It fails for want of memory alone.
+pub fn add_count(line: &mut Vec<u8>, count: usize) -> Result<(), AllocError>
+    ensures { OnOk result (line.new.items ≡ line.old.items ++ decimal count) }
+{
+    line.extend_from_slice(Buffer::new().format(count).as_bytes())
+}
+
+/// Adds a cell, as `main/20`. The name of a table that the schema hasn't is empty. It fails for want
+/// of memory alone.
+pub fn add_cell(line: &mut Vec<u8>, schema: &Schema, cell: CellId) -> Result<(), AllocError>
+    ensures { OnOk result (line.new.items ≡ line.old.items ++ cell_text schema.now cell) }
+{
+    line.extend_from_slice(table_name(schema, cell.table).as_bytes())?;
+    line.extend_from_slice(b"/")?;
+    line.extend_from_slice(Buffer::new().format(cell.key).as_bytes())
+}
+
+fn add_part(line: &mut Vec<u8>, part: u16) -> Result<(), AllocError>
+    ensures { OnOk result (line.new.items ≡ line.old.items ++ part_text part) }
+{
+    if part <= 1 {
+        return Ok(());
+    }
+    line.extend_from_slice(b"/")?;
+    line.extend_from_slice(Buffer::new().format(part).as_bytes())
+}
+
+fn add_subject(
+    line: &mut Vec<u8>,
+    schema: &Schema,
+    cell: CellId,
+    part: u16,
+) -> Result<(), AllocError>
+    ensures { OnOk result (line.new.items ≡ line.old.items ++ subject_text schema.now cell part) }
+{
+    add_cell(line, schema, cell)?;
+    add_part(line, part)
+}
+
+fn add_second(
+    line: &mut Vec<u8>,
+    schema: &Schema,
+    cell: Option<CellId>,
+    part: u16,
+) -> Result<(), AllocError>
+    ensures { OnOk result (line.new.items ≡ line.old.items ++ second_text schema.now cell part) }
+{
+    match cell {
+        Some(cell) => {
+            line.extend_from_slice(b" ")?;
+            add_subject(line, schema, cell, part)
+        }
+        None => Ok(()),
+    }
+}
+
+/// Adds a need that no row serves, as `rule 1 main/20/3 main/21`: the number of the rule and the
+/// cells of its subjects, each with its part where that is above 1. It fails for want of memory
+/// alone.
+pub fn add_need(line: &mut Vec<u8>, schema: &Schema, need: &Broken) -> Result<(), AllocError>
+    ensures { OnOk result (line.new.items ≡ line.old.items ++ need_text schema.now need.now) }
+{
+    line.extend_from_slice(b"rule ")?;
+    line.extend_from_slice(Buffer::new().format(need.rule).as_bytes())?;
+    line.extend_from_slice(b" ")?;
+    add_subject(line, schema, need.first, need.first_part)?;
+    add_second(line, schema, need.second, need.second_part)
+}

@@ -1,0 +1,5 @@
+pub mod EachIn
+pub mod EachItem
+pub mod Fitting
+pub mod PlacePairs
+pub mod WorkspaceTurns

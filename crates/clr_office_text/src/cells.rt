@@ -1,0 +1,171 @@
+ghost use Rattle.std.specs.Prelude.{◌≡◌};
+ghost use Rattle.serde_json.specs.Find.{get};
+ghost use Rattle.serde_json.specs.View.{view, items_view};
+ghost use Rattle.clr_office_text.specs.Fields.{Gives, each};
+ghost use Rattle.clr_office_text.specs.Cells.{has_paths as table_has_paths, live_rows_of, named_row_of, place_of, places_of, row_of};
+ghost use Rattle.clr_office_text.specs.Cells.{shape_of, shape_with as shape_in, value_of, values_of, without_flag};
+
+use crate::faults::TextFault;
+use crate::fields::{list_in, number, number_in, words_from, words_in};
+use clr_rows::{Form, Place, Row, Schema, Shape, Value, Values, Vertices, Words};
+use serde_json::Value as Json;
+use std::alloc::Global;
+
+/// A row with its key and the name of its table, which may be unknown.
+#[derive(Debug, Drop)]
+pub struct NamedRow {
+    pub table: Words,
+    pub key: i64,
+    pub row: Row,
+}
+
+/// A text or a whole number. Fails with `BadField` where it is anything else.
+pub fn value(alloc: Global, json: &Json) -> Result<Value, TextFault>
+    ensures { Gives (λ v. v) result (value_of (view json.now)) }
+{
+    match json.as_str() {
+        Some(text) => Ok(Value::Words(words_from(alloc, text)?)),
+        None => Ok(Value::Int(number(json)?)),
+    }
+}
+
+fn each_value(alloc: Global, items: &[Json]) -> Result<Vec<Value>, TextFault>
+    ensures { Gives (λ v. v.items) result (each value_of (items_view items.now)) }
+{
+    let mut values = Vec::new(alloc);
+    for item in items {
+        let one = value(alloc, item)?;
+        values.push(one)?;
+    }
+    Ok(values)
+}
+
+#[tactic(auto, unfolding(crate::specs::Cells::place_of))]
+fn place(x: &Json, y: &Json) -> Result<Place, TextFault>
+    ensures { Gives (λ p. p) result (place_of (view x.now) (view y.now)) }
+{
+    Ok(Place {
+        x: number(x)?,
+        y: number(y)?,
+    })
+}
+
+/// The places that numbers are two by two. Fails with `BadField` where one is left over.
+fn places(alloc: Global, numbers: &[Json]) -> Result<Vec<Place>, TextFault>
+    ensures { Gives (λ v. v.items) result (places_of (items_view numbers.now)) }
+{
+    let mut places = Vec::new(alloc);
+    let mut rest = numbers;
+    while let [x, y, more @ ..] = rest {
+        let one = place(x, y)?;
+        places.push(one)?;
+        rest = more;
+    }
+    if !rest.is_empty() {
+        return Err(TextFault::BadField);
+    }
+    Ok(places)
+}
+
+/// The shape of a row with these places, which are all vertices in a table of paths.
+fn shape_with(is_path: bool, places: Vec<Place>) -> Result<Shape, TextFault>
+    ensures { Gives (λ s. s) result (shape_in is_path places.items) }
+{
+    if is_path {
+        return Ok(Shape::Chain(Vertices::new(places)));
+    }
+    match places.as_slice() {
+        [] => Ok(Shape::Bare),
+        [place] => Ok(Shape::At(*place)),
+        [first, second] => Ok(Shape::Line(*first, *second)),
+        _ => Err(TextFault::BadField),
+    }
+}
+
+#[tactic(auto, unfolding(crate::specs::Cells::values_of))]
+fn values(alloc: Global, json: &Json) -> Result<Values, TextFault>
+    ensures { Gives (λ v. v) result (values_of (view json.now)) }
+{
+    let list = each_value(alloc, list_in(json, "v")?)?;
+    Ok(Values::new(list))
+}
+
+#[tactic(auto, unfolding(crate::specs::Cells::shape_of))]
+fn shape(alloc: Global, json: &Json, is_path: bool) -> Result<Shape, TextFault>
+    ensures { Gives (λ s. s) result (shape_of is_path (view json.now)) }
+{
+    let places = places(alloc, list_in(json, "s")?)?;
+    shape_with(is_path, places)
+}
+
+/// The row of a cell, in a table of paths or in another. Fails with `BadField` where there is none.
+#[tactic(auto, unfolding(crate::specs::Cells::row_of))]
+pub fn row(alloc: Global, json: &Json, is_path: bool) -> Result<Row, TextFault>
+    ensures { Gives (λ r. r) result (row_of is_path (view json.now)) }
+{
+    let values = values(alloc, json)?;
+    let shape = shape(alloc, json, is_path)?;
+    Ok(Row { values, shape })
+}
+
+/// Fails with `BadField` where the flag at a key is set, or is no flag.
+fn require_no_flag(json: &Json, key: &str) -> Result<(), TextFault>
+    ensures { Gives (λ u. u) result (without_flag (get key.now (view json.now))) }
+{
+    match json.get(key) {
+        None => Ok(()),
+        Some(flag) => match flag.as_bool() {
+            Some(false) => Ok(()),
+            _ => Err(TextFault::BadField),
+        },
+    }
+}
+
+/// Whether the rows of the table of this name are paths.
+pub fn has_paths(schema: &Schema, name: &str) -> bool
+    ensures { result ≡ table_has_paths schema.now name.now }
+{
+    match schema.table(name) {
+        Some(number) => match schema.def(number) {
+            Some(table) => matches!(table.shape, Form::Path),
+            None => false,
+        },
+        None => false,
+    }
+}
+
+#[tactic(auto, unfolding(crate::specs::Cells::named_row_of))]
+fn named_row(alloc: Global, json: &Json, schema: &Schema) -> Result<NamedRow, TextFault>
+    ensures { Gives (λ r. r) result (named_row_of schema.now (view json.now)) }
+{
+    let table = words_in(alloc, json, "t")?;
+    let key = number_in(json, "k")?;
+    require_no_flag(json, "gone")?;
+    let is_path = has_paths(schema, table.as_str());
+    let row = row(alloc, json, is_path)?;
+    Ok(NamedRow { table, key, row })
+}
+
+fn each_named_row(
+    alloc: Global,
+    items: &[Json],
+    schema: &Schema,
+) -> Result<Vec<NamedRow>, TextFault>
+    ensures { Gives (λ v. v.items) result (each (named_row_of schema.now) (items_view items.now)) }
+{
+    let mut rows = Vec::new(alloc);
+    for item in items {
+        let one = named_row(alloc, item, schema)?;
+        rows.push(one)?;
+    }
+    Ok(rows)
+}
+
+/// The rows of LIVE in an office text, each with its table's name. Fails with `BadField` where a
+/// key is missing, a value is none of those that may stand there, or a cell has no row.
+#[tactic(auto, unfolding(crate::specs::Cells::live_rows_of))]
+pub fn live_rows(alloc: Global, json: &Json, schema: &Schema) -> Result<Vec<NamedRow>, TextFault>
+    ensures { Gives (λ v. v.items) result (live_rows_of schema.now (view json.now)) }
+{
+    each_named_row(alloc, list_in(json, "live")?, schema)
+}

@@ -1,0 +1,62 @@
+ghost use Rattle.std.specs.Prelude.{◌≡◌, IfOk};
+ghost use Rattle.serde_json.specs.View.{view};
+ghost use Rattle.clr_rows.specs.Contents.{no_rows};
+ghost use Rattle.clr_rows.specs.Schemas.{FitsSchema};
+ghost use Rattle.clr_office_text.specs.Fields.{Gives};
+ghost use Rattle.clr_office_text.specs.Cells.{cell_of, live_of, with_row, with_rows};
+
+use crate::cells::{NamedRow, live_rows};
+use crate::faults::TextFault;
+use clr_rows::{CellId, Schema, Sheet, Words};
+use serde_json::Value as Json;
+use std::alloc::Global;
+
+/// The cell of a key in the table of a name. Fails with `BadRow` where there is no such table.
+#[tactic(auto, unfolding(crate::specs::Cells::cell_of))]
+pub fn cell(schema: &Schema, table: &Words, key: i64) -> Result<CellId, TextFault>
+    ensures { Gives (λ c. c) result (cell_of schema.now table.now key) }
+{
+    match schema.table(table.as_str()) {
+        Some(table) => Ok(CellId { table, key }),
+        None => Err(TextFault::BadRow),
+    }
+}
+
+#[tactic(auto, unfolding(crate::specs::Cells::with_row))]
+fn put_row(schema: &Schema, sheet: &mut Sheet, named: NamedRow) -> Result<(), TextFault>
+    ensures { Gives (λ _. sheet.new) result (with_row schema.now sheet.old named) }
+{
+    let cell = cell(schema, &named.table, named.key)?;
+    if schema.fits(cell, &named.row).is_err() {
+        return Err(TextFault::BadRow);
+    }
+    if sheet.get(cell).is_some() {
+        return Err(TextFault::RepeatedCell);
+    }
+    sheet.put(cell, named.row)?;
+    Ok(())
+}
+
+#[tactic(auto, unfolding(crate::specs::Cells::with_rows))]
+fn sheet(alloc: Global, schema: &Schema, rows: Vec<NamedRow>) -> Result<Sheet, TextFault>
+    ensures value { Gives (λ s. s) result (with_rows schema.now no_rows rows.items) }
+    ensures fits { IfOk result (λ s. FitsSchema schema.now s) }
+{
+    let mut sheet = Sheet::new(alloc);
+    for named in rows {
+        put_row(schema, &mut sheet, named)?;
+    }
+    Ok(sheet)
+}
+
+/// The content of LIVE in an office text. Fails with `BadField` where a key is missing in one of
+/// the cells, a value is none of those that may stand there, or a cell has no row, and then, cell
+/// by cell, with `BadRow` where the table isn't known or the row doesn't fit it, and with
+/// `RepeatedCell` where the cell stood earlier in the list.
+#[tactic(auto, unfolding(crate::specs::Cells::live_of))]
+pub fn live(alloc: Global, json: &Json, schema: &Schema) -> Result<Sheet, TextFault>
+    ensures value { Gives (λ s. s) result (live_of schema.now (view json.now)) }
+    ensures fits { IfOk result (λ s. FitsSchema schema.now s) }
+{
+    sheet(alloc, schema, live_rows(alloc, json, schema)?)
+}

@@ -1,0 +1,101 @@
+ghost use Rattle.std.specs.Prelude.{◌≡◌};
+ghost use Rattle.serde_json.specs.View.{view, items_view};
+ghost use Rattle.clr_office_text.specs.Fields.{Gives, each};
+ghost use Rattle.clr_office_text.specs.Patches.{named_cell_of, named_cells_at, row_unless_gone as row_meant};
+
+use crate::cells::{has_paths, row};
+use crate::faults::TextFault;
+use crate::fields::{number_in, optional_flag, optional_list, words_in};
+use clr_rows::{Row, Schema, Words};
+use serde_json::Value as Json;
+use std::alloc::Global;
+use std::marker::Model;
+
+/// A cell that is put over a content, with the row that stands there then, or none. The name of its
+/// table may be unknown.
+#[derive(Debug, Drop)]
+pub struct NamedCell {
+    pub table: Words,
+    pub key: i64,
+    pub row: Option<Row>,
+}
+
+/// Cells that are put over a content.
+#[derive(Debug, Drop)]
+pub struct NamedCells {
+    list: Vec<NamedCell>,
+}
+
+impl Model for NamedCells {
+    ghost use Rattle.std.specs.Prelude.{List};
+    ghost use Rattle.clr_office_text.specs.declared.named_cells.NamedCell.{NamedCell as OneCell};
+
+    ghost Value = { List OneCell };
+
+    ghost view = { λ a. a.list.items };
+}
+
+impl NamedCells {
+    /// The list of these cells.
+    pub fn into_vec(self) -> Vec<NamedCell>
+        ensures { result.items ≡ self }
+    {
+        self.list
+    }
+}
+
+fn row_unless_gone(
+    alloc: Global,
+    is_gone: bool,
+    is_path: bool,
+    json: &Json,
+) -> Result<Option<Row>, TextFault>
+    ensures { Gives (λ r. r) result (row_meant is_gone is_path (view json.now)) }
+{
+    if is_gone {
+        return Ok(None);
+    }
+    Ok(Some(row(alloc, json, is_path)?))
+}
+
+#[tactic(auto, unfolding(crate::specs::Patches::named_cell_of))]
+fn named_cell(alloc: Global, json: &Json, schema: &Schema) -> Result<NamedCell, TextFault>
+    ensures { Gives (λ c. c) result (named_cell_of schema.now (view json.now)) }
+{
+    let table = words_in(alloc, json, "t")?;
+    let key = number_in(json, "k")?;
+    let is_gone = optional_flag(json, "gone")?;
+    let is_path = has_paths(schema, table.as_str());
+    let row = row_unless_gone(alloc, is_gone, is_path, json)?;
+    Ok(NamedCell { table, key, row })
+}
+
+fn each_named_cell(
+    alloc: Global,
+    items: &[Json],
+    schema: &Schema,
+) -> Result<Vec<NamedCell>, TextFault>
+    ensures { Gives (λ v. v.items) result (each (named_cell_of schema.now) (items_view items.now)) }
+{
+    let mut cells = Vec::new(alloc);
+    for item in items {
+        let one = named_cell(alloc, item, schema)?;
+        cells.push(one)?;
+    }
+    Ok(cells)
+}
+
+/// The cells at a key that are put over a content; a missing list is empty. Fails with `BadField`
+/// where a key is missing in a cell, or a value is none of those that may stand there.
+#[tactic(auto, unfolding(crate::specs::Patches::named_cells_at))]
+pub fn named_cells(
+    alloc: Global,
+    json: &Json,
+    key: &str,
+    schema: &Schema,
+) -> Result<NamedCells, TextFault>
+    ensures { Gives (λ v. v) result (named_cells_at key.now schema.now (view json.now)) }
+{
+    let list = each_named_cell(alloc, optional_list(json, key)?, schema)?;
+    Ok(NamedCells { list })
+}

@@ -1,0 +1,98 @@
+ghost use Rattle.std.specs.Prelude.{◌≡◌};
+ghost use Rattle.serde_json.specs.View.{view, items_view};
+ghost use Rattle.clr_office_text.specs.Fields.{Gives, each, each_in};
+ghost use Rattle.clr_office_text.specs.Workspaces.{mark_over, marks_of, named_mark_of, named_marks_of, saved_of};
+
+use crate::faults::TextFault;
+use crate::fields::{optional_list, words, words_from, words_in};
+use crate::named_cells::{NamedCells, named_cells};
+use crate::patches::differences;
+use clr_layers::StoredMark;
+use clr_rows::{Schema, Words};
+use serde_json::Value as Json;
+use std::alloc::Global;
+
+/// A mark as it is written: that of a child, or a savepoint with the cells that are put over the
+/// base.
+#[derive(Debug, Drop)]
+pub enum NamedMark {
+    Child(Words),
+    Saved(Words, NamedCells),
+}
+
+#[tactic(auto, unfolding(crate::specs::Workspaces::saved_of))]
+fn saved(alloc: Global, json: &Json, schema: &Schema) -> Result<NamedMark, TextFault>
+    ensures { Gives (λ m. m) result (saved_of schema.now (view json.now)) }
+{
+    let name = words_in(alloc, json, "savepoint")?;
+    let cells = named_cells(alloc, json, "rows", schema)?;
+    Ok(NamedMark::Saved(name, cells))
+}
+
+#[tactic(auto, unfolding(crate::specs::Workspaces::named_mark_of))]
+fn named_mark(alloc: Global, json: &Json, schema: &Schema) -> Result<NamedMark, TextFault>
+    ensures { Gives (λ m. m) result (named_mark_of schema.now (view json.now)) }
+{
+    match json.get("child") {
+        Some(child) => Ok(NamedMark::Child(words_from(alloc, words(child)?)?)),
+        None => saved(alloc, json, schema),
+    }
+}
+
+fn each_named_mark(
+    alloc: Global,
+    items: &[Json],
+    schema: &Schema,
+) -> Result<Vec<NamedMark>, TextFault>
+    ensures { Gives (λ v. v.items) result (each (named_mark_of schema.now) (items_view items.now)) }
+{
+    let mut marks = Vec::new(alloc);
+    for item in items {
+        let one = named_mark(alloc, item, schema)?;
+        marks.push(one)?;
+    }
+    Ok(marks)
+}
+
+#[tactic(auto, unfolding(crate::specs::Workspaces::named_marks_of))]
+fn named_marks(alloc: Global, json: &Json, schema: &Schema) -> Result<Vec<NamedMark>, TextFault>
+    ensures { Gives (λ v. v.items) result (named_marks_of schema.now (view json.now)) }
+{
+    each_named_mark(alloc, optional_list(json, "marks")?, schema)
+}
+
+fn mark(alloc: Global, schema: &Schema, named: NamedMark) -> Result<StoredMark, TextFault>
+    ensures { Gives (λ m. m) result (mark_over schema.now named) }
+{
+    match named {
+        NamedMark::Child(name) => Ok(StoredMark::Child(name)),
+        NamedMark::Saved(name, cells) => {
+            Ok(StoredMark::Saved(name, differences(alloc, schema, cells)?))
+        }
+    }
+}
+
+fn each_mark(
+    alloc: Global,
+    schema: &Schema,
+    named: Vec<NamedMark>,
+) -> Result<Vec<StoredMark>, TextFault>
+    ensures { Gives (λ v. v.items) result (each_in (mark_over schema.now) named.items) }
+{
+    let mut marks = Vec::new(alloc);
+    for item in named {
+        let one = mark(alloc, schema, item)?;
+        marks.push(one)?;
+    }
+    Ok(marks)
+}
+
+/// The marks of a workspace, savepoints by their differences from the base; a missing list is
+/// empty. Fails with `BadField` where a key is missing in one of the marks, or a value is none of
+/// those that may stand there, and then, mark by mark, as the cells of a savepoint do.
+#[tactic(auto, unfolding(crate::specs::Workspaces::marks_of))]
+pub fn marks(alloc: Global, json: &Json, schema: &Schema) -> Result<Vec<StoredMark>, TextFault>
+    ensures { Gives (λ v. v.items) result (marks_of schema.now (view json.now)) }
+{
+    each_mark(alloc, schema, named_marks(alloc, json, schema)?)
+}

@@ -1,0 +1,76 @@
+ghost use Rattle.std.specs.Prelude.{◌≡◌, is_none};
+ghost use Rattle.std.specs.Option.{option_copied};
+ghost use Rattle.serde_json.specs.View.{view};
+ghost use Rattle.clr_differences.specs.Differences.{no_differences};
+ghost use Rattle.clr_office_text.specs.Fields.{Gives};
+ghost use Rattle.clr_office_text.specs.Patches.{differences_at, differences_of, put_fault, with_cell, with_cells};
+
+use crate::faults::TextFault;
+use crate::live::cell;
+use crate::named_cells::{NamedCell, NamedCells, named_cells};
+use clr_differences::Differences;
+use clr_rows::{CellId, Row, Schema};
+use serde_json::Value as Json;
+use std::alloc::Global;
+
+/// Whether a row can be put at a cell, or none.
+fn can_put(schema: &Schema, cell: CellId, row: &Option<Row>) -> bool
+    ensures { result ≡ is_none (put_fault schema.now cell row.now) }
+{
+    match row {
+        Some(row) => schema.fits(cell, row).is_ok(),
+        None => schema.names_cell(cell).is_ok(),
+    }
+}
+
+#[tactic(auto, unfolding(crate::specs::Patches::with_cell))]
+fn put_cell(
+    schema: &Schema,
+    differences: &mut Differences,
+    named: NamedCell,
+) -> Result<(), TextFault>
+    ensures { Gives (λ _. differences.new) result (with_cell schema.now differences.old named) }
+{
+    let cell = cell(schema, &named.table, named.key)?;
+    if !can_put(schema, cell, &named.row) {
+        return Err(TextFault::BadRow);
+    }
+    if differences.get(cell).is_some() {
+        return Err(TextFault::RepeatedCell);
+    }
+    differences.put(cell, named.row)?;
+    Ok(())
+}
+
+/// The differences that cells make. Cell by cell it fails with `BadRow` where the table isn't known,
+/// or the row doesn't fit it, or no row could stand where one is gone, and with `RepeatedCell`
+/// where the cell stood earlier in the list.
+#[tactic(auto, unfolding(crate::specs::Patches::with_cells))]
+pub fn differences(
+    alloc: Global,
+    schema: &Schema,
+    cells: NamedCells,
+) -> Result<Differences, TextFault>
+    ensures { Gives (λ d. d) result (differences_of schema.now cells) }
+{
+    let mut differences = Differences::new(alloc);
+    for named in cells.into_vec() {
+        put_cell(schema, &mut differences, named)?;
+    }
+    Ok(differences)
+}
+
+/// The differences that the cells at a key make; a missing list makes none. Fails with `BadField`
+/// where a key is missing in a cell, or a value is none of those that may stand there, and then as
+/// `differences`.
+#[tactic(auto, unfolding(crate::specs::Patches::differences_at))]
+pub fn differences_in(
+    alloc: Global,
+    json: &Json,
+    key: &str,
+    schema: &Schema,
+) -> Result<Differences, TextFault>
+    ensures { Gives (λ d. d) result (differences_at key.now schema.now (view json.now)) }
+{
+    differences(alloc, schema, named_cells(alloc, json, key, schema)?)
+}

@@ -1,0 +1,116 @@
+ghost use Rattle.std.specs.Prelude.{◌≡◌};
+ghost use Rattle.serde_json.specs.View.{view, items_view};
+ghost use Rattle.clr_office_text.specs.Fields.{Gives, each};
+ghost use Rattle.clr_office_text.specs.Tables.{column_of, columns_of, form_of, kind_of, pair_of, path_in, table_of, tables_of};
+
+use crate::faults::TextFault;
+use crate::fields::{field, list, list_in, words, words_from, words_in};
+use crate::formats::Format;
+use clr_rows::{Columns, Form, Kind, TableDef, Words};
+use serde_json::Value as Json;
+use std::alloc::Global;
+
+fn kind(json: &Json) -> Result<Kind, TextFault>
+    ensures { Gives (λ k. k) result (kind_of (view json.now)) }
+{
+    match words(json)? {
+        "INT" => Ok(Kind::Int),
+        "TEXT" => Ok(Kind::Words),
+        _ => Err(TextFault::BadField),
+    }
+}
+
+/// The form of paths, which format 1 hasn't.
+fn path(format: Format) -> Result<Form, TextFault>
+    ensures { result ≡ path_in format }
+{
+    match format {
+        Format::First => Err(TextFault::BadField),
+        Format::Second | Format::Third => Ok(Form::Path),
+    }
+}
+
+fn form(json: &Json, format: Format) -> Result<Form, TextFault>
+    ensures { Gives (λ f. f) result (form_of format (view json.now)) }
+{
+    match words(json)? {
+        "NONE" => Ok(Form::Bare),
+        "POINT" => Ok(Form::Point),
+        "SEGMENT" => Ok(Form::Segment),
+        "PATH" => path(format),
+        _ => Err(TextFault::BadField),
+    }
+}
+
+#[tactic(auto, unfolding(crate::specs::Tables::pair_of))]
+fn pair(alloc: Global, items: &[Json]) -> Result<(Words, Kind), TextFault>
+    ensures { Gives (λ c. c) result (pair_of (items_view items.now)) }
+{
+    match items {
+        [name, word] => {
+            let kind = kind(word)?;
+            Ok((words_from(alloc, words(name)?)?, kind))
+        }
+        _ => Err(TextFault::BadField),
+    }
+}
+
+#[tactic(auto, unfolding(crate::specs::Tables::column_of))]
+fn column(alloc: Global, json: &Json) -> Result<(Words, Kind), TextFault>
+    ensures { Gives (λ c. c) result (column_of (view json.now)) }
+{
+    pair(alloc, list(json)?)
+}
+
+fn each_column(alloc: Global, items: &[Json]) -> Result<Vec<(Words, Kind)>, TextFault>
+    ensures { Gives (λ v. v.items) result (each column_of (items_view items.now)) }
+{
+    let mut columns = Vec::new(alloc);
+    for item in items {
+        let one = column(alloc, item)?;
+        columns.push(one)?;
+    }
+    Ok(columns)
+}
+
+#[tactic(auto, unfolding(crate::specs::Tables::columns_of))]
+fn columns(alloc: Global, json: &Json) -> Result<Columns, TextFault>
+    ensures { Gives (λ c. c) result (columns_of (view json.now)) }
+{
+    let list = each_column(alloc, list_in(json, "columns")?)?;
+    Ok(Columns::new(list))
+}
+
+#[tactic(auto, unfolding(crate::specs::Tables::table_of))]
+fn table(alloc: Global, json: &Json, format: Format) -> Result<TableDef, TextFault>
+    ensures { Gives (λ t. t) result (table_of format (view json.now)) }
+{
+    let name = words_in(alloc, json, "name")?;
+    let columns = columns(alloc, json)?;
+    let shape = form(field(json, "shape")?, format)?;
+    Ok(TableDef {
+        name,
+        columns,
+        shape,
+    })
+}
+
+fn each_table(alloc: Global, items: &[Json], format: Format) -> Result<Vec<TableDef>, TextFault>
+    ensures { Gives (λ v. v.items) result (each (table_of format) (items_view items.now)) }
+{
+    let mut tables = Vec::new(alloc);
+    for item in items {
+        let one = table(alloc, item, format)?;
+        tables.push(one)?;
+    }
+    Ok(tables)
+}
+
+/// The tables of an office text. Fails with `BadField` where a key is missing, or a value is none
+/// of those that may stand there.
+#[tactic(auto, unfolding(crate::specs::Tables::tables_of))]
+pub fn tables(alloc: Global, json: &Json, format: Format) -> Result<Vec<TableDef>, TextFault>
+    ensures { Gives (λ v. v.items) result (tables_of format (view json.now)) }
+{
+    each_table(alloc, list_in(json, "tables")?, format)
+}

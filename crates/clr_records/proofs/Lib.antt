@@ -1,0 +1,4 @@
+pub mod Decimals
+pub mod InTurn
+pub mod RecordTurns
+pub mod RecordsAgain

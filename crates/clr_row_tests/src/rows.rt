@@ -1,0 +1,4 @@
+mod limits;
+mod schemas;
+mod sheets;
+mod values;

@@ -1,5 +1,0 @@
-use Rattle.clr_rules.proofs.ShareLaws.{servers_share}
-use Rattle.clr_rules.proofs.laws.servers_share_spots.Goals as goal
-
-pub returns : goal.returns
-returns c = servers_share

@@ -1,7 +1,0 @@
-use Rattle.std.proofs.Common.{◌≡◌}
-use Rattle.clr_rules.specs.Spots.{grid_of_squares}
-use Rattle.clr_rules.proofs.squares.list_grid.Given as goal
-
--- k columns are listed
-abbrev pub invariant-loop-k : goal.invariant-loop-k
-invariant-loop-k l = l.list.items ≡ grid_of_squares l.i l.j l.k l.n

@@ -1,0 +1,75 @@
+//! Which rows call a rule, and which serve them.
+
+ghost use Rattle.std.specs.Prelude.{◌≡◌, ◌<◌, ◌∷◌, [], length, Some, None, option_map, option_to_list};
+ghost use Rattle.clr_rows.specs.Held.{held_of};
+ghost use Rattle.clr_rules.specs.Books.{FitTogether};
+ghost use Rattle.clr_rules.specs.Calls.{calls, part_count, plain_ask, serves};
+
+mod segments;
+mod servers;
+mod subjects;
+
+use crate::books::RuleBook;
+use crate::calls::servers::{serves_one, serves_two};
+use crate::calls::subjects::{are_subjects, is_subject};
+use crate::needs::Ask;
+use crate::rules::Rule;
+use clr_rows::Held;
+use clr_segments::parts;
+
+impl RuleBook {
+    /// How many parts of a row a rule is asked of: those of its segment or path for a `Crossing`,
+    /// and 1 for another rule, which is asked of whole rows. The rule's number is below `len`.
+    #[tactic(auto, unfolding(crate::specs::Calls::part_count))]
+    pub fn part_count(&self, rule: u16, held: Held) -> u16
+        requires number { rule < length self.now }
+        requires fit { FitTogether self.now (held_of held ∷ []) }
+        ensures { result ≡ part_count self.now rule (held_of held.entry) }
+    {
+        match self.rule(rule) {
+            Rule::Crossing { .. } => parts(&held.row.shape),
+            _ => 1,
+        }
+    }
+
+    /// Whether a row alone calls a rule: some row that serves it must stand. The rule's number is
+    /// below `len`, and the row fits a schema that the book fits.
+    #[tactic(auto, unfolding(crate::specs::Calls::calls))]
+    pub fn calls_one(&self, rule: u16, held: Held) -> bool
+        requires number { rule < length self.now }
+        requires fit { FitTogether self.now (held_of held ∷ []) }
+        ensures { result ≡ calls self.now (plain_ask rule) (held_of held.entry) None }
+    {
+        is_subject(self.rule(rule), rule, held)
+    }
+
+    /// Whether two rows call a rule, in either arrangement: some row that serves them must stand.
+    /// For a `Crossing` the parts of the ask have a common point; a part that isn't there doesn't
+    /// call. Under other rules numbers other than 1 don't call. Whether the cells differ isn't
+    /// looked at. The rule's number is below `len`, and the rows fit a schema that the book fits.
+    #[tactic(auto, unfolding(crate::specs::Calls::calls))]
+    pub fn calls_two(&self, ask: Ask, first: Held, second: Held) -> bool
+        requires number { ask.rule < length self.now }
+        requires fit { FitTogether self.now (held_of first ∷ held_of second ∷ []) }
+        ensures { result ≡ calls self.now ask (held_of first.entry) (Some (held_of second.entry)) }
+    {
+        are_subjects(self.rule(ask.rule), ask, first, second)
+    }
+
+    /// Whether a row serves the subjects of a rule. For a `Crossing` it is a point of both parts of
+    /// the ask; a part that isn't there is served by none, nor are parts that overlap. Under other
+    /// rules none serves where the numbers aren't 1. For a `Partner` and an `EndNode` it is looked
+    /// at, too, that the subject is of the subject's side; for a `Crossing` the server's side alone
+    /// is. The rule's number is below `len`, and the rows fit a schema that the book fits.
+    #[tactic(auto, unfolding(crate::specs::Calls::serves))]
+    pub fn serves(&self, ask: Ask, first: Held, second: Option<Held>, server: Held) -> bool
+        requires number { ask.rule < length self.now }
+        requires fit { FitTogether self.now (held_of first ∷ held_of server ∷ option_to_list (option_map held_of second)) }
+        ensures { result ≡ serves self.now ask (held_of first.entry) (option_map held_of second.entry) (held_of server.entry) }
+    {
+        match second {
+            None => serves_one(self.rule(ask.rule), ask, first, server),
+            Some(second) => serves_two(self.rule(ask.rule), ask, first, second, server),
+        }
+    }
+}

@@ -1,0 +1,72 @@
+ghost use Rattle.std.specs.Prelude.{◌≡◌, ◌<◌, length};
+ghost use Rattle.clr_rows.specs.Held.{held_of};
+ghost use Rattle.clr_rules.specs.Roles.{roles, roles_under};
+
+use crate::books::RuleBook;
+use crate::rules::Rule;
+use crate::sides::is_of_side;
+use clr_rows::Held;
+
+/// Which sides of a rule a row is of: it may be a subject alone, the first or the second of two
+/// subjects in either arrangement, and a server.
+#[derive(Clone, Copy, Debug, PartialEq, Eq)]
+pub struct Roles {
+    pub alone: bool,
+    pub first: bool,
+    pub second: bool,
+    pub server: bool,
+}
+
+/// The roles of a row in needs of this rule.
+#[tactic(auto, unfolding(crate::specs::Roles::roles))]
+fn roles_by_rule(rule: &Rule, held: Held) -> Roles
+    ensures { result ≡ roles rule.now (held_of held.entry) }
+{
+    let (alone, first, second, server) = match rule {
+        Rule::Unique { subject, .. } => {
+            let has = is_of_side(subject, held);
+            (false, has, has, false)
+        }
+        Rule::Partner {
+            subject,
+            server,
+            ..
+        }
+        | Rule::EndNode {
+            subject,
+            server,
+            ..
+        } => (
+            is_of_side(subject, held),
+            false,
+            false,
+            is_of_side(server, held),
+        ),
+        Rule::Crossing { a, b, server } => {
+            (
+                false,
+                is_of_side(a, held),
+                is_of_side(b, held),
+                is_of_side(server, held),
+            )
+        }
+        Rule::Near { a, b, .. } => (false, is_of_side(a, held), is_of_side(b, held), false),
+    };
+    Roles {
+        alone,
+        first,
+        second,
+        server,
+    }
+}
+
+impl RuleBook {
+    /// Which sides of the rule of a number a row is of. The rule's number is below `len`.
+    #[tactic(auto, unfolding(crate::specs::Roles::roles_under))]
+    pub fn roles_of(&self, rule: u16, held: Held) -> Roles
+        requires { rule < length self.now }
+        ensures { result ≡ roles_under self.now rule (held_of held.entry) }
+    {
+        roles_by_rule(self.rule(rule), held)
+    }
+}

@@ -1,0 +1,3 @@
+pub mod FaultTurns
+pub mod Fields
+pub mod ScriptTurns

@@ -1,0 +1,33 @@
+ghost use Rattle.std.specs.Prelude.{◌≡◌, map};
+ghost use Rattle.csv.specs.Records.{fields_of};
+ghost use Rattle.clr_scripts.specs.Records.{GivesAt, numbered_fault, records_or_fault};
+
+use crate::faults::RecordFault;
+use clr_records::records_of;
+use csv::StringRecord;
+use std::alloc::Global;
+
+/// A fault beside the number of its record, or beside 0 for want of memory.
+pub(crate) fn with_number(number: usize, fault: RecordFault) -> (usize, RecordFault)
+    ensures { result ≡ numbered_fault number fault }
+{
+    match fault {
+        RecordFault::OutOfMemory => (0, fault),
+        _ => (number, fault),
+    }
+}
+
+/// Every record of a CSV text. Fails with `NotCsv` at 1 where the bytes aren't UTF-8, and with
+/// `OutOfMemory` at 0 for want of memory.
+pub(crate) fn records_in_text(
+    alloc: Global,
+    bytes: &[u8],
+) -> Result<Vec<StringRecord>, (usize, RecordFault)>
+    ensures { GivesAt (λ v. map fields_of v.items) result (records_or_fault bytes.now) }
+{
+    match records_of(alloc, bytes) {
+        Ok(Some(records)) => Ok(records),
+        Ok(None) => Err((1, RecordFault::NotCsv)),
+        Err(_) => Err((0, RecordFault::OutOfMemory)),
+    }
+}

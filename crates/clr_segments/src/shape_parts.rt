@@ -1,0 +1,47 @@
+ghost use Rattle.std.specs.Prelude.{◌≡◌, ◌<◌, length};
+ghost use Rattle.std.specs.Prelude.{slice_get};
+ghost use Rattle.clr_rows.specs.declared.limits.TheConstants.{MOST_VERTICES};
+ghost use Rattle.clr_rows.specs.Parts.{path_parts, parts_of, part_of};
+
+use clr_rows::{Place, Shape};
+
+/// How many parts a shape has: a path has one from each vertex to the next, a segment is one part,
+/// and another shape has none. A path has at most 32 vertices.
+pub fn parts(shape: &Shape) -> u16
+    requires { length (parts_of shape.now) < MOST_VERTICES }
+    ensures { result ≡ length (parts_of shape.now) }
+{
+    match shape {
+        Shape::Bare => 0,
+        Shape::At(_) => 0,
+        Shape::Line(_, _) => 1,
+        Shape::Chain(vertices) => vertices.as_slice().len().saturating_sub(1) as u16,
+    }
+}
+
+// The vertex at a position and the next, or none where either isn't there.
+fn part_from(vertices: &[Place], at: u16) -> Option<(Place, Place)>
+    ensures { result ≡ slice_get (path_parts vertices.now) at }
+{
+    let at = at as usize;
+    if at + 1 < vertices.len() {
+        Some((vertices[at], vertices[at + 1]))
+    } else {
+        None
+    }
+}
+
+/// The ends of a part of a shape, or none where the shape has no part of this number. Part n of a
+/// path goes from its vertex n to its vertex n + 1, counted from 1; a segment is its part 1.
+pub fn part(shape: &Shape, number: u16) -> Option<(Place, Place)>
+    ensures { result ≡ part_of shape.now number }
+{
+    if number == 0 {
+        return None;
+    }
+    match shape {
+        Shape::Line(first, second) if number == 1 => Some((*first, *second)),
+        Shape::Chain(vertices) => part_from(vertices.as_slice(), number - 1),
+        _ => None,
+    }
+}

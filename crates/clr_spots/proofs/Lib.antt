@@ -1,0 +1,9 @@
+pub mod DistinctSpots
+pub mod ListedSquares
+pub mod PathSquares
+pub mod RoleLaws
+pub mod ShareLaws
+pub mod SharedSpots
+pub mod SideLemmas
+pub mod SpotLemmas
+pub mod SquareLemmas

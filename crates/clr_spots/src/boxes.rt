@@ -1,0 +1,59 @@
+ghost use Rattle.std.specs.Prelude.{◌≡◌, ◌≤◌, ◌≤ℤ◌, ◌+ℤ◌, ◌-ℤ◌, pos, unsigned_abs};
+ghost use Rattle.clr_rows.specs.Places.{InRange};
+ghost use Rattle.clr_segments.specs.Bounding.{box_between, grown_box};
+ghost use Rattle.clr_spots.specs.Reach.{IsNear, IsInRange};
+
+use clr_rows::Place;
+use clr_segments::{Bounds, box_of};
+
+/// The box between two places.
+pub(crate) fn box_between(first: Place, second: Place) -> Bounds
+    requires first { InRange first }
+    requires second { InRange second }
+    ensures value { result ≡ box_between first second }
+    ensures range { IsInRange result }
+{
+    box_of(first, second)
+}
+
+/// A coordinate less d millimetres.
+fn subtract_distance(x: i64, d: i64) -> i64
+    requires in_range { unsigned_abs x ≤ 1_000_000_000 }
+    requires d_least { pos 1 ≤ℤ d }
+    requires d_most { d ≤ℤ pos 1_000_000 }
+    ensures value { result ≡ x -ℤ d }
+    ensures bound { unsigned_abs result ≤ 2_000_000_000 }
+{
+    x - d
+}
+
+/// A coordinate and d millimetres more.
+fn add_distance(x: i64, d: i64) -> i64
+    requires in_range { unsigned_abs x ≤ 1_000_000_000 }
+    requires d_least { pos 1 ≤ℤ d }
+    requires d_most { d ≤ℤ pos 1_000_000 }
+    ensures value { result ≡ x +ℤ d }
+    ensures bound { unsigned_abs result ≤ 2_000_000_000 }
+{
+    x + d
+}
+
+/// A box grown by d millimetres on each side.
+pub(crate) fn grown_box(bounds: Bounds, d: i64) -> Bounds
+    requires in_range { IsInRange bounds }
+    requires d_least { pos 1 ≤ℤ d }
+    requires d_most { d ≤ℤ pos 1_000_000 }
+    ensures value { result ≡ grown_box bounds d }
+    ensures near { IsNear result }
+{
+    Bounds {
+        least: Place {
+            x: subtract_distance(bounds.least.x, d),
+            y: subtract_distance(bounds.least.y, d),
+        },
+        most: Place {
+            x: add_distance(bounds.most.x, d),
+            y: add_distance(bounds.most.y, d),
+        },
+    }
+}

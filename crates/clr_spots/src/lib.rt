@@ -1,0 +1,23 @@
+//! The spots of rows under rules: squares of the plane, or values in columns. Rows that stand in one
+//! need share a spot, so that they are found by it.
+#![tactic(auto)]
+
+mod boxes;
+mod laws;
+mod limits;
+mod order;
+mod parts;
+mod role_spots;
+mod rows;
+mod spots;
+mod squares;
+mod values;
+
+pub use laws::{
+    servers_share_spots, spots_are_shared_both_ways, spots_stand_once, squares_of_a_box,
+    subjects_share_spots,
+};
+pub use limits::{MOST_SPOTS, SQUARE_SIDE};
+pub use role_spots::{server_spots, subject_spots};
+pub use rows::spots_of;
+pub use spots::{Spot, SpotList, Spots};

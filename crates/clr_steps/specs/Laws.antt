@@ -1,0 +1,91 @@
+-- What holds of steps by their definitions, whatever the code does.
+use Rattle.std.specs.Prelude.{◌≡◌, ◌↔◌, true, false, List, [], ◌∷◌, ◌++◌, Option, Some, None, is_some}
+use Rattle.clr_rows.specs.declared.tables.TableDef.{TableDef}
+use Rattle.clr_rules.specs.declared.rules.Rule.{Rule}
+use Rattle.clr_layers.specs.Marks.{Name}
+use Rattle.clr_layers.specs.Workspaces.{Workspace, find}
+use Rattle.clr_tree.specs.Soundness.{IsSound}
+use Rattle.clr_steps.specs.declared.commands.Command.{Command}
+use Rattle.clr_steps.specs.declared.commands.Reply.{Reply}
+use Rattle.clr_steps.specs.declared.commands.Reply.TheVariants.{Done, OutOfMemory}
+use Rattle.clr_steps.specs.Names.{is_live}
+use Rattle.clr_steps.specs.Offices.{Office, office_of, workspace, stands, content_of, is_kept}
+use Rattle.clr_steps.specs.Effects.{effect}
+use Rattle.clr_steps.specs.Refusals.{refusal, depth}
+use Rattle.clr_steps.specs.Positions.{is_top, below_top, content_at, kept_at, depth_at, refusal_at, effect_at}
+use Rattle.clr_steps.specs.Steps.{settle, step, is_lost, IsAnswer, AreAnswers, run, lost_in}
+use Rattle.clr_steps.specs.Invariants.{HoldsWhereKept, OfficeFits, unheld}
+use Rattle.clr_steps.specs.Quiet.{Site, IsRootKept, LeavesSite, is_quiet, is_of_member}
+
+-- what an office says of a name, by the position at which its tree finds it
+pub record IsSeen (o : Office) (ws : List Workspace) (name : Name) : Type 0 where
+  pub live : is_live name ≡ is_top (find ws name)
+  pub workspace : workspace o name ≡ below_top ws (find ws name)
+  pub stands : stands o name ≡ is_some (find ws name)
+  pub content : content_of o name ≡ content_at ws (find ws name)
+  pub kept : is_kept o name ≡ kept_at ws (find ws name)
+  pub depth : depth o name ≡ depth_at ws (find ws name)
+
+abbrev pub NameLaw : Type 0
+NameLaw = (schema : List TableDef) (book : List Rule) (ws : List Workspace) → IsSound ws → (name : Name) → IsSeen (office_of schema book ws) ws name
+
+-- a command by name is refused for what it is refused for by position
+abbrev pub RefusalLaw : Type 0
+RefusalLaw = (schema : List TableDef) (book : List Rule) (ws : List Workspace) → IsSound ws → (c : Command)
+    → refusal (office_of schema book ws) c ≡ refusal_at schema book ws c
+
+-- where it isn't refused, what it leaves by position makes the office that it leaves by name
+abbrev pub EffectLaw : Type 0
+EffectLaw = (schema : List TableDef) (book : List Rule) (ws : List Workspace) → IsSound ws → (c : Command)
+    → refusal_at schema book ws c ≡ None → office_of schema book (effect_at ws c) ≡ effect (office_of schema book ws) c
+
+-- a step by name, told by position
+abbrev pub StepLaw : Type 0
+StepLaw = (schema : List TableDef) (book : List Rule) (ws : List Workspace) → IsSound ws → (c : Command)
+    → let o = office_of schema book ws in step o c ≡ settle (refusal_at schema book ws c) o (office_of schema book (effect_at ws c))
+
+-- what works by position answers and leaves: it finds no memory, or the command is refused, or it is done
+pub data IsPerformed (refusal : Option Reply) (ws next : List Workspace) (reply : Reply) (left : List Workspace) : Type 0 where
+  without_memory : reply ≡ OutOfMemory → left ≡ ws → IsPerformed refusal ws next reply left
+  refused : refusal ≡ Some reply → left ≡ ws → IsPerformed refusal ws next reply left
+  done : refusal ≡ None → reply ≡ Done → left ≡ next → IsPerformed refusal ws next reply left
+
+-- and so it answers the step by name
+abbrev pub AnswerLaw : Type 0
+AnswerLaw = (schema : List TableDef) (book : List Rule) (ws : List Workspace) → IsSound ws → (c : Command) (reply : Reply) (left : List Workspace)
+    → IsPerformed (refusal_at schema book ws c) ws (effect_at ws c) reply left → IsAnswer (office_of schema book ws) c reply (office_of schema book left)
+
+-- a step is never answered OutOfMemory, so that the commands that are answered so are those that are lost
+abbrev pub MemoryLaw : Type 0
+MemoryLaw = (o : Office) (c : Command) → is_lost (step o c).reply ≡ false
+
+-- answers to commands one after another are those of a run, what is lost being read off them
+abbrev pub RunLaw : Type 0
+RunLaw = (o : Office) (commands : List Command) (replies : List Reply) (left : Office)
+    → AreAnswers o commands replies left → run o commands (lost_in replies) ≡ record { replies = replies; office = left }
+
+-- and so is one more answer after them
+abbrev pub MoreLaw : Type 0
+MoreLaw = (o : Office) (commands : List Command) (replies : List Reply) (now : Office) (c : Command) (reply : Reply) (left : Office)
+    → AreAnswers o commands replies now → IsAnswer now c reply left → AreAnswers o (commands ++ c ∷ []) (replies ++ reply ∷ []) left
+
+-- a step leaves schema and rules
+abbrev pub SchemaLaw : Type 0
+SchemaLaw = (o : Office) (c : Command) → ((step o c).office.schema ≡ o.schema) × ((step o c).office.book ≡ o.book)
+
+-- a step leaves every rule holding where it is to hold
+abbrev pub RulesLaw : Type 0
+RulesLaw = (o : Office) (c : Command) → HoldsWhereKept o → HoldsWhereKept (step o c).office
+
+-- every rule holds where it is to hold exactly where no workspace of the tree is unheld
+abbrev pub UnheldLaw : Type 0
+UnheldLaw = (schema : List TableDef) (book : List Rule) (ws : List Workspace) → IsSound ws → (unheld book ws ≡ None) ↔ HoldsWhereKept (office_of schema book ws)
+
+-- a step leaves rows that fit the schema
+abbrev pub FitLaw : Type 0
+FitLaw = (o : Office) (c : Command) → OfficeFits o → OfficeFits (step o c).office
+
+-- a quiet command that is no merge or refresh of a member leaves the root and the members
+abbrev pub QuietLaw : Type 0
+QuietLaw = (site : Site) (o : Office) (c : Command)
+    → IsRootKept o site → is_quiet o site c ≡ true → is_of_member site c ≡ false → LeavesSite site o (step o c).office

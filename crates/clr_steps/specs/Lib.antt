@@ -1,0 +1,12 @@
+pub mod Effects
+pub mod Examples
+pub mod Invariants
+pub mod Laws
+pub mod Names
+pub mod Offices
+pub mod Positions
+pub mod Quiet
+pub mod Readings
+pub mod Refusals
+pub mod Steps
+pub mod WorkspaceLaws

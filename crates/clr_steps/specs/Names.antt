@@ -1,0 +1,16 @@
+-- Names of workspaces, and lists of names as sets.
+use Rattle.std.specs.Prelude.{Bool, false, ◌||◌, List, [], ◌∷◌}
+use Rattle.std.specs.Str.{bytes_eq}
+use Rattle.clr_layers.specs.Marks.{Name}
+use Rattle.clr_layers.specs.Workspaces.{live_name}
+
+unfoldable pub same_name : Name → Name → Bool
+same_name = bytes_eq
+
+unfoldable pub is_live : Name → Bool
+is_live name = bytes_eq name live_name
+
+-- whether a name stands in a list
+abbrev pub has : List Name → Name → Bool
+has [] name = false
+has (n ∷ ns) name = same_name n name || has ns name

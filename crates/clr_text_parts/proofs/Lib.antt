@@ -1,0 +1,2 @@
+pub mod PartTurns
+pub mod WholeFits

@@ -1,0 +1,17 @@
+//! Tests of the texts: edits, scripts, office texts and lines, by public calls.
+#![tactic(auto)]
+
+#[cfg(test)]
+mod command_words;
+#[cfg(test)]
+mod edits;
+#[cfg(test)]
+mod lines;
+#[cfg(test)]
+mod network;
+#[cfg(test)]
+mod office_texts;
+#[cfg(test)]
+mod report_lines;
+#[cfg(test)]
+mod scripts;

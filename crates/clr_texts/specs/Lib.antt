@@ -1,9 +1,0 @@
-pub mod Decimals
-pub mod Edits
-pub mod Lines
-pub mod OfficeCells
-pub mod OfficeFields
-pub mod OfficeTables
-pub mod OfficeText
-pub mod Records
-pub mod Scripts

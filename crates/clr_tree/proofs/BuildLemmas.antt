@@ -1,0 +1,84 @@
+-- A tree built of parts.
+use Rattle.std.proofs.Common.{◌≡◌, ℕ, suc, zero, ◌<◌, ◌≤◌, List, [], ◌∷◌, ◌++◌, length, map, take, Some, None, unwrap_or, refl, ap, sym, ◌∙◌, arith}
+use Rattle.std.specs.declared.option.Option.{Option}
+use Rattle.std.proofs.Math.Seq.{take-length}
+use Rattle.clr_rows.specs.Contents.{Content, no_rows, over, rows_after, changes}
+use Rattle.clr_rows.proofs.ChangeLemmas.{taken_over-own}
+use Rattle.clr_differences.specs.Differences.{Differences, Rows, no_differences, seen_over, put_each}
+use Rattle.clr_differences.proofs.DifferenceLemmas.{seen_over-fresh}
+use Rattle.clr_layers.specs.Layers.{Layer, find_layer, whole_of, whole_mark, wholes, named}
+use Rattle.clr_layers.specs.Workspaces.{Workspace, workspace_at, find}
+use Rattle.clr_layers.proofs.FindLemmas.{find_within}
+use Rattle.clr_layers.proofs.Meaning.{name-whole, find-wholes, named_found}
+use Rattle.clr_layers.proofs.Places.{wholes-push}
+use Rattle.clr_tree.specs.Parts.{marks_of, workspace_of, list_of, name_fault_at, first_below, first_fault, number_of, IsFault, IsRefused}
+use Rattle.clr_tree.specs.declared.parts.Part.{Part}
+use Rattle.clr_tree.specs.declared.parts.PartFault.{PartFault}
+use Rattle.clr_tree.specs.declared.parts.PartFault.TheVariants as fault
+use Rattle.clr_tree.proofs.FaultLemmas.{below_found, name_wrong}
+
+pub all_differences : (below above : Content) (rows : Rows) (d : Differences) → rows ≡ rows_after (changes below above) → d ≡ put_each no_differences rows → seen_over below d ≡ above
+all_differences below above rows d rows_is is = ap (seen_over below) is ∙ seen_over-fresh below rows ∙ ap (over below) rows_is ∙ taken_over-own below above
+
+pub whole_part : (above : Content) (l : Layer) (p : Part) → l.name ≡ p.name → l.parent ≡ p.parent → seen_over above l.base ≡ p.base → seen_over p.base l.current ≡ p.current
+    → map (whole_mark p.base) l.marks ≡ marks_of p.marks.items → l.kept ≡ p.kept → whole_of above l ≡ workspace_of p
+unfolding whole_of
+whole_part above l p name parent base current marks kept =
+    let content = ap (λ (m : Content). seen_over m l.current) base ∙ current in
+    let all = ap (λ (m : Content). map (whole_mark m) l.marks) base ∙ marks in
+    λ i. record { name = name i; parent = parent i; base = base i; current = content i; marks = all i; kept = kept i }
+
+parent-whole : (above : Content) (l : Layer) → (whole_of above l).parent ≡ l.parent
+unfolding whole_of
+parent-whole above l = refl
+
+module _ (live : Content) (ls : List Layer) (above : Content) (l : Layer) (p : Part) (is : whole_of above l ≡ workspace_of p) where
+  pub new_layer : find (wholes live ls) p.name ≡ None → find_layer ls l.name ≡ None
+  new_layer none = sym (find-wholes live ls l.name) ∙ ap (find (wholes live ls)) (sym (name-whole above l) ∙ ap (λ (w : Workspace). w.name) is) ∙ none
+
+  pub part_pushed : (at : ℕ) → 0 < length ls → find (wholes live ls) p.parent ≡ Some at → above ≡ (workspace_at (wholes live ls) at).current → wholes live (ls ++ l ∷ []) ≡ wholes live ls ++ workspace_of p ∷ []
+  part_pushed at filled found above_is =
+      let ws = wholes live ls in
+      let parent : l.parent ≡ p.parent = sym (parent-whole above l) ∙ ap (λ (w : Workspace). w.parent) is in
+      let seen : named ws l.parent ≡ Some (workspace_at ws at).current =
+      ap (named ws) parent ∙ ap (λ (vs : List Workspace). named vs p.parent) (sym (take-length ws)) ∙ named_found ws p.parent at (length ws) found (find_within ws p.parent at found) in
+      wholes-push live ls l filled ∙ ap (λ o. ws ++ whole_of (unwrap_or o no_rows) l ∷ []) seen
+      ∙ ap (λ (w : Workspace). ws ++ w ∷ []) (ap (λ (m : Content). whole_of m l) (sym above_is) ∙ is)
+
+-- positions before the next part
+pub at_take : (ws : List Workspace) (n i : ℕ) → i < n → workspace_at (take n ws) i ≡ workspace_at ws i
+at_take ws zero i lt = absurd (omega arith)
+at_take [] (suc n) i lt = refl
+at_take (w ∷ ws) (suc n) zero lt = refl
+at_take (w ∷ ws) (suc n) (suc i) lt = at_take ws n i (omega arith)
+
+pub few_taken : (ws : List Workspace) (n : ℕ) → length (take n ws) ≤ n
+few_taken ws zero = omega arith
+few_taken [] (suc n) = omega arith
+few_taken (w ∷ ws) (suc n) = let few = few_taken ws n in omega (arith, few)
+
+-- faults -----------------------------------------------------------------------------------------------
+
+pub is_fault : (found : Option PartFault) (why : PartFault) → found ≡ Some why → IsFault found why
+is_fault found fault.OutOfMemory e = tt
+is_fault found fault.BadName e = e
+is_fault found fault.NameTaken e = e
+is_fault found fault.NoParent e = e
+is_fault found fault.TooMany e = e
+is_fault found fault.BadMarks e = e
+
+pub refused_at : (wrong : ℕ → Option PartFault) (at n : ℕ) (why : PartFault) → at < n → first_below wrong at ≡ None → IsFault (wrong at) why → IsRefused (first_below wrong n) (number_of at why, why)
+refused_at wrong at n fault.OutOfMemory lt before e = refl
+refused_at wrong at n fault.BadName lt before e = below_found wrong at n fault.BadName lt before e
+refused_at wrong at n fault.NameTaken lt before e = below_found wrong at n fault.NameTaken lt before e
+refused_at wrong at n fault.NoParent lt before e = below_found wrong at n fault.NoParent lt before e
+refused_at wrong at n fault.TooMany lt before e = below_found wrong at n fault.TooMany lt before e
+refused_at wrong at n fault.BadMarks lt before e = below_found wrong at n fault.BadMarks lt before e
+
+pub refused_name : (live : Content) (parts : List Part) (e : ℕ × PartFault) → IsRefused (first_below (name_fault_at (list_of live parts)) (length parts)) e → IsRefused (first_fault live parts) e
+refused_name live parts (n, fault.OutOfMemory) r = r
+refused_name live parts (n, fault.BadName) r = name_wrong live parts (n, fault.BadName) r
+refused_name live parts (n, fault.NameTaken) r = name_wrong live parts (n, fault.NameTaken) r
+refused_name live parts (n, fault.NoParent) r = name_wrong live parts (n, fault.NoParent) r
+refused_name live parts (n, fault.TooMany) r = name_wrong live parts (n, fault.TooMany) r
+refused_name live parts (n, fault.BadMarks) r = name_wrong live parts (n, fault.BadMarks) r

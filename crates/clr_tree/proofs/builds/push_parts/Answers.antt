@@ -1,0 +1,36 @@
+use Rattle.std.proofs.Common.{◌≡◌, ℕ, suc, ◌+◌, take, length, map, ap, sym, ◌∙◌, subst, arith}
+use Rattle.clr_layers.specs.Layers.{wholes}
+use Rattle.clr_tree.specs.Parts.{workspace_of, list_of, name_fault_at, first_below, IsRefused}
+use Rattle.clr_tree.specs.Soundness.{IsRooted}
+use Rattle.clr_tree.proofs.TreeLemmas.{root_made}
+use Rattle.clr_tree.proofs.FaultLemmas.{below_none, below_next, length-parts, shaped_take}
+use Rattle.clr_tree.proofs.BuildLemmas.{refused_at}
+use Rattle.clr_tree.proofs.builds.push_parts.Goals as goal
+
+pub loop-at-init : goal.loop-at-init
+loop-at-init c = record {
+  made = ap (wholes c.args.live.now) c.in-Ok.ensures ∙ root_made c.args.live.now;
+  clear = below_none (name_fault_at (list_of c.args.live.now c.args.parts.now));
+}
+
+pub push_part-requires-clause-rooted : goal.push_part-requires-clause-rooted
+push_part-requires-clause-rooted c =
+    let live = c.args.live.now in
+    let parts = c.args.parts.now in
+    let long = length-parts live parts in
+    subst IsRooted (sym c.loop-at.invariant.made) (shaped_take live (map workspace_of parts) c.loop-at.at (omega (arith, long)) c.loop-at.invariant.clear).rooted
+
+pub returns-in-Err-push_part-clause-refused : goal.returns-in-Err-push_part-clause-refused
+returns-in-Err-push_part-clause-refused c =
+    let wrong = name_fault_at (list_of c.args.live.now c.args.parts.now) in
+    subst (λ n. IsRefused (first_below wrong (length c.args.parts.now)) (n, c.in-Err-push_part.fault)) (sym c.number_of.ensures)
+    (refused_at wrong c.loop-at.at (length c.args.parts.now) c.in-Err-push_part.fault (omega arith) c.loop-at.invariant.clear c.in-Err-push_part.ensures.refused)
+
+pub loop-at-preserved : goal.loop-at-preserved
+loop-at-preserved c =
+    let ws = list_of c.args.live.now c.args.parts.now in
+    let next : suc (suc c.loop-at.at) ≡ suc (c.loop-at.at + 1) = omega arith in
+    record {
+      made = c.in_default.ensures.ok ∙ ap (λ (n : ℕ). take n ws) next;
+      clear = below_next (name_fault_at ws) c.loop-at.at c.loop-at.invariant.clear c.in_default.ensures.passed;
+    }

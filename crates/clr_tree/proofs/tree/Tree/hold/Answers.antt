@@ -1,0 +1,26 @@
+use Rattle.std.proofs.Common.{true, ap, sym, subst, ◌∙◌}
+use Rattle.clr_layers.specs.Layers.{wholes}
+use Rattle.clr_tree.specs.Operations.{set_kept}
+use Rattle.clr_tree.specs.Soundness.{IsSound}
+use Rattle.clr_tree.proofs.ReadLemmas.{within_wholes}
+use Rattle.clr_tree.proofs.ModelLemmas.{within_tree, became}
+use Rattle.clr_tree.proofs.OperationLemmas.{kept_set}
+use Rattle.clr_tree.proofs.TreeLemmas.{sound_kept}
+use Rattle.clr_tree.proofs.tree.Tree.hold.Goals as goal
+
+pub set_kept-requires : goal.set_kept-requires
+set_kept-requires c = within_tree c.self.inside.live c.self.inside.map c.args.self.now c.args.at c.self.view_is c.requires.within
+
+pub invariant_of-self : goal.invariant_of-self
+invariant_of-self c =
+    let live = c.self.inside.live in
+    let ls = c.self.inside.map in
+    let lt = within_tree c.self.inside.live c.self.inside.map c.args.self.now c.args.at c.self.view_is c.requires.within in
+    subst IsSound (sym (ap (wholes live) c.set_kept.ensures ∙ kept_set live ls c.args.at c.self.invariant.rooted c.requires.child lt true)) (sound_kept (wholes live ls) c.args.at c.self.invariant (within_wholes live ls c.args.at lt) c.requires.child true)
+
+pub returns : goal.returns
+returns c =
+    let live = c.self.inside.live in
+    let ls = c.self.inside.map in
+    let lt = within_tree c.self.inside.live c.self.inside.map c.args.self.now c.args.at c.self.view_is c.requires.within in
+    became live live ls c.set_kept.new.self c.args.self.now (λ ws. set_kept ws c.args.at true) c.self.view_is (ap (wholes live) c.set_kept.ensures ∙ kept_set live ls c.args.at c.self.invariant.rooted c.requires.child lt true)

@@ -1,0 +1,12 @@
+use Rattle.std.proofs.Common.{ap, sym, ◌∙◌}
+use Rattle.clr_layers.specs.Workspaces.{workspace_at}
+use Rattle.clr_layers.proofs.Meaning.{name-wholes}
+use Rattle.clr_tree.specs.Trees.{Tree}
+use Rattle.clr_tree.proofs.ModelLemmas.{within_tree}
+use Rattle.clr_tree.proofs.tree.Tree.name_at.Goals as goal
+
+pub name_at-requires : goal.name_at-requires
+name_at-requires c = within_tree c.self.inside.live c.self.inside.map c.args.self.now c.args.at c.self.view_is c.requires
+
+pub returns : goal.returns
+returns c = c.name_at.ensures ∙ sym (name-wholes c.self.inside.live c.self.inside.map c.args.at) ∙ ap (λ (t : Tree). (workspace_at t.list c.args.at).name) c.self.view_is

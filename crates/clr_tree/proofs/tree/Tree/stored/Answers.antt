@@ -1,0 +1,13 @@
+use Rattle.std.proofs.Common.{ap, sym, ◌∙◌}
+use Rattle.clr_tree.specs.Trees.{Tree, stored_at}
+use Rattle.clr_tree.proofs.ModelLemmas.{within_tree}
+use Rattle.clr_tree.proofs.SweepLemmas.{counted}
+use Rattle.clr_tree.proofs.tree.Tree.stored.Goals as goal
+
+pub stored-requires : goal.stored-requires
+stored-requires c = within_tree c.self.inside.live c.self.inside.map c.args.self.now c.args.at c.self.view_is c.requires.within
+
+pub returns : goal.returns
+returns c =
+    let in_ls = within_tree c.self.inside.live c.self.inside.map c.args.self.now c.args.at c.self.view_is c.requires.within in
+    c.stored.ensures ∙ sym (counted c.self.inside.map c.args.at in_ls) ∙ ap (λ (t : Tree). stored_at t.stored c.args.at) c.self.view_is

@@ -1,0 +1,373 @@
+ghost use Rattle.std.specs.Prelude.{◌≡◌, ◌<◌, ◌++◌, [], ◌∷◌, string_bytes, false, None, Some, true, length, OnOk, OnErr, IfOk};
+ghost use Rattle.clr_rows.specs.Names.{is_good_name};
+ghost use Rattle.clr_differences.specs.Differences.{cells_in};
+ghost use Rattle.clr_layers.specs.Layers.{layer_at, find_layer, leaf, wholes};
+ghost use Rattle.clr_layers.specs.Marks.{is_saved, is_held, mark_at};
+ghost use Rattle.clr_layers.specs.Workspaces.{workspace_at, find, parent_of as position_of_parent, children_of, live_name};
+ghost use Rattle.clr_tree.specs.Holding.{Extends, ChildrenHold, put_into, row_moved, mark_moved};
+ghost use Rattle.clr_tree.specs.Operations.{after_create, after_remove, after_mark, after_roll_to, after_roll_all};
+ghost use Rattle.clr_tree.specs.Operations.{after_refresh, after_merge, after_resolve, after_rebase};
+ghost use Rattle.clr_tree.specs.Soundness.{IsRooted};
+ghost use Rattle.clr_tree.specs.declared.rebases.Keep.TheVariants.{Child};
+
+use crate::holds::{hold_children, hold_current, hold_own, hold_saved};
+use crate::reads::{base_row_of, parent_of, row_of};
+use crate::rebases::{Keep, Rebase};
+use crate::wholes::{cells_of, changes_of, saved_at};
+use clr_change::copy_row;
+use clr_differences::Differences;
+use clr_layers::{Layer, StoredMark, WorkspaceMap};
+use clr_rows::{CellId, Row, Sheet, Words};
+use std::alloc::{AllocError, Global};
+
+// Each function here fails for want of memory alone, and changes no content, mark or flag then: all
+// that can fail comes first, and then contents change without memory.
+
+/// Puts rows into a current content, one after another.
+pub fn put_rows(
+    live: &mut Sheet,
+    map: &mut WorkspaceMap,
+    at: usize,
+    rows: Vec<(CellId, Option<Row>)>,
+) -> Result<(), AllocError>
+    requires within { at < length map.old }
+    requires rooted { IsRooted (wholes live.old map.old) }
+    ensures ok { OnOk result (wholes live.new map.new ≡ put_into (wholes live.old map.old) at rows.items) }
+    ensures err { OnErr result (wholes live.new map.new ≡ wholes live.old map.old) }
+    ensures extends { Extends map.old map.new }
+    ensures children { OnOk result (ChildrenHold map.new (layer_at map.old at).name (cells_in rows.items)) }
+{
+    let cells = cells_of(map.allocator(), rows.as_slice())?;
+    hold_children(live, map, at, cells.as_slice())?;
+    if at == 0 {
+        live.put_all(rows)?;
+        return Ok(());
+    }
+    hold_own(live, map, at, cells.as_slice())?;
+    map.set_current(at, rows);
+    Ok(())
+}
+
+/// Puts a savepoint with the current content at the end of the marks.
+pub fn mark(live: &Sheet, map: &mut WorkspaceMap, at: usize, name: &str) -> Result<(), AllocError>
+    requires child { 0 < at }
+    requires within { at < length map.old }
+    requires rooted { IsRooted (wholes live.now map.old) }
+    ensures ok { OnOk result (wholes live.now map.new ≡ after_mark (wholes live.now map.old) at name.now) }
+    ensures err { OnErr result (wholes live.now map.new ≡ wholes live.now map.old) }
+{
+    let _live = live;
+    let differences = map.current(at).copy()?;
+    let name = Words::new(String::from_str(map.allocator(), name)?);
+    map.push_mark(at, StoredMark::Saved(name, differences))
+}
+
+/// Makes the content of a savepoint the current one; later savepoints go.
+pub fn roll_to(
+    live: &Sheet,
+    map: &mut WorkspaceMap,
+    at: usize,
+    mark: usize,
+) -> Result<(), AllocError>
+    requires child { 0 < at }
+    requires within { at < length map.old }
+    requires rooted { IsRooted (wholes live.now map.old) }
+    requires saved { is_saved (mark_at (workspace_at (wholes live.now map.old) at).marks mark) ≡ true }
+    requires free { is_held (workspace_at (wholes live.now map.old) at).marks mark ≡ false }
+    ensures ok { OnOk result (wholes live.now map.new ≡ after_roll_to (wholes live.now map.old) at mark) }
+    ensures err { OnErr result (wholes live.now map.new ≡ wholes live.now map.old) }
+{
+    let differences = saved_at(map, at, mark)?;
+    let new = differences.cells()?;
+    let old = map.current(at).cells()?;
+    hold_children(live, map, at, new.as_slice())?;
+    hold_children(live, map, at, old.as_slice())?;
+    map.roll_to(at, differences, mark);
+    Ok(())
+}
+
+/// Makes the base of a leaf its current content; its savepoints go.
+pub fn roll_all(live: &Sheet, map: &mut WorkspaceMap, at: usize)
+    requires child { 0 < at }
+    requires within { at < length map.old }
+    requires rooted { IsRooted (wholes live.now map.old) }
+    requires leaf { let ws = wholes live.now map.old in children_of ws (workspace_at ws at).name ≡ 0 }
+    ensures { wholes live.now map.new ≡ after_roll_all (wholes live.now map.old) at }
+{
+    let _live = live;
+    map.roll_all(at);
+}
+
+/// Merges a workspace into its parent.
+fn merge(
+    live: &mut Sheet,
+    map: &mut WorkspaceMap,
+    at: usize,
+    above: usize,
+) -> Result<(), AllocError>
+    requires child { 0 < at }
+    requires within { at < length map.old }
+    requires rooted { IsRooted (wholes live.old map.old) }
+    requires parent { position_of_parent (wholes live.old map.old) at ≡ Some above }
+    requires earlier { above < at }
+    ensures ok { OnOk result (wholes live.new map.new ≡ after_merge (wholes live.old map.old) at above) }
+    ensures err { OnErr result (wholes live.new map.new ≡ wholes live.old map.old) }
+{
+    let changed = changes_of(live, map, at)?;
+    let rows = changed.rows_after()?;
+    let own = changed.rows_after()?;
+    put_rows(live, map, above, rows)?;
+    map.take_over(at, own);
+    Ok(())
+}
+
+/// Makes the entries that the children of a workspace need before both its base and its current
+/// content have other differences from what they lie over.
+fn hold_moves(
+    live: &Sheet,
+    map: &mut WorkspaceMap,
+    at: usize,
+    new: &[CellId],
+    base: &[CellId],
+    old: &[CellId],
+) -> Result<(), AllocError>
+    requires within { at < length map.old }
+    requires rooted { IsRooted (wholes live.now map.old) }
+    ensures seen { wholes live.now map.new ≡ wholes live.now map.old }
+    ensures extends { Extends map.old map.new }
+    ensures new { OnOk result (ChildrenHold map.new (layer_at map.old at).name new.now) }
+    ensures base { OnOk result (ChildrenHold map.new (layer_at map.old at).name base.now) }
+    ensures old { OnOk result (ChildrenHold map.new (layer_at map.old at).name old.now) }
+{
+    hold_children(live, map, at, new)?;
+    hold_children(live, map, at, base)?;
+    hold_children(live, map, at, old)?;
+    Ok(())
+}
+
+/// Moves the mark of a child to the end of the marks of its parent, where that isn't LIVE.
+fn move_mark(map: &mut WorkspaceMap, above: usize, child: Words) -> Result<(), AllocError>
+    requires { above < length map.old }
+    ensures ok { OnOk result (map.new ≡ mark_moved map.old above child) }
+    ensures err { OnErr result (map.new ≡ map.old) }
+{
+    if above == 0 {
+        return Ok(());
+    }
+    map.move_mark_last(above, child)?;
+    Ok(())
+}
+
+/// Refreshes a workspace from its parent.
+fn refresh(live: &Sheet, map: &mut WorkspaceMap, at: usize, above: usize) -> Result<(), AllocError>
+    requires child { 0 < at }
+    requires within { at < length map.old }
+    requires rooted { IsRooted (wholes live.now map.old) }
+    requires parent { position_of_parent (wholes live.now map.old) at ≡ Some above }
+    requires earlier { above < at }
+    ensures ok { OnOk result (wholes live.now map.new ≡ after_refresh (wholes live.now map.old) at above) }
+    ensures err { OnErr result (wholes live.now map.new ≡ wholes live.now map.old) }
+{
+    let alloc = map.allocator();
+    let rows = changes_of(live, map, at)?.rows_after()?;
+    let new = cells_of(alloc, rows.as_slice())?;
+    let base = map.base(at).cells()?;
+    let old = map.current(at).cells()?;
+    let name = Words::new(String::from_str(alloc, map.name_at(at))?);
+    hold_moves(
+        live,
+        map,
+        at,
+        new.as_slice(),
+        base.as_slice(),
+        old.as_slice(),
+    )?;
+    let differences = Differences::of_rows(alloc, rows)?;
+    move_mark(map, above, name)?;
+    map.restart(at, differences);
+    Ok(())
+}
+
+/// Makes the base of a workspace take its parent's row over at one cell.
+fn keep_own(
+    live: &Sheet,
+    map: &mut WorkspaceMap,
+    at: usize,
+    above: usize,
+    cell: CellId,
+) -> Result<(), AllocError>
+    requires child { 0 < at }
+    requires within { at < length map.old }
+    requires rooted { IsRooted (wholes live.now map.old) }
+    requires parent { position_of_parent (wholes live.now map.old) at ≡ Some above }
+    requires earlier { above < at }
+    ensures ok { OnOk result (wholes live.now map.new ≡ after_resolve (wholes live.now map.old) at above cell Child) }
+    ensures err { OnErr result (wholes live.now map.new ≡ wholes live.now map.old) }
+{
+    hold_current(live, map, at, cell)?;
+    hold_saved(live, map, at, cell)?;
+    map.take_base(at, cell);
+    Ok(())
+}
+
+fn hold_cell(
+    live: &Sheet,
+    map: &mut WorkspaceMap,
+    at: usize,
+    cell: CellId,
+) -> Result<(), AllocError>
+    requires within { at < length map.old }
+    requires rooted { IsRooted (wholes live.now map.old) }
+    ensures seen { wholes live.now map.new ≡ wholes live.now map.old }
+    ensures extends { Extends map.old map.new }
+    ensures children { OnOk result (ChildrenHold map.new (layer_at map.old at).name (cell ∷ [])) }
+{
+    hold_children(live, map, at, &[cell])
+}
+
+/// Makes the base of a workspace take its parent's row over at one cell, and its current content
+/// another row.
+fn move_row(
+    live: &Sheet,
+    map: &mut WorkspaceMap,
+    at: usize,
+    above: usize,
+    cell: CellId,
+    row: Option<Row>,
+) -> Result<(), AllocError>
+    requires child { 0 < at }
+    requires within { at < length map.old }
+    requires rooted { IsRooted (wholes live.now map.old) }
+    requires parent { position_of_parent (wholes live.now map.old) at ≡ Some above }
+    requires earlier { above < at }
+    ensures ok { OnOk result (wholes live.now map.new ≡ row_moved (wholes live.now map.old) at above cell row) }
+    ensures err { OnErr result (wholes live.now map.new ≡ wholes live.now map.old) }
+{
+    hold_cell(live, map, at, cell)?;
+    hold_current(live, map, at, cell)?;
+    hold_saved(live, map, at, cell)?;
+    map.move_row(at, cell, row);
+    Ok(())
+}
+
+/// Settles one cell of a workspace.
+fn resolve(
+    live: &Sheet,
+    map: &mut WorkspaceMap,
+    at: usize,
+    above: usize,
+    cell: CellId,
+    keep: Keep,
+) -> Result<(), AllocError>
+    requires child { 0 < at }
+    requires within { at < length map.old }
+    requires rooted { IsRooted (wholes live.now map.old) }
+    requires parent { position_of_parent (wholes live.now map.old) at ≡ Some above }
+    requires earlier { above < at }
+    ensures ok { OnOk result (wholes live.now map.new ≡ after_resolve (wholes live.now map.old) at above cell keep) }
+    ensures err { OnErr result (wholes live.now map.new ≡ wholes live.now map.old) }
+{
+    match keep {
+        Keep::Child => keep_own(live, map, at, above, cell),
+        Keep::Parent => {
+            let row = copy_row(row_of(live, map, above, cell))?;
+            move_row(live, map, at, above, cell, row)
+        }
+        Keep::Base => {
+            let row = copy_row(base_row_of(live, map, at, cell))?;
+            move_row(live, map, at, above, cell, row)
+        }
+    }
+}
+
+/// Moves the base of a workspace.
+pub fn rebase(
+    live: &mut Sheet,
+    map: &mut WorkspaceMap,
+    at: usize,
+    rebase: Rebase,
+) -> Result<(), AllocError>
+    requires child { 0 < at }
+    requires within { at < length map.old }
+    requires rooted { IsRooted (wholes live.old map.old) }
+    ensures ok { OnOk result (wholes live.new map.new ≡ after_rebase (wholes live.old map.old) at rebase) }
+    ensures err { OnErr result (wholes live.new map.new ≡ wholes live.old map.old) }
+{
+    let above = parent_of(live, map, at);
+    match rebase {
+        Rebase::Refresh => refresh(live, map, at, above),
+        Rebase::Merge => merge(live, map, at, above),
+        Rebase::OneRow(cell, keep) => resolve(live, map, at, above, cell, keep),
+    }
+}
+
+fn push_leaf(map: &mut WorkspaceMap, name: String, parent: Words) -> Result<(), AllocError>
+    requires { find_layer map.old (string_bytes name) ≡ None }
+    ensures ok { OnOk result (map.new ≡ map.old ++ leaf (string_bytes name) parent ∷ []) }
+    ensures err { OnErr result (map.new ≡ map.old) }
+{
+    let alloc = map.allocator();
+    let layer = Layer {
+        parent,
+        base: Differences::new(alloc),
+        current: Differences::new(alloc),
+        marks: Vec::new(alloc),
+        kept: false,
+    };
+    map.push(name, layer)
+}
+
+/// The map of LIVE alone.
+pub fn live_alone(alloc: Global) -> Result<WorkspaceMap, AllocError>
+    ensures { IfOk result (λ map. map ≡ leaf live_name [] ∷ []) }
+{
+    let mut map = WorkspaceMap::new(alloc);
+    let name = String::from_str(alloc, "LIVE")?;
+    let no_name = Words::new(String::new(alloc));
+    push_leaf(&mut map, name, no_name)?;
+    Ok(map)
+}
+
+/// Makes a leaf under the workspace at a position.
+pub fn create(
+    live: &Sheet,
+    map: &mut WorkspaceMap,
+    name: &str,
+    parent: usize,
+) -> Result<(), AllocError>
+    requires within { parent < length map.old }
+    requires rooted { IsRooted (wholes live.now map.old) }
+    requires good { is_good_name name.now ≡ true }
+    requires absent { find (wholes live.now map.old) name.now ≡ None }
+    ensures ok { OnOk result (wholes live.now map.new ≡ after_create (wholes live.now map.old) name.now parent) }
+    ensures err { OnErr result (wholes live.now map.new ≡ wholes live.now map.old) }
+{
+    let _live = live;
+    let alloc = map.allocator();
+    let above = Words::new(String::from_str(alloc, map.name_at(parent))?);
+    let child = Words::new(String::from_str(alloc, name)?);
+    let name = String::from_str(alloc, name)?;
+    let last = map.len();
+    push_leaf(map, name, above)?;
+    if parent > 0 {
+        let marked: Result<_, _> = map.push_mark(parent, StoredMark::Child(child));
+        if let Err(fault) = marked {
+            let _name = map.remove(last);
+            return Err(fault);
+        }
+    }
+    Ok(())
+}
+
+/// Takes a leaf away, and its mark.
+pub fn remove(live: &Sheet, map: &mut WorkspaceMap, at: usize)
+    requires child { 0 < at }
+    requires within { at < length map.old }
+    requires rooted { IsRooted (wholes live.now map.old) }
+    requires leaf { let ws = wholes live.now map.old in children_of ws (workspace_at ws at).name ≡ 0 }
+    ensures { wholes live.now map.new ≡ after_remove (wholes live.now map.old) at }
+{
+    let above = parent_of(live, map, at);
+    let name = map.remove(at);
+    map.drop_mark_of(above, name.as_str());
+}

@@ -1,0 +1,71 @@
+ghost use Rattle.std.specs.Prelude.{◌≡◌, ◌<◌, length, IfOk};
+ghost use Rattle.clr_layers.specs.Layers.{wholes, whole_mark};
+ghost use Rattle.clr_layers.specs.Workspaces.{workspace_at};
+ghost use Rattle.clr_tree.specs.Parts.{mark_of, marks_of, workspace_of};
+ghost use Rattle.clr_tree.specs.Soundness.{IsRooted};
+
+use crate::parts::{MarkPart, Part};
+use crate::wholes::{base_rows, whole_rows};
+use clr_layers::{StoredMark, WorkspaceMap};
+use clr_rows::{Sheet, Words};
+use std::alloc::AllocError;
+
+/// A mark of a workspace other than LIVE, with its content.
+#[tactic(auto, unfolding(clr_differences::specs::Differences::seen_over))]
+fn mark_part(
+    live: &Sheet,
+    map: &WorkspaceMap,
+    at: usize,
+    mark: &StoredMark,
+) -> Result<MarkPart, AllocError>
+    requires child { 0 < at }
+    requires within { at < length map.now }
+    requires rooted { IsRooted (wholes live.now map.now) }
+    ensures { IfOk result (λ part. mark_of part ≡ whole_mark (workspace_at (wholes live.now map.now) at).base mark.now) }
+{
+    match mark {
+        StoredMark::Saved(name, differences) => {
+            let name = name.copy()?;
+            let rows = differences.rows()?;
+            let mut content = base_rows(live, map, at)?;
+            content.put_all(rows)?;
+            Ok(MarkPart::Saved(name, content))
+        }
+        StoredMark::Child(name) => Ok(MarkPart::ChildMark(name.copy()?)),
+    }
+}
+
+fn mark_parts(live: &Sheet, map: &WorkspaceMap, at: usize) -> Result<Vec<MarkPart>, AllocError>
+    requires child { 0 < at }
+    requires within { at < length map.now }
+    requires rooted { IsRooted (wholes live.now map.now) }
+    ensures { IfOk result (λ parts. marks_of parts.items ≡ (workspace_at (wholes live.now map.now) at).marks) }
+{
+    let mut parts = Vec::new(map.allocator());
+    for mark in map.marks(at) {
+        parts.push(mark_part(live, map, at, mark)?)?;
+    }
+    Ok(parts)
+}
+
+/// A workspace other than LIVE, with whole contents. It fails for want of memory alone.
+pub fn part_at(live: &Sheet, map: &WorkspaceMap, at: usize) -> Result<Part, AllocError>
+    requires child { 0 < at }
+    requires within { at < length map.now }
+    requires rooted { IsRooted (wholes live.now map.now) }
+    ensures { IfOk result (λ part. workspace_of part ≡ workspace_at (wholes live.now map.now) at) }
+{
+    let name = Words::new(String::from_str(map.allocator(), map.name_at(at))?);
+    let parent = Words::new(String::from_str(map.allocator(), map.parent_name(at))?);
+    let base = base_rows(live, map, at)?;
+    let current = whole_rows(live, map, at)?;
+    let marks = mark_parts(live, map, at)?;
+    Ok(Part {
+        name,
+        parent,
+        base,
+        current,
+        marks,
+        kept: map.kept(at),
+    })
+}
