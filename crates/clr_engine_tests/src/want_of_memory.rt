@@ -46,7 +46,7 @@ impl Task {
         let mut office = self.office_before(rt, alloc)?;
         let commands = commands(alloc, &office, self.command)?;
         let command = commands.as_slice().first().ok_or("no command")?;
-        hoard.leave(rt, budget)?;
+        hoard.leave(budget)?;
         let reply = office.perform(command);
         hoard.give_back();
         let is_done = reply == Reply::Done;
@@ -108,7 +108,7 @@ const UNDER_KEPT: &str =
 
 /// Asserts of each command that it meets want of memory, and then is done.
 fn assert_refused_whole(rt: &impl Abort, alloc: Global, tasks: &[Task]) -> Result<(), Fail> {
-    let mut hoard = Hoard::take(rt, alloc)?;
+    let mut hoard = Hoard::take(alloc)?;
     for task in tasks {
         let refused = task.refusals(rt, alloc, &mut hoard)?;
         assert!(rt; 0 < refused, "{task:?}");
@@ -165,7 +165,7 @@ fn kept_workspaces(rt: HostRuntime) -> Result<(), Fail> {
 #[test]
 fn commands_without_memory(rt: HostRuntime) -> Result<(), Fail> {
     let alloc = rt.alloc();
-    let mut hoard = Hoard::take(&rt, alloc)?;
+    let mut hoard = Hoard::take(alloc)?;
     let tasks = [
         Task::new(EDITED, "remove,W1"),
         Task::new(SAVED, "unmark,W1,s1"),

@@ -8,7 +8,6 @@
 #![tactic(auto)]
 
 use std::alloc::{AllocError, Global};
-use std::process::Abort;
 
 /// The most blocks in one list: Linux lends no more than 65,530 ranges.
 const MOST_BLOCKS: usize = 60_000;
@@ -59,8 +58,9 @@ fn take_all(alloc: Global, blocks: &mut Vec<Vec<u8>>, first: usize, least: usize
 }
 
 impl Hoard {
-    /// Takes all address space but about 1,000,000 bytes, with which the test goes on.
-    pub fn take(rt: &impl Abort, alloc: Global) -> Result<Hoard, AllocError> {
+    /// Takes all address space but about 1,000,000 bytes, with which the test goes on; refused
+    /// too where there are more blocks than the list takes.
+    pub fn take(alloc: Global) -> Result<Hoard, AllocError> {
         let mut hoard = Hoard {
             alloc,
             large: Vec::with_capacity(alloc, MOST_BLOCKS)?,
@@ -69,17 +69,20 @@ impl Hoard {
         for _ in 0..CUSHIONS {
             hoard.small.push(Vec::with_capacity(alloc, CUSHION_SIZE)?)?;
         }
-        let whole = take_all(alloc, &mut hoard.large, FIRST_SIZE, LARGE);
-        assert!(rt; whole, "more blocks of address space than the list takes");
+        if !take_all(alloc, &mut hoard.large, FIRST_SIZE, LARGE) {
+            return Err(AllocError);
+        }
         hoard.small.clear();
         Ok(hoard)
     }
 
-    /// Takes what is left, but for this many bytes.
-    pub fn leave(&mut self, rt: &impl Abort, budget: usize) -> Result<(), AllocError> {
+    /// Takes what is left, but for this many bytes; refused too where there are more blocks than
+    /// the list takes.
+    pub fn leave(&mut self, budget: usize) -> Result<(), AllocError> {
         let room: Vec<u8> = Vec::with_capacity(self.alloc, budget.saturating_add(SMALL))?;
-        let whole = take_all(self.alloc, &mut self.small, LARGE, STEP);
-        assert!(rt; whole, "more small blocks than the list takes");
+        if !take_all(self.alloc, &mut self.small, LARGE, STEP) {
+            return Err(AllocError);
+        }
         drop(room);
         let front: Vec<u8> = Vec::with_capacity(self.alloc, SMALL)?;
         self.small.push(front)?;

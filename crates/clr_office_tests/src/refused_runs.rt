@@ -51,7 +51,7 @@ fn end_within(
     (input, lines): (&str, &str),
 ) -> Result<End, Fail> {
     let mut page = Page::new(alloc, ROOM)?;
-    hoard.leave(rt, budget)?;
+    hoard.leave(budget)?;
     let status = run_office(alloc, &mut Text::new(input.as_bytes()), &mut page);
     hoard.give_back();
     let written = page.as_slice();
@@ -83,7 +83,7 @@ fn end_within(
 fn a_run_prints_nothing_or_all(rt: HostRuntime) -> Result<(), Fail> {
     let alloc = rt.alloc();
     let input = format!(in alloc; "{OFFICE}{SCRIPT}")?;
-    let mut hoard = Hoard::take(&rt, alloc)?;
+    let mut hoard = Hoard::take(alloc)?;
     let mut refused = 0;
     let mut end = End::Fault;
     for budget in (0..MOST).step_by(16) {
