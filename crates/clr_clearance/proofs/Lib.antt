@@ -1,7 +1,9 @@
 pub mod AnswerLemmas
+pub mod CarryLemmas
 pub mod CheckLemmas
 pub mod ClearLemmas
 pub mod EffectLemmas
+pub mod LastingLemmas
 pub mod MemberLemmas
 pub mod NameLemmas
 pub mod OrderLemmas

@@ -37,7 +37,7 @@ module _ (first : Office) (site : Site) (mergeable : AreMergeable first site) (n
     ]
 
     -- the same set, where the member is merged already
-    again : has names name ≡ true → (k : Name) → has names k ≡ has (name ∷ names) k
+    pub again : has names name ≡ true → (k : Name) → has names k ≡ has (name ∷ names) k
     again merged k = by (same_name name k) refl
       where
         by : (b : Bool) → same_name name k ≡ b → has names k ≡ b || has names k

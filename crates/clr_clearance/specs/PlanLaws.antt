@@ -36,7 +36,14 @@ SafeOrderLaw = (o : Office) (site : Site) (names : List Name) → Safe o site �
 abbrev pub SafePlanLaw : Type 0
 SafePlanLaw = (o : Office) (site : Site) (order : List ℕ) (cause : Verdict) → Safe o site → RootHolds o site → ¬ (IsBlocked o site order cause)
 
--- after quiet commands, no test of the members that stand fails, and no plan for them is blocked
+-- after quiet commands some entries cover the members that stand
+abbrev pub LastingCoverLaw : Type 0
+LastingCoverLaw = (o : Office) (site : Site) (entries : List Entry) (commands : List Command) (lost : ℕ → Bool)
+    → Covers o site entries
+    → AreQuiet o site commands lost
+    → let now = (run o commands lost).office in (others : List Entry) × Covers now (standing now site) others
+
+-- and where every rule holds in the root, no test of those members fails, every rule holds still, and no plan for them is blocked
 pub record StaysClear (now : Office) (site : Site) : Type 0 where
   pub free : member_fault now site ≡ None
   pub mergeable : AreMergeable now site

@@ -1,7 +1,7 @@
 //! Laws of plans, each proved by a function that does nothing.
 
-ghost use Rattle.clr_clearance.specs.PlanLaws.{BlockedPlanLaw, ClearedIsSafeLaw, ClearedPlanLaw, LastingLaw, SafeOrderLaw};
-ghost use Rattle.clr_clearance.specs.PlanLaws.{SafePlanLaw};
+ghost use Rattle.clr_clearance.specs.PlanLaws.{BlockedPlanLaw, ClearedIsSafeLaw, ClearedPlanLaw, LastingCoverLaw, LastingLaw};
+ghost use Rattle.clr_clearance.specs.PlanLaws.{SafeOrderLaw, SafePlanLaw};
 
 /// The entries of a cleared plan, one for each touched need with the witnesses picked for it, cover
 /// the members; so where every rule holds in the root, the members are safe.
@@ -23,9 +23,11 @@ pub fn safe_sites_are_never_blocked()
     ensures plan { SafePlanLaw }
 {}
 
-/// After a list of commands that are quiet for covered members, those that still stand are different
-/// children of a kept root in which every rule holds, none in conflict with it and no cell changed by
-/// two, and no plan for them is blocked.
+/// After a list of commands that are quiet for covered members, some entries cover those that still
+/// stand: they are different children of a kept root, none in conflict with it, no cell is changed by
+/// two, and each need that they touch has an entry. So where every rule held in the root, every rule
+/// holds there still, and no plan for them is blocked.
 pub fn clearances_last()
-    ensures { LastingLaw }
+    ensures cover { LastingCoverLaw }
+    ensures clear { LastingLaw }
 {}

@@ -1,5 +1,5 @@
 -- What is shown of an office is what its tree has at the position of a name.
-use Rattle.std.proofs.Common.{◌≡◌, ℕ, zero, suc, ◌<◌, Bool, cond, List, [], Option, Some, None, refl, sym, ap, subst, ◌∙◌, arith}
+use Rattle.std.proofs.Common.{◌≡◌, ℕ, zero, suc, ◌+◌, ◌<◌, length, Bool, cond, List, [], Option, Some, None, refl, sym, ap, subst, ◌∙◌, arith}
 use Rattle.std.specs.Prelude.{is_some, IsSome}
 use Rattle.std.specs.FinMap as finite
 use Rattle.std.proofs.lemmas.Bool.{false≢true}
@@ -7,17 +7,18 @@ use Rattle.std.specs.Option.{option_map, option_map_or}
 use Rattle.clr_rows.specs.declared.cells.CellId.{CellId}
 use Rattle.clr_rows.specs.declared.tables.TableDef.{TableDef}
 use Rattle.clr_rows.specs.Cells.{cell_cmp}
-use Rattle.clr_rows.specs.Contents.{Content, conflicts, no_changes, row_at}
+use Rattle.clr_rows.specs.Contents.{Content, changes, conflicts, no_changes, row_at}
 use Rattle.clr_rules.specs.declared.rules.Rule.{Rule}
 use Rattle.clr_layers.proofs.FindLemmas.{find_named}
 use Rattle.clr_layers.specs.Marks.{Name}
 use Rattle.clr_layers.specs.Workspaces.{Workspace, find, parent_of, workspace_at}
 use Rattle.clr_tree.specs.Operations.{own_changes}
 use Rattle.clr_tree.specs.Soundness.{IsSound}
+use Rattle.clr_tree.specs.Trees.{change_count, content_above, needed}
 use Rattle.clr_steps.specs.Laws.{IsSeen}
 use Rattle.clr_steps.specs.Offices.{Office, content_of, is_kept, office_of, workspace}
 use Rattle.clr_steps.specs.Positions.{below_top, content_at, kept_at}
-use Rattle.clr_steps.specs.Readings.{changes_in, conflicts_in, if_stands, parent_in}
+use Rattle.clr_steps.specs.Readings.{changes_in, conflicts_in, if_stands, parent_in, stored_in}
 use Rattle.clr_steps.proofs.SeenLemmas.{name_law}
 
 pub seen_in : (schema : List TableDef) (book : List Rule) (ws : List Workspace) (o : Office) → IsSound ws → office_of schema book ws ≡ o → (name : Name) → IsSeen o ws name
@@ -27,6 +28,10 @@ seen_in schema book ws o sound is name = subst (λ (o : Office). IsSeen o ws nam
 pub zero_of : (at : ℕ) (r : Option ℕ) → r ≡ None → (0 < at → IsSome r) → at ≡ 0
 zero_of zero r e f = refl
 zero_of (suc k) r e f = absurd (false≢true (subst (λ (r : Option ℕ). IsSome r) e (f (omega arith))))
+
+pub some_below : (at : ℕ) → (at ≡ 0 → ⊥) → 0 < at
+some_below zero other = absurd (other refl)
+some_below (suc k) other = omega arith
 
 module _ (o : Office) (ws : List Workspace) (name : Name) (s : IsSeen o ws name) where
   pub shown : {A : Type 0} (at : ℕ) (value wanted : A) → find ws name ≡ Some at → value ≡ wanted → Some value ≡ if_stands o name wanted
@@ -76,3 +81,13 @@ module _ (o : Office) (ws : List Workspace) (name : Name) (s : IsSeen o ws name)
 
   pub no_conflicts_is : workspace o name ≡ None → [] ≡ conflicts_in o name
   no_conflicts_is e = sym (ap (λ (r : Option Workspace). option_map_or (λ w. conflicts (content_of o w.parent) (own_changes w)) r []) e)
+
+  pub stored_is : (at above : ℕ) → 0 < at → find ws name ≡ Some at → parent_of ws at ≡ Some above → IsSeen o ws (workspace_at ws at).parent → needed ws at ≡ stored_in o name
+  stored_is at above some e up parent =
+      let w = workspace_at ws at in
+      ap (λ (r : Option ℕ). change_count (content_above ws r) w.base + change_count w.base w.current) up
+      ∙ ap (λ (m : Content). change_count m w.base + change_count w.base w.current) (sym (parent.content ∙ ap (content_at ws) up))
+      ∙ sym (ap (λ (r : Option Workspace). option_map_or (λ w. length (finite.keys (changes (content_of o w.parent) w.base)) + length (finite.keys (own_changes w))) r 0) (workspace_is at some e))
+
+  pub no_stored_is : workspace o name ≡ None → 0 ≡ stored_in o name
+  no_stored_is e = sym (ap (λ (r : Option Workspace). option_map_or (λ w. length (finite.keys (changes (content_of o w.parent) w.base)) + length (finite.keys (own_changes w))) r 0) e)

@@ -1,11 +1,12 @@
-ghost use Rattle.std.specs.Prelude.{◌≡◌, ◌<◌, [], ◌∷◌, ◌||◌, true, false, length, nat_le, is_some, not, Some, OnOk, OnErr};
+ghost use Rattle.std.specs.Prelude.{◌≡◌, ◌<◌, List, [], ◌∷◌, None, ◌||◌, true, false, length, nat_le, is_some, not, Some, OnOk, OnErr};
 ghost use Rattle.std.specs.Option.{option_copied, option_map};
-ghost use Rattle.clr_rows.specs.Contents.{set_cell};
+ghost use Rattle.clr_rows.specs.Contents.{set_cell, taken_over};
 ghost use Rattle.clr_rows.specs.Names.{is_good_name};
+ghost use Rattle.clr_rules.specs.declared.rules.Rule.{Rule as OneRule};
 ghost use Rattle.clr_change.specs.Edits.{after_edits, first_bad_edit};
 ghost use Rattle.clr_layers.specs.Workspaces.{workspace_at, find, parent_of, children_of, depth_of};
 ghost use Rattle.clr_tree.specs.Operations.{after_create, after_remove, after_mark, after_unmark, after_roll_to};
-ghost use Rattle.clr_tree.specs.Operations.{after_roll_all, after_rebase, set_kept, keep_row};
+ghost use Rattle.clr_tree.specs.Operations.{after_roll_all, after_rebase, own_changes, set_kept, keep_row};
 ghost use Rattle.clr_tree.specs.Soundness.{IsSound};
 ghost use Rattle.clr_tree.specs.declared.limits.TheConstants.{MOST_WORKSPACES as MOST, MOST_LEVELS as LEVELS};
 ghost use Rattle.clr_tree.specs.declared.rebases.Rebase.TheVariants as rebase;
@@ -16,9 +17,11 @@ ghost use Rattle.clr_steps.specs.Refusals.{bad_edit, broken_where, first_of, is_
 ghost use Rattle.clr_steps.specs.Steps.{is_lost, TakesNoMemory};
 ghost use Rattle.clr_steps.specs.declared.commands.Command.TheVariants as command;
 ghost use Rattle.clr_steps.specs.declared.commands.Reply.TheVariants.{Done, OutOfMemory, BadName, NameTaken, TooMany};
-ghost use Rattle.clr_engine.specs.Drafts.{IsFitting};
-ghost use Rattle.clr_engine.specs.Trees.{FitSome, IsPerformedAt, name_of};
+ghost use Rattle.clr_engine.specs.Drafts.{IsAdmitted, IsFitting};
+ghost use Rattle.clr_engine.specs.Finders.{AreFinders, HasForgotten, HasSettled, IsChangedAt, IsPrepared, StayFinders, kept_contents};
+ghost use Rattle.clr_engine.specs.Trees.{IsPerformedAt, IsServed, name_of};
 
+use crate::finders::Finders;
 use crate::judges::Judge;
 use clr_change::{Edit, EditFault, are_same, first_conflict, stage};
 use clr_rows::{CellId, Row, Schema, good_name};
@@ -40,9 +43,30 @@ fn finished(done: Result<(), AllocError>) -> Reply
     }
 }
 
-fn create(tree: &mut Tree, name: &str, parent: usize) -> Reply
+/// What a call is answered that changed the content of a workspace or found no memory. The finder of
+/// the workspace takes over what it noted, or drops it.
+fn finish(finders: &mut Finders, at: usize, done: Result<(), AllocError>) -> Reply
+    requires { at < length finders.old }
+    ensures ok { OnOk done (result ≡ Done) }
+    ensures err { OnErr done (result ≡ OutOfMemory) }
+    ensures settled { OnOk done (IsChangedAt HasSettled at finders.old finders.new) }
+    ensures forgotten { OnErr done (IsChangedAt HasForgotten at finders.old finders.new) }
+{
+    match done {
+        Ok(()) => {
+            finders.settle(at);
+            Reply::Done
+        }
+        Err(_) => {
+            finders.forget(at);
+            Reply::OutOfMemory
+        }
+    }
+}
+
+fn create(tree: &mut Tree, finders: &mut Finders, name: &str, parent: usize) -> Reply
     requires { parent < length tree.old.list }
-    ensures { IsPerformed
+    ensures performed { IsPerformed
         (first_of (
         when (not (is_good_name name.now)) BadName
         ∷ when (is_some (find tree.old.list name.now)) NameTaken
@@ -50,6 +74,7 @@ fn create(tree: &mut Tree, name: &str, parent: usize) -> Reply
         ∷ []
         ))
         tree.old.list (after_create tree.old.list name.now parent) result tree.new.list }
+    ensures finders { StayFinders tree.old.list finders.old tree.new.list finders.new }
 {
     if !good_name(name) {
         return Reply::BadName;
@@ -60,40 +85,77 @@ fn create(tree: &mut Tree, name: &str, parent: usize) -> Reply
     if tree.len() >= MOST_WORKSPACES || tree.depth(parent) >= MOST_LEVELS {
         return Reply::TooMany;
     }
-    finished(tree.create(name, parent))
+    if finders.push(None).is_err() {
+        return Reply::OutOfMemory;
+    }
+    match tree.create(name, parent) {
+        Ok(()) => Reply::Done,
+        Err(_) => {
+            finders.drop_last();
+            Reply::OutOfMemory
+        }
+    }
+}
+
+/// Takes the leaf at a position away, and its finder.
+fn take_away(tree: &mut Tree, finders: &mut Finders, at: usize)
+    requires child { 0 < at }
+    requires within { at < length tree.old.list }
+    requires leaf { children_of tree.old.list (workspace_at tree.old.list at).name ≡ 0 }
+    requires along { length finders.old ≡ length tree.old.list }
+    ensures removed { tree.new.list ≡ after_remove tree.old.list at }
+    ensures finders { StayFinders tree.old.list finders.old tree.new.list finders.new }
+{
+    let _sound = tree.len();
+    tree.remove(at);
+    finders.remove(at);
 }
 
 #[tactic(auto, unfolding(clr_steps::specs::Positions::refusals_at))]
-fn remove(tree: &mut Tree, at: usize) -> Reply
+fn remove(tree: &mut Tree, finders: &mut Finders, at: usize) -> Reply
     requires child { 0 < at }
     requires within { at < length tree.old.list }
+    requires along { length finders.old ≡ length tree.old.list }
     ensures performed { IsPerformedAt [] (command.Remove (name_of tree.old.list at)) at tree.old.list
         (after_remove tree.old.list at) result tree.new.list }
     ensures no_memory { is_lost result ≡ false }
+    ensures finders { StayFinders tree.old.list finders.old tree.new.list finders.new }
 {
     if tree.children(at) > 0 {
         return Reply::NotLeaf;
     }
-    tree.remove(at);
+    take_away(tree, finders, at);
     Reply::Done
 }
 
-fn apply(schema: &Schema, judge: &Judge, tree: &mut Tree, at: usize, edits: &[Edit]) -> Reply
+fn apply(
+    schema: &Schema,
+    judge: &Judge,
+    tree: &mut Tree,
+    finders: &mut Finders,
+    at: usize,
+    edits: &[Edit],
+) -> Reply
     requires within { at < length tree.old.list }
     requires fit { IsFitting (office_of schema.now judge.now tree.old.list) }
-    ensures { let w = workspace_at tree.old.list at in IsPerformed
+    requires served { IsServed judge.now tree.old.list finders.old }
+    ensures performed { let w = workspace_at tree.old.list at in IsPerformed
         (first_of (option_map bad_edit (first_bad_edit schema.now w.current 1 edits.now)
         ∷ broken_where w.kept judge.now (after_edits w.current edits.now)
         ∷ []))
         tree.old.list (edit_at tree.old.list edits.now at) result tree.new.list }
+    ensures finders { AreFinders judge.now (kept_contents tree.new.list) finders.new }
 {
     let changed = match stage(judge.allocator(), schema, &tree.view(at), edits) {
         Ok(changed) => changed,
         Err((_, EditFault::OutOfMemory)) => return Reply::OutOfMemory,
         Err((number, fault)) => return Reply::BadEdit(number, fault),
     };
-    match judge.broken_after(tree, at, &changed, tree.kept(at)) {
-        Ok(None) => finished(tree.write_all(at, &changed)),
+    match judge.prepare(tree, finders, at, &changed) {
+        Ok(None) => {
+            let done = tree.write_all(at, &changed);
+            finish(finders, at, done)
+        }
         Ok(Some(need)) => Reply::RuleBroken(need),
         Err(_) => Reply::OutOfMemory,
     }
@@ -134,12 +196,19 @@ fn unmark(tree: &mut Tree, at: usize, savepoint: &str) -> Reply
 }
 
 #[tactic(auto, unfolding(clr_steps::specs::Positions::refusals_at, clr_steps::specs::Effects::rolled_content))]
-fn roll_to(judge: &Judge, tree: &mut Tree, at: usize, savepoint: &str) -> Reply
+fn roll_to(
+    judge: &Judge,
+    tree: &mut Tree,
+    finders: &mut Finders,
+    at: usize,
+    savepoint: &str,
+) -> Reply
     requires child { 0 < at }
     requires within { at < length tree.old.list }
-    requires fit { FitSome judge.now tree.old.list }
-    ensures { IsPerformedAt judge.now (command.RollTo (name_of tree.old.list at) savepoint.now) at tree.old.list
+    requires served { IsServed judge.now tree.old.list finders.old }
+    ensures performed { IsPerformedAt judge.now (command.RollTo (name_of tree.old.list at) savepoint.now) at tree.old.list
         (at_savepoint tree.old.list at savepoint.now (after_roll_to tree.old.list at)) result tree.new.list }
+    ensures finders { AreFinders judge.now (kept_contents tree.new.list) finders.new }
 {
     let Some(mark) = tree.find_mark(at, savepoint) else {
         return Reply::NoSavepoint;
@@ -147,28 +216,10 @@ fn roll_to(judge: &Judge, tree: &mut Tree, at: usize, savepoint: &str) -> Reply
     if tree.held(at, mark) {
         return Reply::SavepointHeld;
     }
-    match judge.broken_at_mark(tree, at, mark) {
-        Ok(None) => finished(tree.roll_to(at, mark)),
-        Ok(Some(need)) => Reply::RuleBroken(need),
-        Err(_) => Reply::OutOfMemory,
-    }
-}
-
-#[tactic(auto, unfolding(clr_steps::specs::Positions::refusals_at))]
-fn roll_all(judge: &Judge, tree: &mut Tree, at: usize) -> Reply
-    requires child { 0 < at }
-    requires within { at < length tree.old.list }
-    requires fit { FitSome judge.now tree.old.list }
-    ensures { IsPerformedAt judge.now (command.RollAll (name_of tree.old.list at)) at tree.old.list
-        (after_roll_all tree.old.list at) result tree.new.list }
-{
-    if tree.children(at) > 0 {
-        return Reply::NotLeaf;
-    }
-    match judge.broken_at_base(tree, at) {
+    match judge.prepare_savepoint(tree, finders, at, mark) {
         Ok(None) => {
-            tree.roll_all(at);
-            Reply::Done
+            let done = tree.roll_to(at, mark);
+            finish(finders, at, done)
         }
         Ok(Some(need)) => Reply::RuleBroken(need),
         Err(_) => Reply::OutOfMemory,
@@ -176,12 +227,35 @@ fn roll_all(judge: &Judge, tree: &mut Tree, at: usize) -> Reply
 }
 
 #[tactic(auto, unfolding(clr_steps::specs::Positions::refusals_at))]
-fn refresh(judge: &Judge, tree: &mut Tree, at: usize) -> Reply
+fn roll_all(judge: &Judge, tree: &mut Tree, finders: &mut Finders, at: usize) -> Reply
     requires child { 0 < at }
     requires within { at < length tree.old.list }
-    requires fit { FitSome judge.now tree.old.list }
-    ensures { IsPerformedAt judge.now (command.Refresh (name_of tree.old.list at)) at tree.old.list
+    requires served { IsServed judge.now tree.old.list finders.old }
+    ensures performed { IsPerformedAt judge.now (command.RollAll (name_of tree.old.list at)) at tree.old.list
+        (after_roll_all tree.old.list at) result tree.new.list }
+    ensures finders { AreFinders judge.now (kept_contents tree.new.list) finders.new }
+{
+    if tree.children(at) > 0 {
+        return Reply::NotLeaf;
+    }
+    match judge.prepare_base(tree, finders, at) {
+        Ok(None) => {
+            tree.roll_all(at);
+            finish(finders, at, Ok(()))
+        }
+        Ok(Some(need)) => Reply::RuleBroken(need),
+        Err(_) => Reply::OutOfMemory,
+    }
+}
+
+#[tactic(auto, unfolding(clr_steps::specs::Positions::refusals_at))]
+fn refresh(judge: &Judge, tree: &mut Tree, finders: &mut Finders, at: usize) -> Reply
+    requires child { 0 < at }
+    requires within { at < length tree.old.list }
+    requires served { IsServed judge.now tree.old.list finders.old }
+    ensures performed { IsPerformedAt judge.now (command.Refresh (name_of tree.old.list at)) at tree.old.list
         (after_rebase tree.old.list at rebase.Refresh) result tree.new.list }
+    ensures finders { AreFinders judge.now (kept_contents tree.new.list) finders.new }
 {
     let above = tree.parent(at).unwrap();
     let Ok(changed) = tree.changes(at) else {
@@ -190,36 +264,59 @@ fn refresh(judge: &Judge, tree: &mut Tree, at: usize) -> Reply
     if let Some((cell, count)) = first_conflict(&changed, &tree.view(above)) {
         return Reply::Conflict(cell, count);
     }
-    match judge.broken_after(tree, above, &changed, tree.kept(at)) {
-        Ok(None) => finished(tree.rebase(at, Rebase::Refresh)),
+    match judge.prepare_refresh(tree, finders, at, above, &changed) {
+        Ok(None) => {
+            let done = tree.rebase(at, Rebase::Refresh);
+            finish(finders, at, done)
+        }
         Ok(Some(need)) => Reply::RuleBroken(need),
         Err(_) => Reply::OutOfMemory,
     }
 }
 
-/// Writes the changes of a workspace to its parent, and takes it away where that is asked. It
-/// fails for want of memory alone, and changes nothing then.
-fn write_above(tree: &mut Tree, at: usize, remove: bool) -> Result<(), AllocError>
+/// Writes the changes of a workspace, which the finder of its parent has noted, to its parent, and
+/// takes the workspace away where that is asked.
+fn write_above(
+    tree: &mut Tree,
+    finders: &mut Finders,
+    at: usize,
+    above: usize,
+    remove: bool,
+) -> Reply
     requires child { 0 < at }
     requires within { at < length tree.old.list }
+    requires parent { parent_of tree.old.list at ≡ Some above }
+    requires earlier { above < at }
     requires leaf { remove ≡ true → children_of tree.old.list (workspace_at tree.old.list at).name ≡ 0 }
-    ensures ok { OnOk result (tree.new.list ≡ merge_at tree.old.list remove at) }
-    ensures err { OnErr result (tree.new.list ≡ tree.old.list) }
+    requires along { length finders.old ≡ length tree.old.list }
+    ensures performed { IsPerformed None tree.old.list (merge_at tree.old.list remove at) result tree.new.list }
+    ensures finders { (book : List OneRule)
+        → IsPrepared book tree.old.list above (taken_over (workspace_at tree.old.list above).current (own_changes (workspace_at tree.old.list at))) finders.old
+        → AreFinders book (kept_contents tree.new.list) finders.new }
 {
-    tree.rebase(at, Rebase::Merge)?;
-    if remove {
-        tree.remove(at);
+    match tree.rebase(at, Rebase::Merge) {
+        Ok(()) => {
+            finders.settle(above);
+            if remove {
+                take_away(tree, finders, at);
+            }
+            Reply::Done
+        }
+        Err(_) => {
+            finders.forget(above);
+            Reply::OutOfMemory
+        }
     }
-    Ok(())
 }
 
 #[tactic(auto, unfolding(clr_steps::specs::Positions::refusals_at))]
-fn merge(judge: &Judge, tree: &mut Tree, at: usize, remove: bool) -> Reply
+fn merge(judge: &Judge, tree: &mut Tree, finders: &mut Finders, at: usize, remove: bool) -> Reply
     requires child { 0 < at }
     requires within { at < length tree.old.list }
-    requires fit { FitSome judge.now tree.old.list }
-    ensures { IsPerformedAt judge.now (command.Merge (name_of tree.old.list at) remove) at tree.old.list
+    requires served { IsServed judge.now tree.old.list finders.old }
+    ensures performed { IsPerformedAt judge.now (command.Merge (name_of tree.old.list at) remove) at tree.old.list
         (merge_at tree.old.list remove at) result tree.new.list }
+    ensures finders { AreFinders judge.now (kept_contents tree.new.list) finders.new }
 {
     if remove && tree.children(at) > 0 {
         return Reply::NotLeaf;
@@ -231,8 +328,8 @@ fn merge(judge: &Judge, tree: &mut Tree, at: usize, remove: bool) -> Reply
     if let Some((cell, count)) = first_conflict(&changed, &tree.view(above)) {
         return Reply::Conflict(cell, count);
     }
-    match judge.broken_after(tree, above, &changed, tree.kept(above)) {
-        Ok(None) => finished(write_above(tree, at, remove)),
+    match judge.prepare(tree, finders, above, &changed) {
+        Ok(None) => write_above(tree, finders, at, above, remove),
         Ok(Some(need)) => Reply::RuleBroken(need),
         Err(_) => Reply::OutOfMemory,
     }
@@ -267,35 +364,35 @@ fn row_kept(tree: &Tree, at: usize, above: usize, cell: CellId, keep: Keep) -> O
 }
 
 #[tactic(auto, unfolding(clr_steps::specs::Positions::refusals_at))]
-fn resolve(judge: &Judge, tree: &mut Tree, at: usize, cell: CellId, keep: Keep) -> Reply
+fn resolve(
+    judge: &Judge,
+    tree: &mut Tree,
+    finders: &mut Finders,
+    at: usize,
+    cell: CellId,
+    keep: Keep,
+) -> Reply
     requires child { 0 < at }
     requires within { at < length tree.old.list }
-    requires fit { FitSome judge.now tree.old.list }
-    ensures { IsPerformedAt judge.now (command.Resolve (name_of tree.old.list at) cell keep) at tree.old.list
+    requires served { IsServed judge.now tree.old.list finders.old }
+    ensures performed { IsPerformedAt judge.now (command.Resolve (name_of tree.old.list at) cell keep) at tree.old.list
         (after_rebase tree.old.list at (rebase.OneRow cell keep)) result tree.new.list }
+    ensures finders { AreFinders judge.now (kept_contents tree.new.list) finders.new }
 {
     let above = tree.parent(at).unwrap();
     if !is_in_conflict(tree, at, above, cell) {
         return Reply::NotInConflict;
     }
-    match judge.broken_by_row(tree, at, cell, row_kept(tree, at, above, cell, keep)) {
-        Ok(None) => finished(tree.rebase(at, Rebase::OneRow(cell, keep))),
-        Ok(Some(need)) => Reply::RuleBroken(need),
-        Err(_) => Reply::OutOfMemory,
-    }
-}
-
-#[tactic(auto, unfolding(clr_steps::specs::Positions::refusals_at))]
-fn hold(judge: &Judge, tree: &mut Tree, at: usize) -> Reply
-    requires child { 0 < at }
-    requires within { at < length tree.old.list }
-    requires fit { FitSome judge.now tree.old.list }
-    ensures { IsPerformedAt judge.now (command.Hold (name_of tree.old.list at)) at tree.old.list (set_kept tree.old.list at true) result tree.new.list }
-{
-    match judge.broken_now(tree, at, !tree.kept(at)) {
+    match judge.prepare_row(
+        tree,
+        finders,
+        at,
+        cell,
+        row_kept(tree, at, above, cell, keep),
+    ) {
         Ok(None) => {
-            tree.hold(at);
-            Reply::Done
+            let done = tree.rebase(at, Rebase::OneRow(cell, keep));
+            finish(finders, at, done)
         }
         Ok(Some(need)) => Reply::RuleBroken(need),
         Err(_) => Reply::OutOfMemory,
@@ -303,13 +400,37 @@ fn hold(judge: &Judge, tree: &mut Tree, at: usize) -> Reply
 }
 
 #[tactic(auto, unfolding(clr_steps::specs::Positions::refusals_at))]
-fn release(tree: &mut Tree, at: usize) -> Reply
+fn hold(judge: &Judge, tree: &mut Tree, finders: &mut Finders, at: usize) -> Reply
     requires child { 0 < at }
     requires within { at < length tree.old.list }
+    requires served { IsServed judge.now tree.old.list finders.old }
+    ensures performed { IsPerformedAt judge.now (command.Hold (name_of tree.old.list at)) at tree.old.list (set_kept tree.old.list at true) result tree.new.list }
+    ensures finders { AreFinders judge.now (kept_contents tree.new.list) finders.new }
+{
+    match judge.broken_now(tree, at, !tree.kept(at)) {
+        Ok(None) => match judge.serve(tree, finders, at) {
+            Ok(()) => {
+                tree.hold(at);
+                Reply::Done
+            }
+            Err(_) => Reply::OutOfMemory,
+        },
+        Ok(Some(need)) => Reply::RuleBroken(need),
+        Err(_) => Reply::OutOfMemory,
+    }
+}
+
+#[tactic(auto, unfolding(clr_steps::specs::Positions::refusals_at))]
+fn release(tree: &mut Tree, finders: &mut Finders, at: usize) -> Reply
+    requires child { 0 < at }
+    requires within { at < length tree.old.list }
+    requires along { length finders.old ≡ length tree.old.list }
     ensures performed { IsPerformedAt [] (command.Release (name_of tree.old.list at)) at tree.old.list (set_kept tree.old.list at false) result tree.new.list }
     ensures no_memory { is_lost result ≡ false }
+    ensures finders { StayFinders tree.old.list finders.old tree.new.list finders.new }
 {
     tree.release(at);
+    finders.put(at, None);
     Reply::Done
 }
 
@@ -335,27 +456,43 @@ fn name_in(command: &Command) -> &str
 
 /// Performs a command on LIVE, which takes new workspaces and edits alone.
 #[tactic(auto, unfolding(clr_steps::specs::Positions::refusal_at, clr_steps::specs::Positions::effect_at))]
-fn perform_on_live(schema: &Schema, judge: &Judge, tree: &mut Tree, command: &Command) -> Reply
+fn perform_on_live(
+    schema: &Schema,
+    judge: &Judge,
+    tree: &mut Tree,
+    finders: &mut Finders,
+    command: &Command,
+) -> Reply
     requires fit { IsFitting (office_of schema.now judge.now tree.old.list) }
+    requires served { IsServed judge.now tree.old.list finders.old }
     requires found { find tree.old.list (name_in command.now) ≡ Some 0 }
     requires filled { 0 < length tree.old.list }
     ensures performed { IsPerformed (refusal_at schema.now judge.now tree.old.list command.now)
         tree.old.list (effect_at tree.old.list command.now) result tree.new.list }
+    ensures finders { AreFinders judge.now (kept_contents tree.new.list) finders.new }
     ensures no_memory { TakesNoMemory command.now → is_lost result ≡ false }
 {
     match command {
-        Command::Create { name, .. } => create(tree, name.as_str(), 0),
-        Command::Apply { edits, .. } => apply(schema, judge, tree, 0, edits.as_slice()),
+        Command::Create { name, .. } => create(tree, finders, name.as_str(), 0),
+        Command::Apply { edits, .. } => apply(schema, judge, tree, finders, 0, edits.as_slice()),
         _ => Reply::LiveIsFixed,
     }
 }
 
 /// Performs a command.
 #[tactic(auto, unfolding(clr_steps::specs::Positions::refusal_at, clr_steps::specs::Positions::effect_at))]
-pub(crate) fn perform(schema: &Schema, judge: &Judge, tree: &mut Tree, command: &Command) -> Reply
-    requires fit { IsFitting (office_of schema.now judge.now tree.old.list) }
+pub(crate) fn perform(
+    schema: &Schema,
+    judge: &Judge,
+    tree: &mut Tree,
+    finders: &mut Finders,
+    command: &Command,
+) -> Reply
+    requires admitted { IsAdmitted (office_of schema.now judge.now tree.old.list) }
+    requires are { AreFinders judge.now (kept_contents tree.old.list) finders.old }
     ensures performed { IsPerformed (refusal_at schema.now judge.now tree.old.list command.now)
         tree.old.list (effect_at tree.old.list command.now) result tree.new.list }
+    ensures finders { AreFinders judge.now (kept_contents tree.new.list) finders.new }
     ensures no_memory { TakesNoMemory command.now → is_lost result ≡ false }
     ensures sound { IsSound tree.old.list }
 {
@@ -363,20 +500,20 @@ pub(crate) fn perform(schema: &Schema, judge: &Judge, tree: &mut Tree, command: 
         return Reply::NoWorkspace;
     };
     if at == 0 {
-        return perform_on_live(schema, judge, tree, command);
+        return perform_on_live(schema, judge, tree, finders, command);
     }
     match command {
-        Command::Create { name, .. } => create(tree, name.as_str(), at),
-        Command::Apply { edits, .. } => apply(schema, judge, tree, at, edits.as_slice()),
-        Command::Remove { .. } => remove(tree, at),
+        Command::Create { name, .. } => create(tree, finders, name.as_str(), at),
+        Command::Apply { edits, .. } => apply(schema, judge, tree, finders, at, edits.as_slice()),
+        Command::Remove { .. } => remove(tree, finders, at),
         Command::Mark { name, .. } => mark(tree, at, name.as_str()),
         Command::Unmark { name, .. } => unmark(tree, at, name.as_str()),
-        Command::RollTo { name, .. } => roll_to(judge, tree, at, name.as_str()),
-        Command::RollAll { .. } => roll_all(judge, tree, at),
-        Command::Refresh { .. } => refresh(judge, tree, at),
-        Command::Merge { remove, .. } => merge(judge, tree, at, *remove),
-        Command::Resolve { cell, keep, .. } => resolve(judge, tree, at, *cell, *keep),
-        Command::Hold { .. } => hold(judge, tree, at),
-        Command::Release { .. } => release(tree, at),
+        Command::RollTo { name, .. } => roll_to(judge, tree, finders, at, name.as_str()),
+        Command::RollAll { .. } => roll_all(judge, tree, finders, at),
+        Command::Refresh { .. } => refresh(judge, tree, finders, at),
+        Command::Merge { remove, .. } => merge(judge, tree, finders, at, *remove),
+        Command::Resolve { cell, keep, .. } => resolve(judge, tree, finders, at, *cell, *keep),
+        Command::Hold { .. } => hold(judge, tree, finders, at),
+        Command::Release { .. } => release(tree, finders, at),
     }
 }

@@ -114,7 +114,14 @@ impl Draft {
         ensures fault { IfErr result (λ refused. IsUnheld (unheld_in self) refused.1) }
     {
         match self.judge.first_unheld(&self.tree) {
-            Ok(None) => Ok(Office::of_parts(self.schema, self.judge, self.tree)),
+            Ok(None) => match self.judge.finders(&self.tree) {
+                Ok(finders) => {
+                    let mut tree = self.tree;
+                    tree.sweep();
+                    Ok(Office::of_parts(self.schema, self.judge, tree, finders))
+                }
+                Err(_) => Err((self, AdmitFault::OutOfMemory)),
+            },
             Ok(Some((position, need))) => Err((self, AdmitFault::Broken { position, need })),
             Err(_) => Err((self, AdmitFault::OutOfMemory)),
         }

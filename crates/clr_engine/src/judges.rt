@@ -1,18 +1,24 @@
-ghost use Rattle.std.specs.Prelude.{◌≡◌, ◌<◌, true, length, None, IfOk};
+ghost use Rattle.std.specs.Prelude.{◌≡◌, ◌<◌, true, length, None, IfOk, OnOk, OnErr, MatchOption};
 ghost use Rattle.std.specs.Option.{option_copied, option_map};
 ghost use Rattle.clr_rows.specs.Contents.{Content, row_at, set_cell, taken_over};
 ghost use Rattle.clr_rules.specs.Books.{FitsContent};
+ghost use Rattle.clr_rules.specs.Needs.{Holds};
 ghost use Rattle.clr_layers.specs.Marks.{is_saved, mark_at, saved_content};
 ghost use Rattle.clr_layers.specs.Workspaces.{workspace_at};
+ghost use Rattle.clr_tree.specs.Operations.{own_changes, set_kept};
 ghost use Rattle.clr_tree.specs.Soundness.{IsSound};
 ghost use Rattle.clr_steps.specs.Invariants.{unheld};
 ghost use Rattle.clr_steps.specs.Refusals.{broken_where, first_broken};
 ghost use Rattle.clr_steps.specs.declared.commands.Reply.TheVariants.{RuleBroken};
-ghost use Rattle.clr_engine.specs.Trees.{FitSome};
+ghost use Rattle.clr_engine.specs.Finders.{AreFinders, IsFinderAt, IsFinderOf, IsPrepared, kept_content, kept_contents};
+ghost use Rattle.clr_engine.specs.Trees.{FitBoth, FitSome, IsServed};
 
+use crate::finders::{Finders, finder_of};
 use clr_audit::audit;
 use clr_change::ChangeSet;
-use clr_rows::{CellId, Row};
+use clr_foot::Scene;
+use clr_grid::SpotIndex;
+use clr_rows::{CellId, Row, Sheet};
 use clr_rules::{Broken, RuleBook};
 use clr_tree::Tree;
 use std::alloc::{AllocError, Global};
@@ -52,45 +58,45 @@ impl Judge {
         &self.book
     }
 
-    /// The least broken need of what a workspace has once changes are made in it.
-    #[tactic(auto, unfolding(clr_steps::specs::Refusals::first_broken))]
+    /// The least broken need of what a workspace has once changes are made in it, where the rules
+    /// hold in it now. It is found among the needs that the changes touch, by the workspace's finder.
     fn first_broken_after(
         &self,
         tree: &Tree,
+        finder: &SpotIndex,
         at: usize,
         changed: &ChangeSet,
     ) -> Result<Option<Broken>, AllocError>
         requires within { at < length tree.now.list }
-        requires fit { FitsContent self.now (taken_over (workspace_at tree.now.list at).current changed.now) }
+        requires holds { Holds self.now (row_at (workspace_at tree.now.list at).current) }
+        requires finder { IsFinderOf self.now (workspace_at tree.now.list at).current finder.now }
+        requires fit { FitBoth self.now (workspace_at tree.now.list at).current (taken_over (workspace_at tree.now.list at).current changed.now) }
         ensures { IfOk result (λ need. need ≡ first_broken self.now (taken_over (workspace_at tree.now.list at).current changed.now)) }
     {
-        let mut rows = tree.rows(at)?;
-        rows.put_all(changed.rows_after()?)?;
+        let root = tree.view(at);
+        let mut sets = Vec::new(self.alloc);
+        sets.push(changed)?;
+        // One change set shares no cell with another, so that memory is what a scene can lack.
+        match Scene::new(self.alloc, &self.book, &root, finder, sets) {
+            Ok(scene) => scene.first_broken(),
+            Err(_) => Err(AllocError),
+        }
+    }
+
+    /// The least broken need of what a workspace has.
+    #[tactic(auto, unfolding(clr_steps::specs::Refusals::first_broken))]
+    fn first_broken_now(&self, tree: &Tree, at: usize) -> Result<Option<Broken>, AllocError>
+        requires within { at < length tree.now.list }
+        requires fit { FitsContent self.now (workspace_at tree.now.list at).current }
+        ensures { IfOk result (λ need. need ≡ first_broken self.now (workspace_at tree.now.list at).current) }
+    {
+        let rows = tree.rows(at)?;
         let needs = audit(self.alloc, &self.book, &rows)?;
         Ok(needs.as_slice().first().copied())
     }
 
-    /// That need where the rules are to hold, and none elsewhere.
-    pub fn broken_after(
-        &self,
-        tree: &Tree,
-        at: usize,
-        changed: &ChangeSet,
-        kept: bool,
-    ) -> Result<Option<Broken>, AllocError>
-        requires within { at < length tree.now.list }
-        requires fit { FitsContent self.now (taken_over (workspace_at tree.now.list at).current changed.now) }
-        ensures { IfOk result (λ need. option_map RuleBroken need
-            ≡ broken_where kept self.now (taken_over (workspace_at tree.now.list at).current changed.now)) }
-    {
-        if kept {
-            self.first_broken_after(tree, at, changed)
-        } else {
-            Ok(None)
-        }
-    }
-
-    /// Of the content that a workspace has, where the rules are to hold in it from now on.
+    /// The least broken need of the content that a workspace has, where the rules are to hold in it
+    /// from now on.
     pub fn broken_now(
         &self,
         tree: &Tree,
@@ -101,68 +107,177 @@ impl Judge {
         requires fit { FitsContent self.now (workspace_at tree.now.list at).current }
         ensures { IfOk result (λ need. option_map RuleBroken need ≡ broken_where kept self.now (workspace_at tree.now.list at).current) }
     {
-        self.broken_after(tree, at, &ChangeSet::new(self.alloc), kept)
+        if !kept {
+            return Ok(None);
+        }
+        self.first_broken_now(tree, at)
     }
 
-    /// Of the content of a savepoint, where the rules are to hold in its workspace.
-    pub fn broken_at_mark(
+    /// Prepares changes of a workspace: where the rules are to hold in it they are judged, and its
+    /// finder notes them unless they break a need, which is answered.
+    pub fn prepare(
         &self,
         tree: &Tree,
+        finders: &mut Finders,
+        at: usize,
+        changed: &ChangeSet,
+    ) -> Result<Option<Broken>, AllocError>
+        requires within { at < length tree.now.list }
+        requires served { IsServed self.now tree.now.list finders.old }
+        requires fit { FitBoth self.now (workspace_at tree.now.list at).current (taken_over (workspace_at tree.now.list at).current changed.now) }
+        ensures judged { IfOk result (λ need. option_map RuleBroken need
+            ≡ broken_where (workspace_at tree.now.list at).kept self.now (taken_over (workspace_at tree.now.list at).current changed.now)) }
+        ensures prepared { IfOk result (λ need. MatchOption need
+            (IsPrepared self.now tree.now.list at (taken_over (workspace_at tree.now.list at).current changed.now) finders.new) (λ _. finders.new ≡ finders.old)) }
+        ensures err { OnErr result (finders.new ≡ finders.old) }
+    {
+        let Some(finder) = finders.get(at) else {
+            return Ok(None);
+        };
+        match self.first_broken_after(tree, finder, at, changed)? {
+            Some(need) => Ok(Some(need)),
+            None => {
+                finders.note(&self.book, at, changed)?;
+                Ok(None)
+            }
+        }
+    }
+
+    /// Prepares another content of a workspace, by what changes to it.
+    fn prepare_content(
+        &self,
+        tree: &Tree,
+        finders: &mut Finders,
+        at: usize,
+        next: &Sheet,
+    ) -> Result<Option<Broken>, AllocError>
+        requires within { at < length tree.now.list }
+        requires served { IsServed self.now tree.now.list finders.old }
+        requires fit { FitBoth self.now (workspace_at tree.now.list at).current next.now }
+        ensures judged { IfOk result (λ need. option_map RuleBroken need ≡ broken_where (workspace_at tree.now.list at).kept self.now next.now) }
+        ensures prepared { IfOk result (λ need. MatchOption need (IsPrepared self.now tree.now.list at next.now finders.new) (λ _. finders.new ≡ finders.old)) }
+        ensures err { OnErr result (finders.new ≡ finders.old) }
+    {
+        let rows = tree.rows(at)?;
+        let changed = ChangeSet::between(self.alloc, &rows, next)?;
+        self.prepare(tree, finders, at, &changed)
+    }
+
+    /// Prepares the content of a savepoint of a workspace.
+    pub fn prepare_savepoint(
+        &self,
+        tree: &Tree,
+        finders: &mut Finders,
         at: usize,
         mark: usize,
     ) -> Result<Option<Broken>, AllocError>
         requires child { 0 < at }
         requires within { at < length tree.now.list }
         requires saved { is_saved (mark_at (workspace_at tree.now.list at).marks mark) ≡ true }
-        requires fit { FitsContent self.now (saved_content (mark_at (workspace_at tree.now.list at).marks mark)) }
-        ensures { IfOk result (λ need. let w = workspace_at tree.now.list at in
+        requires served { IsServed self.now tree.now.list finders.old }
+        ensures judged { IfOk result (λ need. let w = workspace_at tree.now.list at in
             option_map RuleBroken need ≡ broken_where w.kept self.now (saved_content (mark_at w.marks mark))) }
+        ensures prepared { IfOk result (λ need. MatchOption need
+            (IsPrepared self.now tree.now.list at (saved_content (mark_at (workspace_at tree.now.list at).marks mark)) finders.new) (λ _. finders.new ≡ finders.old)) }
+        ensures err { OnErr result (finders.new ≡ finders.old) }
     {
         if !tree.kept(at) {
             return Ok(None);
         }
-        let rows = tree.rows(at)?;
         let saved = tree.saved_rows(at, mark)?;
-        let changed = ChangeSet::between(self.alloc, &rows, &saved)?;
-        self.first_broken_after(tree, at, &changed)
+        self.prepare_content(tree, finders, at, &saved)
     }
 
-    /// Of the base of a workspace, where the rules are to hold in it.
-    pub fn broken_at_base(&self, tree: &Tree, at: usize) -> Result<Option<Broken>, AllocError>
-        requires child { 0 < at }
-        requires within { at < length tree.now.list }
-        requires fit { FitsContent self.now (workspace_at tree.now.list at).base }
-        ensures { IfOk result (λ need. let w = workspace_at tree.now.list at in option_map RuleBroken need ≡ broken_where w.kept self.now w.base) }
-    {
-        if !tree.kept(at) {
-            return Ok(None);
-        }
-        let rows = tree.rows(at)?;
-        let base = tree.base_rows(at)?;
-        let changed = ChangeSet::between(self.alloc, &rows, &base)?;
-        self.first_broken_after(tree, at, &changed)
-    }
-
-    /// Of the content of a workspace with another row at one cell, where the rules are to hold in
-    /// it.
-    pub fn broken_by_row(
+    /// Prepares the base of a workspace.
+    pub fn prepare_base(
         &self,
         tree: &Tree,
+        finders: &mut Finders,
+        at: usize,
+    ) -> Result<Option<Broken>, AllocError>
+        requires child { 0 < at }
+        requires within { at < length tree.now.list }
+        requires served { IsServed self.now tree.now.list finders.old }
+        ensures judged { IfOk result (λ need. let w = workspace_at tree.now.list at in option_map RuleBroken need ≡ broken_where w.kept self.now w.base) }
+        ensures prepared { IfOk result (λ need. MatchOption need
+            (IsPrepared self.now tree.now.list at (workspace_at tree.now.list at).base finders.new) (λ _. finders.new ≡ finders.old)) }
+        ensures err { OnErr result (finders.new ≡ finders.old) }
+    {
+        if !tree.kept(at) {
+            return Ok(None);
+        }
+        let base = tree.base_rows(at)?;
+        self.prepare_content(tree, finders, at, &base)
+    }
+
+    /// Prepares the parent's content with the own changes of a workspace over it.
+    pub fn prepare_refresh(
+        &self,
+        tree: &Tree,
+        finders: &mut Finders,
+        at: usize,
+        above: usize,
+        changed: &ChangeSet,
+    ) -> Result<Option<Broken>, AllocError>
+        requires child { 0 < at }
+        requires within { at < length tree.now.list }
+        requires above { above < length tree.now.list }
+        requires own { changed.now ≡ own_changes (workspace_at tree.now.list at) }
+        requires served { IsServed self.now tree.now.list finders.old }
+        ensures judged { IfOk result (λ need. option_map RuleBroken need
+            ≡ broken_where (workspace_at tree.now.list at).kept self.now (taken_over (workspace_at tree.now.list above).current changed.now)) }
+        ensures prepared { IfOk result (λ need. MatchOption need
+            (IsPrepared self.now tree.now.list at (taken_over (workspace_at tree.now.list above).current changed.now) finders.new) (λ _. finders.new ≡ finders.old)) }
+        ensures err { OnErr result (finders.new ≡ finders.old) }
+    {
+        if !tree.kept(at) {
+            return Ok(None);
+        }
+        let mut next = tree.rows(above)?;
+        next.put_all(changed.rows_after()?)?;
+        self.prepare_content(tree, finders, at, &next)
+    }
+
+    /// Prepares the content of a workspace with another row at one cell.
+    pub fn prepare_row(
+        &self,
+        tree: &Tree,
+        finders: &mut Finders,
         at: usize,
         cell: CellId,
         row: Option<&Row>,
     ) -> Result<Option<Broken>, AllocError>
         requires within { at < length tree.now.list }
-        requires fit { FitsContent self.now (set_cell (workspace_at tree.now.list at).current cell (option_copied row)) }
-        ensures { IfOk result (λ need. let w = workspace_at tree.now.list at in
+        requires served { IsServed self.now tree.now.list finders.old }
+        requires fit { FitBoth self.now (workspace_at tree.now.list at).current (set_cell (workspace_at tree.now.list at).current cell (option_copied row)) }
+        ensures judged { IfOk result (λ need. let w = workspace_at tree.now.list at in
             option_map RuleBroken need ≡ broken_where w.kept self.now (set_cell w.current cell (option_copied row.entry))) }
+        ensures prepared { IfOk result (λ need. MatchOption need
+            (IsPrepared self.now tree.now.list at (set_cell (workspace_at tree.now.list at).current cell (option_copied row.entry)) finders.new) (λ _. finders.new ≡ finders.old)) }
+        ensures err { OnErr result (finders.new ≡ finders.old) }
     {
         if !tree.kept(at) {
             return Ok(None);
         }
         let mut changed = ChangeSet::new(self.alloc);
         changed.set(cell, tree.read(at, cell), row)?;
-        self.first_broken_after(tree, at, &changed)
+        self.prepare(tree, finders, at, &changed)
+    }
+
+    /// Makes a finder of a workspace in which the rules are to hold from now on, if it has none.
+    pub fn serve(&self, tree: &Tree, finders: &mut Finders, at: usize) -> Result<(), AllocError>
+        requires within { at < length tree.now.list }
+        requires served { IsServed self.now tree.now.list finders.old }
+        ensures ok { OnOk result (AreFinders self.now (kept_contents (set_kept tree.now.list at true)) finders.new) }
+        ensures err { OnErr result (finders.new ≡ finders.old) }
+    {
+        if tree.kept(at) {
+            return Ok(());
+        }
+        let rows = tree.rows(at)?;
+        let finder = finder_of(self.alloc, &self.book, &rows)?;
+        finders.put(at, Some(finder));
+        Ok(())
     }
 
     /// The position of the first workspace in which the rules are to hold, and one doesn't, LIVE
@@ -178,5 +293,33 @@ impl Judge {
             }
         }
         Ok(None)
+    }
+
+    /// The finder of a workspace, if the rules are to hold in it.
+    fn finder_at(&self, tree: &Tree, at: usize) -> Result<Option<SpotIndex>, AllocError>
+        requires within { at < length tree.now.list }
+        requires fit { FitsContent self.now (workspace_at tree.now.list at).current }
+        ensures { IfOk result (IsFinderAt self.now (kept_content (workspace_at tree.now.list at))) }
+    {
+        if !tree.kept(at) {
+            return Ok(None);
+        }
+        if at == 0 {
+            return Ok(Some(finder_of(self.alloc, &self.book, tree.live())?));
+        }
+        let rows = tree.rows(at)?;
+        Ok(Some(finder_of(self.alloc, &self.book, &rows)?))
+    }
+
+    /// The finders of the workspaces of a tree. It fails for want of memory alone.
+    pub fn finders(&self, tree: &Tree) -> Result<Finders, AllocError>
+        requires { FitSome self.now tree.now.list }
+        ensures { IfOk result (AreFinders self.now (kept_contents tree.now.list)) }
+    {
+        let mut finders = Finders::new(self.alloc);
+        for at in 0..tree.len() {
+            finders.push(self.finder_at(tree, at)?)?;
+        }
+        Ok(finders)
     }
 }

@@ -5,11 +5,13 @@
 mod commands;
 mod conflicts;
 mod drafts;
+mod finders;
 mod judges;
 mod offices;
 
+pub use clr_grid::SpotIndex;
 pub use clr_rules::{Broken, RuleBook};
 pub use clr_steps::{Command, Reply};
-pub use clr_tree::{MarkPart, Part, PartFault};
+pub use clr_tree::{MarkPart, Part, PartFault, View};
 pub use drafts::{AdmitFault, Draft};
 pub use offices::Office;

@@ -1,20 +1,26 @@
-ghost use Rattle.std.specs.Prelude.{◌≡◌, ◌+◌, false, length, option_map, IfOk, OnErr};
+ghost use Rattle.std.specs.Prelude.{◌≡◌, ◌+◌, ◌∷◌, false, length, is_some, option_map, IfOk, IfSome, OnErr};
 ghost use Rattle.std.specs.Option.{option_copied};
 ghost use Rattle.clr_rows.specs.Contents.{row_at};
+ghost use Rattle.clr_layers.specs.Workspaces.{root};
 ghost use Rattle.clr_tree.specs.Parts.{workspace_of};
-ghost use Rattle.clr_steps.specs.Offices.{content_of, is_kept, office_of};
-ghost use Rattle.clr_steps.specs.Readings.{changes_in, conflicts_in, if_stands, name_at, parent_in};
+ghost use Rattle.clr_tree.specs.Soundness.{IsSound};
+ghost use Rattle.clr_steps.specs.Offices.{content_of, is_kept, office_of, stands};
+ghost use Rattle.clr_steps.specs.Readings.{changes_in, conflicts_in, if_stands, name_at, parent_in, stored_in};
 ghost use Rattle.clr_steps.specs.Steps.{is_lost, lost_in, run, IsAnswer, TakesNoMemory};
 ghost use Rattle.clr_engine.specs.Drafts.{IsAdmitted, part_at};
+ghost use Rattle.clr_engine.specs.Finders.{AreFinders, IsFinderAt, IsPositionOf, current_at, kept_at, kept_contents};
+ghost use Rattle.clr_engine.specs.Trees.{IsSwept};
 
 use crate::commands::perform;
 use crate::conflicts::conflicting_cells;
+use crate::finders::Finders;
 use crate::judges::Judge;
 use clr_change::ChangeSet;
+use clr_grid::SpotIndex;
 use clr_rows::{CellId, Row, Schema, Sheet};
 use clr_rules::RuleBook;
 use clr_steps::{Command, Reply};
-use clr_tree::{Part, Tree};
+use clr_tree::{Part, Tree, View};
 use std::alloc::AllocError;
 use std::marker::Model;
 
@@ -26,11 +32,14 @@ pub struct Office {
     schema: Schema,
     judge: Judge,
     tree: Tree,
+    finders: Finders,
 }
 
 impl Model for Office {
     ghost use Rattle.clr_steps.specs.Offices.{Office as Whole, office_code, office_of};
     ghost use Rattle.clr_engine.specs.Drafts.{IsAdmitted};
+    ghost use Rattle.clr_engine.specs.Finders.{AreFinders, kept_contents};
+    ghost use Rattle.clr_engine.specs.Trees.{IsSwept};
 
     ghost Value = { Whole };
 
@@ -38,18 +47,21 @@ impl Model for Office {
 
     ghost view = { λ o. office_of o.schema o.judge o.tree.list };
 
-    ghost invariant = { λ o. IsAdmitted (office_of o.schema o.judge o.tree.list) };
+    ghost invariant = { λ o. IsAdmitted (office_of o.schema o.judge o.tree.list) × AreFinders o.judge (kept_contents o.tree.list) o.finders × IsSwept o.tree };
 }
 
 impl Office {
-    pub(crate) fn of_parts(schema: Schema, judge: Judge, tree: Tree) -> Office
-        requires { IsAdmitted (office_of schema judge tree.list) }
+    pub(crate) fn of_parts(schema: Schema, judge: Judge, tree: Tree, finders: Finders) -> Office
+        requires admitted { IsAdmitted (office_of schema judge tree.list) }
+        requires are { AreFinders judge (kept_contents tree.list) finders }
+        requires swept { IsSwept tree }
         ensures { result ≡ office_of schema judge tree.list }
     {
         Office {
             schema,
             judge,
             tree,
+            finders,
         }
     }
 
@@ -79,7 +91,8 @@ impl Office {
 
     /// How many workspaces there are, LIVE counted.
     pub fn len(&self) -> usize
-        ensures { result ≡ length self.now.workspaces + 1 }
+        ensures count { result ≡ length self.now.workspaces + 1 }
+        ensures sound { IsSound (root self.now.live ∷ self.now.workspaces) }
     {
         self.tree.len()
     }
@@ -109,6 +122,34 @@ impl Office {
         }
     }
 
+    /// The position of LIVE or a workspace, or none for an unknown name.
+    pub fn find(&self, ws: &str) -> Option<usize>
+        ensures stands { is_some result ≡ stands self.now ws.now }
+        ensures found { IfSome result (IsPositionOf self.now ws.now) }
+    {
+        self.tree.find(ws)
+    }
+
+    /// The current content at a position, seen by cell, or none past the end.
+    pub fn view(&self, position: usize) -> Option<View<'_>>
+        ensures { result ≡ current_at self.now position }
+    {
+        if position < self.tree.len() {
+            Some(self.tree.view(position))
+        } else {
+            None
+        }
+    }
+
+    /// The finder of the rows of LIVE, which has position 0, or of the workspace at a position, if it
+    /// is kept: it has settled just these rows, and nothing is pending in it.
+    pub fn finder(&self, position: usize) -> Option<&SpotIndex>
+        ensures { IsFinderAt self.now.book (kept_at self.now position) (option_copied result) }
+    {
+        let _sound = self.tree.len();
+        self.finders.get(position)
+    }
+
     /// Whether every rule is to hold in LIVE or a workspace, and so it does; or none for an unknown
     /// name.
     pub fn kept(&self, ws: &str) -> Option<bool>
@@ -128,6 +169,19 @@ impl Office {
     {
         match self.tree.find(ws) {
             Some(at) => self.tree.read(at, cell),
+            None => None,
+        }
+    }
+
+    /// How many entries are stored of a workspace: one for each cell where its base differs from its
+    /// parent's current content, and one for each cell that it changed; none for LIVE; or none for an
+    /// unknown name.
+    pub fn stored(&self, ws: &str) -> Option<usize>
+        ensures { result ≡ if_stands self.now ws.now (stored_in self.now ws.now) }
+    {
+        match self.tree.find(ws) {
+            Some(0) => Some(0),
+            Some(at) => Some(self.tree.stored(at)),
             None => None,
         }
     }
@@ -191,7 +245,15 @@ impl Office {
         ensures answer { IsAnswer self.old command.now result self.new }
         ensures no_memory { TakesNoMemory command.now → is_lost result ≡ false }
     {
-        perform(&self.schema, &self.judge, &mut self.tree, command)
+        let reply = perform(
+            &self.schema,
+            &self.judge,
+            &mut self.tree,
+            &mut self.finders,
+            command,
+        );
+        self.tree.sweep();
+        reply
     }
 
     /// Performs commands one after another, also after one that is refused, and answers their

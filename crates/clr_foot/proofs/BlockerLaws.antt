@@ -4,7 +4,7 @@ use Rattle.std.specs.List.{range_with_len}
 use Rattle.std.specs.List.Sorted.{IsStrictlySortedBy}
 use Rattle.std.specs.Ordering.{nat_cmp}
 use Rattle.std.specs.declared.cmp.Ordering.TheVariants.{Less}
-use Rattle.std.proofs.lemmas.Bool.{cases_lt, false≢true, or_cases, or_left, or_right}
+use Rattle.std.proofs.lemmas.Bool.{cases_lt, false≢true, true≢false, or_cases, or_left, or_right}
 use Rattle.std.proofs.lemmas.Bool.Decides.{Decides-eqb}
 use Rattle.std.proofs.lemmas.List.Elements.{Contains-append_left, Contains-append_right, Contains-append_cases}
 use Rattle.clr_rows.specs.Contents.{Changes, Content}
@@ -17,13 +17,14 @@ use Rattle.clr_foot.specs.Blocking.{IsBlockerOf, has_life, has_life_by, has_life
 use Rattle.clr_foot.specs.Covers.{IsBlocker, IsLifeOf}
 use Rattle.clr_foot.specs.Independence.{Names}
 use Rattle.clr_foot.specs.Members.{setting}
-use Rattle.clr_foot.specs.Needs.{AreServers, IsBesideToo, IsPossible, IsPossibleNeed, Lists, Serves}
+use Rattle.clr_foot.specs.Needs.{AreServers, IsBesideToo, IsPossible, IsPossibleNeed, Lists}
 use Rattle.clr_foot.specs.Picks.{Blocks}
 use Rattle.clr_foot.specs.Settings.{Setting, Lifetime, Always, With, Without, Lived, has, version}
+use Rattle.clr_foot.specs.Witnesses.{IsLeastPassing, IsPassing, has_life_at}
 use Rattle.clr_foot.proofs.BreakLaws.{subjects_once}
 use Rattle.clr_foot.proofs.Lives.{names_member}
 
-same_told : (l m : Lifetime ℕ) → same_life l m ≡ true → l ≡ m
+pub same_told : (l m : Lifetime ℕ) → same_life l m ≡ true → l ≡ m
 same_told Always Always e = refl
 same_told (With m) (With n) e = ap With ((Decides-eqb m n).0 e)
 same_told (Without m) (Without n) e = ap Without ((Decides-eqb m n).0 e)
@@ -34,53 +35,55 @@ told_same Always = refl
 told_same (With m) = (Decides-eqb m m).1 refl
 told_same (Without m) = (Decides-eqb m m).1 refl
 
-lives_as : (life : Lifetime ℕ) (l : Lived ℕ) → l.life ≡ life → same_life l.life life ≡ true
+pub lives_as : (life : Lifetime ℕ) (l : Lived ℕ) → l.life ≡ life → same_life l.life life ≡ true
 lives_as life l e = ap (same_life l.life) (sym e) ∙ told_same l.life
 
 module _ (c : Setting ℕ) (n : Need) where
-  life_at : (life : Lifetime ℕ) (v : VersionId) (l : Lived ℕ) → version c v ≡ Some l → has_life life (version c v) ≡ same_life l.life life
+  pub life_at : (life : Lifetime ℕ) (v : VersionId) (l : Lived ℕ) → version c v ≡ Some l → has_life life (version c v) ≡ same_life l.life life
   life_at life v l is = ap (has_life life) is
 
   -- a subject with this life
-  subject_told : (a : Lived ℕ) (b : Option (Lived ℕ)) → IsPossible c n a b → (x : ℕ) → has_life_too (With x) c n ≡ true → IsBlocker c n a b x
-  subject_told a b p x e = by n.second b p.second_is e
+  pub subject_told : (life : Lifetime ℕ) (a : Lived ℕ) (b : Option (Lived ℕ)) → IsPossible c n a b → has_life_too life c n ≡ true → (a.life ≡ life) ⊎ IsLifeOf life b
+  subject_told life a b p e = by n.second b p.second_is e
     where
-      by : (w : Option VersionId) (b : Option (Lived ℕ)) → IsBesideToo c n.first a w b → has_life_by (With x) c n.first w ≡ true
-          → (a.life ≡ With x) ⊎ (IsLifeOf (With x) b ⊎ ((v : VersionId) × (l : Lived ℕ) × Serves c n a b v l × (l.life ≡ Without x)))
-      by None None is e = inl (same_told a.life (With x) (sym (life_at (With x) n.first a p.first_is) ∙ e))
+      by : (w : Option VersionId) (b : Option (Lived ℕ)) → IsBesideToo c n.first a w b → has_life_by life c n.first w ≡ true → (a.life ≡ life) ⊎ IsLifeOf life b
+      by None None is e = inl (same_told a.life life (sym (life_at life n.first a p.first_is) ∙ e))
       by None (Some b) is e = absurd is
       by (Some w) None is e = absurd is
-      by (Some w) (Some b) is e = elim (or_cases (has_life (With x) (version c n.first)) (has_life (With x) (version c w)) e) [
-        | inl h ↦ inl (same_told a.life (With x) (sym (life_at (With x) n.first a p.first_is) ∙ h))
-        | inr h ↦ inr (inl (sym (same_told b.life (With x) (sym (life_at (With x) w b is.is) ∙ h))))
+      by (Some w) (Some b) is e = elim (or_cases (has_life life (version c n.first)) (has_life life (version c w)) e) [
+        | inl h ↦ inl (same_told a.life life (sym (life_at life n.first a p.first_is) ∙ h))
+        | inr h ↦ inr (sym (same_told b.life life (sym (life_at life w b is.is) ∙ h)))
       ]
 
-  pub brings_is_blocker : (told : Bool) (x : ℕ) → IsPossibleNeed c n → told ≡ has_life_too (With x) c n → told ≡ true → IsBlockerOf c n x
-  brings_is_blocker told x (a, b, p) is e = (a, b, p, subject_told a b p x (sym is ∙ e))
-
-  -- no subject with this life
-  none_told : (a : Lived ℕ) (b : Option (Lived ℕ)) → IsPossible c n a b → (x : ℕ) → has_life_too (With x) c n ≡ false → (a.life ≡ With x) ⊎ IsLifeOf (With x) b → ⊥
-  none_told a b p x e h = by n.second b p.second_is e h
+  pub told_subject : (life : Lifetime ℕ) (a : Lived ℕ) (b : Option (Lived ℕ)) → IsPossible c n a b → (a.life ≡ life) ⊎ IsLifeOf life b → has_life_too life c n ≡ true
+  told_subject life a b p h = by n.second b p.second_is h
     where
-      by : (w : Option VersionId) (b : Option (Lived ℕ)) → IsBesideToo c n.first a w b → has_life_by (With x) c n.first w ≡ false → (a.life ≡ With x) ⊎ IsLifeOf (With x) b → ⊥
-      by None None is e (inl h) = false≢true (sym e ∙ life_at (With x) n.first a p.first_is ∙ lives_as (With x) a h)
-      by None None is e (inr h) = h
-      by None (Some b) is e h = is
-      by (Some w) None is e h = is
-      by (Some w) (Some b) is e (inl h) = false≢true (sym e ∙ or_left (has_life (With x) (version c n.first)) (has_life (With x) (version c w)) (life_at (With x) n.first a p.first_is ∙ lives_as (With x) a h))
-      by (Some w) (Some b) is e (inr h) = false≢true (sym e ∙ or_right (has_life (With x) (version c n.first)) (has_life (With x) (version c w)) (life_at (With x) w b is.is ∙ lives_as (With x) b (sym h)))
+      by : (w : Option VersionId) (b : Option (Lived ℕ)) → IsBesideToo c n.first a w b → (a.life ≡ life) ⊎ IsLifeOf life b → has_life_by life c n.first w ≡ true
+      by None None is (inl h) = life_at life n.first a p.first_is ∙ lives_as life a h
+      by None None is (inr h) = absurd h
+      by None (Some b) is h = absurd is
+      by (Some w) None is h = absurd is
+      by (Some w) (Some b) is (inl h) = or_left (has_life life (version c n.first)) (has_life life (version c w)) (life_at life n.first a p.first_is ∙ lives_as life a h)
+      by (Some w) (Some b) is (inr h) = or_right (has_life life (version c n.first)) (has_life life (version c w)) (life_at life w b is.is ∙ lives_as life b (sym h))
+
+  pub brings_is_blocker : (told : Bool) (x : ℕ) → IsPossibleNeed c n → told ≡ has_life_too (With x) c n → told ≡ true → IsBlockerOf c n x
+  brings_is_blocker told x (a, b, p) is e = (a, b, p, by (subject_told (With x) a b p (sym is ∙ e)))
+    where
+      by : (a.life ≡ With x) ⊎ IsLifeOf (With x) b → IsBlocker c n a b x
+      by (inl h) = inl h
+      by (inr h) = inr (inl h)
 
   module _ (servers : List VersionId) (are : AreServers c n servers) (x : ℕ) where
-    pub takes_is_blocker : (v : VersionId) → Contains servers v → has_life (Without x) (version c v) ≡ true → IsBlockerOf c n x
-    takes_is_blocker v h e =
+    pub takes_is_blocker : (v : VersionId) → IsPassing (has_life_at (Without x) c) servers v → IsBlockerOf c n x
+    takes_is_blocker v (h, e) =
         let (a, b, l, p, serve) = (are.exactly v).0 h in
         (a, b, p, inr (inr (v, l, serve, same_told l.life (Without x) (sym (life_at (Without x) v l serve.is) ∙ e))))
 
-    pub neither_is_blocker : (told : Bool) → told ≡ has_life_too (With x) c n → told ≡ false → ((v : VersionId) → Contains servers v → has_life (Without x) (version c v) ≡ true → ⊥) → ¬ (IsBlockerOf c n x)
-    neither_is_blocker told is e none (a, b, p, inl h) = none_told a b p x (sym is ∙ e) (inl h)
-    neither_is_blocker told is e none (a, b, p, inr (inl h)) = none_told a b p x (sym is ∙ e) (inr h)
+    pub neither_is_blocker : (told : Bool) → told ≡ has_life_too (With x) c n → told ≡ false → IsLeastPassing (has_life_at (Without x) c) servers None → ¬ (IsBlockerOf c n x)
+    neither_is_blocker told is e none (a, b, p, inl h) = true≢false (sym (told_subject (With x) a b p (inl h)) ∙ sym is ∙ e)
+    neither_is_blocker told is e none (a, b, p, inr (inl h)) = true≢false (sym (told_subject (With x) a b p (inr h)) ∙ sym is ∙ e)
     neither_is_blocker told is e none (a, b, p, inr (inr (v, l, serve, h))) =
-        none v ((are.exactly v).1 (a, b, l, p, serve)) (life_at (Without x) v l serve.is ∙ lives_as (Without x) l h)
+        none v ((are.exactly v).1 (a, b, l, p, serve), life_at (Without x) v l serve.is ∙ lives_as (Without x) l h)
 
   -- ---- one member after another
 
@@ -148,7 +151,7 @@ module _ (rules : List Rule) (root : Content) (sets : List Changes) (n : Need) w
   member_below : (x : ℕ) → has s.same s.members x ≡ true → x < length sets
   member_below x h = let less = range_below (length sets) 0 x h in omega (arith, less)
 
-  blocker_below : (a : Lived ℕ) (b : Option (Lived ℕ)) → IsPossible s n a b → (x : ℕ) → IsBlocker s n a b x → x < length sets
+  pub blocker_below : (a : Lived ℕ) (b : Option (Lived ℕ)) → IsPossible s n a b → (x : ℕ) → IsBlocker s n a b x → x < length sets
   blocker_below a b p x (inl e) = member_below x (names_member s n.first a x p.first_is (subst (λ l. Names l x) (sym e) refl))
   blocker_below a b p x (inr (inr (v, l, serve, e))) = member_below x (names_member s v l x serve.is (subst (λ l. Names l x) (sym e) refl))
   blocker_below a b p x (inr (inl e)) = by n.second b p.second_is e

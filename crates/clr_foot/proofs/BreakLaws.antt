@@ -291,7 +291,7 @@ module _ (rules : List Rule) (root : Content) (sets : List Changes) (one : lengt
       → IsLeastBroken rules (merged s) (broken_of n)
   least_lost holds needs k n d less is ascending every kept lost = record { broken = lost_is_broken n lost; least = least }
     where
-      later : (m : Need) → IsLost s m → PlaceOf needs m k n → is_gt (broken_cmp (broken_of n) (broken_of m)) ≡ false
+      later : (m : Need) → IsLost s m → PlaceOf need_cmp needs m k n → is_gt (broken_cmp (broken_of n) (broken_of m)) ≡ false
       later m lost_too (before h) = let (a, b, p, living, unserved) = lost_too in absurd (unserved (kept m h a b p living))
       later m lost_too (here e) = subst (λ j. is_gt (broken_cmp (broken_of n) (broken_of j)) ≡ false) e (tie_not_gt (broken_of n))
       later m lost_too (after e) = less_not_gt _ (sym (need_order n m lost lost_too) ∙ e)
@@ -299,7 +299,7 @@ module _ (rules : List Rule) (root : Content) (sets : List Changes) (one : lengt
       least : (b : Broken) → IsBroken rules (merged s) b → is_gt (broken_cmp (broken_of n) b) ≡ false
       least b broken =
           let (m, h) = broken_by holds b broken in
-          subst (λ x. is_gt (broken_cmp (broken_of n) x) ≡ false) (sym h.named) (later m h.lost (place_of needs k n d m less is ascending (every m h.touched)))
+          subst (λ x. is_gt (broken_cmp (broken_of n) x) ≡ false) (sym h.named) (later m h.lost (place_of need_cmp needs k n d m less is ascending (every m h.touched)))
 
   -- read from a list that is theirs
   pub first_is_least : Holds rules s.root → (needs read : List Need) (k : ℕ) (n d : Need) (lost : Bool) (b : Broken) → AreTouchedNeeds s needs → read ≡ needs → k < length read → n ≡ get_or read k d

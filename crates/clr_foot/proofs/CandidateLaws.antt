@@ -16,11 +16,12 @@ use Rattle.clr_rules.proofs.Elements.{not_both}
 use Rattle.clr_foot.specs.declared.needs.Need.{Need}
 use Rattle.clr_foot.specs.declared.needs.VersionId.{VersionId}
 use Rattle.clr_foot.specs.declared.versions.Version.{Version}
-use Rattle.clr_foot.specs.Candidates.{IsNeedAmong, IsServerAmong, IsNeedOf, IsNeedOfAsk, IsNeedOfPair, IsNeedOfPart, are_opposed, id_of, is_asked, serves_too}
+use Rattle.clr_foot.specs.Candidates.{IsNeedAmong, IsServerAmong, IsNeedOf, IsNeedOfAsk, IsNeedOfPair, IsNeedOfPart, are_opposed, id_of, is_asked, is_of_two_under, serves_too}
 use Rattle.clr_foot.specs.Gains.{Gains}
 use Rattle.clr_foot.specs.Needs.{AreOpposed, ask_of, need_of}
 use Rattle.clr_foot.specs.Settings.{Lifetime, With, Without}
 use Rattle.clr_foot.specs.Versions.{lived, row_of}
+use Rattle.clr_foot.proofs.SharingLaws.{two_asked}
 use Rattle.clr_foot.proofs.Gaining.{all_taken, gains_as, gains_both, gains_none, gains_one, item_in, none_taken, one_more}
 
 -- ---- opposed lives
@@ -252,6 +253,16 @@ module _ (rules : List Rule) (number : ℕ) (r : Option Version) (s t : Version)
 module _ (rules : List Rule) (number : ℕ) (r : Option Version) (s : Version) (others : List Version) where
   abbrev Among : List Version → Need → Type 0
   Among ts = IsNeedAmong rules number r s ts
+
+  pub no_pairs : (needs : List Need) (told : Bool) → told ≡ is_of_two_under rules number → told ≡ false → Gains (Among others) (Among others) needs needs
+  no_pairs needs told is fails = gains_none (Among others) (Among others) needs (λ n w. by n w.0 w.2)
+    where
+      two : (x y : Version) (n : Need) → IsNeedOf rules number r x (Some y) n → ⊥
+      two x y n w = false≢true (sym fails ∙ is ∙ ap (is_of_two_under rules) (sym w.rule) ∙ two_asked rules (ask_of n) (row_of x) (row_of y) (they_call rules number r x (Some y) n w))
+
+      by : (n : Need) (t : Version) → IsNeedOfPair rules number r s t n → ⊥
+      by n t (inl w) = two s t n w.need
+      by n t (inr w) = two t s n w.need
 
   pub no_pair_yet : (needs : List Need) → Gains (Among others) (Among (take 0 others)) needs needs
   no_pair_yet needs = gains_none (Among others) (Among (take 0 others)) needs (λ n w. none_taken others w.0 w.1)

@@ -3,7 +3,7 @@ use Rattle.std.proofs.Common.{◌≡◌, ◌<◌, ◌≤◌, ◌+◌, ℕ, zero,
 use Rattle.std.proofs.lemmas.List.{take_more, take_all}
 use Rattle.std.proofs.lemmas.List.Elements.{Contains-append_left, Contains-append_right, Contains-append_cases}
 use Rattle.clr_rules.proofs.Elements.{Among, among, contained}
-use Rattle.clr_foot.specs.Gains.{Gains}
+use Rattle.clr_foot.specs.Gains.{Gains, OfSome}
 
 module _ {X : Type 0} where
   alone : (x y : X) → Contains (x ∷ []) y → y ≡ x
@@ -86,3 +86,23 @@ module _ {X : Type 0} where
   -- what is read of a list that is another one
   pub read_of : (xs ys : List X) (k : ℕ) (d : X) → xs ≡ ys → k < length xs → Contains ys (get_or xs k d)
   read_of xs ys k d same less = subst (λ zs. Contains zs (get_or xs k d)) same (read_in xs k d less)
+
+-- ---- what is made of each of some things, one after another
+
+module _ {X Y : Type 0} (allowed : X → Type 0) (P : Y → X → Type 0) (ys : List Y) where
+  pub of_none : (list : List X) → Gains allowed (OfSome P (take 0 ys)) list list
+  of_none list = gains_none allowed (OfSome P (take 0 ys)) list (λ x w. none_taken ys w.0 w.1)
+
+  pub of_one_more : (k : ℕ) (d : Y) (old middle new : List X) → k < length ys → Gains allowed (OfSome P (take k ys)) old middle → Gains allowed (P (get_or ys k d)) middle new
+      → Gains allowed (OfSome P (take (k + 1) ys)) old new
+  of_one_more k d old middle new less g h = gains_both allowed (OfSome P (take k ys)) (P (get_or ys k d)) (OfSome P (take (k + 1) ys)) old middle new split g h
+    where
+      split : (x : X) → OfSome P (take (k + 1) ys) x → OfSome P (take k ys) x ⊎ P (get_or ys k d) x
+      split x w = by (one_more ys k d w.0 less w.1)
+        where
+          by : Contains (take k ys) w.0 ⊎ (w.0 ≡ get_or ys k d) → OfSome P (take k ys) x ⊎ P (get_or ys k d) x
+          by (inl before) = inl (w.0, before, w.2)
+          by (inr last) = inr (subst (λ y. P y x) last w.2)
+
+  pub of_all : (k : ℕ) (old new : List X) → length ys ≤ k → Gains allowed (OfSome P (take k ys)) old new → Gains allowed (OfSome P ys) old new
+  of_all k old new past g = gains_as allowed (OfSome P (take k ys)) allowed (OfSome P ys) old new (λ x a. a) (λ x w. (w.0, all_taken ys k w.0 past w.1, w.2)) g

@@ -6,11 +6,13 @@ pub mod CandidateLaws
 pub mod ChangedCells
 pub mod CoverLaws
 pub mod Gaining
+pub mod InvolvedLaws
 pub mod Lives
 pub mod Meetings
 pub mod Merges
 pub mod NeedOrder
 pub mod NewRows
+pub mod PickLaws
 pub mod Placing
 pub mod PositionLaws
 pub mod Searches
@@ -22,3 +24,4 @@ pub mod TouchLaws
 pub mod TouchSteps
 pub mod VersionFits
 pub mod VersionLists
+pub mod VersionOrder

@@ -119,7 +119,7 @@ module _ {A : Type 0} (c : Setting A) where
       go None = refl
       go (Some n) = refl
 
-  named_by_old : (x : Option A) (n : A) → Names (old_life x) n → x ≡ Some n
+  pub named_by_old : (x : Option A) (n : A) → Names (old_life x) n → x ≡ Some n
   named_by_old None n e = absurd e
   named_by_old (Some m) n e = ap Some e
 

@@ -1,5 +1,5 @@
 -- Versions and needs that tie are one.
-use Rattle.std.proofs.Common.{◌≡◌, Bool, true, false, Option, Some, None, refl, ap}
+use Rattle.std.proofs.Common.{◌≡◌, Bool, true, false, Option, Some, None, pos, refl, ap}
 use Rattle.std.specs.FinMap.{IsAntisymmetric}
 use Rattle.std.specs.Option.{option_cmp}
 use Rattle.std.specs.Ordering.{bool_cmp, nat_cmp, ordering_then}
@@ -8,6 +8,7 @@ use Rattle.std.specs.declared.cmp.Ordering.TheVariants.{Less, Equal, Greater}
 use Rattle.std.proofs.lemmas.Map.Lookups.{exact_unsigned}
 use Rattle.clr_rows.specs.Cells.{cell_cmp}
 use Rattle.clr_rows.proofs.CellOrder.{cell_cmp_exact}
+use Rattle.clr_foot.specs.declared.needs.Need.{Need}
 use Rattle.clr_foot.specs.declared.needs.VersionId.{VersionId}
 use Rattle.clr_foot.specs.Orders.{need_cmp, version_cmp}
 
@@ -47,3 +48,7 @@ need_exact m n e =
     let first_part = exact_unsigned m.first_part n.first_part first_parts in
     let second_part = exact_unsigned m.second_part n.second_part second_parts in
     λ i. record { rule = rule i; first = first i; second = second i; first_part = first_part i; second_part = second_part i }
+
+-- what a read past the end of a list would give
+abbrev pub unread : Need
+unread = record { rule = 0; first = record { cell = record { table = 0; key = pos 0 }; fresh = false }; second = None; first_part = 0; second_part = 0 }

@@ -1,5 +1,6 @@
 -- Searches for a member that changes a cell: what a search finds is settled by what it says of the positions that it passes.
 use Rattle.std.proofs.Common.{◌≡◌, ◌∙◌, ◌<◌, ◌≤◌, ◌+◌, ℕ, zero, suc, Bool, true, false, cond, List, Option, Some, None, Bor, inl, inr, is_some, length, map, refl, sym, ap, subst, arith}
+use Rattle.std.specs.Prelude.{slice_get}
 use Rattle.std.specs.FinMap as finite
 use Rattle.std.specs.List.{range_with_len, slice_index_or}
 use Rattle.std.specs.Option.{option_map, option_copied}
@@ -86,6 +87,10 @@ module _ (sets : List Changes) (q : CellId) where
   pub is_found : (from count : ℕ) (x : Option ℕ) → x ≡ search sets q from count → IsFound sets q from (from + count) x
   is_found from count x e = subst (IsFound sets q from (from + count)) (sym e) (search_finds from count)
 
+-- the set of a member that is read by its position
+pub set_at : (refs : List (Bor Changes)) (k : ℕ) (ref : Bor Changes) → k < length refs → ref ≡ slice_index_or refs k ref → slice_get (sets_of refs) k ≡ Some ref.now
+set_at refs k ref less read = slice_get-map (λ (s : Bor Changes). s.now) refs k ∙ ap (option_map (λ (s : Bor Changes). s.now)) (slice_get_read refs (length refs) k ref refl less read)
+
 module _ (refs : List (Bor Changes)) (q : CellId) where
   some_called : (r : Option (Bor Change)) → is_some (option_map (λ (e : Change). e.after) (option_copied r)) ≡ is_some r
   some_called None = refl
@@ -95,8 +100,7 @@ module _ (refs : List (Bor Changes)) (q : CellId) where
   pub changes_by_call : (k : ℕ) (ref : Bor Changes) (r : Option (Bor Change)) → k < length refs → ref ≡ slice_index_or refs k ref → option_copied r ≡ finite.get ref.now q
       → is_some (after_of (sets_of refs) k q) ≡ is_some r
   changes_by_call k ref r less read got =
-      let at = slice_get-map (λ (s : Bor Changes). s.now) refs k ∙ ap (option_map (λ (s : Bor Changes). s.now)) (slice_get_read refs (length refs) k ref refl less read) in
-      ap (λ s. is_some (after_at s q)) at ∙ ap (λ e. is_some (option_map (λ (e : Change). e.after) e)) (sym got) ∙ some_called r
+      ap (λ s. is_some (after_at s q)) (set_at refs k ref less read) ∙ ap (λ e. is_some (option_map (λ (e : Change). e.after) e)) (sym got) ∙ some_called r
 
   -- only members that are there change cells
   pub changer_below : (k : ℕ) → ChangesCell (sets_of refs) q k → k < length refs

@@ -18,7 +18,7 @@ use Rattle.clr_rules.proofs.Elements.{Among, among_left, among_right, not_itself
 use Rattle.clr_rules.proofs.BrokenLemmas.{lt_is}
 use Rattle.clr_grid.proofs.EntryLemmas.{one_among}
 use Rattle.clr_foot.specs.declared.members.SharedCell.{SharedCell}
-use Rattle.clr_foot.specs.Members.{AreApart, AreFirstTwo, ChangesCell, IsApart, IsLeastShared, changed_cells, lesser}
+use Rattle.clr_foot.specs.Members.{AreApart, AreFirstTwo, ChangesCell, IsApart, IsLeastShared, after_in, changed_cells, lesser}
 use Rattle.clr_foot.proofs.Searches.{IsFirstChanger, changer_below, is_found, search, sets_of}
 
 -- ---- one cell
@@ -170,12 +170,14 @@ changes_mapped None = refl
 changes_mapped (Some e) = refl
 
 -- each cell that a member changes is listed
+-- a cell that a set changes is one of its keys
+pub key_among : (s : Changes) (q : CellId) → is_some (after_in s q) ≡ true → Among q (finite.keys s)
+key_among s q changes = one_among (finite.keys s) q (sym (contains_key-keys s q) ∙ sym (changes_mapped (finite.get s q)) ∙ changes)
+
 pub changed_is_listed : (sets : List Changes) (k : ℕ) (q : CellId) → ChangesCell sets q k → Among q (changed_cells sets)
 unfolding changed_cells
 changed_is_listed [] k q changes = absurd (false≢true changes)
-changed_is_listed (s ∷ sets) zero q changes =
-    let key = sym (contains_key-keys s q) ∙ sym (changes_mapped (finite.get s q)) ∙ changes in
-    among_left q (finite.keys s) (flat_map (λ (s : Changes). finite.keys s) sets) (one_among (finite.keys s) q key)
+changed_is_listed (s ∷ sets) zero q changes = among_left q (finite.keys s) (flat_map (λ (s : Changes). finite.keys s) sets) (key_among s q changes)
 changed_is_listed (s ∷ sets) (suc k) q changes = among_right q (finite.keys s) (flat_map (λ (s : Changes). finite.keys s) sets) (changed_is_listed sets k q changes)
 
 position_among : (cells : List CellId) (q : CellId) → Among q cells → (k : ℕ) × (slice_get cells k ≡ Some q)

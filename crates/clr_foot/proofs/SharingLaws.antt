@@ -28,6 +28,7 @@ use Rattle.clr_grid.specs.declared.row_spots.RuleSpots.{RuleSpots}
 use Rattle.clr_grid.specs.Sharing.{IsSettledFor, Settled, found_cells, is_met_at, may_serve, may_serve_by, may_serve_under, row_spots, rule_spots, sharing, sharing_servers}
 use Rattle.clr_grid.proofs.EntryLemmas.{in_passes, passes_in}
 use Rattle.clr_grid.proofs.SharingLemmas.{found_servers, found_sharing}
+use Rattle.clr_foot.specs.Candidates.{is_of_two, is_of_two_by, is_of_two_under}
 use Rattle.clr_foot.specs.Settings.{Setting}
 use Rattle.clr_foot.specs.Touches.{IsNear}
 use Rattle.clr_foot.specs.Versions.{FitsSetting}
@@ -82,6 +83,19 @@ server_near_second rules ask s t r e f =
     let (rule, at, called) = called_by rules ask s (Some t) e in
     let serve = served_by rules ask s (Some t) r rule at f in
     rule_shares rules ask.rule rule r t at (servers_have_roles rule ask s (Some t) r serve) (subjects_have_roles rule ask s (Some t) called).1 (servers_share rule ask s (Some t) r called serve).1
+
+-- two are asked by a rule that is asked of two
+two_are_asked : (rule : Rule) (ask : Ask) (s t : Held) → are_subjects rule ask s (Some t) ≡ true → is_of_two rule ≡ true
+unfolding are_subjects
+two_are_asked (Unique subject columns) ask s t e = refl
+two_are_asked (Partner subject columns server server_columns) ask s t e = absurd (false≢true e)
+two_are_asked (EndNode subject tip server) ask s t e = absurd (false≢true e)
+two_are_asked (Crossing a b server) ask s t e = refl
+two_are_asked (Near a b d) ask s t e = refl
+
+pub two_asked : (rules : List Rule) (ask : Ask) (s t : Held) → calls rules ask s (Some t) ≡ true → is_of_two_under rules ask.rule ≡ true
+unfolding is_of_two_under
+two_asked rules ask s t e = let (rule, at, called) = called_by rules ask s (Some t) e in ap is_of_two_by at ∙ two_are_asked rule ask s t called
 
 -- a server is of the side that serves
 of_server_side : (rule : Rule) (ask : Ask) (s : Held) (t : Option Held) (r : Held) → is_server rule ask s t r ≡ true → may_serve rule r ≡ true

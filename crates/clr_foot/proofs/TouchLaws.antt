@@ -1,21 +1,22 @@
 -- The needs that are added are touched, and each touched one is added.
 use Rattle.std.proofs.Common.{◌≡◌, ◌∙◌, ℕ, Bool, true, false, ◌&&◌, List, ◌⊎◌, inl, inr, Option, Some, None, refl, sym, ap, subst}
 use Rattle.std.specs.Option.{option_map}
-use Rattle.std.proofs.lemmas.Bool.{and_parts, or_left, or_right}
+use Rattle.std.proofs.lemmas.Bool.{and_parts, false≢true}
 use Rattle.clr_rules.specs.Calls.{calls, serves}
 use Rattle.clr_spots.specs.Spots.{are_sharing}
+use Rattle.clr_grid.specs.Sharing.{may_serve_under}
 use Rattle.clr_rows.specs.Held.{Held}
 use Rattle.clr_rows.specs.Cells.{cell_cmp}
 use Rattle.clr_foot.specs.declared.needs.Need.{Need}
 use Rattle.clr_foot.specs.declared.needs.VersionId.{VersionId}
 use Rattle.clr_foot.specs.declared.versions.Version.{Version}
-use Rattle.clr_foot.specs.Candidates.{IsNeedAmong, IsNeedBetween, IsNeedOf, IsNeedOfPair, IsNeedServedBy, IsNeedWith, id_of, serves_too}
-use Rattle.clr_foot.specs.Needs.{AreOpposed, IsBeside, IsBesideToo, IsChanged, IsPossible, IsTouched, Serves, ask_of, held_too, is_fresh}
+use Rattle.clr_foot.specs.Candidates.{IsNeedAmong, IsNeedBetween, IsNeedOf, IsNeedOfPair, IsNeedServedBy, IsNeedWith, id_of, is_of_two_under, serves_too}
+use Rattle.clr_foot.specs.Needs.{AreOpposed, IsBeside, IsBesideToo, IsPossible, Serves, ask_of, held_too}
 use Rattle.clr_foot.specs.Settings.{Setting, Lived, held, version}
 use Rattle.clr_foot.specs.Touches.{IsNear, IsNeedServedAmong}
-use Rattle.clr_foot.specs.Versions.{AreAt, Finds, FitsSetting, HasVersion, IsAt, lived, row_of, version_of}
+use Rattle.clr_foot.specs.Versions.{AreAt, FindsAll, FitsSetting, HasVersion, IsAt, lived, row_of}
 use Rattle.clr_foot.proofs.CandidateLaws.{they_call}
-use Rattle.clr_foot.proofs.SharingLaws.{near_all, server_near, server_near_second, subjects_near}
+use Rattle.clr_foot.proofs.SharingLaws.{may_serve_there, near_all, server_near, server_near_second, subjects_near, two_asked}
 
 lived_too : Option Version → Option (Lived ℕ)
 lived_too t = option_map lived t
@@ -65,25 +66,23 @@ module _ (c : Setting ℕ) where
         ∙ (and_parts (serves_too c.rules (ask_of n) s t (Some r)) _ w.asked).0;
   }
 
-  -- ---- what is added is touched
+  -- ---- what is added is a need with the version, or one that it serves
 
-  module _ (number : ℕ) (new : Version) (at : IsAt c new) (fresh : new.id.fresh ≡ true) where
-    pub alone_touched : (n : Need) → IsNeedOf c.rules number None new None n → IsTouched c n
-    alone_touched n w = (lived new, None, alone_possible number None new at n w, inl (or_left n.first.fresh (is_fresh n.second) (ap (λ v. v.fresh) w.first ∙ fresh)))
+  module _ (number : ℕ) (v : Version) (at : IsAt c v) where
+    pub alone_with : (n : Need) → IsNeedOf c.rules number None v None n → IsNeedWith c number v.id n
+    alone_with n w = (w.rule, inl w.first, lived v, None, alone_possible number None v at n w)
 
-    pub among_touched : (others : List Version) (n : Need) → AreAt c others → IsNeedAmong c.rules number None new others n → IsTouched c n
-    among_touched others n are (t, h, inl w) =
-        (lived new, Some (lived t), pair_possible number None new at t n (are t h) w, inl (or_left n.first.fresh (is_fresh n.second) (ap (λ v. v.fresh) w.need.first ∙ fresh)))
-    among_touched others n are (t, h, inr w) =
-        (lived t, Some (lived new), pair_possible number None t (are t h) new n at w, inl (or_right n.first.fresh (is_fresh n.second) (ap is_fresh w.need.second ∙ fresh)))
+    pub among_with : (others : List Version) (n : Need) → AreAt c others → IsNeedAmong c.rules number None v others n → IsNeedWith c number v.id n
+    among_with others n are (t, h, inl w) = (w.need.rule, inl w.need.first, lived v, Some (lived t), pair_possible number None v at t n (are t h) w)
+    among_with others n are (t, h, inr w) = (w.need.rule, inr w.need.second, lived t, Some (lived v), pair_possible number None t (are t h) v n at w)
 
-  pub served_touched : (number : ℕ) (r : Version) (near : List Version) (n : Need) → IsAt c r → IsChanged (lived r).life → AreAt c near → IsNeedServedAmong c.rules number r near near n → IsTouched c n
-  served_touched number r near n at changed are (s, h, inl w) =
-      (lived s, None, alone_possible number (Some r) s (are s h) n w, inr (r.id, lived r, server_serves number r s None n at w, changed))
-  served_touched number r near n at changed are (s, h, inr (t, k, inl w)) =
-      (lived s, Some (lived t), pair_possible number (Some r) s (are s h) t n (are t k) w, inr (r.id, lived r, server_serves number r s (Some t) n at w.need, changed))
-  served_touched number r near n at changed are (s, h, inr (t, k, inr w)) =
-      (lived t, Some (lived s), pair_possible number (Some r) t (are t k) s n (are s h) w, inr (r.id, lived r, server_serves number r t (Some s) n at w.need, changed))
+    pub among_served : (near : List Version) (n : Need) → AreAt c near → IsNeedServedAmong c.rules number v near near n → IsNeedServedBy c number v.id n
+    among_served near n are (s, h, inl w) =
+        (w.rule, lived s, None, lived v, alone_possible number (Some v) s (are s h) n w, server_serves number v s None n at w)
+    among_served near n are (s, h, inr (t, k, inl w)) =
+        (w.need.rule, lived s, Some (lived t), lived v, pair_possible number (Some v) s (are s h) t n (are t k) w, server_serves number v s (Some t) n at w.need)
+    among_served near n are (s, h, inr (t, k, inr w)) =
+        (w.need.rule, lived t, Some (lived s), lived v, pair_possible number (Some v) t (are t k) s n (are s h) w, server_serves number v t (Some s) n at w.need)
 
   -- ---- possible needs are those of their versions
 
@@ -146,67 +145,63 @@ module _ (c : Setting ℕ) where
   near_of v id l s number rule is same row near =
       subst (λ h. IsNear false c.rules number h s) (λ i. ((sym same i).cell, (sym row i).row)) (subst (λ k. IsNear false c.rules k (held id l) s) is near)
 
-  -- one of two lists has it, as it is old or new
-  partner : (P : Held → Type 0) (old others : List Version) (id : VersionId) (l : Lived ℕ) → Finds c false P old → Finds c true P others → version c id ≡ Some l → P (held id l)
-      → HasVersion old id ⊎ HasVersion others id
-  partner P old others id l found found_too is near = by id.fresh refl
+  -- a need with a version alone
+  alone_found : (number : ℕ) (v : Version) (at : IsAt c v) (n : Need) (a : Lived ℕ) → n.rule ≡ number → n.first ≡ v.id → n.second ≡ None → version c n.first ≡ Some a
+      → calls c.rules (ask_of n) (held n.first a) None ≡ true → IsNeedOf c.rules number None v None n
+  alone_found number v at n a rule first second is called =
+      need_of_versions number None v None n a None rule (sym first) (sym second) (lived_is v n.first a (sym first) at is) refl
+      (ap (λ w. calls c.rules (ask_of n) (held n.first a) (held_too {A = ℕ} w None)) second ∙ called) refl
+
+  -- where a rule is asked of one, a need is that of a version alone
+  pub alone_of_one : (number : ℕ) (v : Version) (at : IsAt c v) (told : Bool) → told ≡ is_of_two_under c.rules number → told ≡ false → (n : Need) → IsNeedWith c number v.id n
+      → IsNeedOf c.rules number None v None n
+  alone_of_one number v at told is fails n (rule, subject, a, b, p) = by n.second b refl p.second_is p.they_call subject
     where
-      by : (b : Bool) → id.fresh ≡ b → HasVersion old id ⊎ HasVersion others id
-      by false e =
-          let same : version_of false id.cell ≡ id = λ i. record { cell = id.cell; fresh = sym e i } in
-          inl (subst (HasVersion old) same (found.every id.cell l (ap (version c) same ∙ is) near))
-      by true e =
-          let same : version_of true id.cell ≡ id = λ i. record { cell = id.cell; fresh = sym e i } in
-          inr (subst (HasVersion others) same (found_too.every id.cell l (ap (version c) same ∙ is) near))
+      by : (w : Option VersionId) (b : Option (Lived ℕ)) → n.second ≡ w → IsBesideToo c n.first a w b → calls c.rules (ask_of n) (held n.first a) (held_too {A = ℕ} w b) ≡ true
+          → (n.first ≡ v.id) ⊎ (n.second ≡ Some v.id) → IsNeedOf c.rules number None v None n
+      by None None second beside called (inl e) = alone_found number v at n a rule e second p.first_is called
+      by None None second beside called (inr e) = let clash : None ≡ Some v.id = sym second ∙ e in cc
+      by None (Some b) second beside called subject = absurd beside
+      by (Some w) None second beside called subject = absurd beside
+      by (Some w) (Some b) second beside called subject =
+          absurd (false≢true (sym fails ∙ is ∙ ap (is_of_two_under c.rules) (sym rule) ∙ two_asked c.rules (ask_of n) (held n.first a) (held w b) called))
 
-  module _ (fits : FitsSetting c) (number : ℕ) (new : Version) (at : IsAt c new) (old others : List Version) where
-    abbrev Near : Held → Type 0
-    Near = IsNear false c.rules number (row_of new)
-
-    -- a need with a new version is found: it stands alone, beside an old one or beside a new one
+  module _ (fits : FitsSetting c) (number : ℕ) (v : Version) (at : IsAt c v) (near : List Version) (found : FindsAll c (IsNear false c.rules number (row_of v)) near) where
+    -- a need with a version is found: it stands alone, or beside one that is near
     abbrev pub IsFound : Need → Type 0
-    IsFound n = IsNeedOf c.rules number None new None n ⊎ (IsNeedAmong c.rules number None new old n ⊎ IsNeedAmong c.rules number None new others n)
+    IsFound n = IsNeedOf c.rules number None v None n ⊎ IsNeedAmong c.rules number None v near n
 
-    listed : (n : Need) (id : VersionId) → ((t : Version) → t.id ≡ id → IsAt c t → IsNeedOfPair c.rules number None new t n)
-        → Finds c false Near old → Finds c true Near others → HasVersion old id ⊎ HasVersion others id → IsFound n
-    listed n id pair found found_too (inl (t, h, e)) = inr (inl (t, h, pair t e (found.are t h)))
-    listed n id pair found found_too (inr (t, h, e)) = inr (inr (t, h, pair t e (found_too.are t h)))
+    listed : (n : Need) (id : VersionId) → ((t : Version) → t.id ≡ id → IsAt c t → IsNeedOfPair c.rules number None v t n) → HasVersion near id → IsFound n
+    listed n id pair (t, h, e) = inr (t, h, pair t e (found.are t h))
 
     -- the other subject is near, and in either order the two make the need
-    pub with_found : (n : Need) → Finds c false Near old → Finds c true Near others → IsNeedWith c number new.id n → IsFound n
-    with_found n found found_too (rule, subject, a, b, p) = by n.second b refl p.second_is p.they_call subject
+    pub with_found : (n : Need) → IsNeedWith c number v.id n → IsFound n
+    with_found n (rule, subject, a, b, p) = by n.second b refl p.second_is p.they_call subject
       where
         by : (w : Option VersionId) (b : Option (Lived ℕ)) → n.second ≡ w → IsBesideToo c n.first a w b → calls c.rules (ask_of n) (held n.first a) (held_too {A = ℕ} w b) ≡ true
-            → (n.first ≡ new.id) ⊎ (n.second ≡ Some new.id) → IsFound n
-        by None None second beside called (inl e) =
-            inl (need_of_versions number None new None n a None rule (sym e) (sym second) (lived_is new n.first a (sym e) at p.first_is) refl
-            (ap (λ w. calls c.rules (ask_of n) (held n.first a) (held_too {A = ℕ} w None)) second ∙ called) refl)
-        by None None second beside called (inr e) = let clash : None ≡ Some new.id = sym second ∙ e in cc
+            → (n.first ≡ v.id) ⊎ (n.second ≡ Some v.id) → IsFound n
+        by None None second beside called (inl e) = inl (alone_found number v at n a rule e second p.first_is called)
+        by None None second beside called (inr e) = let clash : None ≡ Some v.id = sym second ∙ e in cc
         by None (Some b) second beside called subject = absurd beside
         by (Some w) None second beside called subject = absurd beside
         by (Some w) (Some b) second beside called (inl e) =
-            let row = lived_is new n.first a (sym e) at p.first_is in
+            let row = lived_is v n.first a (sym e) at p.first_is in
             let shared = (subjects_near c fits (ask_of n) (held n.first a) (held w b) called).0 in
-            let near = near_of new n.first a (held w b) number n.rule rule (sym e) row (near_all c.rules n.rule (held n.first a) (held w b) shared) in
-            listed n w (λ t same t_at. inl (need_between number None new t n a w b rule (sym e) same second at t_at p.first_is beside called (λ row rows. refl)))
-            found found_too (partner Near old others w b found found_too beside.is near)
+            let near = near_of v n.first a (held w b) number n.rule rule (sym e) row (near_all c.rules n.rule (held n.first a) (held w b) shared) in
+            listed n w (λ t same t_at. inl (need_between number None v t n a w b rule (sym e) same second at t_at p.first_is beside called (λ row rows. refl)))
+            (found.every w b beside.is near)
         by (Some w) (Some b) second beside called (inr e) =
-            let same : w ≡ new.id = let both : Some w ≡ Some new.id = sym second ∙ e in cc in
-            let row = lived_is new w b (sym same) at beside.is in
+            let same : w ≡ v.id = let both : Some w ≡ Some v.id = sym second ∙ e in cc in
+            let row = lived_is v w b (sym same) at beside.is in
             let shared = (subjects_near c fits (ask_of n) (held n.first a) (held w b) called).1 in
-            let near = near_of new w b (held n.first a) number n.rule rule (sym same) row (near_all c.rules n.rule (held w b) (held n.first a) shared) in
-            listed n n.first (λ t is t_at. inr (need_between number None t new n a w b rule is (sym same) second t_at at p.first_is beside called (λ row rows. refl)))
-            found found_too (partner Near old others n.first a found found_too p.first_is near)
+            let near = near_of v w b (held n.first a) number n.rule rule (sym same) row (near_all c.rules n.rule (held w b) (held n.first a) shared) in
+            listed n n.first (λ t is t_at. inr (need_between number None t v n a w b rule is (sym same) second t_at at p.first_is beside called (λ row rows. refl)))
+            (found.every n.first a p.first_is near)
 
-  -- a need of old subjects that a version serves is found among those near it
-  module _ (number : ℕ) (r : Version) (at : IsAt c r) (near : List Version) (found : Finds c false (IsNear false c.rules number (row_of r)) near) where
-    old_found : (id : VersionId) (l : Lived ℕ) → id.fresh ≡ false → version c id ≡ Some l → IsNear false c.rules number (row_of r) (held id l) → HasVersion near id
-    old_found id l old is close =
-        let same : version_of false id.cell ≡ id = λ i. record { cell = id.cell; fresh = sym old i } in
-        subst (HasVersion near) same (found.every id.cell l (ap (version c) same ∙ is) close)
-
+  -- a need that a version serves is found among those near it
+  module _ (number : ℕ) (r : Version) (at : IsAt c r) (near : List Version) (found : FindsAll c (IsNear false c.rules number (row_of r)) near) where
     pub served_found : (n : Need) → IsNeedServedBy c number r.id n → IsNeedServedAmong c.rules number r near near n
-    served_found n (rule, first_old, second_old, a, b, l, p, v) = by n.second b refl p.second_is p.they_call v.it_serves second_old
+    served_found n (rule, a, b, l, p, v) = by n.second b refl p.second_is p.they_call v.it_serves
       where
         server : lived r ≡ l
         server = lived_is r r.id l refl at v.is
@@ -215,11 +210,11 @@ module _ (c : Setting ℕ) where
         close id m shared = near_of r r.id l (held id m) number n.rule rule refl server (near_all c.rules n.rule (held r.id l) (held id m) shared)
 
         by : (w : Option VersionId) (b : Option (Lived ℕ)) → n.second ≡ w → IsBesideToo c n.first a w b → calls c.rules (ask_of n) (held n.first a) (held_too {A = ℕ} w b) ≡ true
-            → serves c.rules (ask_of n) (held n.first a) (held_too {A = ℕ} w b) (held r.id l) ≡ true → is_fresh n.second ≡ false → IsNeedServedAmong c.rules number r near near n
-        by None (Some b) second beside called serve old = absurd beside
-        by (Some w) None second beside called serve old = absurd beside
-        by None None second beside called serve old =
-            let (s, h, same) = old_found n.first a first_old p.first_is (close n.first a (server_near c.rules (ask_of n) (held n.first a) None (held r.id l) called serve).1) in
+            → serves c.rules (ask_of n) (held n.first a) (held_too {A = ℕ} w b) (held r.id l) ≡ true → IsNeedServedAmong c.rules number r near near n
+        by None (Some b) second beside called serve = absurd beside
+        by (Some w) None second beside called serve = absurd beside
+        by None None second beside called serve =
+            let (s, h, same) = found.every n.first a p.first_is (close n.first a (server_near c.rules (ask_of n) (held n.first a) None (held r.id l) called serve).1) in
             let row = lived_is s n.first a same (found.are s h) p.first_is in
             let called_too = ap (λ w. calls c.rules (ask_of n) (held n.first a) (held_too {A = ℕ} w None)) second ∙ called in
             let serve_too = ap (λ w. serves c.rules (ask_of n) (held n.first a) (held_too {A = ℕ} w None) (held r.id l)) second ∙ serve in (
@@ -228,9 +223,9 @@ module _ (c : Setting ℕ) where
               inl (need_of_versions number (Some r) s None n a None rule same (sym second) row refl called_too
                   (serves_versions r s None n a None l same (sym second) row refl server serve_too)),
             )
-        by (Some w) (Some b) second beside called serve old =
-            let (s, h, same) = old_found n.first a first_old p.first_is (close n.first a (server_near c.rules (ask_of n) (held n.first a) (Some (held w b)) (held r.id l) called serve).1) in
-            let (t, k, same_too) = old_found w b (sym (ap is_fresh second) ∙ old) beside.is (close w b (server_near_second c.rules (ask_of n) (held n.first a) (held w b) (held r.id l) called serve)) in
+        by (Some w) (Some b) second beside called serve =
+            let (s, h, same) = found.every n.first a p.first_is (close n.first a (server_near c.rules (ask_of n) (held n.first a) (Some (held w b)) (held r.id l) called serve).1) in
+            let (t, k, same_too) = found.every w b beside.is (close w b (server_near_second c.rules (ask_of n) (held n.first a) (held w b) (held r.id l) called serve)) in
             let serve_too = ap (λ w. serves c.rules (ask_of n) (held n.first a) (held_too {A = ℕ} w (Some b)) (held r.id l)) second ∙ serve in (
               s,
               h,
@@ -241,3 +236,10 @@ module _ (c : Setting ℕ) where
                     (λ row rows. serves_versions r s (Some t) n a (Some b) l same (ap Some same_too ∙ sym second) row (ap Some rows) server serve_too)),
               ),
             )
+
+  -- only a version of the side that serves serves any
+  pub not_served : (number : ℕ) (r : Version) (at : IsAt c r) (told : Bool) → told ≡ may_serve_under c.rules number (row_of r) → told ≡ false → (n : Need) → IsNeedServedBy c number r.id n → ⊥
+  not_served number r at told is fails n (rule, a, b, l, p, v) =
+      let row = lived_is r r.id l refl at v.is in
+      false≢true (sym fails ∙ is ∙ (λ i. may_serve_under c.rules (sym rule i) (r.id.cell, (row i).row))
+      ∙ may_serve_there c.rules (ask_of n) (held n.first a) (held_too n.second b) (held r.id l) p.they_call v.it_serves)

@@ -7,7 +7,7 @@ use Rattle.std.specs.Cmp.{tied_itself}
 use Rattle.std.specs.List.{flat_map}
 use Rattle.std.specs.Option.{option_map}
 use Rattle.std.specs.Ordering.{eq_by_cmp, is_eq}
-use Rattle.std.proofs.lemmas.Bool.{cases_Bool, cases_lt, false≢true}
+use Rattle.std.proofs.lemmas.Bool.{cases_Bool, cases_lt, false≢true, or_left, or_right}
 use Rattle.clr_rows.specs.declared.cells.CellId.{CellId}
 use Rattle.clr_rows.specs.declared.cells.Change.{Change}
 use Rattle.clr_rows.specs.Cells.{cell_cmp}
@@ -16,23 +16,24 @@ use Rattle.clr_rows.proofs.CellOrder.{cell_cmp_total}
 use Rattle.clr_rules.specs.declared.rules.Rule.{Rule}
 use Rattle.clr_rules.proofs.AskLemmas.{rule_there}
 use Rattle.clr_rules.proofs.Elements.{Among, among, any_by, among_either, contained}
+use Rattle.clr_grid.specs.Sharing.{may_serve_under}
 use Rattle.clr_foot.specs.declared.needs.Need.{Need}
 use Rattle.clr_foot.specs.declared.needs.VersionId.{VersionId}
 use Rattle.clr_foot.specs.declared.versions.Version.{Version}
-use Rattle.clr_foot.specs.Candidates.{IsNeedAmong, IsNeedAt, IsNeedOf, IsNeedServedBy, IsNeedWith}
+use Rattle.clr_foot.specs.Candidates.{IsNeedAmong, IsNeedAt, IsNeedOf, IsNeedServedBy, IsNeedWith, is_of_two_under}
 use Rattle.clr_foot.specs.Gains.{Gains}
 use Rattle.clr_foot.specs.Members.{ChangesCell, after_in, changed_cells, setting}
 use Rattle.clr_foot.specs.Needs.{IsBesideToo, IsChanged, IsTouched, IsTouchedBy, ask_of, held_too, is_fresh}
 use Rattle.clr_foot.specs.Settings.{Setting, Lived, changer, held, new_version, old_life, old_version, version}
 use Rattle.clr_foot.specs.Touches.{IsNear, IsNeedAtCells, IsNeedServedAmong, IsTouchedOf}
-use Rattle.clr_foot.specs.Versions.{Finds, FitsSetting, IsAt, lived, row_of, version_of}
+use Rattle.clr_foot.specs.Versions.{FindsAll, FitsSetting, IsAt, row_of, version_of}
 use Rattle.clr_foot.proofs.Gaining.{all_taken, gains_as, gains_both, gains_none, none_taken, one_more}
 use Rattle.clr_foot.proofs.Lives.{new_is, old_is}
 use Rattle.clr_foot.proofs.Merges.{IsChanger, changer_is}
 use Rattle.clr_foot.proofs.NewRows.{brought_is_listed}
 use Rattle.clr_foot.proofs.PositionLaws.{range_has}
 use Rattle.clr_foot.proofs.SharedCells.{changed_is_listed}
-use Rattle.clr_foot.proofs.TouchLaws.{alone_touched, among_touched, served_found, served_touched, with_found}
+use Rattle.clr_foot.proofs.TouchLaws.{alone_of_one, alone_with, among_served, among_with, not_served, served_found, with_found}
 
 -- ---- changed cells
 
@@ -106,7 +107,7 @@ module _ (rules : List Rule) (root : Content) (sets : List Changes) where
       old e f (inl new) = absurd (false≢true (sym (λ i. e i || f i) ∙ new))
       old e f (inr (v, l, serve, changed)) =
           let is = changed_is_old v l serve.is changed in
-          (v.cell, is.1, inr (subst (λ u. IsNeedServedBy c n.rule u n) (named v false is.0) (refl, e, f, a, b, l, p, serve)))
+          (v.cell, is.1, inr (subst (λ u. IsNeedServedBy c n.rule u n) (named v false is.0) (refl, a, b, l, p, serve)))
 
       by : (fresh : Bool) → n.first.fresh ≡ fresh → (w : Option VersionId) (m : Option (Lived ℕ)) → n.second ≡ w → IsBesideToo c n.first a w m → (q : CellId) × Contains (changed_cells sets) q × IsNeedAt c n.rule q n
       by true e w m is beside = first_new e
@@ -115,33 +116,45 @@ module _ (rules : List Rule) (root : Content) (sets : List Changes) where
       by false e (Some w) (Some m) is beside = elim (cases_Bool w.fresh) [ inl new ↦ second_new w m is beside.is new | inr f ↦ old e (ap is_fresh is ∙ f) touched ]
 
 module _ (c : Setting ℕ) (number : ℕ) where
-  pub new_gains : (fits : FitsSetting c) (new : Version) (old others : List Version) (first second third last : List Need) → IsAt c new → new.id.fresh ≡ true
-      → Finds c false (IsNear false c.rules number (row_of new)) old
-      → Finds c true (IsNear false c.rules number (row_of new)) others
-      → Gains (IsNeedOf c.rules number None new None) (IsNeedOf c.rules number None new None) first second
-      → Gains (IsNeedAmong c.rules number None new old) (IsNeedAmong c.rules number None new old) second third
-      → Gains (IsNeedAmong c.rules number None new others) (IsNeedAmong c.rules number None new others) third last
-      → Gains (IsTouched c) (IsNeedWith c number new.id) first last
-  new_gains fits new old others first second third last at fresh found found_too alone olds news =
-      gains_both (IsTouched c) (IsNeedOf c.rules number None new None) Later (IsNeedWith c number new.id) first second last (λ n w. with_found c fits number new at old others n found found_too w)
-      (gains_as (IsNeedOf c.rules number None new None) (IsNeedOf c.rules number None new None) (IsTouched c) (IsNeedOf c.rules number None new None) first second
-      (alone_touched c number new at fresh) (λ n w. w) alone)
-      (gains_both (IsTouched c) (IsNeedAmong c.rules number None new old) (IsNeedAmong c.rules number None new others) Later second third last (λ n w. w)
-      (gains_as (IsNeedAmong c.rules number None new old) (IsNeedAmong c.rules number None new old) (IsTouched c) (IsNeedAmong c.rules number None new old) second third
-      (λ n w. among_touched c number new at fresh old n found.are w) (λ n w. w) olds)
-      (gains_as (IsNeedAmong c.rules number None new others) (IsNeedAmong c.rules number None new others) (IsTouched c) (IsNeedAmong c.rules number None new others) third last
-      (λ n w. among_touched c number new at fresh others n found_too.are w) (λ n w. w) news))
-    where
-      Later : Need → Type 0
-      Later n = IsNeedAmong c.rules number None new old n ⊎ IsNeedAmong c.rules number None new others n
+  -- a version's needs
+  pub with_gains : (fits : FitsSetting c) (v : Version) (near : List Version) (first second last : List Need) → IsAt c v
+      → FindsAll c (IsNear false c.rules number (row_of v)) near
+      → Gains (IsNeedOf c.rules number None v None) (IsNeedOf c.rules number None v None) first second
+      → Gains (IsNeedAmong c.rules number None v near) (IsNeedAmong c.rules number None v near) second last
+      → Gains (IsNeedWith c number v.id) (IsNeedWith c number v.id) first last
+  with_gains fits v near first second last at found alone pairs =
+      gains_both (IsNeedWith c number v.id) (IsNeedOf c.rules number None v None) (IsNeedAmong c.rules number None v near) (IsNeedWith c number v.id) first second last (with_found c fits number v at near found)
+      (gains_as (IsNeedOf c.rules number None v None) (IsNeedOf c.rules number None v None) (IsNeedWith c number v.id) (IsNeedOf c.rules number None v None) first second
+      (alone_with c number v at) (λ n w. w) alone)
+      (gains_as (IsNeedAmong c.rules number None v near) (IsNeedAmong c.rules number None v near) (IsNeedWith c number v.id) (IsNeedAmong c.rules number None v near) second last
+      (λ n w. among_with c number v at near n found.are w) (λ n w. w) pairs)
 
-  pub changed_gains : (r : Version) (near : List Version) (old new : List Need) → IsAt c r → IsChanged (lived r).life
-      → Finds c false (IsNear false c.rules number (row_of r)) near
+  pub alone_gains : (v : Version) (told : Bool) (first last : List Need) → IsAt c v → told ≡ is_of_two_under c.rules number → told ≡ false
+      → Gains (IsNeedOf c.rules number None v None) (IsNeedOf c.rules number None v None) first last
+      → Gains (IsNeedWith c number v.id) (IsNeedWith c number v.id) first last
+  alone_gains v told first last at is fails g =
+      gains_as (IsNeedOf c.rules number None v None) (IsNeedOf c.rules number None v None) (IsNeedWith c number v.id) (IsNeedWith c number v.id) first last
+      (alone_with c number v at) (alone_of_one c number v at told is fails) g
+
+  pub served_gains : (r : Version) (near : List Version) (old new : List Need) → IsAt c r
+      → FindsAll c (IsNear false c.rules number (row_of r)) near
       → Gains (IsNeedServedAmong c.rules number r near near) (IsNeedServedAmong c.rules number r near near) old new
-      → Gains (IsTouched c) (IsNeedServedBy c number r.id) old new
-  changed_gains r near old new at changed found g =
-      gains_as (IsNeedServedAmong c.rules number r near near) (IsNeedServedAmong c.rules number r near near) (IsTouched c) (IsNeedServedBy c number r.id) old new
-      (λ n w. served_touched c number r near n at changed found.are w) (served_found c number r at near found) g
+      → Gains (IsNeedServedBy c number r.id) (IsNeedServedBy c number r.id) old new
+  served_gains r near old new at found g =
+      gains_as (IsNeedServedAmong c.rules number r near near) (IsNeedServedAmong c.rules number r near near) (IsNeedServedBy c number r.id) (IsNeedServedBy c number r.id) old new
+      (λ n w. among_served c number r at near n found.are w) (served_found c number r at near found) g
+
+  pub none_served_by : (r : Version) (told : Bool) (needs : List Need) → IsAt c r → told ≡ may_serve_under c.rules number (row_of r) → told ≡ false
+      → Gains (IsNeedServedBy c number r.id) (IsNeedServedBy c number r.id) needs needs
+  none_served_by r told needs at is fails = gains_none (IsNeedServedBy c number r.id) (IsNeedServedBy c number r.id) needs (not_served c number r at told is fails)
+
+  -- those with a new version are touched, and those that a changed one serves
+  with_touched : (v : VersionId) → v.fresh ≡ true → (n : Need) → IsNeedWith c number v n → IsTouched c n
+  with_touched v fresh n (rule, inl e, a, b, p) = (a, b, p, inl (or_left n.first.fresh (is_fresh n.second) (ap (λ u. u.fresh) e ∙ fresh)))
+  with_touched v fresh n (rule, inr e, a, b, p) = (a, b, p, inl (or_right n.first.fresh (is_fresh n.second) (ap is_fresh e ∙ fresh)))
+
+  served_touched : (v : VersionId) → ((l : Lived ℕ) → version c v ≡ Some l → IsChanged l.life) → (n : Need) → IsNeedServedBy c number v n → IsTouched c n
+  served_touched v changed n (rule, a, b, l, p, serve) = (a, b, p, inr (v, l, serve, changed l serve.is))
 
   -- ---- a cell's new version and its old one
 
@@ -165,17 +178,24 @@ module _ (c : Setting ℕ) (number : ℕ) where
   no_old q needs none = gains_none (IsTouched c) (IsNeedServedBy c number (version_of false q)) needs by
     where
       by : (n : Need) → IsNeedServedBy c number (version_of false q) n → ⊥
-      by n (rule, e, f, a, b, l, p, serve) = let clash : None ≡ Some l = sym none ∙ serve.is in cc
+      by n (rule, a, b, l, p, serve) = let clash : None ≡ Some l = sym none ∙ serve.is in cc
 
   -- whatever list stands for the last one
-  pub new_added : (q : CellId) (id : VersionId) (old new last : List Need) → id ≡ version_of true q → last ≡ new → Gains (IsTouched c) (IsNeedWith c number id) old new → Gains (IsTouched c) (IsNeedWith c number (version_of true q)) old last
-  new_added q id old new last same is g = subst (Gains (IsTouched c) (IsNeedWith c number (version_of true q)) old) (sym is) (subst (λ v. Gains (IsTouched c) (IsNeedWith c number v) old new) same g)
+  pub new_added : (q : CellId) (id : VersionId) (old new last : List Need) → id ≡ version_of true q → last ≡ new → Gains (IsNeedWith c number id) (IsNeedWith c number id) old new
+      → Gains (IsTouched c) (IsNeedWith c number (version_of true q)) old last
+  new_added q id old new last same is g = subst (Gains (IsTouched c) (IsNeedWith c number (version_of true q)) old) (sym is)
+      (gains_as (IsNeedWith c number (version_of true q)) (IsNeedWith c number (version_of true q)) (IsTouched c) (IsNeedWith c number (version_of true q)) old new (with_touched (version_of true q) refl) (λ n w. w)
+      (subst (λ v. Gains (IsNeedWith c number v) (IsNeedWith c number v) old new) same g))
 
   pub none_added : (q : CellId) (old last : List Need) → version c (version_of true q) ≡ None → last ≡ old → Gains (IsTouched c) (IsNeedWith c number (version_of true q)) old last
   none_added q old last none is = subst (Gains (IsTouched c) (IsNeedWith c number (version_of true q)) old) (sym is) (no_new q old none)
 
-  pub changed_added : (q : CellId) (id : VersionId) (old new : List Need) → id ≡ version_of false q → Gains (IsTouched c) (IsNeedServedBy c number id) old new → Gains (IsTouched c) (IsNeedServedBy c number (version_of false q)) old new
-  changed_added q id old new same g = subst (λ v. Gains (IsTouched c) (IsNeedServedBy c number v) old new) same g
+  pub changed_added : (q : CellId) (id : VersionId) (old new : List Need) → id ≡ version_of false q → ((l : Lived ℕ) → version c (version_of false q) ≡ Some l → IsChanged l.life)
+      → Gains (IsNeedServedBy c number id) (IsNeedServedBy c number id) old new
+      → Gains (IsTouched c) (IsNeedServedBy c number (version_of false q)) old new
+  changed_added q id old new same changed g =
+      gains_as (IsNeedServedBy c number (version_of false q)) (IsNeedServedBy c number (version_of false q)) (IsTouched c) (IsNeedServedBy c number (version_of false q)) old new
+      (served_touched (version_of false q) changed) (λ n w. w) (subst (λ v. Gains (IsNeedServedBy c number v) (IsNeedServedBy c number v) old new) same g)
 
   pub cell_gains : (q : CellId) (old middle new : List Need) → Gains (IsTouched c) (IsNeedWith c number (version_of true q)) old middle
       → Gains (IsTouched c) (IsNeedServedBy c number (version_of false q)) middle new

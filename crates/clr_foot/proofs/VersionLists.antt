@@ -11,9 +11,9 @@ use Rattle.clr_grid.specs.Sharing.{IsSettledFor, Settled, found_cells, row_spots
 use Rattle.clr_foot.specs.declared.versions.Version.{Version}
 use Rattle.clr_foot.specs.declared.needs.VersionId.{VersionId}
 use Rattle.clr_foot.specs.Members.{setting}
-use Rattle.clr_foot.specs.Settings.{Setting, Lived, changer, version}
+use Rattle.clr_foot.specs.Settings.{Setting, Lived, changer, held, version}
 use Rattle.clr_foot.specs.Touches.{IsInCells, IsNear}
-use Rattle.clr_foot.specs.Versions.{AreNewRowsFiled, Finds, HasVersion, IsAt, IsNamed, version_of}
+use Rattle.clr_foot.specs.Versions.{AreAt, AreNewRowsFiled, Finds, FindsAll, HasVersion, IsAt, IsNamed, version_of}
 use Rattle.clr_foot.proofs.Gaining.{all_taken, none_taken, one_more}
 use Rattle.clr_foot.proofs.Lives.{old_is}
 use Rattle.clr_foot.proofs.SharingLaws.{found_near}
@@ -85,6 +85,37 @@ module _ (c : Setting ℕ) (fresh : Bool) (cells : List CellId) where
 pub finds_as : (c : Setting ℕ) (fresh : Bool) (wanted less : Held → Type 0) (vs : List Version) → ((q : CellId) (l : Lived ℕ) → version c (version_of fresh q) ≡ Some l → less (q, l.row) → wanted (q, l.row))
     → Finds c fresh wanted vs → Finds c fresh less vs
 finds_as c fresh wanted less vs want h = record { are = h.are; alike = h.alike; every = λ q l is w. h.every q l is (want q l is w) }
+
+-- old ones and new ones
+pub finds_all : (c : Setting ℕ) (P : Held → Type 0) (old new all : List Version) → all ≡ old ++ new → Finds c false P old → Finds c true P new → FindsAll c P all
+finds_all c P old new all put found found_too = record { are = are; every = every }
+  where
+    split : (v : Version) → Contains all v → Contains old v ⊎ Contains new v
+    split v h = Contains-append_cases old new v (subst (λ vs. Contains vs v) put h)
+
+    are : AreAt c all
+    are v h = by (split v h)
+      where
+        by : Contains old v ⊎ Contains new v → IsAt c v
+        by (inl k) = found.are v k
+        by (inr k) = found_too.are v k
+
+    old_in : (id : VersionId) → HasVersion old id → HasVersion all id
+    old_in id (w, h, e) = (w, subst (λ vs. Contains vs w) (sym put) (Contains-append_left old new w h), e)
+
+    new_in : (id : VersionId) → HasVersion new id → HasVersion all id
+    new_in id (w, h, e) = (w, subst (λ vs. Contains vs w) (sym put) (Contains-append_right old new w h), e)
+
+    every : (v : VersionId) (l : Lived ℕ) → version c v ≡ Some l → P (held v l) → HasVersion all v
+    every v l is near = by v.fresh refl
+      where
+        by : (b : Bool) → v.fresh ≡ b → HasVersion all v
+        by false e =
+            let same : version_of false v.cell ≡ v = λ i. record { cell = v.cell; fresh = sym e i } in
+            old_in v (subst (HasVersion old) same (found.every v.cell l (ap (version c) same ∙ is) near))
+        by true e =
+            let same : version_of true v.cell ≡ v = λ i. record { cell = v.cell; fresh = sym e i } in
+            new_in v (subst (HasVersion new) same (found_too.every v.cell l (ap (version c) same ∙ is) near))
 
 -- ---- those that a finder finds
 

@@ -1,16 +1,17 @@
 -- Needs of versions that are held against one another, and which of them a touched need is found from.
-use Rattle.std.specs.Prelude.{◌≡◌, ℕ, Bool, true, false, ◌&&◌, ◌==◌, ◌⊎◌, List, Option, Some, None, Contains}
+use Rattle.std.specs.Prelude.{◌≡◌, ℕ, Bool, true, false, ◌&&◌, ◌==◌, ◌⊎◌, List, Option, Some, None, Contains, slice_get}
 use Rattle.std.specs.Option.{option_map}
 use Rattle.std.specs.declared.cmp.Ordering.TheVariants.{Less}
 use Rattle.clr_rows.specs.declared.cells.CellId.{CellId}
 use Rattle.clr_rows.specs.Cells.{cell_cmp}
 use Rattle.clr_rules.specs.declared.needs.Ask.{Ask}
 use Rattle.clr_rules.specs.declared.rules.Rule.{Rule}
+use Rattle.clr_rules.specs.declared.rules.Rule.TheVariants.{Partner, EndNode}
 use Rattle.clr_rules.specs.Calls.{calls, serves}
 use Rattle.clr_foot.specs.declared.needs.Need.{Need}
 use Rattle.clr_foot.specs.declared.needs.VersionId.{VersionId}
 use Rattle.clr_foot.specs.declared.versions.Version.{Version}
-use Rattle.clr_foot.specs.Needs.{AreOpposed, IsPossible, Serves, ask_of, is_fresh}
+use Rattle.clr_foot.specs.Needs.{AreOpposed, IsPossible, Serves, ask_of}
 use Rattle.clr_foot.specs.Settings.{Setting, Lifetime, With, Without, Lived}
 use Rattle.clr_foot.specs.Versions.{lived, row_of, version_of}
 
@@ -18,6 +19,19 @@ abbrev pub are_opposed : Lifetime ℕ → Lifetime ℕ → Bool
 are_opposed (With m) (Without n) = m == n
 are_opposed (Without m) (With n) = m == n
 are_opposed _ _ = false
+
+-- the rule is asked of two rows
+abbrev pub is_of_two : Rule → Bool
+is_of_two (Partner subject columns server server_columns) = false
+is_of_two (EndNode subject tip server) = false
+is_of_two _ = true
+
+abbrev pub is_of_two_by : Option Rule → Bool
+is_of_two_by None = false
+is_of_two_by (Some rule) = is_of_two rule
+
+unfoldable pub is_of_two_under : List Rule → ℕ → Bool
+is_of_two_under rules number = is_of_two_by (slice_get rules number)
 
 abbrev pub id_of : Version → VersionId
 id_of v = v.id
@@ -73,10 +87,9 @@ IsSubject n v = (n.first ≡ v) ⊎ (n.second ≡ Some v)
 abbrev pub IsNeedWith : Setting ℕ → ℕ → VersionId → Need → Type 0
 IsNeedWith c number v n = (n.rule ≡ number) × IsSubject n v × (a : Lived ℕ) × (b : Option (Lived ℕ)) × IsPossible c n a b
 
--- a possible need of old subjects that this version serves
+-- a possible need that this version serves
 abbrev pub IsNeedServedBy : Setting ℕ → ℕ → VersionId → Need → Type 0
-IsNeedServedBy c number v n = (n.rule ≡ number) × (n.first.fresh ≡ false) × (is_fresh n.second ≡ false)
-    × (a : Lived ℕ) × (b : Option (Lived ℕ)) × (l : Lived ℕ) × IsPossible c n a b × Serves c n a b v l
+IsNeedServedBy c number v n = (n.rule ≡ number) × (a : Lived ℕ) × (b : Option (Lived ℕ)) × (l : Lived ℕ) × IsPossible c n a b × Serves c n a b v l
 
 -- with the new version of a cell, or served by its old one
 abbrev pub IsNeedAt : Setting ℕ → ℕ → CellId → Need → Type 0

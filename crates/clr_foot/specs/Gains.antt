@@ -6,3 +6,7 @@ pub record Gains {X : Type 0} (allowed wanted : X → Type 0) (old new : List X)
   pub kept : (x : X) → Contains old x → Contains new x
   pub only : (x : X) → Contains new x → Contains old x ⊎ allowed x
   pub every : (x : X) → wanted x → Contains new x
+
+-- what is made of one of some things
+abbrev pub OfSome : {X Y : Type 0} → (Y → X → Type 0) → List Y → X → Type 0
+OfSome {X} {Y} P ys x = (y : Y) × Contains ys y × P y x

@@ -1,5 +1,5 @@
 -- Members that no possible need ties to one another.
-use Rattle.std.specs.Prelude.{◌≡◌, Option, Some, None, ◌⊎◌}
+use Rattle.std.specs.Prelude.{◌≡◌, Bool, true, false, Option, Some, None, ◌⊎◌}
 use Rattle.clr_foot.specs.declared.needs.Need.{Need}
 use Rattle.clr_foot.specs.declared.needs.VersionId.{VersionId}
 use Rattle.clr_foot.specs.Needs.{IsPossible, Serves}
@@ -22,3 +22,8 @@ Involves {A} c n a b x = Names a.life x ⊎ (NamesToo b x ⊎ ((v : VersionId) �
 -- some possible need involves both members
 abbrev pub AreDependent : {A : Type 0} → Setting A → A → A → Type 0
 AreDependent {A} c x y = (n : Need) × (a : Lived A) × (b : Option (Lived A)) × IsPossible c n a b × Involves c n a b x × Involves c n a b y
+
+-- whether no possible need involves both
+abbrev pub IsIndependence : {A : Type 0} → Setting A → A → A → Bool → Type 0
+IsIndependence c x y true = ¬ (AreDependent c x y)
+IsIndependence c x y false = AreDependent c x y

@@ -4,6 +4,7 @@ pub mod Candidates
 pub mod Covers
 pub mod Gains
 pub mod Independence
+pub mod Involvement
 pub mod Laws
 pub mod Members
 pub mod Needs
@@ -14,3 +15,4 @@ pub mod Scenes
 pub mod Settings
 pub mod Touches
 pub mod Versions
+pub mod Witnesses

@@ -54,6 +54,11 @@ pub record Finds (c : Setting ℕ) (fresh : Bool) (wanted : Held → Type 0) (vs
   pub alike : (v : Version) → Contains vs v → v.id.fresh ≡ fresh
   pub every : (q : CellId) (l : Lived ℕ) → version c (version_of fresh q) ≡ Some l → wanted (q, l.row) → HasVersion vs (version_of fresh q)
 
+-- versions of a setting, old and new, among them each whose row is wanted
+pub record FindsAll (c : Setting ℕ) (wanted : Held → Type 0) (vs : List Version) : Type 0 where
+  pub are : AreAt c vs
+  pub every : (v : VersionId) (l : Lived ℕ) → version c v ≡ Some l → wanted (held v l) → HasVersion vs v
+
 -- the new version of a cell, if members bring one
 abbrev pub new_version_at : List Changes → CellId → Option (Lived ℕ)
 new_version_at sets q = new_version (after_of sets) q (first_changer (after_of sets) (positions sets) q)

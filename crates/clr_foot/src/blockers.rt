@@ -1,13 +1,15 @@
 //! The members that break a need.
 
-ghost use Rattle.std.specs.Prelude.{◌≡◌, true, Contains, IfOk, MatchOption};
+ghost use Rattle.std.specs.Prelude.{◌≡◌, IfOk};
+ghost use Rattle.std.specs.List.Sorted.{IsStrictlySortedBy};
 ghost use Rattle.clr_foot.specs.Blocking.{IsToldBlocker, has_life, has_life_too, same_life};
 ghost use Rattle.clr_foot.specs.Members.{lifetime};
 ghost use Rattle.clr_foot.specs.Needs.{AreServers, IsPossibleNeed};
+ghost use Rattle.clr_foot.specs.Orders.{version_cmp};
 ghost use Rattle.clr_foot.specs.Picks.{Blocks};
 ghost use Rattle.clr_foot.specs.Scenes.{IsReady, model_of, setting_in, setting_of};
-ghost use Rattle.clr_foot.specs.Settings.{With, version};
-ghost use Rattle.clr_foot.specs.declared.needs.VersionId.{VersionId as Id};
+ghost use Rattle.clr_foot.specs.Settings.{version};
+ghost use Rattle.clr_foot.specs.Witnesses.{IsLeastPassing, has_life_at};
 
 use crate::needs::{Life, Need, VersionId};
 use crate::scenes::Scene;
@@ -16,7 +18,7 @@ use clr_rows::RowView;
 use std::alloc::AllocError;
 
 /// Whether two lives are one.
-fn are_same(one: Life, other: Life) -> bool
+pub(crate) fn are_same(one: Life, other: Life) -> bool
     ensures { result ≡ same_life (lifetime one) (lifetime other) }
 {
     match (one, other) {
@@ -38,10 +40,10 @@ impl<V: RowView, F: RowFinder> Scene<'_, V, F> {
         }
     }
 
-    /// The first of some versions that has this life.
-    fn first_with_life(&self, ids: &[VersionId], life: Life) -> Option<VersionId>
-        ensures { MatchOption result ((v : Id) → Contains ids.now v → has_life (lifetime life) (version (setting_in V.content self.now) v) ≡ true → ⊥)
-            (λ v. Contains ids.now v × (has_life (lifetime life) (version (setting_in V.content self.now) v) ≡ true)) }
+    /// The least of some ascending versions that has this life.
+    pub(crate) fn least_with_life(&self, ids: &[VersionId], life: Life) -> Option<VersionId>
+        requires ascending { IsStrictlySortedBy version_cmp ids.now }
+        ensures { IsLeastPassing (has_life_at (lifetime life) (setting_in V.content self.now)) ids.now result }
     {
         for id in ids {
             if self.has_life(*id, life) {
@@ -51,11 +53,10 @@ impl<V: RowView, F: RowFinder> Scene<'_, V, F> {
         None
     }
 
-    /// Whether a member brings a subject of a possible need.
-    fn brings_subject(&self, need: &Need, position: u16) -> bool
-        ensures { result ≡ has_life_too (With position) (setting_in V.content self.now) need.now }
+    /// Whether a subject of a possible need has this life.
+    pub(crate) fn has_subject_with(&self, need: &Need, life: Life) -> bool
+        ensures { result ≡ has_life_too (lifetime life) (setting_in V.content self.now) need.now }
     {
-        let life = Life::With(position);
         match need.second {
             None => self.has_life(need.first, life),
             Some(second) => self.has_life(need.first, life) || self.has_life(second, life),
@@ -68,10 +69,10 @@ impl<V: RowView, F: RowFinder> Scene<'_, V, F> {
         requires servers { AreServers (setting_in V.content self.now) need.now servers.now }
         ensures { IsToldBlocker (setting_in V.content self.now) need.now position result }
     {
-        if self.brings_subject(need, position) {
+        if self.has_subject_with(need, Life::With(position)) {
             return true;
         }
-        match self.first_with_life(servers, Life::Without(position)) {
+        match self.least_with_life(servers, Life::Without(position)) {
             None => false,
             Some(_) => true,
         }

@@ -182,7 +182,7 @@ impl<V: RowView, F: RowFinder> Scene<'_, V, F> {
         Ok(())
     }
 
-    /// Adds the needs of a version with each of some others.
+    /// Adds the needs of a version with each of some others, where the rule is asked of two.
     pub(crate) fn add_pairs(
         &self,
         rule: u16,
@@ -199,6 +199,9 @@ impl<V: RowView, F: RowFinder> Scene<'_, V, F> {
         ensures { OnOk result (Gains (IsNeedAmong self.now.book.now rule server.entry one.entry others.now)
             (IsNeedAmong self.now.book.now rule server.entry one.entry others.now) needs.old.items needs.new.items) }
     {
+        if !self.is_of_two(rule) {
+            return Ok(());
+        }
         for other in others {
             self.add_pair(rule, server, one, *other, needs)?;
         }

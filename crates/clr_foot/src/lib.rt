@@ -1,14 +1,18 @@
 //! Versions of rows over a root and its members' changes, and the needs that the changes touch.
 #![tactic(auto)]
 
+mod asks;
 mod blockers;
 mod breaks;
 mod candidates;
 mod faults;
+mod independence;
+mod involvement;
 mod laws;
 mod lists;
 mod members;
 mod needs;
+mod picks;
 mod scene_versions;
 mod scenes;
 mod servers;

@@ -33,7 +33,7 @@ pub(crate) struct Members<'a> {
 }
 
 /// Adds the cells that a change set changes.
-fn add_cells(set: &ChangeSet, cells: &mut Vec<CellId>) -> Result<(), AllocError>
+pub(crate) fn add_cells(set: &ChangeSet, cells: &mut Vec<CellId>) -> Result<(), AllocError>
     ensures { OnOk result (cells.new.items ≡ cells.old.items ++ finite.keys set.now) }
 {
     for (cell, _) in set.iter() {

@@ -1,16 +1,16 @@
 //! The needs that changes touch: each new version is held against the versions that share with it,
-//! and each changed one is tried as a server of the old versions that share with it.
+//! and each changed one is tried as a server of versions that share with it.
 
-ghost use Rattle.std.specs.Prelude.{◌≡◌, ◌<◌, ◌∷◌, [], true, false, length, Contains, IfOk, OnOk};
+ghost use Rattle.std.specs.Prelude.{◌≡◌, ◌<◌, ◌∷◌, [], false, true, length, Contains, IfOk, OnOk};
 ghost use Rattle.clr_grid.specs.Sharing.{found_cells, rule_spots};
 ghost use Rattle.clr_rows.specs.Held.{held_of};
 ghost use Rattle.clr_rules.specs.Books.{FitTogether};
 ghost use Rattle.clr_foot.specs.Candidates.{IsNeedAt, IsNeedServedBy, IsNeedWith};
 ghost use Rattle.clr_foot.specs.Gains.{Gains};
-ghost use Rattle.clr_foot.specs.Needs.{AreTouchedNeeds, IsChanged, IsTouched};
+ghost use Rattle.clr_foot.specs.Needs.{AreTouchedNeeds, IsTouched};
 ghost use Rattle.clr_foot.specs.Scenes.{IsReady, model_of, setting_in, setting_of};
 ghost use Rattle.clr_foot.specs.Touches.{IsInCells, IsNear, IsNeedServedAmong, IsTouchedOf};
-ghost use Rattle.clr_foot.specs.Versions.{AreAt, Finds, FitsSetting, IsAt, lived, row_of};
+ghost use Rattle.clr_foot.specs.Versions.{AreAt, Finds, FindsAll, FitsSetting, IsAt, row_of};
 
 use crate::lists::put_in_order;
 use crate::needs::{Need, VersionId};
@@ -88,20 +88,39 @@ impl<V: RowView, F: RowFinder> Scene<'_, V, F> {
         Ok(list)
     }
 
-    /// Adds the needs of a new version: alone, with old versions and with new ones.
-    fn add_of_new(&self, rule: u16, new: Version, needs: &mut Vec<Need>) -> Result<(), AllocError>
+    /// The versions, old and new, whose rows share with that of a version.
+    fn all_near(&self, rule: u16, version: Version) -> Result<Vec<Version<'_>>, AllocError>
         requires number { rule < length self.now.book.now }
         requires ready { IsReady F.settled (model_of V.content self.now) }
-        requires at { IsAt (setting_in V.content self.now) new }
-        requires fresh { new.id.fresh ≡ true }
-        ensures { OnOk result (Gains (IsTouched (setting_in V.content self.now)) (IsNeedWith (setting_in V.content self.now) rule new.entry.id)
-            needs.old.items needs.new.items) }
+        requires at { IsAt (setting_in V.content self.now) version }
+        ensures { IfOk result (λ list. FindsAll (setting_in V.content self.now) (IsNear false self.now.book.now rule (row_of version.entry)) list.items) }
     {
-        self.add_alone(rule, None, new, needs)?;
-        let old = self.old_near(rule, false, new)?;
-        self.add_pairs(rule, None, new, old.as_slice(), needs)?;
-        let others = self.new_near(rule, false, new)?;
-        self.add_pairs(rule, None, new, others.as_slice(), needs)?;
+        let mut list = self.old_near(rule, false, version)?;
+        let new = self.new_near(rule, false, version)?;
+        list.extend_from_slice(new.as_slice())?;
+        Ok(list)
+    }
+
+    /// Adds the possible needs with a version among their subjects: alone, or beside a version that
+    /// shares with it.
+    pub(crate) fn add_with(
+        &self,
+        rule: u16,
+        version: Version,
+        needs: &mut Vec<Need>,
+    ) -> Result<(), AllocError>
+        requires number { rule < length self.now.book.now }
+        requires ready { IsReady F.settled (model_of V.content self.now) }
+        requires at { IsAt (setting_in V.content self.now) version }
+        ensures { OnOk result (Gains (IsNeedWith (setting_in V.content self.now) rule version.entry.id)
+            (IsNeedWith (setting_in V.content self.now) rule version.entry.id) needs.old.items needs.new.items) }
+    {
+        self.add_alone(rule, None, version, needs)?;
+        if !self.is_of_two(rule) {
+            return Ok(());
+        }
+        let near = self.all_near(rule, version)?;
+        self.add_pairs(rule, None, version, near.as_slice(), needs)?;
         Ok(())
     }
 
@@ -127,8 +146,8 @@ impl<V: RowView, F: RowFinder> Scene<'_, V, F> {
         Ok(())
     }
 
-    /// Adds the needs of old versions that a changed one serves.
-    fn add_of_changed(
+    /// Adds the possible needs that a version serves.
+    pub(crate) fn add_served_by(
         &self,
         rule: u16,
         server: Version,
@@ -137,11 +156,13 @@ impl<V: RowView, F: RowFinder> Scene<'_, V, F> {
         requires number { rule < length self.now.book.now }
         requires ready { IsReady F.settled (model_of V.content self.now) }
         requires at { IsAt (setting_in V.content self.now) server }
-        requires changed { IsChanged (lived server).life }
-        ensures { OnOk result (Gains (IsTouched (setting_in V.content self.now)) (IsNeedServedBy (setting_in V.content self.now) rule server.entry.id)
-            needs.old.items needs.new.items) }
+        ensures { OnOk result (Gains (IsNeedServedBy (setting_in V.content self.now) rule server.entry.id)
+            (IsNeedServedBy (setting_in V.content self.now) rule server.entry.id) needs.old.items needs.new.items) }
     {
-        let near = self.old_near(rule, false, server)?;
+        if !self.may_serve(rule, server) {
+            return Ok(());
+        }
+        let near = self.all_near(rule, server)?;
         self.add_served(rule, server, near.as_slice(), needs)?;
         Ok(())
     }
@@ -156,10 +177,10 @@ impl<V: RowView, F: RowFinder> Scene<'_, V, F> {
             needs.old.items needs.new.items) }
     {
         if let Some(new) = self.version(VersionId { cell, fresh: true }) {
-            self.add_of_new(rule, new, needs)?;
+            self.add_with(rule, new, needs)?;
         }
         if let Some(old) = self.version(VersionId { cell, fresh: false }) {
-            self.add_of_changed(rule, old, needs)?;
+            self.add_served_by(rule, old, needs)?;
         }
         Ok(())
     }

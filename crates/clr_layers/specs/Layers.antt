@@ -7,7 +7,7 @@ use Rattle.std.specs.FinMap as finite
 use Rattle.std.specs.Str.{bytes_eq}
 use Rattle.clr_rows.specs.declared.cells.CellId.{CellId}
 use Rattle.clr_rows.specs.Contents.{Content, no_rows}
-use Rattle.clr_differences.specs.Differences.{Differences, Rows, coded_differences, no_differences, put_each, seen_over, HasEntry}
+use Rattle.clr_differences.specs.Differences.{Differences, Rows, coded_differences, no_differences, put_each, seen_over, swept, HasEntry}
 use Rattle.clr_layers.specs.Marks.{Name, Mark, Saved, ChildMark, coded_name}
 use Rattle.clr_layers.specs.Workspaces.{Workspace}
 use Rattle.clr_layers.specs.declared.stored_marks.StoredMark.{StoredMark}
@@ -103,6 +103,15 @@ stored_without_mark_of child marks = filter (λ m. not (is_stored_mark_of child 
 abbrev pub saved_differences : StoredMark → Differences
 saved_differences (stored.Saved name d) = d
 saved_differences (stored.Child name) = no_differences
+
+-- a mark without the entries that have the row of the base
+abbrev pub swept_mark : Content → StoredMark → StoredMark
+swept_mark base (stored.Saved name d) = stored.Saved name (swept base d)
+swept_mark base (stored.Child name) = stored.Child name
+
+-- how many entries a mark has
+abbrev pub entries_of_mark : StoredMark → ℕ
+entries_of_mark mark = length (finite.keys (saved_differences mark))
 
 abbrev pub MarkHolds : CellId → StoredMark → Type 0
 MarkHolds cell (stored.Saved name d) = HasEntry d cell

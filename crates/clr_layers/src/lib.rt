@@ -4,5 +4,7 @@
 mod stored_marks;
 mod workspace_maps;
 
-pub use stored_marks::{StoredMark, count_marks_of, count_saved, find_saved, has_child_after};
+pub use stored_marks::{
+    StoredMark, count_marks_of, count_saved, find_saved, has_child_after, sweep_each,
+};
 pub use workspace_maps::{Layer, WorkspaceMap};

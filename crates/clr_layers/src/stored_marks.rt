@@ -3,11 +3,11 @@ ghost use Rattle.std.specs.List.{list_any};
 ghost use Rattle.std.specs.Option.{option_copied};
 ghost use Rattle.clr_rows.specs.Contents.{Content, row_at};
 ghost use Rattle.clr_layers.specs.Layers.{whole_mark, is_stored_child, is_stored_saved, is_stored_saved_as, is_stored_mark_of};
-ghost use Rattle.clr_layers.specs.Layers.{stored_without_mark_of, MarkHolds, EachMarkHolds};
+ghost use Rattle.clr_layers.specs.Layers.{stored_without_mark_of, swept_mark, MarkHolds, EachMarkHolds};
 ghost use Rattle.clr_layers.specs.declared.stored_marks.StoredMark.TheVariants.{Child};
 
 use clr_differences::Differences;
-use clr_rows::{CellId, Row, Words};
+use clr_rows::{CellId, Row, RowView, Words};
 use std::alloc::AllocError;
 
 /// A mark as it is stored: a savepoint by its differences from the base, or the mark that the
@@ -42,6 +42,25 @@ pub(crate) fn hold_each(
         hold(&mut marks[i], cell, row)?;
     }
     Ok(())
+}
+
+fn sweep<V: RowView>(mark: &mut StoredMark, base: &V)
+    ensures { mark.new ≡ swept_mark (V.content base.now) mark.old }
+{
+    match mark {
+        StoredMark::Saved(_, differences) => differences.sweep(base),
+        StoredMark::Child(_) => {}
+    }
+}
+
+/// Takes away each entry of a savepoint that has the row of the base, so that no savepoint's
+/// content over that base changes. It takes no memory.
+pub fn sweep_each<V: RowView>(marks: &mut Vec<StoredMark>, base: &V)
+    ensures { marks.new.items ≡ map (swept_mark (V.content base.now)) marks.old.items }
+{
+    for i in 0..marks.len() {
+        sweep(&mut marks[i], base);
+    }
 }
 
 fn is_child(mark: &StoredMark) -> bool

@@ -322,6 +322,16 @@ impl WorkspaceMap {
         mem::replace(&mut layer.current, current)
     }
 
+    /// Replaces the marks of a workspace, and answers the old ones.
+    pub fn replace_marks(&mut self, at: usize, marks: Vec<StoredMark>) -> Vec<StoredMark>
+        requires { at < length self.old }
+        ensures before { result.items ≡ (layer_at self.old at).marks }
+        ensures new { self.new ≡ layer_changed self.old at (λ l. record l { marks = marks.items }) }
+    {
+        let (_, layer) = self.map.pair_mut(at);
+        mem::replace(&mut layer.marks, marks)
+    }
+
     /// Puts a mark at the end. It fails for want of memory alone, and changes nothing then.
     pub fn push_mark(&mut self, at: usize, mark: StoredMark) -> Result<(), AllocError>
         requires { at < length self.old }

@@ -1,5 +1,5 @@
 -- What a script prints over an office, by what is read of the two texts.
-use Rattle.std.proofs.Common.{◌≡◌, ℕ, Bool, List, Option, Some, None, Result, Ok, Err, sym, ap, ◌∙◌}
+use Rattle.std.proofs.Common.{◌≡◌, ℕ, Bool, List, Some, None, Result, Ok, sym, ap, ◌∙◌}
 use Rattle.clr_rules.specs.declared.needs.Broken.{Broken}
 use Rattle.clr_steps.specs.Offices.{Office}
 use Rattle.clr_engine.specs.Drafts.{unheld_in}
@@ -7,9 +7,10 @@ use Rattle.clr_scripts.specs.declared.faults.RecordFault.{RecordFault}
 use Rattle.clr_scripts.specs.declared.steps.Step.{Step}
 use Rattle.clr_scripts.specs.Scripts.{script_in_text}
 use Rattle.clr_lines.specs.Reports.{unheld_text}
+use Rattle.clr_drafts.specs.Drafts.{draft_in}
 use Rattle.clr_office.specs.declared.faults.RunFault.{RunFault}
 use Rattle.clr_office.specs.declared.faults.RunFault.TheVariants as run_fault
-use Rattle.clr_office.specs.Outcomes.{Outcome, outcome, script_outcome, status_of, draft_in, name_below_live, with_draft, with_unheld, with_steps, interpretation}
+use Rattle.clr_office.specs.Outcomes.{Outcome, outcome, script_outcome, status_of, name_below_live, with_draft, with_unheld, with_steps, interpretation}
 use Rattle.clr_office.specs.Outcomes.{IsInterpretationFault, IsOfficeFault, IsScriptFault}
 
 pub office_refused : (office script : List ℕ) (e : RunFault) → IsOfficeFault (draft_in office) e → IsInterpretationFault (interpretation office script) e

@@ -2,3 +2,4 @@ pub mod Interpretations
 pub mod Lines
 pub mod ScriptOutcomes
 pub mod Sessions
+pub mod WorkspaceLines

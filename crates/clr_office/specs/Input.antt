@@ -3,7 +3,7 @@ use Rattle.std.specs.Prelude.{◌≡◌, ℕ, ◌≤◌, ◌<◌, List, length, 
 use Rattle.std.specs.Io.KnownBytes.{Consumes, IsAtEnd}
 use Rattle.clr_office.specs.declared.faults.RunFault.{RunFault}
 use Rattle.clr_office.specs.declared.faults.RunFault.TheVariants as fault
-use Rattle.clr_office.specs.declared.read_input.TheConstants.{MOST_INPUT_BYTES}
+use Rattle.clr_office.specs.declared.reading.TheConstants.{MOST_INPUT_BYTES}
 
 -- the reader gave this text and is at its end, and the text is within the limit
 abbrev pub GivesInput : Option (List ℕ) → Option (List ℕ) → List ℕ → Type 0

@@ -1,3 +1,4 @@
+pub mod Answers
 pub mod Devices
 pub mod Input
 pub mod Outcomes

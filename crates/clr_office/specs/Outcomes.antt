@@ -1,14 +1,16 @@
 -- What a script prints over an office, and the exit status.
 use Rattle.std.specs.Prelude.{◌≡◌, ℕ, zero, suc, Bool, false, true, ◌||◌, List, [], ◌∷◌, ◌++◌, Option, Some, None, Result, Ok, Err}
-use Rattle.std.specs.Prelude.{if◌then◌else◌, length, nat_lt}
+use Rattle.std.specs.Prelude.{⊤, codes, if◌then◌else◌, length, map, nat_lt, unwrap_or}
+use Rattle.std.specs.FinMap as finite
+use Rattle.std.specs.List.{flat_map}
 use Rattle.clr_rules.specs.declared.needs.Broken.{Broken}
 use Rattle.clr_rules.specs.Needs.{broken}
-use Rattle.clr_layers.specs.Layers.{Layer}
 use Rattle.clr_layers.specs.Marks.{Name}
 use Rattle.clr_steps.specs.declared.commands.Reply.{Reply}
 use Rattle.clr_steps.specs.declared.commands.Reply.TheVariants.{Done, NoWorkspace}
-use Rattle.clr_steps.specs.Offices.{Office, stands, content_of}
-use Rattle.clr_steps.specs.Readings.{changes_in, name_at}
+use Rattle.clr_steps.specs.Names.{is_live}
+use Rattle.clr_steps.specs.Offices.{Office, content_of, is_kept, stands}
+use Rattle.clr_steps.specs.Readings.{changes_in, conflicts_in, name_at, parent_in}
 use Rattle.clr_steps.specs.Steps.{step}
 use Rattle.clr_engine.specs.Drafts.{unheld_in}
 use Rattle.clr_scripts.specs.declared.faults.RecordFault.{RecordFault}
@@ -17,11 +19,11 @@ use Rattle.clr_scripts.specs.declared.steps.Step.TheVariants.{Act, Report}
 use Rattle.clr_scripts.specs.declared.steps.Word.TheVariants as word
 use Rattle.clr_scripts.specs.Scripts.{script_in_text}
 use Rattle.clr_lines.specs.Replies.{reply_text}
-use Rattle.clr_lines.specs.Reports.{audit_text, changes_text, unheld_text}
+use Rattle.clr_lines.specs.Reports.{audit_text, changes_text, conflicts_text, count_line, unheld_text, workspace_text}
 use Rattle.clr_lines.specs.Rows.{rows_text}
 use Rattle.clr_office_text.specs.declared.faults.TextFault.{TextFault}
-use Rattle.clr_office_text.specs.declared.faults.TextFault.TheVariants.{BadPart}
-use Rattle.clr_office_text.specs.Offices.{OfficeText, office_in}
+use Rattle.clr_drafts.specs.Drafts.{draft_in}
+use Rattle.clr_office_writer.specs.Writing.{written}
 use Rattle.clr_office.specs.declared.faults.RunFault.{RunFault}
 use Rattle.clr_office.specs.declared.faults.RunFault.TheVariants as run_fault
 
@@ -56,15 +58,47 @@ show_outcome o name = report_outcome o name (rows_text o.schema (content_of o na
 unfoldable pub changes_outcome : Office → Name → Outcome
 changes_outcome o name = report_outcome o name (changes_text o.schema (changes_in o name)) false
 
+-- the cells that are in conflict with its parent
+unfoldable pub conflicts_outcome : Office → Name → Outcome
+conflicts_outcome o name = report_outcome o name (conflicts_text o.schema (conflicts_in o name)) false
+
 -- the needs of its rows that no row serves; one such need counts as a refusal
 unfoldable pub audit_outcome : Office → Name → Outcome
 audit_outcome o name = let needs = broken o.book (content_of o name) in report_outcome o name (audit_text o.schema needs) (nat_lt 0 (length needs))
+
+-- a workspace: how many changes it has, and how many cells are in conflict with its parent
+abbrev pub workspace_line : Office → Name → List ℕ
+workspace_line o name =
+    workspace_text name (unwrap_or (parent_in o name) []) (length (finite.keys (changes_in o name))) (length (conflicts_in o name)) (is_kept o name)
+
+-- the names of the workspaces under LIVE, in order of creation
+abbrev pub names_below_live : Office → List Name
+names_below_live o = map (λ w. w.name) o.workspaces
+
+-- how many workspaces there are under LIVE, and then each
+unfoldable pub workspaces_text : Office → List ℕ
+workspaces_text o = count_line (codes "workspaces") (length o.workspaces) ++ flat_map (workspace_line o) (names_below_live o)
+
+abbrev pub workspaces_outcome : Office → Outcome
+workspaces_outcome o = outcome (workspaces_text o) false o
+
+-- the text of the whole office, a line
+abbrev pub dump_outcome : Office → Outcome
+dump_outcome o = outcome (written o ++ codes "\n") false o
+
+-- what is unfolded to compare what is shown by name
+unfoldable pub by_name : ⊤
+unfolding show_outcome stands content_of is_live
+by_name = tt
 
 unfoldable pub step_outcome : Office → Step → Outcome
 step_outcome o (Act command) = let a = step o command in outcome (reply_text a.office.schema a.reply) (is_refused a.reply) a.office
 step_outcome o (Report word.Show names) = show_outcome o (first_name names)
 step_outcome o (Report word.Changes names) = changes_outcome o (first_name names)
+step_outcome o (Report word.Conflicts names) = conflicts_outcome o (first_name names)
 step_outcome o (Report word.Audit names) = audit_outcome o (first_name names)
+step_outcome o (Report word.Workspaces names) = workspaces_outcome o
+step_outcome o (Report word.Dump names) = dump_outcome o
 
 -- steps one after another, each in the office that the one before left
 unfoldable pub script_outcome : Office → List Step → Outcome
@@ -84,19 +118,6 @@ status_of refused = if refused then 1 else 0
 abbrev pub exit_status : RunFault → ℕ
 exit_status run_fault.OutOfMemory = 3
 exit_status e = 2
-
--- an office of LIVE alone; texts with workspaces give none yet
-abbrev pub draft_without : OfficeText → List Layer → Result Office TextFault
-draft_without text [] = Ok (record { schema = text.schema; book = text.book; live = text.live; workspaces = [] })
-draft_without text (layer ∷ layers) = Err BadPart
-
-abbrev pub draft_of : Result OfficeText TextFault → Result Office TextFault
-draft_of (Err fault) = Err fault
-draft_of (Ok text) = draft_without text text.layers
-
--- the office of a text, in which the rules may not hold
-unfoldable pub draft_in : List ℕ → Result Office TextFault
-draft_in text = draft_of (office_in text)
 
 abbrev pub with_steps : Office → Result (List Step) (ℕ × RecordFault) → Result (List ℕ × ℕ) RunFault
 with_steps o (Err (number, fault)) = Err (run_fault.BadScript number fault)

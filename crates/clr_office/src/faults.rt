@@ -2,7 +2,7 @@ ghost use Rattle.std.specs.Prelude.{◌≡◌};
 ghost use Rattle.clr_office.specs.Outcomes.{exit_status};
 ghost use Rattle.clr_office.specs.declared.faults.RunFault.TheVariants as run_fault;
 
-use clr_office_text::TextFault;
+use clr_drafts::TextFault;
 use clr_scripts::RecordFault;
 use std::alloc::{AllocError, AllocFailed};
 use thiserror::Error;

@@ -1,47 +1,26 @@
-ghost use Rattle.std.specs.Prelude.{◌≡◌, ◌≢◌, [], Ok, IfOk, IfErr};
+ghost use Rattle.std.specs.Prelude.{◌≡◌, ◌≢◌, Ok, IfOk, IfErr};
 ghost use Rattle.clr_scripts.specs.Scripts.{script_in_text};
 ghost use Rattle.clr_lines.specs.Reports.{unheld_text};
-ghost use Rattle.clr_office_text.specs.Fits.{FitsOffice};
-ghost use Rattle.clr_office_text.specs.Offices.{office_read};
-ghost use Rattle.clr_office.specs.declared.faults.RunFault.TheVariants as run_fault;
-ghost use Rattle.clr_office.specs.Outcomes.{draft_in, interpretation, IsInterpretationFault, IsOfficeFault, IsScriptFault, name_below_live, with_steps};
+ghost use Rattle.clr_drafts.specs.Drafts.{draft_in};
+ghost use Rattle.clr_office.specs.Outcomes.{interpretation, IsInterpretationFault, IsOfficeFault, IsScriptFault, name_below_live, with_steps};
 
 use crate::faults::RunFault;
 use crate::run_script::run_script;
+use clr_drafts::{TextFault, read_office};
 use clr_engine::{AdmitFault, Broken, Draft, Office};
 use clr_lines::unheld_line;
-use clr_office_text::{OfficeParts, TextFault, read_office};
 use clr_rows::Schema;
 use clr_scripts::{RecordFault, Step, read_script};
 use std::alloc::{AllocError, Global};
 
-/// The draft of what was read of an office without workspaces. It fails for want of memory alone.
-fn draft_of_live(alloc: Global, parts: OfficeParts) -> Result<Draft, RunFault>
-    requires { FitsOffice (office_read parts) }
-    ensures draft { IfOk result (λ draft. draft ≡ record { schema = parts.schema; book = parts.book; live = parts.live; workspaces = [] }) }
-    ensures fault { IfErr result (λ e. e ≡ run_fault.OutOfMemory) }
-{
-    match Draft::build(alloc, parts.schema, parts.book, parts.live, Vec::new(alloc)) {
-        Ok(draft) => Ok(draft),
-        Err(_) => Err(RunFault::OutOfMemory),
-    }
-}
-
 /// Reads an office text, in which the rules may not hold. Fails with `BadOffice` where it is no
-/// office, or has workspaces, and with `OutOfMemory` for want of memory.
-#[tactic(auto, unfolding(crate::specs::Outcomes::draft_in))]
-fn draft_of(alloc: Global, office: &[u8]) -> Result<Draft, RunFault>
+/// office, and with `OutOfMemory` for want of memory.
+pub fn draft_of(alloc: Global, office: &[u8]) -> Result<Draft, RunFault>
     ensures draft { IfOk result (λ draft. draft_in office.now ≡ Ok draft) }
     ensures fault { IfErr result (λ e. IsOfficeFault (draft_in office.now) e) }
 {
     match read_office(alloc, office) {
-        Ok(parts) => {
-            if parts.workspaces.is_empty() {
-                draft_of_live(alloc, parts)
-            } else {
-                Err(RunFault::BadOffice(TextFault::BadPart))
-            }
-        }
+        Ok(draft) => Ok(draft),
         Err(TextFault::OutOfMemory) => Err(RunFault::OutOfMemory),
         Err(fault) => Err(RunFault::BadOffice(fault)),
     }

@@ -1,19 +1,24 @@
 //! The program's run: from the bytes of a source to the bytes of a sink.
 #![tactic(auto)]
 
+mod answers;
 mod devices;
 mod faults;
 mod interpret;
 mod memory;
+mod outputs;
 mod ports;
-mod read_input;
+mod reading;
+mod reports;
 mod run;
 mod run_script;
 mod separator;
 
+pub use answers::answer;
+pub use clr_command_line::{Ask, AskFault, ask_of};
 pub use devices::{DeviceFault, Sink, Source};
 pub use faults::RunFault;
 pub use memory::{Page, Text};
 pub use ports::Port;
-pub use read_input::MOST_INPUT_BYTES;
+pub use reading::{MOST_INPUT_BYTES, read_input};
 pub use run::run_office;

@@ -5,7 +5,7 @@ ghost use Rattle.clr_office.specs.declared.faults.RunFault.TheVariants as run_fa
 use crate::devices::{Sink, Source};
 use crate::faults::RunFault;
 use crate::interpret::interpret;
-use crate::read_input::read_input;
+use crate::reading::read_input;
 use crate::separator::split_at_separator;
 use std::alloc::Global;
 

@@ -55,7 +55,10 @@ fn report_word(word: &str) -> Option<Word>
     match word {
         "show" => Some(Word::Show),
         "changes" => Some(Word::Changes),
+        "conflicts" => Some(Word::Conflicts),
         "audit" => Some(Word::Audit),
+        "workspaces" => Some(Word::Workspaces),
+        "dump" => Some(Word::Dump),
         _ => None,
     }
 }
@@ -185,7 +188,8 @@ fn can_have_fields(word: Word, count: usize) -> bool
     ensures { result ≡ can_have word count }
 {
     match word {
-        Word::Show | Word::Changes | Word::Audit => count == 2,
+        Word::Show | Word::Changes | Word::Conflicts | Word::Audit => count == 2,
+        Word::Workspaces | Word::Dump => count == 1,
     }
 }
 

@@ -124,10 +124,10 @@ fn steps(
 /// `apply,WS,n` with the next n records, which are edits, `mark,WS,SP`, `unmark,WS,SP`,
 /// `rollto,WS,SP`, `rollall,WS`, `refresh,WS`, `merge,WS,keep`, `merge,WS,remove`,
 /// `resolve,WS,TABLE,KEY,KEEP` where KEEP is `PARENT`, `CHILD` or `BASE`, `hold,WS` or `release,WS`,
-/// or a report, as `show,WS`, `changes,WS` or `audit,WS`. Names of workspaces and savepoints are
-/// taken as they stand. A fault is that of the first record that has
-/// one, beside the record's number from 1; in each record the word is tested first, then the count
-/// of fields, and then the fields from left to right.
+/// or a report, as `show,WS`, `changes,WS`, `conflicts,WS`, `audit,WS`, `workspaces` or `dump`.
+/// Names of workspaces and savepoints are taken as they stand. A fault is that of the first record
+/// that has one, beside the record's number from 1; in each record the word is tested first, then
+/// the count of fields, and then the fields from left to right.
 ///
 /// Fails with `NotCsv` at 1 where the bytes aren't UTF-8, with `BadWord` where the first field is
 /// no step's word, the third field of a `merge` or the last of a `resolve` is none of those that

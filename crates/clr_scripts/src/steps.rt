@@ -48,8 +48,14 @@ pub enum Word {
     Show,
     /// The changes of a workspace against its base.
     Changes,
+    /// The cells of a workspace that are in conflict with its parent.
+    Conflicts,
     /// The rules that the rows of a workspace break.
     Audit,
+    /// All workspaces under LIVE.
+    Workspaces,
+    /// The text of the whole office.
+    Dump,
 }
 
 /// A step of a script: a command to perform, or a report to print.

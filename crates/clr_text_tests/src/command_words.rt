@@ -105,10 +105,26 @@ fn reports(rt: HostRuntime) -> Result<(), Fail> {
     let cases = [
         ("show,W1", Word::Show),
         ("changes,W1", Word::Changes),
+        ("conflicts,W1", Word::Conflicts),
         ("audit,W1", Word::Audit),
     ];
     for (text, word) in cases {
         assert!(rt; is_report(rt.alloc(), text, word)?, "at {text}");
+    }
+    Ok(())
+}
+
+#[test]
+fn reports_without_names(rt: HostRuntime) -> Result<(), Fail> {
+    let steps = read_script(rt.alloc(), &network(rt.alloc())?, b"workspaces\ndump")?;
+    match steps.as_slice() {
+        [
+            Step::Report(Word::Workspaces, names),
+            Step::Report(Word::Dump, others),
+        ] => {
+            assert_eq!(rt; names.as_slice().len() + others.as_slice().len(), 0);
+        }
+        _ => return Err(Fail::from("another step")),
     }
     Ok(())
 }
@@ -140,8 +156,12 @@ fn counts_of_fields(rt: HostRuntime) -> Result<(), Fail> {
         "show",
         "show,W1,W2",
         "changes",
+        "conflicts",
+        "conflicts,W1,W2",
         "audit",
         "audit,W1,W2",
+        "workspaces,W1",
+        "dump,W1",
     ];
     for text in texts {
         let fault = fault_of(rt.alloc(), text)?;
@@ -156,9 +176,8 @@ fn words_and_fields_in_turn(rt: HostRuntime) -> Result<(), Fail> {
         ("Hold,K", RecordFault::BadWord),
         ("show ,W1", RecordFault::BadWord),
         ("weak", RecordFault::BadWord),
-        ("conflicts,W1", RecordFault::BadWord),
-        ("workspaces", RecordFault::BadWord),
-        ("dump", RecordFault::BadWord),
+        ("Conflicts,W1", RecordFault::BadWord),
+        ("dumps", RecordFault::BadWord),
         ("plan,W1", RecordFault::BadWord),
         ("planunder,K,V1", RecordFault::BadWord),
         ("independence,W1", RecordFault::BadWord),

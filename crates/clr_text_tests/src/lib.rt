@@ -1,6 +1,8 @@
-//! Tests of the texts: edits, scripts, office texts and lines, by public calls.
+//! Tests of the texts: edits, scripts, office texts, lines and command lines, by public calls.
 #![tactic(auto)]
 
+#[cfg(test)]
+mod command_lines;
 #[cfg(test)]
 mod command_words;
 #[cfg(test)]
@@ -15,3 +17,5 @@ mod office_texts;
 mod report_lines;
 #[cfg(test)]
 mod scripts;
+#[cfg(test)]
+mod verdict_lines;

@@ -15,13 +15,14 @@ use Rattle.clr_layers.specs.Layers.{Layer, layer_at, layer_changed, leaf, whole_
 use Rattle.clr_layers.specs.declared.stored_marks.StoredMark.TheVariants as stored
 use Rattle.clr_layers.proofs.Meaning.{name-wholes, named_found}
 use Rattle.clr_layers.proofs.Places.{wholes-push}
-use Rattle.clr_tree.specs.Holding.{Extends, ChildrenHold, mark_moved}
+use Rattle.clr_contents.specs.Holding.{Extends, ChildrenHold}
+use Rattle.clr_tree.specs.Moves.{mark_moved}
 use Rattle.clr_tree.specs.Operations.{change_at, with_marks, with_mark_of, change_marks, new_leaf, own_changes, refresh, after_create, after_refresh}
-use Rattle.clr_tree.specs.Soundness.{IsRooted}
+use Rattle.clr_contents.specs.Roots.{IsRooted}
 use Rattle.clr_tree.proofs.RootLemmas.{later_stays, rooted_set, rooted_more, parent_set}
-use Rattle.clr_tree.proofs.ReadLemmas.{base-wholes, current-wholes, within_wholes}
+use Rattle.clr_contents.proofs.ReadLemmas.{base-wholes, current-wholes, within_wholes}
 use Rattle.clr_tree.proofs.OperationLemmas.{mark_pushed, mark_lasts, restarted}
-use Rattle.clr_tree.proofs.HoldLemmas.{extends_itself, extends_marks}
+use Rattle.clr_contents.proofs.HoldLemmas.{extends_itself, extends_marks}
 
 -- a leaf at the end --------------------------------------------------------------------------------
 

@@ -6,7 +6,7 @@ use Rattle.std.specs.List.{list_all}
 use Rattle.std.specs.Str.{bytes_eq}
 use Rattle.std.specs.Cmp.Lexicographic.{bytes_decides}
 use Rattle.std.proofs.lemmas.Grind.{common_steps}
-use Rattle.std.proofs.lemmas.Bool.{false≢true, ltb-true, ltb-false}
+use Rattle.std.proofs.lemmas.Bool.{false≢true, ltb-true, ltb-false, and_parts}
 use Rattle.std.proofs.lemmas.Option.{none-some}
 use Rattle.std.proofs.lemmas.List.{length-append}
 use Rattle.clr_rows.specs.Contents.{Content}
@@ -16,16 +16,17 @@ use Rattle.clr_layers.specs.Workspaces.{Workspace, no_workspace, root, workspace
 use Rattle.clr_layers.proofs.FindLemmas.{find_more, find_named, find_within}
 use Rattle.clr_layers.proofs.Meaning.{not_from}
 use Rattle.clr_tree.specs.Parts.{workspace_of, list_of, name_fault, parent_fault, is_under, is_childs, is_marked_once, has_child_marks, has_good_marks, name_fault_at, marks_fault_at, first_below, first_fault}
-use Rattle.clr_tree.specs.Soundness.{IsRooted, IsSound, HasChildMarks, are_good_savepoints}
+use Rattle.clr_contents.specs.Roots.{IsRooted}
+use Rattle.clr_tree.specs.Soundness.{IsSound, HasChildMarks, are_good_savepoints}
 use Rattle.clr_tree.specs.declared.limits.TheConstants.{MOST_WORKSPACES, MOST_LEVELS}
 use Rattle.clr_tree.specs.declared.parts.Part.{Part}
 use Rattle.clr_tree.specs.declared.parts.PartFault.{PartFault}
 use Rattle.clr_tree.specs.declared.parts.PartFault.TheVariants as fault
 use Rattle.clr_tree.proofs.CountLemmas.{tally, count-tally, tally-none}
-use Rattle.clr_tree.proofs.DepthLemmas.{depth_step, depth_more}
+use Rattle.clr_contents.proofs.DepthLemmas.{depth_step, depth_more}
 use Rattle.clr_tree.proofs.RootLemmas.{rooted_more, at_last, placed}
 use Rattle.clr_tree.proofs.TreeLemmas.{one_child, root_sound}
-use Rattle.clr_tree.proofs.PartLemmas.{both, take_all}
+use Rattle.clr_tree.proofs.PartLemmas.{take_all}
 
 -- the first fault ------------------------------------------------------------------------------------
 
@@ -155,8 +156,8 @@ shaped_take live rest (suc i) le clear =
 
 pub all_each : {A : Type 0} (p : A → Bool) (xs : List A) (i : ℕ) (d : A) → list_all p xs ≡ true → i < length xs → p (get_or xs i d) ≡ true
 all_each p [] i d e lt = absurd (omega arith)
-all_each p (x ∷ xs) zero d e lt = (both (p x) (list_all p xs) e).0
-all_each p (x ∷ xs) (suc i) d e lt = all_each p xs i d (both (p x) (list_all p xs) e).1 (omega arith)
+all_each p (x ∷ xs) zero d e lt = (and_parts (p x) (list_all p xs) e).0
+all_each p (x ∷ xs) (suc i) d e lt = all_each p xs i d (and_parts (p x) (list_all p xs) e).1 (omega arith)
 
 is_one : (a : ℕ) (b : Bool) → b ≡ true → (not b || a == 1) ≡ true → a ≡ 1
 is_one a true h e = grind (arith, common_steps)
@@ -167,7 +168,7 @@ module _ (ws : List Workspace) (r : IsRooted ws) (parent n : Name) where
   no_marks [] all other = refl
   no_marks (Saved name content ∷ ms) all other = no_marks ms all other
   no_marks (ChildMark name ∷ ms) all other =
-      let parts = both (is_under ws parent (find ws name)) (list_all (is_childs ws parent) ms) all in
+      let parts = and_parts (is_under ws parent (find ws name)) (list_all (is_childs ws parent) ms) all in
       let apart : bytes_eq n name ≡ false = not_from (bytes_eq n name) (λ e.
       let same : n ≡ name = (bytes_decides n name).0 e in
       false≢true (sym other ∙ ap (λ m. is_under ws parent (find ws m)) same ∙ parts.0)) in
@@ -178,7 +179,7 @@ module _ (ws : List Workspace) (r : IsRooted ws) (parent n : Name) where
       count-tally (is_child_named parent n) ws
       ∙ tally-none (is_child_named parent n) ws no_workspace
       (λ i lt. not_from (is_child_named parent n (workspace_at ws i)) (λ e.
-      let parts = both (bytes_eq parent (workspace_at ws i).parent) (bytes_eq n (workspace_at ws i).name) e in
+      let parts = and_parts (bytes_eq parent (workspace_at ws i).parent) (bytes_eq n (workspace_at ws i).name) e in
       let same : n ≡ (workspace_at ws i).name = (bytes_decides n (workspace_at ws i).name).0 parts.1 in
       false≢true (sym other ∙ ap (is_under ws parent) (ap (find ws) same ∙ r.own i lt) ∙ parts.0)))
 
@@ -189,7 +190,7 @@ marks_right ws j r lt all n = by (find ws n) refl
     w = workspace_at ws j
 
     parts : (list_all (is_childs ws w.name) w.marks ≡ true) × (list_all (is_marked_once w.name w.marks) ws ≡ true)
-    parts = both (list_all (is_childs ws w.name) w.marks) (list_all (is_marked_once w.name w.marks) ws) all
+    parts = and_parts (list_all (is_childs ws w.name) w.marks) (list_all (is_marked_once w.name w.marks) ws) all
 
     neither : is_under ws w.name (find ws n) ≡ false → mark_count w.marks n ≡ child_count ws w.name n
     neither other = count-tally (is_mark_of n) w.marks ∙ no_marks ws r w.name n w.marks parts.0 other ∙ sym (no_children ws r w.name n other)
@@ -238,7 +239,7 @@ module _ (live : Content) (parts : List Part) (names : first_below (name_fault_a
       let long = length-parts live parts in
       let good : (k : ℕ) → suc k < length ws → has_good_marks ws (workspace_at ws (suc k)) ≡ true = λ k lt. clear_marks ws k (none_at (marks_fault_at ws) (length parts) k marks (omega (arith, long, lt))) in
       let halves : (k : ℕ) → suc k < length ws → (let w = workspace_at ws (suc k) in (are_good_savepoints (saved_names w.marks) ≡ true) × (has_child_marks ws w.name w.marks ≡ true)) =
-      λ k lt. both (are_good_savepoints (saved_names (workspace_at ws (suc k)).marks)) (has_child_marks ws (workspace_at ws (suc k)).name (workspace_at ws (suc k)).marks) (good k lt) in
+      λ k lt. and_parts (are_good_savepoints (saved_names (workspace_at ws (suc k)).marks)) (has_child_marks ws (workspace_at ws (suc k)).name (workspace_at ws (suc k)).marks) (good k lt) in
       record {
         rooted = s.rooted;
         few = s.few;

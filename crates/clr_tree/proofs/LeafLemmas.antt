@@ -17,8 +17,8 @@ use Rattle.clr_layers.proofs.FindLemmas.{first_is, first_of, find_named}
 use Rattle.clr_layers.proofs.Meaning.{length-wholes, name-wholes, parent-wholes, parents-wholes, differ_back, not_from}
 use Rattle.clr_layers.proofs.Places.{leaf_removed}
 use Rattle.clr_tree.specs.Operations.{change_at, with_marks, at_position, after_remove, after_remove_under}
-use Rattle.clr_tree.specs.Soundness.{IsRooted}
-use Rattle.clr_tree.proofs.ReadLemmas.{within_wholes}
+use Rattle.clr_contents.specs.Roots.{IsRooted}
+use Rattle.clr_contents.proofs.ReadLemmas.{within_wholes}
 use Rattle.clr_tree.proofs.OperationLemmas.{mark_dropped}
 
 -- a leaf has no children ---------------------------------------------------------------------------

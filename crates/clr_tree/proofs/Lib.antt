@@ -1,17 +1,12 @@
 pub mod BuildLemmas
-pub mod ChangeLemmas
 pub mod CountLemmas
 pub mod CreateLemmas
-pub mod DepthLemmas
 pub mod FaultLemmas
-pub mod HoldLemmas
 pub mod LeafLemmas
 pub mod ModelLemmas
-pub mod MoveLemmas
 pub mod NameLemmas
 pub mod OperationLemmas
 pub mod PartLemmas
-pub mod ReadLemmas
 pub mod RootLemmas
 pub mod SoundLemmas
 pub mod SweepLemmas

@@ -5,7 +5,7 @@ use Rattle.clr_rows.specs.Contents.{Content}
 use Rattle.clr_layers.specs.Workspaces.{Workspace}
 use Rattle.clr_layers.specs.Layers.{Layer, wholes}
 use Rattle.clr_tree.specs.Trees.{Tree, tree_of}
-use Rattle.clr_tree.proofs.ReadLemmas.{within_layers}
+use Rattle.clr_contents.proofs.ReadLemmas.{within_layers}
 
 pub within_tree : (live : Content) (ls : List Layer) (t : Tree) (at : ℕ) → tree_of live ls ≡ t → at < length t.list → at < length ls
 within_tree live ls t at is lt = within_layers live ls at (subst (λ (t : Tree). at < length t.list) (sym is) lt)

@@ -3,7 +3,7 @@ use Rattle.std.proofs.Common.{◌≡◌, ℕ, suc, zero, ◌+◌, ◌<◌, ◌�
 use Rattle.std.specs.List.{list_all, list_any, position_or_len}
 use Rattle.std.specs.Str.{bytes_eq}
 use Rattle.std.proofs.lemmas.Grind.{common_steps}
-use Rattle.std.proofs.lemmas.Bool.{false≢true, ltb-false}
+use Rattle.std.proofs.lemmas.Bool.{false≢true, ltb-false, and_parts, or_parts}
 use Rattle.std.proofs.lemmas.Option.{none-some}
 use Rattle.clr_rows.specs.Contents.{Content}
 use Rattle.clr_rows.specs.Names.{is_good_name}
@@ -24,25 +24,17 @@ part_skip : (xs : List Name) (y : Name) (ys : List Name) → IsPart xs ys → Is
 part_skip [] y ys part = tt
 part_skip (x ∷ xs) y ys part = inr part
 
-neither : (a b : Bool) → (a || b) ≡ false → (a ≡ false) × (b ≡ false)
-neither true b e = absurd (false≢true (sym e))
-neither false b e = (refl, e)
-
-both : (a b : Bool) → (a && b) ≡ true → (a ≡ true) × (b ≡ true)
-both true b e = (refl, e)
-both false b e = absurd (false≢true e)
-
 any_part : (p : Name → Bool) (xs ys : List Name) → IsPart xs ys → list_any p ys ≡ false → list_any p xs ≡ false
 any_part p [] ys part e = refl
 any_part p (x ∷ xs) [] part e = absurd part
-any_part p (x ∷ xs) (y ∷ ys) (inl kept) e = let parts = neither (p y) (list_any p ys) e in rw (kept.0, parts.0, any_part p xs ys kept.1 parts.1) refl
-any_part p (x ∷ xs) (y ∷ ys) (inr part) e = any_part p (x ∷ xs) ys part (neither (p y) (list_any p ys) e).1
+any_part p (x ∷ xs) (y ∷ ys) (inl kept) e = let parts = or_parts (p y) (list_any p ys) e in rw (kept.0, parts.0, any_part p xs ys kept.1 parts.1) refl
+any_part p (x ∷ xs) (y ∷ ys) (inr part) e = any_part p (x ∷ xs) ys part (or_parts (p y) (list_any p ys) e).1
 
 all_part : (p : Name → Bool) (xs ys : List Name) → IsPart xs ys → list_all p ys ≡ true → list_all p xs ≡ true
 all_part p [] ys part e = refl
 all_part p (x ∷ xs) [] part e = absurd part
-all_part p (x ∷ xs) (y ∷ ys) (inl kept) e = let parts = both (p y) (list_all p ys) e in rw (kept.0, parts.0, all_part p xs ys kept.1 parts.1) refl
-all_part p (x ∷ xs) (y ∷ ys) (inr part) e = all_part p (x ∷ xs) ys part (both (p y) (list_all p ys) e).1
+all_part p (x ∷ xs) (y ∷ ys) (inl kept) e = let parts = and_parts (p y) (list_all p ys) e in rw (kept.0, parts.0, all_part p xs ys kept.1 parts.1) refl
+all_part p (x ∷ xs) (y ∷ ys) (inr part) e = all_part p (x ∷ xs) ys part (and_parts (p y) (list_all p ys) e).1
 
 turned : (b : Bool) → not b ≡ true → b ≡ false
 turned true e = absurd (false≢true e)
@@ -52,9 +44,9 @@ distinct_part : (xs ys : List Name) → IsPart xs ys → are_distinct ys ≡ tru
 distinct_part [] ys part e = refl
 distinct_part (x ∷ xs) [] part e = absurd part
 distinct_part (x ∷ xs) (y ∷ ys) (inl kept) e =
-    let parts = both (not (list_any (bytes_eq y) ys)) (are_distinct ys) e in
+    let parts = and_parts (not (list_any (bytes_eq y) ys)) (are_distinct ys) e in
     rw (kept.0, any_part (bytes_eq y) xs ys kept.1 (turned (list_any (bytes_eq y) ys) parts.0), distinct_part xs ys kept.1 parts.1) refl
-distinct_part (x ∷ xs) (y ∷ ys) (inr part) e = distinct_part (x ∷ xs) ys part (both (not (list_any (bytes_eq y) ys)) (are_distinct ys) e).1
+distinct_part (x ∷ xs) (y ∷ ys) (inr part) e = distinct_part (x ∷ xs) ys part (and_parts (not (list_any (bytes_eq y) ys)) (are_distinct ys) e).1
 
 length_part : (xs ys : List Name) → IsPart xs ys → length xs ≤ length ys
 length_part [] ys part = omega arith
@@ -160,17 +152,17 @@ good_cut ms i e =
 
 all_more : (p : Name → Bool) (xs : List Name) (x : Name) → list_all p xs ≡ true → p x ≡ true → list_all p (xs ++ x ∷ []) ≡ true
 all_more p [] x e h = rw h refl
-all_more p (y ∷ xs) x e h = let parts = both (p y) (list_all p xs) e in rw (parts.0, all_more p xs x parts.1 h) refl
+all_more p (y ∷ xs) x e h = let parts = and_parts (p y) (list_all p xs) e in rw (parts.0, all_more p xs x parts.1 h) refl
 
 any_more : (p : Name → Bool) (xs : List Name) (x : Name) → list_any p xs ≡ false → p x ≡ false → list_any p (xs ++ x ∷ []) ≡ false
 any_more p [] x e h = rw h refl
-any_more p (y ∷ xs) x e h = let parts = neither (p y) (list_any p xs) e in rw (parts.0, any_more p xs x parts.1 h) refl
+any_more p (y ∷ xs) x e h = let parts = or_parts (p y) (list_any p xs) e in rw (parts.0, any_more p xs x parts.1 h) refl
 
 distinct_more : (xs : List Name) (x : Name) → are_distinct xs ≡ true → list_any (bytes_eq x) xs ≡ false → are_distinct (xs ++ x ∷ []) ≡ true
 distinct_more [] x e h = refl
 distinct_more (y ∷ xs) x e h =
-    let parts = both (not (list_any (bytes_eq y) xs)) (are_distinct xs) e in
-    let apart = neither (bytes_eq x y) (list_any (bytes_eq x) xs) h in
+    let parts = and_parts (not (list_any (bytes_eq y) xs)) (are_distinct xs) e in
+    let apart = or_parts (bytes_eq x y) (list_any (bytes_eq x) xs) h in
     rw (any_more (bytes_eq y) xs x (turned (list_any (bytes_eq y) xs) parts.0) (differ_back x y apart.0), distinct_more xs x parts.1 apart.1) refl
 
 length_more : (xs : List Name) (x : Name) → length (xs ++ x ∷ []) ≡ length xs + 1

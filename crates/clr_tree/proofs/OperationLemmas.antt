@@ -1,5 +1,5 @@
 -- What each change of a layer does to the whole workspaces.
-use Rattle.std.proofs.Common.{◌≡◌, ℕ, suc, zero, ◌+◌, ◌<◌, Bool, true, false, cond, not, List, [], ◌∷◌, ◌++◌, length, map, take, drop, filter, Some, None, refl, ap, sym, subst, ◌∙◌, arith, slice_set}
+use Rattle.std.proofs.Common.{◌≡◌, ℕ, suc, zero, ◌+◌, ◌<◌, Bool, true, false, cond, not, List, [], ◌∷◌, ◌++◌, length, map, take, drop, filter, Some, None, refl, ap, sym, subst, ◌∙◌, slice_set}
 use Rattle.std.proofs.lemmas.List.{append-nil, map-append, length-map}
 use Rattle.std.specs.declared.option.Option.{Option}
 use Rattle.std.specs.FinMap as finite
@@ -18,16 +18,18 @@ use Rattle.clr_layers.specs.Workspaces.{Workspace, workspace_at, parent_of}
 use Rattle.clr_layers.specs.Layers.{Layer, layer_at, layer_changed, whole_of, whole_mark, wholes, top, above_at, IsUnder, stored_at, saved_differences, is_stored_child, is_stored_saved, is_stored_saved_as, is_stored_mark_of, stored_without_mark_of, EachMarkHolds}
 use Rattle.clr_layers.specs.declared.stored_marks.StoredMark.{StoredMark}
 use Rattle.clr_layers.specs.declared.stored_marks.StoredMark.TheVariants as stored
-use Rattle.clr_layers.proofs.Meaning.{wholes-at, wholes-live}
+use Rattle.clr_layers.proofs.Meaning.{wholes-live}
 use Rattle.clr_layers.proofs.Places.{moved_live}
-use Rattle.clr_tree.specs.Holding.{ChildrenHold, put_into, row_moved}
+use Rattle.clr_contents.specs.Holding.{ChildrenHold}
+use Rattle.clr_tree.specs.Moves.{put_into, row_moved}
 use Rattle.clr_tree.specs.Operations.{change_at, with_marks, with_current, with_kept, roll_all, own_changes, rebase, after_mark, after_unmark, after_roll_to, after_roll_all, set_kept, after_write, after_merge, after_resolve}
-use Rattle.clr_tree.specs.Soundness.{IsRooted}
+use Rattle.clr_contents.specs.Roots.{IsRooted}
 use Rattle.clr_tree.specs.declared.rebases.Keep.TheVariants as keeps
 use Rattle.clr_tree.proofs.RootLemmas.{later_stays}
-use Rattle.clr_tree.proofs.ReadLemmas.{above_parent, current-wholes}
-use Rattle.clr_tree.proofs.MoveLemmas.{becomes, becomes_still}
-use Rattle.clr_tree.proofs.HoldLemmas.{rows_agree}
+use Rattle.clr_contents.proofs.ReadLemmas.{above_parent, current-wholes}
+use Rattle.clr_contents.proofs.MarkLemmas.{saved_there}
+use Rattle.clr_contents.proofs.MoveLemmas.{becomes, becomes_still}
+use Rattle.clr_contents.proofs.HoldLemmas.{rows_agree}
 
 -- marks ------------------------------------------------------------------------------------------
 
@@ -60,13 +62,6 @@ map_drop : {A B : Type 0} (f : A → B) (n : ℕ) (xs : List A) → map f (drop 
 map_drop f zero xs = refl
 map_drop f (suc n) [] = refl
 map_drop f (suc n) (x ∷ xs) = map_drop f n xs
-
--- what a savepoint saved
-pub saved_there : (b : Content) (ms : List StoredMark) (i : ℕ) → is_saved (mark_at (map (whole_mark b) ms) i) ≡ true → saved_content (mark_at (map (whole_mark b) ms) i) ≡ seen_over b (saved_differences (stored_at ms i))
-saved_there b [] i e = absurd (cc)
-saved_there b (stored.Saved name d ∷ ms) zero e = refl
-saved_there b (stored.Child name ∷ ms) zero e = absurd (cc)
-saved_there b (m ∷ ms) (suc i) e = saved_there b ms i e
 
 no_children : (ms : List Mark) → list_any is_child_mark ms ≡ false → without_saved ms ≡ []
 no_children [] e = refl
@@ -183,30 +178,6 @@ module _ (above : Content) (l : Layer) where
       ∙ ap (λ (m : Content). set_cell m k v) (ap (λ (m : Content). seen_over m l.current) base ∙ hidden b (set_cell b k r) l.current (set_outside l.current b k r entry)) in
       let marks = ap (λ (m : Content). map (whole_mark m) l.marks) base ∙ marks_hidden b k r l.marks held in
       λ i. record { name = l.name; parent = l.parent; base = base i; current = current i; marks = marks i; kept = l.kept }
-
-  whole_flag : (whole_of above l).kept ≡ l.kept
-  unfolding whole_of
-  whole_flag = refl
-
-  whole_marks : (whole_of above l).marks ≡ map (whole_mark (whole_of above l).base) l.marks
-  unfolding whole_of
-  whole_marks = refl
-
-pub marks-wholes : (live : Content) (ls : List Layer) (at : ℕ) → 0 < at → at < length ls → (workspace_at (wholes live ls) at).marks ≡ map (whole_mark (workspace_at (wholes live ls) at).base) (layer_at ls at).marks
-marks-wholes live ls at some lt =
-    ap (λ (w : Workspace). w.marks) (wholes-at live ls at some lt) ∙ whole_marks (above_at live ls at) (layer_at ls at)
-    ∙ ap (λ (w : Workspace). map (whole_mark w.base) (layer_at ls at).marks) (sym (wholes-at live ls at some lt))
-
-pub kept-wholes : (live : Content) (ls : List Layer) (at : ℕ) → 0 < at → at < length ls → (workspace_at (wholes live ls) at).kept ≡ (layer_at ls at).kept
-kept-wholes live ls at some lt = ap (λ (w : Workspace). w.kept) (wholes-at live ls at some lt) ∙ whole_flag (above_at live ls at) (layer_at ls at)
-
-pub length-marks : (live : Content) (ls : List Layer) (at : ℕ) → 0 < at → at < length ls → length (workspace_at (wholes live ls) at).marks ≡ length (layer_at ls at).marks
-length-marks live ls at some lt = ap (λ (ms : List Mark). length ms) (marks-wholes live ls at some lt) ∙ length-map (layer_at ls at).marks (whole_mark (workspace_at (wholes live ls) at).base)
-
-pub saved_within : (ms : List Mark) (i : ℕ) → is_saved (mark_at ms i) ≡ true → i < length ms
-saved_within [] i e = absurd (cc)
-saved_within (m ∷ ms) zero e = omega arith
-saved_within (m ∷ ms) (suc i) e = let more = saved_within ms i e in omega (arith, more)
 
 -- all workspaces -----------------------------------------------------------------------------------
 

@@ -3,7 +3,8 @@ use Rattle.std.proofs.Common.{◌≡◌, ℕ, suc, zero, ◌-◌, ◌<◌, ◌�
 use Rattle.std.specs.List.{list_all, list_any}
 use Rattle.std.specs.Str.{bytes_eq}
 use Rattle.std.proofs.lemmas.Grind.{common_steps}
-use Rattle.std.proofs.lemmas.Bool.{false≢true}
+use Rattle.std.proofs.lemmas.Bool.{false≢true, and_parts}
+use Rattle.std.proofs.Math.Bool.{and-false}
 use Rattle.clr_rows.specs.Names.{is_good_name}
 use Rattle.clr_rows.specs.Schemas.{are_distinct}
 use Rattle.clr_layers.specs.Marks.{Name, Mark, Saved, ChildMark, is_saved_as, saved_names, saved_count}
@@ -15,26 +16,18 @@ use Rattle.clr_tree.specs.declared.parts.MarkPart.{MarkPart}
 use Rattle.clr_tree.specs.declared.parts.PartFault.TheVariants as fault
 use Rattle.clr_tree.proofs.NameLemmas.{count_names}
 
-pub both : (a b : Bool) → (a && b) ≡ true → (a ≡ true) × (b ≡ true)
-both true b e = (refl, e)
-both false b e = absurd (false≢true e)
-
-pub and_false : (a : Bool) → (a && false) ≡ false
-and_false true = refl
-and_false false = refl
-
 -- lists --------------------------------------------------------------------------------------------
 
 module _ {A : Type 0} (p : A → Bool) where
   pub all_next : (xs : List A) (i : ℕ) (d : A) → list_all p (take i xs) ≡ true → i < length xs → p (get_or xs i d) ≡ true → list_all p (take (suc i) xs) ≡ true
   all_next [] i d e lt h = refl
   all_next (x ∷ xs) zero d e lt h = rw h refl
-  all_next (x ∷ xs) (suc i) d e lt h = let parts = both (p x) (list_all p (take i xs)) e in rw (parts.0, all_next xs i d parts.1 (omega arith) h) refl
+  all_next (x ∷ xs) (suc i) d e lt h = let parts = and_parts (p x) (list_all p (take i xs)) e in rw (parts.0, all_next xs i d parts.1 (omega arith) h) refl
 
   pub all_fails : (xs : List A) (i : ℕ) (d : A) → i < length xs → p (get_or xs i d) ≡ false → list_all p xs ≡ false
   all_fails [] i d lt h = absurd (omega arith)
   all_fails (x ∷ xs) zero d lt h = rw h refl
-  all_fails (x ∷ xs) (suc i) d lt h = ap (λ b. p x && b) (all_fails xs i d (omega arith) h) ∙ and_false (p x)
+  all_fails (x ∷ xs) (suc i) d lt h = ap (λ b. p x && b) (all_fails xs i d (omega arith) h) ∙ and-false (p x)
 
 module _ {A B : Type 0} (f : A → B) (p : B → Bool) where
   pub all_map : (xs : List A) → list_all p (map f xs) ≡ list_all (λ x. p (f x)) xs
@@ -86,14 +79,14 @@ abbrev pub are_new : List Mark → Bool
 are_new ms = list_all is_good_name (saved_names ms) && are_distinct (saved_names ms)
 
 pub new_skip : (m : Mark) (ms : List Mark) → has_new_name m ms ≡ true → are_new (m ∷ ms) ≡ are_new ms
-new_skip (Saved name content) ms e = let parts = both (is_good_name name) (not (list_any (bytes_eq name) (saved_names ms))) e in rw (parts.0, parts.1) refl
+new_skip (Saved name content) ms e = let parts = and_parts (is_good_name name) (not (list_any (bytes_eq name) (saved_names ms))) e in rw (parts.0, parts.1) refl
 new_skip (ChildMark name) ms e = refl
 
 pub not_new : (m : Mark) (ms : List Mark) → has_new_name m ms ≡ false → are_new (m ∷ ms) ≡ false
 not_new (Saved name content) ms e = by (is_good_name name) (not (list_any (bytes_eq name) (saved_names ms))) (list_all is_good_name (saved_names ms)) (are_distinct (saved_names ms)) e
   where
     by : (a b x y : Bool) → (a && b) ≡ false → ((a && x) && (b && y)) ≡ false
-    by true b x y e = rw e (and_false x)
+    by true b x y e = rw e (and-false x)
     by false b x y e = refl
 not_new (ChildMark name) ms e = absurd (false≢true (sym e))
 
@@ -130,7 +123,7 @@ module _ (ws : List Workspace) (w : Workspace) (good : is_good_name w.name ≡ t
           full a b le = grind (arith, common_steps)
 
       pub too_deep : MOST_LEVELS ≤ depth_of ws above → name_fault ws w ≡ Some fault.TooMany
-      too_deep deep = rw (good, none, found, full (depth_of ws above) MOST_LEVELS deep, and_false (nat_le (suc (length ws)) MOST_WORKSPACES)) refl
+      too_deep deep = rw (good, none, found, full (depth_of ws above) MOST_LEVELS deep, and-false (nat_le (suc (length ws)) MOST_WORKSPACES)) refl
         where
           full : (a b : ℕ) → b ≤ a → nat_le (suc a) b ≡ false
           full a b le = grind (arith, common_steps)

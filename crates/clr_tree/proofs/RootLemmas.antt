@@ -1,6 +1,5 @@
 -- What keeps workspaces rooted.
-use Rattle.std.proofs.Common.{◌≡◌, ℕ, suc, zero, ◌<◌, ◌≢◌, Bool, true, false, List, [], ◌∷◌, ◌++◌, Some, None, length, refl, ap, sym, ◌∙◌, subst, arith, slice_set, get_or-set_other, ◌⊎◌, inl, inr, nat_lt, is_some}
-use Rattle.std.specs.declared.option.Option.{Option}
+use Rattle.std.proofs.Common.{◌≡◌, ℕ, ◌<◌, ◌≢◌, Bool, true, false, List, [], ◌∷◌, ◌++◌, Some, None, length, refl, ap, sym, ◌∙◌, subst, arith, slice_set, get_or-set_other, ◌⊎◌, inl, inr, nat_lt, is_some}
 use Rattle.std.specs.Prelude.{IfSome, IsSome, ◌↔◌}
 use Rattle.std.proofs.lemmas.Bool.{ltb-true, ltb-false, false≢true}
 use Rattle.std.proofs.lemmas.List.{length-set, length-append}
@@ -9,8 +8,9 @@ use Rattle.std.proofs.Math.Seq.{get_or-append_seam, map-set_same}
 use Rattle.clr_rows.specs.Names.{is_good_name}
 use Rattle.clr_layers.specs.Marks.{Name}
 use Rattle.clr_layers.specs.Workspaces.{Workspace, no_workspace, workspace_at, find, parent_of}
-use Rattle.clr_layers.proofs.FindLemmas.{find_set, find_more, find_last, find_within, find_named}
-use Rattle.clr_tree.specs.Soundness.{IsRooted}
+use Rattle.clr_layers.proofs.FindLemmas.{find_set, find_more, find_last, find_within}
+use Rattle.clr_contents.specs.Roots.{IsRooted}
+use Rattle.clr_contents.proofs.RootLemmas.{no_parent, split}
 
 -- a field that a new workspace shares with the one that it replaces is as it was everywhere
 pub stays_at : (f : Workspace → Name) (ws : List Workspace) (at : ℕ) (w : Workspace) → f w ≡ f (workspace_at ws at) → (i : ℕ) → f (workspace_at (slice_set ws at w) i) ≡ f (workspace_at ws i)
@@ -35,25 +35,6 @@ module _ (ws : List Workspace) (at : ℕ) (w : Workspace) (name : w.name ≡ (wo
         own = λ i lt. find_set ws at w _ name ∙ ap (find ws) (names i) ∙ r.own i (before i lt);
         under = λ i later lt. let p = r.under i later (before i lt) in (p.0, parent_set i ∙ p.1, p.2);
       }
-
--- no workspace has the empty name, since each has a good one
-pub no_empty_name : (ws : List Workspace) → ((i : ℕ) → i < length ws → is_good_name (workspace_at ws i).name ≡ true) → find ws [] ≡ None
-unfolding is_good_name
-no_empty_name ws good = by (find ws []) refl
-  where
-    bad : is_good_name [] ≡ true → ⊥
-    bad e = false≢true e
-
-    by : (r : Option ℕ) → find ws [] ≡ r → r ≡ None
-    by None e = refl
-    by (Some i) e = absurd (bad (ap is_good_name (find_named ws [] i e) ∙ good i (find_within ws [] i e)))
-
-pub no_parent : (ws : List Workspace) → IsRooted ws → parent_of ws 0 ≡ None
-no_parent ws r = ap (find ws) r.top ∙ no_empty_name ws r.good
-
-pub split : (n : ℕ) → (n ≡ 0) ⊎ (0 < n)
-split zero = inl refl
-split (suc n) = inr (omega arith)
 
 -- each position is an old one or the last
 pub placed : {P : ℕ → Type 0} (ws : List Workspace) (w : Workspace) → ((i : ℕ) → i < length ws → P i) → P (length ws) → (i : ℕ) → i < length (ws ++ w ∷ []) → P i

@@ -10,7 +10,7 @@ use Rattle.clr_layers.specs.Workspaces.{Workspace, no_workspace, workspace_at, i
 use Rattle.clr_tree.specs.Soundness.{are_good_savepoints, IsSound}
 use Rattle.clr_tree.proofs.CountLemmas.{tally, count-tally, count-append, count-set}
 use Rattle.clr_tree.proofs.RootLemmas.{rooted_set, parent_set}
-use Rattle.clr_tree.proofs.DepthLemmas.{depth_same}
+use Rattle.clr_contents.proofs.DepthLemmas.{depth_same}
 
 -- marks --------------------------------------------------------------------------------------------
 

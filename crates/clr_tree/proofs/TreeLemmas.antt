@@ -1,6 +1,7 @@
 -- The tree stays sound under each operation.
 use Rattle.std.proofs.Common.{◌≡◌, ℕ, suc, zero, ◌+◌, ◌<◌, ◌≤◌, ◌≢◌, ⊎_elim, Bool, true, false, cond, ◌&&◌, List, [], ◌∷◌, ◌++◌, length, Some, None, refl, ap, sym, ◌∙◌, subst, arith, remove}
-use Rattle.std.proofs.lemmas.Bool.{cases_eq, false≢true}
+use Rattle.std.proofs.lemmas.Bool.{cases_eq, false≢true, and_parts}
+use Rattle.std.proofs.Math.Bool.{and-false}
 use Rattle.std.proofs.lemmas.Option.{same_Some, none-some}
 use Rattle.std.proofs.lemmas.List.{length-set, length-append, get_or-set_same, get_or-set_other}
 use Rattle.std.proofs.lemmas.List.Edits.{length-remove}
@@ -19,10 +20,12 @@ use Rattle.clr_tree.specs.declared.rebases.Keep.TheVariants as keeps
 use Rattle.clr_tree.specs.declared.rebases.Rebase.{Rebase}
 use Rattle.clr_tree.specs.declared.rebases.Rebase.TheVariants.{Refresh, Merge, OneRow}
 use Rattle.clr_rows.specs.declared.cells.CellId.{CellId}
-use Rattle.clr_tree.specs.Soundness.{are_good_savepoints, IsRooted, IsSound}
+use Rattle.clr_tree.specs.Soundness.{are_good_savepoints, IsSound}
+use Rattle.clr_contents.specs.Roots.{IsRooted}
 use Rattle.clr_tree.specs.declared.limits.TheConstants.{MOST_WORKSPACES, MOST_LEVELS}
-use Rattle.clr_tree.proofs.RootLemmas.{rooted_set, rooted_more, parent_set, stays_at, at_old, at_last, placed, split}
-use Rattle.clr_tree.proofs.DepthLemmas.{depth_step, depth_zero, depth_same, depth_more}
+use Rattle.clr_tree.proofs.RootLemmas.{rooted_set, rooted_more, parent_set, stays_at, at_old, at_last, placed}
+use Rattle.clr_contents.proofs.RootLemmas.{split}
+use Rattle.clr_contents.proofs.DepthLemmas.{depth_step, depth_zero, depth_same, depth_more}
 use Rattle.clr_tree.proofs.NameLemmas.{names_dropped, names_marked, names_last, good_none, good_removed, good_cut}
 use Rattle.clr_tree.proofs.CountLemmas.{count-tally, count-append, count-last, count-set, count-remove, tally-none, tally-one}
 use Rattle.clr_tree.proofs.SoundLemmas.{count-without_saved, count-cut, count-unmarked, count-dropped, IsLive, each_set, sound_set}
@@ -41,14 +44,6 @@ empty_is_bad : is_good_name [] ≡ true → ⊥
 unfolding is_good_name
 empty_is_bad h = false≢true h
 
-and_false : (a : Bool) → (a && false) ≡ false
-and_false true = refl
-and_false false = refl
-
-passes_both : (a b : Bool) → (a && b) ≡ true → (a ≡ true) × (b ≡ true)
-passes_both true b e = (refl, e)
-passes_both false b e = absurd (false≢true e)
-
 -- a child is counted once among those of its parent
 pub one_child : (ws : List Workspace) (at p : ℕ) → IsRooted ws → at < length ws → parent_of ws at ≡ Some p → child_count ws (workspace_at ws p).name (workspace_at ws at).name ≡ 1
 one_child ws at p r lt parent =
@@ -59,7 +54,7 @@ one_child ws at p r lt parent =
     count-tally test ws
     ∙ tally-one test ws no_workspace at lt here
     (λ i i_lt passes.
-    let same : child ≡ (workspace_at ws i).name = (bytes_decides child (workspace_at ws i).name).0 (passes_both (bytes_eq (workspace_at ws p).name (workspace_at ws i).parent) (bytes_eq child (workspace_at ws i).name) passes).1 in
+    let same : child ≡ (workspace_at ws i).name = (bytes_decides child (workspace_at ws i).name).0 (and_parts (bytes_eq (workspace_at ws p).name (workspace_at ws i).parent) (bytes_eq child (workspace_at ws i).name) passes).1 in
     same_Some i at (sym (r.own i i_lt) ∙ ap (find ws) (sym same) ∙ r.own at lt))
 
 -- operations on one workspace ------------------------------------------------------------------------
@@ -383,7 +378,7 @@ module _ (ws : List Workspace) (at p : ℕ) (s : IsSound ws) (some : 0 < at) (lt
       by false e counted once =
           ap (λ b. cond b 0 (mark_count (workspace_at ws p).marks n)) e ∙ counted
           ∙ ap (λ b. child_count gone (workspace_at ws p).name n + cond (bytes_eq (workspace_at ws p).name (workspace_at ws at).parent && b) 1 0) e
-          ∙ ap (λ b. child_count gone (workspace_at ws p).name n + cond b 1 0) (and_false (bytes_eq (workspace_at ws p).name (workspace_at ws at).parent))
+          ∙ ap (λ b. child_count gone (workspace_at ws p).name n + cond b 1 0) (and-false (bytes_eq (workspace_at ws p).name (workspace_at ws at).parent))
           ∙ zero_more (child_count gone (workspace_at ws p).name n)
         where
           zero_more : (k : ℕ) → k + 0 ≡ k

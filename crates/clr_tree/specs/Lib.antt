@@ -1,4 +1,4 @@
-pub mod Holding
+pub mod Moves
 pub mod Operations
 pub mod Parts
 pub mod Soundness

@@ -1,11 +1,12 @@
 -- What is so of the workspaces of every tree.
-use Rattle.std.specs.Prelude.{◌≡◌, ℕ, ◌<◌, ◌≤◌, Bool, true, ◌&&◌, List, [], length, nat_le, Some}
+use Rattle.std.specs.Prelude.{◌≡◌, ℕ, ◌<◌, ◌≤◌, Bool, true, ◌&&◌, List, [], length, nat_le}
 use Rattle.std.specs.List.{list_all}
 use Rattle.clr_rows.specs.Contents.{no_rows}
 use Rattle.clr_rows.specs.Names.{is_good_name}
 use Rattle.clr_rows.specs.Schemas.{are_distinct}
 use Rattle.clr_layers.specs.Marks.{Name, mark_count, saved_names}
-use Rattle.clr_layers.specs.Workspaces.{Workspace, live_name, workspace_at, find, parent_of, child_count, depth_of}
+use Rattle.clr_layers.specs.Workspaces.{Workspace, workspace_at, child_count, depth_of}
+use Rattle.clr_contents.specs.Roots.{IsRooted}
 use Rattle.clr_tree.specs.declared.limits.TheConstants.{MOST_WORKSPACES, MOST_LEVELS, MOST_SAVEPOINTS}
 
 -- names of savepoints: good, different, and not too many
@@ -15,15 +16,6 @@ are_good_savepoints names = list_all is_good_name names && are_distinct names &&
 -- the child marks are the children, each once: a name stands among the marks as often as among the children
 abbrev pub HasChildMarks : List Workspace → Workspace → Type 0
 HasChildMarks ws w = (name : Name) → mark_count w.marks name ≡ child_count ws w.name name
-
--- LIVE is first; names are good, and each finds its own position; the parent of each later workspace stands before it
-pub record IsRooted (ws : List Workspace) : Type 0 where
-  pub filled : 0 < length ws
-  pub live : (workspace_at ws 0).name ≡ live_name
-  pub top : (workspace_at ws 0).parent ≡ []
-  pub good : (i : ℕ) → i < length ws → is_good_name (workspace_at ws i).name ≡ true
-  pub own : (i : ℕ) → i < length ws → find ws (workspace_at ws i).name ≡ Some i
-  pub under : (i : ℕ) → 0 < i → i < length ws → (p : ℕ) × (parent_of ws i ≡ Some p) × (p < i)
 
 -- LIVE has no base and no marks, and every rule is to hold in it; there are not too many workspaces, and none is too deep;
 -- names of savepoints are good, and the child marks are the children

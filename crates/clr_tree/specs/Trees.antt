@@ -1,18 +1,25 @@
--- A tree: its workspaces with whole contents, and how many entries are stored of each.
-use Rattle.std.specs.Prelude.{ℕ, ◌+◌, List, Option, None, Some, length, map, slice_index_or, refl}
+-- A tree: its workspaces with whole contents, and how many entries are stored of each and of its marks.
+use Rattle.std.specs.Prelude.{ℕ, ◌+◌, List, [], Option, None, Some, length, map, slice_index_or, refl}
 use Rattle.std.specs.FinMap as finite
 use Rattle.std.specs.Coded.{Coded, code_by, coded×, coded_list, coded_ℕ}
 use Rattle.clr_rows.specs.Contents.{Content, no_rows, changes}
+use Rattle.clr_layers.specs.Marks.{Mark, Saved, ChildMark}
 use Rattle.clr_layers.specs.Workspaces.{Workspace, coded_workspace, workspace_at, parent_of}
-use Rattle.clr_layers.specs.Layers.{Layer, wholes, stored_in}
+use Rattle.clr_layers.specs.Layers.{Layer, wholes, stored_in, swept_mark, entries_of_mark}
+use Rattle.clr_layers.specs.declared.stored_marks.StoredMark.{StoredMark}
 
 pub record Tree : Type 0 where
   pub list : List Workspace
   pub stored : List ℕ
+  pub saved : List (List ℕ)
 
 -- how many entries are stored of the workspace at a position
 abbrev pub stored_at : List ℕ → ℕ → ℕ
 stored_at counts at = slice_index_or counts at 0
+
+-- how many entries are stored of each mark of the workspace at a position
+abbrev pub saved_at : List (List ℕ) → ℕ → List ℕ
+saved_at counts at = slice_index_or counts at []
 
 -- the current content of the parent
 abbrev pub content_above : List Workspace → Option ℕ → Content
@@ -30,10 +37,26 @@ change_count base current = length (finite.keys (changes base current))
 abbrev pub needed : List Workspace → ℕ → ℕ
 needed ws at = let w = workspace_at ws at in change_count (content_of_parent ws at) w.base + change_count w.base w.current
 
+-- how many cells of a savepoint's content aren't as the base
+abbrev pub needed_of_mark : Content → Mark → ℕ
+needed_of_mark base (Saved name content) = change_count base content
+needed_of_mark base (ChildMark name) = 0
+
+abbrev pub needed_of_marks : List Workspace → ℕ → List ℕ
+needed_of_marks ws at = let w = workspace_at ws at in map (needed_of_mark w.base) w.marks
+
+-- how many entries a layer has in each of its marks
+abbrev pub stored_of_marks : Layer → List ℕ
+stored_of_marks l = map entries_of_mark l.marks
+
+-- marks without the entries that have the row of the base
+abbrev pub swept_marks : Content → List StoredMark → List StoredMark
+swept_marks base marks = map (swept_mark base) marks
+
 abbrev pub coded_tree : Coded Tree
 coded_tree =
-    code_by (List Workspace × List ℕ) (coded× (coded_list coded_workspace) (coded_list coded_ℕ))
-    (λ t. (t.list, t.stored)) (λ p. record { list = p.0; stored = p.1 }) (λ _. refl)
+    code_by (List Workspace × (List ℕ × List (List ℕ))) (coded× (coded_list coded_workspace) (coded× (coded_list coded_ℕ) (coded_list (coded_list coded_ℕ))))
+    (λ t. (t.list, (t.stored, t.saved))) (λ p. record { list = p.0; stored = p.1.0; saved = p.1.1 }) (λ _. refl)
 
 abbrev pub tree_of : Content → List Layer → Tree
-tree_of live ls = record { list = wholes live ls; stored = map stored_in ls }
+tree_of live ls = record { list = wholes live ls; stored = map stored_in ls; saved = map stored_of_marks ls }

@@ -4,7 +4,7 @@ ghost use Rattle.clr_layers.specs.Entries.{layer_of};
 ghost use Rattle.clr_layers.specs.Layers.{whole_mark, whole_of, wholes};
 ghost use Rattle.clr_layers.specs.Workspaces.{workspace_at, find};
 ghost use Rattle.clr_tree.specs.Parts.{mark_of, marks_of, workspace_of, list_of, name_fault_at, first_below, IsFault, IsRefused, number_of};
-ghost use Rattle.clr_tree.specs.Soundness.{IsRooted};
+ghost use Rattle.clr_contents.specs.Roots.{IsRooted};
 
 use crate::operations::live_alone;
 use crate::part_checks::judge_name;

@@ -2,22 +2,18 @@
 #![tactic(auto)]
 
 mod builds;
-mod holds;
 mod limits;
 mod operations;
 mod part_checks;
 mod part_reads;
 mod parts;
-mod reads;
 mod rebases;
 mod sweeps;
 mod tree;
-mod views;
-mod wholes;
 
 pub use clr_change::{ChangeSet, Edit, EditFault, Edits, first_conflict, stage};
+pub use clr_contents::View;
 pub use limits::{MOST_LEVELS, MOST_SAVEPOINTS, MOST_WORKSPACES};
 pub use parts::{MarkPart, Part, PartFault};
 pub use rebases::{Keep, Rebase};
 pub use tree::Tree;
-pub use views::View;

@@ -4,17 +4,19 @@ ghost use Rattle.clr_differences.specs.Differences.{cells_in};
 ghost use Rattle.clr_layers.specs.Layers.{layer_at, find_layer, leaf, wholes};
 ghost use Rattle.clr_layers.specs.Marks.{is_saved, is_held, mark_at};
 ghost use Rattle.clr_layers.specs.Workspaces.{workspace_at, find, parent_of as position_of_parent, children_of, live_name};
-ghost use Rattle.clr_tree.specs.Holding.{Extends, ChildrenHold, put_into, row_moved, mark_moved};
+ghost use Rattle.clr_contents.specs.Holding.{Extends, ChildrenHold};
+ghost use Rattle.clr_tree.specs.Moves.{put_into, row_moved, mark_moved};
 ghost use Rattle.clr_tree.specs.Operations.{after_create, after_remove, after_mark, after_roll_to, after_roll_all};
 ghost use Rattle.clr_tree.specs.Operations.{after_refresh, after_merge, after_resolve, after_rebase};
-ghost use Rattle.clr_tree.specs.Soundness.{IsRooted};
+ghost use Rattle.clr_contents.specs.Roots.{IsRooted};
 ghost use Rattle.clr_tree.specs.declared.rebases.Keep.TheVariants.{Child};
 
-use crate::holds::{hold_children, hold_current, hold_own, hold_saved};
-use crate::reads::{base_row_of, parent_of, row_of};
 use crate::rebases::{Keep, Rebase};
-use crate::wholes::{cells_of, changes_of, saved_at};
 use clr_change::copy_row;
+use clr_contents::{
+    base_row_of, cells_of, changes_of, hold_children, hold_current, hold_own, hold_saved,
+    parent_of, row_of, saved_at,
+};
 use clr_differences::Differences;
 use clr_layers::{Layer, StoredMark, WorkspaceMap};
 use clr_rows::{CellId, Row, Sheet, Words};

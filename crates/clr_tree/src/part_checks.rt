@@ -7,11 +7,12 @@ ghost use Rattle.clr_layers.specs.Workspaces.{workspace_at, find};
 ghost use Rattle.clr_tree.specs.Parts.{mark_of, marks_of, workspace_of, list_of, name_fault, has_new_name};
 ghost use Rattle.clr_tree.specs.Parts.{is_childs, is_marked_once, has_good_marks, marks_fault_at, first_below};
 ghost use Rattle.clr_tree.specs.declared.parts.PartFault.TheVariants.{BadMarks};
-ghost use Rattle.clr_tree.specs.Soundness.{IsRooted, are_good_savepoints};
+ghost use Rattle.clr_contents.specs.Roots.{IsRooted};
+ghost use Rattle.clr_tree.specs.Soundness.{are_good_savepoints};
 
 use crate::limits::{MOST_LEVELS, MOST_SAVEPOINTS, MOST_WORKSPACES};
 use crate::parts::{MarkPart, Part, PartFault};
-use crate::reads::depth_at;
+use clr_contents::depth_at;
 use clr_layers::WorkspaceMap;
 use clr_rows::{Sheet, good_name};
 

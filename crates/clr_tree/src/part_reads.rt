@@ -2,10 +2,10 @@ ghost use Rattle.std.specs.Prelude.{◌≡◌, ◌<◌, length, IfOk};
 ghost use Rattle.clr_layers.specs.Layers.{wholes, whole_mark};
 ghost use Rattle.clr_layers.specs.Workspaces.{workspace_at};
 ghost use Rattle.clr_tree.specs.Parts.{mark_of, marks_of, workspace_of};
-ghost use Rattle.clr_tree.specs.Soundness.{IsRooted};
+ghost use Rattle.clr_contents.specs.Roots.{IsRooted};
 
 use crate::parts::{MarkPart, Part};
-use crate::wholes::{base_rows, whole_rows};
+use clr_contents::{base_rows, whole_rows};
 use clr_layers::{StoredMark, WorkspaceMap};
 use clr_rows::{Sheet, Words};
 use std::alloc::AllocError;

@@ -8,7 +8,7 @@ ghost use Rattle.clr_tree.specs.Operations.{after_create, after_remove, after_wr
 ghost use Rattle.clr_tree.specs.Operations.{after_roll_to, after_roll_all, after_rebase, set_kept};
 ghost use Rattle.clr_tree.specs.Parts.{workspace_of, list_of, first_fault, IsRefused};
 ghost use Rattle.clr_tree.specs.Soundness.{IsSound};
-ghost use Rattle.clr_tree.specs.Trees.{stored_at, needed};
+ghost use Rattle.clr_tree.specs.Trees.{stored_at, saved_at, needed, needed_of_marks};
 
 use crate::builds::push_parts;
 use crate::limits::{MOST_LEVELS, MOST_SAVEPOINTS, MOST_WORKSPACES};
@@ -16,12 +16,12 @@ use crate::operations::{create, live_alone, mark, put_rows, rebase, remove, roll
 use crate::part_checks::judge_marks;
 use crate::part_reads::part_at;
 use crate::parts::{Part, PartFault};
-use crate::reads::{base_row_of, depth_at, row_of};
 use crate::rebases::Rebase;
 use crate::sweeps::sweep;
-use crate::views::View;
-use crate::wholes::{base_rows, changes_of, saved_rows, whole_rows};
 use clr_change::ChangeSet;
+use clr_contents::{
+    View, base_row_of, base_rows, changes_of, depth_at, row_of, saved_rows, whole_rows,
+};
 use clr_layers::{WorkspaceMap, count_saved, find_saved, has_child_after};
 use clr_rows::{CellId, Row, Sheet};
 use std::alloc::{AllocError, Global};
@@ -370,11 +370,14 @@ impl Tree {
         self.map.set_kept(at, false);
     }
 
-    /// Takes away every entry of a base or of a current content that has the row of what it lies
-    /// over. No content changes.
+    /// Takes away every entry of a base, a current content or a savepoint that has the row of what
+    /// it lies over, without memory. No content changes. Then a base has an entry at just the cells
+    /// at which it isn't as the parent's current content, and a current content and a savepoint at
+    /// just those at which they aren't as the base.
     pub fn sweep(&mut self)
         ensures contents { self.new.list ≡ self.old.list }
         ensures counts { (at : ℕ) → 0 < at → at < length self.new.list → stored_at self.new.stored at ≡ needed self.new.list at }
+        ensures saved { (at : ℕ) → 0 < at → at < length self.new.list → saved_at self.new.saved at ≡ needed_of_marks self.new.list at }
     {
         sweep(&self.live, &mut self.map);
     }

@@ -1,7 +1,7 @@
 use Rattle.std.proofs.Common.{◌≡◌, ℕ, suc, ◌+◌, take, length, map, ap, sym, ◌∙◌, subst, arith}
 use Rattle.clr_layers.specs.Layers.{wholes}
 use Rattle.clr_tree.specs.Parts.{workspace_of, list_of, name_fault_at, first_below, IsRefused}
-use Rattle.clr_tree.specs.Soundness.{IsRooted}
+use Rattle.clr_contents.specs.Roots.{IsRooted}
 use Rattle.clr_tree.proofs.TreeLemmas.{root_made}
 use Rattle.clr_tree.proofs.FaultLemmas.{below_none, below_next, length-parts, shaped_take}
 use Rattle.clr_tree.proofs.BuildLemmas.{refused_at}

@@ -1,7 +1,7 @@
 use Rattle.std.proofs.Common.{◌∙◌, subst}
 use Rattle.clr_layers.specs.Layers.{layer_at}
-use Rattle.clr_tree.specs.Holding.{ChildrenHold}
-use Rattle.clr_tree.proofs.HoldLemmas.{extends_both, children_keep}
+use Rattle.clr_contents.specs.Holding.{ChildrenHold}
+use Rattle.clr_contents.proofs.HoldLemmas.{extends_both, children_keep}
 use Rattle.clr_tree.proofs.operations.hold_moves.Goals as goal
 
 pub returns-clause-extends : goal.returns-clause-extends

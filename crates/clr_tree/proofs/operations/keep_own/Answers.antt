@@ -2,9 +2,9 @@ use Rattle.std.proofs.Common.{◌≡◌, Some, ap, sym, subst, ◌∙◌, arith,
 use Rattle.clr_layers.specs.Layers.{wholes}
 use Rattle.clr_layers.specs.Workspaces.{Workspace, parent_of}
 use Rattle.clr_tree.specs.Operations.{after_resolve}
-use Rattle.clr_tree.specs.Soundness.{IsRooted}
+use Rattle.clr_contents.specs.Roots.{IsRooted}
 use Rattle.clr_tree.specs.declared.rebases.Keep.TheVariants.{Child}
-use Rattle.clr_tree.proofs.HoldLemmas.{extends_both}
+use Rattle.clr_contents.proofs.HoldLemmas.{extends_both}
 use Rattle.clr_tree.proofs.OperationLemmas.{base_taken}
 use Rattle.clr_tree.proofs.operations.keep_own.Goals as goal
 

@@ -3,10 +3,10 @@ use Rattle.clr_differences.specs.Differences.{Rows, no_differences, put_each, ce
 use Rattle.clr_layers.specs.Layers.{wholes, layer_at, layer_changed, is_stored_child, IsUnder}
 use Rattle.clr_layers.specs.Workspaces.{workspace_at}
 use Rattle.clr_rows.specs.Contents.{over, rows_after}
-use Rattle.clr_tree.specs.Holding.{put_into}
+use Rattle.clr_tree.specs.Moves.{put_into}
 use Rattle.clr_tree.specs.Operations.{with_current}
-use Rattle.clr_tree.specs.Soundness.{IsRooted}
-use Rattle.clr_tree.proofs.ReadLemmas.{under_its_parent}
+use Rattle.clr_contents.specs.Roots.{IsRooted}
+use Rattle.clr_contents.proofs.ReadLemmas.{under_its_parent}
 use Rattle.clr_tree.proofs.RootLemmas.{rooted_set}
 use Rattle.clr_tree.proofs.OperationLemmas.{merged_is}
 use Rattle.clr_tree.proofs.operations.merge.Goals as goal

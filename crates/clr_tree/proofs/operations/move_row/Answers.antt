@@ -1,9 +1,10 @@
 use Rattle.std.proofs.Common.{◌≡◌, Some, ap, sym, subst, ◌∙◌, ◌∷◌, [], arith, List}
 use Rattle.clr_layers.specs.Layers.{wholes, layer_at}
 use Rattle.clr_layers.specs.Workspaces.{Workspace, parent_of}
-use Rattle.clr_tree.specs.Holding.{ChildrenHold, row_moved}
-use Rattle.clr_tree.specs.Soundness.{IsRooted}
-use Rattle.clr_tree.proofs.HoldLemmas.{extends_both, children_keep}
+use Rattle.clr_contents.specs.Holding.{ChildrenHold}
+use Rattle.clr_tree.specs.Moves.{row_moved}
+use Rattle.clr_contents.specs.Roots.{IsRooted}
+use Rattle.clr_contents.proofs.HoldLemmas.{extends_both, children_keep}
 use Rattle.clr_tree.proofs.OperationLemmas.{row_set}
 use Rattle.clr_tree.proofs.operations.move_row.Goals as goal
 

@@ -3,9 +3,10 @@ use Rattle.clr_rows.specs.declared.cells.CellId.{CellId}
 use Rattle.clr_rows.specs.Contents.{Content}
 use Rattle.clr_differences.specs.Differences.{cells_in, HasEntries}
 use Rattle.clr_layers.specs.Layers.{wholes, layer_at}
-use Rattle.clr_tree.specs.Holding.{Extends, ChildrenHold, put_into}
-use Rattle.clr_tree.specs.Soundness.{IsRooted}
-use Rattle.clr_tree.proofs.HoldLemmas.{extends_both, extends_put, children_keep}
+use Rattle.clr_contents.specs.Holding.{Extends, ChildrenHold}
+use Rattle.clr_tree.specs.Moves.{put_into}
+use Rattle.clr_contents.specs.Roots.{IsRooted}
+use Rattle.clr_contents.proofs.HoldLemmas.{extends_both, extends_put, children_keep}
 use Rattle.clr_tree.proofs.OperationLemmas.{live_put, put}
 use Rattle.clr_tree.proofs.operations.put_rows.Goals as goal
 

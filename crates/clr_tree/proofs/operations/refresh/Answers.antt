@@ -5,10 +5,10 @@ use Rattle.clr_differences.specs.Differences.{Differences, no_differences, cells
 use Rattle.clr_layers.specs.Layers.{wholes, layer_at, layer_changed, is_stored_child}
 use Rattle.clr_layers.specs.Marks.{mark_last}
 use Rattle.clr_layers.proofs.Meaning.{name-wholes}
-use Rattle.clr_tree.specs.Holding.{Extends, ChildrenHold}
+use Rattle.clr_contents.specs.Holding.{Extends, ChildrenHold}
 use Rattle.clr_tree.specs.Operations.{change_marks}
-use Rattle.clr_tree.specs.Soundness.{IsRooted}
-use Rattle.clr_tree.proofs.HoldLemmas.{children_keep}
+use Rattle.clr_contents.specs.Roots.{IsRooted}
+use Rattle.clr_contents.proofs.HoldLemmas.{children_keep}
 use Rattle.clr_tree.proofs.CreateLemmas.{moved_is, moved_extends, refreshed_is}
 use Rattle.clr_tree.proofs.operations.refresh.Goals as goal
 

@@ -4,12 +4,14 @@ use Rattle.clr_rows.specs.declared.cells.CellId.{CellId}
 use Rattle.clr_differences.specs.Differences.{Differences, seen_over}
 use Rattle.clr_layers.specs.Layers.{wholes, layer_at, layer_changed, stored_at, saved_differences}
 use Rattle.clr_layers.specs.Workspaces.{Workspace, workspace_at}
-use Rattle.clr_tree.specs.Holding.{ChildrenHold}
+use Rattle.clr_contents.specs.Holding.{ChildrenHold}
 use Rattle.clr_tree.specs.Operations.{change_at}
-use Rattle.clr_tree.specs.Soundness.{IsRooted}
-use Rattle.clr_tree.proofs.HoldLemmas.{extends_both, children_keep}
-use Rattle.clr_tree.proofs.ReadLemmas.{current-wholes}
-use Rattle.clr_tree.proofs.OperationLemmas.{length-marks, saved_within, marks-wholes, rolled, rolled_is}
+use Rattle.clr_contents.specs.Roots.{IsRooted}
+use Rattle.clr_contents.proofs.HoldLemmas.{extends_both, children_keep}
+use Rattle.clr_contents.proofs.ReadLemmas.{current-wholes}
+use Rattle.clr_contents.proofs.MarkLemmas.{length-marks, saved_within}
+use Rattle.clr_contents.proofs.ReadLemmas.{marks-wholes}
+use Rattle.clr_tree.proofs.OperationLemmas.{rolled, rolled_is}
 use Rattle.clr_tree.proofs.operations.roll_to.Goals as goal
 
 pub saved_at-requires-clause-marked : goal.saved_at-requires-clause-marked

@@ -3,7 +3,7 @@ use Rattle.clr_layers.specs.declared.stored_marks.StoredMark.{StoredMark}
 use Rattle.clr_layers.specs.Layers.{wholes, whole_mark, layer_at}
 use Rattle.clr_layers.specs.Workspaces.{workspace_at}
 use Rattle.clr_tree.proofs.PartLemmas.{take_all}
-use Rattle.clr_tree.proofs.ReadLemmas.{marks-wholes}
+use Rattle.clr_contents.proofs.ReadLemmas.{marks-wholes}
 use Rattle.clr_tree.proofs.part_reads.mark_parts.Goals as goal
 
 pub returns : goal.returns

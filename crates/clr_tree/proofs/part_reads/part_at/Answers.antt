@@ -1,6 +1,6 @@
 use Rattle.std.proofs.Common.{sym, ◌∙◌}
 use Rattle.clr_layers.proofs.Meaning.{name-wholes, parent-wholes}
-use Rattle.clr_tree.proofs.ReadLemmas.{kept-wholes}
+use Rattle.clr_contents.proofs.ReadLemmas.{kept-wholes}
 use Rattle.clr_tree.proofs.part_reads.part_at.Goals as goal
 
 pub returns : goal.returns

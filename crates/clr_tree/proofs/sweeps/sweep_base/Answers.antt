@@ -2,7 +2,7 @@ use Rattle.std.proofs.Common.{◌≡◌, List, refl, ap, sym, subst, ◌∙◌, 
 use Rattle.clr_differences.specs.Differences.{Differences, swept}
 use Rattle.clr_layers.specs.Layers.{Layer, layer_at, layer_changed, wholes}
 use Rattle.clr_layers.specs.Workspaces.{workspace_at}
-use Rattle.clr_tree.specs.Soundness.{IsRooted}
+use Rattle.clr_contents.specs.Roots.{IsRooted}
 use Rattle.clr_tree.specs.Trees.{content_of_parent}
 use Rattle.clr_tree.proofs.SweepLemmas.{rooted_still, set_again, parent_stays}
 use Rattle.clr_tree.proofs.sweeps.sweep_base.Goals as goal

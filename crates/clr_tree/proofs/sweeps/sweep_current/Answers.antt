@@ -2,7 +2,7 @@ use Rattle.std.proofs.Common.{◌≡◌, List, refl, ap, sym, subst, ◌∙◌, 
 use Rattle.clr_differences.specs.Differences.{Differences, swept}
 use Rattle.clr_layers.specs.Layers.{Layer, layer_at, layer_changed, wholes}
 use Rattle.clr_layers.specs.Workspaces.{workspace_at}
-use Rattle.clr_tree.specs.Soundness.{IsRooted}
+use Rattle.clr_contents.specs.Roots.{IsRooted}
 use Rattle.clr_tree.proofs.SweepLemmas.{rooted_still, set_again, base_stays}
 use Rattle.clr_tree.proofs.sweeps.sweep_current.Goals as goal
 
@@ -23,7 +23,7 @@ returns c =
     let base = (workspace_at (wholes live ls) at).base in
     let seen : c.new.result ≡ base =
     c.new.ensures ∙ ap (λ (ms : List Layer). (workspace_at (wholes live ms) at).base) c.replace_current-current.ensures.new
-    ∙ base_stays live ls at c.requires.rooted c.requires.child c.requires.within c.new-none.result in
+    ∙ base_stays live ls at c.requires.rooted c.requires.child c.requires.within out refl refl in
     let is : c.sweep.new.self ≡ swept base stored.current = c.sweep.ensures ∙ (λ i. swept (seen i) (c.replace_current-current.ensures.before i)) in
     c.replace_current-none.ensures.new
     ∙ ap (λ (ms : List Layer). layer_changed ms at (λ l. record l { current = c.sweep.new.self })) c.replace_current-current.ensures.new

@@ -1,7 +1,10 @@
-use Rattle.std.proofs.Common.{subst}
+use Rattle.std.proofs.Common.{List, subst, sym}
+use Rattle.clr_layers.specs.Workspaces.{Workspace}
 use Rattle.clr_steps.specs.Offices.{Office, office_of}
 use Rattle.clr_steps.specs.Steps.{IsAnswer}
 use Rattle.clr_steps.proofs.StepLemmas.{answer_law}
+use Rattle.clr_engine.specs.Drafts.{IsAdmitted}
+use Rattle.clr_engine.specs.Finders.{AreFinders, kept_contents}
 use Rattle.clr_engine.proofs.Steps.{fits_after, holds_after}
 use Rattle.clr_engine.proofs.offices.Office.perform.Goals as goal
 
@@ -9,15 +12,23 @@ pub invariant_of-self : goal.invariant_of-self
 invariant_of-self c =
     let inside = c.self.inside in
     let o = office_of inside.schema inside.judge inside.tree.list in
-    let left = office_of inside.schema inside.judge c.perform.new.tree.list in
-    let answered = answer_law inside.schema inside.judge inside.tree.list c.perform.ensures.sound c.args.command.now c.perform.result c.perform.new.tree.list c.perform.ensures.performed in
-    record {
-      fit = fits_after o c.args.command.now c.perform.result left c.self.invariant.fit answered;
-      holds = holds_after o c.args.command.now c.perform.result left c.self.invariant.holds answered;
-    }
+    let left = office_of inside.schema inside.judge c.perform-reply.new.tree.list in
+    let answered =
+    answer_law inside.schema inside.judge inside.tree.list c.perform-reply.ensures.sound c.args.command.now c.perform-reply.result c.perform-reply.new.tree.list c.perform-reply.ensures.performed in
+    let admitted : IsAdmitted left = record {
+      fit = fits_after o c.args.command.now c.perform-reply.result left c.self.invariant.0.fit answered;
+      holds = holds_after o c.args.command.now c.perform-reply.result left c.self.invariant.0.holds answered;
+    } in
+    let same = sym c.sweep.ensures.contents in (
+      subst (λ (ws : List Workspace). IsAdmitted (office_of inside.schema inside.judge ws)) same admitted,
+      subst (λ (ws : List Workspace). AreFinders inside.judge (kept_contents ws) c.perform-reply.new.finders) same c.perform-reply.ensures.finders,
+      c.sweep.ensures.counts,
+    )
 
 pub returns-clause-answer : goal.returns-clause-answer
 returns-clause-answer c =
     let inside = c.self.inside in
-    subst (λ (o : Office). IsAnswer o c.args.command.now c.perform.result (office_of inside.schema inside.judge c.perform.new.tree.list)) c.self.view_is
-    (answer_law inside.schema inside.judge inside.tree.list c.perform.ensures.sound c.args.command.now c.perform.result c.perform.new.tree.list c.perform.ensures.performed)
+    let answered =
+    answer_law inside.schema inside.judge inside.tree.list c.perform-reply.ensures.sound c.args.command.now c.perform-reply.result c.perform-reply.new.tree.list c.perform-reply.ensures.performed in
+    subst (λ (o : Office). IsAnswer o c.args.command.now c.perform-reply.result (office_of inside.schema inside.judge c.sweep.new.self.list)) c.self.view_is
+    (subst (λ (ws : List Workspace). IsAnswer (office_of inside.schema inside.judge inside.tree.list) c.args.command.now c.perform-reply.result (office_of inside.schema inside.judge ws)) (sym c.sweep.ensures.contents) answered)

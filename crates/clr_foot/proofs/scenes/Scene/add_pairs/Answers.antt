@@ -1,4 +1,4 @@
-use Rattle.clr_foot.proofs.CandidateLaws.{all_pairs, no_pair_yet, one_pair_more}
+use Rattle.clr_foot.proofs.CandidateLaws.{all_pairs, no_pair_yet, no_pairs, one_pair_more}
 use Rattle.clr_foot.proofs.Gaining.{item_in}
 use Rattle.clr_foot.proofs.scenes.Scene.add_pairs.Goals as goal
 
@@ -14,3 +14,6 @@ loop-other-preserved g c =
 
 pub returns : goal.returns
 returns g c = all_pairs c.args.self.now.book.now c.args.rule c.args.server c.args.one c.args.others.now c.loop-other.other-index _ _ c.loop-other-test.false c.loop-other.invariant
+
+pub returns-then-not-is_of_two : goal.returns-then-not-is_of_two
+returns-then-not-is_of_two g c = no_pairs c.args.self.now.book.now c.args.rule c.args.server c.args.one c.args.others.now c.args.needs.now.items c.is_of_two.result c.is_of_two.ensures c.if-not-is_of_two.true

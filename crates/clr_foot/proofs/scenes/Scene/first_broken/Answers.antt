@@ -1,14 +1,10 @@
-use Rattle.std.proofs.Common.{false, None, get_or, pos, refl}
-use Rattle.clr_foot.specs.declared.needs.Need.{Need}
+use Rattle.std.proofs.Common.{get_or, refl}
 use Rattle.clr_foot.specs.Scenes.{setting_in}
 use Rattle.clr_foot.proofs.BreakLaws.{first_is_least, kept_more, none_is_lost, touched_possible}
 use Rattle.clr_foot.proofs.Gaining.{read_of}
+use Rattle.clr_foot.proofs.NeedOrder.{unread}
 use Rattle.clr_foot.proofs.Searches.{sets_of}
 use Rattle.clr_foot.proofs.scenes.Scene.first_broken.Goals as goal
-
--- what a read past the end would give
-abbrev unread : Need
-unread = record { rule = 0; first = record { cell = record { table = 0; key = pos 0 }; fresh = false }; second = None; first_part = 0; second_part = 0 }
 
 pub is_lost-requires-clause-possible : goal.is_lost-requires-clause-possible
 is_lost-requires-clause-possible g c =

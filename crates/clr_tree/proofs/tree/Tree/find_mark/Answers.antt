@@ -5,7 +5,8 @@ use Rattle.clr_layers.specs.Layers.{layer_at, is_stored_saved_as}
 use Rattle.clr_layers.specs.declared.stored_marks.StoredMark.{StoredMark}
 use Rattle.clr_layers.specs.Workspaces.{workspace_at}
 use Rattle.clr_tree.specs.Trees.{Tree}
-use Rattle.clr_tree.proofs.OperationLemmas.{marks-wholes, found_as_stored}
+use Rattle.clr_contents.proofs.ReadLemmas.{marks-wholes}
+use Rattle.clr_tree.proofs.OperationLemmas.{found_as_stored}
 use Rattle.clr_tree.proofs.ModelLemmas.{within_tree}
 use Rattle.clr_tree.proofs.tree.Tree.find_mark.Goals as goal
 

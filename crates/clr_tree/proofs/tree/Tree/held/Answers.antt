@@ -6,7 +6,9 @@ use Rattle.clr_layers.specs.Layers.{layer_at, is_stored_child}
 use Rattle.clr_layers.specs.declared.stored_marks.StoredMark.{StoredMark}
 use Rattle.clr_layers.specs.Workspaces.{workspace_at}
 use Rattle.clr_tree.specs.Trees.{Tree}
-use Rattle.clr_tree.proofs.OperationLemmas.{length-marks, marks-wholes, held_as_stored}
+use Rattle.clr_contents.proofs.MarkLemmas.{length-marks}
+use Rattle.clr_contents.proofs.ReadLemmas.{marks-wholes}
+use Rattle.clr_tree.proofs.OperationLemmas.{held_as_stored}
 use Rattle.clr_tree.proofs.ModelLemmas.{within_tree}
 use Rattle.clr_tree.proofs.tree.Tree.held.Goals as goal
 

@@ -2,7 +2,7 @@ use Rattle.std.proofs.Common.{ap, sym, ◌∙◌, arith}
 use Rattle.clr_layers.specs.Workspaces.{workspace_at}
 use Rattle.clr_tree.specs.Trees.{Tree}
 use Rattle.clr_tree.proofs.ModelLemmas.{within_tree}
-use Rattle.clr_tree.proofs.OperationLemmas.{kept-wholes}
+use Rattle.clr_contents.proofs.ReadLemmas.{kept-wholes}
 use Rattle.clr_tree.proofs.tree.Tree.kept.Goals as goal
 
 pub kept-requires : goal.kept-requires

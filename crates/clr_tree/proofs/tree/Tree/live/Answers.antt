@@ -2,7 +2,7 @@ use Rattle.std.proofs.Common.{ap, sym, ◌∙◌}
 use Rattle.clr_layers.specs.Workspaces.{workspace_at}
 use Rattle.clr_layers.proofs.Meaning.{live-wholes}
 use Rattle.clr_tree.specs.Trees.{Tree}
-use Rattle.clr_tree.proofs.ReadLemmas.{within_layers}
+use Rattle.clr_contents.proofs.ReadLemmas.{within_layers}
 use Rattle.clr_tree.proofs.tree.Tree.live.Goals as goal
 
 pub returns : goal.returns

@@ -8,7 +8,7 @@ use Rattle.clr_tree.proofs.NameLemmas.{good_more, absent_name, count_names}
 use Rattle.clr_tree.proofs.TreeLemmas.{sound_saved}
 use Rattle.clr_layers.specs.Layers.{wholes}
 use Rattle.clr_tree.specs.Soundness.{IsSound}
-use Rattle.clr_tree.proofs.ReadLemmas.{within_wholes}
+use Rattle.clr_contents.proofs.ReadLemmas.{within_wholes}
 use Rattle.clr_tree.proofs.ModelLemmas.{within_tree, became, either}
 use Rattle.clr_layers.proofs.Answered.{on_ok, on_err}
 use Rattle.clr_tree.proofs.tree.Tree.mark.Goals as goal

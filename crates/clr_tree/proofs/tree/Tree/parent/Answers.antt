@@ -2,7 +2,7 @@ use Rattle.std.proofs.Common.{◌≡◌, ap, sym, ◌∙◌}
 use Rattle.clr_layers.specs.Layers.{find_layer, wholes}
 use Rattle.clr_layers.specs.Workspaces.{parent_of}
 use Rattle.clr_tree.specs.Trees.{Tree}
-use Rattle.clr_tree.proofs.ReadLemmas.{parent_here, within_wholes}
+use Rattle.clr_contents.proofs.ReadLemmas.{parent_here, within_wholes}
 use Rattle.clr_tree.proofs.RootLemmas.{parent_earlier, parent_found}
 use Rattle.clr_tree.proofs.ModelLemmas.{within_tree}
 use Rattle.clr_tree.proofs.tree.Tree.parent.Goals as goal

@@ -3,7 +3,7 @@ use Rattle.clr_tree.specs.Operations.{after_rebase}
 use Rattle.clr_tree.proofs.TreeLemmas.{sound_rebased}
 use Rattle.clr_layers.specs.Layers.{wholes}
 use Rattle.clr_tree.specs.Soundness.{IsSound}
-use Rattle.clr_tree.proofs.ReadLemmas.{within_wholes}
+use Rattle.clr_contents.proofs.ReadLemmas.{within_wholes}
 use Rattle.clr_tree.proofs.ModelLemmas.{within_tree, became, either}
 use Rattle.clr_layers.proofs.Answered.{on_ok, on_err}
 use Rattle.clr_tree.proofs.tree.Tree.rebase.Goals as goal

@@ -6,7 +6,7 @@ use Rattle.clr_tree.proofs.LeafLemmas.{no_child_whole}
 use Rattle.clr_tree.proofs.TreeLemmas.{sound_removed}
 use Rattle.clr_layers.specs.Layers.{wholes}
 use Rattle.clr_tree.specs.Soundness.{IsSound}
-use Rattle.clr_tree.proofs.ReadLemmas.{within_wholes}
+use Rattle.clr_contents.proofs.ReadLemmas.{within_wholes}
 use Rattle.clr_tree.proofs.ModelLemmas.{within_tree, became}
 use Rattle.clr_tree.proofs.tree.Tree.remove.Goals as goal
 

@@ -5,7 +5,7 @@ use Rattle.clr_tree.specs.Operations.{after_roll_all}
 use Rattle.clr_tree.proofs.TreeLemmas.{sound_unsaved}
 use Rattle.clr_layers.specs.Layers.{wholes}
 use Rattle.clr_tree.specs.Soundness.{IsSound}
-use Rattle.clr_tree.proofs.ReadLemmas.{within_wholes}
+use Rattle.clr_contents.proofs.ReadLemmas.{within_wholes}
 use Rattle.clr_tree.proofs.ModelLemmas.{within_tree, became}
 use Rattle.clr_tree.proofs.tree.Tree.roll_all.Goals as goal
 

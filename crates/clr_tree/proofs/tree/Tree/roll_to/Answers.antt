@@ -6,7 +6,7 @@ use Rattle.clr_tree.specs.Operations.{after_roll_to}
 use Rattle.clr_tree.proofs.TreeLemmas.{sound_rolled_to}
 use Rattle.clr_layers.specs.Layers.{wholes}
 use Rattle.clr_tree.specs.Soundness.{IsSound}
-use Rattle.clr_tree.proofs.ReadLemmas.{within_wholes}
+use Rattle.clr_contents.proofs.ReadLemmas.{within_wholes}
 use Rattle.clr_tree.proofs.ModelLemmas.{within_tree, became, either}
 use Rattle.clr_layers.proofs.Answered.{on_ok, on_err}
 use Rattle.clr_tree.proofs.tree.Tree.roll_to.Goals as goal

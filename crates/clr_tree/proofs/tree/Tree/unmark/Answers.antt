@@ -5,9 +5,10 @@ use Rattle.clr_layers.specs.Workspaces.{workspace_at}
 use Rattle.clr_tree.specs.Operations.{after_unmark}
 use Rattle.clr_tree.specs.Soundness.{IsSound}
 use Rattle.clr_tree.specs.Trees.{Tree}
-use Rattle.clr_tree.proofs.ReadLemmas.{within_wholes}
+use Rattle.clr_contents.proofs.ReadLemmas.{within_wholes}
 use Rattle.clr_tree.proofs.ModelLemmas.{within_tree, became}
-use Rattle.clr_tree.proofs.OperationLemmas.{length-marks, mark_removed, saved_within}
+use Rattle.clr_contents.proofs.MarkLemmas.{length-marks, saved_within}
+use Rattle.clr_tree.proofs.OperationLemmas.{mark_removed}
 use Rattle.clr_tree.proofs.TreeLemmas.{sound_unmarked}
 use Rattle.clr_tree.proofs.tree.Tree.unmark.Goals as goal
 

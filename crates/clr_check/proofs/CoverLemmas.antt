@@ -1,0 +1,159 @@
+-- What covers a need, told by lives and by the versions that serve.
+use Rattle.std.proofs.Common.{◌≡◌, ℕ, ◌+◌, ◌<◌, ◌≤◌, ◌⊎◌, inl, inr, Bool, true, false, ◌||◌, ◌==◌, List, [], ◌∷◌, Contains, get_or, length, map, take, refl, sym, ap, ◌∙◌, subst, Option, Some, None}
+use Rattle.std.specs.Option.{option_map}
+use Rattle.std.proofs.lemmas.Bool.{false≢true}
+use Rattle.std.proofs.lemmas.Bool.Decides.{Decides-eqb}
+use Rattle.clr_foot.specs.declared.needs.Need.{Need}
+use Rattle.clr_foot.specs.declared.needs.VersionId.{VersionId}
+use Rattle.clr_foot.specs.Blocking.{same_life}
+use Rattle.clr_foot.specs.Candidates.{are_opposed}
+use Rattle.clr_foot.specs.Covers.{CoverTogether, CoversAlone, IsLifeOf, Lasts, WitnessesCover}
+use Rattle.clr_foot.specs.Needs.{AreOpposed, AreServers, IsBesideToo, IsPossible, IsServing, Serves}
+use Rattle.clr_foot.specs.Settings.{Setting, Lifetime, Always, With, Without, Lived, version}
+use Rattle.clr_foot.proofs.BreakLaws.{subjects_once}
+use Rattle.clr_foot.proofs.Gaining.{none_taken, one_more, all_taken}
+use Rattle.clr_check.specs.Claims.{HasCover, IsTold, lasts, same_too}
+use Rattle.clr_check.specs.declared.claims.Claim.{Claim}
+use Rattle.clr_check.proofs.SearchLemmas.{either_told, it_is, it_is_not, told_as, told_by}
+
+-- lives ------------------------------------------------------------------------------------------
+
+same_number : (m n : ℕ) (P : Type 0) → (m ≡ n → P) → (P → m ≡ n) → IsTold (m == n) P
+same_number m n P from to = told_by (m == n) P (λ e. from ((Decides-eqb m n).0 e)) (λ p. (Decides-eqb m n).1 (to p))
+
+member_of : ℕ → Lifetime ℕ → ℕ
+member_of d Always = d
+member_of d (With n) = n
+member_of d (Without n) = n
+
+same_told : (x y : Lifetime ℕ) → IsTold (same_life x y) (x ≡ y)
+unfolding member_of
+same_told Always Always = refl
+same_told Always (With n) = λ e. cc
+same_told Always (Without n) = λ e. cc
+same_told (With m) Always = λ e. cc
+same_told (With m) (With n) = same_number m n (With m ≡ With n) (λ e. ap With e) (λ e. ap (member_of m) e)
+same_told (With m) (Without n) = λ e. cc
+same_told (Without m) Always = λ e. cc
+same_told (Without m) (With n) = λ e. cc
+same_told (Without m) (Without n) = same_number m n (Without m ≡ Without n) (λ e. ap Without e) (λ e. ap (member_of m) e)
+
+pub opposed_told : (x y : Lifetime ℕ) → IsTold (are_opposed x y) (AreOpposed x y)
+opposed_told Always Always = λ h. h
+opposed_told Always (With n) = λ h. h
+opposed_told Always (Without n) = λ h. h
+opposed_told (With m) Always = λ h. h
+opposed_told (With m) (With n) = λ h. h
+opposed_told (With m) (Without n) = same_number m n (m ≡ n) (λ e. e) (λ e. e)
+opposed_told (Without m) Always = λ h. h
+opposed_told (Without m) (With n) = same_number m n (m ≡ n) (λ e. e) (λ e. e)
+opposed_told (Without m) (Without n) = λ h. h
+
+life_of : Option (Lived ℕ) → Option (Lifetime ℕ)
+life_of None = None
+life_of (Some b) = Some b.life
+
+too_told : (l : Lifetime ℕ) (b : Option (Lived ℕ)) → IsTold (same_too l (life_of b)) (IsLifeOf l b)
+unfolding life_of
+too_told l None = λ h. h
+too_told l (Some b) = same_told l b.life
+
+lasts_told : (l : Lifetime ℕ) (a : Lived ℕ) (b : Option (Lived ℕ)) → IsTold (lasts l (Some a.life) (life_of b)) (Lasts l a b)
+lasts_told l a b = either_told _ _ (l ≡ Always) _ (same_told l Always) (either_told _ _ (l ≡ a.life) (IsLifeOf l b) (same_told l a.life) (too_told l b))
+
+-- versions that serve ----------------------------------------------------------------------------
+
+module _ (c : Setting ℕ) where
+  -- how long a version lives, if there is one
+  abbrev pub life_at : VersionId → Option (Lifetime ℕ)
+  life_at v = option_map (λ (l : Lived ℕ). l.life) (version c v)
+
+  abbrev pub life_at_too : Option VersionId → Option (Lifetime ℕ)
+  life_at_too None = None
+  life_at_too (Some v) = life_at v
+
+  lived_at : (v : VersionId) (life : Lifetime ℕ) → Some life ≡ life_at v → (l : Lived ℕ) × (version c v ≡ Some l) × (l.life ≡ life)
+  lived_at v life e = by (version c v) refl e
+    where
+      by : (r : Option (Lived ℕ)) → version c v ≡ r → Some life ≡ option_map (λ (l : Lived ℕ). l.life) r → (l : Lived ℕ) × (version c v ≡ Some l) × (l.life ≡ life)
+      by None is f = absurd (cc)
+      by (Some l) is f = (l, is, let one : life ≡ l.life = cc in sym one)
+
+  one_at : (v : VersionId) (l m : Lived ℕ) → version c v ≡ Some l → version c v ≡ Some m → l ≡ m
+  one_at v l m e f = let both : Some l ≡ Some m = sym e ∙ f in cc
+
+  second_life : (first : VersionId) (a : Lived ℕ) (v : Option VersionId) (b : Option (Lived ℕ)) → IsBesideToo c first a v b → life_at_too v ≡ life_of b
+  unfolding life_of
+  second_life first a None None h = refl
+  second_life first a None (Some b) h = absurd h
+  second_life first a (Some v) None h = absurd h
+  second_life first a (Some v) (Some b) h = ap (option_map (λ (l : Lived ℕ). l.life)) h.is
+
+  module _ (n : Need) (servers : List VersionId) (are : AreServers c n servers) (a : Lived ℕ) (b : Option (Lived ℕ)) (possible : IsPossible c n a b) where
+    -- a listed version serves these subjects
+    serves_these : (v : VersionId) → Contains servers v → (l : Lived ℕ) × Serves c n a b v l
+    serves_these v h =
+        let (x, y, l, possible_too, serves) = (are.exactly v).0 h in
+        let (same, same_too) = subjects_once c n a x b y possible possible_too in
+        (l, subst (λ z. Serves c n a z v l) same_too (subst (λ z. Serves c n z y v l) same serves))
+
+    serving_is_listed : (v : VersionId) (l : Lived ℕ) → Serves c n a b v l → Contains servers v
+    serving_is_listed v l serves = (are.exactly v).1 (a, b, l, possible, serves)
+
+    pub unlisted : (v : VersionId) → ¬ (Contains servers v) → ¬ (CoversAlone c n a b v)
+    unlisted v out (l, serves, lasting) = out (serving_is_listed v l serves)
+
+    pub alone_told : (v : VersionId) (life : Lifetime ℕ) (first second : Option (Lifetime ℕ)) (told : Bool) → Contains servers v → Some life ≡ life_at v → first ≡ life_at n.first → second ≡ life_at_too n.second
+        → told ≡ lasts life first second → IsTold told (CoversAlone c n a b v)
+    alone_told v life first second told h at e f is =
+        let (l, there, same) = lived_at v life at in
+        let first_is : first ≡ Some a.life = e ∙ ap (option_map (λ (x : Lived ℕ). x.life)) possible.first_is in
+        let second_is : second ≡ life_of b = f ∙ second_life n.first a n.second b possible.second_is in
+        let whole : told ≡ lasts l.life (Some a.life) (life_of b) = is ∙ (λ i. lasts (sym same i) (first_is i) (second_is i)) in
+        let (m, serves) = serves_these v h in
+        subst (λ t. IsTold t (CoversAlone c n a b v)) (sym whole)
+        (told_as _ (Lasts l.life a b) (CoversAlone c n a b v)
+        (λ lasting. (l, subst (Serves c n a b v) (one_at v m l serves.is there) serves, lasting))
+        (λ (k, serving, lasting). subst (λ (z : Lived ℕ). Lasts z.life a b) (one_at v k l serving.is there) lasting) (lasts_told l.life a b))
+
+    pub one_unlisted : (v w : VersionId) → ¬ (Contains servers v) → ¬ (CoverTogether c n a b v w)
+    one_unlisted v w out (l, m, serves, serves_too, opposed) = out (serving_is_listed v l serves)
+
+    pub other_unlisted : (v w : VersionId) → ¬ (Contains servers w) → ¬ (CoverTogether c n a b v w)
+    other_unlisted v w out (l, m, serves, serves_too, opposed) = out (serving_is_listed w m serves_too)
+
+    pub together_told : (v w : VersionId) (one two : Lifetime ℕ) (told : Bool) → Contains servers v → Contains servers w → Some one ≡ life_at v → Some two ≡ life_at w → told ≡ are_opposed one two
+        → IsTold told (CoverTogether c n a b v w)
+    together_told v w one two told h k at at_too is =
+        let (l, there, same) = lived_at v one at in
+        let (m, there_too, same_too) = lived_at w two at_too in
+        let (x, serves) = serves_these v h in
+        let (y, serves_too) = serves_these w k in
+        let whole : told ≡ are_opposed l.life m.life = is ∙ (λ i. are_opposed (sym same i) (sym same_too i)) in
+        subst (λ t. IsTold t (CoverTogether c n a b v w)) (sym whole)
+        (told_as _ (AreOpposed l.life m.life) (CoverTogether c n a b v w)
+        (λ opposed. (l, m, subst (Serves c n a b v) (one_at v x l serves.is there) serves, subst (Serves c n a b w) (one_at w y m serves_too.is there_too) serves_too, opposed))
+        (λ (p, q, serving, serving_too, opposed). (let first : AreOpposed l.life q.life = subst (λ (z : Lived ℕ). AreOpposed z.life q.life) (one_at v p l serving.is there) opposed in
+        subst (λ (z : Lived ℕ). AreOpposed l.life z.life) (one_at w q m serving_too.is there_too) first)) (opposed_told l.life m.life))
+
+  module _ (n : Need) (a : Lived ℕ) (b : Option (Lived ℕ)) where
+    -- the versions of a claim
+    pub two_told : (v w : VersionId) (x y z : Bool) → IsTold x (CoversAlone c n a b v) → IsTold y (CoversAlone c n a b w) → IsTold z (CoverTogether c n a b v w) → IsTold (x || (y || z)) (WitnessesCover c n a b v (Some w))
+    two_told v w x y z one two both = either_told _ _ (CoversAlone c n a b v) _ one (either_told _ _ (CoversAlone c n a b w) (CoverTogether c n a b v w) two both)
+
+    -- none of the claims so far covers
+    abbrev pub NoneCovers : List Claim → Type 0
+    NoneCovers claims = (k : Claim) → Contains claims k → ¬ (WitnessesCover c n a b k.one k.two)
+
+    pub none_yet : (claims : List Claim) → NoneCovers (take 0 claims)
+    none_yet claims k h = absurd (none_taken claims k h)
+
+    pub one_not : (claims : List Claim) (at : ℕ) (d : Claim) (told : Bool) → at < length claims → told ≡ false → IsTold told (WitnessesCover c n a b (get_or claims at d).one (get_or claims at d).two) → NoneCovers (take at claims) → NoneCovers (take (at + 1) claims)
+    one_not claims at d told less e here before k h = by (one_more claims at d k less h)
+      where
+        by : Contains (take at claims) k ⊎ (k ≡ get_or claims at d) → ¬ (WitnessesCover c n a b k.one k.two)
+        by (inl earlier) = before k earlier
+        by (inr last) = λ covers. it_is_not told _ e here (subst (λ (x : Claim). WitnessesCover c n a b x.one x.two) last covers)
+
+    pub none_covers : (claims : List Claim) (at : ℕ) → length claims ≤ at → NoneCovers (take at claims) → ¬ (HasCover c n a b claims)
+    none_covers claims at past before (k, h, covers) = before k (all_taken claims at k past h) covers

@@ -1,0 +1,72 @@
+-- Needs judged one after another by the claims of each.
+use Rattle.std.proofs.Common.{◌≡◌, ℕ, ◌+◌, ◌<◌, ◌≤◌, ◌⊎◌, ◌↔◌, inl, inr, Bool, true, false, List, Contains, Option, Some, None, get_or, length, map, pos, refl, sym, ap, ◌∙◌, subst, arith}
+use Rattle.std.specs.Prelude.{slice_get}
+use Rattle.std.proofs.lemmas.Option.{slice_get-get_or, slice_get_within}
+use Rattle.clr_cert.specs.declared.entries.Entry.{Entry}
+use Rattle.clr_foot.specs.declared.needs.Need.{Need}
+use Rattle.clr_foot.specs.declared.needs.VersionId.{VersionId}
+use Rattle.clr_foot.specs.Covers.{AreCovered, Entry as Witnesses}
+use Rattle.clr_foot.specs.Needs.{AreTouchedNeeds, IsPossible, IsPossibleNeed}
+use Rattle.clr_foot.specs.Settings.{Setting, Lived}
+use Rattle.clr_clearance.specs.CheckLaws.{IsCovered}
+use Rattle.clr_clearance.proofs.CheckLemmas.{all_judged, first_judged}
+use Rattle.clr_check.specs.Certificates.{entries_in}
+use Rattle.clr_check.specs.Claims.{HasCover, IsClaimOf, IsLeastUncovered, IsTold, claim_of}
+use Rattle.clr_check.specs.declared.claims.Claim.{Claim}
+use Rattle.clr_check.proofs.ClaimLemmas.{covered_has, has_covered}
+use Rattle.clr_check.proofs.SearchLemmas.{it_is, it_is_not}
+
+-- what a read past the end would give
+abbrev no_version : VersionId
+no_version = record { cell = record { table = 0; key = pos 0 }; fresh = false }
+
+abbrev pub no_need : Need
+no_need = record { rule = 0; first = no_version; second = None; first_part = 0; second_part = 0 }
+
+abbrev pub no_claim : Claim
+no_claim = record { need = no_need; one = no_version; two = None }
+
+-- one need -----------------------------------------------------------------------------------------
+
+-- claims are those of the entries, and some of them are those of a need, of which a test tells whether one covers it
+pub record AreJudged (c : Setting ℕ) (entries : List Entry) (n : Need) (told : Bool) : Type 0 where
+  pub claims : List Claim
+  pub found : List Claim
+  pub sorted : (k : Claim) → Contains claims k ↔ Contains (map claim_of entries) k
+  pub those : (k : Claim) → Contains found k ↔ IsClaimOf claims n k
+  pub tells : (a : Lived ℕ) (b : Option (Lived ℕ)) → IsPossible c n a b → IsTold told (HasCover c n a b found)
+
+module _ (c : Setting ℕ) (entries : List Entry) (n : Need) where
+  pub need_covered : AreJudged c entries n true → IsCovered c (entries_in entries) n
+  need_covered judged a b possible = covered_has c n a b entries judged.claims judged.found judged.sorted judged.those (judged.tells a b possible)
+
+  pub need_uncovered : AreJudged c entries n false → IsPossibleNeed c n → ¬ (IsCovered c (entries_in entries) n)
+  need_uncovered judged (a, b, possible) covered = judged.tells a b possible (has_covered c n a b entries judged.claims judged.found judged.sorted judged.those (covered a b possible))
+
+-- one after another ----------------------------------------------------------------------------------
+
+module _ (c : Setting ℕ) (entries : List Witnesses) where
+  abbrev pub AllBefore : List Need → ℕ → Type 0
+  AllBefore needs at = (before : ℕ) (m : Need) → before < at → slice_get needs before ≡ Some m → IsCovered c entries m
+
+  pub none_before : (needs : List Need) → AllBefore needs 0
+  none_before needs before m less e = absurd (omega (arith, less))
+
+  pub one_before : (needs : List Need) (at : ℕ) (d : Need) → at < length needs → IsCovered c entries (get_or needs at d) → AllBefore needs at → AllBefore needs (at + 1)
+  one_before needs at d within covered earlier before m less e = elim (side before less) [
+    | inl h ↦ earlier before m h e
+    | inr h ↦ subst (IsCovered c entries) (let both : Some (get_or needs at d) ≡ Some m = sym (slice_get-get_or needs at d within) ∙ ap (slice_get needs) (sym h) ∙ e in cc) covered
+  ]
+    where
+      side : (k : ℕ) → k < at + 1 → (k < at) ⊎ (k ≡ at)
+      side k h = grind (arith, h)
+
+  pub all_before : (needs read : List Need) (at : ℕ) → AreTouchedNeeds c needs → read ≡ needs → length read ≤ at → AllBefore read at → AreCovered c entries
+  all_before needs read at are same past earlier = all_judged c entries read (subst (AreTouchedNeeds c) (sym same) are) (λ n h. here n h)
+    where
+      here : (n : Need) → Contains read n → IsCovered c entries n
+      here n (k, within, is) = earlier k n (omega (arith, within, past)) (slice_get-get_or read k n within ∙ ap Some is)
+
+  pub first_after : (needs read : List Need) (at : ℕ) (d : Need) → AreTouchedNeeds c needs → read ≡ needs → at < length read → AllBefore read at → ¬ (IsCovered c entries (get_or read at d))
+      → IsLeastUncovered c entries (get_or read at d)
+  first_after needs read at d are same within earlier bare = first_judged c entries read at (get_or read at d) (subst (AreTouchedNeeds c) (sym same) are) (slice_get-get_or read at d within) earlier bare

@@ -1,0 +1,10 @@
+pub mod AnswerLemmas
+pub mod ClaimLemmas
+pub mod CoverLemmas
+pub mod FinderLemmas
+pub mod JudgeLemmas
+pub mod NameLemmas
+pub mod Noting
+pub mod RepeatLemmas
+pub mod SearchLemmas
+pub mod SiteLemmas

@@ -1,0 +1,6 @@
+pub mod Answers
+pub mod Certificates
+pub mod Claims
+pub mod Finders
+pub mod SiteNames
+pub mod Sites

@@ -1,0 +1,76 @@
+//! The check of a certificate in an office.
+
+ghost use Rattle.std.specs.Prelude.{◌≡◌};
+ghost use Rattle.clr_clearance.specs.Laws.{StaysFree};
+ghost use Rattle.clr_clearance.specs.Safety.{Safe};
+ghost use Rattle.clr_clearance.specs.declared.verdicts.Verdict.TheVariants as verdict;
+ghost use Rattle.clr_steps.specs.Quiet.{Site};
+ghost use Rattle.clr_engine.specs.Drafts.{IsAdmitted};
+ghost use Rattle.clr_check.specs.Answers.{IsAnswer, verdict_of};
+ghost use Rattle.clr_check.specs.Certificates.{entries_in, site_of};
+ghost use Rattle.clr_check.specs.Sites.{AreOfSite, AreParts};
+
+use crate::covers::first_uncovered;
+use crate::site_parts::SiteParts;
+use crate::sites::read_site;
+use clr_cert::{Certificate, Entry};
+use clr_clearance::Verdict;
+use clr_engine::Office;
+use clr_foot::SceneFault;
+use std::alloc::Global;
+
+/// What is said where change sets make no scene.
+fn verdict_of(fault: SceneFault) -> Verdict
+    ensures { result ≡ verdict_of fault }
+{
+    match fault {
+        SceneFault::SharedCell {
+            cell,
+            first,
+            second,
+        } => Verdict::SharedCell {
+            cell,
+            first: first as usize,
+            second: second as usize,
+        },
+        SceneFault::OutOfMemory => Verdict::OutOfMemory,
+    }
+}
+
+/// What the tests of cells and needs say of the parts of a site.
+fn judge_parts(alloc: Global, office: &Office, parts: &SiteParts, entries: &[Entry]) -> Verdict
+    requires { AreOfSite office.now parts.now }
+    ensures { (s : Site) → AreParts office.now s parts.now → IsAnswer office.now s (entries_in entries.now) result }
+{
+    match parts.scene(alloc, office) {
+        Ok(scene) => match first_uncovered(alloc, &scene, entries) {
+            Ok(None) => Verdict::Clear,
+            Ok(Some(need)) => Verdict::Uncovered(need),
+            Err(_) => Verdict::OutOfMemory,
+        },
+        Err(fault) => verdict_of(fault),
+    }
+}
+
+/// The verdict on a certificate in an office: clear, or the first test that fails. `OutOfMemory` may
+/// come in its place where no test of names fails, and only where a growth was refused. Where the
+/// answer is `Clear`, every rule holds in the root with the changes of any of the members over it and
+/// no other member is in conflict with that; and all of it stays so over every list of quiet
+/// commands, in which no merge or refresh of a member is answered by a conflict or a broken rule.
+/// Nothing that the certificate says is taken for true.
+pub fn check(alloc: Global, office: &Office, certificate: &Certificate) -> Verdict
+    ensures answer { IsAnswer office.now (site_of certificate.now) (entries_in certificate.now.entries) result }
+    ensures free { result ≡ verdict.Clear → StaysFree office.now (site_of certificate.now) }
+    ensures safe { result ≡ verdict.Clear → Safe office.now (site_of certificate.now) }
+    ensures admitted { IsAdmitted office.now }
+{
+    match read_site(
+        alloc,
+        office,
+        certificate.root.as_str(),
+        &certificate.members,
+    ) {
+        Ok(parts) => judge_parts(alloc, office, &parts, certificate.entries.as_slice()),
+        Err(verdict) => verdict,
+    }
+}

@@ -1,0 +1,180 @@
+//! Whether claims cover a need, and the first need that none covers.
+
+ghost use Rattle.std.specs.Prelude.{◌≡◌, ℕ, Contains, IfOk, MatchOption, Option, option_map};
+ghost use Rattle.std.specs.List.Sorted.{IsStrictlySortedBy};
+ghost use Rattle.clr_foot.specs.Blocking.{same_life};
+ghost use Rattle.clr_foot.specs.Candidates.{are_opposed};
+ghost use Rattle.clr_foot.specs.Covers.{AreCovered, CoverTogether, CoversAlone, WitnessesCover};
+ghost use Rattle.clr_foot.specs.Members.{lifetime};
+ghost use Rattle.clr_foot.specs.Needs.{AreServers, IsPossible, IsPossibleNeed};
+ghost use Rattle.clr_foot.specs.Orders.{version_cmp};
+ghost use Rattle.clr_foot.specs.Scenes.{IsReady, model_of, setting_of};
+ghost use Rattle.clr_foot.specs.Settings.{Lived};
+ghost use Rattle.clr_check.specs.Certificates.{entries_in};
+ghost use Rattle.clr_check.specs.Claims.{HasCover, IsLeastUncovered, IsTold, lasts, same_too};
+
+use crate::claims::{Claim, claims_of, sort_claims};
+use clr_cert::Entry;
+use clr_foot::{Life, Need, Scene, VersionId};
+use clr_grid::RowFinder;
+use clr_rows::RowView;
+use std::alloc::{AllocError, Global};
+
+/// Whether two lives are one.
+fn are_same(one: Life, other: Life) -> bool
+    ensures { result ≡ same_life (lifetime one) (lifetime other) }
+{
+    match (one, other) {
+        (Life::Always, Life::Always) => true,
+        (Life::With(member), Life::With(other)) => member == other,
+        (Life::Without(member), Life::Without(other)) => member == other,
+        _ => false,
+    }
+}
+
+/// Whether of two versions one lives with a member and the other without it.
+fn are_opposed(one: Life, other: Life) -> bool
+    ensures { result ≡ are_opposed (lifetime one) (lifetime other) }
+{
+    match (one, other) {
+        (Life::With(with), Life::Without(without)) => with == without,
+        (Life::Without(without), Life::With(with)) => with == without,
+        _ => false,
+    }
+}
+
+/// Whether a life is that of a subject, if there is one.
+fn is_life_of(life: Life, subject: Option<Life>) -> bool
+    ensures { result ≡ same_too (lifetime life) (option_map lifetime subject) }
+{
+    match subject {
+        Some(subject) => are_same(life, subject),
+        None => false,
+    }
+}
+
+/// Whether what lives so stands wherever the subjects do.
+fn lasts(life: Life, first: Option<Life>, second: Option<Life>) -> bool
+    ensures { result ≡ lasts (lifetime life) (option_map lifetime first) (option_map lifetime second) }
+{
+    are_same(life, Life::Always) || is_life_of(life, first) || is_life_of(life, second)
+}
+
+/// Whether a version is among some.
+fn is_among(versions: &[VersionId], id: VersionId) -> bool
+    requires { IsStrictlySortedBy version_cmp versions.now }
+    ensures { IsTold result (Contains versions.now id) }
+{
+    versions.binary_search(&id).is_ok()
+}
+
+/// Whether a version covers a need alone: it serves, and stands wherever the subjects do.
+fn covers_alone<V: RowView, F: RowFinder>(
+    scene: &Scene<'_, V, F>,
+    need: &Need,
+    servers: &[VersionId],
+    id: VersionId,
+) -> bool
+    requires { AreServers (setting_of (model_of V.content scene.now)) need.now servers.now }
+    ensures { (a : Lived ℕ) (b : Option (Lived ℕ)) → IsPossible (setting_of (model_of V.content scene.now)) need.now a b
+        → IsTold result (CoversAlone (setting_of (model_of V.content scene.now)) need.now a b id) }
+{
+    if !is_among(servers, id) {
+        return false;
+    }
+    let Some(life) = scene.life(id) else {
+        return false;
+    };
+    let first = scene.life(need.first);
+    match need.second {
+        None => lasts(life, first, None),
+        Some(second) => lasts(life, first, scene.life(second)),
+    }
+}
+
+/// Whether two versions cover a need together: both serve, and one of them stands always.
+fn cover_together<V: RowView, F: RowFinder>(
+    scene: &Scene<'_, V, F>,
+    need: &Need,
+    servers: &[VersionId],
+    one: VersionId,
+    two: VersionId,
+) -> bool
+    requires { AreServers (setting_of (model_of V.content scene.now)) need.now servers.now }
+    ensures { (a : Lived ℕ) (b : Option (Lived ℕ)) → IsPossible (setting_of (model_of V.content scene.now)) need.now a b
+        → IsTold result (CoverTogether (setting_of (model_of V.content scene.now)) need.now a b one two) }
+{
+    let _need = need;
+    if !is_among(servers, one) || !is_among(servers, two) {
+        return false;
+    }
+    match (scene.life(one), scene.life(two)) {
+        (Some(one), Some(two)) => are_opposed(one, two),
+        _ => false,
+    }
+}
+
+/// Whether the versions of a claim cover a need.
+fn covers<V: RowView, F: RowFinder>(
+    scene: &Scene<'_, V, F>,
+    need: &Need,
+    servers: &[VersionId],
+    claim: &Claim,
+) -> bool
+    requires { AreServers (setting_of (model_of V.content scene.now)) need.now servers.now }
+    ensures { (a : Lived ℕ) (b : Option (Lived ℕ)) → IsPossible (setting_of (model_of V.content scene.now)) need.now a b
+        → IsTold result (WitnessesCover (setting_of (model_of V.content scene.now)) need.now a b claim.now.one claim.now.two) }
+{
+    match claim.two {
+        None => covers_alone(scene, need, servers, claim.one),
+        Some(two) => {
+            covers_alone(scene, need, servers, claim.one)
+                || covers_alone(scene, need, servers, two)
+                || cover_together(scene, need, servers, claim.one, two)
+        }
+    }
+}
+
+/// Whether one of some claims covers a possible need. It fails for want of memory alone.
+fn is_covered<V: RowView, F: RowFinder>(
+    scene: &Scene<'_, V, F>,
+    need: &Need,
+    claims: &[Claim],
+) -> Result<bool, AllocError>
+    requires ready { IsReady F.settled (model_of V.content scene.now) }
+    requires possible { IsPossibleNeed (setting_of (model_of V.content scene.now)) need.now }
+    ensures { IfOk result (λ told. (a : Lived ℕ) (b : Option (Lived ℕ)) → IsPossible (setting_of (model_of V.content scene.now)) need.now a b
+        → IsTold told (HasCover (setting_of (model_of V.content scene.now)) need.now a b claims.now)) }
+{
+    if claims.is_empty() {
+        return Ok(false);
+    }
+    let servers = scene.servers(need)?;
+    for claim in claims {
+        if covers(scene, need, servers.as_slice(), claim) {
+            return Ok(true);
+        }
+    }
+    Ok(false)
+}
+
+/// The least touched need of a scene that no entry covers, if there is one. It fails for want of
+/// memory alone.
+pub(crate) fn first_uncovered<V: RowView, F: RowFinder>(
+    alloc: Global,
+    scene: &Scene<'_, V, F>,
+    entries: &[Entry],
+) -> Result<Option<Need>, AllocError>
+    requires ready { IsReady F.settled (model_of V.content scene.now) }
+    ensures { IfOk result (λ first. MatchOption first (AreCovered (setting_of (model_of V.content scene.now)) (entries_in entries.now))
+        (IsLeastUncovered (setting_of (model_of V.content scene.now)) (entries_in entries.now))) }
+{
+    let claims = sort_claims(alloc, entries)?;
+    let needs = scene.touched_needs()?;
+    for need in &needs {
+        if !is_covered(scene, need, claims_of(claims.as_slice(), need))? {
+            return Ok(Some(*need));
+        }
+    }
+    Ok(None)
+}

@@ -1,0 +1,170 @@
+//! What is read of a site in an office: the rows of its root, and what each member changed.
+
+ghost use Rattle.std.specs.Prelude.{◌≡◌, ◌≤◌, [], None, length, map, option_map, unwrap_or, IfErr, IfOk};
+ghost use Rattle.clr_rows.specs.Contents.{least_and_count};
+ghost use Rattle.clr_foot.specs.Members.{IsSceneFault};
+ghost use Rattle.clr_foot.specs.Scenes.{model_of};
+ghost use Rattle.clr_steps.specs.Offices.{content_of};
+ghost use Rattle.clr_steps.specs.Quiet.{Site};
+ghost use Rattle.clr_steps.specs.Readings.{changes_in};
+ghost use Rattle.clr_engine.specs.Drafts.{IsAdmitted};
+ghost use Rattle.clr_clearance.specs.Sites.{change_sets};
+ghost use Rattle.clr_clearance.specs.Verdicts.{first_conflict, member_fault};
+ghost use Rattle.clr_check.specs.Answers.{IsFault};
+ghost use Rattle.clr_check.specs.SiteNames.{site};
+ghost use Rattle.clr_check.specs.Sites.{AreOfSite, AreParts, IsSceneOf};
+
+use crate::finders::file_rows;
+use crate::name_lists::NameList;
+use crate::name_tests::name_fault;
+use crate::site_parts::SiteParts;
+use clr_change::ChangeSet;
+use clr_clearance::Verdict;
+use clr_engine::Office;
+use clr_foot::{Scene, SceneFault};
+use clr_grid::SpotIndex;
+use clr_rows::{CellId, Sheet};
+use std::alloc::{AllocError, Global};
+
+/// How many members there are at most: each is another workspace than LIVE.
+const MOST_MEMBERS: usize = 255;
+
+/// The least of some cells, if there are any, and how many they are.
+fn least_and_count(cells: Option<Vec<CellId>>) -> Option<(CellId, usize)>
+    ensures { result ≡ least_and_count (unwrap_or (option_map (λ list. list.items) cells) []) }
+{
+    let cells = cells?;
+    match cells.as_slice().first() {
+        Some(least) => Some((*least, cells.len())),
+        None => None,
+    }
+}
+
+/// What a workspace changed, and nothing where there is none. It fails for want of memory alone.
+fn changes(alloc: Global, office: &Office, name: &str) -> Result<ChangeSet, AllocError>
+    ensures { IfOk result (λ set. set ≡ changes_in office.now name.now) }
+{
+    match office.changes(name)? {
+        Some(set) => Ok(set),
+        None => Ok(ChangeSet::new(alloc)),
+    }
+}
+
+/// The rows of a root, and none where there is none. It fails for want of memory alone.
+fn rows(alloc: Global, office: &Office, root: &str) -> Result<Sheet, AllocError>
+    ensures { IfOk result (λ rows. rows ≡ content_of office.now root.now) }
+{
+    match office.rows(root)? {
+        Some(rows) => Ok(rows),
+        None => Ok(Sheet::new(alloc)),
+    }
+}
+
+/// The first member in conflict with the root, its least cell in conflict and how many there are. It
+/// fails for want of memory alone.
+fn first_conflict<N: NameList>(office: &Office, members: &N) -> Result<Option<Verdict>, AllocError>
+    ensures { IfOk result (λ fault. fault ≡ first_conflict office.now 0 (N.names members.now)) }
+{
+    for member in 0..members.len() {
+        let cells = office.conflicts(members.name_at(member))?;
+        if let Some((cell, count)) = least_and_count(cells) {
+            return Ok(Some(Verdict::Conflict {
+                member,
+                cell,
+                count,
+            }));
+        }
+    }
+    Ok(None)
+}
+
+/// What each member changed, in their order. It fails for want of memory alone.
+fn change_sets<N: NameList>(
+    alloc: Global,
+    office: &Office,
+    members: &N,
+) -> Result<Vec<ChangeSet>, AllocError>
+    ensures { IfOk result (λ sets. sets.items ≡ map (changes_in office.now) (N.names members.now)) }
+{
+    let mut sets = Vec::new(alloc);
+    for member in 0..members.len() {
+        sets.push(changes(alloc, office, members.name_at(member))?)?;
+    }
+    Ok(sets)
+}
+
+/// The root's rows and what each member changed. It fails for want of memory alone.
+fn read_parts<N: NameList>(
+    alloc: Global,
+    office: &Office,
+    root: &str,
+    members: &N,
+) -> Result<SiteParts, AllocError>
+    requires few { length (N.names members.now) ≤ MOST_MEMBERS }
+    requires free { member_fault office.now (site root.now (N.names members.now)) ≡ None }
+    ensures { IfOk result (AreParts office.now (site root.now (N.names members.now))) }
+{
+    let rows = rows(alloc, office, root)?;
+    let finder = file_rows(alloc, office.book(), &rows)?;
+    let sets = change_sets(alloc, office, members)?;
+    Ok(SiteParts { rows, finder, sets })
+}
+
+/// References to change sets, in their order. It fails for want of memory alone.
+fn references(alloc: Global, sets: &[ChangeSet]) -> Result<Vec<&ChangeSet>, AllocError>
+    ensures { IfOk result (λ list. map (λ set. set.now) list.items ≡ sets.entry.now) }
+{
+    let mut list = Vec::with_capacity(alloc, sets.len())?;
+    for set in sets {
+        list.push(set)?;
+    }
+    Ok(list)
+}
+
+/// The parts of a root and its members where no test of names and no test for conflicts fails; else
+/// the first that does. `OutOfMemory` may come in place of any answer but a test of names.
+pub fn read_site<N: NameList>(
+    alloc: Global,
+    office: &Office,
+    root: &str,
+    members: &N,
+) -> Result<SiteParts, Verdict>
+    ensures parts { IfOk result (AreParts office.now (site root.now (N.names members.now))) }
+    ensures fault { IfErr result (IsFault office.now (site root.now (N.names members.now))) }
+    ensures admitted { IsAdmitted office.now }
+{
+    if let Some(fault) = name_fault(alloc, office, root, members) {
+        return Err(fault);
+    }
+    match first_conflict(office, members) {
+        Ok(None) => {}
+        Ok(Some(fault)) => return Err(fault),
+        Err(_) => return Err(Verdict::OutOfMemory),
+    }
+    if members.len() > MOST_MEMBERS {
+        return Err(Verdict::OutOfMemory);
+    }
+    match read_parts(alloc, office, root, members) {
+        Ok(parts) => Ok(parts),
+        Err(_) => Err(Verdict::OutOfMemory),
+    }
+}
+
+impl SiteParts {
+    /// The scene of the root's rows and the members' changes. It fails with the least cell that two
+    /// members change, or with `OutOfMemory` for want of memory.
+    pub fn scene<'a>(
+        &'a self,
+        alloc: Global,
+        office: &'a Office,
+    ) -> Result<Scene<'a, Sheet, SpotIndex>, SceneFault>
+        requires { AreOfSite office.now self.now }
+        ensures scene { IfOk result (λ scene. (s : Site) → AreParts office.entry.now s self.entry.now
+            → IsSceneOf (λ finder. finder.settled) office.entry.now s (model_of (λ rows. rows) scene)) }
+        ensures shared { IfErr result (λ fault. (s : Site) → AreParts office.entry.now s self.entry.now
+            → IsSceneFault (change_sets office.entry.now s) fault) }
+    {
+        let sets = references(alloc, self.sets.as_slice())?;
+        Scene::new(alloc, office.book(), &self.rows, &self.finder, sets)
+    }
+}

@@ -1,0 +1,33 @@
+-- What a subcommand and its values ask for.
+use Rattle.std.specs.Prelude.{◌≡◌, List, [], ◌∷◌, codes, Option, Some, None, if◌then◌else◌, option_and_then, unwrap_or}
+use Rattle.std.specs.Str.{bytes_eq}
+use Rattle.clap.specs.Words.{Row, Text, first_of}
+use Rattle.clr_command_line.specs.declared.asks.Ask.{Ask}
+use Rattle.clr_command_line.specs.declared.asks.Ask.TheVariants.{Audit, Run}
+use Rattle.clr_command_line.specs.declared.asks.AskFault.{AskFault}
+use Rattle.clr_command_line.specs.declared.asks.AskFault.TheVariants as fault
+
+-- the value of a name, or no bytes where there is none
+abbrev pub value_of : Text → List Row → Text
+value_of id rows = unwrap_or (first_of id rows) []
+
+-- the file of the office text, and a second file
+abbrev pub database_of : List Row → List Text
+database_of rows = value_of (codes "DB") rows ∷ []
+
+abbrev pub database_and : Text → List Row → List Text
+database_and id rows = value_of (codes "DB") rows ∷ value_of id rows ∷ []
+
+-- what a subcommand asks for, and its files
+unfoldable pub asked_by : Text → List Row → Option (Ask × List Text)
+asked_by name rows =
+    if bytes_eq name (codes "audit") then Some (Audit, database_of rows)
+    else (if bytes_eq name (codes "run") then Some (Run, database_and (codes "SCRIPT") rows)
+    else None)
+
+-- what the subcommand that words name asks for, if they name one
+abbrev pub asked : Option (Text × List Row) → Option (Ask × List Text)
+asked found = option_and_then (λ p. asked_by p.0 p.1) found
+
+abbrev pub IsMemory : AskFault → Type 0
+IsMemory e = e ≡ fault.OutOfMemory

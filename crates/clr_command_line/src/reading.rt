@@ -1,0 +1,93 @@
+ghost use Rattle.std.specs.Prelude.{◌≡◌, Some, IfOk, IfErr, map, true, option_map};
+ghost use Rattle.clap.specs.Words.{found_of, kind_of, rows_of, subcommand_of, takes};
+ghost use Rattle.clr_command_line.specs.Asked.{IsMemory, asked, asked_by, database_and, database_of, value_of};
+ghost use Rattle.clr_command_line.specs.Program.{program};
+
+use crate::asks::{Ask, AskFault};
+use crate::command::whole_command;
+use clap::ArgMatches;
+use clap::error::ErrorKind;
+use clr_rows::Words;
+use std::alloc::{AllocError, Global};
+
+/// The value of a name.
+fn value(alloc: Global, matches: &ArgMatches, id: &str) -> Result<Words, AllocError>
+    ensures { IfOk result (λ text. text ≡ value_of id.now (rows_of (found_of matches.now))) }
+{
+    match matches.get_str(id) {
+        Some(text) => Ok(Words::new(String::from_str(alloc, text)?)),
+        None => Ok(Words::new(String::new(alloc))),
+    }
+}
+
+/// The file of the office text.
+fn database(alloc: Global, matches: &ArgMatches) -> Result<Vec<Words>, AllocError>
+    ensures { IfOk result (λ files. files.items ≡ database_of (rows_of (found_of matches.now))) }
+{
+    let mut files = Vec::new(alloc);
+    files.push(value(alloc, matches, "DB")?)?;
+    Ok(files)
+}
+
+/// The file of the office text, and a second file.
+fn database_with(alloc: Global, matches: &ArgMatches, id: &str) -> Result<Vec<Words>, AllocError>
+    ensures { IfOk result (λ files. files.items ≡ database_and id.now (rows_of (found_of matches.now))) }
+{
+    let mut files = database(alloc, matches)?;
+    files.push(value(alloc, matches, id)?)?;
+    Ok(files)
+}
+
+/// What a subcommand asks for, and its files.
+#[tactic(auto, unfolding(crate::specs::Asked::asked_by))]
+fn ask(
+    alloc: Global,
+    name: &str,
+    matches: &ArgMatches,
+) -> Result<Option<(Ask, Vec<Words>)>, AllocError>
+    ensures { IfOk result (λ found. option_map (λ r. (r.0, r.1.items)) found ≡ asked_by name.now (rows_of (found_of matches.now))) }
+{
+    let found = match name {
+        "audit" => (Ask::Audit, database(alloc, matches)?),
+        "run" => (Ask::Run, database_with(alloc, matches, "SCRIPT")?),
+        _ => return Ok(None),
+    };
+    Ok(Some(found))
+}
+
+fn ask_fault(error: clap::Error) -> AskFault
+    ensures { kind_of error ≡ ErrorKind.OutOfMemory → IsMemory result }
+{
+    if error.kind() == ErrorKind::OutOfMemory {
+        AskFault::OutOfMemory
+    } else {
+        AskFault::Refused(error)
+    }
+}
+
+/// What the words of a command line ask for, with the program's name first, and the names of the
+/// files that it is asked of: that of the office text, and then that of the script where there is
+/// one. The subcommands are `audit DB` and `run DB SCRIPT`.
+///
+/// # Errors
+///
+/// - `Refused`: the words name no subcommand, or another count of values than it has; or they ask
+///   for help, as `help`, `--help` and `-h`, or for the version, as `--version` and `-V`.
+/// - `OutOfMemory`: no memory was found. It may come in place of any other answer.
+pub fn ask_of<'a>(alloc: Global, words: &'a [&'a str]) -> Result<(Ask, Vec<Words>), AskFault>
+    ensures asks { IfOk result (λ r. asked (subcommand_of program (map (λ s. s.now) words.entry.now)) ≡ Some (r.0, r.1.items)) }
+    ensures takes { takes program (map (λ s. s.now) words.entry.now) ≡ true → IfErr result IsMemory }
+{
+    let command = whole_command(alloc)?;
+    let matches = match command.try_get_matches_from(words) {
+        Ok(matches) => matches,
+        Err(error) => return Err(ask_fault(error)),
+    };
+    let Some((name, values)) = matches.subcommand() else {
+        return Err(AskFault::OutOfMemory);
+    };
+    match ask(alloc, name, values)? {
+        Some(found) => Ok(found),
+        None => Err(AskFault::OutOfMemory),
+    }
+}

@@ -1,0 +1,18 @@
+use Rattle.std.proofs.Common.{◌∙◌, arith}
+use Rattle.clr_differences.proofs.DifferenceLemmas.{entries_keep, entries_next}
+use Rattle.clr_layers.specs.Layers.{layer_at}
+use Rattle.clr_contents.proofs.HoldLemmas.{extends_both}
+use Rattle.clr_contents.proofs.holds.hold_own.Goals as goal
+
+pub loop-cell-preserved : goal.loop-cell-preserved
+loop-cell-preserved c =
+    let old = c.loop-cell.map in
+    let new = c.hold_current.new.map in
+    let e = c.in_ok-hold_current.ensures in
+    let i = c.loop-cell.invariant in
+    record {
+      seen = e.seen ∙ i.seen;
+      extends = extends_both _ old new i.extends e.extends;
+      held = entries_next (layer_at new c.args.at).current _ _ _ (omega arith)
+          (entries_keep (layer_at old c.args.at).current (layer_at new c.args.at).current _ (e.extends.each c.args.at).current i.held) e.held;
+    }

@@ -1,0 +1,14 @@
+use Rattle.std.proofs.Common.{ap, sym, subst, ◌∙◌}
+use Rattle.clr_layers.specs.Layers.{wholes}
+use Rattle.clr_contents.specs.Holding.{Extends}
+use Rattle.clr_contents.proofs.HoldLemmas.{saved_held, extends_marks}
+use Rattle.clr_contents.proofs.holds.hold_saved.Goals as goal
+
+pub returns-clause-seen : goal.returns-clause-seen
+returns-clause-seen c =
+    ap (wholes c.args.live.now) c.hold_saved.ensures.others
+    ∙ saved_held c.args.live.now c.args.map.now c.args.at c.requires.rooted c.requires.child c.requires.within c.args.cell c.in_ok-row.row _ (c.in_ok-row.ensures ∙ c.base_row_of.ensures)
+    (λ b is. c.hold_saved.ensures.seen b (is ∙ sym c.as_ref.ensures.value))
+
+pub returns-clause-extends : goal.returns-clause-extends
+returns-clause-extends c = subst (Extends c.args.map.now) (sym c.hold_saved.ensures.others) (extends_marks c.args.map.now c.args.at _ c.requires.within)

@@ -1,0 +1,14 @@
+use Rattle.std.proofs.Common.{◌≡◌, ◌+◌, ◌<◌, ◌≤◌, length}
+use Rattle.clr_layers.specs.Layers.{wholes}
+use Rattle.clr_layers.specs.Workspaces.{depth_of}
+use Rattle.clr_contents.proofs.reads.depth_at.Given as goal
+
+abbrev pub invariant-loop-at : goal.invariant-loop-at
+invariant-loop-at l = record {
+  within : l.at < length l.map;
+  few : l.count + l.at ≤ l.fn.at;
+  rest : l.count + depth_of (wholes l.live l.map) l.at ≡ depth_of (wholes l.live l.map) l.fn.at;
+}
+
+abbrev pub decreases-loop-at : goal.decreases-loop-at
+decreases-loop-at l = l.at

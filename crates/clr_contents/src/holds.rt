@@ -1,0 +1,170 @@
+ghost use Rattle.std.specs.Prelude.{◌≡◌, ◌<◌, length, OnOk};
+ghost use Rattle.std.specs.Str.{bytes_eq};
+ghost use Rattle.clr_differences.specs.Differences.{HasEntry, HasEntries};
+ghost use Rattle.clr_layers.specs.Layers.{layer_at, wholes, IsUnder, EachMarkHolds};
+ghost use Rattle.clr_contents.specs.Holding.{Extends, ChildrenHold};
+ghost use Rattle.clr_contents.specs.Roots.{IsRooted};
+
+use crate::reads::{base_row_of, parent_of, row_of};
+use clr_change::copy_row;
+use clr_layers::WorkspaceMap;
+use clr_rows::{CellId, Sheet};
+use std::alloc::AllocError;
+
+// Each function here makes entries with the rows that stand, so that no content changes, and fails
+// for want of memory alone.
+
+/// Makes an entry at a cell of a base that has none there.
+fn hold_base(
+    live: &Sheet,
+    map: &mut WorkspaceMap,
+    at: usize,
+    cell: CellId,
+) -> Result<(), AllocError>
+    requires child { 0 < at }
+    requires within { at < length map.old }
+    requires rooted { IsRooted (wholes live.now map.old) }
+    ensures seen { wholes live.now map.new ≡ wholes live.now map.old }
+    ensures extends { Extends map.old map.new }
+    ensures held { OnOk result (HasEntry (layer_at map.new at).base cell) }
+{
+    if map.base(at).get(cell).is_some() {
+        return Ok(());
+    }
+    let above = parent_of(live, map, at);
+    let row = copy_row(row_of(live, map, above, cell))?;
+    map.put_base(at, cell, row)?;
+    Ok(())
+}
+
+/// Makes an entry at each of some cells of a base that has none there.
+fn hold_bases(
+    live: &Sheet,
+    map: &mut WorkspaceMap,
+    at: usize,
+    cells: &[CellId],
+) -> Result<(), AllocError>
+    requires child { 0 < at }
+    requires within { at < length map.old }
+    requires rooted { IsRooted (wholes live.now map.old) }
+    ensures seen { wholes live.now map.new ≡ wholes live.now map.old }
+    ensures extends { Extends map.old map.new }
+    ensures held { OnOk result (HasEntries (layer_at map.new at).base cells.now) }
+{
+    for cell in cells {
+        hold_base(live, map, at, *cell)?;
+    }
+    Ok(())
+}
+
+/// Whether a workspace is a child of another.
+fn is_child_of(map: &WorkspaceMap, child: usize, parent: usize) -> bool
+    requires child { child < length map.now }
+    requires parent { parent < length map.now }
+    ensures { result ≡ bytes_eq (layer_at map.now parent).name (layer_at map.now child).parent }
+{
+    map.name_at(parent) == map.parent_name(child)
+}
+
+/// Makes an entry at each of some cells of the base of a workspace that is a child of another.
+fn hold_child(
+    live: &Sheet,
+    map: &mut WorkspaceMap,
+    child: usize,
+    parent: usize,
+    cells: &[CellId],
+) -> Result<(), AllocError>
+    requires child { 0 < child }
+    requires within { child < length map.old }
+    requires parent { parent < length map.old }
+    requires rooted { IsRooted (wholes live.now map.old) }
+    ensures seen { wholes live.now map.new ≡ wholes live.now map.old }
+    ensures extends { Extends map.old map.new }
+    ensures held { OnOk result (IsUnder (layer_at map.old parent).name (layer_at map.new child) → HasEntries (layer_at map.new child).base cells.now) }
+{
+    if !is_child_of(map, child, parent) {
+        return Ok(());
+    }
+    hold_bases(live, map, child, cells)?;
+    Ok(())
+}
+
+/// Makes the entries that the bases of the children of a workspace need before its content
+/// changes at some cells.
+pub fn hold_children(
+    live: &Sheet,
+    map: &mut WorkspaceMap,
+    at: usize,
+    cells: &[CellId],
+) -> Result<(), AllocError>
+    requires within { at < length map.old }
+    requires rooted { IsRooted (wholes live.now map.old) }
+    ensures seen { wholes live.now map.new ≡ wholes live.now map.old }
+    ensures extends { Extends map.old map.new }
+    ensures children { OnOk result (ChildrenHold map.new (layer_at map.old at).name cells.now) }
+{
+    for k in 1..map.len() {
+        hold_child(live, map, k, at, cells)?;
+    }
+    Ok(())
+}
+
+/// Makes an entry at a cell of a current content that has none there.
+pub fn hold_current(
+    live: &Sheet,
+    map: &mut WorkspaceMap,
+    at: usize,
+    cell: CellId,
+) -> Result<(), AllocError>
+    requires child { 0 < at }
+    requires within { at < length map.old }
+    requires rooted { IsRooted (wholes live.now map.old) }
+    ensures seen { wholes live.now map.new ≡ wholes live.now map.old }
+    ensures extends { Extends map.old map.new }
+    ensures held { OnOk result (HasEntry (layer_at map.new at).current cell) }
+{
+    if map.current(at).get(cell).is_some() {
+        return Ok(());
+    }
+    let row = copy_row(row_of(live, map, at, cell))?;
+    map.put_current(at, cell, row)?;
+    Ok(())
+}
+
+/// Makes an entry at each of some cells of a current content that has none there.
+pub fn hold_own(
+    live: &Sheet,
+    map: &mut WorkspaceMap,
+    at: usize,
+    cells: &[CellId],
+) -> Result<(), AllocError>
+    requires child { 0 < at }
+    requires within { at < length map.old }
+    requires rooted { IsRooted (wholes live.now map.old) }
+    ensures seen { wholes live.now map.new ≡ wholes live.now map.old }
+    ensures extends { Extends map.old map.new }
+    ensures held { OnOk result (HasEntries (layer_at map.new at).current cells.now) }
+{
+    for cell in cells {
+        hold_current(live, map, at, *cell)?;
+    }
+    Ok(())
+}
+
+/// Makes an entry at a cell of each savepoint of a workspace that has none there.
+pub fn hold_saved(
+    live: &Sheet,
+    map: &mut WorkspaceMap,
+    at: usize,
+    cell: CellId,
+) -> Result<(), AllocError>
+    requires child { 0 < at }
+    requires within { at < length map.old }
+    requires rooted { IsRooted (wholes live.now map.old) }
+    ensures seen { wholes live.now map.new ≡ wholes live.now map.old }
+    ensures extends { Extends map.old map.new }
+    ensures held { OnOk result (EachMarkHolds (layer_at map.new at).marks cell) }
+{
+    let row = copy_row(base_row_of(live, map, at, cell))?;
+    map.hold_saved(at, cell, row.as_ref())
+}

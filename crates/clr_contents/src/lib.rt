@@ -1,0 +1,13 @@
+//! What workspaces see: their contents read by cell or whole, and the entries that keep them as they
+//! are before another content changes.
+#![tactic(auto)]
+
+mod holds;
+mod reads;
+mod views;
+mod wholes;
+
+pub use holds::{hold_children, hold_current, hold_own, hold_saved};
+pub use reads::{base_row_of, depth_at, parent_of, row_of};
+pub use views::{BaseView, View};
+pub use wholes::{base_rows, cells_of, changes_of, saved_at, saved_rows, whole_rows};

@@ -1,0 +1,76 @@
+ghost use Rattle.std.specs.Prelude.{◌≡◌, ◌<◌, length, Some};
+ghost use Rattle.std.specs.Option.{option_copied};
+ghost use Rattle.clr_rows.specs.Contents.{row_at};
+ghost use Rattle.clr_layers.specs.Layers.{wholes};
+ghost use Rattle.clr_layers.specs.Workspaces.{workspace_at, parent_of as position_of_parent, depth_of};
+ghost use Rattle.clr_contents.specs.Roots.{IsRooted};
+
+use clr_layers::WorkspaceMap;
+use clr_rows::{CellId, Row, Sheet};
+
+/// The position of the parent of a workspace other than LIVE.
+pub fn parent_of(live: &Sheet, map: &WorkspaceMap, at: usize) -> usize
+    requires child { 0 < at }
+    requires within { at < length map.now }
+    requires rooted { IsRooted (wholes live.now map.now) }
+    ensures found { position_of_parent (wholes live.now map.now) at ≡ Some result }
+    ensures earlier { result < at }
+{
+    let _live = live;
+    map.find(map.parent_name(at)).unwrap()
+}
+
+/// The row at a cell of a current content, found by going up the tree.
+pub fn row_of<'a>(
+    live: &'a Sheet,
+    map: &'a WorkspaceMap,
+    mut at: usize,
+    cell: CellId,
+) -> Option<&'a Row>
+    requires within { at < length map.now }
+    requires rooted { IsRooted (wholes live.now map.now) }
+    ensures { option_copied result ≡ row_at (workspace_at (wholes live.now map.now) at).current cell }
+{
+    while at > 0 {
+        if let Some(row) = map.current(at).get(cell) {
+            return row.as_ref();
+        }
+        if let Some(row) = map.base(at).get(cell) {
+            return row.as_ref();
+        }
+        at = parent_of(live, map, at);
+    }
+    live.get(cell)
+}
+
+/// The row at a cell of the base of a workspace other than LIVE.
+pub fn base_row_of<'a>(
+    live: &'a Sheet,
+    map: &'a WorkspaceMap,
+    at: usize,
+    cell: CellId,
+) -> Option<&'a Row>
+    requires child { 0 < at }
+    requires within { at < length map.now }
+    requires rooted { IsRooted (wholes live.now map.now) }
+    ensures { option_copied result ≡ row_at (workspace_at (wholes live.now map.now) at).base cell }
+{
+    if let Some(row) = map.base(at).get(cell) {
+        return row.as_ref();
+    }
+    row_of(live, map, parent_of(live, map, at), cell)
+}
+
+/// How many workspaces are above one.
+pub fn depth_at(live: &Sheet, map: &WorkspaceMap, mut at: usize) -> usize
+    requires within { at < length map.now }
+    requires rooted { IsRooted (wholes live.now map.now) }
+    ensures { result ≡ depth_of (wholes live.now map.now) at }
+{
+    let mut count: usize = 0;
+    while at > 0 {
+        at = parent_of(live, map, at);
+        count += 1;
+    }
+    count
+}

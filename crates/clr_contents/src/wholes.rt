@@ -1,0 +1,125 @@
+ghost use Rattle.std.specs.Prelude.{◌≡◌, ◌<◌, true, length, IfOk};
+ghost use Rattle.clr_rows.specs.Contents.{changes, no_changes};
+ghost use Rattle.clr_differences.specs.Differences.{cells_in};
+ghost use Rattle.clr_layers.specs.Layers.{layer_at, stored_at, saved_differences, wholes};
+ghost use Rattle.clr_layers.specs.Marks.{is_saved, mark_at, saved_content};
+ghost use Rattle.clr_layers.specs.Workspaces.{workspace_at};
+ghost use Rattle.clr_contents.specs.Holding.{set_each};
+ghost use Rattle.clr_contents.specs.Roots.{IsRooted};
+
+use crate::reads::{base_row_of, parent_of};
+use clr_change::ChangeSet;
+use clr_differences::Differences;
+use clr_layers::{StoredMark, WorkspaceMap};
+use clr_rows::{CellId, Row, Sheet};
+use std::alloc::{AllocError, Global};
+
+/// The current content of a workspace, whole. It fails for want of memory alone.
+pub fn whole_rows(live: &Sheet, map: &WorkspaceMap, at: usize) -> Result<Sheet, AllocError>
+    requires within { at < length map.now }
+    requires rooted { IsRooted (wholes live.now map.now) }
+    ensures { IfOk result (λ sheet. sheet ≡ (workspace_at (wholes live.now map.now) at).current) }
+{
+    if at == 0 {
+        return live.copy();
+    }
+    let above = parent_of(live, map, at);
+    let mut sheet = whole_rows(live, map, above)?;
+    sheet.put_all(map.base(at).rows()?)?;
+    sheet.put_all(map.current(at).rows()?)?;
+    Ok(sheet)
+}
+
+/// The base of a workspace other than LIVE, whole. It fails for want of memory alone.
+pub fn base_rows(live: &Sheet, map: &WorkspaceMap, at: usize) -> Result<Sheet, AllocError>
+    requires child { 0 < at }
+    requires within { at < length map.now }
+    requires rooted { IsRooted (wholes live.now map.now) }
+    ensures { IfOk result (λ sheet. sheet ≡ (workspace_at (wholes live.now map.now) at).base) }
+{
+    let above = parent_of(live, map, at);
+    let mut sheet = whole_rows(live, map, above)?;
+    sheet.put_all(map.base(at).rows()?)?;
+    Ok(sheet)
+}
+
+#[tactic(auto, unfolding(crate::specs::Holding::set_each))]
+fn changes_to(
+    live: &Sheet,
+    map: &WorkspaceMap,
+    at: usize,
+    rows: Vec<(CellId, Option<Row>)>,
+) -> Result<ChangeSet, AllocError>
+    requires child { 0 < at }
+    requires within { at < length map.now }
+    requires rooted { IsRooted (wholes live.now map.now) }
+    ensures { IfOk result (λ set. set ≡ set_each (workspace_at (wholes live.now map.now) at).base no_changes rows.items) }
+{
+    let mut set = ChangeSet::new(map.allocator());
+    for (cell, row) in rows {
+        set.set(cell, base_row_of(live, map, at, cell), row.as_ref())?;
+    }
+    Ok(set)
+}
+
+/// What a workspace other than LIVE changed, found among the entries of its current content. It
+/// fails for want of memory alone.
+pub fn changes_of(live: &Sheet, map: &WorkspaceMap, at: usize) -> Result<ChangeSet, AllocError>
+    requires child { 0 < at }
+    requires within { at < length map.now }
+    requires rooted { IsRooted (wholes live.now map.now) }
+    ensures { IfOk result (λ set. let w = workspace_at (wholes live.now map.now) at in set ≡ changes w.base w.current) }
+{
+    let rows = map.current(at).rows()?;
+    let set = changes_to(live, map, at, rows)?;
+    Ok(set)
+}
+
+/// The cells of rows. It fails for want of memory alone.
+pub fn cells_of(alloc: Global, rows: &[(CellId, Option<Row>)]) -> Result<Vec<CellId>, AllocError>
+    ensures { IfOk result (λ cells. cells.items ≡ cells_in rows.now) }
+{
+    let mut cells = Vec::new(alloc);
+    for (cell, _) in rows {
+        cells.push(*cell)?;
+    }
+    Ok(cells)
+}
+
+fn differences_of(alloc: Global, mark: &StoredMark) -> Result<Differences, AllocError>
+    ensures { IfOk result (λ differences. differences ≡ saved_differences mark.now) }
+{
+    match mark {
+        StoredMark::Saved(_, differences) => differences.copy(),
+        StoredMark::Child(_) => Ok(Differences::new(alloc)),
+    }
+}
+
+/// The differences of a savepoint from the base. It fails for want of memory alone.
+pub fn saved_at(map: &WorkspaceMap, at: usize, mark: usize) -> Result<Differences, AllocError>
+    requires within { at < length map.now }
+    requires marked { mark < length (layer_at map.now at).marks }
+    ensures { IfOk result (λ differences. differences ≡ saved_differences (stored_at (layer_at map.now at).marks mark)) }
+{
+    differences_of(map.allocator(), &map.marks(at)[mark])
+}
+
+/// The content of a savepoint of a workspace other than LIVE, whole. It fails for want of memory
+/// alone.
+pub fn saved_rows(
+    live: &Sheet,
+    map: &WorkspaceMap,
+    at: usize,
+    mark: usize,
+) -> Result<Sheet, AllocError>
+    requires child { 0 < at }
+    requires within { at < length map.now }
+    requires rooted { IsRooted (wholes live.now map.now) }
+    requires saved { is_saved (mark_at (workspace_at (wholes live.now map.now) at).marks mark) ≡ true }
+    ensures { IfOk result (λ sheet. sheet ≡ saved_content (mark_at (workspace_at (wholes live.now map.now) at).marks mark)) }
+{
+    let differences = saved_at(map, at, mark)?;
+    let mut sheet = base_rows(live, map, at)?;
+    sheet.put_all(differences.rows()?)?;
+    Ok(sheet)
+}

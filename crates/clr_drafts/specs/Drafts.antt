@@ -1,0 +1,37 @@
+-- The draft that an office text is: its workspaces with whole contents, which must stand under LIVE.
+use Rattle.std.specs.Prelude.{ℕ, List, ◌∷◌, Option, Result, Ok, length}
+use Rattle.std.specs.Option.{option_or}
+use Rattle.clr_rows.specs.Contents.{Content}
+use Rattle.clr_layers.specs.Workspaces.{Workspace, root}
+use Rattle.clr_tree.specs.Parts.{first_below, marks_fault_at, name_fault_at}
+use Rattle.clr_tree.specs.declared.parts.PartFault.{PartFault}
+use Rattle.clr_tree.specs.declared.parts.PartFault.TheVariants as part
+use Rattle.clr_steps.specs.Offices.{Office}
+use Rattle.clr_office_text.specs.declared.faults.TextFault.{TextFault}
+use Rattle.clr_office_text.specs.declared.faults.TextFault.TheVariants as text
+use Rattle.clr_office_text.specs.Fields.{◌>>=◌, none_or_fault}
+use Rattle.clr_office_text.specs.Offices.{OfficeText, office_in}
+use Rattle.clr_office_text.specs.Workspaces.{workspaces_over}
+
+-- the first workspace that can't stand under LIVE, and why: names and places of all come before the marks of any
+abbrev pub workspaces_fault : Content → List Workspace → Option (ℕ × PartFault)
+workspaces_fault live ws =
+    let all = root live ∷ ws in
+    option_or (first_below (name_fault_at all) (length ws)) (first_below (marks_fault_at all) (length ws))
+
+-- what is said of the text then
+abbrev pub text_fault_of : PartFault → TextFault
+text_fault_of part.OutOfMemory = text.OutOfMemory
+text_fault_of _ = text.BadPart
+
+-- an office whose workspaces can stand
+unfoldable pub if_standing : Office → Result Office TextFault
+if_standing o = none_or_fault text.BadPart (workspaces_fault o.live o.workspaces) >>= λ _. Ok o
+
+-- the office that is written by its differences
+abbrev pub whole_office : OfficeText → Office
+whole_office read = record { schema = read.schema; book = read.book; live = read.live; workspaces = workspaces_over read.live read.layers }
+
+-- the draft of a text: its parts are tested one after another, and then the workspaces as a whole
+unfoldable pub draft_in : List ℕ → Result Office TextFault
+draft_in bytes = office_in bytes >>= λ read. if_standing (whole_office read)

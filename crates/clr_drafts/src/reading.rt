@@ -1,0 +1,85 @@
+ghost use Rattle.std.specs.Prelude.{◌≡◌, IfOk};
+ghost use Rattle.clr_engine.specs.Drafts.{IsFitting, office_of_parts};
+ghost use Rattle.clr_office_text.specs.Fields.{Gives};
+ghost use Rattle.clr_office_text.specs.Fits.{FitsOffice};
+ghost use Rattle.clr_office_text.specs.Offices.{office_read};
+ghost use Rattle.clr_drafts.specs.Drafts.{draft_in, if_standing, text_fault_of, whole_office};
+
+use clr_engine::{Draft, Part, PartFault};
+use clr_office_text::{OfficeParts, TextFault};
+use clr_rows::{Schema, Sheet};
+use clr_rules::RuleBook;
+use clr_text_parts::whole_parts;
+use clr_tree::MOST_WORKSPACES;
+use std::alloc::Global;
+
+/// What is said of a text whose workspaces can't stand.
+fn text_fault(fault: PartFault) -> TextFault
+    ensures { result ≡ text_fault_of fault }
+{
+    match fault {
+        PartFault::OutOfMemory => TextFault::OutOfMemory,
+        _ => TextFault::BadPart,
+    }
+}
+
+fn draft_of_parts(
+    alloc: Global,
+    schema: Schema,
+    book: RuleBook,
+    live: Sheet,
+    parts: Vec<Part>,
+) -> Result<Draft, TextFault>
+    requires { IsFitting (office_of_parts schema book live parts.items) }
+    ensures { Gives (λ draft. draft) result (if_standing (office_of_parts schema book live parts.items)) }
+{
+    match Draft::build(alloc, schema, book, live, parts) {
+        Ok(draft) => Ok(draft),
+        Err(refused) => Err(text_fault(refused.1)),
+    }
+}
+
+/// The draft of what was read of a text. Workspaces that are too many are refused before any of them
+/// is made.
+fn draft_of(alloc: Global, read: OfficeParts) -> Result<Draft, TextFault>
+    requires { FitsOffice (office_read read) }
+    ensures { Gives (λ draft. draft) result (if_standing (whole_office (office_read read))) }
+{
+    let OfficeParts {
+        schema,
+        book,
+        live,
+        workspaces,
+    } = read;
+    if workspaces.len() >= MOST_WORKSPACES {
+        return Err(TextFault::BadPart);
+    }
+    let parts = whole_parts(alloc, &live, workspaces)?;
+    draft_of_parts(alloc, schema, book, live, parts)
+}
+
+/// Reads an office text of format 1, 2 or 3 as a draft: its schema, its rules, LIVE and the
+/// workspaces under LIVE with whole contents, in order of creation. Whether the rules hold is tested
+/// when the draft is admitted. The first fault answers, over the parts of the text in the order
+/// format, tables, rules, live, and then each workspace in turn (its name, its parent and its flag,
+/// then its base, its rows and its marks), and at last over the workspaces as a whole. In each of
+/// these parts `BadField` comes before the other faults, and at one cell `BadRow` before
+/// `RepeatedCell`.
+///
+/// Fails with `NotJson` where the bytes aren't JSON, with `BadField` where a key is missing or a
+/// value is none of those that may stand there (a list of rules, workspaces, cells of a base, of
+/// rows, marks or literals that is missing is empty), with `BadSchema` where the tables make no
+/// schema, with `BadRule` where a rule names a table or a column that the schema hasn't, or the
+/// rules make no book over it, with `BadRow` where a cell's table isn't known, the row doesn't fit
+/// it, or no row could stand where one is gone, with `RepeatedCell` where a cell stands twice in one
+/// list, and with `BadPart` where the parent of a workspace is neither LIVE nor an earlier one, as it
+/// is met, or where the workspaces as a whole can't stand: a name that isn't good or is taken, more
+/// than 255 workspaces or 8 levels, or marks that aren't exactly the children and savepoints with
+/// good, different names, at most 64. Want of memory is `OutOfMemory`, which may come in place of any
+/// other answer.
+#[tactic(auto, unfolding(crate::specs::Drafts::draft_in))]
+pub fn read_office(alloc: Global, bytes: &[u8]) -> Result<Draft, TextFault>
+    ensures { Gives (λ draft. draft) result (draft_in bytes.now) }
+{
+    draft_of(alloc, clr_office_text::read_office(alloc, bytes)?)
+}

@@ -1,0 +1,16 @@
+use Rattle.std.proofs.Common.{◌∙◌, sym, subst}
+use Rattle.clr_rows.specs.Contents.{over}
+use Rattle.clr_layers.specs.Workspaces.{workspace_at}
+use Rattle.clr_engine.specs.Trees.{FitBoth}
+use Rattle.clr_engine.proofs.Fits.{fit_taken}
+use Rattle.clr_engine.proofs.Prepared.{not_kept}
+use Rattle.clr_engine.proofs.judges.Judge.prepare_refresh.Goals as goal
+
+pub returns-then-not-kept-clause-prepared : goal.returns-then-not-kept-clause-prepared
+returns-then-not-kept-clause-prepared c =
+    not_kept c.args.self.now c.args.tree.now.list c.args.finders.now c.requires.served.are c.args.at _ (sym c.kept.ensures ∙ c.if-not-kept.true)
+
+pub prepare_content-requires-clause-fit : goal.prepare_content-requires-clause-fit
+prepare_content-requires-clause-fit c =
+    let ws = c.args.tree.now.list in
+    subst (FitBoth c.args.self.now (workspace_at ws c.args.at).current) (sym (c.in_ok-put_all.ensures.ok ∙ (λ i. over (c.in_ok-next.ensures i) (c.in_ok-rows_after.ensures i)))) (fit_taken c.args.self.now ws c.requires.served.fit c.args.at c.requires.child c.args.at c.args.above c.args.changed.now c.requires.own)

@@ -1,0 +1,247 @@
+-- The needs that are added involve the member, and each that does is added.
+use Rattle.std.proofs.Common.{◌≡◌, ◌∙◌, ◌<◌, ◌≤◌, ◌+◌, ℕ, Bool, true, false, List, [], ◌⊎◌, inl, inr, Option, Some, None, Contains, get_or, is_some, length, take, refl, sym, ap, subst, arith}
+use Rattle.std.specs.Prelude.{◌↔◌, slice_get}
+use Rattle.std.specs.FinMap as finite
+use Rattle.std.proofs.lemmas.Bool.{cases_lt, false≢true, or_cases, or_left, or_right}
+use Rattle.std.proofs.lemmas.Bool.Decides.{Decides-eqb}
+use Rattle.clr_rows.specs.declared.cells.CellId.{CellId}
+use Rattle.clr_rows.specs.Contents.{Changes, Content}
+use Rattle.clr_rules.specs.declared.rules.Rule.{Rule}
+use Rattle.clr_rules.proofs.AskLemmas.{rule_there}
+use Rattle.clr_rules.proofs.Elements.{among, contained}
+use Rattle.clr_foot.specs.declared.needs.Need.{Need}
+use Rattle.clr_foot.specs.declared.needs.VersionId.{VersionId}
+use Rattle.clr_foot.specs.declared.versions.Version.{Version}
+use Rattle.clr_foot.specs.Candidates.{IsNeedServedBy, IsNeedWith, IsSubject}
+use Rattle.clr_foot.specs.Gains.{Gains, OfSome}
+use Rattle.clr_foot.specs.Independence.{AreDependent, Involves, Names, NamesToo}
+use Rattle.clr_foot.specs.Involvement.{IsInvolvedAt, IsInvolvedBy, IsInvolving, IsToldInvolving, names, names_at, names_by}
+use Rattle.clr_foot.specs.Members.{after_at, setting}
+use Rattle.clr_foot.specs.Needs.{AreServers, IsBesideToo, IsPossible, IsPossibleNeed, Lists, Serves, ask_of, held_too}
+use Rattle.clr_foot.specs.Orders.{need_cmp}
+use Rattle.clr_foot.specs.Settings.{Setting, Lifetime, Always, With, Without, Lived, changer, held, version}
+use Rattle.clr_foot.specs.Versions.{IsAt, lived, version_of}
+use Rattle.clr_foot.proofs.BreakLaws.{subjects_once}
+use Rattle.clr_foot.proofs.Gaining.{all_taken, gains_as, gains_both, gains_none, one_more, read_of}
+use Rattle.clr_foot.proofs.Lives.{named_by_old, new_is, old_is, version_by, version_by_changer}
+use Rattle.clr_foot.proofs.Merges.{IsChanger, changer_is}
+use Rattle.clr_foot.proofs.SharedCells.{key_among}
+use Rattle.clr_foot.proofs.TouchLaws.{lived_is}
+
+-- ---- lives and names
+
+pub told_names : (l : Lifetime ℕ) (x : ℕ) → names l x ≡ true → Names l x
+told_names Always x e = absurd (false≢true e)
+told_names (With n) x e = (Decides-eqb n x).0 e
+told_names (Without n) x e = (Decides-eqb n x).0 e
+
+pub names_told : (l : Lifetime ℕ) (x : ℕ) → Names l x → names l x ≡ true
+names_told Always x h = absurd h
+names_told (With n) x h = (Decides-eqb n x).1 h
+names_told (Without n) x h = (Decides-eqb n x).1 h
+
+module _ (c : Setting ℕ) where
+  -- ---- one version
+
+  module _ (number x : ℕ) (v : Version) (at : IsAt c v) (names : Names (lived v).life x) where
+    with_involves : (n : Need) → IsNeedWith c number v.id n → IsInvolving c x n
+    with_involves n (rule, inl e, a, b, p) =
+        let row = lived_is c v n.first a (sym e) at p.first_is in (a, b, p, inl (subst (λ l. Names l.life x) row names))
+    with_involves n (rule, inr e, a, b, p) = (a, b, p, inr (inl (by n.second b refl p.second_is)))
+      where
+        by : (w : Option VersionId) (m : Option (Lived ℕ)) → n.second ≡ w → IsBesideToo c n.first a w m → NamesToo m x
+        by None None second beside = let clash : None ≡ Some v.id = sym second ∙ e in cc
+        by None (Some m) second beside = absurd beside
+        by (Some w) None second beside = absurd beside
+        by (Some w) (Some m) second beside =
+            let same : v.id ≡ w = let both : Some v.id ≡ Some w = sym e ∙ second in cc in
+            subst (λ l. Names l.life x) (lived_is c v w m same at beside.is) names
+
+    served_involves : (n : Need) → IsNeedServedBy c number v.id n → IsInvolving c x n
+    served_involves n (rule, a, b, l, p, serve) = (a, b, p, inr (inr (v.id, l, serve, subst (λ m. Names m.life x) (lived_is c v v.id l refl at serve.is) names)))
+
+    pub involved_gains : (old middle new : List Need)
+        → Gains (IsNeedWith c number v.id) (IsNeedWith c number v.id) old middle
+        → Gains (IsNeedServedBy c number v.id) (IsNeedServedBy c number v.id) middle new
+        → Gains (IsInvolving c x) (IsInvolvedBy c number x v.id) old new
+    involved_gains old middle new g h =
+        gains_both (IsInvolving c x) (IsNeedWith c number v.id) (IsNeedServedBy c number v.id) (IsInvolvedBy c number x v.id) old middle new split
+        (gains_as (IsNeedWith c number v.id) (IsNeedWith c number v.id) (IsInvolving c x) (IsNeedWith c number v.id) old middle with_involves (λ n w. w) g)
+        (gains_as (IsNeedServedBy c number v.id) (IsNeedServedBy c number v.id) (IsInvolving c x) (IsNeedServedBy c number v.id) middle new served_involves (λ n w. w) h)
+      where
+        split : (n : Need) → IsInvolvedBy c number x v.id n → IsNeedWith c number v.id n ⊎ IsNeedServedBy c number v.id n
+        split n w = by w.role
+          where
+            by : IsSubject n v.id ⊎ Serves c n w.first w.second v.id w.lived → IsNeedWith c number v.id n ⊎ IsNeedServedBy c number v.id n
+            by (inl subject) = inl (w.rule, subject, w.first, w.second, w.possible)
+            by (inr serve) = inr (w.rule, w.first, w.second, w.lived, w.possible, serve)
+
+  -- ---- the version of a name
+
+  pub no_version : (number x : ℕ) (id : VersionId) (needs : List Need) → version c id ≡ None → Gains (IsInvolving c x) (IsInvolvedBy c number x id) needs needs
+  no_version number x id needs none = gains_none (IsInvolving c x) (IsInvolvedBy c number x id) needs (λ n w. let clash : None ≡ Some w.lived = sym none ∙ w.is in cc)
+
+  pub not_named : (number x : ℕ) (id : VersionId) (l : Lived ℕ) (told : Bool) (needs : List Need) → version c id ≡ Some l → told ≡ names l.life x → told ≡ false
+      → Gains (IsInvolving c x) (IsInvolvedBy c number x id) needs needs
+  not_named number x id l told needs is tells fails = gains_none (IsInvolving c x) (IsInvolvedBy c number x id) needs by
+    where
+      by : (n : Need) → IsInvolvedBy c number x id n → ⊥
+      by n w =
+          let same : w.lived ≡ l = let e : Some w.lived ≡ Some l = sym w.is ∙ is in cc in
+          false≢true (sym fails ∙ tells ∙ names_told l.life x (subst (λ m. Names m.life x) same w.names))
+
+  pub at_cell : (number x : ℕ) (q : CellId) (old middle new : List Need) → Gains (IsInvolving c x) (IsInvolvedBy c number x (version_of true q)) old middle
+      → Gains (IsInvolving c x) (IsInvolvedBy c number x (version_of false q)) middle new
+      → Gains (IsInvolving c x) (IsInvolvedAt c number x q) old new
+  at_cell number x q old middle new g h =
+      gains_both (IsInvolving c x) (IsInvolvedBy c number x (version_of true q)) (IsInvolvedBy c number x (version_of false q)) (IsInvolvedAt c number x q) old middle new (λ n w. w) g h
+
+  -- ---- whether a need involves a member
+
+  module _ (n : Need) (x : ℕ) where
+    name_at : (v : VersionId) (l : Lived ℕ) → version c v ≡ Some l → names_at x (version c v) ≡ names l.life x
+    name_at v l is = ap (names_at x) is
+
+    subject_involves : (a : Lived ℕ) (b : Option (Lived ℕ)) → IsPossible c n a b → names_by x c n.first n.second ≡ true → Involves c n a b x
+    subject_involves a b p e = by n.second b p.second_is e
+      where
+        by : (w : Option VersionId) (b : Option (Lived ℕ)) → IsBesideToo c n.first a w b → names_by x c n.first w ≡ true → Involves c n a b x
+        by None None is e = inl (told_names a.life x (sym (name_at n.first a p.first_is) ∙ e))
+        by None (Some b) is e = absurd is
+        by (Some w) None is e = absurd is
+        by (Some w) (Some b) is e = elim (or_cases (names_at x (version c n.first)) (names_at x (version c w)) e) [
+          | inl h ↦ inl (told_names a.life x (sym (name_at n.first a p.first_is) ∙ h))
+          | inr h ↦ inr (inl (told_names b.life x (sym (name_at w b is.is) ∙ h)))
+        ]
+
+    pub named_involves : (told : Bool) → IsPossibleNeed c n → told ≡ names_by x c n.first n.second → told ≡ true → IsInvolving c x n
+    named_involves told (a, b, p) is e = (a, b, p, subject_involves a b p (sym is ∙ e))
+
+    no_subject : (a : Lived ℕ) (b : Option (Lived ℕ)) → IsPossible c n a b → names_by x c n.first n.second ≡ false → Names a.life x ⊎ NamesToo b x → ⊥
+    no_subject a b p e h = by n.second b p.second_is e h
+      where
+        by : (w : Option VersionId) (b : Option (Lived ℕ)) → IsBesideToo c n.first a w b → names_by x c n.first w ≡ false → Names a.life x ⊎ NamesToo b x → ⊥
+        by None None is e (inl h) = false≢true (sym e ∙ name_at n.first a p.first_is ∙ names_told a.life x h)
+        by None None is e (inr h) = h
+        by None (Some b) is e h = is
+        by (Some w) None is e h = is
+        by (Some w) (Some b) is e (inl h) = false≢true (sym e ∙ or_left (names_at x (version c n.first)) (names_at x (version c w)) (name_at n.first a p.first_is ∙ names_told a.life x h))
+        by (Some w) (Some b) is e (inr h) = false≢true (sym e ∙ or_right (names_at x (version c n.first)) (names_at x (version c w)) (name_at w b is.is ∙ names_told b.life x h))
+
+    module _ (servers read : List VersionId) (are : AreServers c n servers) (same : read ≡ servers) where
+      pub server_involves : (v : VersionId) → Contains read v → names_at x (version c v) ≡ true → IsInvolving c x n
+      server_involves v h e =
+          let (a, b, l, p, serve) = (are.exactly v).0 (subst (λ vs. Contains vs v) same h) in
+          (a, b, p, inr (inr (v, l, serve, told_names l.life x (sym (name_at v l serve.is) ∙ e))))
+
+      pub none_involves : (told : Bool) → told ≡ names_by x c n.first n.second → told ≡ false → ((v : VersionId) → Contains read v → names_at x (version c v) ≡ true → ⊥) → ¬ (IsInvolving c x n)
+      none_involves told is e none (a, b, p, inl h) = no_subject a b p (sym is ∙ e) (inl h)
+      none_involves told is e none (a, b, p, inr (inl h)) = no_subject a b p (sym is ∙ e) (inr h)
+      none_involves told is e none (a, b, p, inr (inr (v, l, serve, h))) =
+          none v (subst (λ vs. Contains vs v) (sym same) ((are.exactly v).1 (a, b, l, p, serve))) (name_at v l serve.is ∙ names_told l.life x h)
+
+  -- ---- two members
+
+  -- of one need both tell, whatever its subjects were taken for
+  tied : (n : Need) (x y : ℕ) → IsInvolving c x n → IsInvolving c y n → AreDependent c x y
+  tied n x y (a, b, p, first) (d, e, q, second) =
+      let once = subjects_once c n d a e b q p in
+      (n, d, e, q, subst (λ k. Involves c n d k x) once.1 (subst (λ k. Involves c n k b x) once.0 first), second)
+
+  module _ (x y : ℕ) (needs read : List Need) (are : Lists need_cmp (IsInvolving c x) needs) (same : read ≡ needs) where
+    pub is_possible_at : (k : ℕ) (d : Need) → k < length read → IsPossibleNeed c (get_or read k d)
+    is_possible_at k d less = let (a, b, p, h) = (are.exactly (get_or read k d)).0 (read_of read needs k d same less) in (a, b, p)
+
+    pub dependent_at : (k : ℕ) (d n : Need) (told : Bool) → k < length read → n ≡ get_or read k d → IsToldInvolving c y n told → told ≡ true → AreDependent c x y
+    dependent_at k d n told less is tells e =
+        tied n x y (subst (IsInvolving c x) (sym is) ((are.exactly (get_or read k d)).0 (read_of read needs k d same less))) (subst (IsToldInvolving c y n) e tells)
+
+    pub one_apart_more : (k : ℕ) (d n : Need) (told : Bool) → k < length read → n ≡ get_or read k d → IsToldInvolving c y n told → told ≡ false
+        → ((m : Need) → Contains (take k read) m → ¬ (IsInvolving c y m))
+        → (m : Need) → Contains (take (k + 1) read) m → ¬ (IsInvolving c y m)
+    one_apart_more k d n told less is tells e before m h = by (one_more read k d m less h)
+      where
+        by : Contains (take k read) m ⊎ (m ≡ get_or read k d) → ¬ (IsInvolving c y m)
+        by (inl earlier) = before m earlier
+        by (inr last) = subst (λ j. ¬ (IsInvolving c y j)) (is ∙ sym last) (subst (IsToldInvolving c y n) e tells)
+
+    pub all_apart : (k : ℕ) → length read ≤ k → ((m : Need) → Contains (take k read) m → ¬ (IsInvolving c y m)) → ¬ (AreDependent c x y)
+    all_apart k past none (n, a, b, p, first, second) = none n (all_taken read k n past (subst (λ ns. Contains ns n) (sym same) ((are.exactly n).1 (a, b, p, first)))) (a, b, p, second)
+
+-- ---- the cells and the rules
+
+module _ (rules : List Rule) (root : Content) (sets : List Changes) where
+  abbrev c : Setting ℕ
+  c = setting rules root sets
+
+  -- the cell of a version whose life names a member is changed by it
+  named_changes : (v : VersionId) (l : Lived ℕ) (x : ℕ) → version c v ≡ Some l → Names l.life x → is_some (c.after x v.cell) ≡ true
+  named_changes v l x e names = by v.fresh (changer c v.cell) (changer_is c v.cell) (sym (version_by_changer c v) ∙ e)
+    where
+      changes : (o : Option ℕ) → IsChanger c c.members v.cell o → o ≡ Some x → is_some (c.after x v.cell) ≡ true
+      changes None h k = cc
+      changes (Some m) h k = let same : m ≡ x = cc in subst (λ j. is_some (c.after j v.cell) ≡ true) same h.1
+
+      by : (fresh : Bool) (o : Option ℕ) → IsChanger c c.members v.cell o → version_by c fresh v.cell o ≡ Some l → is_some (c.after x v.cell) ≡ true
+      by false o h is = changes o h (named_by_old c o x (subst (λ k. Names k x) ((old_is c o (c.root v.cell) l is).1) names))
+      by true None h is = cc
+      by true (Some m) h is = changes (Some m) h (ap Some (subst (λ k. Names k x) ((new_is c m (c.after m v.cell) l is).1) names))
+
+  -- those of the rules below a number
+  pub record IsInvolvingBelow (x number : ℕ) (n : Need) : Type 0 where
+    pub involves : IsInvolving c x n
+    pub below : n.rule < number
+
+  pub no_rule_involved : (x : ℕ) (needs : List Need) → Gains (IsInvolving c x) (IsInvolvingBelow x 0) needs needs
+  no_rule_involved x needs = gains_none (IsInvolving c x) (IsInvolvingBelow x 0) needs (λ n w. let less = w.below in omega (arith, less))
+
+  module _ (x : ℕ) (set : Changes) (at : slice_get sets x ≡ Some set) where
+    key_of : (v : VersionId) (l : Lived ℕ) → version c v ≡ Some l → Names l.life x → Contains (finite.keys set) v.cell
+    key_of v l is names = contained v.cell (finite.keys set) (key_among set v.cell (ap (λ s. is_some (after_at s v.cell)) (sym at) ∙ named_changes v l x is names))
+
+    by_version : (v : VersionId) (n : Need) → IsInvolvedBy c n.rule x v n → OfSome (IsInvolvedAt c n.rule x) (finite.keys set) n
+    by_version v n w = (v.cell, key_of v w.lived w.is w.names, by v.fresh refl)
+      where
+        by : (b : Bool) → v.fresh ≡ b → IsInvolvedAt c n.rule x v.cell n
+        by true e = let same : v ≡ version_of true v.cell = λ i. record { cell = v.cell; fresh = e i } in inl (subst (λ u. IsInvolvedBy c n.rule x u n) same w)
+        by false e = let same : v ≡ version_of false v.cell = λ i. record { cell = v.cell; fresh = e i } in inr (subst (λ u. IsInvolvedBy c n.rule x u n) same w)
+
+    -- a need that involves the member is found at a cell that it changes
+    at_key : (n : Need) → IsInvolving c x n → OfSome (IsInvolvedAt c n.rule x) (finite.keys set) n
+    at_key n (a, b, p, inl names) =
+        by_version n.first n (record { first = a; second = b; lived = a; rule = refl; possible = p; is = p.first_is; names = names; role = inl (inl refl) })
+    at_key n (a, b, p, inr (inl names)) = by n.second b refl p.second_is names
+      where
+        by : (w : Option VersionId) (m : Option (Lived ℕ)) → n.second ≡ w → IsBesideToo c n.first a w m → NamesToo m x → OfSome (IsInvolvedAt c n.rule x) (finite.keys set) n
+        by None None e is h = absurd h
+        by None (Some m) e is h = absurd is
+        by (Some w) None e is h = absurd is
+        by (Some w) (Some m) e is h =
+            by_version w n (record { first = a; second = b; lived = m; rule = refl; possible = p; is = is.is; names = h; role = inl (inr e) })
+    at_key n (a, b, p, inr (inr (v, l, serve, names))) =
+        by_version v n (record { first = a; second = b; lived = l; rule = refl; possible = p; is = serve.is; names = names; role = inr serve })
+
+    pub one_rule_involved : (number : ℕ) (cells : List CellId) (old middle new : List Need) → cells ≡ finite.keys set
+        → Gains (IsInvolving c x) (IsInvolvingBelow x number) old middle
+        → Gains (IsInvolving c x) (OfSome (IsInvolvedAt c number x) cells) middle new
+        → Gains (IsInvolving c x) (IsInvolvingBelow x (number + 1)) old new
+    one_rule_involved number cells old middle new all g h =
+        gains_both (IsInvolving c x) (IsInvolvingBelow x number) (OfSome (IsInvolvedAt c number x) cells) (IsInvolvingBelow x (number + 1)) old middle new split g h
+      where
+        split : (n : Need) → IsInvolvingBelow x (number + 1) n → IsInvolvingBelow x number n ⊎ OfSome (IsInvolvedAt c number x) cells n
+        split n w = elim (cases_lt n.rule number) [
+          | inl less ↦ inl (record { involves = w.involves; below = less })
+          | inr last ↦ (let rule : n.rule ≡ number = let less = w.below in omega (arith, less, last) in
+              inr (subst (λ qs. OfSome (IsInvolvedAt c number x) qs n) (sym all) (subst (λ k. OfSome (IsInvolvedAt c k x) (finite.keys set) n) rule (at_key n w.involves))))
+        ]
+
+  -- all of them, added to an empty list
+  pub all_involved : (x number : ℕ) (empty new : List Need) → length rules ≤ number → empty ≡ [] → Gains (IsInvolving c x) (IsInvolvingBelow x number) empty new → (n : Need) → Contains new n ↔ IsInvolving c x n
+  all_involved x number empty new past none g n = (λ h. only (g.only n h), λ t. g.every n (record { involves = t; below = below t }))
+    where
+      only : Contains empty n ⊎ IsInvolving c x n → IsInvolving c x n
+      only (inl h) = absurd (among n [] (subst (λ ns. Contains ns n) none h))
+      only (inr t) = t
+
+      below : IsInvolving c x n → n.rule < number
+      below (a, b, p, h) = let less = rule_there rules (ask_of n) (held n.first a) (held_too n.second b) p.they_call in omega (arith, less, past)

@@ -1,0 +1,53 @@
+-- Possible needs that involve a member, and the versions by which they do.
+use Rattle.std.specs.Prelude.{◌≡◌, ℕ, Bool, true, false, ◌==◌, ◌||◌, ◌⊎◌, Option, Some, None}
+use Rattle.clr_rows.specs.declared.cells.CellId.{CellId}
+use Rattle.clr_foot.specs.declared.needs.Need.{Need}
+use Rattle.clr_foot.specs.declared.needs.VersionId.{VersionId}
+use Rattle.clr_foot.specs.Candidates.{IsSubject}
+use Rattle.clr_foot.specs.Independence.{Involves, Names}
+use Rattle.clr_foot.specs.Needs.{IsPossible, Serves}
+use Rattle.clr_foot.specs.Settings.{Setting, Lifetime, Always, With, Without, Lived, version}
+use Rattle.clr_foot.specs.Versions.{version_of}
+
+-- a life names the member
+abbrev pub names : Lifetime ℕ → ℕ → Bool
+names Always x = false
+names (With n) x = n == x
+names (Without n) x = n == x
+
+-- so does that of a version that is there
+abbrev pub names_at : ℕ → Option (Lived ℕ) → Bool
+names_at x None = false
+names_at x (Some l) = names l.life x
+
+-- that of one of two names, or of the only one
+abbrev pub names_by : ℕ → Setting ℕ → VersionId → Option VersionId → Bool
+names_by x c v None = names_at x (version c v)
+names_by x c v (Some w) = names_at x (version c v) || names_at x (version c w)
+
+-- a possible need that involves the member
+abbrev pub IsInvolving : Setting ℕ → ℕ → Need → Type 0
+IsInvolving c x n = (a : Lived ℕ) × (b : Option (Lived ℕ)) × IsPossible c n a b × Involves c n a b x
+
+abbrev pub IsToldInvolving : Setting ℕ → ℕ → Need → Bool → Type 0
+IsToldInvolving c x n true = IsInvolving c x n
+IsToldInvolving c x n false = ¬ (IsInvolving c x n)
+
+-- a possible need of a rule with this version among its subjects and servers, where the version's life names the member
+pub record IsInvolvedBy (c : Setting ℕ) (number x : ℕ) (v : VersionId) (n : Need) : Type 0 where
+  pub first : Lived ℕ
+  pub second : Option (Lived ℕ)
+  pub lived : Lived ℕ
+  pub rule : n.rule ≡ number
+  pub possible : IsPossible c n first second
+  pub is : version c v ≡ Some lived
+  pub names : Names lived.life x
+  pub role : IsSubject n v ⊎ Serves c n first second v lived
+
+-- with the new version of a cell, or its old one
+abbrev pub IsInvolvedAt : Setting ℕ → ℕ → ℕ → CellId → Need → Type 0
+IsInvolvedAt c number x q n = IsInvolvedBy c number x (version_of true q) n ⊎ IsInvolvedBy c number x (version_of false q) n
+
+-- one that involves the member, of one rule
+abbrev pub IsInvolvingOf : Setting ℕ → ℕ → ℕ → Need → Type 0
+IsInvolvingOf c number x n = IsInvolving c x n × (n.rule ≡ number)

@@ -1,0 +1,55 @@
+//! Of how many rows a rule is asked, and which rows may serve.
+
+ghost use Rattle.std.specs.Prelude.{◌≡◌, ◌<◌, length};
+ghost use Rattle.clr_rows.specs.Held.{held_of};
+ghost use Rattle.clr_grid.specs.Sharing.{may_serve, may_serve_under};
+ghost use Rattle.clr_foot.specs.Candidates.{is_of_two, is_of_two_under};
+ghost use Rattle.clr_foot.specs.Versions.{row_of};
+
+use crate::scenes::Scene;
+use crate::versions::Version;
+use clr_grid::RowFinder;
+use clr_rows::{Held, RowView};
+use clr_rules::{Rule, is_of_side};
+
+/// Whether a rule is asked of two rows.
+fn is_of_two(rule: &Rule) -> bool
+    ensures { result ≡ is_of_two rule.now }
+{
+    match rule {
+        Rule::Unique { .. } | Rule::Crossing { .. } | Rule::Near { .. } => true,
+        Rule::Partner { .. } | Rule::EndNode { .. } => false,
+    }
+}
+
+/// Whether a row is of the side of a rule that serves.
+fn may_serve(rule: &Rule, held: Held) -> bool
+    ensures { result ≡ may_serve rule.now (held_of held.entry) }
+{
+    match rule {
+        Rule::Partner { server, .. }
+        | Rule::EndNode { server, .. }
+        | Rule::Crossing { server, .. } => is_of_side(server, held),
+        Rule::Unique { .. } | Rule::Near { .. } => false,
+    }
+}
+
+impl<V: RowView, F: RowFinder> Scene<'_, V, F> {
+    /// Whether the rule of a number is asked of two rows.
+    #[tactic(auto, unfolding(crate::specs::Candidates::is_of_two_under))]
+    pub(crate) fn is_of_two(&self, rule: u16) -> bool
+        requires { rule < length self.now.book.now }
+        ensures { result ≡ is_of_two_under self.now.book.now rule }
+    {
+        is_of_two(self.book.rule(rule))
+    }
+
+    /// Whether a version is of the side that serves.
+    #[tactic(auto, unfolding(clr_grid::specs::Sharing::may_serve_under))]
+    pub(crate) fn may_serve(&self, rule: u16, version: Version) -> bool
+        requires { rule < length self.now.book.now }
+        ensures { result ≡ may_serve_under self.now.book.now rule (row_of version.entry) }
+    {
+        may_serve(self.book.rule(rule), version.held())
+    }
+}

@@ -1,0 +1,7 @@
+pub mod CellData
+pub mod Laws
+pub mod OfficeData
+pub mod RuleData
+pub mod TableData
+pub mod Values
+pub mod WorkspaceData

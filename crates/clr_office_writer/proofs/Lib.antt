@@ -1,0 +1,5 @@
+pub mod Differences
+pub mod Listed
+pub mod Places
+pub mod Standing
+pub mod Texts

@@ -1,0 +1,6 @@
+//! Writing of offices as texts.
+#![tactic(auto)]
+
+mod writing;
+
+pub use writing::write_office;

@@ -1,0 +1,67 @@
+-- What plans promise.
+use Rattle.std.specs.Prelude.{◌≡◌, ◌↔◌, ℕ, Bool, true, false, List, None}
+use Rattle.clr_cert.specs.declared.certificates.Certificate.{Certificate}
+use Rattle.clr_foot.specs.Covers.{Entry}
+use Rattle.clr_steps.specs.declared.commands.Command.{Command}
+use Rattle.clr_steps.specs.Offices.{Office}
+use Rattle.clr_steps.specs.Quiet.{Site}
+use Rattle.clr_steps.specs.Steps.{run}
+use Rattle.clr_clearance.specs.declared.verdicts.Verdict.{Verdict}
+use Rattle.clr_clearance.specs.declared.verdicts.Verdict.TheVariants as verdict
+use Rattle.clr_clearance.specs.Plans.{IsUnfit, is_refused, names_at, standing}
+use Rattle.clr_clearance.specs.Runs.{AreQuiet}
+use Rattle.clr_clearance.specs.Safety.{Safe}
+use Rattle.clr_clearance.specs.Sites.{Covers, RootHolds}
+use Rattle.clr_clearance.specs.Verdicts.{IsVerdict, name_fault}
+use Rattle.clr_check.specs.Certificates.{entries_in, site_of}
+use Rattle.clr_plan.specs.declared.plans.Plan.{Plan}
+use Rattle.clr_plan.specs.declared.plans.Plan.TheVariants as plan
+
+-- the certificate covers the members as they are given, so that the verdict on it is clear; and they are safe
+pub record IsProof (o : Office) (s : Site) (c : Certificate) : Type 0 where
+  pub names : site_of c ≡ s
+  pub covers : Covers o s (entries_in c.entries)
+  pub clear : IsVerdict o s (entries_in c.entries) verdict.Clear
+  pub safe : Safe o s
+
+-- of the merges of the members in this order, the workspaces kept, one meets a conflict or breaks a rule
+pub record IsRefusal (o : Office) (s : Site) (order : List ℕ) : Type 0 where
+  pub refused : is_refused o (names_at s order) ≡ true
+  pub unsafe : ¬ (Safe o s)
+
+abbrev pub Promises : Office → Site → Plan → Type 0
+Promises o s (plan.Cleared c) = IsProof o s c
+Promises o s (plan.Blocked order cause) = IsRefusal o s order.items
+Promises o s (plan.Unfit v) = Unit {0}
+Promises o s plan.OutOfMemory = Unit {0}
+
+abbrev pub is_cleared : Plan → Bool
+is_cleared (plan.Cleared c) = true
+is_cleared (plan.Blocked order cause) = false
+is_cleared (plan.Unfit v) = false
+is_cleared plan.OutOfMemory = false
+
+abbrev pub is_out_of_memory : Plan → Bool
+is_out_of_memory (plan.Cleared c) = false
+is_out_of_memory (plan.Blocked order cause) = false
+is_out_of_memory (plan.Unfit v) = false
+is_out_of_memory plan.OutOfMemory = true
+
+-- where no test of names fails and memory was found, cleared exactly where the members are safe
+abbrev pub IsExact : Office → Site → Plan → Type 0
+IsExact o s p = name_fault o s ≡ None → is_out_of_memory p ≡ false → (is_cleared p ≡ true) ↔ Safe o s
+
+-- where a test of names fails, that is answered
+abbrev pub IsUnfitWhere : Office → Site → Plan → Type 0
+IsUnfitWhere o s p = (v : Verdict) → IsUnfit o s v → p ≡ plan.Unfit v
+
+-- the members of a covered site that stand after quiet commands are cleared, memory aside
+abbrev pub Lasts : Office → Site → Plan → Type 0
+Lasts o s p = (first : Office) (site : Site) (entries : List Entry) (commands : List Command) (lost : ℕ → Bool)
+    → Covers first site entries
+    → RootHolds first site
+    → AreQuiet first site commands lost
+    → o ≡ (run first commands lost).office
+    → s ≡ standing o site
+    → is_out_of_memory p ≡ false
+    → is_cleared p ≡ true

@@ -1,0 +1,36 @@
+//! Texts and lists that an answer keeps.
+
+ghost use Rattle.std.specs.Prelude.{◌≡◌, IfOk, map};
+
+use clr_cert::Names;
+use clr_rows::Words;
+use std::alloc::{AllocError, Global};
+
+/// A text of its own.
+pub(crate) fn words(alloc: Global, text: &str) -> Result<Words, AllocError>
+    ensures { IfOk result (λ words. words ≡ text.now) }
+{
+    Ok(Words::new(String::from_str(alloc, text)?))
+}
+
+/// The names of members, as they are given.
+pub(crate) fn names(alloc: Global, members: &[&str]) -> Result<Names, AllocError>
+    ensures { IfOk result (λ names. names ≡ map (λ name. name.now) members.now) }
+{
+    let mut list = Vec::with_capacity(alloc, members.len())?;
+    for name in members {
+        list.push(words(alloc, name)?)?;
+    }
+    Ok(Names::new(list))
+}
+
+/// Positions of members, as numbers of a list.
+pub(crate) fn positions(alloc: Global, members: &[u16]) -> Result<Vec<usize>, AllocError>
+    ensures { IfOk result (λ list. list.items ≡ members.now) }
+{
+    let mut list = Vec::with_capacity(alloc, members.len())?;
+    for member in members {
+        list.push(*member as usize)?;
+    }
+    Ok(list)
+}

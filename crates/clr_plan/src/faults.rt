@@ -1,0 +1,74 @@
+//! The plans that faults found before the tests of needs decide.
+
+ghost use Rattle.std.specs.Prelude.{◌≡◌, None};
+ghost use Rattle.clr_foot.specs.Members.{IsSceneFault};
+ghost use Rattle.clr_steps.specs.Offices.{Office};
+ghost use Rattle.clr_steps.specs.Quiet.{Site};
+ghost use Rattle.clr_clearance.specs.Sites.{change_sets};
+ghost use Rattle.clr_clearance.specs.Verdicts.{member_fault};
+ghost use Rattle.clr_check.specs.Answers.{IsFault};
+ghost use Rattle.clr_plan.specs.Plans.{IsBlockedIn, IsPlan};
+
+use crate::plans::Plan;
+use clr_clearance::Verdict;
+use clr_foot::SceneFault;
+use std::alloc::Global;
+
+/// A blocked plan, or `OutOfMemory` where no memory is found for its order.
+fn blocked(alloc: Global, order: &[usize], cause: Verdict) -> Plan
+    ensures { IsBlockedIn order.now cause result }
+{
+    match Vec::from_slice(alloc, order) {
+        Ok(order) => Plan::Blocked { order, cause },
+        Err(_) => Plan::OutOfMemory,
+    }
+}
+
+/// The plan where a test of names or the test for conflicts fails: the member in conflict is an order
+/// of its own.
+pub(crate) fn plan_fault(alloc: Global, fault: Verdict) -> Plan
+    ensures { (o : Office) (s : Site) → IsFault o s fault → IsPlan o s result }
+{
+    match fault {
+        Verdict::OutOfMemory => Plan::OutOfMemory,
+        Verdict::Conflict {
+            member,
+            cell,
+            count,
+        } => blocked(
+            alloc,
+            &[member],
+            Verdict::Conflict {
+                member,
+                cell,
+                count,
+            },
+        ),
+        fault => Plan::Unfit(fault),
+    }
+}
+
+/// The plan where there is no scene: the first two members that change a cell are an order.
+pub(crate) fn plan_shared(alloc: Global, fault: SceneFault) -> Plan
+    ensures { (o : Office) (s : Site) → member_fault o s ≡ None → IsSceneFault (change_sets o s) fault → IsPlan o s result }
+{
+    match fault {
+        SceneFault::OutOfMemory => Plan::OutOfMemory,
+        SceneFault::SharedCell {
+            cell,
+            first,
+            second,
+        } => {
+            let (first, second) = (first as usize, second as usize);
+            blocked(
+                alloc,
+                &[first, second],
+                Verdict::SharedCell {
+                    cell,
+                    first,
+                    second,
+                },
+            )
+        }
+    }
+}

@@ -1,0 +1,42 @@
+//! The witnesses of the touched needs of a scene.
+
+ghost use Rattle.std.specs.Prelude.{IfOk};
+ghost use Rattle.clr_foot.specs.Scenes.{IsReady, model_of, setting_of};
+ghost use Rattle.clr_plan.specs.Picked.{ArePickedFor};
+
+use clr_cert::{Entries, Entry};
+use clr_foot::{Need, Scene};
+use clr_grid::RowFinder;
+use clr_rows::RowView;
+use std::alloc::{AllocError, Global};
+
+/// The entries of all touched needs, or the least need for which no witnesses are picked.
+#[derive(Drop)]
+pub(crate) enum Picked {
+    Entries(Entries),
+    Unpicked(Need),
+}
+
+/// The touched needs of a scene with the witnesses that are picked for them. It fails for want of
+/// memory alone.
+pub(crate) fn pick_all<V: RowView, F: RowFinder>(
+    alloc: Global,
+    scene: &Scene<'_, V, F>,
+) -> Result<Picked, AllocError>
+    requires ready { IsReady F.settled (model_of V.content scene.now) }
+    ensures { IfOk result (ArePickedFor (setting_of (model_of V.content scene.now))) }
+{
+    let needs = scene.touched_needs()?;
+    let mut list = Vec::with_capacity(alloc, needs.len())?;
+    for need in &needs {
+        match scene.pick(need)? {
+            None => return Ok(Picked::Unpicked(*need)),
+            Some((one, two)) => list.push(Entry {
+                need: *need,
+                one,
+                two,
+            })?,
+        }
+    }
+    Ok(Picked::Entries(Entries::new(list)))
+}

@@ -1,0 +1,56 @@
+//! Plans of members that are to be merged.
+
+ghost use Rattle.std.specs.Prelude.{map};
+ghost use Rattle.clr_steps.specs.Quiet.{Site};
+ghost use Rattle.clr_check.specs.SiteNames.{site};
+ghost use Rattle.clr_check.specs.Sites.{AreParts};
+ghost use Rattle.clr_plan.specs.Plans.{IsPlan};
+ghost use Rattle.clr_plan.specs.Promises.{IsExact, IsUnfitWhere, Lasts, Promises};
+
+use crate::faults::{plan_fault, plan_shared};
+use crate::plans::Plan;
+use crate::scene_plans::plan_scene;
+use clr_check::{SiteParts, read_site};
+use clr_engine::Office;
+use std::alloc::Global;
+
+/// The plan that the parts of a site decide.
+fn plan_parts(
+    alloc: Global,
+    office: &Office,
+    parts: &SiteParts,
+    root: &str,
+    members: &[&str],
+) -> Plan
+    requires { AreParts office.now (site root.now (map (λ name. name.now) members.now)) parts.now }
+    ensures { IsPlan office.now (site root.now (map (λ name. name.now) members.now)) result }
+{
+    match parts.scene(alloc, office) {
+        Ok(scene) => match plan_scene(alloc, &scene, root, members) {
+            Ok(plan) => plan,
+            Err(_) => Plan::OutOfMemory,
+        },
+        Err(fault) => plan_shared(alloc, fault),
+    }
+}
+
+/// What is planned for members that are to be merged into a root. `Unfit` comes wherever a test of
+/// names fails, with the first that does. `Cleared` comes with a certificate that names the root and
+/// the members as they are given, with one entry for each touched need, ascending: the members are
+/// safe. `Blocked` comes with an order of members, by position, and the first test that fails: of the
+/// merges in that order, from this office and the workspaces kept, one meets a conflict or breaks a
+/// rule. There is no other answer but `OutOfMemory`, in place of `Cleared` and `Blocked`. What was
+/// cleared stays so for the members that still stand, after every list of quiet commands.
+pub fn plan(alloc: Global, office: &Office, root: &str, members: &[&str]) -> Plan
+    ensures plan { IsPlan office.now (site root.now (map (λ name. name.now) members.now)) result }
+    ensures unfit { IsUnfitWhere office.now (site root.now (map (λ name. name.now) members.now)) result }
+    ensures promises { Promises office.now (site root.now (map (λ name. name.now) members.now)) result }
+    ensures exact { IsExact office.now (site root.now (map (λ name. name.now) members.now)) result }
+    ensures lasts { Lasts office.now (site root.now (map (λ name. name.now) members.now)) result }
+{
+    let _rules = office.book();
+    match read_site(alloc, office, root, &members) {
+        Ok(parts) => plan_parts(alloc, office, &parts, root, members),
+        Err(fault) => plan_fault(alloc, fault),
+    }
+}

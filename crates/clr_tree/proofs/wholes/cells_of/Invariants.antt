@@ -1,6 +1,0 @@
-use Rattle.std.proofs.Common.{◌≡◌, take}
-use Rattle.clr_differences.specs.Differences.{cells_in}
-use Rattle.clr_tree.proofs.wholes.cells_of.Given as goal
-
-abbrev pub invariant-loop-cell : goal.invariant-loop-cell
-invariant-loop-cell l = l.cells.items ≡ cells_in (take l.cell-index l.rows)

@@ -1,0 +1,53 @@
+-- The lines of verdicts.
+use Rattle.std.specs.Prelude.{ℕ, List, [], ◌++◌, codes, Option, Some, None, slice_get, unwrap_or}
+use Rattle.std.specs.Fmt.{decimal}
+use Rattle.clr_rows.specs.declared.cells.CellId.{CellId}
+use Rattle.clr_rows.specs.declared.tables.TableDef.{TableDef}
+use Rattle.clr_layers.specs.Marks.{Name}
+use Rattle.clr_foot.specs.declared.needs.Need.{Need}
+use Rattle.clr_foot.specs.declared.needs.VersionId.{VersionId}
+use Rattle.clr_clearance.specs.declared.verdicts.Verdict.{Verdict}
+use Rattle.clr_clearance.specs.declared.verdicts.Verdict.TheVariants as verdict
+use Rattle.clr_cert.specs.Texts.{subject_text}
+use Rattle.clr_lines.specs.Pieces.{cell_text}
+
+-- the name of the member at a position, or no bytes past the end
+abbrev pub member_name : List Name → ℕ → Name
+member_name members at = unwrap_or (slice_get members at) []
+
+abbrev pub second_text : List TableDef → Option VersionId → ℕ → List ℕ
+second_text tables None part = []
+second_text tables (Some v) part = codes " " ++ subject_text tables v part
+
+-- a need is written as `rule 1 main/20/old/3 main/21/new`
+abbrev pub need_text : List TableDef → Need → List ℕ
+need_text tables need =
+    codes "rule " ++ decimal need.rule ++ codes " " ++ subject_text tables need.first need.first_part ++ second_text tables need.second need.second_part
+
+-- a line that ends with a name
+abbrev pub name_text : List ℕ → Name → List ℕ
+name_text front name = front ++ name ++ codes "\n"
+
+-- a member in conflict, its least cell, and how many there are
+abbrev pub conflict_text : List TableDef → Name → CellId → ℕ → List ℕ
+conflict_text tables name cell count = codes "4 Conflict " ++ name ++ codes " " ++ cell_text tables cell ++ codes " " ++ decimal count ++ codes "\n"
+
+-- a cell that two members change
+abbrev pub shared_text : List TableDef → CellId → Name → Name → List ℕ
+shared_text tables cell first second = codes "5 SharedCell " ++ cell_text tables cell ++ codes " " ++ first ++ codes " " ++ second ++ codes "\n"
+
+-- a need that no entry covers
+abbrev pub uncovered_text : List TableDef → Need → List ℕ
+uncovered_text tables need = codes "6 Uncovered " ++ need_text tables need ++ codes "\n"
+
+-- the line of a verdict on members of a root: its number and its name, with its details
+abbrev pub verdict_text : List TableDef → List Name → Name → Verdict → List ℕ
+verdict_text tables members root verdict.Clear = codes "clear\n"
+verdict_text tables members root verdict.OutOfMemory = codes "0 OutOfMemory\n"
+verdict_text tables members root (verdict.RepeatedMember at) = name_text (codes "1 RepeatedMember ") (member_name members at)
+verdict_text tables members root (verdict.NoWorkspace at) = name_text (codes "2 NoWorkspace ") (member_name members at)
+verdict_text tables members root (verdict.NotUnderRoot at) = name_text (codes "3 NotUnderRoot ") (member_name members at)
+verdict_text tables members root (verdict.Conflict at cell count) = conflict_text tables (member_name members at) cell count
+verdict_text tables members root (verdict.SharedCell cell first second) = shared_text tables cell (member_name members first) (member_name members second)
+verdict_text tables members root (verdict.Uncovered need) = uncovered_text tables need
+verdict_text tables members root verdict.NotKept = name_text (codes "7 NotKept ") root

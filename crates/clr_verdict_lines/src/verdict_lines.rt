@@ -1,0 +1,119 @@
+ghost use Rattle.std.specs.Prelude.{◌≡◌, ◌++◌, codes, map, IfOk};
+ghost use Rattle.clr_lines.specs.Pieces.{cell_text};
+ghost use Rattle.clr_verdict_lines.specs.Verdicts.{conflict_text, member_name, name_text, shared_text, uncovered_text, verdict_text};
+
+use crate::needs::add_need;
+use clr_clearance::Verdict;
+use clr_foot::Need;
+use clr_lines::{add_cell, add_count};
+use clr_rows::{CellId, Schema};
+use std::alloc::{AllocError, Global};
+
+/// The name of the member at a position, or no bytes past the end.
+fn member<'a>(members: &'a [&'a str], at: usize) -> &'a str
+    ensures { result.now ≡ member_name (map (λ name. name.now) members.entry.now) at }
+{
+    match members.get(at) {
+        Some(name) => name,
+        None => "",
+    }
+}
+
+/// A line that ends with a name.
+fn name_line(alloc: Global, front: &str, name: &str) -> Result<Vec<u8>, AllocError>
+    ensures { IfOk result (λ line. line.items ≡ name_text front.now name.now) }
+{
+    let mut line = Vec::from_slice(alloc, front.as_bytes())?;
+    line.extend_from_slice(name.as_bytes())?;
+    line.extend_from_slice(b"\n")?;
+    Ok(line)
+}
+
+fn conflict_line(
+    alloc: Global,
+    schema: &Schema,
+    name: &str,
+    cell: CellId,
+    count: usize,
+) -> Result<Vec<u8>, AllocError>
+    ensures { IfOk result (λ line. line.items ≡ conflict_text schema.now name.now cell count) }
+{
+    let mut line = Vec::from_slice(alloc, b"4 Conflict ")?;
+    line.extend_from_slice(name.as_bytes())?;
+    line.extend_from_slice(b" ")?;
+    add_cell(&mut line, schema, cell)?;
+    line.extend_from_slice(b" ")?;
+    add_count(&mut line, count)?;
+    line.extend_from_slice(b"\n")?;
+    Ok(line)
+}
+
+fn shared_line(
+    alloc: Global,
+    schema: &Schema,
+    cell: CellId,
+    first: &str,
+    second: &str,
+) -> Result<Vec<u8>, AllocError>
+    ensures { IfOk result (λ line. line.items ≡ shared_text schema.now cell first.now second.now) }
+{
+    let mut line = Vec::from_slice(alloc, b"5 SharedCell ")?;
+    add_cell(&mut line, schema, cell)?;
+    line.extend_from_slice(b" ")?;
+    line.extend_from_slice(first.as_bytes())?;
+    line.extend_from_slice(b" ")?;
+    line.extend_from_slice(second.as_bytes())?;
+    line.extend_from_slice(b"\n")?;
+    Ok(line)
+}
+
+fn uncovered_line(alloc: Global, schema: &Schema, need: &Need) -> Result<Vec<u8>, AllocError>
+    ensures { IfOk result (λ line. line.items ≡ uncovered_text schema.now need.now) }
+{
+    let mut line = Vec::from_slice(alloc, b"6 Uncovered ")?;
+    add_need(&mut line, schema, need)?;
+    line.extend_from_slice(b"\n")?;
+    Ok(line)
+}
+
+/// The line of a verdict on members of a root, ended by `\n`: `clear`, or the number and the name of
+/// what it says with its details, which are the name of the member or of the root; the member, the
+/// least cell in conflict, as `main/20`, and how many there are; the shared cell and the members that
+/// change it; or the need that no entry covers, as `rule 1 main/20/old/3 main/21/new`. A position
+/// past the members, and a table that the schema hasn't, have no bytes for a name. It fails for want
+/// of memory alone.
+pub fn verdict_line(
+    alloc: Global,
+    schema: &Schema,
+    members: &[&str],
+    root: &str,
+    verdict: &Verdict,
+) -> Result<Vec<u8>, AllocError>
+    ensures { IfOk result (λ line. line.items ≡ verdict_text schema.now (map (λ name. name.now) members.now) root.now verdict.now) }
+{
+    match *verdict {
+        Verdict::Clear => Vec::from_slice(alloc, b"clear\n"),
+        Verdict::OutOfMemory => Vec::from_slice(alloc, b"0 OutOfMemory\n"),
+        Verdict::RepeatedMember(at) => name_line(alloc, "1 RepeatedMember ", member(members, at)),
+        Verdict::NoWorkspace(at) => name_line(alloc, "2 NoWorkspace ", member(members, at)),
+        Verdict::NotUnderRoot(at) => name_line(alloc, "3 NotUnderRoot ", member(members, at)),
+        Verdict::Conflict {
+            member: at,
+            cell,
+            count,
+        } => conflict_line(alloc, schema, member(members, at), cell, count),
+        Verdict::SharedCell {
+            cell,
+            first,
+            second,
+        } => shared_line(
+            alloc,
+            schema,
+            cell,
+            member(members, first),
+            member(members, second),
+        ),
+        Verdict::Uncovered(need) => uncovered_line(alloc, schema, &need),
+        Verdict::NotKept => name_line(alloc, "7 NotKept ", root),
+    }
+}

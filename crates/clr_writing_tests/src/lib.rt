@@ -1,0 +1,7 @@
+//! Tests of office texts as drafts, and of the texts that are written of offices, by public calls.
+#![tactic(auto)]
+
+#[cfg(test)]
+mod drafts;
+#[cfg(test)]
+mod writing;
