@@ -9,6 +9,7 @@ pub mod NameLemmas
 pub mod OrderLemmas
 pub mod PickLemmas
 pub mod PlanLemmas
+pub mod PositionLemmas
 pub mod RefusedLemmas
 pub mod RunLemmas
 pub mod SafeLemmas

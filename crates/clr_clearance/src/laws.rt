@@ -1,7 +1,13 @@
 //! Laws of clearance, each proved by a function that does nothing.
 
 ghost use Rattle.clr_clearance.specs.Laws.{ClearIsSafeLaw, ClearLaw, ClearedRunLaw, MergeLaw, OneVerdictLaw};
-ghost use Rattle.clr_clearance.specs.Laws.{OrderLaw, QuietListLaw, RefreshLaw, SafeLaw, StaticLaw};
+ghost use Rattle.clr_clearance.specs.Laws.{NumberLaw, OrderLaw, QuietListLaw, RefreshLaw, SafeLaw, StaticLaw};
+
+/// Members by name and by position say the same: they touch the same needs, which the same entries
+/// cover.
+pub fn numbers_stand_for_names()
+    ensures { NumberLaw }
+{}
 
 /// Where entries cover the members and every rule holds in the root, every rule holds in the root
 /// with the changes of any of the members over it, and no other member is in conflict with that.

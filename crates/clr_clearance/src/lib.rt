@@ -10,8 +10,8 @@ mod verdicts;
 pub use check_laws::{faults_of_examples, needs_are_judged_in_order, quiet_answers_grow};
 pub use laws::{
     clear_is_covered, clear_sites_are_safe, cleared_runs_are_safe, covered_members_stay_free,
-    covered_sites_are_safe, merges_and_refreshes_are_safe, order_gives_the_same_rows,
-    quiet_lists_leave_merges,
+    covered_sites_are_safe, merges_and_refreshes_are_safe, numbers_stand_for_names,
+    order_gives_the_same_rows, quiet_lists_leave_merges,
 };
 pub use plan_laws::{
     blocked_plans_are_refused, clearances_last, cleared_plans_cover, safe_sites_are_never_blocked,
