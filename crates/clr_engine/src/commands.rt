@@ -404,7 +404,8 @@ fn hold(judge: &Judge, tree: &mut Tree, finders: &mut Finders, at: usize) -> Rep
     requires child { 0 < at }
     requires within { at < length tree.old.list }
     requires served { IsServed judge.now tree.old.list finders.old }
-    ensures performed { IsPerformedAt judge.now (command.Hold (name_of tree.old.list at)) at tree.old.list (set_kept tree.old.list at true) result tree.new.list }
+    ensures performed { let list = tree.old.list in
+        IsPerformedAt judge.now (command.Hold (name_of list at)) at list (set_kept list at true) result tree.new.list }
     ensures finders { AreFinders judge.now (kept_contents tree.new.list) finders.new }
 {
     match judge.broken_now(tree, at, !tree.kept(at)) {

@@ -128,7 +128,8 @@ impl Judge {
         ensures judged { IfOk result (λ need. option_map RuleBroken need
             ≡ broken_where (workspace_at tree.now.list at).kept self.now (taken_over (workspace_at tree.now.list at).current changed.now)) }
         ensures prepared { IfOk result (λ need. MatchOption need
-            (IsPrepared self.now tree.now.list at (taken_over (workspace_at tree.now.list at).current changed.now) finders.new) (λ _. finders.new ≡ finders.old)) }
+            (IsPrepared self.now tree.now.list at (taken_over (workspace_at tree.now.list at).current changed.now) finders.new)
+            (λ _. finders.new ≡ finders.old)) }
         ensures err { OnErr result (finders.new ≡ finders.old) }
     {
         let Some(finder) = finders.get(at) else {
@@ -178,7 +179,8 @@ impl Judge {
         ensures judged { IfOk result (λ need. let w = workspace_at tree.now.list at in
             option_map RuleBroken need ≡ broken_where w.kept self.now (saved_content (mark_at w.marks mark))) }
         ensures prepared { IfOk result (λ need. MatchOption need
-            (IsPrepared self.now tree.now.list at (saved_content (mark_at (workspace_at tree.now.list at).marks mark)) finders.new) (λ _. finders.new ≡ finders.old)) }
+            (IsPrepared self.now tree.now.list at (saved_content (mark_at (workspace_at tree.now.list at).marks mark)) finders.new)
+            (λ _. finders.new ≡ finders.old)) }
         ensures err { OnErr result (finders.new ≡ finders.old) }
     {
         if !tree.kept(at) {
@@ -227,7 +229,8 @@ impl Judge {
         ensures judged { IfOk result (λ need. option_map RuleBroken need
             ≡ broken_where (workspace_at tree.now.list at).kept self.now (taken_over (workspace_at tree.now.list above).current changed.now)) }
         ensures prepared { IfOk result (λ need. MatchOption need
-            (IsPrepared self.now tree.now.list at (taken_over (workspace_at tree.now.list above).current changed.now) finders.new) (λ _. finders.new ≡ finders.old)) }
+            (IsPrepared self.now tree.now.list at (taken_over (workspace_at tree.now.list above).current changed.now) finders.new)
+            (λ _. finders.new ≡ finders.old)) }
         ensures err { OnErr result (finders.new ≡ finders.old) }
     {
         if !tree.kept(at) {
@@ -253,7 +256,8 @@ impl Judge {
         ensures judged { IfOk result (λ need. let w = workspace_at tree.now.list at in
             option_map RuleBroken need ≡ broken_where w.kept self.now (set_cell w.current cell (option_copied row.entry))) }
         ensures prepared { IfOk result (λ need. MatchOption need
-            (IsPrepared self.now tree.now.list at (set_cell (workspace_at tree.now.list at).current cell (option_copied row.entry)) finders.new) (λ _. finders.new ≡ finders.old)) }
+            (IsPrepared self.now tree.now.list at (set_cell (workspace_at tree.now.list at).current cell (option_copied row.entry)) finders.new)
+            (λ _. finders.new ≡ finders.old)) }
         ensures err { OnErr result (finders.new ≡ finders.old) }
     {
         if !tree.kept(at) {

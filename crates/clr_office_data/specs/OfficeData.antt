@@ -10,5 +10,6 @@ use Rattle.clr_office_data.specs.WorkspaceData.{layer_data}
 
 unfoldable pub office_data : OfficeText → Data
 office_data o =
-    object (member (codes "format") (number_data (pos 3)) (member (codes "live") (live_data o.schema o.live) (member (codes "rules") (rules_data o.schema o.book)
-    (member (codes "tables") (list_data table_data o.schema) (member (codes "workspaces") (list_data (layer_data o.schema) o.layers) no_members)))))
+    object (member (codes "format") (number_data (pos 3)) (member (codes "live") (live_data o.schema o.live)
+    (member (codes "rules") (rules_data o.schema o.book) (member (codes "tables") (list_data table_data o.schema)
+    (member (codes "workspaces") (list_data (layer_data o.schema) o.layers) no_members)))))

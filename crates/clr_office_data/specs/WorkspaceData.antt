@@ -16,7 +16,8 @@ named_mark tables (stored.Saved name d) = named.Saved name (named_cells tables d
 
 abbrev pub named_mark_data : NamedMark → Data
 named_mark_data (named.Child name) = object (member (codes "child") (string name) no_members)
-named_mark_data (named.Saved name cells) = object (member (codes "rows") (list_data named_cell_data cells) (member (codes "savepoint") (string name) no_members))
+named_mark_data (named.Saved name cells) =
+    object (member (codes "rows") (list_data named_cell_data cells) (member (codes "savepoint") (string name) no_members))
 
 -- in their order
 abbrev pub marks_data : List TableDef → List StoredMark → Data
@@ -25,4 +26,5 @@ marks_data tables marks = list_data named_mark_data (map (named_mark tables) mar
 abbrev pub layer_data : List TableDef → Layer → Data
 layer_data tables l =
     object (member (codes "base") (differences_data tables l.base) (member (codes "kept") (boolean l.kept) (member (codes "marks") (marks_data tables l.marks)
-    (member (codes "name") (string l.name) (member (codes "parent") (string l.parent) (member (codes "rows") (differences_data tables l.current) no_members))))))
+    (member (codes "name") (string l.name) (member (codes "parent") (string l.parent)
+    (member (codes "rows") (differences_data tables l.current) no_members))))))

@@ -18,4 +18,11 @@ mark_from base (ChildMark name) = stored.Child name
 -- a workspace whose parent has this content
 abbrev pub layer_from : Content → Workspace → Layer
 layer_from above w =
-    record { name = w.name; parent = w.parent; base = differences_from above w.base; current = differences_from w.base w.current; marks = map (mark_from w.base) w.marks; kept = w.kept }
+    record {
+      name = w.name;
+      parent = w.parent;
+      base = differences_from above w.base;
+      current = differences_from w.base w.current;
+      marks = map (mark_from w.base) w.marks;
+      kept = w.kept;
+    }

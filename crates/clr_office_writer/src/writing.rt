@@ -27,7 +27,8 @@ fn rows_of(alloc: Global, office: &Office, ws: &str) -> Result<Sheet, AllocError
 
 /// The workspace at a position in order of creation, LIVE having position 0, as JSON.
 fn json_at(alloc: Global, office: &Office, position: usize) -> Result<Json, AllocError>
-    ensures { IfOk result (λ json. (w : OneWorkspace) → part_at office.now position ≡ Some w → view json ≡ layer_data office.now.schema (layer_in office.now w)) }
+    ensures { IfOk result (λ json. (w : OneWorkspace) → part_at office.now position ≡ Some w
+        → view json ≡ layer_data office.now.schema (layer_in office.now w)) }
 {
     match office.part(position)? {
         Some(part) => {
