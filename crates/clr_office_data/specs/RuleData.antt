@@ -66,7 +66,7 @@ names_data names = list_data string names
 abbrev pub named_rule_data : NamedRule → Data
 named_rule_data (Unique subject columns) =
     object (member (codes "columns") (names_data columns) (member (codes "kind") (string (codes "UNIQUE"))
-      (member (codes "subject") (side_data subject) no_members)))
+    (member (codes "subject") (side_data subject) no_members)))
 named_rule_data (Partner subject columns server server_columns) =
     object (member (codes "columns") (names_data columns) (member (codes "kind") (string (codes "PARTNER")) (member (codes "server") (side_data server)
     (member (codes "server_columns") (names_data server_columns) (member (codes "subject") (side_data subject) no_members)))))
@@ -78,7 +78,7 @@ named_rule_data (Crossing a b server) =
     (member (codes "server") (side_data server) no_members))))
 named_rule_data (Near a b d) =
     object (member (codes "a") (side_data a) (member (codes "b") (side_data b) (member (codes "d") (number_data d)
-      (member (codes "kind") (string (codes "NEAR")) no_members))))
+    (member (codes "kind") (string (codes "NEAR")) no_members))))
 
 abbrev pub rules_data : List TableDef → List Rule → Data
 rules_data tables rules = list_data named_rule_data (map (named_rule tables) rules)
