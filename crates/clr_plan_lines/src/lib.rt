@@ -1,6 +1,6 @@
 //! The lines of a plan of members that are to be merged into a root.
 #![tactic(auto)]
 
-mod plan_lines;
+mod lines;
 
-pub use plan_lines::plan_lines;
+pub use lines::plan_lines;

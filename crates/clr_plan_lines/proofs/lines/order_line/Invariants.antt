@@ -2,7 +2,7 @@ use Rattle.std.proofs.Common.{◌≡◌, ◌++◌, codes, length, map, take}
 use Rattle.std.specs.Fmt.{decimal}
 use Rattle.std.specs.List.{flat_map}
 use Rattle.clr_plan_lines.specs.Plans.{order_name}
-use Rattle.clr_plan_lines.proofs.plan_lines.order_line.Given as goal
+use Rattle.clr_plan_lines.proofs.lines.order_line.Given as goal
 
 -- the count, and the names so far
 abbrev pub invariant-loop-at : goal.invariant-loop-at
