@@ -12,7 +12,7 @@ use Rattle.clr_clearance.specs.declared.verdicts.Verdict.TheVariants as verdict
 use Rattle.clr_clearance.specs.Sites.{change_sets, numbered}
 use Rattle.clr_clearance.specs.Verdicts.{member_fault, of_cell, of_need, of_none}
 use Rattle.clr_check.specs.Answers.{IsAnswer, IsRefusal, of_memory, of_verdict, verdict_of}
-use Rattle.clr_check.specs.Claims.{IsLeastUncovered}
+use Rattle.clr_check.specs.Entries.{IsLeastUncovered}
 use Rattle.clr_clearance.specs.Sites.{RootHolds}
 use Rattle.clr_clearance.proofs.ClearLemmas.{clear_covers, no_member_fault}
 use Rattle.clr_engine.specs.Drafts.{IsAdmitted}

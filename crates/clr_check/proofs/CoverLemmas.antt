@@ -1,20 +1,19 @@
 -- What covers a need, told by lives and by the versions that serve.
-use Rattle.std.proofs.Common.{◌≡◌, ℕ, ◌+◌, ◌<◌, ◌≤◌, ◌⊎◌, inl, inr, Bool, true, false, ◌||◌, ◌==◌, List, [], ◌∷◌, Contains, get_or, length, map, take, refl, sym, ap, ◌∙◌, subst, Option, Some, None}
+use Rattle.std.proofs.Common.{◌≡◌, ℕ, ◌+◌, ◌<◌, ◌≤◌, ◌⊎◌, inl, inr, Bool, false, ◌||◌, ◌==◌, List, Contains, get_or, length, take, refl, sym, ap, ◌∙◌, subst, Option, Some, None}
 use Rattle.std.specs.Option.{option_map}
-use Rattle.std.proofs.lemmas.Bool.{false≢true}
 use Rattle.std.proofs.lemmas.Bool.Decides.{Decides-eqb}
 use Rattle.clr_foot.specs.declared.needs.Need.{Need}
 use Rattle.clr_foot.specs.declared.needs.VersionId.{VersionId}
 use Rattle.clr_foot.specs.Blocking.{same_life}
 use Rattle.clr_foot.specs.Candidates.{are_opposed}
 use Rattle.clr_foot.specs.Covers.{CoverTogether, CoversAlone, IsLifeOf, Lasts, WitnessesCover}
-use Rattle.clr_foot.specs.Needs.{AreOpposed, AreServers, IsBesideToo, IsPossible, IsServing, Serves}
+use Rattle.clr_foot.specs.Needs.{AreOpposed, AreServers, IsBesideToo, IsPossible, Serves}
 use Rattle.clr_foot.specs.Settings.{Setting, Lifetime, Always, With, Without, Lived, version}
 use Rattle.clr_foot.proofs.BreakLaws.{subjects_once}
 use Rattle.clr_foot.proofs.Gaining.{none_taken, one_more, all_taken}
-use Rattle.clr_check.specs.Claims.{HasCover, IsTold, lasts, same_too}
-use Rattle.clr_check.specs.declared.claims.Claim.{Claim}
-use Rattle.clr_check.proofs.SearchLemmas.{either_told, it_is, it_is_not, told_as, told_by}
+use Rattle.clr_check.specs.Entries.{HasCover, IsTold, lasts, same_too}
+use Rattle.clr_cert.specs.declared.entries.Entry.{Entry}
+use Rattle.clr_check.proofs.SearchLemmas.{either_told, it_is_not, told_as, told_by}
 
 -- lives ------------------------------------------------------------------------------------------
 
@@ -137,23 +136,23 @@ module _ (c : Setting ℕ) where
         subst (λ (z : Lived ℕ). AreOpposed l.life z.life) (one_at w q m serving_too.is there_too) first)) (opposed_told l.life m.life))
 
   module _ (n : Need) (a : Lived ℕ) (b : Option (Lived ℕ)) where
-    -- the versions of a claim
+    -- the versions of an entry
     pub two_told : (v w : VersionId) (x y z : Bool) → IsTold x (CoversAlone c n a b v) → IsTold y (CoversAlone c n a b w) → IsTold z (CoverTogether c n a b v w) → IsTold (x || (y || z)) (WitnessesCover c n a b v (Some w))
     two_told v w x y z one two both = either_told _ _ (CoversAlone c n a b v) _ one (either_told _ _ (CoversAlone c n a b w) (CoverTogether c n a b v w) two both)
 
-    -- none of the claims so far covers
-    abbrev pub NoneCovers : List Claim → Type 0
-    NoneCovers claims = (k : Claim) → Contains claims k → ¬ (WitnessesCover c n a b k.one k.two)
+    -- none of the entries so far covers
+    abbrev pub NoneCovers : List Entry → Type 0
+    NoneCovers entries = (k : Entry) → Contains entries k → ¬ (WitnessesCover c n a b k.one k.two)
 
-    pub none_yet : (claims : List Claim) → NoneCovers (take 0 claims)
-    none_yet claims k h = absurd (none_taken claims k h)
+    pub none_yet : (entries : List Entry) → NoneCovers (take 0 entries)
+    none_yet entries k h = absurd (none_taken entries k h)
 
-    pub one_not : (claims : List Claim) (at : ℕ) (d : Claim) (told : Bool) → at < length claims → told ≡ false → IsTold told (WitnessesCover c n a b (get_or claims at d).one (get_or claims at d).two) → NoneCovers (take at claims) → NoneCovers (take (at + 1) claims)
-    one_not claims at d told less e here before k h = by (one_more claims at d k less h)
+    pub one_not : (entries : List Entry) (at : ℕ) (d : Entry) (told : Bool) → at < length entries → told ≡ false → IsTold told (WitnessesCover c n a b (get_or entries at d).one (get_or entries at d).two) → NoneCovers (take at entries) → NoneCovers (take (at + 1) entries)
+    one_not entries at d told less e here before k h = by (one_more entries at d k less h)
       where
-        by : Contains (take at claims) k ⊎ (k ≡ get_or claims at d) → ¬ (WitnessesCover c n a b k.one k.two)
+        by : Contains (take at entries) k ⊎ (k ≡ get_or entries at d) → ¬ (WitnessesCover c n a b k.one k.two)
         by (inl earlier) = before k earlier
-        by (inr last) = λ covers. it_is_not told _ e here (subst (λ (x : Claim). WitnessesCover c n a b x.one x.two) last covers)
+        by (inr last) = λ covers. it_is_not told _ e here (subst (λ (x : Entry). WitnessesCover c n a b x.one x.two) last covers)
 
-    pub none_covers : (claims : List Claim) (at : ℕ) → length claims ≤ at → NoneCovers (take at claims) → ¬ (HasCover c n a b claims)
-    none_covers claims at past before (k, h, covers) = before k (all_taken claims at k past h) covers
+    pub none_covers : (entries : List Entry) (at : ℕ) → length entries ≤ at → NoneCovers (take at entries) → ¬ (HasCover c n a b entries)
+    none_covers entries at past before (k, h, covers) = before k (all_taken entries at k past h) covers

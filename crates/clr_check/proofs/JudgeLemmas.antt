@@ -1,7 +1,7 @@
--- Needs judged one after another by the claims of each.
-use Rattle.std.proofs.Common.{◌≡◌, ℕ, ◌+◌, ◌<◌, ◌≤◌, ◌⊎◌, ◌↔◌, inl, inr, Bool, true, false, List, Contains, Option, Some, None, get_or, length, map, pos, refl, sym, ap, ◌∙◌, subst, arith}
+-- Needs judged one after another by the entries of each.
+use Rattle.std.proofs.Common.{◌≡◌, ℕ, ◌+◌, ◌<◌, ◌≤◌, ◌⊎◌, ◌↔◌, inl, inr, Bool, true, false, List, Contains, Option, Some, None, get_or, length, pos, sym, ap, ◌∙◌, subst, arith}
 use Rattle.std.specs.Prelude.{slice_get}
-use Rattle.std.proofs.lemmas.Option.{slice_get-get_or, slice_get_within}
+use Rattle.std.proofs.lemmas.Option.{slice_get-get_or}
 use Rattle.clr_cert.specs.declared.entries.Entry.{Entry}
 use Rattle.clr_foot.specs.declared.needs.Need.{Need}
 use Rattle.clr_foot.specs.declared.needs.VersionId.{VersionId}
@@ -11,10 +11,8 @@ use Rattle.clr_foot.specs.Settings.{Setting, Lived}
 use Rattle.clr_clearance.specs.CheckLaws.{IsCovered}
 use Rattle.clr_clearance.proofs.CheckLemmas.{all_judged, first_judged}
 use Rattle.clr_check.specs.Certificates.{entries_in}
-use Rattle.clr_check.specs.Claims.{HasCover, IsClaimOf, IsLeastUncovered, IsTold, claim_of}
-use Rattle.clr_check.specs.declared.claims.Claim.{Claim}
-use Rattle.clr_check.proofs.ClaimLemmas.{covered_has, has_covered}
-use Rattle.clr_check.proofs.SearchLemmas.{it_is, it_is_not}
+use Rattle.clr_check.specs.Entries.{HasCover, IsEntryOf, IsLeastUncovered, IsTold}
+use Rattle.clr_check.proofs.EntryLemmas.{covered_has, has_covered}
 
 -- what a read past the end would give
 abbrev no_version : VersionId
@@ -23,25 +21,25 @@ no_version = record { cell = record { table = 0; key = pos 0 }; fresh = false }
 abbrev pub no_need : Need
 no_need = record { rule = 0; first = no_version; second = None; first_part = 0; second_part = 0 }
 
-abbrev pub no_claim : Claim
-no_claim = record { need = no_need; one = no_version; two = None }
+abbrev pub no_entry : Entry
+no_entry = record { need = no_need; one = no_version; two = None }
 
 -- one need -----------------------------------------------------------------------------------------
 
--- claims are those of the entries, and some of them are those of a need, of which a test tells whether one covers it
+-- those entries of a need are found among entries by need, and a test tells whether one of them covers it
 pub record AreJudged (c : Setting ℕ) (entries : List Entry) (n : Need) (told : Bool) : Type 0 where
-  pub claims : List Claim
-  pub found : List Claim
-  pub sorted : (k : Claim) → Contains claims k ↔ Contains (map claim_of entries) k
-  pub those : (k : Claim) → Contains found k ↔ IsClaimOf claims n k
+  pub sorted : List Entry
+  pub found : List Entry
+  pub same : (e : Entry) → Contains sorted e ↔ Contains entries e
+  pub those : (e : Entry) → Contains found e ↔ IsEntryOf sorted n e
   pub tells : (a : Lived ℕ) (b : Option (Lived ℕ)) → IsPossible c n a b → IsTold told (HasCover c n a b found)
 
 module _ (c : Setting ℕ) (entries : List Entry) (n : Need) where
   pub need_covered : AreJudged c entries n true → IsCovered c (entries_in entries) n
-  need_covered judged a b possible = covered_has c n a b entries judged.claims judged.found judged.sorted judged.those (judged.tells a b possible)
+  need_covered judged a b possible = covered_has c n a b entries judged.sorted judged.found judged.same judged.those (judged.tells a b possible)
 
   pub need_uncovered : AreJudged c entries n false → IsPossibleNeed c n → ¬ (IsCovered c (entries_in entries) n)
-  need_uncovered judged (a, b, possible) covered = judged.tells a b possible (has_covered c n a b entries judged.claims judged.found judged.sorted judged.those (covered a b possible))
+  need_uncovered judged (a, b, possible) covered = judged.tells a b possible (has_covered c n a b entries judged.sorted judged.found judged.same judged.those (covered a b possible))
 
 -- one after another ----------------------------------------------------------------------------------
 

@@ -1,10 +1,10 @@
 pub mod AnswerLemmas
-pub mod ClaimLemmas
 pub mod CoverLemmas
-pub mod FinderLemmas
+pub mod EntryLemmas
 pub mod JudgeLemmas
+pub mod MemberLemmas
 pub mod NameLemmas
-pub mod Noting
 pub mod RepeatLemmas
+pub mod RootLemmas
 pub mod SearchLemmas
 pub mod SiteLemmas

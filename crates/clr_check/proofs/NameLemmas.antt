@@ -1,12 +1,12 @@
 -- What an office shows by name, and the tests of names.
-use Rattle.std.proofs.Common.{◌≡◌, ℕ, zero, suc, ◌+◌, ◌<◌, ◌≤◌, ◌⊎◌, inl, inr, Bool, true, false, not, cond, ◌||◌, ◌&&◌, List, [], ◌∷◌, Option, Some, None, get_or, is_none, is_some, length, nat_lt, refl, sym, ap, ◌∙◌, subst, arith}
+use Rattle.std.proofs.Common.{◌≡◌, ℕ, ◌+◌, ◌<◌, ◌≤◌, ◌⊎◌, inl, inr, Bool, true, false, not, cond, ◌||◌, ◌&&◌, List, [], Option, Some, None, get_or, is_none, is_some, length, nat_lt, refl, sym, ap, ◌∙◌, arith}
 use Rattle.std.specs.Prelude.{position, slice_get}
 use Rattle.std.specs.List.{position_or_len}
 use Rattle.std.specs.Option.{option_map, option_map_or, option_or}
 use Rattle.std.specs.Str.{bytes_eq}
 use Rattle.std.proofs.lemmas.Bool.{false≢true}
 use Rattle.std.proofs.lemmas.List.Sums.{position_or_len_is}
-use Rattle.std.proofs.lemmas.Option.{get_or_from_slice_get, slice_get-get_or, slice_get_within}
+use Rattle.std.proofs.lemmas.Option.{slice_get-get_or, slice_get_within}
 use Rattle.clr_rows.specs.Contents.{no_rows}
 use Rattle.clr_layers.specs.Marks.{Name}
 use Rattle.clr_layers.specs.Workspaces.{Workspace}
@@ -51,15 +51,6 @@ module _ (o : Office) (name : Name) where
     where
       by : (b : Bool) (r : Option Workspace) → (b || is_some r) ≡ false → cond b None r ≡ None
       by true r h = refl
-      by false None h = refl
-      by false (Some w) h = absurd (false≢true (sym h))
-
-  pub without_rows : stands o name ≡ false → content_of o name ≡ no_rows
-  unfolding stands content_of
-  without_rows e = by (is_live name) (find_name name o.workspaces) e
-    where
-      by : (b : Bool) (r : Option Workspace) → (b || is_some r) ≡ false → cond b o.live (current_of r) ≡ no_rows
-      by true r h = absurd (false≢true (sym h))
       by false None h = refl
       by false (Some w) h = absurd (false≢true (sym h))
 

@@ -8,7 +8,7 @@ use Rattle.std.specs.declared.cmp.Ordering.{Ordering}
 use Rattle.std.specs.declared.cmp.Ordering.TheVariants.{Less, Equal, Greater}
 use Rattle.std.proofs.lemmas.Bool.{false≢true}
 use Rattle.std.proofs.lemmas.List.Sorted.{searchable_from_sorted}
-use Rattle.clr_check.specs.Claims.{IsTold}
+use Rattle.clr_check.specs.Entries.{IsTold}
 
 -- tests ------------------------------------------------------------------------------------------
 

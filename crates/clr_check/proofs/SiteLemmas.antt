@@ -1,22 +1,20 @@
 -- Members in conflict, what members changed, and the scene that a site makes.
-use Rattle.std.proofs.Common.{◌≡◌, ℕ, zero, suc, ◌+◌, ◌<◌, ◌≤◌, Bool, true, false, cond, List, [], ◌∷◌, ◌++◌, Option, Some, None, Result, Ok, Err, IfOk, MatchResult, drop, length, map, take, unwrap_or, refl, sym, ap, ◌∙◌, subst, arith}
+use Rattle.std.proofs.Common.{◌≡◌, ℕ, zero, suc, ◌+◌, ◌≤◌, Bool, true, false, cond, List, [], ◌∷◌, ◌++◌, Option, Some, None, Result, Ok, Err, IfOk, MatchResult, drop, length, map, take, unwrap_or, refl, sym, ap, ◌∙◌, subst, arith}
 use Rattle.std.specs.Prelude.{slice_get}
 use Rattle.std.specs.FinMap as finite
 use Rattle.std.specs.Option.{option_map, option_map_or, option_or}
-use Rattle.std.proofs.lemmas.List.{drop_all, take_more}
-use Rattle.std.proofs.lemmas.Option.{get_or_from_slice_get, slice_get_within}
+use Rattle.std.proofs.lemmas.List.{drop_all}
 use Rattle.clr_rows.specs.declared.cells.CellId.{CellId}
 use Rattle.clr_rows.specs.declared.cells.Change.{Change}
 use Rattle.clr_rows.specs.declared.rows.Row.{Row}
-use Rattle.clr_rows.specs.declared.tables.TableDef.{TableDef}
-use Rattle.clr_rows.specs.Contents.{Changes, Content, change_of, conflicts, is_changed, least_and_count, no_changes, row_at}
+use Rattle.clr_rows.specs.Contents.{Changes, change_of, conflicts, is_changed, least_and_count, no_changes, row_at}
 use Rattle.clr_rows.proofs.ChangeLemmas.{get-changes}
-use Rattle.clr_rules.specs.Books.{FitsBook, FitsCell, FitsContent}
+use Rattle.clr_rules.specs.Books.{FitsCell, FitsContent}
 use Rattle.clr_layers.specs.Marks.{Name}
 use Rattle.clr_layers.specs.Workspaces.{Workspace}
 use Rattle.clr_tree.specs.Operations.{own_changes}
 use Rattle.clr_foot.specs.declared.needs.VersionId.{VersionId}
-use Rattle.clr_foot.specs.Members.{after_at, after_in, after_of, positions}
+use Rattle.clr_foot.specs.Members.{after_in, after_of, positions}
 use Rattle.clr_foot.specs.Settings.{Lived, first_changer, held, new_version, old_version, version}
 use Rattle.clr_foot.specs.Versions.{FitsSetting}
 use Rattle.clr_foot.proofs.Lives.{new_is, old_is}
@@ -122,9 +120,6 @@ module _ (o : Office) (admitted : IsAdmitted o) where
   sets_fit [] n cell row e = absurd (cc)
   sets_fit (name ∷ names) zero cell row e = after_fits name cell row e
   sets_fit (name ∷ names) (suc n) cell row e = sets_fit names n cell row e
-
-  pub root_fits : (root : Name) → FitsContent o.book (content_of o root)
-  root_fits root = record { tables = o.schema; book = admitted.fit.book; rows = fits_content_of o admitted.fit.rows root }
 
   module _ (s : Site) where
     abbrev sets : List Changes

@@ -1,6 +1,5 @@
 pub mod Answers
 pub mod Certificates
-pub mod Claims
-pub mod Finders
+pub mod Entries
 pub mod SiteNames
 pub mod Sites

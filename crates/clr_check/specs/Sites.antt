@@ -13,7 +13,7 @@ use Rattle.clr_check.specs.declared.site_parts.SiteParts.{SiteParts}
 pub record AreParts (o : Office) (s : Site) (parts : SiteParts) : Type 0 where
   pub free : member_fault o s ≡ None
   pub rows : parts.rows ≡ root_content o s
-  pub filed : IsSettledFor parts.finder.settled o.book parts.rows
+  pub filed : IsSettledFor parts.finder.now.settled o.book parts.rows
   pub sets : parts.sets.items ≡ change_sets o s
 
 -- they are the parts of some site

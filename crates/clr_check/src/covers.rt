@@ -1,4 +1,4 @@
-//! Whether claims cover a need, and the first need that none covers.
+//! Whether entries cover a need, and the first need that none covers.
 
 ghost use Rattle.std.specs.Prelude.{◌≡◌, ℕ, Contains, IfOk, MatchOption, Option, option_map};
 ghost use Rattle.std.specs.List.Sorted.{IsStrictlySortedBy};
@@ -11,9 +11,9 @@ ghost use Rattle.clr_foot.specs.Orders.{version_cmp};
 ghost use Rattle.clr_foot.specs.Scenes.{IsReady, model_of, setting_of};
 ghost use Rattle.clr_foot.specs.Settings.{Lived};
 ghost use Rattle.clr_check.specs.Certificates.{entries_in};
-ghost use Rattle.clr_check.specs.Claims.{HasCover, IsLeastUncovered, IsTold, lasts, same_too};
+ghost use Rattle.clr_check.specs.Entries.{HasCover, IsLeastUncovered, IsTold, lasts, same_too};
 
-use crate::claims::{Claim, claims_of, sort_claims};
+use crate::entries::{entries_of, sort_entries};
 use clr_cert::Entry;
 use clr_foot::{Life, Need, Scene, VersionId};
 use clr_grid::RowFinder;
@@ -114,44 +114,44 @@ fn cover_together<V: RowView, F: RowFinder>(
     }
 }
 
-/// Whether the versions of a claim cover a need.
+/// Whether the versions of an entry cover a need.
 fn covers<V: RowView, F: RowFinder>(
     scene: &Scene<'_, V, F>,
     need: &Need,
     servers: &[VersionId],
-    claim: &Claim,
+    entry: &Entry,
 ) -> bool
     requires { AreServers (setting_of (model_of V.content scene.now)) need.now servers.now }
     ensures { (a : Lived ℕ) (b : Option (Lived ℕ)) → IsPossible (setting_of (model_of V.content scene.now)) need.now a b
-        → IsTold result (WitnessesCover (setting_of (model_of V.content scene.now)) need.now a b claim.now.one claim.now.two) }
+        → IsTold result (WitnessesCover (setting_of (model_of V.content scene.now)) need.now a b entry.now.one entry.now.two) }
 {
-    match claim.two {
-        None => covers_alone(scene, need, servers, claim.one),
+    match entry.two {
+        None => covers_alone(scene, need, servers, entry.one),
         Some(two) => {
-            covers_alone(scene, need, servers, claim.one)
+            covers_alone(scene, need, servers, entry.one)
                 || covers_alone(scene, need, servers, two)
-                || cover_together(scene, need, servers, claim.one, two)
+                || cover_together(scene, need, servers, entry.one, two)
         }
     }
 }
 
-/// Whether one of some claims covers a possible need. It fails for want of memory alone.
+/// Whether one of some entries covers a possible need. It fails for want of memory alone.
 fn is_covered<V: RowView, F: RowFinder>(
     scene: &Scene<'_, V, F>,
     need: &Need,
-    claims: &[Claim],
+    entries: &[Entry],
 ) -> Result<bool, AllocError>
     requires ready { IsReady F.settled (model_of V.content scene.now) }
     requires possible { IsPossibleNeed (setting_of (model_of V.content scene.now)) need.now }
     ensures { IfOk result (λ told. (a : Lived ℕ) (b : Option (Lived ℕ)) → IsPossible (setting_of (model_of V.content scene.now)) need.now a b
-        → IsTold told (HasCover (setting_of (model_of V.content scene.now)) need.now a b claims.now)) }
+        → IsTold told (HasCover (setting_of (model_of V.content scene.now)) need.now a b entries.now)) }
 {
-    if claims.is_empty() {
+    if entries.is_empty() {
         return Ok(false);
     }
     let servers = scene.servers(need)?;
-    for claim in claims {
-        if covers(scene, need, servers.as_slice(), claim) {
+    for entry in entries {
+        if covers(scene, need, servers.as_slice(), entry) {
             return Ok(true);
         }
     }
@@ -169,10 +169,10 @@ pub(crate) fn first_uncovered<V: RowView, F: RowFinder>(
     ensures { IfOk result (λ first. MatchOption first (AreCovered (setting_of (model_of V.content scene.now)) (entries_in entries.now))
         (IsLeastUncovered (setting_of (model_of V.content scene.now)) (entries_in entries.now))) }
 {
-    let claims = sort_claims(alloc, entries)?;
+    let sorted = sort_entries(alloc, entries)?;
     let needs = scene.touched_needs()?;
     for need in &needs {
-        if !is_covered(scene, need, claims_of(claims.as_slice(), need))? {
+        if !is_covered(scene, need, entries_of(sorted.as_slice(), need))? {
             return Ok(Some(*need));
         }
     }

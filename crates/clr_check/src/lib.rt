@@ -3,9 +3,8 @@
 #![tactic(auto)]
 
 mod checks;
-mod claims;
 mod covers;
-mod finders;
+mod entries;
 mod name_lists;
 mod name_tests;
 mod quiet;

@@ -2,13 +2,14 @@ ghost use Rattle.std.specs.Prelude.{◌≤◌, length};
 
 use clr_change::ChangeSet;
 use clr_grid::SpotIndex;
-use clr_rows::Sheet;
+use clr_tree::View;
 
-/// The rows of a root, filed by their spots, and what each member changed, in the order of members.
+/// The rows of a root as its office shows them, the office's finder of these, and what each member
+/// changed, in the order of members. No row of the root is copied.
 #[derive(Drop)]
-pub struct SiteParts {
-    pub(crate) rows: Sheet,
-    pub(crate) finder: SpotIndex,
+pub struct SiteParts<'a> {
+    pub(crate) rows: View<'a>,
+    pub(crate) finder: &'a SpotIndex,
     pub(crate) sets: Vec<ChangeSet>,
     ghost few: { length sets.items ≤ 255 },
 }

@@ -1,10 +1,12 @@
-//! What is read of a site in an office: the rows of its root, and what each member changed.
+//! What is read of a site in an office: the rows of its root, which aren't copied, and what each member
+//! changed.
 
-ghost use Rattle.std.specs.Prelude.{◌≡◌, ◌≤◌, [], None, length, map, option_map, unwrap_or, IfErr, IfOk};
+ghost use Rattle.std.specs.Prelude.{◌≡◌, [], None, true, map, option_map, unwrap_or, IfErr, IfOk};
+ghost use Rattle.clr_grid.specs.Sharing.{IsSettledFor};
 ghost use Rattle.clr_rows.specs.Contents.{least_and_count};
 ghost use Rattle.clr_foot.specs.Members.{IsSceneFault};
 ghost use Rattle.clr_foot.specs.Scenes.{model_of};
-ghost use Rattle.clr_steps.specs.Offices.{content_of};
+ghost use Rattle.clr_steps.specs.Offices.{content_of, is_kept};
 ghost use Rattle.clr_steps.specs.Quiet.{Site};
 ghost use Rattle.clr_steps.specs.Readings.{changes_in};
 ghost use Rattle.clr_engine.specs.Drafts.{IsAdmitted};
@@ -14,7 +16,6 @@ ghost use Rattle.clr_check.specs.Answers.{IsFault};
 ghost use Rattle.clr_check.specs.SiteNames.{site};
 ghost use Rattle.clr_check.specs.Sites.{AreOfSite, AreParts, IsSceneOf};
 
-use crate::finders::file_rows;
 use crate::name_lists::NameList;
 use crate::name_tests::name_fault;
 use crate::site_parts::SiteParts;
@@ -23,11 +24,9 @@ use clr_clearance::Verdict;
 use clr_engine::Office;
 use clr_foot::{Scene, SceneFault};
 use clr_grid::SpotIndex;
-use clr_rows::{CellId, Sheet};
+use clr_rows::CellId;
+use clr_tree::View;
 use std::alloc::{AllocError, Global};
-
-/// How many members there are at most: each is another workspace than LIVE.
-const MOST_MEMBERS: usize = 255;
 
 /// The least of some cells, if there are any, and how many they are.
 fn least_and_count(cells: Option<Vec<CellId>>) -> Option<(CellId, usize)>
@@ -50,14 +49,16 @@ fn changes(alloc: Global, office: &Office, name: &str) -> Result<ChangeSet, Allo
     }
 }
 
-/// The rows of a root, and none where there is none. It fails for want of memory alone.
-fn rows(alloc: Global, office: &Office, root: &str) -> Result<Sheet, AllocError>
-    ensures { IfOk result (λ rows. rows ≡ content_of office.now root.now) }
+/// The rows of a root that is kept as the office shows them, and the office's finder of them.
+fn root_rows<'a>(office: &'a Office, root: &str) -> (View<'a>, &'a SpotIndex)
+    requires { is_kept office.now root.now ≡ true }
+    ensures rows { result.0 ≡ content_of office.entry.now root.now }
+    ensures filed { IsSettledFor result.1.now.settled office.entry.now.book (content_of office.entry.now root.now) }
 {
-    match office.rows(root)? {
-        Some(rows) => Ok(rows),
-        None => Ok(Sheet::new(alloc)),
-    }
+    let position = office.find(root).unwrap();
+    let rows = office.view(position).unwrap();
+    let finder = office.finder(position).unwrap();
+    (rows, finder)
 }
 
 /// The first member in conflict with the root, its least cell in conflict and how many there are. It
@@ -94,18 +95,17 @@ fn change_sets<N: NameList>(
 }
 
 /// The root's rows and what each member changed. It fails for want of memory alone.
-fn read_parts<N: NameList>(
+fn read_parts<'a, N: NameList>(
     alloc: Global,
-    office: &Office,
+    office: &'a Office,
     root: &str,
     members: &N,
-) -> Result<SiteParts, AllocError>
-    requires few { length (N.names members.now) ≤ MOST_MEMBERS }
-    requires free { member_fault office.now (site root.now (N.names members.now)) ≡ None }
-    ensures { IfOk result (AreParts office.now (site root.now (N.names members.now))) }
+) -> Result<SiteParts<'a>, AllocError>
+    requires { member_fault office.now (site root.now (N.names members.now)) ≡ None }
+    ensures { IfOk result (AreParts office.entry.now (site root.now (N.names members.now))) }
 {
-    let rows = rows(alloc, office, root)?;
-    let finder = file_rows(alloc, office.book(), &rows)?;
+    let _sound = office.len();
+    let (rows, finder) = root_rows(office, root);
     let sets = change_sets(alloc, office, members)?;
     Ok(SiteParts { rows, finder, sets })
 }
@@ -123,15 +123,15 @@ fn references(alloc: Global, sets: &[ChangeSet]) -> Result<Vec<&ChangeSet>, Allo
 
 /// The parts of a root and its members where no test of names and no test for conflicts fails; else
 /// the first that does. `OutOfMemory` may come in place of any answer but a test of names.
-pub fn read_site<N: NameList>(
+pub fn read_site<'a, N: NameList>(
     alloc: Global,
-    office: &Office,
+    office: &'a Office,
     root: &str,
     members: &N,
-) -> Result<SiteParts, Verdict>
-    ensures parts { IfOk result (AreParts office.now (site root.now (N.names members.now))) }
-    ensures fault { IfErr result (IsFault office.now (site root.now (N.names members.now))) }
-    ensures admitted { IsAdmitted office.now }
+) -> Result<SiteParts<'a>, Verdict>
+    ensures parts { IfOk result (AreParts office.entry.now (site root.now (N.names members.now))) }
+    ensures fault { IfErr result (IsFault office.entry.now (site root.now (N.names members.now))) }
+    ensures admitted { IsAdmitted office.entry.now }
 {
     if let Some(fault) = name_fault(alloc, office, root, members) {
         return Err(fault);
@@ -141,23 +141,20 @@ pub fn read_site<N: NameList>(
         Ok(Some(fault)) => return Err(fault),
         Err(_) => return Err(Verdict::OutOfMemory),
     }
-    if members.len() > MOST_MEMBERS {
-        return Err(Verdict::OutOfMemory);
-    }
     match read_parts(alloc, office, root, members) {
         Ok(parts) => Ok(parts),
         Err(_) => Err(Verdict::OutOfMemory),
     }
 }
 
-impl SiteParts {
+impl<'a> SiteParts<'a> {
     /// The scene of the root's rows and the members' changes. It fails with the least cell that two
     /// members change, or with `OutOfMemory` for want of memory.
-    pub fn scene<'a>(
-        &'a self,
+    pub fn scene<'b>(
+        &'b self,
         alloc: Global,
-        office: &'a Office,
-    ) -> Result<Scene<'a, Sheet, SpotIndex>, SceneFault>
+        office: &'b Office,
+    ) -> Result<Scene<'b, View<'a>, SpotIndex>, SceneFault>
         requires { AreOfSite office.now self.now }
         ensures scene { IfOk result (λ scene. (s : Site) → AreParts office.entry.now s self.entry.now
             → IsSceneOf (λ finder. finder.settled) office.entry.now s (model_of (λ rows. rows) scene)) }
@@ -165,6 +162,6 @@ impl SiteParts {
             → IsSceneFault (change_sets office.entry.now s) fault) }
     {
         let sets = references(alloc, self.sets.as_slice())?;
-        Scene::new(alloc, office.book(), &self.rows, &self.finder, sets)
+        Scene::new(alloc, office.book(), &self.rows, self.finder, sets)
     }
 }

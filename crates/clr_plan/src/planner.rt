@@ -18,7 +18,7 @@ use std::alloc::Global;
 fn plan_parts(
     alloc: Global,
     office: &Office,
-    parts: &SiteParts,
+    parts: &SiteParts<'_>,
     root: &str,
     members: &[&str],
 ) -> Plan

@@ -1,12 +1,12 @@
-use Rattle.std.proofs.Common.{ℕ, Bool, true, false, List, Contains, Option, ◌↔◌, get_or, map, subst, sym}
+use Rattle.std.proofs.Common.{ℕ, Bool, true, false, List, Contains, Option, ◌↔◌, get_or, subst, sym}
 use Rattle.clr_foot.specs.Needs.{IsPossible}
 use Rattle.clr_foot.specs.Scenes.{setting_in}
 use Rattle.clr_foot.specs.Settings.{Lived}
 use Rattle.clr_foot.proofs.BreakLaws.{touched_possible}
 use Rattle.clr_foot.proofs.Gaining.{read_of}
 use Rattle.clr_check.specs.Certificates.{entries_in}
-use Rattle.clr_check.specs.Claims.{HasCover, IsTold, claim_of}
-use Rattle.clr_check.specs.declared.claims.Claim.{Claim}
+use Rattle.clr_check.specs.Entries.{HasCover, IsTold}
+use Rattle.clr_cert.specs.declared.entries.Entry.{Entry}
 use Rattle.clr_check.proofs.JudgeLemmas.{AreJudged, all_before, first_after, need_covered, need_uncovered, no_need, none_before, one_before}
 use Rattle.clr_check.proofs.covers.first_uncovered.Goals as goal
 
@@ -27,12 +27,12 @@ loop-need-preserved g c =
     let read = c.deref-need-items.result.now in
     let k = c.loop-need.need-index in
     let n = get_or read k no_need in
-    let found = c.claims_of.result.now in
+    let found = c.entries_of.result.now in
     let judged : AreJudged s entries n true = record {
-      claims = c.as_slice.result.now;
+      sorted = c.as_slice.result.now;
       found = found;
-      sorted = subst (λ (claims : List Claim). (k : Claim) → Contains claims k ↔ Contains (map claim_of entries) k) (sym c.as_slice.ensures.value) c.in_ok-claims.ensures.same;
-      those = c.claims_of.ensures;
+      same = subst (λ (list : List Entry). (e : Entry) → Contains list e ↔ Contains entries e) (sym c.as_slice.ensures.value) c.in_ok-sorted.ensures.same;
+      those = c.entries_of.ensures;
       tells = subst (λ (told : Bool). (a : Lived ℕ) (b : Option (Lived ℕ)) → IsPossible s n a b → IsTold told (HasCover s n a b found)) c.if-not-branch.false c.in_ok-is_covered.ensures;
     } in
     one_before s (entries_in entries) read k no_need c.loop-need-test.true (need_covered s entries n judged) c.loop-need.invariant
@@ -45,12 +45,12 @@ returns-then-not-branch g c =
     let read = c.deref-need-items.result.now in
     let k = c.loop-need.need-index in
     let n = get_or read k no_need in
-    let found = c.claims_of.result.now in
+    let found = c.entries_of.result.now in
     let judged : AreJudged s entries n false = record {
-      claims = c.as_slice.result.now;
+      sorted = c.as_slice.result.now;
       found = found;
-      sorted = subst (λ (claims : List Claim). (k : Claim) → Contains claims k ↔ Contains (map claim_of entries) k) (sym c.as_slice.ensures.value) c.in_ok-claims.ensures.same;
-      those = c.claims_of.ensures;
+      same = subst (λ (list : List Entry). (e : Entry) → Contains list e ↔ Contains entries e) (sym c.as_slice.ensures.value) c.in_ok-sorted.ensures.same;
+      those = c.entries_of.ensures;
       tells = subst (λ (told : Bool). (a : Lived ℕ) (b : Option (Lived ℕ)) → IsPossible s n a b → IsTold told (HasCover s n a b found)) c.if-not-branch.true c.in_ok-is_covered.ensures;
     } in
     let possible = touched_possible s n needs c.in_ok-needs.ensures (read_of read needs k no_need c.deref-need-items.ensures.value c.loop-need-test.true) in

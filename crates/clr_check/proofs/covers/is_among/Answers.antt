@@ -1,7 +1,7 @@
 use Rattle.std.proofs.Common.{Contains, subst, sym}
 use Rattle.clr_clearance.proofs.OrderLemmas.{version_exact, version_total}
 use Rattle.clr_foot.specs.Orders.{version_cmp}
-use Rattle.clr_check.specs.Claims.{IsTold}
+use Rattle.clr_check.specs.Entries.{IsTold}
 use Rattle.clr_check.proofs.SearchLemmas.{found_or_not}
 use Rattle.clr_check.proofs.covers.is_among.Goals as goal
 

@@ -5,6 +5,6 @@ use Rattle.clr_foot.specs.Settings.{Lived}
 use Rattle.clr_check.proofs.CoverLemmas.{NoneCovers}
 use Rattle.clr_check.proofs.covers.is_covered.Given as goal
 
--- none of the claims so far covers
-abbrev pub invariant-loop-claim : goal.invariant-loop-claim
-invariant-loop-claim g l = (a : Lived ℕ) (b : Option (Lived ℕ)) → IsPossible (setting_in g.V.RowView.content l.scene) l.need a b → NoneCovers (setting_in g.V.RowView.content l.scene) l.need a b (take l.claim-index l.claims)
+-- none of the entries so far covers
+abbrev pub invariant-loop-entry : goal.invariant-loop-entry
+invariant-loop-entry g l = (a : Lived ℕ) (b : Option (Lived ℕ)) → IsPossible (setting_in g.V.RowView.content l.scene) l.need a b → NoneCovers (setting_in g.V.RowView.content l.scene) l.need a b (take l.entry-index l.entries)

@@ -1,20 +1,30 @@
-use Rattle.std.proofs.Common.{subst, sym}
-use Rattle.clr_rules.specs.Books.{FitsContent}
+use Rattle.std.proofs.Common.{◌≤◌, length, subst, sym, arith}
+use Rattle.std.proofs.lemmas.List.{length-map}
 use Rattle.clr_grid.specs.Sharing.{IsSettledFor}
 use Rattle.clr_steps.specs.Quiet.{root_content}
-use Rattle.clr_check.proofs.SiteLemmas.{root_fits}
+use Rattle.clr_steps.specs.Readings.{changes_in}
+use Rattle.clr_clearance.proofs.ClearLemmas.{faultless}
+use Rattle.clr_check.specs.SiteNames.{site}
+use Rattle.clr_check.proofs.MemberLemmas.{few_members}
 use Rattle.clr_check.proofs.sites.read_parts.Goals as goal
 
-pub file_rows-requires : goal.file_rows-requires
-file_rows-requires g c =
+pub root_rows-rows-requires : goal.root_rows-rows-requires
+root_rows-rows-requires g c = (faultless c.args.office.now (site c.args.root.now (g.N.NameList.names c.args.members.now)) c.requires).kept
+
+pub invariant_of-result : goal.invariant_of-result
+invariant_of-result g c =
     let o = c.args.office.now in
-    subst (λ book. FitsContent book c.in_ok-rows.rows) (sym c.book.ensures.value) (subst (FitsContent o.book) (sym c.in_ok-rows.ensures) (root_fits o c.book.ensures.admitted c.args.root.now))
+    let names = g.N.NameList.names c.args.members.now in
+    let few = few_members o (site c.args.root.now names) c.requires c.len-sound.ensures.sound in
+    record { few = subst (λ sets. length sets ≤ 255) (sym c.in_ok-sets.ensures) (let long = length-map names (changes_in o) in omega (arith, few, long)) }
 
 pub returns : goal.returns
 unfolding root_content
-returns g c = record {
-  free = c.requires.free;
-  rows = c.in_ok-rows.ensures;
-  filed = subst (λ book. IsSettledFor c.in_ok-finder.finder.settled book c.in_ok-rows.rows) c.book.ensures.value c.in_ok-finder.ensures;
-  sets = c.in_ok-sets.ensures;
-}
+returns g c =
+    let o = c.args.office.now in
+    record {
+      free = c.requires;
+      rows = c.root_rows-rows.ensures.rows;
+      filed = subst (IsSettledFor c.root_rows-rows.result.1.now.settled o.book) (sym c.root_rows-rows.ensures.rows) c.root_rows-rows.ensures.filed;
+      sets = c.in_ok-sets.ensures;
+    }

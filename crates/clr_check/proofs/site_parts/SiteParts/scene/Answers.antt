@@ -27,7 +27,7 @@ returns-clause-scene c =
       setting = ap setting_of model ∙ whole;
       ready = subst (IsReady (λ finder. finder.settled)) (sym model) (record {
         fit = subst FitsSetting (sym whole) (site_fits o c.book.ensures.admitted s);
-        is_settled = subst (λ book. IsSettledFor c.args.self.now.finder.settled book c.args.self.now.rows) (sym c.book.ensures.value) parts.filed;
+        is_settled = subst (λ book. IsSettledFor c.args.self.now.finder.now.settled book c.args.self.now.rows) (sym c.book.ensures.value) parts.filed;
       });
       apart = subst AreApart (ap (λ m. m.sets) model ∙ sets) apart;
     }))

@@ -1,5 +1,5 @@
--- Claims by need, and which of them cover one.
-use Rattle.std.specs.Prelude.{◌≡◌, ℕ, Bool, true, false, ◌||◌, List, Option, Some, None, Contains, map}
+-- Entries by need, and which of them cover one.
+use Rattle.std.specs.Prelude.{◌≡◌, ℕ, Bool, true, false, ◌||◌, List, Option, Some, None, Contains}
 use Rattle.std.specs.List.Sorted.{IsSortedByKey}
 use Rattle.clr_cert.specs.declared.entries.Entry.{Entry}
 use Rattle.clr_foot.specs.declared.needs.Need.{Need}
@@ -8,22 +8,18 @@ use Rattle.clr_foot.specs.Covers.{Entry as Witnesses, WitnessesCover}
 use Rattle.clr_foot.specs.Orders.{need_cmp}
 use Rattle.clr_foot.specs.Settings.{Setting, Lifetime, Always, Lived}
 use Rattle.clr_clearance.specs.Verdicts.{IsFirstUncovered}
-use Rattle.clr_check.specs.declared.claims.Claim.{Claim}
 
 -- a test tells whether it is so
 abbrev pub IsTold : Bool → Type 0 → Type 0
 IsTold true P = P
 IsTold false P = ¬ P
 
-abbrev pub claim_of : Entry → Claim
-claim_of e = record { need = e.need; one = e.one; two = e.two }
+abbrev pub RiseByNeed : List Entry → Type 0
+RiseByNeed entries = IsSortedByKey (λ (e : Entry). e.need) need_cmp entries
 
-abbrev pub RiseByNeed : List Claim → Type 0
-RiseByNeed claims = IsSortedByKey (λ (k : Claim). k.need) need_cmp claims
-
--- the claims of a list that are of a need
-abbrev pub IsClaimOf : List Claim → Need → Claim → Type 0
-IsClaimOf claims n k = Contains claims k × (k.need ≡ n)
+-- the entries of a list that are of a need
+abbrev pub IsEntryOf : List Entry → Need → Entry → Type 0
+IsEntryOf entries n e = Contains entries e × (e.need ≡ n)
 
 -- the life of a subject, if there is one
 abbrev pub same_too : Lifetime ℕ → Option (Lifetime ℕ) → Bool
@@ -34,9 +30,9 @@ same_too l (Some m) = same_life l m
 abbrev pub lasts : Lifetime ℕ → Option (Lifetime ℕ) → Option (Lifetime ℕ) → Bool
 lasts l first second = same_life l Always || (same_too l first || same_too l second)
 
--- the versions of a claim cover the need
-abbrev pub HasCover : Setting ℕ → Need → Lived ℕ → Option (Lived ℕ) → List Claim → Type 0
-HasCover c n a b claims = (k : Claim) × Contains claims k × WitnessesCover c n a b k.one k.two
+-- the versions of an entry cover the need
+abbrev pub HasCover : Setting ℕ → Need → Lived ℕ → Option (Lived ℕ) → List Entry → Type 0
+HasCover c n a b entries = (e : Entry) × Contains entries e × WitnessesCover c n a b e.one e.two
 
 abbrev pub IsLeastUncovered : Setting ℕ → List Witnesses → Need → Type 0
 IsLeastUncovered c entries n = (a : Lived ℕ) × (b : Option (Lived ℕ)) × IsFirstUncovered c entries n a b

@@ -1,0 +1,39 @@
+/// A node at which two mains cross, and no hydrant: codes of mains are unique, where mains meet
+/// there is a node, and a hydrant names its main.
+pub(crate) const CROSSING: &str = r#"{"format":1,"tables":[
+{"name":"node","columns":[["kind","TEXT"]],"shape":"POINT"},
+{"name":"main","columns":[["code","TEXT"]],"shape":"SEGMENT"},
+{"name":"hydrant","columns":[["main","INT"]],"shape":"POINT"}],
+"rules":[{"kind":"UNIQUE","subject":{"table":"main"},"columns":["code"]},
+{"kind":"CROSSING","a":{"table":"main"},"b":{"table":"main"},"server":{"table":"node"}},
+{"kind":"PARTNER","subject":{"table":"hydrant"},"columns":["main"],"server":{"table":"main"},"server_columns":["KEY"]}],
+"live":[{"t":"node","k":9,"v":["valve"],"s":[5,5]},
+{"t":"main","k":1,"v":["A"],"s":[0,0,10,10]},
+{"t":"main","k":2,"v":["C"],"s":[0,10,10,0]}]}"#;
+
+/// The same with one main and no node.
+pub(crate) const ONE_MAIN: &str = r#"{"format":1,"tables":[
+{"name":"node","columns":[["kind","TEXT"]],"shape":"POINT"},
+{"name":"main","columns":[["code","TEXT"]],"shape":"SEGMENT"},
+{"name":"hydrant","columns":[["main","INT"]],"shape":"POINT"}],
+"rules":[{"kind":"UNIQUE","subject":{"table":"main"},"columns":["code"]},
+{"kind":"CROSSING","a":{"table":"main"},"b":{"table":"main"},"server":{"table":"node"}},
+{"kind":"PARTNER","subject":{"table":"hydrant"},"columns":["main"],"server":{"table":"main"},"server_columns":["KEY"]}],
+"live":[{"t":"main","k":1,"v":["A"],"s":[0,0,10,10]}]}"#;
+
+/// The crossing with mains that are paths.
+pub(crate) const PATHS: &str = r#"{"format":2,"tables":[
+{"name":"node","columns":[["kind","TEXT"]],"shape":"POINT"},
+{"name":"main","columns":[["code","TEXT"]],"shape":"PATH"},
+{"name":"hydrant","columns":[["main","INT"]],"shape":"POINT"}],
+"rules":[{"kind":"UNIQUE","subject":{"table":"main"},"columns":["code"]},
+{"kind":"CROSSING","a":{"table":"main"},"b":{"table":"main"},"server":{"table":"node"}},
+{"kind":"PARTNER","subject":{"table":"hydrant"},"columns":["main"],"server":{"table":"main"},"server_columns":["KEY"]}],
+"live":[{"t":"node","k":9,"v":["valve"],"s":[5,5]},
+{"t":"main","k":1,"v":["A"],"s":[0,0,10,10]},
+{"t":"main","k":2,"v":["C"],"s":[0,10,10,0]}]}"#;
+
+/// One node, and no rule.
+pub(crate) const ONE_NODE: &str = r#"{"format":1,"tables":[
+{"name":"node","columns":[["kind","TEXT"]],"shape":"POINT"}],
+"live":[{"t":"node","k":9,"v":["valve"],"s":[5,5]}]}"#;
