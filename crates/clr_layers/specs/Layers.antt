@@ -9,7 +9,7 @@ use Rattle.clr_rows.specs.declared.cells.CellId.{CellId}
 use Rattle.clr_rows.specs.Contents.{Content, no_rows}
 use Rattle.clr_differences.specs.Differences.{Differences, Rows, coded_differences, no_differences, put_each, seen_over, swept, HasEntry}
 use Rattle.clr_layers.specs.Marks.{Name, Mark, Saved, ChildMark, coded_name}
-use Rattle.clr_layers.specs.Workspaces.{Workspace}
+use Rattle.clr_layers.specs.Workspaces.{Workspace, root}
 use Rattle.clr_layers.specs.declared.stored_marks.StoredMark.{StoredMark}
 use Rattle.clr_layers.specs.declared.stored_marks.StoredMark.TheVariants as stored
 
@@ -159,6 +159,10 @@ above_in ws l = unwrap_or (named ws l.parent) no_rows
 unfoldable pub grow : List Workspace → List Layer → List Workspace
 grow ws [] = []
 grow ws (l ∷ ls) = let w = whole_of (above_in ws l) l in w ∷ grow (ws ++ w ∷ []) ls
+
+-- the workspaces under LIVE: each base over the content of its parent, and each current content and savepoint over its base
+abbrev pub workspaces_over : Content → List Layer → List Workspace
+workspaces_over live layers = grow (root live ∷ []) layers
 
 -- the whole workspaces, LIVE first
 unfoldable pub wholes : Content → List Layer → List Workspace

@@ -2,9 +2,11 @@
 #![tactic(auto)]
 
 mod stored_marks;
+mod stored_parts;
 mod workspace_maps;
 
 pub use stored_marks::{
     StoredMark, count_marks_of, count_saved, find_saved, has_child_after, sweep_each,
 };
+pub use stored_parts::StoredPart;
 pub use workspace_maps::{Layer, WorkspaceMap};

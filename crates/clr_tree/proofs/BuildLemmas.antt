@@ -1,21 +1,23 @@
 -- A tree built of parts.
-use Rattle.std.proofs.Common.{◌≡◌, ℕ, suc, zero, ◌<◌, ◌≤◌, List, [], ◌∷◌, ◌++◌, length, map, take, Some, None, unwrap_or, refl, ap, sym, ◌∙◌, arith}
+use Rattle.std.proofs.Common.{◌≡◌, ℕ, suc, zero, ◌-◌, ◌<◌, ◌≤◌, List, [], ◌∷◌, ◌++◌, length, map, take, Some, None, unwrap_or, refl, ap, sym, ◌∙◌, subst, arith}
 use Rattle.std.specs.declared.option.Option.{Option}
+use Rattle.std.specs.Option.{option_or}
 use Rattle.std.proofs.Math.Seq.{take-length}
 use Rattle.clr_rows.specs.Contents.{Content, no_rows, over, rows_after, changes}
 use Rattle.clr_rows.proofs.ChangeLemmas.{taken_over-own}
 use Rattle.clr_differences.specs.Differences.{Differences, Rows, no_differences, seen_over, put_each}
 use Rattle.clr_differences.proofs.DifferenceLemmas.{seen_over-fresh}
 use Rattle.clr_layers.specs.Layers.{Layer, find_layer, whole_of, whole_mark, wholes, named}
-use Rattle.clr_layers.specs.Workspaces.{Workspace, workspace_at, find}
+use Rattle.clr_layers.specs.Workspaces.{Workspace, root, workspace_at, find}
 use Rattle.clr_layers.proofs.FindLemmas.{find_within}
-use Rattle.clr_layers.proofs.Meaning.{name-whole, find-wholes, named_found}
+use Rattle.clr_layers.proofs.Meaning.{length-wholes, name-whole, find-wholes, named_found}
 use Rattle.clr_layers.proofs.Places.{wholes-push}
-use Rattle.clr_tree.specs.Parts.{marks_of, workspace_of, list_of, name_fault_at, first_below, first_fault, number_of, IsFault, IsRefused}
+use Rattle.clr_tree.specs.Parts.{marks_of, workspace_of, marks_fault_at, first_below, first_name_fault, first_marks_fault, workspaces_fault, number_of, IsFault, IsRefused}
+use Rattle.clr_tree.specs.Soundness.{IsSound}
 use Rattle.clr_tree.specs.declared.parts.Part.{Part}
 use Rattle.clr_tree.specs.declared.parts.PartFault.{PartFault}
 use Rattle.clr_tree.specs.declared.parts.PartFault.TheVariants as fault
-use Rattle.clr_tree.proofs.FaultLemmas.{below_found, name_wrong}
+use Rattle.clr_tree.proofs.FaultLemmas.{below_found, sound_spaces}
 
 pub all_differences : (below above : Content) (rows : Rows) (d : Differences) → rows ≡ rows_after (changes below above) → d ≡ put_each no_differences rows → seen_over below d ≡ above
 all_differences below above rows d rows_is is = ap (seen_over below) is ∙ seen_over-fresh below rows ∙ ap (over below) rows_is ∙ taken_over-own below above
@@ -28,7 +30,7 @@ whole_part above l p name parent base current marks kept =
     let all = ap (λ (m : Content). map (whole_mark m) l.marks) base ∙ marks in
     λ i. record { name = name i; parent = parent i; base = base i; current = content i; marks = all i; kept = kept i }
 
-parent-whole : (above : Content) (l : Layer) → (whole_of above l).parent ≡ l.parent
+pub parent-whole : (above : Content) (l : Layer) → (whole_of above l).parent ≡ l.parent
 unfolding whole_of
 parent-whole above l = refl
 
@@ -75,10 +77,33 @@ refused_at wrong at n fault.NoParent lt before e = below_found wrong at n fault.
 refused_at wrong at n fault.TooMany lt before e = below_found wrong at n fault.TooMany lt before e
 refused_at wrong at n fault.BadMarks lt before e = below_found wrong at n fault.BadMarks lt before e
 
-pub refused_name : (live : Content) (parts : List Part) (e : ℕ × PartFault) → IsRefused (first_below (name_fault_at (list_of live parts)) (length parts)) e → IsRefused (first_fault live parts) e
-refused_name live parts (n, fault.OutOfMemory) r = r
-refused_name live parts (n, fault.BadName) r = name_wrong live parts (n, fault.BadName) r
-refused_name live parts (n, fault.NameTaken) r = name_wrong live parts (n, fault.NameTaken) r
-refused_name live parts (n, fault.NoParent) r = name_wrong live parts (n, fault.NoParent) r
-refused_name live parts (n, fault.TooMany) r = name_wrong live parts (n, fault.TooMany) r
-refused_name live parts (n, fault.BadMarks) r = name_wrong live parts (n, fault.BadMarks) r
+-- both passes over the workspaces that layers mean
+module _ (live : Content) (ls : List Layer) (rest : List Workspace) (is : wholes live ls ≡ root live ∷ rest) where
+  long : length ls ≡ suc (length rest)
+  long = sym (length-wholes live ls) ∙ ap length is
+
+  pub some_layers : 0 < length ls
+  some_layers = let count = long in omega (arith, count)
+
+  marks_in : first_below (marks_fault_at (wholes live ls)) (length ls - 1) ≡ first_marks_fault live rest
+  marks_in =
+      let all = long in
+      let count : length ls - 1 ≡ length rest = omega (arith, all) in
+      λ i. first_below (marks_fault_at (is i)) (count i)
+
+  pub sound_layers : first_name_fault live rest ≡ None → first_below (marks_fault_at (wholes live ls)) (length ls - 1) ≡ None → IsSound (wholes live ls)
+  sound_layers names marks = subst IsSound (sym is) (sound_spaces live rest names (sym marks_in ∙ marks))
+
+  pub none_wrong : first_name_fault live rest ≡ None → first_below (marks_fault_at (wholes live ls)) (length ls - 1) ≡ None → workspaces_fault live rest ≡ None
+  none_wrong names marks = λ i. option_or (names i) ((sym marks_in ∙ marks) i)
+
+  pub marks_wrong : first_name_fault live rest ≡ None → (e : ℕ × PartFault) → IsRefused (first_below (marks_fault_at (wholes live ls)) (length ls - 1)) e → IsRefused (workspaces_fault live rest) e
+  marks_wrong names e r = subst (λ o. IsRefused o e) (marks_in ∙ sym (ap (λ o. option_or o (first_marks_fault live rest)) names)) r
+
+pub names_wrong : (live : Content) (ws : List Workspace) (e : ℕ × PartFault) → IsRefused (first_name_fault live ws) e → IsRefused (workspaces_fault live ws) e
+names_wrong live ws (n, fault.OutOfMemory) r = r
+names_wrong live ws (n, fault.BadName) r = ap (λ o. option_or o (first_marks_fault live ws)) r
+names_wrong live ws (n, fault.NameTaken) r = ap (λ o. option_or o (first_marks_fault live ws)) r
+names_wrong live ws (n, fault.NoParent) r = ap (λ o. option_or o (first_marks_fault live ws)) r
+names_wrong live ws (n, fault.TooMany) r = ap (λ o. option_or o (first_marks_fault live ws)) r
+names_wrong live ws (n, fault.BadMarks) r = ap (λ o. option_or o (first_marks_fault live ws)) r

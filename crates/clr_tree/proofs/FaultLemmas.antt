@@ -1,5 +1,5 @@
 -- The first fault of parts, and what follows where there is none.
-use Rattle.std.proofs.Common.{◌≡◌, ℕ, suc, zero, ◌+◌, ◌<◌, ◌≤◌, ⊎_elim, Bool, true, false, cond, not, nat_le, nat_lt, ◌&&◌, ◌||◌, ◌==◌, List, [], ◌∷◌, ◌++◌, length, map, take, get_or, Some, None, is_some, refl, ap, sym, ◌∙◌, subst, arith, ◌⊎◌, inl, inr}
+use Rattle.std.proofs.Common.{◌≡◌, ℕ, suc, zero, ◌+◌, ◌<◌, ◌≤◌, ⊎_elim, Bool, true, false, cond, not, nat_le, nat_lt, ◌&&◌, ◌||◌, ◌==◌, List, [], ◌∷◌, ◌++◌, length, take, get_or, Some, None, is_some, refl, ap, sym, ◌∙◌, subst, arith, ◌⊎◌, inl, inr}
 use Rattle.std.specs.declared.option.Option.{Option}
 use Rattle.std.specs.Option.{option_or, option_map}
 use Rattle.std.specs.List.{list_all}
@@ -15,7 +15,7 @@ use Rattle.clr_layers.specs.Marks.{Name, Mark, Saved, ChildMark, is_mark_of, mar
 use Rattle.clr_layers.specs.Workspaces.{Workspace, no_workspace, root, workspace_at, find, parent_of, is_child_named, child_count, depth_of}
 use Rattle.clr_layers.proofs.FindLemmas.{find_more, find_named, find_within}
 use Rattle.clr_layers.proofs.Meaning.{not_from}
-use Rattle.clr_tree.specs.Parts.{workspace_of, list_of, name_fault, parent_fault, is_under, is_childs, is_marked_once, has_child_marks, has_good_marks, name_fault_at, marks_fault_at, first_below, first_fault}
+use Rattle.clr_tree.specs.Parts.{workspace_of, list_of, name_fault, parent_fault, is_under, is_childs, is_marked_once, has_child_marks, has_good_marks, name_fault_at, marks_fault_at, first_below, first_name_fault, first_marks_fault}
 use Rattle.clr_contents.specs.Roots.{IsRooted}
 use Rattle.clr_tree.specs.Soundness.{IsSound, HasChildMarks, are_good_savepoints}
 use Rattle.clr_tree.specs.declared.limits.TheConstants.{MOST_WORKSPACES, MOST_LEVELS}
@@ -224,20 +224,17 @@ length-parts live (p ∷ parts) = ap suc (length-parts live parts)
 whole_take : {A : Type 0} (xs : List A) (n : ℕ) → length xs ≡ n → take n xs ≡ xs
 whole_take xs n e = take_all xs n (omega (arith, e))
 
-module _ (live : Content) (parts : List Part) (names : first_below (name_fault_at (list_of live parts)) (length parts) ≡ None) where
+module _ (live : Content) (rest : List Workspace) (names : first_name_fault live rest ≡ None) where
   abbrev ws : List Workspace
-  ws = list_of live parts
+  ws = root live ∷ rest
 
-  pub shaped_parts : IsShaped (list_of live parts)
-  shaped_parts =
-      let long = length-parts live parts in
-      subst IsShaped (whole_take ws (suc (length parts)) long) (shaped_take live (map workspace_of parts) (length parts) (omega (arith, long)) names)
+  shaped_spaces : IsShaped (root live ∷ rest)
+  shaped_spaces = subst IsShaped (whole_take ws (suc (length rest)) refl) (shaped_take live rest (length rest) (omega arith) names)
 
-  pub sound_parts : first_below (marks_fault_at (list_of live parts)) (length parts) ≡ None → IsSound (list_of live parts)
-  sound_parts marks =
-      let s = shaped_parts in
-      let long = length-parts live parts in
-      let good : (k : ℕ) → suc k < length ws → has_good_marks ws (workspace_at ws (suc k)) ≡ true = λ k lt. clear_marks ws k (none_at (marks_fault_at ws) (length parts) k marks (omega (arith, long, lt))) in
+  pub sound_spaces : first_marks_fault live rest ≡ None → IsSound (root live ∷ rest)
+  sound_spaces marks =
+      let s = shaped_spaces in
+      let good : (k : ℕ) → suc k < length ws → has_good_marks ws (workspace_at ws (suc k)) ≡ true = λ k lt. clear_marks ws k (none_at (marks_fault_at ws) (length rest) k marks (omega (arith, lt))) in
       let halves : (k : ℕ) → suc k < length ws → (let w = workspace_at ws (suc k) in (are_good_savepoints (saved_names w.marks) ≡ true) × (has_child_marks ws w.name w.marks ≡ true)) =
       λ k lt. and_parts (are_good_savepoints (saved_names (workspace_at ws (suc k)).marks)) (has_child_marks ws (workspace_at ws (suc k)).name (workspace_at ws (suc k)).marks) (good k lt) in
       record {
@@ -258,14 +255,3 @@ module _ (live : Content) (parts : List Part) (names : first_below (name_fault_a
       marked_from : ((k : ℕ) → suc k < length ws → HasChildMarks ws (workspace_at ws (suc k))) → (i : ℕ) → 0 < i → i < length ws → HasChildMarks ws (workspace_at ws i)
       marked_from later zero some lt = absurd (omega arith)
       marked_from later (suc k) some lt = later k lt
-
--- the first fault of both passes
-pub none_wrong : (live : Content) (parts : List Part) → first_below (name_fault_at (list_of live parts)) (length parts) ≡ None → first_below (marks_fault_at (list_of live parts)) (length parts) ≡ None → first_fault live parts ≡ None
-none_wrong live parts names marks = λ i. option_or (names i) (marks i)
-
-pub name_wrong : (live : Content) (parts : List Part) (e : ℕ × PartFault) → first_below (name_fault_at (list_of live parts)) (length parts) ≡ Some e → first_fault live parts ≡ Some e
-name_wrong live parts e names = ap (λ o. option_or o (first_below (marks_fault_at (list_of live parts)) (length parts))) names
-
-pub marks_wrong : (live : Content) (parts : List Part) (e : ℕ × PartFault) → first_below (name_fault_at (list_of live parts)) (length parts) ≡ None → first_below (marks_fault_at (list_of live parts)) (length parts) ≡ Some e
-    → first_fault live parts ≡ Some e
-marks_wrong live parts e names marks = ap (λ o. option_or o (first_below (marks_fault_at (list_of live parts)) (length parts))) names ∙ marks

@@ -2,6 +2,7 @@ pub mod BuildLemmas
 pub mod CountLemmas
 pub mod CreateLemmas
 pub mod FaultLemmas
+pub mod LayeredLemmas
 pub mod LeafLemmas
 pub mod ModelLemmas
 pub mod NameLemmas

@@ -13,7 +13,7 @@ use Rattle.clr_rows.specs.Contents.{Content, Changes, row_at, set_cell, over, ro
 use Rattle.clr_rows.proofs.ChangeLemmas.{taken_over-own}
 use Rattle.clr_differences.specs.Differences.{Differences, Rows, no_differences, seen_over, put_each, cells_in, HasEntry}
 use Rattle.clr_differences.proofs.DifferenceLemmas.{seen_over-none, seen_over-fresh, seen_over-insert, seen_over-put_each, seen_over-remove, seen_outside, over_outside, hidden, set_outside}
-use Rattle.clr_layers.specs.Marks.{Name, Mark, Saved, ChildMark, mark_at, is_child_mark, is_saved, is_saved_as, is_mark_of, saved_content, saved_count, find_mark, is_held, without_saved, without_mark_of, mark_last}
+use Rattle.clr_layers.specs.Marks.{Name, Mark, Saved, ChildMark, mark_at, is_child_mark, is_saved, is_saved_as, is_mark_of, saved_content, saved_count, mark_count, find_mark, is_held, without_saved, without_mark_of, mark_last}
 use Rattle.clr_layers.specs.Workspaces.{Workspace, workspace_at, parent_of}
 use Rattle.clr_layers.specs.Layers.{Layer, layer_at, layer_changed, whole_of, whole_mark, wholes, top, above_at, IsUnder, stored_at, saved_differences, is_stored_child, is_stored_saved, is_stored_saved_as, is_stored_mark_of, stored_without_mark_of, EachMarkHolds}
 use Rattle.clr_layers.specs.declared.stored_marks.StoredMark.{StoredMark}
@@ -86,6 +86,14 @@ counted b (stored.Child name ∷ ms) n = counted b ms (n + 0)
 
 pub saved_as_stored : (b : Content) (ms : List StoredMark) → saved_count (map (whole_mark b) ms) ≡ count_by is_stored_saved ms
 saved_as_stored b ms = counted b ms 0
+
+marks_counted : (b : Content) (child : Name) (ms : List StoredMark) (n : ℕ) → fold (λ a (m : Mark). a + cond (is_mark_of child m) 1 0) n (map (whole_mark b) ms) ≡ fold (λ a (m : StoredMark). a + cond (is_stored_mark_of child m) 1 0) n ms
+marks_counted b child [] n = refl
+marks_counted b child (stored.Saved name d ∷ ms) n = marks_counted b child ms (n + 0)
+marks_counted b child (stored.Child name ∷ ms) n = marks_counted b child ms (n + cond (bytes_eq child name) 1 0)
+
+pub marks_as_stored : (b : Content) (child : Name) (ms : List StoredMark) → mark_count (map (whole_mark b) ms) child ≡ count_by (is_stored_mark_of child) ms
+marks_as_stored b child ms = marks_counted b child ms 0
 
 first_saved : (b : Content) (name : Name) (ms : List StoredMark) → position_or_len (is_saved_as name) (map (whole_mark b) ms) ≡ position_or_len (is_stored_saved_as name) ms
 first_saved b name [] = refl

@@ -1,13 +1,17 @@
--- Workspaces handed in as parts: what they mean, and the first thing that is wrong with them.
+-- Workspaces handed in, as parts or by their differences: what they mean, and the first thing that is wrong with them.
 use Rattle.std.specs.Prelude.{◌≡◌, ℕ, zero, suc, Bool, true, false, not, ◌&&◌, ◌||◌, ◌==◌, nat_le, if◌then◌else◌}
 use Rattle.std.specs.Prelude.{List, ◌∷◌, Option, Some, None, is_some, length, map, take}
 use Rattle.std.specs.List.{list_all, list_any}
 use Rattle.std.specs.Option.{option_or, option_map}
 use Rattle.std.specs.Str.{bytes_eq}
-use Rattle.clr_rows.specs.Contents.{Content}
+use Rattle.clr_rows.specs.Contents.{Content, no_rows}
 use Rattle.clr_rows.specs.Names.{is_good_name}
+use Rattle.clr_layers.specs.Entries.{stored_layer}
+use Rattle.clr_layers.specs.Layers.{whole_mark, workspaces_over}
 use Rattle.clr_layers.specs.Marks.{Name, Mark, Saved, ChildMark, mark_count, saved_names}
 use Rattle.clr_layers.specs.Workspaces.{Workspace, workspace_at, find, root, depth_of}
+use Rattle.clr_layers.specs.declared.stored_marks.StoredMark.{StoredMark}
+use Rattle.clr_layers.specs.declared.stored_parts.StoredPart.{StoredPart}
 use Rattle.clr_tree.specs.declared.limits.TheConstants.{MOST_WORKSPACES, MOST_LEVELS}
 use Rattle.clr_tree.specs.declared.parts.MarkPart.{MarkPart}
 use Rattle.clr_tree.specs.declared.parts.MarkPart.TheVariants as part
@@ -32,6 +36,10 @@ workspace_of p = record { name = p.name; parent = p.parent; base = p.base; curre
 abbrev pub list_of : Content → List Part → List Workspace
 list_of live parts = root live ∷ map workspace_of parts
 
+-- the workspaces under LIVE that parts by their differences give
+abbrev pub spaces_of : Content → List StoredPart → List Workspace
+spaces_of live parts = workspaces_over live (map stored_layer parts)
+
 -- what is wrong with them --------------------------------------------------------------------------
 
 -- there is room for one more workspace, and one below the position
@@ -42,12 +50,16 @@ abbrev pub parent_fault : List Workspace → Option ℕ → Option PartFault
 parent_fault before None = Some fault.NoParent
 parent_fault before (Some above) = if has_room before above then None else Some fault.TooMany
 
--- why a workspace can't be made after those before it, if it can't
+-- why a workspace of the first name can't be made under the one of the second after those before it, if it can't
+abbrev pub place_fault : List Workspace → Name → Name → Option PartFault
+place_fault before name parent =
+    if not (is_good_name name) then Some fault.BadName
+    else (if is_some (find before name) then Some fault.NameTaken
+    else parent_fault before (find before parent))
+
+-- the same of a workspace
 abbrev pub name_fault : List Workspace → Workspace → Option PartFault
-name_fault before w =
-    if not (is_good_name w.name) then Some fault.BadName
-    else (if is_some (find before w.name) then Some fault.NameTaken
-    else parent_fault before (find before w.parent))
+name_fault before w = place_fault before w.name w.parent
 
 -- the workspace found under the name of a child's mark is a child of this one
 abbrev pub is_under : List Workspace → Name → Option ℕ → Bool
@@ -78,20 +90,28 @@ unfoldable pub first_below : (ℕ → Option PartFault) → ℕ → Option (ℕ 
 first_below wrong zero = None
 first_below wrong (suc n) = option_or (first_below wrong n) (option_map (λ why. (n, why)) (wrong n))
 
--- the fault of the part at a position, of names and places, and of marks
+-- the fault of the workspace at a position under LIVE, of names and places, and of marks
 abbrev pub name_fault_at : List Workspace → ℕ → Option PartFault
 name_fault_at ws i = name_fault (take (suc i) ws) (workspace_at ws (suc i))
 
 abbrev pub marks_fault_at : List Workspace → ℕ → Option PartFault
 marks_fault_at ws i = marks_fault ws (workspace_at ws (suc i))
 
--- the first part with a fault, and which: names and places of all parts come before the marks of any
-abbrev pub first_fault : Content → List Part → Option (ℕ × PartFault)
-first_fault live parts =
-    let ws = list_of live parts in
-    option_or (first_below (name_fault_at ws) (length parts)) (first_below (marks_fault_at ws) (length parts))
+-- the first of some workspaces under LIVE whose name or place has a fault, and the first whose marks have one
+abbrev pub first_name_fault : Content → List Workspace → Option (ℕ × PartFault)
+first_name_fault live ws = first_below (name_fault_at (root live ∷ ws)) (length ws)
 
--- a refusal names the first part with a fault, or is 0 for want of memory
+abbrev pub first_marks_fault : Content → List Workspace → Option (ℕ × PartFault)
+first_marks_fault live ws = first_below (marks_fault_at (root live ∷ ws)) (length ws)
+
+-- the first of some workspaces that can't stand under LIVE, and why: names and places of all come before the marks of any
+abbrev pub workspaces_fault : Content → List Workspace → Option (ℕ × PartFault)
+workspaces_fault live ws = option_or (first_name_fault live ws) (first_marks_fault live ws)
+
+abbrev pub first_fault : Content → List Part → Option (ℕ × PartFault)
+first_fault live parts = workspaces_fault live (map workspace_of parts)
+
+-- a refusal names the first workspace with a fault, or is 0 for want of memory
 abbrev pub IsRefused : Option (ℕ × PartFault) → ℕ × PartFault → Type 0
 IsRefused first (n, fault.OutOfMemory) = n ≡ 0
 IsRefused first (n, fault.BadName) = first ≡ Some (n, fault.BadName)
@@ -109,7 +129,7 @@ IsFault found fault.NoParent = found ≡ Some fault.NoParent
 IsFault found fault.TooMany = found ≡ Some fault.TooMany
 IsFault found fault.BadMarks = found ≡ Some fault.BadMarks
 
--- the number in the answer to the fault of the part at a position
+-- the number in the answer to the fault of the workspace at a position
 abbrev pub number_of : ℕ → PartFault → ℕ
 number_of at fault.OutOfMemory = 0
 number_of at _ = at
@@ -118,3 +138,10 @@ number_of at _ = at
 abbrev pub has_new_name : Mark → List Mark → Bool
 has_new_name (Saved name content) later = is_good_name name && not (list_any (bytes_eq name) (saved_names later))
 has_new_name (ChildMark name) later = true
+
+-- marks over no rows, which have their names over any
+abbrev pub bare_mark : StoredMark → Mark
+bare_mark mark = whole_mark no_rows mark
+
+abbrev pub bare_marks : List StoredMark → List Mark
+bare_marks marks = map bare_mark marks

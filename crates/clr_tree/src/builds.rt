@@ -1,13 +1,14 @@
 ghost use Rattle.std.specs.Prelude.{◌≡◌, ◌<◌, ◌++◌, [], ◌∷◌, suc, None, Some, map, take, length, OnOk, IfOk, IfErr};
 ghost use Rattle.clr_differences.specs.Differences.{seen_over};
 ghost use Rattle.clr_layers.specs.Entries.{layer_of};
-ghost use Rattle.clr_layers.specs.Layers.{whole_mark, whole_of, wholes};
-ghost use Rattle.clr_layers.specs.Workspaces.{workspace_at, find};
-ghost use Rattle.clr_tree.specs.Parts.{mark_of, marks_of, workspace_of, list_of, name_fault_at, first_below, IsFault, IsRefused, number_of};
+ghost use Rattle.clr_layers.specs.Layers.{leaf, whole_mark, whole_of, wholes};
+ghost use Rattle.clr_layers.specs.Workspaces.{workspace_at, find, live_name};
+ghost use Rattle.clr_tree.specs.Parts.{mark_of, marks_of, workspace_of, list_of, name_fault_at, first_name_fault, IsFault, IsRefused, number_of};
+ghost use Rattle.clr_tree.specs.declared.parts.PartFault.TheVariants.{OutOfMemory};
 ghost use Rattle.clr_contents.specs.Roots.{IsRooted};
 
 use crate::operations::live_alone;
-use crate::part_checks::judge_name;
+use crate::part_checks::judge_place;
 use crate::parts::{MarkPart, Part, PartFault};
 use clr_change::ChangeSet;
 use clr_differences::Differences;
@@ -122,7 +123,7 @@ fn push_part(
     ensures refused { IfErr result (IsFault (name_fault_at (list_of live.now parts.now) at)) }
 {
     let part = &parts[at];
-    let above = match judge_name(live, map, part) {
+    let above = match judge_place(live, map, part.name.as_str(), part.parent.as_str()) {
         Ok(above) => above,
         Err(fault) => return Err(fault),
     };
@@ -134,12 +135,24 @@ fn push_part(
 }
 
 /// The position in the answer to the fault of a part.
-fn number_of(at: usize, fault: PartFault) -> usize
+pub fn number_of(at: usize, fault: PartFault) -> usize
     ensures { result ≡ number_of at fault }
 {
     match fault {
         PartFault::OutOfMemory => 0,
         _ => at,
+    }
+}
+
+/// The map of LIVE alone, or position 0 and want of memory.
+pub fn start(alloc: Global) -> Result<WorkspaceMap, (usize, PartFault)>
+    ensures made { IfOk result (λ map. map ≡ leaf live_name [] ∷ []) }
+    ensures refused { IfErr result (λ refused. refused ≡ (0, OutOfMemory)) }
+{
+    let alone: Result<_, _> = live_alone(alloc);
+    match alone {
+        Ok(map) => Ok(map),
+        Err(_) => Err((0, PartFault::OutOfMemory)),
     }
 }
 
@@ -150,14 +163,10 @@ pub fn push_parts(
     parts: &[Part],
 ) -> Result<WorkspaceMap, (usize, PartFault)>
     ensures made { IfOk result (λ map. wholes live.now map ≡ list_of live.now parts.now) }
-    ensures passed { OnOk result (first_below (name_fault_at (list_of live.now parts.now)) (length parts.now) ≡ None) }
-    ensures refused { IfErr result (IsRefused (first_below (name_fault_at (list_of live.now parts.now)) (length parts.now))) }
+    ensures passed { OnOk result (first_name_fault live.now (map workspace_of parts.now) ≡ None) }
+    ensures refused { IfErr result (IsRefused (first_name_fault live.now (map workspace_of parts.now))) }
 {
-    let alone: Result<_, _> = live_alone(alloc);
-    let mut map = match alone {
-        Ok(map) => map,
-        Err(_) => return Err((0, PartFault::OutOfMemory)),
-    };
+    let mut map = start(alloc)?;
     for at in 0..parts.len() {
         if let Err(fault) = push_part(live, &mut map, parts, at) {
             return Err((number_of(at, fault), fault));

@@ -1,37 +1,42 @@
-ghost use Rattle.std.specs.Prelude.{◌≡◌, ◌<◌, length, None, Some, OnOk, IfOk, IfErr};
+ghost use Rattle.std.specs.Prelude.{◌≡◌, ◌<◌, ◌-◌, length, None, Some, OnOk, IfOk, IfErr};
 ghost use Rattle.std.specs.List.{list_all, list_any};
 ghost use Rattle.std.specs.Str.{bytes_eq};
 ghost use Rattle.clr_layers.specs.Layers.{wholes};
-ghost use Rattle.clr_layers.specs.Marks.{is_mark_of, is_saved, is_saved_as, mark_count, saved_count, saved_names};
+ghost use Rattle.clr_layers.specs.Marks.{saved_names};
 ghost use Rattle.clr_layers.specs.Workspaces.{workspace_at, find};
-ghost use Rattle.clr_tree.specs.Parts.{mark_of, marks_of, workspace_of, list_of, name_fault, has_new_name};
-ghost use Rattle.clr_tree.specs.Parts.{is_childs, is_marked_once, has_good_marks, marks_fault_at, first_below};
-ghost use Rattle.clr_tree.specs.declared.parts.PartFault.TheVariants.{BadMarks};
+ghost use Rattle.clr_tree.specs.Parts.{bare_mark, bare_marks, place_fault, has_new_name, is_childs, is_marked_once};
+ghost use Rattle.clr_tree.specs.Parts.{has_good_marks, marks_fault_at, first_below, IsRefused};
 ghost use Rattle.clr_contents.specs.Roots.{IsRooted};
 ghost use Rattle.clr_tree.specs.Soundness.{are_good_savepoints};
 
 use crate::limits::{MOST_LEVELS, MOST_SAVEPOINTS, MOST_WORKSPACES};
-use crate::parts::{MarkPart, Part, PartFault};
+use crate::parts::PartFault;
 use clr_contents::depth_at;
-use clr_layers::WorkspaceMap;
+use clr_layers::{StoredMark, WorkspaceMap, count_marks_of, count_saved, find_saved};
 use clr_rows::{Sheet, good_name};
 
-/// The position of the parent of a part that comes after the workspaces of a map, or why it can't
-/// come.
-pub fn judge_name(live: &Sheet, map: &WorkspaceMap, part: &Part) -> Result<usize, PartFault>
+/// The position of the parent, which has the second name, of a workspace of the first name that
+/// comes after those of a map, or why it can't come.
+pub fn judge_place(
+    live: &Sheet,
+    map: &WorkspaceMap,
+    name: &str,
+    parent: &str,
+) -> Result<usize, PartFault>
     requires { IsRooted (wholes live.now map.now) }
-    ensures found { IfOk result (λ above. find (wholes live.now map.now) part.now.parent ≡ Some above) }
+    ensures found { IfOk result (λ above. find (wholes live.now map.now) parent.now ≡ Some above) }
     ensures within { IfOk result (λ above. above < length map.now) }
-    ensures passed { OnOk result (name_fault (wholes live.now map.now) (workspace_of part.now) ≡ None) }
-    ensures refused { IfErr result (λ why. name_fault (wholes live.now map.now) (workspace_of part.now) ≡ Some why) }
+    ensures absent { OnOk result (find (wholes live.now map.now) name.now ≡ None) }
+    ensures passed { OnOk result (place_fault (wholes live.now map.now) name.now parent.now ≡ None) }
+    ensures refused { IfErr result (λ why. place_fault (wholes live.now map.now) name.now parent.now ≡ Some why) }
 {
-    if !good_name(part.name.as_str()) {
+    if !good_name(name) {
         return Err(PartFault::BadName);
     }
-    if map.find(part.name.as_str()).is_some() {
+    if map.find(name).is_some() {
         return Err(PartFault::NameTaken);
     }
-    match map.find(part.parent.as_str()) {
+    match map.find(parent) {
         None => Err(PartFault::NoParent),
         Some(above) => {
             if map.len() < MOST_WORKSPACES && depth_at(live, map, above) < MOST_LEVELS {
@@ -43,105 +48,54 @@ pub fn judge_name(live: &Sheet, map: &WorkspaceMap, part: &Part) -> Result<usize
     }
 }
 
-fn is_saved_as(mark: &MarkPart, name: &str) -> bool
-    ensures { result ≡ is_saved_as name.now (mark_of mark.now) }
+fn has_savepoint(marks: &[StoredMark], name: &str) -> bool
+    ensures { result ≡ list_any (bytes_eq name.now) (saved_names (bare_marks marks.now)) }
 {
-    match mark {
-        MarkPart::Saved(other, _) => name == other.as_str(),
-        MarkPart::ChildMark(_) => false,
-    }
-}
-
-fn has_savepoint(marks: &[MarkPart], name: &str) -> bool
-    ensures { result ≡ list_any (λ m. is_saved_as name.now (mark_of m)) marks.now }
-{
-    marks.iter().any(|mark| is_saved_as(mark, name))
+    find_saved(marks, name).is_some()
 }
 
 /// Whether a mark has a good name that no later savepoint has, if it is a savepoint.
-fn has_new_name(mark: &MarkPart, later: &[MarkPart]) -> bool
-    ensures { result ≡ has_new_name (mark_of mark.now) (marks_of later.now) }
+fn has_new_name(mark: &StoredMark, later: &[StoredMark]) -> bool
+    ensures { result ≡ has_new_name (bare_mark mark.now) (bare_marks later.now) }
 {
     match mark {
-        MarkPart::Saved(name, _) => {
+        StoredMark::Saved(name, _) => {
             good_name(name.as_str()) && !has_savepoint(later, name.as_str())
         }
-        MarkPart::ChildMark(_) => true,
+        StoredMark::Child(_) => true,
     }
-}
-
-fn is_saved(mark: &MarkPart) -> bool
-    ensures { result ≡ is_saved (mark_of mark.now) }
-{
-    match mark {
-        MarkPart::Saved(_, _) => true,
-        MarkPart::ChildMark(_) => false,
-    }
-}
-
-fn count_savepoints(marks: &[MarkPart]) -> usize
-    ensures { result ≡ saved_count (marks_of marks.now) }
-{
-    let mut count = 0;
-    for mark in marks {
-        if is_saved(mark) {
-            count += 1;
-        }
-    }
-    count
 }
 
 /// Whether the savepoints have good and different names, and aren't too many.
-fn has_good_savepoints(marks: &[MarkPart]) -> bool
-    ensures { result ≡ are_good_savepoints (saved_names (marks_of marks.now)) }
+fn has_good_savepoints(marks: &[StoredMark]) -> bool
+    ensures { result ≡ are_good_savepoints (saved_names (bare_marks marks.now)) }
 {
     for i in 0..marks.len() {
         if !has_new_name(&marks[i], &marks[i + 1..]) {
             return false;
         }
     }
-    count_savepoints(marks) <= MOST_SAVEPOINTS
+    count_saved(marks) <= MOST_SAVEPOINTS
 }
 
 /// Whether a mark is that of a child of the workspace of a name, if it isn't a savepoint.
-fn is_childs(live: &Sheet, map: &WorkspaceMap, parent: &str, mark: &MarkPart) -> bool
-    ensures { result ≡ is_childs (wholes live.now map.now) parent.now (mark_of mark.now) }
+fn is_childs(live: &Sheet, map: &WorkspaceMap, parent: &str, mark: &StoredMark) -> bool
+    ensures { result ≡ is_childs (wholes live.now map.now) parent.now (bare_mark mark.now) }
 {
     let _live = live;
     match mark {
-        MarkPart::Saved(_, _) => true,
-        MarkPart::ChildMark(name) => match map.find(name.as_str()) {
+        StoredMark::Saved(_, _) => true,
+        StoredMark::Child(name) => match map.find(name.as_str()) {
             None => false,
             Some(at) => parent == map.parent_name(at),
         },
     }
 }
 
-fn are_childrens(live: &Sheet, map: &WorkspaceMap, parent: &str, marks: &[MarkPart]) -> bool
-    ensures { result ≡ list_all (λ m. is_childs (wholes live.now map.now) parent.now (mark_of m)) marks.now }
+fn are_childrens(live: &Sheet, map: &WorkspaceMap, parent: &str, marks: &[StoredMark]) -> bool
+    ensures { result ≡ list_all (λ m. is_childs (wholes live.now map.now) parent.now (bare_mark m)) marks.now }
 {
     marks.iter().all(|mark| is_childs(live, map, parent, mark))
-}
-
-fn is_mark_of(mark: &MarkPart, child: &str) -> bool
-    ensures { result ≡ is_mark_of child.now (mark_of mark.now) }
-{
-    match mark {
-        MarkPart::Saved(_, _) => false,
-        MarkPart::ChildMark(name) => child == name.as_str(),
-    }
-}
-
-fn count_marks_of(marks: &[MarkPart], child: &str) -> usize
-    ensures { result ≡ mark_count (marks_of marks.now) child.now }
-{
-    let mut count = 0;
-    for mark in marks {
-        if is_mark_of(mark, child) {
-            count += 1;
-        }
-    }
-    count
 }
 
 /// Whether the workspace at a position has one mark, if it is a child of the one of a name.
@@ -149,18 +103,18 @@ fn is_marked_once(
     live: &Sheet,
     map: &WorkspaceMap,
     parent: &str,
-    marks: &[MarkPart],
+    marks: &[StoredMark],
     at: usize,
 ) -> bool
     requires { at < length map.now }
-    ensures { result ≡ is_marked_once parent.now (marks_of marks.now) (workspace_at (wholes live.now map.now) at) }
+    ensures { result ≡ is_marked_once parent.now (bare_marks marks.now) (workspace_at (wholes live.now map.now) at) }
 {
     let _live = live;
     parent != map.parent_name(at) || count_marks_of(marks, map.name_at(at)) == 1
 }
 
-fn are_marked_once(live: &Sheet, map: &WorkspaceMap, parent: &str, marks: &[MarkPart]) -> bool
-    ensures { result ≡ list_all (is_marked_once parent.now (marks_of marks.now)) (wholes live.now map.now) }
+fn are_marked_once(live: &Sheet, map: &WorkspaceMap, parent: &str, marks: &[StoredMark]) -> bool
+    ensures { result ≡ list_all (is_marked_once parent.now (bare_marks marks.now)) (wholes live.now map.now) }
 {
     for at in 0..map.len() {
         if !is_marked_once(live, map, parent, marks, at) {
@@ -170,11 +124,14 @@ fn are_marked_once(live: &Sheet, map: &WorkspaceMap, parent: &str, marks: &[Mark
     true
 }
 
-fn has_good_marks(live: &Sheet, map: &WorkspaceMap, part: &Part) -> bool
-    ensures { result ≡ has_good_marks (wholes live.now map.now) (workspace_of part.now) }
+/// Whether the workspace at a position, which isn't LIVE, has good marks.
+fn has_good_marks(live: &Sheet, map: &WorkspaceMap, at: usize) -> bool
+    requires child { 0 < at }
+    requires within { at < length map.now }
+    ensures { result ≡ has_good_marks (wholes live.now map.now) (workspace_at (wholes live.now map.now) at) }
 {
-    let name = part.name.as_str();
-    let marks = part.marks.as_slice();
+    let name = map.name_at(at);
+    let marks = map.marks(at);
     if !has_good_savepoints(marks) {
         return false;
     }
@@ -184,15 +141,17 @@ fn has_good_marks(live: &Sheet, map: &WorkspaceMap, part: &Part) -> bool
     are_marked_once(live, map, name, marks)
 }
 
-/// The position of the first part whose marks aren't good, if there is one, as the error.
-pub fn judge_marks(live: &Sheet, map: &WorkspaceMap, parts: &[Part]) -> Result<(), usize>
-    requires { wholes live.now map.now ≡ list_of live.now parts.now }
-    ensures passed { OnOk result (first_below (marks_fault_at (list_of live.now parts.now)) (length parts.now) ≡ None) }
-    ensures refused { IfErr result (λ at. first_below (marks_fault_at (list_of live.now parts.now)) (length parts.now) ≡ Some (at, BadMarks)) }
+/// Finds the first workspace under LIVE whose marks aren't good: fails with its position, without
+/// LIVE, and `BadMarks`.
+pub fn judge_marks(live: &Sheet, map: &WorkspaceMap) -> Result<(), (usize, PartFault)>
+    requires { 0 < length map.now }
+    ensures passed { OnOk result (first_below (marks_fault_at (wholes live.now map.now)) (length map.now - 1) ≡ None) }
+    ensures refused { IfErr result (IsRefused (first_below (marks_fault_at (wholes live.now map.now)) (length map.now - 1))) }
 {
-    for at in 0..parts.len() {
-        if !has_good_marks(live, map, &parts[at]) {
-            return Err(at);
+    let count = map.len() - 1;
+    for at in 0..count {
+        if !has_good_marks(live, map, at + 1) {
+            return Err((at, PartFault::BadMarks));
         }
     }
     Ok(())

@@ -6,11 +6,12 @@ ghost use Rattle.clr_layers.specs.Marks.{find_mark, is_held, is_saved, mark_at, 
 ghost use Rattle.clr_layers.specs.Workspaces.{workspace_at, find, parent_of as position_of_parent, children_of, depth_of, root};
 ghost use Rattle.clr_tree.specs.Operations.{after_create, after_remove, after_write, after_mark, after_unmark};
 ghost use Rattle.clr_tree.specs.Operations.{after_roll_to, after_roll_all, after_rebase, set_kept};
-ghost use Rattle.clr_tree.specs.Parts.{workspace_of, list_of, first_fault, IsRefused};
+ghost use Rattle.clr_tree.specs.Parts.{workspace_of, list_of, spaces_of, first_fault, workspaces_fault, IsRefused};
 ghost use Rattle.clr_tree.specs.Soundness.{IsSound};
 ghost use Rattle.clr_tree.specs.Trees.{stored_at, saved_at, needed, needed_of_marks};
 
 use crate::builds::push_parts;
+use crate::layered_builds::push_layers;
 use crate::limits::{MOST_LEVELS, MOST_SAVEPOINTS, MOST_WORKSPACES};
 use crate::operations::{create, live_alone, mark, put_rows, rebase, remove, roll_all, roll_to};
 use crate::part_checks::judge_marks;
@@ -22,7 +23,7 @@ use clr_change::ChangeSet;
 use clr_contents::{
     View, base_row_of, base_rows, changes_of, depth_at, row_of, saved_rows, whole_rows,
 };
-use clr_layers::{WorkspaceMap, count_saved, find_saved, has_child_after};
+use clr_layers::{StoredPart, WorkspaceMap, count_saved, find_saved, has_child_after};
 use clr_rows::{CellId, Row, Sheet};
 use std::alloc::{AllocError, Global};
 use std::marker::Model;
@@ -68,11 +69,27 @@ impl Tree {
         ensures passed { OnOk result (first_fault live parts.items ≡ None) }
         ensures refused { IfErr result (IsRefused (first_fault live parts.items)) }
     {
-        let parts = parts.as_slice();
-        let map = push_parts(alloc, &live, parts)?;
-        if let Err(at) = judge_marks(&live, &map, parts) {
-            return Err((at, PartFault::BadMarks));
-        }
+        let map = push_parts(alloc, &live, parts.as_slice())?;
+        judge_marks(&live, &map)?;
+        Ok(Tree { live, map })
+    }
+
+    /// A tree of LIVE with this content and of these parts by their differences, each base over the
+    /// current content of its parent, or the position of the first part with a fault and which
+    /// fault: `BadName`, `NameTaken`, `NoParent` or `TooMany` part by part, and only then `BadMarks`
+    /// part by part. No content is made whole; differences that are none stay until a sweep. Want of
+    /// memory is `OutOfMemory`, at 0.
+    pub fn of_layers(
+        alloc: Global,
+        live: Sheet,
+        parts: Vec<StoredPart>,
+    ) -> Result<Tree, (usize, PartFault)>
+        ensures made { IfOk result (λ tree. tree.list ≡ root live ∷ spaces_of live parts.items) }
+        ensures passed { OnOk result (workspaces_fault live (spaces_of live parts.items) ≡ None) }
+        ensures refused { IfErr result (IsRefused (workspaces_fault live (spaces_of live parts.items))) }
+    {
+        let map = push_layers(alloc, &live, parts)?;
+        judge_marks(&live, &map)?;
         Ok(Tree { live, map })
     }
 
