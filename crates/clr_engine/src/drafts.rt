@@ -1,4 +1,5 @@
 ghost use Rattle.std.specs.Prelude.{◌≡◌, None, option_map, IfOk, IfErr, OnOk};
+ghost use Rattle.clr_steps.specs.Offices.{office_of};
 ghost use Rattle.clr_steps.specs.Readings.{name_at};
 ghost use Rattle.clr_tree.specs.Parts.{first_fault, IsRefused};
 ghost use Rattle.clr_engine.specs.Drafts.{IsFitting, IsUnheld, office_of_parts, unheld_in};
@@ -44,10 +45,19 @@ pub enum AdmitFault {
 }
 
 impl Draft {
-    /// A draft of LIVE and of parts, each a workspace, in order of creation. The rules and each row
-    /// fit the schema. It fails with the position of the first part that can't stand, from 0, and
-    /// why: part by part for its name, its parent, and for too many workspaces or levels, and only
-    /// then part by part for its marks; or with 0 and `OutOfMemory`.
+    /// A draft of a tree. The rules and each row fit the schema.
+    pub fn of_tree(alloc: Global, schema: Schema, book: RuleBook, tree: Tree) -> Draft
+        requires { IsFitting (office_of schema book tree.list) }
+        ensures { result ≡ office_of schema book tree.list }
+    {
+        Draft {
+            schema,
+            judge: Judge::new(alloc, book),
+            tree,
+        }
+    }
+
+    /// A draft of LIVE and of parts, which fit the schema too. It fails as `Tree::build` does.
     pub fn build(
         alloc: Global,
         schema: Schema,
@@ -61,11 +71,7 @@ impl Draft {
         ensures refused { IfErr result (IsRefused (first_fault live parts.items)) }
     {
         let tree = Tree::build(alloc, live, parts)?;
-        Ok(Draft {
-            schema,
-            judge: Judge::new(alloc, book),
-            tree,
-        })
+        Ok(Draft::of_tree(alloc, schema, book, tree))
     }
 
     /// The schema of every row and rule.

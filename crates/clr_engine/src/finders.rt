@@ -4,8 +4,7 @@ ghost use Rattle.std.specs.FinMap as finite;
 ghost use Rattle.std.specs.Option.{option_copied};
 ghost use Rattle.clr_rows.specs.Contents.{row_at};
 ghost use Rattle.clr_rules.specs.Books.{FitsContent};
-ghost use Rattle.clr_engine.specs.Finders.{ArePending, FitAfter, HasForgotten, HasNoted, HasSettled, IsChangedAt, IsFinderOf};
-ghost use Rattle.clr_engine.specs.Finders.{AreRowsPending};
+ghost use Rattle.clr_engine.specs.Finders.{ArePending, FitAfter, HasForgotten, HasNoted, HasSettled, IsChangedAt, IsFinderOf, AreRowsPending};
 
 use clr_change::ChangeSet;
 use clr_grid::{RowFinder, SpotIndex};
