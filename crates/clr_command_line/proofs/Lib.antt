@@ -1,1 +1,2 @@
+mod Entering
 mod Subcommands

@@ -1,4 +1,4 @@
-ghost use Rattle.std.specs.Prelude.{◌≡◌, Some, IfOk, IfErr, codes, map, true, option_map};
+ghost use Rattle.std.specs.Prelude.{◌≡◌, Some, IfOk, IfErr, codes, is_some, map, true};
 ghost use Rattle.clap.specs.Words.{found_of, kind_of, rows_of, subcommand_of, takes};
 ghost use Rattle.clr_command_line.specs.Asked.{IsMemory, asked, asked_by, database_and, database_of, names_of, value_of};
 ghost use Rattle.clr_command_line.specs.declared.asks.Ask.TheVariants.{PlanUnder};
@@ -72,12 +72,9 @@ fn plan_under(alloc: Global, matches: &ArgMatches) -> Result<Ask, AllocError>
 
 /// What a subcommand asks for, and its files.
 #[tactic(auto, unfolding(crate::specs::Asked::asked_by))]
-fn ask(
-    alloc: Global,
-    name: &str,
-    matches: &ArgMatches,
-) -> Result<Option<(Ask, Vec<Words>)>, AllocError>
-    ensures { IfOk result (λ found. option_map (λ r. (r.0, r.1.items)) found ≡ asked_by name.now (rows_of (found_of matches.now))) }
+fn ask(alloc: Global, name: &str, matches: &ArgMatches) -> Result<(Ask, Vec<Words>), AllocError>
+    requires { is_some (asked_by name.now (rows_of (found_of matches.now))) ≡ true }
+    ensures { IfOk result (λ r. asked_by name.now (rows_of (found_of matches.now)) ≡ Some (r.0, r.1.items)) }
 {
     let found = match name {
         "audit" => (Ask::Audit, database(alloc, matches)?),
@@ -89,9 +86,9 @@ fn ask(
             Ask::Merge(names(alloc, matches)?),
             database_with(alloc, matches, "CERT")?,
         ),
-        _ => return Ok(None),
+        _ => unreachable!(),
     };
-    Ok(Some(found))
+    Ok(found)
 }
 
 fn ask_fault(error: clap::Error) -> AskFault
@@ -125,10 +122,7 @@ pub fn ask_of<'a>(alloc: Global, words: &'a [&'a str]) -> Result<(Ask, Vec<Words
         Err(error) => return Err(ask_fault(error)),
     };
     let Some((name, values)) = matches.subcommand() else {
-        return Err(AskFault::OutOfMemory);
+        unreachable!();
     };
-    match ask(alloc, name, values)? {
-        Some(found) => Ok(found),
-        None => Err(AskFault::OutOfMemory),
-    }
+    Ok(ask(alloc, name, values)?)
 }

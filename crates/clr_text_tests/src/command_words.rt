@@ -107,9 +107,42 @@ fn reports(rt: HostRuntime) -> Result<(), Fail> {
         ("changes,W1", Word::Changes),
         ("conflicts,W1", Word::Conflicts),
         ("audit,W1", Word::Audit),
+        ("plan,W1", Word::Plan),
+        ("planunder,W1", Word::PlanUnder),
     ];
     for (text, word) in cases {
         assert!(rt; is_report(rt.alloc(), text, word)?, "at {text}");
+    }
+    Ok(())
+}
+
+/// The word of a script of one report, and its names in one text, each behind a space.
+fn names_of(alloc: Global, text: &str) -> Result<(Option<Word>, String), Fail> {
+    let steps = read_script(alloc, &network(alloc)?, text.as_bytes())?;
+    let mut all = String::new(alloc);
+    let mut first = None;
+    if let [Step::Report(word, names)] = steps.as_slice() {
+        first = Some(*word);
+        for name in names.as_slice() {
+            all.push_str(" ")?;
+            all.push_str(name.as_str())?;
+        }
+    }
+    Ok((first, all))
+}
+
+#[test]
+fn plans_have_any_count_of_names(rt: HostRuntime) -> Result<(), Fail> {
+    let cases = [
+        ("plan", Word::Plan, ""),
+        ("plan,", Word::Plan, " "),
+        ("plan,W1,W2,W1", Word::Plan, " W1 W2 W1"),
+        ("planunder,K", Word::PlanUnder, " K"),
+        ("planunder,K,V1,V2", Word::PlanUnder, " K V1 V2"),
+    ];
+    for (text, word, names) in cases {
+        let (found, all) = names_of(rt.alloc(), text)?;
+        assert!(rt; found == Some(word) && all.as_str() == names, "at {text}");
     }
     Ok(())
 }
@@ -162,6 +195,7 @@ fn counts_of_fields(rt: HostRuntime) -> Result<(), Fail> {
         "audit,W1,W2",
         "workspaces,W1",
         "dump,W1",
+        "planunder",
     ];
     for text in texts {
         let fault = fault_of(rt.alloc(), text)?;
@@ -178,9 +212,9 @@ fn words_and_fields_in_turn(rt: HostRuntime) -> Result<(), Fail> {
         ("weak", RecordFault::BadWord),
         ("Conflicts,W1", RecordFault::BadWord),
         ("dumps", RecordFault::BadWord),
-        ("plan,W1", RecordFault::BadWord),
-        ("planunder,K,V1", RecordFault::BadWord),
+        ("plans", RecordFault::BadWord),
         ("independence,W1", RecordFault::BadWord),
+        ("independenceunder,K,V1", RecordFault::BadWord),
         ("merge,W1,drop", RecordFault::BadWord),
         ("merge,W1,Keep", RecordFault::BadWord),
         ("resolve,W1,main,20,parent", RecordFault::BadWord),

@@ -14,6 +14,8 @@ mod network;
 #[cfg(test)]
 mod office_texts;
 #[cfg(test)]
+mod plan_lines;
+#[cfg(test)]
 mod report_lines;
 #[cfg(test)]
 mod scripts;

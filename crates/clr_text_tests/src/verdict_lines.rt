@@ -5,7 +5,7 @@ use clr_rows::CellId;
 use clr_verdict_lines::verdict_line;
 use std::test::Fail;
 
-fn version(table: u16, key: i64, fresh: bool) -> VersionId {
+pub fn version(table: u16, key: i64, fresh: bool) -> VersionId {
     VersionId {
         cell: CellId { table, key },
         fresh,
@@ -13,7 +13,7 @@ fn version(table: u16, key: i64, fresh: bool) -> VersionId {
 }
 
 /// The need of a rule with these subjects, and the part of the first.
-fn need(rule: u16, first: VersionId, part: u16, second: Option<VersionId>) -> Verdict {
+pub fn need(rule: u16, first: VersionId, part: u16, second: Option<VersionId>) -> Verdict {
     Verdict::Uncovered(Need {
         rule,
         first,

@@ -1,11 +1,13 @@
-use Rattle.std.proofs.Common.{◌≡◌, ◌∙◌, Some, None, List, Option, ap, sym, refl, true, map, option_map, Box}
+use Rattle.std.proofs.Common.{◌≡◌, ◌∙◌, Some, None, List, Option, ap, sym, refl, true, map, option_map, Box, is_some}
 use Rattle.std.specs.Box.{box_value}
 use Rattle.clap.specs.Words.{Row, Text, is_simple, takes, subcommand_of, subcommand_rows}
 use Rattle.clap.specs.declared.parser.matches.ArgMatches.TheViews.{out-SubCommand}
 use Rattle.clap.specs.declared.parser.matches.SubCommand.{SubCommand}
+use Rattle.clap.specs.Faults.{fault_of, is_simple_and_free}
 use Rattle.clap.proofs.OnLiterals.{clap_on_literals}
 use Rattle.clr_command_line.specs.Program.{program}
 use Rattle.clr_command_line.specs.Asked.{asked}
+use Rattle.clr_command_line.proofs.Entering.{asks_something, free}
 use Rattle.clr_command_line.proofs.reading.ask_of.Goals as goal
 
 -- the command line is one whose matches are known from the words
@@ -17,14 +19,22 @@ pair_is : {Z : Type 0} (o : Option (Box SubCommand Z)) (n : Text) (r : List Row)
 pair_is None n r e h = absurd cc
 pair_is (Some b) n r e h = cc
 
-pub returns-in-Some-2-clause-asks : goal.returns-in-Some-2-clause-asks
-returns-in-Some-2-clause-asks c =
+pub returns-in-Err-clause-takes : goal.returns-in-Err-clause-takes
+returns-in-Err-clause-takes c = λ t. c.ask_fault.ensures (c.in-Err.ensures.passes (ap (λ a. takes a (map (λ s. s.now) c.args.words.now)) c.in_ok-command.ensures ∙ t))
+
+pub ask-requires : goal.ask-requires
+ask-requires c =
     let command_is = c.in_ok-command.ensures in
     let words = map (λ s. s.now) c.args.words.now in
     let sub = (c.in-Ok.ensures.matches (ap is_simple command_is ∙ simple)).1 ∙ ap (λ a. subcommand_of a words) command_is in
     let found = pair_is _ c.in-Some.name.now _ c.in-Some.ensures.name c.in-Some.ensures.rows in
-    let e = rw c.in-Some-2.is at c.in_ok-found.ensures in
-    ap asked (sym sub ∙ found) ∙ sym e
+    let no_fault = sym (ap (λ a. fault_of a words) command_is) ∙ c.in-Ok.ensures.kinds (ap is_simple_and_free command_is ∙ free) in
+    ap (λ o. is_some (asked o)) (sym found ∙ sub) ∙ asks_something words no_fault
 
-pub returns-in-Err-clause-takes : goal.returns-in-Err-clause-takes
-returns-in-Err-clause-takes c = λ t. c.ask_fault.ensures (c.in-Err.ensures.passes (ap (λ a. takes a (map (λ s. s.now) c.args.words.now)) c.in_ok-command.ensures ∙ t))
+pub returns-clause-asks : goal.returns-clause-asks
+returns-clause-asks c =
+    let command_is = c.in_ok-command.ensures in
+    let words = map (λ s. s.now) c.args.words.now in
+    let sub = (c.in-Ok.ensures.matches (ap is_simple command_is ∙ simple)).1 ∙ ap (λ a. subcommand_of a words) command_is in
+    let found = pair_is _ c.in-Some.name.now _ c.in-Some.ensures.name c.in-Some.ensures.rows in
+    ap asked (sym sub ∙ found) ∙ c.in_ok-ask.ensures
