@@ -57,7 +57,10 @@ impl Draft {
         }
     }
 
-    /// A draft of LIVE and of parts, which fit the schema too. It fails as `Tree::build` does.
+    /// A draft of LIVE and of parts, each a workspace, in order of creation. The rules and each row
+    /// fit the schema. It fails with the position of the first part that can't stand, from 0, and
+    /// why: part by part for its name, its parent, and for too many workspaces or levels, and only
+    /// then part by part for its marks; or with 0 and `OutOfMemory`.
     pub fn build(
         alloc: Global,
         schema: Schema,
