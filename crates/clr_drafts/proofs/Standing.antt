@@ -1,25 +1,20 @@
 -- Workspaces that can't stand make no draft.
 use Rattle.std.proofs.Common.{◌≡◌, ℕ, suc, ◌≤◌, List, [], ◌∷◌, ◌++◌, length, map, take, Option, Some, None, Ok, Err, refl, sym, ap, ◌∙◌, arith}
 use Rattle.std.specs.Option.{option_or}
-use Rattle.std.proofs.lemmas.List.{length-map, length-take-le}
+use Rattle.std.proofs.lemmas.List.{length-take-le}
 use Rattle.std.proofs.lemmas.Option.{none-some}
 use Rattle.clr_rows.specs.Contents.{Content}
-use Rattle.clr_layers.specs.Layers.{Layer, grow, above_in, whole_of}
+use Rattle.clr_layers.specs.Layers.{Layer, grow, above_in, whole_of, workspaces_over}
 use Rattle.clr_layers.specs.Workspaces.{Workspace, root, workspace_at}
-use Rattle.clr_tree.specs.Parts.{IsRefused, first_below, first_fault, name_fault_at, workspace_of}
+use Rattle.clr_tree.specs.Parts.{IsRefused, first_below, name_fault_at, workspaces_fault}
 use Rattle.clr_tree.specs.declared.limits.TheConstants.{MOST_WORKSPACES}
-use Rattle.clr_tree.specs.declared.parts.Part.{Part}
 use Rattle.clr_tree.specs.declared.parts.PartFault.{PartFault}
 use Rattle.clr_tree.specs.declared.parts.PartFault.TheVariants as part
 use Rattle.clr_tree.proofs.FaultLemmas.{none_at, placed_from}
 use Rattle.clr_steps.specs.Offices.{Office}
 use Rattle.clr_office_text.specs.declared.faults.TextFault.TheVariants as text
 use Rattle.clr_office_text.specs.Fields.{Fails}
-use Rattle.clr_office_text.specs.Workspaces.{workspaces_over}
-use Rattle.clr_drafts.specs.Drafts.{if_standing, text_fault_of, workspaces_fault}
-
-pub parts_fault : (live : Content) (parts : List Part) → workspaces_fault live (map workspace_of parts) ≡ first_fault live parts
-parts_fault live parts = rw (length-map parts workspace_of) refl
+use Rattle.clr_drafts.specs.Drafts.{if_standing, text_fault_of}
 
 pub stands : (o : Office) → workspaces_fault o.live o.workspaces ≡ None → if_standing o ≡ Ok o
 unfolding if_standing

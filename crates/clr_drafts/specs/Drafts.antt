@@ -1,9 +1,7 @@
 -- The draft that an office text is: its workspaces with whole contents, which must stand under LIVE.
-use Rattle.std.specs.Prelude.{ℕ, List, ◌∷◌, Option, Result, Ok, length}
-use Rattle.std.specs.Option.{option_or}
-use Rattle.clr_rows.specs.Contents.{Content}
-use Rattle.clr_layers.specs.Workspaces.{Workspace, root}
-use Rattle.clr_tree.specs.Parts.{first_below, marks_fault_at, name_fault_at}
+use Rattle.std.specs.Prelude.{ℕ, List, Result, Ok}
+use Rattle.clr_layers.specs.Layers.{workspaces_over}
+use Rattle.clr_tree.specs.Parts.{workspaces_fault}
 use Rattle.clr_tree.specs.declared.parts.PartFault.{PartFault}
 use Rattle.clr_tree.specs.declared.parts.PartFault.TheVariants as part
 use Rattle.clr_steps.specs.Offices.{Office}
@@ -11,15 +9,8 @@ use Rattle.clr_office_text.specs.declared.faults.TextFault.{TextFault}
 use Rattle.clr_office_text.specs.declared.faults.TextFault.TheVariants as text
 use Rattle.clr_office_text.specs.Fields.{◌>>=◌, none_or_fault}
 use Rattle.clr_office_text.specs.Offices.{OfficeText, office_in}
-use Rattle.clr_office_text.specs.Workspaces.{workspaces_over}
 
--- the first workspace that can't stand under LIVE, and why: names and places of all come before the marks of any
-abbrev pub workspaces_fault : Content → List Workspace → Option (ℕ × PartFault)
-workspaces_fault live ws =
-    let all = root live ∷ ws in
-    option_or (first_below (name_fault_at all) (length ws)) (first_below (marks_fault_at all) (length ws))
-
--- what is said of the text then
+-- what is said of a text whose workspaces can't stand
 abbrev pub text_fault_of : PartFault → TextFault
 text_fault_of part.OutOfMemory = text.OutOfMemory
 text_fault_of _ = text.BadPart

@@ -1,16 +1,18 @@
-ghost use Rattle.std.specs.Prelude.{◌≡◌, IfOk};
-ghost use Rattle.clr_engine.specs.Drafts.{IsFitting, office_of_parts};
+ghost use Rattle.std.specs.Prelude.{◌≡◌, ◌∷◌, IfOk};
+ghost use Rattle.clr_layers.specs.Workspaces.{root};
+ghost use Rattle.clr_tree.specs.Parts.{spaces_of};
+ghost use Rattle.clr_steps.specs.Offices.{office_of};
+ghost use Rattle.clr_engine.specs.Drafts.{IsFitting};
 ghost use Rattle.clr_office_text.specs.Fields.{Gives};
 ghost use Rattle.clr_office_text.specs.Fits.{FitsOffice};
 ghost use Rattle.clr_office_text.specs.Offices.{office_read};
 ghost use Rattle.clr_drafts.specs.Drafts.{draft_in, if_standing, text_fault_of, whole_office};
 
-use clr_engine::{Draft, Part, PartFault};
-use clr_office_text::{OfficeParts, TextFault};
+use clr_engine::{Draft, PartFault};
+use clr_office_text::{OfficeParts, StoredPart, TextFault};
 use clr_rows::{Schema, Sheet};
 use clr_rules::RuleBook;
-use clr_text_parts::whole_parts;
-use clr_tree::MOST_WORKSPACES;
+use clr_tree::{MOST_WORKSPACES, Tree};
 use std::alloc::Global;
 
 /// What is said of a text whose workspaces can't stand.
@@ -23,24 +25,24 @@ fn text_fault(fault: PartFault) -> TextFault
     }
 }
 
-fn draft_of_parts(
+fn draft_of_layers(
     alloc: Global,
     schema: Schema,
     book: RuleBook,
     live: Sheet,
-    parts: Vec<Part>,
+    parts: Vec<StoredPart>,
 ) -> Result<Draft, TextFault>
-    requires { IsFitting (office_of_parts schema book live parts.items) }
-    ensures { Gives (λ draft. draft) result (if_standing (office_of_parts schema book live parts.items)) }
+    requires { IsFitting (office_of schema book (root live ∷ spaces_of live parts.items)) }
+    ensures { Gives (λ draft. draft) result (if_standing (office_of schema book (root live ∷ spaces_of live parts.items))) }
 {
-    match Draft::build(alloc, schema, book, live, parts) {
-        Ok(draft) => Ok(draft),
+    match Tree::of_layers(alloc, live, parts) {
+        Ok(tree) => Ok(Draft::of_tree(alloc, schema, book, tree)),
         Err(refused) => Err(text_fault(refused.1)),
     }
 }
 
-/// The draft of what was read of a text. Workspaces that are too many are refused before any of them
-/// is made.
+/// The draft of what was read of a text. Its workspaces stay as they are written, by their
+/// differences; those that are too many are refused before any of them is made.
 fn draft_of(alloc: Global, read: OfficeParts) -> Result<Draft, TextFault>
     requires { FitsOffice (office_read read) }
     ensures { Gives (λ draft. draft) result (if_standing (whole_office (office_read read))) }
@@ -54,8 +56,7 @@ fn draft_of(alloc: Global, read: OfficeParts) -> Result<Draft, TextFault>
     if workspaces.len() >= MOST_WORKSPACES {
         return Err(TextFault::BadPart);
     }
-    let parts = whole_parts(alloc, &live, workspaces)?;
-    draft_of_parts(alloc, schema, book, live, parts)
+    draft_of_layers(alloc, schema, book, live, workspaces)
 }
 
 /// Reads an office text of format 1, 2 or 3 as a draft: its schema, its rules, LIVE and the

@@ -1,5 +1,6 @@
 pub mod EachIn
 pub mod EachItem
 pub mod Fitting
+pub mod NameTurns
 pub mod PlacePairs
 pub mod WorkspaceTurns

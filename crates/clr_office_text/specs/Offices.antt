@@ -8,6 +8,7 @@ use Rattle.clr_rows.specs.declared.tables.TableDef.{TableDef}
 use Rattle.clr_rows.specs.Contents.{Content}
 use Rattle.clr_rows.specs.Schemas.{schema_fault}
 use Rattle.clr_rules.specs.declared.rules.Rule.{Rule}
+use Rattle.clr_layers.specs.Entries.{stored_layer}
 use Rattle.clr_layers.specs.Layers.{Layer}
 use Rattle.clr_office_text.specs.declared.faults.TextFault.{TextFault}
 use Rattle.clr_office_text.specs.declared.faults.TextFault.TheVariants.{NotJson, BadField, BadSchema}
@@ -18,7 +19,7 @@ use Rattle.clr_office_text.specs.Fields.{◌>>=◌, none_or_fault, number_at}
 use Rattle.clr_office_text.specs.Tables.{tables_of}
 use Rattle.clr_office_text.specs.Cells.{live_of}
 use Rattle.clr_office_text.specs.Rules.{rules_of}
-use Rattle.clr_office_text.specs.Workspaces.{layer_read, layers_of}
+use Rattle.clr_office_text.specs.Workspaces.{layers_of}
 
 abbrev pub format_numbered : ℤ → Result Format TextFault
 format_numbered n = if int_eq n (pos 1) then Ok First else (if int_eq n (pos 2) then Ok Second else (if int_eq n (pos 3) then Ok Third else Err BadField))
@@ -58,4 +59,4 @@ office_in bytes = if is_utf8 bytes then office_if_read (read bytes) else Err Not
 
 -- what a call has read
 abbrev pub office_read : OfficeParts → OfficeText
-office_read parts = record { schema = parts.schema; book = parts.book; live = parts.live; layers = map layer_read parts.workspaces.items }
+office_read parts = record { schema = parts.schema; book = parts.book; live = parts.live; layers = map stored_layer parts.workspaces.items }

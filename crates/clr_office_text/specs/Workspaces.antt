@@ -1,14 +1,15 @@
--- The workspaces of an office text: their differences from their parents' contents, and the whole workspaces that these mean.
-use Rattle.std.specs.Prelude.{Bool, false, ◌||◌, List, [], ◌∷◌, ◌++◌, codes, Option, Some, None, Result, Ok, Err, if◌then◌else◌}
+-- The workspaces of an office text, by their differences from their parents' contents.
+use Rattle.std.specs.Prelude.{◌≡◌, String, Bool, false, ◌||◌, List, [], ◌∷◌, ◌++◌, codes, Option, Some, None, Result, Ok, Err, if◌then◌else◌}
+use Rattle.std.specs.BTreeSet.{BTreeSet, contains_text}
 use Rattle.std.specs.List.{list_any}
 use Rattle.std.specs.Str.{bytes_eq}
+use Rattle.std.specs.declared.alloc.Global.{Global}
 use Rattle.serde_json.specs.Data.{Data, Items, no_items, item}
 use Rattle.serde_json.specs.Find.{get}
 use Rattle.clr_rows.specs.declared.tables.TableDef.{TableDef}
-use Rattle.clr_rows.specs.Contents.{Content}
-use Rattle.clr_layers.specs.Layers.{Layer, grow}
+use Rattle.clr_layers.specs.Layers.{Layer}
 use Rattle.clr_layers.specs.Marks.{Name}
-use Rattle.clr_layers.specs.Workspaces.{Workspace, live_name, root}
+use Rattle.clr_layers.specs.Workspaces.{live_name}
 use Rattle.clr_layers.specs.declared.stored_marks.StoredMark.{StoredMark}
 use Rattle.clr_layers.specs.declared.stored_marks.StoredMark.TheVariants as stored
 use Rattle.clr_office_text.specs.declared.faults.TextFault.{TextFault}
@@ -18,7 +19,6 @@ use Rattle.clr_office_text.specs.declared.formats.Format.TheVariants.{First, Sec
 use Rattle.clr_office_text.specs.declared.named_marks.NamedMark.{NamedMark}
 use Rattle.clr_office_text.specs.declared.named_marks.NamedMark.TheVariants as named
 use Rattle.clr_office_text.specs.declared.workspaces.Head.{Head}
-use Rattle.clr_office_text.specs.declared.workspaces.StoredPart.{StoredPart}
 use Rattle.clr_office_text.specs.Fields.{◌>>=◌, each, each_in, flag_or_not, list_or_none, words_at, words_of}
 use Rattle.clr_office_text.specs.Patches.{differences_at, differences_of, named_cells_at}
 
@@ -68,6 +68,10 @@ head_of format d = do
 abbrev pub stands_in : List Layer → Name → Bool
 stands_in earlier name = bytes_eq name live_name || list_any (λ l. bytes_eq name l.name) earlier
 
+-- the names are those of some workspaces
+abbrev pub HasNames : BTreeSet (String Global) → List Layer → Type 0
+HasNames names earlier = (name : Name) → contains_text names name ≡ list_any (λ l. bytes_eq name l.name) earlier
+
 abbrev pub under_one_of : List Layer → Head → Result Head TextFault
 under_one_of earlier head = if stands_in earlier head.parent then Ok head else Err BadPart
 
@@ -90,11 +94,3 @@ layers_after format tables earlier (item d ds) = do
 
 unfoldable pub layers_of : Format → List TableDef → Data → Result (List Layer) TextFault
 layers_of format tables d = list_or_none (get (codes "workspaces") d) >>= layers_after format tables []
-
--- the differences that are read of a workspace
-abbrev pub layer_read : StoredPart → Layer
-layer_read part = record { name = part.name; parent = part.parent; base = part.base; current = part.rows; marks = part.marks.items; kept = part.kept }
-
--- the whole workspaces: each base over the content of its parent, and each current content and savepoint over its base
-abbrev pub workspaces_over : Content → List Layer → List Workspace
-workspaces_over live layers = grow (root live ∷ []) layers

@@ -2,6 +2,7 @@
 #![tactic(auto)]
 
 mod cells;
+mod earlier_names;
 mod faults;
 mod fields;
 mod formats;
@@ -16,6 +17,6 @@ mod rules;
 mod tables;
 mod workspaces;
 
+pub use clr_layers::StoredPart;
 pub use faults::TextFault;
 pub use reading::{OfficeParts, read_office};
-pub use workspaces::StoredPart;

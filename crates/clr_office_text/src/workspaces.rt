@@ -1,39 +1,26 @@
 ghost use Rattle.std.specs.Prelude.{◌≡◌, [], map};
-ghost use Rattle.std.specs.List.{list_any};
-ghost use Rattle.std.specs.Str.{bytes_eq};
 ghost use Rattle.serde_json.specs.View.{view, items_view};
-ghost use Rattle.clr_layers.specs.Workspaces.{live_name};
+ghost use Rattle.clr_layers.specs.Entries.{stored_layer};
 ghost use Rattle.clr_office_text.specs.Fields.{Gives};
-ghost use Rattle.clr_office_text.specs.Workspaces.{head_of, kept_of, layer_of, layer_read, layers_after, layers_of, stands_in, under_one_of};
+ghost use Rattle.clr_office_text.specs.Workspaces.{HasNames, head_of, kept_of, layer_of, layers_after, layers_of, under_one_of};
 
+use crate::earlier_names::{note_name, stands};
 use crate::faults::TextFault;
 use crate::fields::{optional_flag, optional_list, words_in};
 use crate::formats::Format;
 use crate::named_marks::marks;
 use crate::patches::differences_in;
-use clr_differences::Differences;
-use clr_layers::StoredMark;
+use clr_layers::{Layer, StoredPart};
 use clr_rows::{Schema, Words};
 use serde_json::Value as Json;
 use std::alloc::Global;
+use std::collections::BTreeSet;
 
 /// What is written first of a workspace.
 #[derive(Debug, Drop)]
 pub struct Head {
     pub name: Words,
     pub parent: Words,
-    pub kept: bool,
-}
-
-/// A workspace as it is written: its base by differences from the content of its parent, its rows
-/// and savepoints by differences from its base.
-#[derive(Drop)]
-pub struct StoredPart {
-    pub name: Words,
-    pub parent: Words,
-    pub base: Differences,
-    pub rows: Differences,
-    pub marks: Vec<StoredMark>,
     pub kept: bool,
 }
 
@@ -56,30 +43,16 @@ fn read_head(alloc: Global, json: &Json, format: Format) -> Result<Head, TextFau
     Ok(Head { name, parent, kept })
 }
 
-/// Whether one of these workspaces has a name.
-fn is_named(earlier: &[StoredPart], name: &str) -> bool
-    ensures { result ≡ list_any (λ part. bytes_eq name.now part.name) earlier.now }
+fn head_under(
+    earlier: &[StoredPart],
+    names: &BTreeSet<String>,
+    head: Head,
+) -> Result<Head, TextFault>
+    requires { HasNames names.now (map stored_layer earlier.now) }
+    ensures { Gives (λ h. h) result (under_one_of (map stored_layer earlier.now) head) }
 {
-    earlier.iter().any(|part| name == part.name.as_str())
-}
-
-fn is_live(name: &str) -> bool
-    ensures { result ≡ bytes_eq name.now live_name }
-{
-    name == "LIVE"
-}
-
-/// Whether a name is that of LIVE, or of one of these workspaces.
-fn stands(earlier: &[StoredPart], name: &str) -> bool
-    ensures { result ≡ stands_in (map layer_read earlier.now) name.now }
-{
-    is_live(name) || is_named(earlier, name)
-}
-
-fn head_under(earlier: &[StoredPart], head: Head) -> Result<Head, TextFault>
-    ensures { Gives (λ h. h) result (under_one_of (map layer_read earlier.now) head) }
-{
-    if stands(earlier, head.parent.as_str()) {
+    let _earlier = earlier;
+    if stands(names, head.parent.as_str()) {
         Ok(head)
     } else {
         Err(TextFault::BadPart)
@@ -93,20 +66,25 @@ fn workspace(
     format: Format,
     schema: &Schema,
     earlier: &[StoredPart],
+    names: &BTreeSet<String>,
 ) -> Result<StoredPart, TextFault>
-    ensures { Gives layer_read result (layer_of format schema.now (map layer_read earlier.now) (view json.now)) }
+    requires { HasNames names.now (map stored_layer earlier.now) }
+    ensures { Gives stored_layer result (layer_of format schema.now (map stored_layer earlier.now) (view json.now)) }
 {
-    let head = head_under(earlier, read_head(alloc, json, format)?)?;
+    let head = head_under(earlier, names, read_head(alloc, json, format)?)?;
     let base = differences_in(alloc, json, "base", schema)?;
-    let rows = differences_in(alloc, json, "rows", schema)?;
+    let current = differences_in(alloc, json, "rows", schema)?;
     let marks = marks(alloc, json, schema)?;
-    Ok(StoredPart {
-        name: head.name,
+    let layer = Layer {
         parent: head.parent,
         base,
-        rows,
+        current,
         marks,
         kept: head.kept,
+    };
+    Ok(StoredPart {
+        name: head.name,
+        layer,
     })
 }
 
@@ -116,11 +94,13 @@ fn each_workspace(
     format: Format,
     schema: &Schema,
 ) -> Result<Vec<StoredPart>, TextFault>
-    ensures { Gives (λ v. map layer_read v.items) result (layers_after format schema.now [] (items_view items.now)) }
+    ensures { Gives (λ v. map stored_layer v.items) result (layers_after format schema.now [] (items_view items.now)) }
 {
     let mut parts = Vec::new(alloc);
+    let mut names = BTreeSet::new(alloc);
     for item in items {
-        let one = workspace(alloc, item, format, schema, parts.as_slice())?;
+        let one = workspace(alloc, item, format, schema, parts.as_slice(), &names)?;
+        note_name(&mut names, &one.name)?;
         parts.push(one)?;
     }
     Ok(parts)
@@ -139,7 +119,7 @@ pub fn stored_parts(
     format: Format,
     schema: &Schema,
 ) -> Result<Vec<StoredPart>, TextFault>
-    ensures { Gives (λ v. map layer_read v.items) result (layers_of format schema.now (view json.now)) }
+    ensures { Gives (λ v. map stored_layer v.items) result (layers_of format schema.now (view json.now)) }
 {
     each_workspace(alloc, optional_list(json, "workspaces")?, format, schema)
 }

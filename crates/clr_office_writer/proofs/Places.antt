@@ -20,7 +20,7 @@ use Rattle.clr_steps.specs.Positions.{content_at}
 use Rattle.clr_steps.proofs.FitLemmas.{fits_content_of}
 use Rattle.clr_steps.proofs.SeenLemmas.{name_law}
 use Rattle.clr_office_text.specs.Fits.{FitsLayer}
-use Rattle.clr_office_text.specs.Workspaces.{stands_in, workspaces_over}
+use Rattle.clr_office_text.specs.Workspaces.{stands_in}
 use Rattle.clr_office_data.specs.Laws.{HaveParents}
 use Rattle.clr_office_writer.specs.Writing.{layer_in}
 use Rattle.clr_office_writer.proofs.Differences.{layer_fits, layer_made}

@@ -12,7 +12,7 @@ use Rattle.clr_rows.specs.Names.{is_good_name}
 use Rattle.clr_layers.specs.Marks.{Name, Mark, Saved, ChildMark, is_mark_of, mark_count}
 use Rattle.clr_layers.specs.Workspaces.{Workspace, depth_of, depth_within, find, is_child_named, no_workspace, one_above, parent_of, root, workspace_at}
 use Rattle.clr_layers.proofs.FindLemmas.{first_is, first_of, has_name}
-use Rattle.clr_tree.specs.Parts.{first_below, has_good_marks, is_childs, is_marked_once, is_under, marks_fault_at, name_fault_at}
+use Rattle.clr_tree.specs.Parts.{first_below, has_good_marks, is_childs, is_marked_once, is_under, marks_fault_at, name_fault_at, workspaces_fault}
 use Rattle.clr_contents.specs.Roots.{IsRooted}
 use Rattle.clr_tree.specs.Soundness.{IsSound}
 use Rattle.clr_tree.specs.declared.parts.PartFault.{PartFault}
@@ -23,7 +23,6 @@ use Rattle.clr_contents.proofs.RootLemmas.{no_parent}
 use Rattle.clr_tree.proofs.FaultLemmas.{below_next, below_none}
 use Rattle.clr_tree.proofs.PartLemmas.{fits}
 use Rattle.clr_tree.proofs.TreeLemmas.{one_child}
-use Rattle.clr_drafts.specs.Drafts.{workspaces_fault}
 
 -- the first workspaces -----------------------------------------------------------------------
 
@@ -157,7 +156,7 @@ module _ (live : Content) (rest : List Workspace) (sound : IsSound (root live âˆ
       let deep = depth_step ws (suc i) p.0 r within p.1 p.2 in
       let most = sound.shallow (suc i) within in
       let same : depth_of (take (suc i) ws) p.0 â‰¡ depth_of ws p.0 = front_depth ws r (suc i) (omega arith) le p.0 p.0 less in
-      fits (take (suc i) ws) w (r.good (suc i) within) (ap is_some (find_later ws w.name (suc i) (suc i) (r.own (suc i) within) (omega arith) le)) p.0 (find_front ws w.parent p.0 (suc i) p.1 p.2 le)
+      fits (take (suc i) ws) w.name w.parent (r.good (suc i) within) (ap is_some (find_later ws w.name (suc i) (suc i) (r.own (suc i) within) (omega arith) le)) p.0 (find_front ws w.parent p.0 (suc i) p.1 p.2 le)
       (omega (arith, count, within, few)) (omega (arith, same, deep, most))
 
   -- a child with a mark is found, and is a child

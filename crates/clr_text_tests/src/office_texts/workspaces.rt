@@ -21,7 +21,7 @@ fn node_at(key: i64) -> CellId {
 }
 
 fn is_named(part: &StoredPart, name: &str, parent: &str, kept: bool) -> bool {
-    part.name.as_str() == name && part.parent.as_str() == parent && part.kept == kept
+    part.name.as_str() == name && part.layer.parent.as_str() == parent && part.layer.kept == kept
 }
 
 /// Whether a node has no row.
@@ -75,12 +75,12 @@ fn a_kept_workspace(rt: HostRuntime) -> Result<(), Fail> {
     assert_eq!(rt; parts.workspaces.len(), 2);
     let part = &parts.workspaces[0];
     assert!(rt; is_named(part, "K", "LIVE", true));
-    assert_eq!(rt; part.base.len(), 2);
-    assert!(rt; is_gone(&part.base, 9));
-    assert!(rt; has_node(alloc, &part.base, 7, "tap", 1)?);
-    assert_eq!(rt; part.rows.len(), 1);
-    assert!(rt; has_node(alloc, &part.rows, 10, "tee", 7)?);
-    assert!(rt; are_marks(part.marks.as_slice()));
+    assert_eq!(rt; part.layer.base.len(), 2);
+    assert!(rt; is_gone(&part.layer.base, 9));
+    assert!(rt; has_node(alloc, &part.layer.base, 7, "tap", 1)?);
+    assert_eq!(rt; part.layer.current.len(), 1);
+    assert!(rt; has_node(alloc, &part.layer.current, 10, "tee", 7)?);
+    assert!(rt; are_marks(part.layer.marks.as_slice()));
     Ok(())
 }
 
@@ -90,8 +90,8 @@ fn a_bare_workspace(rt: HostRuntime) -> Result<(), Fail> {
     assert_eq!(rt; parts.workspaces.len(), 2);
     let part = &parts.workspaces[1];
     assert!(rt; is_named(part, "V1", "K", false));
-    assert_eq!(rt; part.base.len(), 0);
-    assert_eq!(rt; part.rows.len(), 0);
-    assert_eq!(rt; part.marks.len(), 0);
+    assert_eq!(rt; part.layer.base.len(), 0);
+    assert_eq!(rt; part.layer.current.len(), 0);
+    assert_eq!(rt; part.layer.marks.len(), 0);
     Ok(())
 }

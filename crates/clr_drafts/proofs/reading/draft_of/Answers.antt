@@ -1,22 +1,23 @@
 use Rattle.std.proofs.Common.{◌≤◌, length, map, refl, arith}
 use Rattle.std.proofs.lemmas.List.{length-map}
+use Rattle.clr_layers.specs.Entries.{stored_layer}
 use Rattle.clr_tree.specs.declared.limits.TheConstants.{MOST_WORKSPACES}
 use Rattle.clr_office_text.specs.Offices.{office_read}
-use Rattle.clr_office_text.specs.Workspaces.{layer_read}
 use Rattle.clr_drafts.specs.Drafts.{whole_office}
 use Rattle.clr_drafts.proofs.Standing.{too_many}
+use Rattle.clr_drafts.proofs.WholeFits.{all_fit}
 use Rattle.clr_drafts.proofs.reading.draft_of.Goals as goal
 
 pub returns-then-len-ge-MOST_WORKSPACES : goal.returns-then-len-ge-MOST_WORKSPACES
 returns-then-len-ge-MOST_WORKSPACES c =
-    let layers = map layer_read c.args.read.workspaces.items in
-    let count = length-map c.args.read.workspaces.items layer_read in
+    let layers = map stored_layer c.args.read.workspaces.items in
+    let count = length-map c.args.read.workspaces.items stored_layer in
     let many : MOST_WORKSPACES ≤ length layers = omega (arith, count, c.len.ensures, c.if-len-ge-MOST_WORKSPACES.true) in
     too_many (whole_office (office_read c.args.read)) c.args.read.live layers refl refl many
 
-pub draft_of_parts-requires : goal.draft_of_parts-requires
-draft_of_parts-requires c =
+pub draft_of_layers-requires : goal.draft_of_layers-requires
+draft_of_layers-requires c =
     record {
       book = c.requires.book;
-      rows = record { live = c.requires.live; workspaces = λ at. c.in_ok-parts.ensures.fits c.args.read.schema c.requires.live c.requires.layers at };
+      rows = record { live = c.requires.live; workspaces = all_fit c.args.read.schema c.args.read.live (map stored_layer c.args.read.workspaces.items) c.requires.live c.requires.layers };
     }

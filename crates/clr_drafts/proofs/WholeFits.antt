@@ -12,7 +12,7 @@ use Rattle.clr_rows.specs.Schemas.{FitsSchema, row_fault}
 use Rattle.clr_rows.proofs.FitLemmas.{none_fit}
 use Rattle.clr_differences.specs.Differences.{Differences, seen_over}
 use Rattle.clr_differences.proofs.DifferenceLemmas.{row-seen_over}
-use Rattle.clr_layers.specs.Layers.{Layer, grow, named, whole_mark, whole_of}
+use Rattle.clr_layers.specs.Layers.{Layer, grow, named, whole_mark, whole_of, workspaces_over}
 use Rattle.clr_layers.specs.Marks.{Name, mark_at, saved_content}
 use Rattle.clr_layers.specs.Workspaces.{Workspace, root, workspace_at}
 use Rattle.clr_layers.specs.declared.stored_marks.StoredMark.{StoredMark}
@@ -20,7 +20,6 @@ use Rattle.clr_layers.specs.declared.stored_marks.StoredMark.TheVariants as stor
 use Rattle.clr_steps.specs.Invariants.{WorkspaceFits}
 use Rattle.clr_office_text.specs.Fits.{FitsDifferences, FitsLayer, FitsMark}
 use Rattle.clr_office_text.specs.Patches.{put_fault}
-use Rattle.clr_office_text.specs.Workspaces.{workspaces_over}
 
 module _ (tables : List TableDef) where
   seen_fits : (below : Content) (d : Differences) → FitsSchema tables below → FitsDifferences tables d → FitsSchema tables (seen_over below d)

@@ -1,0 +1,22 @@
+use Rattle.std.proofs.Common.{Ok, ◌∷◌, List, subst, sym, ap, ◌∙◌}
+use Rattle.clr_layers.specs.Workspaces.{Workspace, root}
+use Rattle.clr_tree.specs.Parts.{spaces_of}
+use Rattle.clr_steps.specs.Offices.{office_of}
+use Rattle.clr_engine.specs.Drafts.{IsFitting}
+use Rattle.clr_office_text.specs.Fields.{Fails}
+use Rattle.clr_drafts.specs.Drafts.{if_standing}
+use Rattle.clr_drafts.proofs.Standing.{refused, stands}
+use Rattle.clr_drafts.proofs.reading.draft_of_layers.Goals as goal
+
+pub of_tree-requires : goal.of_tree-requires
+of_tree-requires c = subst (λ (ws : List Workspace). IsFitting (office_of c.args.schema c.args.book ws)) (sym c.in-Ok.ensures.made) c.requires
+
+pub returns-in-Ok : goal.returns-in-Ok
+returns-in-Ok c =
+    let o = office_of c.args.schema c.args.book (root c.args.live ∷ spaces_of c.args.live c.args.parts.items) in
+    stands o c.in-Ok.ensures.passed ∙ ap (λ d. Ok d) (sym (c.of_tree.ensures ∙ ap (office_of c.args.schema c.args.book) c.in-Ok.ensures.made))
+
+pub returns-in-Err : goal.returns-in-Err
+returns-in-Err c =
+    let o = office_of c.args.schema c.args.book (root c.args.live ∷ spaces_of c.args.live c.args.parts.items) in
+    subst (λ f. Fails f (if_standing o)) (sym c.text_fault.ensures) (refused o c.in-Err.refused c.in-Err.ensures.refused)

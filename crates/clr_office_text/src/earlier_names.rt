@@ -1,0 +1,32 @@
+ghost use Rattle.std.specs.Prelude.{◌≡◌, List, ◌++◌, ◌∷◌, [], OnOk};
+ghost use Rattle.clr_layers.specs.Layers.{Layer};
+ghost use Rattle.clr_layers.specs.Workspaces.{live_name};
+ghost use Rattle.std.specs.Str.{bytes_eq};
+ghost use Rattle.clr_office_text.specs.Workspaces.{HasNames, stands_in};
+
+use clr_rows::Words;
+use std::alloc::AllocError;
+use std::collections::BTreeSet;
+
+fn is_live(name: &str) -> bool
+    ensures { result ≡ bytes_eq name.now live_name }
+{
+    name == "LIVE"
+}
+
+/// Whether a name is that of LIVE, or one of these.
+pub fn stands(names: &BTreeSet<String>, name: &str) -> bool
+    ensures { (earlier : List Layer) → HasNames names.now earlier → result ≡ stands_in earlier name.now }
+{
+    is_live(name) || names.contains(name)
+}
+
+/// Puts the name of one more workspace to those of the earlier ones. It fails for want of memory
+/// alone.
+pub fn note_name(names: &mut BTreeSet<String>, name: &Words) -> Result<(), AllocError>
+    ensures { OnOk result ((earlier : List Layer) (l : Layer) → HasNames names.old earlier → l.name ≡ name.now → HasNames names.new (earlier ++ l ∷ [])) }
+{
+    let copy = name.copy()?;
+    names.insert(copy.into_string())?;
+    Ok(())
+}

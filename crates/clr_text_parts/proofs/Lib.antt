@@ -1,2 +1,0 @@
-pub mod PartTurns
-pub mod WholeFits
