@@ -20,12 +20,12 @@ use Rattle.clr_check_texts.specs.declared.checked.Checked.TheVariants as checked
 abbrev pub Case : Type 0
 Case = Result (Office × Certificate) Checked
 
--- the office, unless a rule doesn't hold in LIVE or in a workspace that is kept
+-- the office with the certificate, unless the certificate's text is none
 abbrev pub with_certificate : Office → Result Certificate (ℕ × CertFault) → Case
 with_certificate o (Ok c) = Ok (o, c)
 with_certificate o (Err e) = Err (checked.BadCertificate e.0 e.1)
 
--- the certificate's text, where every rule holds in LIVE and in each workspace that is kept
+-- the office with the certificate, unless a rule doesn't hold in LIVE or in a workspace that is kept
 abbrev pub where_held : Office → List ℕ → Option (ℕ × Broken) → Case
 where_held o certificate None = with_certificate o (certificate_in o.schema certificate)
 where_held o certificate (Some unheld) = Err (checked.Unheld unheld.0 unheld.1)
