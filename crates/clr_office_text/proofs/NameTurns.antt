@@ -1,5 +1,5 @@
 -- The names of workspaces that are read, one after another.
-use Rattle.std.proofs.Common.{◌≡◌, ℕ, Bool, true, false, cond, List, [], ◌∷◌, ◌++◌, String, Global, string_bytes, BTreeSet, refl, sym, ap, ◌∙◌}
+use Rattle.std.proofs.Common.{◌≡◌, Bool, true, false, cond, List, [], ◌∷◌, ◌++◌, String, Global, string_bytes, BTreeSet, refl, sym, ap, ◌∙◌}
 use Rattle.std.specs.Prelude.{◌||◌}
 use Rattle.std.specs.BTreeSet.{IsEmpty, Updates, contains_text}
 use Rattle.std.specs.List.{list_any}

@@ -66,16 +66,20 @@ fn has_new_name(mark: &StoredMark, later: &[StoredMark]) -> bool
     }
 }
 
-/// Whether the savepoints have good and different names, and aren't too many.
+/// Whether the savepoints aren't too many, and have good and different names. They are counted first:
+/// else each of a great many would be held against the others.
 fn has_good_savepoints(marks: &[StoredMark]) -> bool
     ensures { result ≡ are_good_savepoints (saved_names (bare_marks marks.now)) }
 {
+    if count_saved(marks) > MOST_SAVEPOINTS {
+        return false;
+    }
     for i in 0..marks.len() {
         if !has_new_name(&marks[i], &marks[i + 1..]) {
             return false;
         }
     }
-    count_saved(marks) <= MOST_SAVEPOINTS
+    true
 }
 
 /// Whether a mark is that of a child of the workspace of a name, if it isn't a savepoint.

@@ -1,4 +1,6 @@
-use Rattle.std.proofs.Common.{◌≡◌, suc, ◌+◌, true, false, nat_le, ◌&&◌, List, ◌∷◌, drop, refl, ap, sym, ◌∙◌, arith}
+use Rattle.std.proofs.Common.{◌≡◌, ℕ, suc, ◌+◌, ◌<◌, ◌≤◌, true, false, nat_le, ◌&&◌, List, ◌∷◌, drop, refl, ap, sym, ◌∙◌, arith}
+use Rattle.std.proofs.Math.Bool.{and-false}
+use Rattle.std.proofs.lemmas.Grind.{common_steps}
 use Rattle.clr_rows.specs.Contents.{no_rows}
 use Rattle.clr_layers.specs.Marks.{saved_count}
 use Rattle.clr_tree.specs.Parts.{bare_mark, bare_marks, has_new_name}
@@ -7,6 +9,12 @@ use Rattle.clr_layers.specs.declared.stored_marks.StoredMark.{StoredMark}
 use Rattle.clr_tree.proofs.PartLemmas.{drop_at, rest_is, past_all, are_new, new_skip, not_new, good_from}
 use Rattle.clr_tree.proofs.OperationLemmas.{saved_as_stored}
 use Rattle.clr_tree.proofs.part_checks.has_good_savepoints.Goals as goal
+
+too_many : (a b : ℕ) → b < a → nat_le a b ≡ false
+too_many a b lt = grind (arith, common_steps)
+
+within_few : (a b : ℕ) → a ≤ b → nat_le a b ≡ true
+within_few a b le = grind (arith, common_steps)
 
 pub loop-i-init : goal.loop-i-init
 loop-i-init c = refl
@@ -33,8 +41,17 @@ loop-i-preserved c =
     ap (λ n. are_new (bare_marks (drop n ms))) next ∙ sym (new_skip (bare_mark m) (bare_marks (drop (suc i) ms)) new)
     ∙ ap (λ (xs : List StoredMark). are_new (bare_marks xs)) (sym left) ∙ c.loop-i.invariant
 
+pub returns-then-count_saved-gt-MOST_SAVEPOINTS : goal.returns-then-count_saved-gt-MOST_SAVEPOINTS
+returns-then-count_saved-gt-MOST_SAVEPOINTS c =
+    let ms = c.args.marks.now in
+    let count = c.count_saved.ensures ∙ sym (saved_as_stored no_rows ms) in
+    let many = c.if-count_saved-gt-MOST_SAVEPOINTS.true in
+    sym (good_from (bare_marks ms) ∙ ap (λ b. are_new (bare_marks ms) && b) (too_many _ _ (omega (arith, count, many))) ∙ and-false (are_new (bare_marks ms)))
+
 pub returns : goal.returns
 returns c =
     let ms = c.args.marks.now in
     let all : are_new (bare_marks ms) ≡ true = sym c.loop-i.invariant ∙ ap (λ (xs : List StoredMark). are_new (bare_marks xs)) (past_all ms c.loop-i.i (omega arith)) in
-    ap (λ n. nat_le n MOST_SAVEPOINTS) (c.count_saved.ensures ∙ sym (saved_as_stored no_rows ms)) ∙ ap (λ b. b && nat_le (saved_count (bare_marks ms)) MOST_SAVEPOINTS) (sym all) ∙ sym (good_from (bare_marks ms))
+    let count = c.count_saved.ensures ∙ sym (saved_as_stored no_rows ms) in
+    let few = c.if-count_saved-gt-MOST_SAVEPOINTS.false in
+    sym (good_from (bare_marks ms) ∙ (λ i. all i && within_few (saved_count (bare_marks ms)) MOST_SAVEPOINTS (omega (arith, count, few)) i))
