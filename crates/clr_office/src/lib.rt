@@ -2,13 +2,17 @@
 #![tactic(auto)]
 
 mod answers;
+mod certificates;
 mod devices;
 mod faults;
-mod interpret;
 mod memory;
+mod merges;
+mod offices;
 mod outputs;
+mod plans;
 mod ports;
 mod reading;
+mod replies;
 mod reports;
 mod run;
 mod run_script;
