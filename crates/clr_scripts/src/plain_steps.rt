@@ -59,6 +59,8 @@ fn report_word(word: &str) -> Option<Word>
         "audit" => Some(Word::Audit),
         "workspaces" => Some(Word::Workspaces),
         "dump" => Some(Word::Dump),
+        "plan" => Some(Word::Plan),
+        "planunder" => Some(Word::PlanUnder),
         _ => None,
     }
 }
@@ -190,6 +192,8 @@ fn can_have_fields(word: Word, count: usize) -> bool
     match word {
         Word::Show | Word::Changes | Word::Conflicts | Word::Audit => count == 2,
         Word::Workspaces | Word::Dump => count == 1,
+        Word::Plan => true,
+        Word::PlanUnder => count >= 2,
     }
 }
 

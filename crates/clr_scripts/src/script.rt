@@ -124,7 +124,8 @@ fn steps(
 /// `apply,WS,n` with the next n records, which are edits, `mark,WS,SP`, `unmark,WS,SP`,
 /// `rollto,WS,SP`, `rollall,WS`, `refresh,WS`, `merge,WS,keep`, `merge,WS,remove`,
 /// `resolve,WS,TABLE,KEY,KEEP` where KEEP is `PARENT`, `CHILD` or `BASE`, `hold,WS` or `release,WS`,
-/// or a report, as `show,WS`, `changes,WS`, `conflicts,WS`, `audit,WS`, `workspaces` or `dump`.
+/// or a report, as `show,WS`, `changes,WS`, `conflicts,WS`, `audit,WS`, `workspaces`, `dump`,
+/// `plan,NAME..` or `planunder,ROOT,NAME..`, each with none or more names.
 /// Names of workspaces and savepoints are taken as they stand. A fault is that of the first record
 /// that has one, beside the record's number from 1; in each record the word is tested first, then
 /// the count of fields, and then the fields from left to right.

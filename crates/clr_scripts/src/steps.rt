@@ -4,7 +4,8 @@ use clr_rows::Words;
 use clr_steps::Command;
 use std::marker::Model;
 
-/// The names that a report is asked for, in their order.
+/// The names that a report is asked for, in their order: of each kind of report, as many as its word
+/// says.
 #[derive(Debug, Drop)]
 pub struct Names {
     list: Vec<Words>,
@@ -41,21 +42,27 @@ impl Names {
     }
 }
 
-/// What a report shows.
+/// What a report shows, and which names it is asked for.
 #[derive(Clone, Copy, Debug, PartialEq, Eq)]
 pub enum Word {
-    /// The rows of a workspace.
+    /// The rows of a workspace, its one name.
     Show,
-    /// The changes of a workspace against its base.
+    /// The changes of a workspace, its one name, against its base.
     Changes,
-    /// The cells of a workspace that are in conflict with its parent.
+    /// The cells of a workspace, its one name, that are in conflict with its parent.
     Conflicts,
-    /// The rules that the rows of a workspace break.
+    /// The rules that the rows of a workspace, its one name, break.
     Audit,
-    /// All workspaces under LIVE.
+    /// All workspaces under LIVE, for no name.
     Workspaces,
-    /// The text of the whole office.
+    /// The text of the whole office, for no name.
     Dump,
+    /// Whether children of LIVE can be merged in every order: the members, which are its names, none
+    /// or more.
+    Plan,
+    /// The same of children of another workspace: the first of its names is the root, and those behind
+    /// it, none or more, are the members.
+    PlanUnder,
 }
 
 /// A step of a script: a command to perform, or a report to print.
