@@ -1,15 +1,19 @@
 -- What a subcommand and its values ask for.
 use Rattle.std.specs.Prelude.{◌≡◌, List, [], ◌∷◌, codes, Option, Some, None, if◌then◌else◌, option_and_then, unwrap_or}
 use Rattle.std.specs.Str.{bytes_eq}
-use Rattle.clap.specs.Words.{Row, Text, first_of}
+use Rattle.clap.specs.Words.{Row, Text, all_of, first_of}
 use Rattle.clr_command_line.specs.declared.asks.Ask.{Ask}
-use Rattle.clr_command_line.specs.declared.asks.Ask.TheVariants.{Audit, Run}
+use Rattle.clr_command_line.specs.declared.asks.Ask.TheVariants.{Audit, Run, Plan, PlanUnder, Check, Merge}
 use Rattle.clr_command_line.specs.declared.asks.AskFault.{AskFault}
 use Rattle.clr_command_line.specs.declared.asks.AskFault.TheVariants as fault
 
 -- the value of a name, or no bytes where there is none
 abbrev pub value_of : Text → List Row → Text
 value_of id rows = unwrap_or (first_of id rows) []
+
+-- the names that are given, none or more
+abbrev pub names_of : List Row → List Text
+names_of rows = unwrap_or (all_of (codes "NAME") rows) []
 
 -- the file of the office text, and a second file
 abbrev pub database_of : List Row → List Text
@@ -23,7 +27,11 @@ unfoldable pub asked_by : Text → List Row → Option (Ask × List Text)
 asked_by name rows =
     if bytes_eq name (codes "audit") then Some (Audit, database_of rows)
     else (if bytes_eq name (codes "run") then Some (Run, database_and (codes "SCRIPT") rows)
-    else None)
+    else (if bytes_eq name (codes "plan") then Some (Plan (names_of rows), database_of rows)
+    else (if bytes_eq name (codes "planunder") then Some (PlanUnder (value_of (codes "ROOT") rows) (names_of rows), database_of rows)
+    else (if bytes_eq name (codes "check") then Some (Check, database_and (codes "CERT") rows)
+    else (if bytes_eq name (codes "merge") then Some (Merge (names_of rows), database_and (codes "CERT") rows)
+    else None)))))
 
 -- what the subcommand that words name asks for, if they name one
 abbrev pub asked : Option (Text × List Row) → Option (Ask × List Text)

@@ -1,10 +1,15 @@
 -- The command line: subcommands, each with its values.
-use Rattle.std.specs.Prelude.{true, codes}
+use Rattle.std.specs.Prelude.{true, codes, Some}
+use Rattle.clap.specs.Lexer.{usize_max}
 use Rattle.clap.specs.Words.{App, Rule, Text, new_app, new_rule, with_rule, with_subcommand}
 
 -- a value that has to be given
 abbrev pub value : Text → Rule
 value id = record (new_rule id) { required = true }
+
+-- names at the end, none or more
+abbrev pub names : Rule
+names = record (new_rule (codes "NAME")) { range = Some (record { start_inclusive = 0; end_inclusive = usize_max }) }
 
 -- a subcommand over an office text
 abbrev pub database_command : Text → App
@@ -16,9 +21,25 @@ audit = database_command (codes "audit")
 abbrev pub run : App
 run = with_rule (database_command (codes "run")) (value (codes "SCRIPT"))
 
+abbrev pub plan : App
+plan = with_rule (database_command (codes "plan")) names
+
+abbrev pub plan_under : App
+plan_under = with_rule (with_rule (database_command (codes "planunder")) (value (codes "ROOT"))) names
+
+abbrev pub check : App
+check = with_rule (database_command (codes "check")) (value (codes "CERT"))
+
+abbrev pub merge : App
+merge = with_rule (with_rule (database_command (codes "merge")) (value (codes "CERT"))) names
+
 -- a subcommand is demanded, and there is a version
 abbrev pub demanding : App
 demanding = let bare = new_app (codes "clr_office") in record bare { top = record bare.top { has_version = true; subcommand_required = true } }
 
+-- those that print what stands
+abbrev pub reporting : App
+reporting = with_subcommand (with_subcommand (with_subcommand (with_subcommand demanding audit.top) run.top) plan.top) plan_under.top
+
 abbrev pub program : App
-program = with_subcommand (with_subcommand demanding audit.top) run.top
+program = with_subcommand (with_subcommand reporting check.top) merge.top

@@ -1,8 +1,9 @@
 //! The command line, as `clap` is told of it.
-ghost use Rattle.std.specs.Prelude.{◌≡◌, false, IfOk};
+ghost use Rattle.std.specs.Prelude.{◌≡◌, codes, false, IfOk};
 ghost use Rattle.clap.specs.Words.{app_of, with_rule, with_subcommand};
 ghost use Rattle.clap.specs.declared.builder.command.Command.TheViews.{out-Command as fields_of};
-ghost use Rattle.clr_command_line.specs.Program.{audit, database_command, demanding, program, run, value};
+ghost use Rattle.clr_command_line.specs.Program.{audit, check, database_command, demanding, merge, plan, plan_under, program, reporting, run, value};
+ghost use Rattle.clr_command_line.specs.Program.{names as several_names};
 
 use clap::{Arg, Command};
 use std::alloc::{AllocError, Global};
@@ -47,6 +48,34 @@ fn with_value<'a>(
     command.arg(value)
 }
 
+/// The command with names at its end, none or more.
+fn with_names<'a>(
+    alloc: Global,
+    command: Command<'a>,
+    help: &'a str,
+) -> Result<Command<'a>, AllocError>
+    requires { (fields_of command).has_globals ≡ false }
+    ensures shape { IfOk result (λ c. app_of c ≡ with_rule (app_of command.entry) several_names) }
+    ensures plain { IfOk result (λ c. (fields_of c).has_globals ≡ false) }
+{
+    let names = Arg::new(alloc, "NAME").num_args(0..).help(help);
+    command.arg(names)
+}
+
+/// The command with a certificate's file, which has to be given.
+fn with_certificate<'a>(alloc: Global, command: Command<'a>) -> Result<Command<'a>, AllocError>
+    requires { (fields_of command).has_globals ≡ false }
+    ensures shape { IfOk result (λ c. app_of c ≡ with_rule (app_of command.entry) (value (codes "CERT"))) }
+    ensures plain { IfOk result (λ c. (fields_of c).has_globals ≡ false) }
+{
+    with_value(
+        alloc,
+        command,
+        "CERT",
+        "The file of the certificate, as plan prints it below its first line",
+    )
+}
+
 fn audit<'a>(alloc: Global) -> Result<Command<'a>, AllocError>
     ensures shape { IfOk result (λ c. app_of c ≡ audit) }
     ensures plain { IfOk result (λ c. (fields_of c).has_globals ≡ false) }
@@ -75,6 +104,61 @@ fn run<'a>(alloc: Global) -> Result<Command<'a>, AllocError>
     )
 }
 
+fn plan<'a>(alloc: Global) -> Result<Command<'a>, AllocError>
+    ensures shape { IfOk result (λ c. app_of c ≡ plan) }
+    ensures plain { IfOk result (λ c. (fields_of c).has_globals ≡ false) }
+{
+    let command = over_database(
+        alloc,
+        "plan",
+        "Says whether children of LIVE can be merged in every order, and prints a certificate if so",
+    )?;
+    with_names(alloc, command, "The workspaces that are to be merged")
+}
+
+fn plan_under<'a>(alloc: Global) -> Result<Command<'a>, AllocError>
+    ensures shape { IfOk result (λ c. app_of c ≡ plan_under) }
+    ensures plain { IfOk result (λ c. (fields_of c).has_globals ≡ false) }
+{
+    let command = over_database(
+        alloc,
+        "planunder",
+        "Says the same of children of another workspace, into which they are to be merged",
+    )?;
+    let command = with_value(
+        alloc,
+        command,
+        "ROOT",
+        "The workspace above them, which keeps every rule",
+    )?;
+    with_names(alloc, command, "The workspaces that are to be merged")
+}
+
+fn check<'a>(alloc: Global) -> Result<Command<'a>, AllocError>
+    ensures shape { IfOk result (λ c. app_of c ≡ check) }
+    ensures plain { IfOk result (λ c. (fields_of c).has_globals ≡ false) }
+{
+    let command = over_database(
+        alloc,
+        "check",
+        "Says whether a certificate shows that its workspaces can be merged in every order",
+    )?;
+    with_certificate(alloc, command)
+}
+
+fn merge<'a>(alloc: Global) -> Result<Command<'a>, AllocError>
+    ensures shape { IfOk result (λ c. app_of c ≡ merge) }
+    ensures plain { IfOk result (λ c. (fields_of c).has_globals ≡ false) }
+{
+    let command = over_database(
+        alloc,
+        "merge",
+        "Merges workspaces if a certificate holds, and prints the office text that is left",
+    )?;
+    let command = with_certificate(alloc, command)?;
+    with_names(alloc, command, "The workspaces to merge, in this order")
+}
+
 /// The command with one more subcommand.
 fn add<'a>(command: Command<'a>, subcommand: Command<'a>) -> Result<Command<'a>, AllocError>
     requires command { (fields_of command).has_globals ≡ false }
@@ -97,10 +181,22 @@ fn start<'a>(alloc: Global) -> Command<'a>
         .subcommand_required(true)
 }
 
+/// The command with the subcommands that print what stands.
+fn with_reports<'a>(alloc: Global) -> Result<Command<'a>, AllocError>
+    ensures shape { IfOk result (λ c. app_of c ≡ reporting) }
+    ensures plain { IfOk result (λ c. (fields_of c).has_globals ≡ false) }
+{
+    let command = add(start(alloc), audit(alloc)?)?;
+    let command = add(command, run(alloc)?)?;
+    let command = add(command, plan(alloc)?)?;
+    add(command, plan_under(alloc)?)
+}
+
 /// The whole command line. It fails for want of memory alone.
 pub fn whole_command<'a>(alloc: Global) -> Result<Command<'a>, AllocError>
     ensures { IfOk result (λ c. app_of c ≡ program) }
 {
-    let command = add(start(alloc), audit(alloc)?)?;
-    add(command, run(alloc)?)
+    let command = with_reports(alloc)?;
+    let command = add(command, check(alloc)?)?;
+    add(command, merge(alloc)?)
 }

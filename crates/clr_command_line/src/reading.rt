@@ -1,6 +1,7 @@
-ghost use Rattle.std.specs.Prelude.{◌≡◌, Some, IfOk, IfErr, map, true, option_map};
+ghost use Rattle.std.specs.Prelude.{◌≡◌, Some, IfOk, IfErr, codes, map, true, option_map};
 ghost use Rattle.clap.specs.Words.{found_of, kind_of, rows_of, subcommand_of, takes};
-ghost use Rattle.clr_command_line.specs.Asked.{IsMemory, asked, asked_by, database_and, database_of, value_of};
+ghost use Rattle.clr_command_line.specs.Asked.{IsMemory, asked, asked_by, database_and, database_of, names_of, value_of};
+ghost use Rattle.clr_command_line.specs.declared.asks.Ask.TheVariants.{PlanUnder};
 ghost use Rattle.clr_command_line.specs.Program.{program};
 
 use crate::asks::{Ask, AskFault};
@@ -8,6 +9,7 @@ use crate::command::whole_command;
 use clap::ArgMatches;
 use clap::error::ErrorKind;
 use clr_rows::Words;
+use clr_scripts::Names;
 use std::alloc::{AllocError, Global};
 
 /// The value of a name.
@@ -17,6 +19,27 @@ fn value(alloc: Global, matches: &ArgMatches, id: &str) -> Result<Words, AllocEr
     match matches.get_str(id) {
         Some(text) => Ok(Words::new(String::from_str(alloc, text)?)),
         None => Ok(Words::new(String::new(alloc))),
+    }
+}
+
+/// Texts as names of their own.
+fn owned_names(alloc: Global, texts: &[&str]) -> Result<Names, AllocError>
+    ensures { IfOk result (λ names. names ≡ map (λ text. text.now) texts.now) }
+{
+    let mut list = Vec::new(alloc);
+    for text in texts {
+        list.push(Words::new(String::from_str(alloc, text)?))?;
+    }
+    Ok(Names::new(list))
+}
+
+/// The names that are given.
+fn names(alloc: Global, matches: &ArgMatches) -> Result<Names, AllocError>
+    ensures { IfOk result (λ names. names ≡ names_of (rows_of (found_of matches.now))) }
+{
+    match matches.get_strs("NAME") {
+        Some(texts) => owned_names(alloc, texts),
+        None => Ok(Names::new(Vec::new(alloc))),
     }
 }
 
@@ -38,6 +61,15 @@ fn database_with(alloc: Global, matches: &ArgMatches, id: &str) -> Result<Vec<Wo
     Ok(files)
 }
 
+/// What `planunder` asks for.
+fn plan_under(alloc: Global, matches: &ArgMatches) -> Result<Ask, AllocError>
+    ensures { IfOk result (λ ask. ask ≡ PlanUnder (value_of (codes "ROOT") (rows_of (found_of matches.now))) (names_of (rows_of (found_of matches.now)))) }
+{
+    let root = value(alloc, matches, "ROOT")?;
+    let names = names(alloc, matches)?;
+    Ok(Ask::PlanUnder(root, names))
+}
+
 /// What a subcommand asks for, and its files.
 #[tactic(auto, unfolding(crate::specs::Asked::asked_by))]
 fn ask(
@@ -50,6 +82,13 @@ fn ask(
     let found = match name {
         "audit" => (Ask::Audit, database(alloc, matches)?),
         "run" => (Ask::Run, database_with(alloc, matches, "SCRIPT")?),
+        "plan" => (Ask::Plan(names(alloc, matches)?), database(alloc, matches)?),
+        "planunder" => (plan_under(alloc, matches)?, database(alloc, matches)?),
+        "check" => (Ask::Check, database_with(alloc, matches, "CERT")?),
+        "merge" => (
+            Ask::Merge(names(alloc, matches)?),
+            database_with(alloc, matches, "CERT")?,
+        ),
         _ => return Ok(None),
     };
     Ok(Some(found))
@@ -66,8 +105,10 @@ fn ask_fault(error: clap::Error) -> AskFault
 }
 
 /// What the words of a command line ask for, with the program's name first, and the names of the
-/// files that it is asked of: that of the office text, and then that of the script where there is
-/// one. The subcommands are `audit DB` and `run DB SCRIPT`.
+/// files that it is asked of: that of the office text, and then that of the script or the
+/// certificate where there is one. The subcommands are `audit DB`, `run DB SCRIPT`, `plan DB NAME..`,
+/// `planunder DB ROOT NAME..`, `check DB CERT` and `merge DB CERT NAME..`, each with none or more
+/// names.
 ///
 /// # Errors
 ///

@@ -60,12 +60,14 @@ pub fn open_office(alloc: Global, office: &[u8]) -> Result<Office, Result<Output
     };
     match draft.admit() {
         Ok(office) => Ok(office),
-        Err((draft, AdmitFault::Broken { position, need })) => {
-            match unheld(alloc, &draft, position, &need) {
-                Ok(output) => Err(Ok(output)),
-                Err(_) => Err(Err(RunFault::OutOfMemory)),
+        Err((draft, fault)) => match fault {
+            AdmitFault::Broken { position, need } => {
+                match unheld(alloc, &draft, position, &need) {
+                    Ok(output) => Err(Ok(output)),
+                    Err(_) => Err(Err(RunFault::OutOfMemory)),
+                }
             }
-        }
-        Err((_, AdmitFault::OutOfMemory)) => Err(Err(RunFault::OutOfMemory)),
+            AdmitFault::OutOfMemory => Err(Err(RunFault::OutOfMemory)),
+        },
     }
 }
