@@ -3,7 +3,7 @@ ghost use Rattle.std.specs.List.{All};
 ghost use Rattle.csv.specs.Writing.{default_writer, row_text};
 ghost use Rattle.clr_rows.specs.Schemas.{schema_fault};
 ghost use Rattle.clr_cert.specs.Certificates.{certificate_in};
-ghost use Rattle.clr_cert.specs.Texts.{IsBetween, IsWellFormed, IsWellFormedEntry, IsReadBack, certificate_text, entry_fields, member_fields, name_fields};
+ghost use Rattle.clr_cert.specs.Texts.{IsBetween, IsReadBackWhereNamed, IsWellFormed, certificate_text, entry_fields, member_fields, name_fields};
 ghost use Rattle.clr_cert.specs.Texts.{fresh_word, name_of_table, part_text, records_text, root_records};
 ghost use Rattle.clr_cert.specs.Texts.{second_text, subject_text, text_of, two_text, version_text};
 
@@ -155,11 +155,10 @@ fn add_entry(
     schema: &Schema,
     entry: Entry,
 ) -> Result<(), AllocError>
-    requires between { IsBetween writer.old }
-    requires named { IsWellFormedEntry schema.now entry }
+    requires { IsBetween writer.old }
     ensures between { OnOk result (IsBetween writer.new) }
     ensures written { OnOk result (text_of writer.new ≡ text_of writer.old ++ row_text default_writer (entry_fields schema.now entry)) }
-    ensures read_back { OnOk result (IsReadBack schema.now entry) }
+    ensures read_back { OnOk result (IsReadBackWhereNamed schema.now entry) }
 {
     let need = entry.need;
     let mut digits = Buffer::new();
@@ -187,11 +186,10 @@ fn add_entries(
     schema: &Schema,
     entries: &[Entry],
 ) -> Result<(), AllocError>
-    requires between { IsBetween writer.old }
-    requires named { All (IsWellFormedEntry schema.now) entries.now }
+    requires { IsBetween writer.old }
     ensures between { OnOk result (IsBetween writer.new) }
     ensures written { OnOk result (text_of writer.new ≡ text_of writer.old ++ records_text (map (entry_fields schema.now) entries.now)) }
-    ensures read_back { OnOk result (All (IsReadBack schema.now) entries.now) }
+    ensures read_back { OnOk result (All (IsReadBackWhereNamed schema.now) entries.now) }
 {
     for entry in entries {
         add_entry(alloc, writer, schema, *entry)?;
@@ -200,17 +198,17 @@ fn add_entries(
 }
 
 /// The text of a certificate, a CSV record of six fields on each line, ended by `\n`: the root
-/// where it isn't LIVE, the members in order, and the entries in order. Read as a certificate it
-/// gives the same one. The names are good, the schema names each cell, and parts are 1 to 31, and
-/// 1 where there is no second subject. It fails for want of memory alone.
+/// where it isn't LIVE, the members in order, and the entries in order. A table that the schema
+/// hasn't has no bytes for a name. Read as a certificate it gives the same one where the names are
+/// good, the schema names each cell, and parts are 1 to 31, and 1 where there is no second subject.
+/// It fails for want of memory alone.
 pub fn write_certificate(
     alloc: Global,
     schema: &Schema,
     certificate: &Certificate,
 ) -> Result<Vec<u8>, AllocError>
-    requires { IsWellFormed schema.now certificate.now }
     ensures written { IfOk result (λ text. text.items ≡ certificate_text schema.now certificate.now) }
-    ensures read_back { IfOk result (λ text. certificate_in schema.now text.items ≡ Ok certificate.now) }
+    ensures read_back { IfOk result (λ text. IsWellFormed schema.now certificate.now → certificate_in schema.now text.items ≡ Ok certificate.now) }
 {
     let mut writer = WriterBuilder::new().from_writer(Vec::new(alloc));
     add_root(&mut writer, certificate.root.as_str())?;

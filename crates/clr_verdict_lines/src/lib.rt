@@ -4,4 +4,4 @@
 mod needs;
 mod verdict_lines;
 
-pub use verdict_lines::verdict_line;
+pub use verdict_lines::{member_name, verdict_line};

@@ -1,6 +1,6 @@
 ghost use Rattle.std.specs.Prelude.{◌≡◌, ◌++◌, codes, map, IfOk};
 ghost use Rattle.clr_lines.specs.Pieces.{cell_text};
-ghost use Rattle.clr_verdict_lines.specs.Verdicts.{conflict_text, member_name, name_text, shared_text, uncovered_text, verdict_text};
+ghost use Rattle.clr_verdict_lines.specs.Verdicts.{conflict_text, member_name as name_of_member, name_text, shared_text, uncovered_text, verdict_text};
 
 use crate::needs::add_need;
 use clr_clearance::Verdict;
@@ -10,8 +10,8 @@ use clr_rows::{CellId, Schema};
 use std::alloc::{AllocError, Global};
 
 /// The name of the member at a position, or no bytes past the end.
-fn member<'a>(members: &'a [&'a str], at: usize) -> &'a str
-    ensures { result.now ≡ member_name (map (λ name. name.now) members.entry.now) at }
+pub fn member_name<'a>(members: &'a [&'a str], at: usize) -> &'a str
+    ensures { result.now ≡ name_of_member (map (λ name. name.now) members.entry.now) at }
 {
     match members.get(at) {
         Some(name) => name,
@@ -94,14 +94,18 @@ pub fn verdict_line(
     match *verdict {
         Verdict::Clear => Vec::from_slice(alloc, b"clear\n"),
         Verdict::OutOfMemory => Vec::from_slice(alloc, b"0 OutOfMemory\n"),
-        Verdict::RepeatedMember(at) => name_line(alloc, "1 RepeatedMember ", member(members, at)),
-        Verdict::NoWorkspace(at) => name_line(alloc, "2 NoWorkspace ", member(members, at)),
-        Verdict::NotUnderRoot(at) => name_line(alloc, "3 NotUnderRoot ", member(members, at)),
+        Verdict::RepeatedMember(at) => name_line(
+            alloc,
+            "1 RepeatedMember ",
+            member_name(members, at),
+        ),
+        Verdict::NoWorkspace(at) => name_line(alloc, "2 NoWorkspace ", member_name(members, at)),
+        Verdict::NotUnderRoot(at) => name_line(alloc, "3 NotUnderRoot ", member_name(members, at)),
         Verdict::Conflict {
             member: at,
             cell,
             count,
-        } => conflict_line(alloc, schema, member(members, at), cell, count),
+        } => conflict_line(alloc, schema, member_name(members, at), cell, count),
         Verdict::SharedCell {
             cell,
             first,
@@ -110,8 +114,8 @@ pub fn verdict_line(
             alloc,
             schema,
             cell,
-            member(members, first),
-            member(members, second),
+            member_name(members, first),
+            member_name(members, second),
         ),
         Verdict::Uncovered(need) => uncovered_line(alloc, schema, &need),
         Verdict::NotKept => name_line(alloc, "7 NotKept ", root),

@@ -1,6 +1,6 @@
 use Rattle.std.proofs.Common.{◌∙◌, sym}
 use Rattle.std.specs.List.{All}
-use Rattle.clr_cert.specs.Texts.{IsReadBack}
+use Rattle.clr_cert.specs.Texts.{IsReadBack, IsReadBackWhereNamed}
 use Rattle.clr_cert.proofs.CertificateAgain.{read_again}
 use Rattle.clr_cert.proofs.TextLemmas.{text_whole}
 use Rattle.clr_cert.proofs.writing.write_certificate.Goals as goal
@@ -15,5 +15,7 @@ returns-in-Ok-clause-written c =
 
 pub returns-in-Ok-clause-read_back : goal.returns-in-Ok-clause-read_back
 returns-in-Ok-clause-read_back c =
-    let all : All (IsReadBack c.args.schema.now) c.args.certificate.now.entries = rw c.as_slice-2.ensures at c.in_ok-add_entries.ensures.read_back in
-    rw (returns-in-Ok-clause-written c) (read_again c.args.schema.now c.args.certificate.now c.requires.root c.requires.members all)
+    let each : All (IsReadBackWhereNamed c.args.schema.now) c.args.certificate.now.entries = rw c.as_slice-2.ensures at c.in_ok-add_entries.ensures.read_back in
+    λ named.
+    let all : All (IsReadBack c.args.schema.now) c.args.certificate.now.entries = λ k d lt. each k d lt (named.entries k d lt) in
+    rw (returns-in-Ok-clause-written c) (read_again c.args.schema.now c.args.certificate.now named.root named.members all)
