@@ -1,20 +1,25 @@
 -- What steps print one after another.
-use Rattle.std.proofs.Common.{◌≡◌, ℕ, suc, ◌+◌, ◌<◌, ◌≤◌, Bool, true, false, ◌||◌, List, ◌∷◌, [], ◌++◌, length, get_or, drop, refl, sym, ap, subst, ◌∙◌, append_assoc, add-one}
+use Rattle.std.proofs.Common.{◌≡◌, ℕ, suc, ◌+◌, ◌<◌, ◌≤◌, Bool, true, false, ◌||◌, List, ◌∷◌, [], ◌++◌, length, get_or, drop, Result, Ok, Err, refl, sym, ap, subst, ◌∙◌, append_assoc, add-one}
 use Rattle.std.proofs.Math.Seq.{drop-cons}
 use Rattle.std.proofs.lemmas.List.{append-nil, drop_all}
 use Rattle.clr_steps.specs.Offices.{Office}
+use Rattle.clr_scripts.specs.declared.faults.RecordFault.{RecordFault}
 use Rattle.clr_scripts.specs.declared.steps.Step.{Step}
+use Rattle.clr_office.specs.declared.faults.RunFault.{RunFault}
+use Rattle.clr_office.specs.declared.faults.RunFault.TheVariants as run_fault
+use Rattle.clr_office.specs.declared.outputs.Output.{Output}
 use Rattle.clr_office.specs.Outcomes.{Outcome, outcome, followed_by, IsOutcome, IsScriptOutcome}
+use Rattle.clr_office.specs.Printing.{ArePrinted, IsMade, IsScriptFault, IsTextFault}
 
 -- whatever the rest prints makes with this the whole
 abbrev pub Leads : Office → List Step → Outcome → List Step → Type 0
 Leads start steps all rest = (later : Outcome) → IsScriptOutcome all.office rest later → IsScriptOutcome start steps (followed_by all later)
 
-or_assoc : (a b c : Bool) → (a || (b || c)) ≡ ((a || b) || c)
+pub or_assoc : (a b c : Bool) → (a || (b || c)) ≡ ((a || b) || c)
 or_assoc true b c = refl
 or_assoc false b c = refl
 
-or_false : (a : Bool) → (a || false) ≡ a
+pub or_false : (a : Bool) → (a || false) ≡ a
 or_false true = refl
 or_false false = refl
 
@@ -43,3 +48,21 @@ pub ends : (start o : Office) (steps : List Step) (i : ℕ) (lines : List ℕ) (
 ends start o steps i lines refused le so_far =
     let none : followed_by (outcome lines refused o) (outcome [] false o) ≡ outcome lines refused o = rw (append-nil lines, or_false refused) refl in
     subst (IsScriptOutcome start steps) none (so_far (outcome [] false o) (subst (λ xs. IsScriptOutcome o xs (outcome [] false o)) (sym (drop_all i steps le)) refl))
+
+-- texts --------------------------------------------------------------------------------------
+
+-- a text that is no script
+pub script_refused : (o : Office) (read : Result (List Step) (ℕ × RecordFault)) (e : RunFault) → IsScriptFault read e → IsTextFault (ArePrinted o read) e
+script_refused o read (run_fault.BadScript number f) h = subst (λ m. ArePrinted o m (Err (run_fault.BadScript number f))) (sym h) refl
+script_refused o read run_fault.OutOfMemory h = tt
+script_refused o read run_fault.ReadFailed h = h
+script_refused o read run_fault.WriteFailed h = h
+script_refused o read run_fault.TooLong h = h
+script_refused o read run_fault.NoSeparator h = h
+script_refused o read (run_fault.BadOffice f) h = absurd h
+script_refused o read (run_fault.BadCertificate number f) h = absurd h
+
+-- the output of the script of a text
+pub script_made : (o after : Office) (read : Result (List Step) (ℕ × RecordFault)) (steps : List Step) (output : Output) → read ≡ Ok steps
+    → (output.lost ≡ false → IsScriptOutcome o steps (outcome output.lines.items output.refused after)) → IsMade (ArePrinted o read) (Ok output)
+script_made o after read steps output is h found = subst (λ m. ArePrinted o m _) (sym is) (outcome output.lines.items output.refused after, h found, refl)
