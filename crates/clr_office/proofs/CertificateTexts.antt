@@ -1,14 +1,17 @@
 -- What is made of a certificate's text, by the verdict on it and by what it clears.
-use Rattle.std.proofs.Common.{◌≡◌, ℕ, Bool, true, false, not, ◌||◌, List, Option, Result, Ok, Err, is_some, refl, sym, ap, ap₂, subst, ◌∙◌}
+use Rattle.std.proofs.Common.{◌≡◌, ℕ, Bool, true, false, not, List, Option, Result, Ok, Err, length, take, refl, sym, ap, ap₂, subst, ◌∙◌}
 use Rattle.std.specs.List.{list_any}
 use Rattle.clr_layers.specs.Marks.{Name}
 use Rattle.clr_foot.specs.Covers.{Entry}
+use Rattle.clr_steps.specs.declared.commands.Command.{Command}
 use Rattle.clr_steps.specs.declared.commands.Reply.{Reply}
 use Rattle.clr_steps.specs.Offices.{Office}
 use Rattle.clr_steps.specs.Quiet.{Site}
 use Rattle.clr_steps.specs.Steps.{is_lost}
 use Rattle.clr_clearance.specs.declared.verdicts.Verdict.{Verdict}
 use Rattle.clr_clearance.specs.declared.verdicts.Verdict.TheVariants as verdict
+use Rattle.clr_clearance.specs.ClearedRuns.{IsClearedRun, IsQuietStart}
+use Rattle.clr_clearance.specs.Plans.{merges}
 use Rattle.clr_clearance.specs.Verdicts.{IsVerdict}
 use Rattle.clr_cert.specs.declared.certificates.Certificate.{Certificate}
 use Rattle.clr_cert.specs.declared.faults.CertFault.{CertFault}
@@ -22,7 +25,7 @@ use Rattle.clr_office.specs.declared.outputs.Output.{Output}
 use Rattle.clr_office.specs.Clearances.{AreMerged, IsCertificateFault, IsMergeOutcome, IsPrintOfCertificate, IsVerdictOn, IsVerdictOutcome}
 use Rattle.clr_office.specs.Clearances.{is_clear, is_without_memory, merge_outcome, of_merges, of_verdict as of_verdict_alone, verdict_outcome}
 use Rattle.clr_office.specs.Outcomes.{Outcome, outcome}
-use Rattle.clr_office.specs.Printing.{IsMade, IsTextFault}
+use Rattle.clr_office.specs.Printing.{IsMade, IsTextFault, printed}
 
 -- a text that is no certificate
 pub certificate_refused : (IsRight : Certificate → Outcome → Type 0) (read : Result Certificate (ℕ × CertFault)) (e : RunFault)
@@ -40,7 +43,7 @@ certificate_refused IsRight read (run_fault.BadScript number f) h = absurd h
 pub certificate_made : (IsRight : Certificate → Outcome → Type 0) (read : Result Certificate (ℕ × CertFault)) (c : Certificate) (o : Office) (output : Output)
     → read ≡ Ok c → (output.lost ≡ false → IsRight c (outcome output.lines.items output.refused o)) → IsMade (IsPrintOfCertificate IsRight read) (Ok output)
 certificate_made IsRight read c o output is h found =
-    subst (λ m. IsPrintOfCertificate IsRight m _) (sym is) (outcome output.lines.items output.refused o, h found, refl)
+    subst (λ m. IsPrintOfCertificate IsRight m (printed output.lines.items output.refused)) (sym is) (outcome output.lines.items output.refused o, h found, refl)
 
 -- where memory was found, the answer is the verdict
 found_verdict : (o : Office) (s : Site) (entries : List Entry) (v : Verdict) → IsAnswer o s entries v → is_without_memory v ≡ false → IsVerdict o s entries v
@@ -70,3 +73,18 @@ module _ (o : Office) (c : Certificate) (v : Verdict) (output : Output)
   pub not_merged : (names : List Name) → IsRefusal o (site_of c) (entries_in c.entries) v → output.lost ≡ false → IsMergeOutcome o c names (outcome output.lines.items output.refused o)
   not_merged names refusal found =
       of_verdict_alone v (found_verdict o (site_of c) (entries_in c.entries) v refusal.answer (sym lost ∙ found)) (clear_is v refusal.not_clear) is_outcome
+
+module _ (o left : Office) (c : Certificate) (names : List Name) (commands : List Command) (replies : List Reply) (stopped : Option ℕ) (output : Output) where
+  -- merges are performed
+  pub merged : commands ≡ merges names → IsVerdictOn o c verdict.Clear → IsQuietStart o (site_of c) commands replies left stopped
+      → IsClearedRun o (site_of c) (take (length replies) commands) replies left
+      → outcome output.lines.items output.refused left ≡ merge_outcome replies stopped left → output.lost ≡ list_any is_lost replies → output.lost ≡ false
+      → IsMergeOutcome o c names (outcome output.lines.items output.refused left)
+  merged are clear start ran printed lost found =
+      let all : AreMerged o c names replies stopped left = record {
+        clear = clear;
+        start = subst (λ cs. IsQuietStart o (site_of c) cs replies left stopped) are start;
+        run = subst (λ cs. IsClearedRun o (site_of c) (take (length replies) cs) replies left) are ran;
+        found = sym lost ∙ found;
+      } in
+      of_merges replies stopped left all printed

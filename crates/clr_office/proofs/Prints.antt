@@ -1,5 +1,5 @@
 -- What is made for an office text, by what is made of its office.
-use Rattle.std.proofs.Common.{◌≡◌, ℕ, Bool, true, List, Option, Some, None, Result, Ok, Err, refl, sym, subst, ap₂}
+use Rattle.std.proofs.Common.{◌≡◌, ◌≢◌, ℕ, Bool, true, false, List, Option, Some, None, Result, Ok, Err, refl, sym, subst, ap₂}
 use Rattle.clr_rules.specs.declared.needs.Broken.{Broken}
 use Rattle.clr_steps.specs.Offices.{Office}
 use Rattle.clr_engine.specs.Drafts.{unheld_in}
@@ -8,12 +8,18 @@ use Rattle.clr_office_text.specs.declared.faults.TextFault.{TextFault}
 use Rattle.clr_office.specs.declared.faults.RunFault.{RunFault}
 use Rattle.clr_office.specs.declared.faults.RunFault.TheVariants as run_fault
 use Rattle.clr_office.specs.declared.outputs.Output.{Output}
-use Rattle.clr_office.specs.Printing.{Printed, printed, name_below_live}
+use Rattle.clr_office.specs.Printing.{Printed, printed, name_below_live, status_of}
 use Rattle.clr_office.specs.Printing.{IsMade, IsNoPrint, IsOfficeFault, IsPrintIn, IsPrintWhereHeld, IsTextFault}
 
 -- no memory was found
 pub lost_made : (P : Printed → Type 0) (answer : Result Output RunFault) → answer ≡ Err run_fault.OutOfMemory → IsMade P answer
 lost_made P answer is = subst (IsMade P) (sym is) tt
+
+-- what is printed with a status other than 3 is what was made
+pub found_print : (P : Printed → Type 0) (lines : List ℕ) (refused lost : Bool) (status : ℕ) → (lost ≡ true → status ≡ 3) → (lost ≡ false → status ≡ status_of refused)
+    → (lost ≡ false → P (printed lines refused)) → status ≢ 3 → P (Ok (lines, status))
+found_print P lines refused true status wins all made other = absurd (other (wins refl))
+found_print P lines refused false status wins all made other = subst (λ s. P (Ok (lines, s))) (sym (all refl)) (made refl)
 
 module _ (P Q : Printed → Type 0) (leads : (print : Printed) → P print → Q print) where
   weaker_fault : (e : RunFault) → IsTextFault P e → IsTextFault Q e

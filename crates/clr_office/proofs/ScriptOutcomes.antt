@@ -9,7 +9,7 @@ use Rattle.clr_office.specs.declared.faults.RunFault.{RunFault}
 use Rattle.clr_office.specs.declared.faults.RunFault.TheVariants as run_fault
 use Rattle.clr_office.specs.declared.outputs.Output.{Output}
 use Rattle.clr_office.specs.Outcomes.{Outcome, outcome, followed_by, IsOutcome, IsScriptOutcome}
-use Rattle.clr_office.specs.Printing.{ArePrinted, IsMade, IsScriptFault, IsTextFault}
+use Rattle.clr_office.specs.Printing.{ArePrinted, IsMade, IsScriptFault, IsTextFault, printed}
 
 -- whatever the rest prints makes with this the whole
 abbrev pub Leads : Office → List Step → Outcome → List Step → Type 0
@@ -65,4 +65,4 @@ script_refused o read (run_fault.BadCertificate number f) h = absurd h
 -- the output of the script of a text
 pub script_made : (o after : Office) (read : Result (List Step) (ℕ × RecordFault)) (steps : List Step) (output : Output) → read ≡ Ok steps
     → (output.lost ≡ false → IsScriptOutcome o steps (outcome output.lines.items output.refused after)) → IsMade (ArePrinted o read) (Ok output)
-script_made o after read steps output is h found = subst (λ m. ArePrinted o m _) (sym is) (outcome output.lines.items output.refused after, h found, refl)
+script_made o after read steps output is h found = subst (λ m. ArePrinted o m (printed output.lines.items output.refused)) (sym is) (outcome output.lines.items output.refused after, h found, refl)

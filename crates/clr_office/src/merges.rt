@@ -44,7 +44,8 @@ fn replies_output(
 {
     let mut all = Output::of_lines(Vec::new(alloc));
     for reply in replies {
-        all.append(&reply_output(alloc, schema, reply)?)?;
+        let output = reply_output(alloc, schema, reply)?;
+        all.append(&output)?;
     }
     Ok(all)
 }
