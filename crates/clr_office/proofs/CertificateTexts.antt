@@ -1,5 +1,5 @@
 -- What is made of a certificate's text, by the verdict on it and by what it clears.
-use Rattle.std.proofs.Common.{◌≡◌, ℕ, Bool, true, false, not, List, Option, Result, Ok, Err, length, take, refl, sym, ap, ap₂, subst, ◌∙◌}
+use Rattle.std.proofs.Common.{◌≡◌, ℕ, Bool, true, false, not, List, Option, Result, Ok, length, take, refl, sym, ap, ap₂, subst, ◌∙◌}
 use Rattle.std.specs.List.{list_any}
 use Rattle.clr_layers.specs.Marks.{Name}
 use Rattle.clr_foot.specs.Covers.{Entry}
@@ -19,25 +19,11 @@ use Rattle.clr_cert.specs.Certificates.{certificate_in}
 use Rattle.clr_check.specs.Answers.{IsAnswer, IsRefusal, of_memory, of_verdict}
 use Rattle.clr_check.specs.Certificates.{entries_in, site_of}
 use Rattle.clr_verdict_lines.specs.Verdicts.{verdict_text}
-use Rattle.clr_office.specs.declared.faults.RunFault.{RunFault}
-use Rattle.clr_office.specs.declared.faults.RunFault.TheVariants as run_fault
 use Rattle.clr_office.specs.declared.outputs.Output.{Output}
-use Rattle.clr_office.specs.Clearances.{AreMerged, IsCertificateFault, IsMergeOutcome, IsPrintOfCertificate, IsVerdictOn, IsVerdictOutcome}
+use Rattle.clr_office.specs.Clearances.{AreMerged, IsMergeOutcome, IsPrintOfCertificate, IsVerdictOn, IsVerdictOutcome}
 use Rattle.clr_office.specs.Clearances.{is_clear, is_without_memory, merge_outcome, of_merges, of_verdict as of_verdict_alone, verdict_outcome}
 use Rattle.clr_office.specs.Outcomes.{Outcome, outcome}
-use Rattle.clr_office.specs.Printing.{IsMade, IsTextFault, printed}
-
--- a text that is no certificate
-pub certificate_refused : (IsRight : Certificate → Outcome → Type 0) (read : Result Certificate (ℕ × CertFault)) (e : RunFault)
-    → IsCertificateFault read e → IsTextFault (IsPrintOfCertificate IsRight read) e
-certificate_refused IsRight read (run_fault.BadCertificate number f) h = subst (λ m. IsPrintOfCertificate IsRight m (Err (run_fault.BadCertificate number f))) (sym h) refl
-certificate_refused IsRight read run_fault.OutOfMemory h = tt
-certificate_refused IsRight read run_fault.ReadFailed h = h
-certificate_refused IsRight read run_fault.WriteFailed h = h
-certificate_refused IsRight read run_fault.TooLong h = h
-certificate_refused IsRight read run_fault.NoSeparator h = h
-certificate_refused IsRight read (run_fault.BadOffice f) h = absurd h
-certificate_refused IsRight read (run_fault.BadScript number f) h = absurd h
+use Rattle.clr_office.specs.Printing.{IsMade, printed}
 
 -- an output of the certificate of a text
 pub certificate_made : (IsRight : Certificate → Outcome → Type 0) (read : Result Certificate (ℕ × CertFault)) (c : Certificate) (o : Office) (output : Output)

@@ -1,15 +1,13 @@
 -- What steps print one after another.
-use Rattle.std.proofs.Common.{◌≡◌, ℕ, suc, ◌+◌, ◌<◌, ◌≤◌, Bool, true, false, ◌||◌, List, ◌∷◌, [], ◌++◌, length, get_or, drop, Result, Ok, Err, refl, sym, ap, subst, ◌∙◌, append_assoc, add-one}
+use Rattle.std.proofs.Common.{◌≡◌, ℕ, suc, ◌+◌, ◌<◌, ◌≤◌, Bool, true, false, ◌||◌, List, ◌∷◌, [], ◌++◌, length, get_or, drop, Result, Ok, refl, sym, ap, subst, ◌∙◌, append_assoc, add-one}
 use Rattle.std.proofs.Math.Seq.{drop-cons}
 use Rattle.std.proofs.lemmas.List.{append-nil, drop_all}
 use Rattle.clr_steps.specs.Offices.{Office}
 use Rattle.clr_scripts.specs.declared.faults.RecordFault.{RecordFault}
 use Rattle.clr_scripts.specs.declared.steps.Step.{Step}
-use Rattle.clr_office.specs.declared.faults.RunFault.{RunFault}
-use Rattle.clr_office.specs.declared.faults.RunFault.TheVariants as run_fault
 use Rattle.clr_office.specs.declared.outputs.Output.{Output}
 use Rattle.clr_office.specs.Outcomes.{Outcome, outcome, followed_by, IsOutcome, IsScriptOutcome}
-use Rattle.clr_office.specs.Printing.{ArePrinted, IsMade, IsScriptFault, IsTextFault, printed}
+use Rattle.clr_office.specs.Printing.{ArePrinted, IsMade, printed}
 
 -- whatever the rest prints makes with this the whole
 abbrev pub Leads : Office → List Step → Outcome → List Step → Type 0
@@ -50,17 +48,6 @@ ends start o steps i lines refused le so_far =
     subst (IsScriptOutcome start steps) none (so_far (outcome [] false o) (subst (λ xs. IsScriptOutcome o xs (outcome [] false o)) (sym (drop_all i steps le)) refl))
 
 -- texts --------------------------------------------------------------------------------------
-
--- a text that is no script
-pub script_refused : (o : Office) (read : Result (List Step) (ℕ × RecordFault)) (e : RunFault) → IsScriptFault read e → IsTextFault (ArePrinted o read) e
-script_refused o read (run_fault.BadScript number f) h = subst (λ m. ArePrinted o m (Err (run_fault.BadScript number f))) (sym h) refl
-script_refused o read run_fault.OutOfMemory h = tt
-script_refused o read run_fault.ReadFailed h = h
-script_refused o read run_fault.WriteFailed h = h
-script_refused o read run_fault.TooLong h = h
-script_refused o read run_fault.NoSeparator h = h
-script_refused o read (run_fault.BadOffice f) h = absurd h
-script_refused o read (run_fault.BadCertificate number f) h = absurd h
 
 -- the output of the script of a text
 pub script_made : (o after : Office) (read : Result (List Step) (ℕ × RecordFault)) (steps : List Step) (output : Output) → read ≡ Ok steps

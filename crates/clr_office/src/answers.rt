@@ -98,12 +98,7 @@ fn answer_merge(
 }
 
 /// What is printed for an ask of two texts.
-fn answer_texts(
-    alloc: Global,
-    ask: &Ask,
-    office: &[u8],
-    second: &[u8],
-) -> Result<Output, RunFault>
+fn answer_texts(alloc: Global, ask: &Ask, office: &[u8], second: &[u8]) -> Result<Output, RunFault>
     ensures { IsMade (IsAnswerWithin ask.now office.now second.now) result }
 {
     match ask {

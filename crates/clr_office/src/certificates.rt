@@ -76,10 +76,5 @@ pub fn check_text(alloc: Global, office: &Office, text: &[u8]) -> Result<Output,
         Err(fault) => return Err(fault),
     };
     let verdict = check(alloc, office, &certificate);
-    Ok(verdict_output(
-        alloc,
-        office.schema(),
-        &certificate,
-        &verdict,
-    )?)
+    Ok(verdict_output(alloc, office.schema(), &certificate, &verdict)?)
 }

@@ -33,11 +33,7 @@ fn merges(alloc: Global, names: &[Words]) -> Result<Vec<Command>, AllocError>
 }
 
 /// The lines of replies.
-fn replies_output(
-    alloc: Global,
-    schema: &Schema,
-    replies: &[Reply],
-) -> Result<Output, AllocError>
+fn replies_output(alloc: Global, schema: &Schema, replies: &[Reply]) -> Result<Output, AllocError>
     ensures lines { IfOk result (λ o. o.lines.items ≡ flat_map (reply_text schema.now) replies.now) }
     ensures refused { IfOk result (λ o. o.refused ≡ list_any is_refused replies.now) }
     ensures lost { IfOk result (λ o. o.lost ≡ list_any is_lost replies.now) }
@@ -98,11 +94,6 @@ pub fn merge_by_text(
     let commands = merges(alloc, names)?;
     match perform_cleared(alloc, office, &certificate, commands.as_slice()) {
         Ok(run) => Ok(run_output(alloc, office, &run)?),
-        Err(verdict) => Ok(verdict_output(
-            alloc,
-            office.schema(),
-            &certificate,
-            &verdict,
-        )?),
+        Err(verdict) => Ok(verdict_output(alloc, office.schema(), &certificate, &verdict)?),
     }
 }

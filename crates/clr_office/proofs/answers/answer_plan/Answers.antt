@@ -10,5 +10,5 @@ pub returns-in_ok-plan_members-in-Ok : goal.returns-in_ok-plan_members-in-Ok
 returns-in_ok-plan_members-in-Ok c =
     let o = c.in-Ok.office in
     let output = c.in_ok-plan_members-in-Ok.field-0 in
-    held_made (IsPlanPrint (site c.args.root.now c.args.names.now)) (draft_in c.args.office.now) o (Ok output) c.in-Ok.ensures.meant c.in-Ok.ensures.held
+    held_made (IsPlanPrint (site c.args.root.now c.args.names.now)) (draft_in c.args.office.now) o c.in-Ok.ensures.meant c.in-Ok.ensures.held (Ok output)
     (λ found. (outcome output.lines.items output.refused o, c.in_ok-plan_members-in-Ok.ensures found, refl))

@@ -1,7 +1,4 @@
-use Rattle.std.proofs.Common.{◌∙◌, ap, rules}
-use Rattle.clr_office.specs.Separator.{around_separator}
-use Rattle.clr_office.specs.Session.{Run}
-use Rattle.clr_office.proofs.Sessions.{session_uncut, session_cut, refused}
+use Rattle.clr_office.proofs.Sessions.{session_uncut}
 use Rattle.clr_office.proofs.run.run_office.Goals as goal
 
 pub returns-in_default-clause-answers : goal.returns-in_default-clause-answers
