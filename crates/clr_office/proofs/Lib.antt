@@ -1,5 +1,7 @@
-pub mod Interpretations
+pub mod CertificateTexts
 pub mod Lines
+pub mod Prints
+pub mod ReplyLines
 pub mod ScriptOutcomes
 pub mod Sessions
 pub mod WorkspaceLines

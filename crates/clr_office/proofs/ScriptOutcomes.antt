@@ -1,20 +1,23 @@
 -- What steps print one after another.
-use Rattle.std.proofs.Common.{◌≡◌, ℕ, suc, ◌+◌, ◌<◌, ◌≤◌, Bool, true, false, ◌||◌, List, ◌∷◌, ◌++◌, length, get_or, drop, refl, sym, ap, ◌∙◌, append_assoc, add-one}
+use Rattle.std.proofs.Common.{◌≡◌, ℕ, suc, ◌+◌, ◌<◌, ◌≤◌, Bool, true, false, ◌||◌, List, ◌∷◌, [], ◌++◌, length, get_or, drop, Result, Ok, refl, sym, ap, subst, ◌∙◌, append_assoc, add-one}
 use Rattle.std.proofs.Math.Seq.{drop-cons}
 use Rattle.std.proofs.lemmas.List.{append-nil, drop_all}
 use Rattle.clr_steps.specs.Offices.{Office}
+use Rattle.clr_scripts.specs.declared.faults.RecordFault.{RecordFault}
 use Rattle.clr_scripts.specs.declared.steps.Step.{Step}
-use Rattle.clr_office.specs.Outcomes.{Outcome, outcome, step_outcome, script_outcome}
+use Rattle.clr_office.specs.declared.outputs.Output.{Output}
+use Rattle.clr_office.specs.Outcomes.{Outcome, outcome, followed_by, IsOutcome, IsScriptOutcome}
+use Rattle.clr_office.specs.Printing.{ArePrinted, IsMade, printed}
 
--- what was printed before, and what the rest prints
-abbrev pub joined : List ℕ → Bool → Outcome → Outcome
-joined lines refused later = outcome (lines ++ later.lines) (refused || later.refused) later.office
+-- whatever the rest prints makes with this the whole
+abbrev pub Leads : Office → List Step → Outcome → List Step → Type 0
+Leads start steps all rest = (later : Outcome) → IsScriptOutcome all.office rest later → IsScriptOutcome start steps (followed_by all later)
 
-or_assoc : (a b c : Bool) → (a || (b || c)) ≡ ((a || b) || c)
+pub or_assoc : (a b c : Bool) → (a || (b || c)) ≡ ((a || b) || c)
 or_assoc true b c = refl
 or_assoc false b c = refl
 
-or_false : (a : Bool) → (a || false) ≡ a
+pub or_false : (a : Bool) → (a || false) ≡ a
 or_false true = refl
 or_false false = refl
 
@@ -22,25 +25,31 @@ pub or_parts : (a b : Bool) → (a || b) ≡ false → (a ≡ false) × (b ≡ f
 or_parts true b e = (e, absurd (cc))
 or_parts false b e = (refl, e)
 
+pub starts : (o : Office) (steps : List Step) → Leads o steps (outcome [] false o) steps
+starts o steps later is = is
+
 -- one more step
-pub goes_on : (before after : Office) (steps : List Step) (i : ℕ) (s : Step) (lines line : List ℕ) (refused also : Bool) (total : Outcome) → i < length steps → s ≡ get_or steps i s
-    → outcome line also after ≡ step_outcome before s → joined lines refused (script_outcome before (drop i steps)) ≡ total
-    → joined (lines ++ line) (refused || also) (script_outcome after (drop (i + 1) steps)) ≡ total
-unfolding script_outcome
-goes_on before after steps i s lines line refused also total lt is now so_far =
-    let first = step_outcome before s in
-    let rest = script_outcome first.office (drop (i + 1) steps) in
-    let next : script_outcome before (drop i steps) ≡ outcome (first.lines ++ rest.lines) (first.refused || rest.refused) rest.office =
-    rw (add-one i) (ap (script_outcome before) (drop-cons steps i s lt ∙ ap (λ x. x ∷ drop (suc i) steps) (sym is))) in
-    let later = script_outcome after (drop (i + 1) steps) in
-    let regrouped : joined (lines ++ line) (refused || also) later ≡ outcome (lines ++ (line ++ later.lines)) (refused || (also || later.refused)) later.office =
+pub goes_on : (start before after : Office) (steps : List Step) (i : ℕ) (s : Step) (lines line : List ℕ) (refused also : Bool) → i < length steps → s ≡ get_or steps i s
+    → IsOutcome before s (outcome line also after) → Leads start steps (outcome lines refused before) (drop i steps)
+    → Leads start steps (outcome (lines ++ line) (refused || also) after) (drop (i + 1) steps)
+goes_on start before after steps i s lines line refused also lt is now so_far later rest =
+    let first = outcome line also after in
+    let next : s ∷ drop (i + 1) steps ≡ drop i steps = rw (add-one i) (sym (drop-cons steps i s lt ∙ ap (λ x. x ∷ drop (suc i) steps) (sym is))) in
+    let both : IsScriptOutcome before (s ∷ drop (i + 1) steps) (followed_by first later) = (first, later, now, rest, refl) in
+    let regrouped : followed_by (outcome lines refused before) (followed_by first later) ≡ followed_by (outcome (lines ++ line) (refused || also) after) later =
     rw (append_assoc, or_assoc refused also later.refused) refl in
-    let then_rest : Outcome → Outcome = λ t. let last = script_outcome t.office (drop (i + 1) steps) in joined lines refused (outcome (t.lines ++ last.lines) (t.refused || last.refused) last.office) in
-    regrouped ∙ ap then_rest now ∙ ap (joined lines refused) (sym next) ∙ so_far
+    subst (IsScriptOutcome start steps) regrouped (so_far (followed_by first later) (subst (λ xs. IsScriptOutcome before xs (followed_by first later)) next both))
 
 -- no step is left
-pub ends : (o : Office) (steps : List Step) (i : ℕ) (lines : List ℕ) (refused : Bool) (total : Outcome) → length steps ≤ i → joined lines refused (script_outcome o (drop i steps)) ≡ total → outcome lines refused o ≡ total
-unfolding script_outcome
-ends o steps i lines refused total le so_far =
-    let none : joined lines refused (script_outcome o (drop i steps)) ≡ outcome lines refused o = rw (drop_all i steps le, append-nil lines, or_false refused) refl in
-    sym none ∙ so_far
+pub ends : (start o : Office) (steps : List Step) (i : ℕ) (lines : List ℕ) (refused : Bool) → length steps ≤ i → Leads start steps (outcome lines refused o) (drop i steps)
+    → IsScriptOutcome start steps (outcome lines refused o)
+ends start o steps i lines refused le so_far =
+    let none : followed_by (outcome lines refused o) (outcome [] false o) ≡ outcome lines refused o = rw (append-nil lines, or_false refused) refl in
+    subst (IsScriptOutcome start steps) none (so_far (outcome [] false o) (subst (λ xs. IsScriptOutcome o xs (outcome [] false o)) (sym (drop_all i steps le)) refl))
+
+-- texts --------------------------------------------------------------------------------------
+
+-- the output of the script of a text
+pub script_made : (o after : Office) (read : Result (List Step) (ℕ × RecordFault)) (steps : List Step) (output : Output) → read ≡ Ok steps
+    → (output.lost ≡ false → IsScriptOutcome o steps (outcome output.lines.items output.refused after)) → IsMade (ArePrinted o read) (Ok output)
+script_made o after read steps output is h found = subst (λ m. ArePrinted o m (printed output.lines.items output.refused)) (sym is) (outcome output.lines.items output.refused after, h found, refl)

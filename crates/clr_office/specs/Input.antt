@@ -22,3 +22,4 @@ IsReadFault before after failed fault.WriteFailed = ⊥
 IsReadFault before after failed fault.NoSeparator = ⊥
 IsReadFault before after failed (fault.BadOffice e) = ⊥
 IsReadFault before after failed (fault.BadScript number e) = ⊥
+IsReadFault before after failed (fault.BadCertificate number e) = ⊥

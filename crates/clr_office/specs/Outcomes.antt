@@ -1,33 +1,31 @@
--- What a script prints over an office, and the exit status.
-use Rattle.std.specs.Prelude.{◌≡◌, ℕ, zero, suc, Bool, false, true, ◌||◌, List, [], ◌∷◌, ◌++◌, Option, Some, None, Result, Ok, Err}
-use Rattle.std.specs.Prelude.{⊤, codes, if◌then◌else◌, length, map, nat_lt, unwrap_or}
+-- What the steps of a script print over an office.
+use Rattle.std.specs.Prelude.{◌≡◌, ℕ, Bool, false, true, not, ◌||◌, List, [], ◌∷◌, ◌++◌}
+use Rattle.std.specs.Prelude.{⊤, codes, drop, if◌then◌else◌, length, map, nat_lt, unwrap_or}
 use Rattle.std.specs.FinMap as finite
 use Rattle.std.specs.List.{flat_map}
-use Rattle.clr_rules.specs.declared.needs.Broken.{Broken}
 use Rattle.clr_rules.specs.Needs.{broken}
 use Rattle.clr_layers.specs.Marks.{Name}
+use Rattle.clr_layers.specs.Workspaces.{live_name}
+use Rattle.clr_steps.specs.declared.commands.Command.{Command}
 use Rattle.clr_steps.specs.declared.commands.Reply.{Reply}
 use Rattle.clr_steps.specs.declared.commands.Reply.TheVariants.{Done, NoWorkspace}
 use Rattle.clr_steps.specs.Names.{is_live}
 use Rattle.clr_steps.specs.Offices.{Office, content_of, is_kept, stands}
-use Rattle.clr_steps.specs.Readings.{changes_in, conflicts_in, name_at, parent_in}
+use Rattle.clr_steps.specs.Quiet.{Site}
+use Rattle.clr_steps.specs.Readings.{changes_in, conflicts_in, parent_in}
 use Rattle.clr_steps.specs.Steps.{step}
-use Rattle.clr_engine.specs.Drafts.{unheld_in}
-use Rattle.clr_scripts.specs.declared.faults.RecordFault.{RecordFault}
+use Rattle.clr_check.specs.SiteNames.{site}
+use Rattle.clr_plan.specs.declared.plans.Plan.{Plan}
+use Rattle.clr_plan.specs.Plans.{IsPlan}
+use Rattle.clr_plan.specs.Promises.{is_cleared, is_out_of_memory}
 use Rattle.clr_scripts.specs.declared.steps.Step.{Step}
 use Rattle.clr_scripts.specs.declared.steps.Step.TheVariants.{Act, Report}
 use Rattle.clr_scripts.specs.declared.steps.Word.TheVariants as word
-use Rattle.clr_scripts.specs.Scripts.{script_in_text}
 use Rattle.clr_lines.specs.Replies.{reply_text}
-use Rattle.clr_lines.specs.Reports.{audit_text, changes_text, conflicts_text, count_line, unheld_text, workspace_text}
+use Rattle.clr_lines.specs.Reports.{audit_text, changes_text, conflicts_text, count_line, workspace_text}
 use Rattle.clr_lines.specs.Rows.{rows_text}
-use Rattle.clr_office_text.specs.declared.faults.TextFault.{TextFault}
-use Rattle.clr_drafts.specs.Drafts.{draft_in}
+use Rattle.clr_plan_lines.specs.Plans.{plan_text}
 use Rattle.clr_office_writer.specs.Writing.{written}
-use Rattle.clr_office.specs.declared.faults.RunFault.{RunFault}
-use Rattle.clr_office.specs.declared.faults.RunFault.TheVariants as run_fault
-
--- steps --------------------------------------------------------------------------------------
 
 -- the lines that a step or a script prints, whether something was refused, and the office that it leaves
 pub record Outcome : Type 0 where
@@ -41,6 +39,10 @@ outcome lines refused office = record { lines = lines; refused = refused; office
 abbrev pub is_refused : Reply → Bool
 is_refused Done = false
 is_refused _ = true
+
+-- a command: the line of its reply
+abbrev pub command_outcome : Office → Command → Outcome
+command_outcome o command = let a = step o command in outcome (reply_text a.office.schema a.reply) (is_refused a.reply) a.office
 
 abbrev pub first_name : List Name → Name
 first_name [] = []
@@ -83,82 +85,47 @@ abbrev pub workspaces_outcome : Office → Outcome
 workspaces_outcome o = outcome (workspaces_text o) false o
 
 -- the text of the whole office, a line
+abbrev pub dump_text : Office → List ℕ
+dump_text o = written o ++ codes "\n"
+
 abbrev pub dump_outcome : Office → Outcome
-dump_outcome o = outcome (written o ++ codes "\n") false o
+dump_outcome o = outcome (dump_text o) false o
 
 -- what is unfolded to compare what is shown by name
 unfoldable pub by_name : ⊤
 unfolding show_outcome stands content_of is_live
 by_name = tt
 
-unfoldable pub step_outcome : Office → Step → Outcome
-step_outcome o (Act command) = let a = step o command in outcome (reply_text a.office.schema a.reply) (is_refused a.reply) a.office
-step_outcome o (Report word.Show names) = show_outcome o (first_name names)
-step_outcome o (Report word.Changes names) = changes_outcome o (first_name names)
-step_outcome o (Report word.Conflicts names) = conflicts_outcome o (first_name names)
-step_outcome o (Report word.Audit names) = audit_outcome o (first_name names)
-step_outcome o (Report word.Workspaces names) = workspaces_outcome o
-step_outcome o (Report word.Dump names) = dump_outcome o
+-- the plan of members of a root, for which memory was found
+pub record IsPlanned (o : Office) (s : Site) (p : Plan) : Type 0 where
+  pub plan : IsPlan o s p
+  pub found : is_out_of_memory p ≡ false
+
+-- its lines; all but a cleared plan counts as a refusal
+abbrev pub plan_outcome : Office → Site → Plan → Outcome
+plan_outcome o s p = outcome (plan_text o.schema s.members s.root p) (not (is_cleared p)) o
+
+abbrev pub IsPlanOutcome : Office → Site → Outcome → Type 0
+IsPlanOutcome o s all = (p : Plan) × IsPlanned o s p × (all ≡ plan_outcome o s p)
+
+-- a step; of a plan under a root, the first name is the root and the others are the members
+abbrev pub IsOutcome : Office → Step → Outcome → Type 0
+IsOutcome o (Act command) all = all ≡ command_outcome o command
+IsOutcome o (Report word.Show names) all = all ≡ show_outcome o (first_name names)
+IsOutcome o (Report word.Changes names) all = all ≡ changes_outcome o (first_name names)
+IsOutcome o (Report word.Conflicts names) all = all ≡ conflicts_outcome o (first_name names)
+IsOutcome o (Report word.Audit names) all = all ≡ audit_outcome o (first_name names)
+IsOutcome o (Report word.Workspaces names) all = all ≡ workspaces_outcome o
+IsOutcome o (Report word.Dump names) all = all ≡ dump_outcome o
+IsOutcome o (Report word.Plan names) all = IsPlanOutcome o (site live_name names) all
+IsOutcome o (Report word.PlanUnder names) all = IsPlanOutcome o (site (first_name names) (drop 1 names)) all
+
+-- what is printed at first and then, in the office that was left
+abbrev pub followed_by : Outcome → Outcome → Outcome
+followed_by first later = outcome (first.lines ++ later.lines) (first.refused || later.refused) later.office
 
 -- steps one after another, each in the office that the one before left
-unfoldable pub script_outcome : Office → List Step → Outcome
-script_outcome o [] = outcome [] false o
-script_outcome o (s ∷ steps) =
-    let first = step_outcome o s in
-    let later = script_outcome first.office steps in
-    outcome (first.lines ++ later.lines) (first.refused || later.refused) later.office
-
--- texts --------------------------------------------------------------------------------------
-
--- the exit status of a script that was performed: 0 where all was done, and 1 where something was refused
-abbrev pub status_of : Bool → ℕ
-status_of refused = if refused then 1 else 0
-
--- the exit status of a run that ended without an answer: 3 for want of memory, else 2
-abbrev pub exit_status : RunFault → ℕ
-exit_status run_fault.OutOfMemory = 3
-exit_status e = 2
-
-abbrev pub with_steps : Office → Result (List Step) (ℕ × RecordFault) → Result (List ℕ × ℕ) RunFault
-with_steps o (Err (number, fault)) = Err (run_fault.BadScript number fault)
-with_steps o (Ok steps) = let all = script_outcome o steps in Ok (all.lines, status_of all.refused)
-
--- the name of a workspace by its position, and none for LIVE
-abbrev pub name_below_live : Office → ℕ → Option Name
-name_below_live o zero = None
-name_below_live o (suc position) = name_at o (suc position)
-
--- where a rule doesn't hold, that is told and the script isn't read
-abbrev pub with_unheld : Office → List ℕ → Option (ℕ × Broken) → Result (List ℕ × ℕ) RunFault
-with_unheld o script (Some (position, need)) = Ok (unheld_text o.schema (name_below_live o position) need, 1)
-with_unheld o script None = with_steps o (script_in_text o.schema script)
-
-abbrev pub with_draft : Result Office TextFault → List ℕ → Result (List ℕ × ℕ) RunFault
-with_draft (Err fault) script = Err (run_fault.BadOffice fault)
-with_draft (Ok o) script = with_unheld o script (unheld_in o)
-
--- the lines and the exit status, or why there are none, for an office text and a script
-unfoldable pub interpretation : List ℕ → List ℕ → Result (List ℕ × ℕ) RunFault
-interpretation office script = with_draft (draft_in office) script
-
--- a fault that these texts have, or want of memory
-abbrev pub IsInterpretationFault : Result (List ℕ × ℕ) RunFault → RunFault → Type 0
-IsInterpretationFault right (run_fault.BadOffice e) = right ≡ Err (run_fault.BadOffice e)
-IsInterpretationFault right (run_fault.BadScript number e) = right ≡ Err (run_fault.BadScript number e)
-IsInterpretationFault right run_fault.OutOfMemory = Unit {0}
-IsInterpretationFault right run_fault.ReadFailed = ⊥
-IsInterpretationFault right run_fault.WriteFailed = ⊥
-IsInterpretationFault right run_fault.TooLong = ⊥
-IsInterpretationFault right run_fault.NoSeparator = ⊥
-
--- why an office text gives no draft, or want of memory
-abbrev pub IsOfficeFault : Result Office TextFault → RunFault → Type 0
-IsOfficeFault meant (run_fault.BadOffice e) = meant ≡ Err e
-IsOfficeFault meant run_fault.OutOfMemory = Unit {0}
-IsOfficeFault meant _ = ⊥
-
--- why a script isn't read, or want of memory
-abbrev pub IsScriptFault : Result (List Step) (ℕ × RecordFault) → RunFault → Type 0
-IsScriptFault meant (run_fault.BadScript number e) = meant ≡ Err (number, e)
-IsScriptFault meant run_fault.OutOfMemory = Unit {0}
-IsScriptFault meant _ = ⊥
+abbrev pub IsScriptOutcome : Office → List Step → Outcome → Type 0
+IsScriptOutcome o [] all = all ≡ outcome [] false o
+IsScriptOutcome o (s ∷ steps) all =
+    (first : Outcome) × (later : Outcome) × IsOutcome o s first × IsScriptOutcome first.office steps later × (all ≡ followed_by first later)

@@ -1,20 +1,22 @@
 -- What a run prints for an input, and what it leaves of its reader and writer.
 use Rattle.std.specs.Prelude.{◌≡◌, ◌≢◌, ℕ, List, Bool, true, false, Option, Some, None, Result, Ok, Err}
 use Rattle.std.specs.Io.KnownBytes.{Appends}
-use Rattle.clr_office.specs.Outcomes.{interpretation}
+use Rattle.clr_command_line.specs.declared.asks.Ask.TheVariants as ask
+use Rattle.clr_office.specs.Answers.{IsAnswerWithin}
 use Rattle.clr_office.specs.Input.{GivesInput, GivesTooMuch}
+use Rattle.clr_office.specs.Printing.{Printed}
 use Rattle.clr_office.specs.Separator.{around_separator}
 use Rattle.clr_office.specs.declared.faults.RunFault.{RunFault}
 use Rattle.clr_office.specs.declared.faults.RunFault.TheVariants as run_fault
 
--- the answer to the office text and the script that stand on both sides of the separator
-abbrev pub session_of : Option (List ℕ × List ℕ) → Result (List ℕ × ℕ) RunFault
-session_of None = Err run_fault.NoSeparator
-session_of (Some parts) = interpretation parts.0 parts.1
+-- what is to be printed for the office text and the script that stand on both sides of the separator
+abbrev pub IsSessionOf : Option (List ℕ × List ℕ) → Printed → Type 0
+IsSessionOf None print = print ≡ Err run_fault.NoSeparator
+IsSessionOf (Some parts) print = IsAnswerWithin ask.Run parts.0 parts.1 print
 
--- the lines and the exit status for an input, or the fault that it has
-unfoldable pub session : List ℕ → Result (List ℕ × ℕ) RunFault
-session input = session_of (around_separator input)
+-- what is to be printed for an input
+abbrev pub IsSession : List ℕ → Printed → Type 0
+IsSession input print = IsSessionOf (around_separator input) print
 
 -- a run as its devices show it: what the reader had to give and what is left of it, what the
 -- writer held and what it holds, each where it is told, and whether they failed
@@ -30,15 +32,15 @@ pub record Run : Type 0 where
 abbrev pub Reads : Run → List ℕ → Type 0
 Reads run input = GivesInput run.input run.left input × (run.read_failed ≡ false)
 
--- the whole input was read, and its lines went out; of the lines nothing is said where one found
--- no memory
+-- the whole input was read, and its lines went out; of the lines nothing is said where
+-- something found no memory
 abbrev pub Prints : Run → ℕ → Type 0
 Prints run status = (input : List ℕ) × Reads run input × (run.write_failed ≡ false)
-    × (status ≢ 3 → (lines : List ℕ) × (session input ≡ Ok (lines, status)) × Appends run.held run.holds lines)
+    × (status ≢ 3 → (lines : List ℕ) × IsSession input (Ok (lines, status)) × Appends run.held run.holds lines)
 
 -- the whole input was read, and it has this fault
 abbrev pub Refuses : Run → RunFault → Type 0
-Refuses run e = (input : List ℕ) × Reads run input × (session input ≡ Err e)
+Refuses run e = (input : List ℕ) × Reads run input × IsSession input (Err e)
 
 -- why a run has no exit status
 abbrev pub IsRunFault : Run → RunFault → Type 0
@@ -48,6 +50,7 @@ IsRunFault run run_fault.TooLong = GivesTooMuch run.input run.left × (run.read_
 IsRunFault run run_fault.NoSeparator = Refuses run run_fault.NoSeparator
 IsRunFault run (run_fault.BadOffice e) = Refuses run (run_fault.BadOffice e)
 IsRunFault run (run_fault.BadScript number e) = Refuses run (run_fault.BadScript number e)
+IsRunFault run (run_fault.BadCertificate number e) = Refuses run (run_fault.BadCertificate number e)
 IsRunFault run run_fault.OutOfMemory = run.read_failed ≡ false
 
 -- a run answered so

@@ -1,33 +1,44 @@
-ghost use Rattle.std.specs.Prelude.{◌≡◌, ◌≢◌, false, Ok, IfOk, IfErr};
-ghost use Rattle.clr_office.specs.Answers.{IsAnswer, IsAnswerFault, answer_to, audit_answer, audit_of};
+ghost use Rattle.std.specs.Prelude.{◌≡◌, ◌≢◌, false, IfOk, IfErr};
+ghost use Rattle.clr_check.specs.SiteNames.{site};
+ghost use Rattle.clr_command_line.specs.declared.asks.Ask.TheVariants as ask;
 ghost use Rattle.clr_drafts.specs.Drafts.{draft_in};
+ghost use Rattle.clr_office.specs.Answers.{IsAnswer, IsAnswerTo, IsAnswerWithin, IsPlanPrint, audit_of, audit_print};
+ghost use Rattle.clr_office.specs.Printing.{IsMade, IsPrintIn, printed};
 ghost use Rattle.clr_office.specs.declared.faults.RunFault.TheVariants as run_fault;
 
+use crate::certificates::check_text;
 use crate::devices::Sink;
 use crate::faults::RunFault;
-use crate::interpret::{draft_of, interpret};
+use crate::merges::merge_by_text;
+use crate::offices::{draft_of, open_office};
+use crate::outputs::Output;
+use crate::plans::plan_members;
 use crate::reading::MOST_INPUT_BYTES;
+use crate::reports::LIVE;
+use crate::run_script::run_text;
 use clr_audit::audit;
 use clr_command_line::Ask;
 use clr_engine::Draft;
 use clr_lines::audit_lines;
+use clr_rows::Words;
 use std::alloc::{AllocError, Global};
 
-/// The lines of an audit of LIVE, where rules may be broken, and the exit status.
-fn audit_draft(alloc: Global, draft: &Draft) -> Result<(Vec<u8>, u8), AllocError>
-    ensures { IfOk result (λ printed. (printed.0.items, printed.1) ≡ audit_answer draft.now) }
+/// The lines of an audit of LIVE, where rules may be broken.
+fn audit_draft(alloc: Global, draft: &Draft) -> Result<Output, AllocError>
+    ensures { IfOk result (λ o. printed o.lines.items o.refused ≡ audit_print draft.now) }
 {
     let needs = audit(alloc, draft.book(), draft.live())?;
-    let lines = audit_lines(alloc, draft.schema(), needs.as_slice())?;
-    let status = if needs.is_empty() { 0 } else { 1 };
-    Ok((lines, status))
+    Ok(Output {
+        lines: audit_lines(alloc, draft.schema(), needs.as_slice())?,
+        refused: needs.len() > 0,
+        lost: false,
+    })
 }
 
 /// The same of an office text.
 #[tactic(auto, unfolding(crate::specs::Answers::audit_of))]
-fn audit_office(alloc: Global, office: &[u8]) -> Result<(Vec<u8>, u8), RunFault>
-    ensures lines { IfOk result (λ printed. audit_of (draft_in office.now) ≡ Ok (printed.0.items, printed.1)) }
-    ensures fault { IfErr result (IsAnswerFault (audit_of (draft_in office.now))) }
+fn answer_audit(alloc: Global, office: &[u8]) -> Result<Output, RunFault>
+    ensures { IsMade (λ print. print ≡ audit_of (draft_in office.now)) result }
 {
     let draft = match draft_of(alloc, office) {
         Ok(draft) => draft,
@@ -36,49 +47,102 @@ fn audit_office(alloc: Global, office: &[u8]) -> Result<(Vec<u8>, u8), RunFault>
     Ok(audit_draft(alloc, &draft)?)
 }
 
-/// The lines that an ask prints of two texts, and the exit status.
-#[tactic(auto, unfolding(crate::specs::Answers::answer_to))]
-fn lines_of(
-    alloc: Global,
-    ask: Ask,
-    office: &[u8],
-    second: &[u8],
-) -> Result<(Vec<u8>, u8), RunFault>
-    ensures lines { IfOk result (λ printed. printed.1 ≢ 3 → answer_to ask office.now second.now ≡ Ok (printed.0.items, printed.1)) }
-    ensures fault { IfErr result (IsAnswerFault (answer_to ask office.now second.now)) }
+/// What the script of a text prints over the office of another.
+pub fn answer_run(alloc: Global, office: &[u8], script: &[u8]) -> Result<Output, RunFault>
+    ensures { IsMade (IsAnswerWithin ask.Run office.now script.now) result }
 {
-    if office.len() > MOST_INPUT_BYTES || second.len() > MOST_INPUT_BYTES {
-        return Err(RunFault::TooLong);
-    }
-    match ask {
-        Ask::Audit => audit_office(alloc, office),
-        Ask::Run => match interpret(alloc, office, second) {
-            Ok(printed) => Ok(printed),
-            Err(fault) => Err(fault),
-        },
+    match open_office(alloc, office) {
+        Ok(mut office) => run_text(alloc, &mut office, script),
+        Err(answer) => answer,
     }
 }
 
-/// Writes what an ask prints of an office text and of a second text, which is the script where
-/// there is one, by one put, and answers the exit status: 0 all done, 1 something refused, or a rule
-/// that doesn't hold, 3 a command found no memory. The first fault that applies answers, and nothing
-/// is written then, unless the writer failed. Fails with `TooLong` where a text has more than
-/// `MOST_INPUT_BYTES`, with `BadOffice` where the first text is no office, with `BadScript` where
-/// the second is no script, and with `WriteFailed` where the writer fails; how much went out is then
-/// not known. Want of memory is `OutOfMemory`, which may come in place of any other answer.
+/// The plan of members over the office of a text.
+fn answer_plan(
+    alloc: Global,
+    office: &[u8],
+    root: &str,
+    names: &[Words],
+) -> Result<Output, RunFault>
+    ensures { IsMade (IsPrintIn (IsPlanPrint (site root.now names.now)) (draft_in office.now)) result }
+{
+    match open_office(alloc, office) {
+        Ok(office) => Ok(plan_members(alloc, &office, root, names)?),
+        Err(answer) => answer,
+    }
+}
+
+/// The verdict on the certificate of a text over the office of another.
+fn answer_check(alloc: Global, office: &[u8], certificate: &[u8]) -> Result<Output, RunFault>
+    ensures { IsMade (IsAnswerWithin ask.Check office.now certificate.now) result }
+{
+    match open_office(alloc, office) {
+        Ok(office) => check_text(alloc, &office, certificate),
+        Err(answer) => answer,
+    }
+}
+
+/// Merges that the certificate of a text clears over the office of another.
+fn answer_merge(
+    alloc: Global,
+    office: &[u8],
+    certificate: &[u8],
+    names: &[Words],
+) -> Result<Output, RunFault>
+    ensures { IsMade (IsAnswerWithin (ask.Merge names.now) office.now certificate.now) result }
+{
+    match open_office(alloc, office) {
+        Ok(mut office) => merge_by_text(alloc, &mut office, certificate, names),
+        Err(answer) => answer,
+    }
+}
+
+/// What is printed for an ask of two texts.
+fn answer_texts(alloc: Global, ask: &Ask, office: &[u8], second: &[u8]) -> Result<Output, RunFault>
+    ensures { IsMade (IsAnswerWithin ask.now office.now second.now) result }
+{
+    match ask {
+        Ask::Audit => answer_audit(alloc, office),
+        Ask::Run => answer_run(alloc, office, second),
+        Ask::Plan(names) => answer_plan(alloc, office, LIVE, names.as_slice()),
+        Ask::PlanUnder(root, names) => {
+            answer_plan(alloc, office, root.as_str(), names.as_slice())
+        }
+        Ask::Check => answer_check(alloc, office, second),
+        Ask::Merge(names) => answer_merge(alloc, office, second, names.as_slice()),
+    }
+}
+
+/// Writes what an ask prints of an office text and of a second text, which is the script or the
+/// certificate where there is one, by one put, and answers the exit status: 0 all done, cleared or
+/// clear; 1 something refused, a plan that is blocked or unfit, a verdict that isn't clear, a merge
+/// that isn't quiet, or a rule that doesn't hold; 3 a command, a plan or a verdict found no memory.
+/// Where a rule doesn't hold, all but an audit print that alone. The first fault that applies answers,
+/// and nothing is written then, unless the writer failed. Fails with `TooLong` where a text has more
+/// than `MOST_INPUT_BYTES`, with `BadOffice` where the first text is no office, with `BadScript` or
+/// `BadCertificate` where the second is no script or no certificate, and with `WriteFailed` where the
+/// writer fails; how much went out is then not known. Want of memory is `OutOfMemory`, which may come
+/// in place of any other answer.
 pub fn answer<W: Sink>(
     alloc: Global,
-    ask: Ask,
+    ask: &Ask,
     office: &[u8],
     second: &[u8],
     writer: &mut W,
 ) -> Result<u8, RunFault>
     requires { W.failed writer.old ≡ false }
-    ensures answers { IsAnswer (answer_to ask office.now second.now) (W.contents writer.old) (W.contents writer.new) (W.failed writer.new) result }
+    ensures answers { IsAnswer (IsAnswerTo ask.now office.now second.now) (W.contents writer.old) (W.contents writer.new) (W.failed writer.new) result }
     ensures keeps { IfErr result (λ e. e ≢ run_fault.WriteFailed → writer.new ≡ writer.old) }
 {
-    let (lines, status) = lines_of(alloc, ask, office, second)?;
-    match writer.put(lines.as_slice()) {
+    if office.len() > MOST_INPUT_BYTES || second.len() > MOST_INPUT_BYTES {
+        return Err(RunFault::TooLong);
+    }
+    let output = match answer_texts(alloc, ask, office, second) {
+        Ok(output) => output,
+        Err(fault) => return Err(fault),
+    };
+    let status = output.status();
+    match writer.put(output.lines.as_slice()) {
         Ok(()) => Ok(status),
         Err(_) => Err(RunFault::WriteFailed),
     }

@@ -1,7 +1,8 @@
 ghost use Rattle.std.specs.Prelude.{◌≡◌};
-ghost use Rattle.clr_office.specs.Outcomes.{exit_status};
+ghost use Rattle.clr_office.specs.Printing.{exit_status};
 ghost use Rattle.clr_office.specs.declared.faults.RunFault.TheVariants as run_fault;
 
+use clr_cert::CertFault;
 use clr_drafts::TextFault;
 use clr_scripts::RecordFault;
 use std::alloc::{AllocError, AllocFailed};
@@ -28,6 +29,9 @@ pub enum RunFault {
     /// The number of the first record of the script that can't be read, from 1, and why.
     #[error("unreadable script {number} {fault:?} at {record}", number = *.1 as u8, fault = .1, record = .0)]
     BadScript(usize, RecordFault),
+    /// The number of the first record of the certificate that can't be read, from 1, and why.
+    #[error("unreadable certificate {number} {fault:?} at {record}", number = *.1 as u8, fault = .1, record = .0)]
+    BadCertificate(usize, CertFault),
     /// No memory was found. It may come in place of any other answer.
     #[error("out of memory")]
     OutOfMemory,

@@ -2,19 +2,24 @@
 #![tactic(auto)]
 
 mod answers;
+mod certificates;
 mod devices;
 mod faults;
-mod interpret;
 mod memory;
+mod merges;
+mod offices;
 mod outputs;
+mod plans;
 mod ports;
 mod reading;
+mod replies;
 mod reports;
 mod run;
 mod run_script;
 mod separator;
 
 pub use answers::answer;
+pub use clr_check_texts::{Checked, check_texts};
 pub use clr_command_line::{Ask, AskFault, ask_of};
 pub use devices::{DeviceFault, Sink, Source};
 pub use faults::RunFault;

@@ -1,7 +1,10 @@
-ghost use Rattle.std.specs.Prelude.{◌≡◌, true, false};
-ghost use Rattle.clr_office.specs.Outcomes.{status_of};
+ghost use Rattle.std.specs.Prelude.{◌≡◌, ◌++◌, ◌||◌, true, false, OnOk};
+ghost use Rattle.clr_office.specs.Printing.{status_of};
 
-/// The lines of some steps, whether something was refused, and whether a command found no memory.
+use std::alloc::AllocError;
+
+/// The lines of what was asked, whether something was refused, and whether a command, a plan or a
+/// verdict found no memory.
 #[derive(Drop)]
 pub struct Output {
     pub lines: Vec<u8>,
@@ -21,7 +24,19 @@ impl Output {
         }
     }
 
-    /// The exit status: 0 where all was done, 1 where something was refused, and 3 where a command
+    /// Adds what was asked next. It fails for want of memory alone.
+    pub fn append(&mut self, output: &Output) -> Result<(), AllocError>
+        ensures lines { OnOk result (self.new.lines.items ≡ self.old.lines.items ++ output.now.lines.items) }
+        ensures refused { OnOk result (self.new.refused ≡ (self.old.refused || output.now.refused)) }
+        ensures lost { OnOk result (self.new.lost ≡ (self.old.lost || output.now.lost)) }
+    {
+        self.lines.extend_from_slice(output.lines.as_slice())?;
+        self.refused = self.refused || output.refused;
+        self.lost = self.lost || output.lost;
+        Ok(())
+    }
+
+    /// The exit status: 0 where all was done, 1 where something was refused, and 3 where something
     /// found no memory.
     pub fn status(&self) -> u8
         ensures lost { self.now.lost ≡ true → result ≡ 3 }

@@ -4,7 +4,7 @@ ghost use Rattle.clr_steps.specs.Offices.{stands};
 ghost use Rattle.clr_steps.specs.Readings.{parent_in};
 ghost use Rattle.clr_steps.specs.declared.commands.Reply.TheVariants.{NoWorkspace};
 ghost use Rattle.clr_lines.specs.Replies.{reply_text};
-ghost use Rattle.clr_office.specs.Outcomes.{audit_outcome, changes_outcome, conflicts_outcome, dump_outcome, outcome, show_outcome};
+ghost use Rattle.clr_office.specs.Outcomes.{audit_outcome, changes_outcome, conflicts_outcome, dump_outcome, dump_text, outcome, show_outcome};
 ghost use Rattle.clr_office.specs.Outcomes.{workspace_line, workspaces_outcome, workspaces_text};
 
 use crate::outputs::Output;
@@ -19,7 +19,7 @@ use clr_steps::Reply;
 use std::alloc::{AllocError, Global};
 
 /// The name of LIVE.
-const LIVE: &str = "LIVE";
+pub const LIVE: &str = "LIVE";
 
 /// What a report prints where no workspace has the name.
 fn unknown(alloc: Global, schema: &Schema) -> Result<Output, AllocError>
@@ -131,10 +131,17 @@ pub fn workspaces(alloc: Global, office: &Office) -> Result<Output, AllocError>
 }
 
 /// The text of the whole office, ended by `\n`.
-pub fn dump(alloc: Global, office: &Office) -> Result<Output, AllocError>
-    ensures { IfOk result (λ o. outcome o.lines.items o.refused office.now ≡ dump_outcome office.now) }
+pub fn dump_text(alloc: Global, office: &Office) -> Result<Vec<u8>, AllocError>
+    ensures { IfOk result (λ text. text.items ≡ dump_text office.now) }
 {
     let mut text = write_office(alloc, office)?;
     text.extend_from_slice(b"\n")?;
-    Ok(Output::of_lines(text))
+    Ok(text)
+}
+
+/// What is told of the whole office.
+pub fn dump(alloc: Global, office: &Office) -> Result<Output, AllocError>
+    ensures { IfOk result (λ o. outcome o.lines.items o.refused office.now ≡ dump_outcome office.now) }
+{
+    Ok(Output::of_lines(dump_text(alloc, office)?))
 }

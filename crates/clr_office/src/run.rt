@@ -2,17 +2,18 @@ ghost use Rattle.std.specs.Prelude.{◌≡◌, ◌≢◌, false, IfErr};
 ghost use Rattle.clr_office.specs.Session.{Answers};
 ghost use Rattle.clr_office.specs.declared.faults.RunFault.TheVariants as run_fault;
 
+use crate::answers::answer_run;
 use crate::devices::{Sink, Source};
 use crate::faults::RunFault;
-use crate::interpret::interpret;
 use crate::reading::read_input;
 use crate::separator::split_at_separator;
 use std::alloc::Global;
 
 /// Reads an office text, a separator line and a script to the end of the reader, writes the lines
-/// that the script prints by one put, and answers the exit status: 0 all done, 1 something refused,
-/// or a rule that doesn't hold in the office, 3 a command found no memory. The first fault that applies answers, and nothing is
-/// written then, unless the writer failed. Fails with `ReadFailed` where a read fails, which is not
+/// that the script prints by one put, and answers the exit status: 0 all done, 1 something refused, a
+/// plan that is blocked or unfit, or a rule that doesn't hold in the office, 3 a command or a plan
+/// found no memory. The first fault that applies answers, and nothing is written then, unless the
+/// writer failed. Fails with `ReadFailed` where a read fails, which is not
 /// tried again, with `TooLong` where the input has more than `MOST_INPUT_BYTES`, with `NoSeparator`
 /// where no line is `---`, or `---` and one `\r`, with `BadOffice` where the text before that line
 /// is no office, with `BadScript` where the text after it is no script, and with `WriteFailed` where
@@ -39,8 +40,12 @@ pub fn run_office<R: Source, W: Sink>(
     let Some((office, script)) = split_at_separator(text.as_slice()) else {
         return Err(RunFault::NoSeparator);
     };
-    let (lines, status) = interpret(alloc, office, script)?;
-    match writer.put(lines.as_slice()) {
+    let output = match answer_run(alloc, office, script) {
+        Ok(output) => output,
+        Err(fault) => return Err(fault),
+    };
+    let status = output.status();
+    match writer.put(output.lines.as_slice()) {
         Ok(()) => Ok(status),
         Err(_) => Err(RunFault::WriteFailed),
     }

@@ -1,48 +1,26 @@
 //! The steps of a script, performed one after another, and the lines that they print.
-ghost use Rattle.std.specs.Prelude.{◌≡◌, ◌++◌, ◌||◌, false, IfOk, OnOk};
-ghost use Rattle.clr_steps.specs.Steps.{is_lost as is_lost_reply};
-ghost use Rattle.clr_scripts.specs.declared.steps.Step.TheVariants.{Act};
-ghost use Rattle.clr_office.specs.Outcomes.{first_name as first_of_names, is_refused as is_refused_reply, outcome};
-ghost use Rattle.clr_office.specs.Outcomes.{script_outcome, step_outcome};
+ghost use Rattle.std.specs.Prelude.{◌≡◌, drop, false, Ok, IfOk, IfErr};
+ghost use Rattle.clr_scripts.specs.Scripts.{script_in_text};
+ghost use Rattle.clr_office.specs.Outcomes.{IsOutcome, IsScriptOutcome, command_outcome, first_name as first_of_names, outcome};
+ghost use Rattle.clr_office.specs.Printing.{IsMade, IsScriptFault, IsScriptPrint};
 
+use crate::faults::RunFault;
 use crate::outputs::Output;
-use crate::reports::{audit_rows, changes, conflicts, dump, show, workspaces};
+use crate::plans::plan_members;
+use crate::replies::reply_output;
+use crate::reports::{LIVE, audit_rows, changes, conflicts, dump, show, workspaces};
 use clr_engine::Office;
-use clr_lines::reply_line;
-use clr_scripts::{Names, Step, Word};
-use clr_steps::{Command, Reply};
+use clr_rows::{Schema, Words};
+use clr_scripts::{Names, RecordFault, Step, Word, read_script};
+use clr_steps::Command;
 use std::alloc::{AllocError, Global};
 
-fn is_refused(reply: &Reply) -> bool
-    ensures { result ≡ is_refused_reply reply.now }
-{
-    match reply {
-        Reply::Done => false,
-        _ => true,
-    }
-}
-
-fn is_lost(reply: &Reply) -> bool
-    ensures { result ≡ is_lost_reply reply.now }
-{
-    match reply {
-        Reply::OutOfMemory => true,
-        _ => false,
-    }
-}
-
 /// Performs a command. Its line is that of the reply.
-#[tactic(auto, unfolding(crate::specs::Outcomes::step_outcome))]
 fn perform(alloc: Global, office: &mut Office, command: &Command) -> Result<Output, AllocError>
-    ensures { IfOk result (λ o. o.lost ≡ false → outcome o.lines.items o.refused office.new ≡ step_outcome office.old (Act command.now)) }
+    ensures { IfOk result (λ o. o.lost ≡ false → outcome o.lines.items o.refused office.new ≡ command_outcome office.old command.now) }
 {
     let reply = office.perform(command);
-    let lines = reply_line(alloc, office.schema(), &reply)?;
-    Ok(Output {
-        lines,
-        refused: is_refused(&reply),
-        lost: is_lost(&reply),
-    })
+    reply_output(alloc, office.schema(), &reply)
 }
 
 fn first_name(names: &Names) -> &str
@@ -54,9 +32,18 @@ fn first_name(names: &Names) -> &str
     }
 }
 
-#[tactic(auto, unfolding(crate::specs::Outcomes::step_outcome))]
+/// The names behind the first.
+fn later_names(names: &Names) -> &[Words]
+    ensures { result.now ≡ drop 1 names.now }
+{
+    match names.as_slice() {
+        [_, later @ ..] => later,
+        [] => &[],
+    }
+}
+
 fn run_step(alloc: Global, office: &mut Office, step: &Step) -> Result<Output, AllocError>
-    ensures { IfOk result (λ o. o.lost ≡ false → outcome o.lines.items o.refused office.new ≡ step_outcome office.old step.now) }
+    ensures { IfOk result (λ o. o.lost ≡ false → IsOutcome office.old step.now (outcome o.lines.items o.refused office.new)) }
 {
     match step {
         Step::Act(command) => perform(alloc, office, command),
@@ -66,30 +53,48 @@ fn run_step(alloc: Global, office: &mut Office, step: &Step) -> Result<Output, A
         Step::Report(Word::Audit, names) => audit_rows(alloc, office, first_name(names)),
         Step::Report(Word::Workspaces, _) => workspaces(alloc, office),
         Step::Report(Word::Dump, _) => dump(alloc, office),
+        Step::Report(Word::Plan, names) => plan_members(alloc, office, LIVE, names.as_slice()),
+        Step::Report(Word::PlanUnder, names) => {
+            plan_members(alloc, office, first_name(names), later_names(names))
+        }
     }
 }
 
-/// Adds the output of a step to that of the steps before it.
-fn append(all: &mut Output, output: &Output) -> Result<(), AllocError>
-    ensures lines { OnOk result (all.new.lines.items ≡ all.old.lines.items ++ output.now.lines.items) }
-    ensures refused { OnOk result (all.new.refused ≡ (all.old.refused || output.now.refused)) }
-    ensures lost { OnOk result (all.new.lost ≡ (all.old.lost || output.now.lost)) }
-{
-    all.lines.extend_from_slice(output.lines.as_slice())?;
-    all.refused = all.refused || output.refused;
-    all.lost = all.lost || output.lost;
-    Ok(())
-}
-
 /// Performs the steps of a script one after another. It fails where a line, or what a report shows,
-/// finds no memory.
+/// finds no memory; a plan that finds none has its line.
 pub fn run_script(alloc: Global, office: &mut Office, steps: &[Step]) -> Result<Output, AllocError>
-    ensures { IfOk result (λ o. o.lost ≡ false → outcome o.lines.items o.refused office.new ≡ script_outcome office.old steps.now) }
+    ensures { IfOk result (λ o. o.lost ≡ false → IsScriptOutcome office.old steps.now (outcome o.lines.items o.refused office.new)) }
 {
     let mut all = Output::of_lines(Vec::new(alloc));
     for step in steps {
         let output = run_step(alloc, office, step)?;
-        append(&mut all, &output)?;
+        all.append(&output)?;
     }
     Ok(all)
+}
+
+/// Reads a script. Fails with `BadScript` where it is none, and with `OutOfMemory` for want of
+/// memory.
+fn steps_of(alloc: Global, schema: &Schema, script: &[u8]) -> Result<Vec<Step>, RunFault>
+    ensures steps { IfOk result (λ steps. script_in_text schema.now script.now ≡ Ok steps.items) }
+    ensures fault { IfErr result (λ e. IsScriptFault (script_in_text schema.now script.now) e) }
+{
+    match read_script(alloc, schema, script) {
+        Ok(steps) => Ok(steps),
+        Err((_, RecordFault::OutOfMemory)) => Err(RunFault::OutOfMemory),
+        Err((number, fault)) => Err(RunFault::BadScript(number, fault)),
+    }
+}
+
+/// Performs the script of a text, all of which is read before its first step. Fails with `BadScript`
+/// where it is none, and with `OutOfMemory` where no memory is found for it, for a line, or for what a
+/// report other than a plan shows.
+pub fn run_text(alloc: Global, office: &mut Office, script: &[u8]) -> Result<Output, RunFault>
+    ensures { IsMade (IsScriptPrint script.now office.old) result }
+{
+    let steps = match steps_of(alloc, office.schema(), script) {
+        Ok(steps) => steps,
+        Err(fault) => return Err(fault),
+    };
+    Ok(run_script(alloc, office, steps.as_slice())?)
 }

@@ -1,3 +1,4 @@
+use clr_cert::CertFault;
 use clr_office::RunFault;
 use clr_office_text::TextFault;
 use clr_scripts::RecordFault;
@@ -17,6 +18,10 @@ fn fault_lines(rt: HostRuntime) -> Result<(), Fail> {
         (
             RunFault::BadScript(7, RecordFault::BadWord),
             "unreadable script 3 BadWord at 7",
+        ),
+        (
+            RunFault::BadCertificate(2, CertFault::BadReference),
+            "unreadable certificate 4 BadReference at 2",
         ),
         (RunFault::OutOfMemory, "out of memory"),
     ];

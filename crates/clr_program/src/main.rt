@@ -68,7 +68,7 @@ fn read_files(rt: &HostRuntime, files: &[Words]) -> Result<(Vec<u8>, Vec<u8>), R
 }
 
 /// Answers what the words ask of files on standard output, and gives the exit status.
-fn answer_files(rt: &HostRuntime, ask: Ask, files: &[Words]) -> Result<u8, RunFault> {
+fn answer_files(rt: &HostRuntime, ask: &Ask, files: &[Words]) -> Result<u8, RunFault> {
     let (office, second) = read_files(rt, files)?;
     let mut writer = Port::new(rt.stdout());
     answer(
@@ -93,7 +93,7 @@ fn texts<'a>(rt: &HostRuntime, words: &'a [String]) -> Result<Vec<&'a str>, Allo
 fn run_words(rt: &HostRuntime, words: &[String]) -> Result<u8, RunFault> {
     let texts = texts(rt, words)?;
     match ask_of(rt.alloc(), texts.as_slice()) {
-        Ok((ask, files)) => answer_files(rt, ask, files.as_slice()),
+        Ok((ask, files)) => answer_files(rt, &ask, files.as_slice()),
         Err(AskFault::Refused(error)) => Ok(refuse_words(rt, &error)),
         Err(AskFault::OutOfMemory) => Err(RunFault::OutOfMemory),
     }

@@ -1,0 +1,33 @@
+-- What is made for an office text, by what is made of its office.
+use Rattle.std.proofs.Common.{◌≡◌, None, Result, Ok, Err, sym, subst}
+use Rattle.clr_steps.specs.Offices.{Office}
+use Rattle.clr_engine.specs.Drafts.{unheld_in}
+use Rattle.clr_office_text.specs.declared.faults.TextFault.{TextFault}
+use Rattle.clr_office.specs.declared.faults.RunFault.{RunFault}
+use Rattle.clr_office.specs.declared.faults.RunFault.TheVariants as run_fault
+use Rattle.clr_office.specs.declared.outputs.Output.{Output}
+use Rattle.clr_office.specs.Printing.{IsMade, IsPrintIn, IsPrintWhereHeld, IsTextFault, Printed}
+
+module _ (P Q : Printed → Type 0) (leads : (print : Printed) → P print → Q print) where
+  weaker_fault : (e : RunFault) → IsTextFault P e → IsTextFault Q e
+  weaker_fault (run_fault.BadOffice f) h = leads _ h
+  weaker_fault (run_fault.BadScript number f) h = leads _ h
+  weaker_fault (run_fault.BadCertificate number f) h = leads _ h
+  weaker_fault run_fault.OutOfMemory h = tt
+  weaker_fault run_fault.ReadFailed h = h
+  weaker_fault run_fault.WriteFailed h = h
+  weaker_fault run_fault.TooLong h = h
+  weaker_fault run_fault.NoSeparator h = h
+
+  -- what is made for one print is made for another to which it leads
+  pub weaker_made : (answer : Result Output RunFault) → IsMade P answer → IsMade Q answer
+  weaker_made (Ok output) h = λ found. leads _ (h found)
+  weaker_made (Err e) h = weaker_fault e h
+
+module _ (P : Office → Printed → Type 0) (meant : Result Office TextFault) (o : Office) (is : meant ≡ Ok o) (held : unheld_in o ≡ None) where
+  opened : (print : Printed) → P o print → IsPrintIn P meant print
+  opened print h = subst (λ m. IsPrintIn P m print) (sym is) (subst (λ first. IsPrintWhereHeld P o first print) (sym held) h)
+
+  -- an office in which the rules hold
+  pub held_made : (answer : Result Output RunFault) → IsMade (P o) answer → IsMade (IsPrintIn P meant) answer
+  held_made answer = weaker_made (P o) (IsPrintIn P meant) opened answer

@@ -1,0 +1,99 @@
+//! Merges that a certificate clears.
+ghost use Rattle.std.specs.Prelude.{◌≡◌, is_some, false, IfOk};
+ghost use Rattle.std.specs.List.{flat_map, list_any};
+ghost use Rattle.clr_steps.specs.Steps.{is_lost};
+ghost use Rattle.clr_clearance.specs.Plans.{merges};
+ghost use Rattle.clr_lines.specs.Replies.{reply_text};
+ghost use Rattle.clr_office.specs.Clearances.{IsMergePrint, merge_outcome, stop_text};
+ghost use Rattle.clr_office.specs.Outcomes.{is_refused, outcome};
+ghost use Rattle.clr_office.specs.Printing.{IsMade};
+
+use crate::certificates::{certificate_of, verdict_output};
+use crate::faults::RunFault;
+use crate::outputs::Output;
+use crate::replies::reply_output;
+use crate::reports::dump_text;
+use clr_check::{ClearedRun, perform_cleared};
+use clr_engine::Office;
+use clr_lines::count_line;
+use clr_rows::{Schema, Words};
+use clr_steps::{Command, Reply};
+use std::alloc::{AllocError, Global};
+
+/// The merges of workspaces in the order of their names, after which they stay.
+fn merges(alloc: Global, names: &[Words]) -> Result<Vec<Command>, AllocError>
+    ensures { IfOk result (λ commands. commands.items ≡ merges names.now) }
+{
+    let mut commands = Vec::with_capacity(alloc, names.len())?;
+    for name in names {
+        let ws = name.copy()?;
+        commands.push(Command::Merge { ws, remove: false })?;
+    }
+    Ok(commands)
+}
+
+/// The lines of replies.
+fn replies_output(alloc: Global, schema: &Schema, replies: &[Reply]) -> Result<Output, AllocError>
+    ensures lines { IfOk result (λ o. o.lines.items ≡ flat_map (reply_text schema.now) replies.now) }
+    ensures refused { IfOk result (λ o. o.refused ≡ list_any is_refused replies.now) }
+    ensures lost { IfOk result (λ o. o.lost ≡ list_any is_lost replies.now) }
+{
+    let mut all = Output::of_lines(Vec::new(alloc));
+    for reply in replies {
+        let output = reply_output(alloc, schema, reply)?;
+        all.append(&output)?;
+    }
+    Ok(all)
+}
+
+/// The line that says which merge isn't quiet, where one isn't.
+fn stop_output(alloc: Global, stopped: Option<usize>) -> Result<Output, AllocError>
+    ensures lines { IfOk result (λ o. o.lines.items ≡ stop_text stopped) }
+    ensures refused { IfOk result (λ o. o.refused ≡ is_some stopped) }
+    ensures lost { IfOk result (λ o. o.lost ≡ false) }
+{
+    let Some(number) = stopped else {
+        return Ok(Output::of_lines(Vec::new(alloc)));
+    };
+    Ok(Output {
+        lines: count_line(alloc, "notquiet", number)?,
+        refused: true,
+        lost: false,
+    })
+}
+
+/// The lines of merges that were performed, and the text of the office that they left.
+fn run_output(alloc: Global, office: &Office, run: &ClearedRun) -> Result<Output, AllocError>
+    ensures printed { IfOk result (λ o. outcome o.lines.items o.refused office.now ≡ merge_outcome run.now.replies.items run.now.stopped office.now) }
+    ensures lost { IfOk result (λ o. o.lost ≡ list_any is_lost run.now.replies.items) }
+{
+    let mut all = replies_output(alloc, office.schema(), run.replies.as_slice())?;
+    all.append(&stop_output(alloc, run.stopped)?)?;
+    all.lines
+        .extend_from_slice(dump_text(alloc, office)?.as_slice())?;
+    Ok(all)
+}
+
+/// Merges workspaces in the order of their names, as far as that is quiet for the certificate of a
+/// text, where it is clear: a line for each merge that was performed, one that says where it stopped,
+/// and the text of the office. Where the certificate isn't clear the verdict stands alone. Fails with
+/// `BadCertificate` where the text is none, and with `OutOfMemory` where no memory is found for it,
+/// for the commands or for a line.
+pub fn merge_by_text(
+    alloc: Global,
+    office: &mut Office,
+    text: &[u8],
+    names: &[Words],
+) -> Result<Output, RunFault>
+    ensures { IsMade (IsMergePrint names.now text.now office.old) result }
+{
+    let certificate = match certificate_of(alloc, office.schema(), text) {
+        Ok(certificate) => certificate,
+        Err(fault) => return Err(fault),
+    };
+    let commands = merges(alloc, names)?;
+    match perform_cleared(alloc, office, &certificate, commands.as_slice()) {
+        Ok(run) => Ok(run_output(alloc, office, &run)?),
+        Err(verdict) => Ok(verdict_output(alloc, office.schema(), &certificate, &verdict)?),
+    }
+}

@@ -1,0 +1,61 @@
+//! Plans of members, which are given by their names.
+ghost use Rattle.std.specs.Prelude.{◌≡◌, false, map, IfOk};
+ghost use Rattle.clr_check.specs.SiteNames.{site};
+ghost use Rattle.clr_plan.specs.Promises.{is_cleared as is_cleared_plan, is_out_of_memory as is_lost_plan};
+ghost use Rattle.clr_office.specs.Outcomes.{IsPlanOutcome, outcome};
+
+use crate::outputs::Output;
+use clr_engine::Office;
+use clr_plan::{Plan, plan};
+use clr_plan_lines::plan_lines;
+use clr_rows::Words;
+use std::alloc::{AllocError, Global};
+
+/// The texts of names.
+pub fn texts<'a>(alloc: Global, names: &'a [Words]) -> Result<Vec<&'a str>, AllocError>
+    ensures { IfOk result (λ texts. map (λ text. text.now) texts.items ≡ names.entry.now) }
+{
+    let mut texts = Vec::with_capacity(alloc, names.len())?;
+    for name in names {
+        texts.push(name.as_str())?;
+    }
+    Ok(texts)
+}
+
+fn is_cleared(plan: &Plan) -> bool
+    ensures { result ≡ is_cleared_plan plan.now }
+{
+    match plan {
+        Plan::Cleared(_) => true,
+        _ => false,
+    }
+}
+
+fn is_out_of_memory(plan: &Plan) -> bool
+    ensures { result ≡ is_lost_plan plan.now }
+{
+    match plan {
+        Plan::OutOfMemory => true,
+        _ => false,
+    }
+}
+
+/// The lines of the plan of members that are to be merged into a root. A plan that finds no memory
+/// has its line too; it fails where no memory is found for the lines.
+pub fn plan_members(
+    alloc: Global,
+    office: &Office,
+    root: &str,
+    names: &[Words],
+) -> Result<Output, AllocError>
+    ensures { IfOk result (λ o. o.lost ≡ false → IsPlanOutcome office.now (site root.now names.now) (outcome o.lines.items o.refused office.now)) }
+{
+    let members = texts(alloc, names)?;
+    let plan = plan(alloc, office, root, members.as_slice());
+    let lines = plan_lines(alloc, office.schema(), members.as_slice(), root, &plan)?;
+    Ok(Output {
+        lines,
+        refused: !is_cleared(&plan),
+        lost: is_out_of_memory(&plan),
+    })
+}
