@@ -52,11 +52,23 @@ impl Dice {
             0 => format!(in alloc; "delete,node,{key}\n"),
             1 => format!(in alloc; "delete,main,{key}\n"),
             2 => format!(in alloc; "delete,hydrant,{key}\n"),
-            3 => format!(in alloc; "insert,hydrant,{key},{},{},0\n", self.throw(6) + 1, self.throw(4)),
+            3 => format!(in alloc;
+                "insert,hydrant,{key},{},{},0\n",
+                self.throw(6) + 1,
+                self.throw(4)
+            ),
             4 => self.main_row(alloc, "update"),
             5 => self.main_row(alloc, "insert"),
-            6 => format!(in alloc; "update,node,{key},tee,{},{}\n", self.throw(4), self.throw(4)),
-            _ => format!(in alloc; "insert,node,{key},valve,{},{}\n", self.throw(4), self.throw(4)),
+            6 => format!(in alloc;
+                "update,node,{key},tee,{},{}\n",
+                self.throw(4),
+                self.throw(4)
+            ),
+            _ => format!(in alloc;
+                "insert,node,{key},valve,{},{}\n",
+                self.throw(4),
+                self.throw(4)
+            ),
         }
     }
 }

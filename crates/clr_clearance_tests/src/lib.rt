@@ -1,7 +1,11 @@
 //! Tests of the checker and the planner over whole offices, by public calls. Offices, scripts and
-//! certificates are texts, and so is what they are to give.
+//! certificates are texts, and so is what is answered.
 #![tactic(auto)]
 
+#[cfg(test)]
+mod answers;
+#[cfg(test)]
+mod cases;
 #[cfg(test)]
 mod dice;
 #[cfg(test)]
@@ -17,6 +21,6 @@ mod plans;
 #[cfg(test)]
 mod runs;
 #[cfg(test)]
-mod scripts;
+mod texts;
 #[cfg(test)]
 mod verdicts;

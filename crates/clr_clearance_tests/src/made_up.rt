@@ -1,18 +1,11 @@
 //! Offices that dice make, with members whose merges are planned and then given.
 
 use crate::dice::Dice;
-use crate::offices::{commands_of, office_of};
-use clr_check::{Verdict, check};
-use clr_engine::{Office, Reply};
-use clr_lines::rows_lines;
-use clr_plan::{Plan, plan};
-use std::alloc::Global;
+use crate::offices::answered;
+use std::alloc::{AllocError, Global};
 use std::test::Fail;
 
 const NAMES: [&str; 3] = ["W1", "W2", "W3"];
-
-/// All orders of three members.
-const ORDERS: [[usize; 3]; 6] = [[0, 1, 2], [0, 2, 1], [1, 0, 2], [1, 2, 0], [2, 0, 1], [2, 1, 0]];
 
 const RULES: [&str; 6] = [
     r#"{"kind":"UNIQUE","subject":{"table":"main"},"columns":["code"]}"#,
@@ -24,19 +17,25 @@ const RULES: [&str; 6] = [
 ];
 
 /// An empty network under two rules.
-fn network(alloc: Global, dice: &mut Dice) -> Result<String, Fail> {
+fn network(alloc: Global, dice: &mut Dice) -> Result<String, AllocError> {
     let first = RULES[dice.throw(6) as usize];
     let second = RULES[dice.throw(6) as usize];
-    Ok(format!(in alloc;
+    format!(in alloc;
         r#"{{"format":1,"tables":[{{"name":"node","columns":[["kind","TEXT"]],"shape":"POINT"}},
 {{"name":"main","columns":[["code","TEXT"]],"shape":"SEGMENT"}},
 {{"name":"hydrant","columns":[["main","INT"]],"shape":"POINT"}}],"rules":[{first},{second}],"live":[]}}"#
-    )?)
+    )
 }
 
 /// Adds edits of a workspace, each in a command of its own, so that one that is refused leaves the
 /// others.
-fn add_edits(alloc: Global, dice: &mut Dice, script: &mut String, name: &str, count: u64) -> Result<(), Fail> {
+fn add_edits(
+    alloc: Global,
+    dice: &mut Dice,
+    script: &mut String,
+    name: &str,
+    count: u64,
+) -> Result<(), AllocError> {
     for _ in 0..count {
         let edit = dice.edit(alloc)?;
         let step = format!(in alloc; "apply,{name},1\n{edit}")?;
@@ -46,7 +45,7 @@ fn add_edits(alloc: Global, dice: &mut Dice, script: &mut String, name: &str, co
 }
 
 /// Edits of LIVE, and then of each of three workspaces under it.
-fn script(alloc: Global, dice: &mut Dice) -> Result<String, Fail> {
+fn script(alloc: Global, dice: &mut Dice) -> Result<String, AllocError> {
     let mut script = String::new(alloc);
     add_edits(alloc, dice, &mut script, "LIVE", 14)?;
     for name in NAMES {
@@ -60,75 +59,54 @@ fn script(alloc: Global, dice: &mut Dice) -> Result<String, Fail> {
     Ok(script)
 }
 
-/// The office of a text after a script, of which some commands may be refused.
-fn made_up(alloc: Global, network: &str, script: &str) -> Result<Office, Fail> {
-    let mut office = office_of(alloc, network)?;
-    let commands = commands_of(alloc, office.schema(), script)?;
-    office.perform_all(commands.as_slice())?;
-    Ok(office)
+/// The numbers of three members in an order that dice choose.
+fn order(dice: &mut Dice) -> [u8; 3] {
+    match dice.throw(6) {
+        0 => [1, 2, 3],
+        1 => [1, 3, 2],
+        2 => [2, 1, 3],
+        3 => [2, 3, 1],
+        4 => [3, 1, 2],
+        _ => [3, 2, 1],
+    }
 }
 
-/// The merges of members in this order.
-fn merges(alloc: Global, order: &[usize]) -> Result<String, Fail> {
-    let mut script = String::new(alloc);
-    for position in order {
-        let step = format!(in alloc; "merge,W{},keep\n", position.saturating_add(1))?;
-        script.push_str(step.as_str())?;
+/// Merges of the first members in an order that dice choose, each after a refresh of one of them.
+fn merges(alloc: Global, dice: &mut Dice, members: u8) -> Result<String, AllocError> {
+    let mut script = String::from_str(alloc, "rows\n")?;
+    for member in order(dice) {
+        if member <= members {
+            let refreshed = dice.throw(2) + 1;
+            let step = format!(in alloc; "refresh,W{refreshed}\nmerge,W{member},keep\n")?;
+            script.push_str(step.as_str())?;
+        }
     }
     Ok(script)
 }
 
-/// Whether merges are refused for a conflict or a broken rule.
-fn are_refused(alloc: Global, mut office: Office, order: &[usize]) -> Result<bool, Fail> {
-    let script = merges(alloc, order)?;
-    let commands = commands_of(alloc, office.schema(), script.as_str())?;
-    let replies = office.perform_all(commands.as_slice())?;
-    Ok(replies.iter().any(|reply| matches!(reply, Reply::Conflict { .. } | Reply::RuleBroken(_))))
-}
-
-/// The rows of LIVE after merges of the first members in an order that dice choose, each after a
-/// refresh of one of them; or none where some command isn't done.
+/// The rows of LIVE after such merges in a made-up office, if all are done.
 fn rows_after_merges(
     alloc: Global,
     dice: &mut Dice,
-    mut office: Office,
-    members: usize,
-) -> Result<Option<Vec<u8>>, Fail> {
-    let mut script = String::new(alloc);
-    for position in ORDERS[dice.throw(6) as usize] {
-        if position < members {
-            let refreshed = ORDERS[dice.throw(6) as usize][0] % 2;
-            let step = format!(in alloc; "refresh,{}\nmerge,{},keep\n", NAMES[refreshed], NAMES[position])?;
-            script.push_str(step.as_str())?;
-        }
-    }
-    let commands = commands_of(alloc, office.schema(), script.as_str())?;
-    let replies = office.perform_all(commands.as_slice())?;
-    if replies.iter().any(|reply| *reply != Reply::Done) {
-        return Ok(None);
-    }
-    Ok(Some(rows_lines(alloc, office.schema(), office.live())?))
+    (network, script): (&str, &str),
+    members: u8,
+) -> Result<Vec<u8>, Fail> {
+    let merges = merges(alloc, dice, members)?;
+    let (_, rows) = answered(alloc, network, script, merges.as_str()).ok_or("a merge is refused")?;
+    Ok(rows)
 }
 
 /// Whether all members of a cleared office can be merged in three orders, with the same rows.
 fn are_alike(
     alloc: Global,
     dice: &mut Dice,
-    (network, script): (&str, &str),
-    members: usize,
+    texts: (&str, &str),
+    members: u8,
 ) -> Result<bool, Fail> {
-    let office = made_up(alloc, network, script)?;
-    let Some(first) = rows_after_merges(alloc, dice, office, members)? else {
-        return Ok(false);
-    };
-    for _ in 0..2 {
-        let office = made_up(alloc, network, script)?;
-        match rows_after_merges(alloc, dice, office, members)? {
-            Some(rows) if rows.as_slice() == first.as_slice() => {}
-            _ => return Ok(false),
-        }
-    }
-    Ok(true)
+    let first = rows_after_merges(alloc, dice, texts, members)?;
+    let second = rows_after_merges(alloc, dice, texts, members)?;
+    let third = rows_after_merges(alloc, dice, texts, members)?;
+    Ok(first.as_slice() == second.as_slice() && first.as_slice() == third.as_slice())
 }
 
 /// How the plan for members of a made-up office turns out.
@@ -143,38 +121,46 @@ enum Outcome {
 }
 
 /// How the plan of the office that a seed makes turns out.
-fn outcome(alloc: Global, seed: u64) -> Result<Outcome, Fail> {
+fn plan_outcome(alloc: Global, seed: u64) -> Result<Outcome, Fail> {
     let mut dice = Dice::new(seed);
     let network = network(alloc, &mut dice)?;
     let script = script(alloc, &mut dice)?;
+    let texts = (network.as_str(), script.as_str());
     let members = if seed % 2 == 0 { 2 } else { 3 };
-    let office = made_up(alloc, network.as_str(), script.as_str())?;
-    let is_so = match plan(alloc, &office, "LIVE", &NAMES[..members]) {
-        Plan::Blocked { order, .. } => {
-            let refused = are_refused(alloc, office, order.as_slice())?;
-            return Ok(if refused { Outcome::Refused } else { Outcome::Wrong });
-        }
-        Plan::Cleared(certificate) => {
-            check(alloc, &office, &certificate) == Verdict::Clear
-                && are_alike(alloc, &mut dice, (network.as_str(), script.as_str()), members)?
-        }
-        _ => false,
+    let asked = if members == 2 {
+        "judge\nW1 W2\n"
+    } else {
+        "judge\nW1 W2 W3\n"
     };
-    Ok(if is_so { Outcome::Alike } else { Outcome::Wrong })
+    let answered = answered(alloc, texts.0, texts.1, asked);
+    let (_, line) = answered.ok_or("nothing is planned")?;
+    if line.as_slice() == b"refused\n".as_slice() {
+        return Ok(Outcome::Refused);
+    }
+    let is_clear = line.as_slice() == b"cleared\n".as_slice();
+    let is_so = is_clear && are_alike(alloc, &mut dice, texts, members)?;
+    Ok(if is_so {
+        Outcome::Alike
+    } else {
+        Outcome::Wrong
+    })
 }
 
 /// How the plans of a hundred offices turn out.
 fn outcomes(alloc: Global) -> Result<Vec<Outcome>, Fail> {
     let mut list = Vec::new(alloc);
     for seed in 0..100 {
-        list.push(outcome(alloc, seed)?)?;
+        list.push(plan_outcome(alloc, seed)?)?;
     }
     Ok(list)
 }
 
 /// How many turn out so.
-fn count(outcomes: &[Outcome], outcome: Outcome) -> usize {
-    outcomes.iter().filter(|other| **other == outcome).count()
+fn count(outcomes: &[Outcome], wanted: Outcome) -> usize {
+    outcomes
+        .iter()
+        .filter(|outcome| **outcome == wanted)
+        .count()
 }
 
 #[test]
@@ -182,6 +168,10 @@ fn plans_of_made_up_offices(rt: HostRuntime) -> Result<(), Fail> {
     let list = outcomes(rt.alloc())?;
     let refused = count(list.as_slice(), Outcome::Refused);
     let alike = count(list.as_slice(), Outcome::Alike);
-    assert!(rt; refused > 20 && alike > 20 && refused + alike == 100, "{refused} refused, {alike} alike");
+    let wrong = count(list.as_slice(), Outcome::Wrong);
+    assert!(rt;
+        refused > 20 && alike > 20 && wrong == 0,
+        "{refused} refused, {alike} alike, {wrong} wrong"
+    );
     Ok(())
 }

@@ -12,7 +12,7 @@ pub(crate) const CROSSING: &str = r#"{"format":1,"tables":[
 {"t":"main","k":2,"v":["C"],"s":[0,10,10,0]}]}"#;
 
 /// The same with one main and no node.
-pub(crate) const ONE_MAIN: &str = r#"{"format":1,"tables":[
+const ONE_MAIN: &str = r#"{"format":1,"tables":[
 {"name":"node","columns":[["kind","TEXT"]],"shape":"POINT"},
 {"name":"main","columns":[["code","TEXT"]],"shape":"SEGMENT"},
 {"name":"hydrant","columns":[["main","INT"]],"shape":"POINT"}],
@@ -22,7 +22,7 @@ pub(crate) const ONE_MAIN: &str = r#"{"format":1,"tables":[
 "live":[{"t":"main","k":1,"v":["A"],"s":[0,0,10,10]}]}"#;
 
 /// The crossing with mains that are paths.
-pub(crate) const PATHS: &str = r#"{"format":2,"tables":[
+const PATHS: &str = r#"{"format":2,"tables":[
 {"name":"node","columns":[["kind","TEXT"]],"shape":"POINT"},
 {"name":"main","columns":[["code","TEXT"]],"shape":"PATH"},
 {"name":"hydrant","columns":[["main","INT"]],"shape":"POINT"}],
@@ -34,6 +34,17 @@ pub(crate) const PATHS: &str = r#"{"format":2,"tables":[
 {"t":"main","k":2,"v":["C"],"s":[0,10,10,0]}]}"#;
 
 /// One node, and no rule.
-pub(crate) const ONE_NODE: &str = r#"{"format":1,"tables":[
+const ONE_NODE: &str = r#"{"format":1,"tables":[
 {"name":"node","columns":[["kind","TEXT"]],"shape":"POINT"}],
 "live":[{"t":"node","k":9,"v":["valve"],"s":[5,5]}]}"#;
+
+/// The office text of a name.
+pub(crate) fn network(name: &str) -> Option<&'static str> {
+    match name {
+        "crossing" => Some(CROSSING),
+        "one_main" => Some(ONE_MAIN),
+        "paths" => Some(PATHS),
+        "one_node" => Some(ONE_NODE),
+        _ => None,
+    }
+}

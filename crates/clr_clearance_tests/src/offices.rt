@@ -1,70 +1,55 @@
-//! Offices, commands and certificates of texts, and lines of verdicts.
+//! Offices of texts, and what is answered in them.
 
-use clr_cert::{Certificate, read_certificate};
-use clr_check::{Verdict, check};
+use crate::answers::answer;
+use crate::texts::commands_of;
 use clr_drafts::read_office;
-use clr_engine::{Command, Office, Reply};
-use clr_rows::Schema;
-use clr_scripts::{Step, read_script};
-use clr_verdict_lines::verdict_line;
+use clr_engine::{Draft, Office, Reply};
 use std::alloc::Global;
-use std::test::Fail;
+
+/// The office of a draft in which every rule holds.
+fn admitted(draft: Draft) -> Option<Office> {
+    match draft.admit() {
+        Ok(office) => Some(office),
+        Err(_) => None,
+    }
+}
 
 /// The office of a text in which every rule holds.
-pub(crate) fn office_of(alloc: Global, text: &str) -> Result<Office, Fail> {
-    let admitted = read_office(alloc, text.as_bytes())?.admit();
-    Ok(admitted.ok().ok_or("a rule doesn't hold")?)
-}
-
-/// The commands of a script.
-pub(crate) fn commands_of(
-    alloc: Global,
-    schema: &Schema,
-    script: &str,
-) -> Result<Vec<Command>, Fail> {
-    let mut commands = Vec::new(alloc);
-    for step in read_script(alloc, schema, script.as_bytes())? {
-        if let Step::Act(command) = step {
-            commands.push(command)?;
-        }
+fn office_of(alloc: Global, text: &str) -> Option<Office> {
+    match read_office(alloc, text.as_bytes()) {
+        Ok(draft) => admitted(draft),
+        Err(_) => None,
     }
-    Ok(commands)
 }
 
-/// The office of a text after the commands of a script, each of which is done.
-pub(crate) fn office_after(alloc: Global, text: &str, script: &str) -> Result<Office, Fail> {
-    let mut office = office_of(alloc, text)?;
+/// Performs the commands of a script, and answers whether each is done.
+fn perform(alloc: Global, office: &mut Office, script: &str) -> Option<bool> {
     let commands = commands_of(alloc, office.schema(), script)?;
-    let replies = office.perform_all(commands.as_slice())?;
-    if replies.iter().any(|reply| *reply != Reply::Done) {
-        Err("a command is refused")?;
-    }
-    Ok(office)
+    let replies = office.perform_all(commands.as_slice()).ok()?;
+    Some(replies.iter().all(|reply| *reply == Reply::Done))
 }
 
-/// The certificate of a text.
-pub(crate) fn certificate_of(alloc: Global, schema: &Schema, text: &str) -> Result<Certificate, Fail> {
-    Ok(read_certificate(alloc, schema, text.as_bytes())?)
-}
-
-/// The line of a verdict on the root and members of a certificate.
-pub(crate) fn line_of(
+/// Whether each command of a script is done in an office, and what is answered after them.
+fn answer_after(
     alloc: Global,
-    schema: &Schema,
-    certificate: &Certificate,
-    verdict: &Verdict,
-) -> Result<Vec<u8>, Fail> {
-    let mut names = Vec::new(alloc);
-    for name in certificate.members.as_slice() {
-        names.push(name.as_str())?;
-    }
-    let root = certificate.root.as_str();
-    Ok(verdict_line(alloc, schema, names.as_slice(), root, verdict)?)
+    office: &mut Office,
+    script: &str,
+    asked: &str,
+) -> Option<(bool, Vec<u8>)> {
+    let all_done = perform(alloc, office, script)?;
+    let lines = answer(alloc, office, asked)?;
+    Some((all_done, lines))
 }
 
-/// The line of what is said of a certificate in an office.
-pub(crate) fn checked(alloc: Global, office: &Office, text: &str) -> Result<Vec<u8>, Fail> {
-    let certificate = certificate_of(alloc, office.schema(), text)?;
-    let verdict = check(alloc, office, &certificate);
-    line_of(alloc, office.schema(), &certificate, &verdict)
+/// The same in the office of a text.
+pub(crate) fn answered(
+    alloc: Global,
+    text: &str,
+    script: &str,
+    asked: &str,
+) -> Option<(bool, Vec<u8>)> {
+    match office_of(alloc, text) {
+        Some(mut office) => answer_after(alloc, &mut office, script, asked),
+        None => None,
+    }
 }
