@@ -15,5 +15,3 @@ mod scenes;
 mod sites;
 #[cfg(test)]
 mod streets;
-#[cfg(test)]
-mod want_of_memory;
