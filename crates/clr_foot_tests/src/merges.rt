@@ -1,0 +1,86 @@
+use crate::networks::{CROSSING, MAINS, PATHS, network};
+use crate::sites::first_broken;
+use clr_lines::add_need;
+use std::alloc::{AllocError, Global};
+use std::test::Fail;
+
+/// The least need that the changes of W1 break, as it stands in a reply, or nothing.
+fn broken_line(alloc: Global, rules: &str, more: &str, changes: &str) -> Result<Vec<u8>, Fail> {
+    let live = format!(in alloc; "{CROSSING}{more}")?;
+    let office = network(alloc, rules, live.as_str(), &[changes])?;
+    let mut line = Vec::new(alloc);
+    if let Some(need) = first_broken(alloc, &office, "LIVE", "W1")? {
+        add_need(&mut line, office.schema(), &need)?;
+    }
+    Ok(line)
+}
+
+/// Four mains as paths, of which main 21 crosses main 20 at two nodes.
+const TWO_NODES: &str = r#",
+{"t":"node","k":30,"v":["tee"],"s":[105,0]},
+{"t":"node","k":31,"v":["tee"],"s":[105,10]},
+{"t":"main","k":20,"v":["D"],"s":[100,0,110,0,110,10,100,10]},
+{"t":"main","k":21,"v":["E"],"s":[105,-5,105,15]}"#;
+
+/// Tables and rules, rows of LIVE beside the crossing, what a member changes, and the need.
+const MERGES: [(&str, &str, &str, &str); 9] = [
+    (
+        MAINS,
+        "",
+        r#"{"t":"node","k":9,"gone":true}"#,
+        "rule 1 main/1 main/2",
+    ),
+    (
+        MAINS,
+        "",
+        r#"{"t":"node","k":9,"gone":true},{"t":"node","k":10,"v":["valve"],"s":[5,5]}"#,
+        "",
+    ),
+    (MAINS, "", r#"{"t":"main","k":1,"gone":true}"#, ""),
+    (
+        MAINS,
+        "",
+        r#"{"t":"main","k":30,"v":["A"],"s":[300,0,300,10]}"#,
+        "rule 0 main/1 main/30",
+    ),
+    (
+        MAINS,
+        "",
+        r#"{"t":"main","k":20,"v":["D"],"s":[100,0,101,1]},{"t":"main","k":21,"v":["E"],"s":[100,1,101,0]}"#,
+        "rule 1 main/20 main/21",
+    ),
+    (
+        MAINS,
+        "",
+        r#"{"t":"node","k":20,"v":["tee"],"s":[5,-50]},{"t":"main","k":20,"v":["D"],"s":[0,-50,6,-50]},{"t":"main","k":21,"v":["E"],"s":[4,-50,9,-50]}"#,
+        "rule 1 main/20 main/21",
+    ),
+    (
+        MAINS,
+        "",
+        r#"{"t":"hydrant","k":6,"v":[7],"s":[50,5]}"#,
+        "rule 2 hydrant/6",
+    ),
+    (
+        PATHS,
+        TWO_NODES,
+        r#"{"t":"node","k":31,"gone":true}"#,
+        "rule 1 main/20/3 main/21",
+    ),
+    (
+        PATHS,
+        TWO_NODES,
+        r#"{"t":"node","k":31,"gone":true},{"t":"node","k":32,"v":["tee"],"s":[105,10]}"#,
+        "",
+    ),
+];
+
+#[test]
+fn least_needs_that_changes_break(rt: HostRuntime) -> Result<(), Fail> {
+    let alloc = rt.alloc();
+    for (rules, more, changes, need) in MERGES {
+        let found = broken_line(alloc, rules, more, changes)?;
+        assert!(rt; found.as_slice() == need.as_bytes(), "{changes}");
+    }
+    Ok(())
+}

@@ -1,0 +1,76 @@
+//! Offices of texts: nodes, mains and hydrants, and what members change there.
+
+use clr_drafts::read_office;
+use clr_engine::Office;
+use std::alloc::{AllocError, Global};
+use std::test::Fail;
+
+/// Tables and rules, up to the rows of LIVE. No code stands twice, mains cross at nodes alone, and the
+/// number of a hydrant is the key of a main.
+pub(crate) const MAINS: &str = r#"{"format":3,"tables":[
+{"name":"node","columns":[["kind","TEXT"]],"shape":"POINT"},
+{"name":"main","columns":[["code","TEXT"]],"shape":"SEGMENT"},
+{"name":"hydrant","columns":[["main","INT"]],"shape":"POINT"}],
+"rules":[{"kind":"UNIQUE","subject":{"table":"main"},"columns":["code"]},
+{"kind":"CROSSING","a":{"table":"main"},"b":{"table":"main"},"server":{"table":"node"}},
+{"kind":"PARTNER","subject":{"table":"hydrant"},"columns":["main"],"server":{"table":"main"},"server_columns":["KEY"]}],
+"live":["#;
+
+/// The same, the mains being paths.
+pub(crate) const PATHS: &str = r#"{"format":3,"tables":[
+{"name":"node","columns":[["kind","TEXT"]],"shape":"POINT"},
+{"name":"main","columns":[["code","TEXT"]],"shape":"PATH"},
+{"name":"hydrant","columns":[["main","INT"]],"shape":"POINT"}],
+"rules":[{"kind":"UNIQUE","subject":{"table":"main"},"columns":["code"]},
+{"kind":"CROSSING","a":{"table":"main"},"b":{"table":"main"},"server":{"table":"node"}},
+{"kind":"PARTNER","subject":{"table":"hydrant"},"columns":["main"],"server":{"table":"main"},"server_columns":["KEY"]}],
+"live":["#;
+
+/// Two mains that cross at node 9.
+pub(crate) const CROSSING: &str = r#"{"t":"node","k":9,"v":["valve"],"s":[5,5]},
+{"t":"main","k":1,"v":["A"],"s":[0,0,10,10]},
+{"t":"main","k":2,"v":["C"],"s":[0,10,10,0]}"#;
+
+/// The members, by position.
+const MEMBERS: [&str; 3] = ["W1", "W2", "W3"];
+
+/// The first members, at most three.
+pub(crate) fn members(count: usize) -> &'static [&'static str] {
+    if count < MEMBERS.len() {
+        &MEMBERS[..count]
+    } else {
+        &MEMBERS
+    }
+}
+
+/// Children of LIVE, named by their numbers from 1, with the rows that each changes.
+fn children(alloc: Global, changes: &[&str]) -> Result<String, AllocError> {
+    let mut list = String::new(alloc);
+    for (n, rows) in changes.iter().enumerate() {
+        if n > 0 {
+            list.push_str(",")?;
+        }
+        let number = n.saturating_add(1);
+        let child = format!(in alloc; r#"{{"name":"W{number}","parent":"LIVE","rows":[{rows}]}}"#)?;
+        list.push_str(child.as_str())?;
+    }
+    Ok(list)
+}
+
+/// The office of a text, in which every rule holds.
+pub(crate) fn office_of(alloc: Global, text: &str) -> Result<Office, Fail> {
+    let admitted = read_office(alloc, text.as_bytes())?.admit();
+    Ok(admitted.ok().ok_or("a rule doesn't hold")?)
+}
+
+/// The office of tables, rules and rows of LIVE, with what members change.
+pub(crate) fn network(
+    alloc: Global,
+    rules: &str,
+    live: &str,
+    changes: &[&str],
+) -> Result<Office, Fail> {
+    let children = children(alloc, changes)?;
+    let text = format!(in alloc; r#"{rules}{live}],"workspaces":[{children}]}}"#)?;
+    office_of(alloc, text.as_str())
+}

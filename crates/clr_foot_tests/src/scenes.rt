@@ -1,0 +1,252 @@
+//! What is said of scenes over two mains that cross.
+
+use crate::networks::{CROSSING, MAINS, PATHS, members, network, office_of};
+use crate::sites::{SceneOver, assert_said, site_lines};
+use std::test::Fail;
+
+/// What serves no need: codes that are given up and taken.
+const CODES: [SceneOver; 5] = [
+    (
+        r#""#,
+        &[
+            r#"{"t":"main","k":20,"v":["D"],"s":[100,0,100,10]}"#,
+            r#"{"t":"main","k":21,"v":["E"],"s":[200,0,200,10]}"#,
+        ],
+        r#"independent yes
+"#,
+    ),
+    (
+        r#""#,
+        &[],
+        r#"independent
+"#,
+    ),
+    (
+        r#""#,
+        &[
+            r#"{"t":"main","k":1,"v":["B"],"s":[0,0,10,10]}"#,
+            r#"{"t":"main","k":30,"v":["A"],"s":[300,0,300,10]}"#,
+        ],
+        r#"rule 0 parts 1 1 main/1/old-0 main/30/new+1 served picked blocked 1
+rule 1 parts 1 1 main/1/new+0 main/2/old served node/9/old picked node/9/old blocked 0
+independent no
+"#,
+    ),
+    (
+        r#""#,
+        &[
+            r#"{"t":"main","k":40,"v":["D"],"s":[5,0,5,2]},
+{"t":"main","k":41,"v":["C"],"s":[2,4,2,6]}"#,
+        ],
+        r#"rule 0 parts 1 1 main/2/old main/41/new+0 served picked blocked 0
+independent
+"#,
+    ),
+    (
+        r#""#,
+        &[r#"{"t":"main","k":1,"v":["W"],"s":[0,0,10,10]}"#],
+        r#"rule 1 parts 1 1 main/1/new+0 main/2/old served node/9/old picked node/9/old blocked 0
+independent
+"#,
+    ),
+];
+
+#[test]
+fn codes(rt: HostRuntime) -> Result<(), Fail> {
+    assert_said(&rt, rt.alloc(), (MAINS, CROSSING), &CODES)
+}
+
+/// Nodes of a crossing, taken away and put in their place.
+const NODES: [SceneOver; 6] = [
+    (
+        r#""#,
+        &[r#"{"t":"node","k":9,"gone":true}"#],
+        r#"rule 1 parts 1 1 main/1/old main/2/old served node/9/old-0 picked blocked 0
+independent
+"#,
+    ),
+    (
+        r#""#,
+        &[
+            r#"{"t":"node","k":9,"gone":true},
+{"t":"node","k":10,"v":["valve"],"s":[5,5]}"#,
+        ],
+        r#"rule 1 parts 1 1 main/1/old main/2/old served node/9/old-0 node/10/new+0 picked node/9/old-0 node/10/new+0 blocked 0
+independent
+"#,
+    ),
+    (
+        r#",
+{"t":"node","k":10,"v":["valve"],"s":[5,5]},
+{"t":"node","k":11,"v":["valve"],"s":[5,5]}"#,
+        &[
+            r#"{"t":"node","k":9,"gone":true}"#,
+            r#"{"t":"node","k":10,"gone":true}"#,
+        ],
+        r#"rule 1 parts 1 1 main/1/old main/2/old served node/9/old-0 node/10/old-1 node/11/old picked node/11/old blocked 0 1
+independent no
+"#,
+    ),
+    (
+        r#",
+{"t":"node","k":10,"v":["valve"],"s":[5,5]},
+{"t":"node","k":11,"v":["valve"],"s":[5,5]}"#,
+        &[
+            r#"{"t":"node","k":9,"gone":true}"#,
+            r#"{"t":"node","k":11,"gone":true}"#,
+        ],
+        r#"rule 1 parts 1 1 main/1/old main/2/old served node/9/old-0 node/10/old node/11/old-1 picked node/10/old blocked 0 1
+independent no
+"#,
+    ),
+    (
+        r#",
+{"t":"node","k":10,"v":["valve"],"s":[5,5]},
+{"t":"node","k":11,"v":["valve"],"s":[5,5]}"#,
+        &[
+            r#"{"t":"node","k":10,"gone":true}"#,
+            r#"{"t":"node","k":11,"gone":true}"#,
+        ],
+        r#"rule 1 parts 1 1 main/1/old main/2/old served node/9/old node/10/old-0 node/11/old-1 picked node/9/old blocked 0 1
+independent no
+"#,
+    ),
+    (
+        r#",
+{"t":"node","k":10,"v":["valve"],"s":[5,5]},
+{"t":"node","k":11,"v":["valve"],"s":[5,5]}"#,
+        &[
+            r#"{"t":"node","k":9,"gone":true}"#,
+            r#"{"t":"node","k":10,"gone":true}"#,
+            r#"{"t":"node","k":11,"gone":true}"#,
+        ],
+        r#"rule 1 parts 1 1 main/1/old main/2/old served node/9/old-0 node/10/old-1 node/11/old-2 picked blocked 0 1 2
+independent no no no
+"#,
+    ),
+];
+
+#[test]
+fn nodes(rt: HostRuntime) -> Result<(), Fail> {
+    assert_said(&rt, rt.alloc(), (MAINS, CROSSING), &NODES)
+}
+
+/// Mains that go or come, and hydrants that name them.
+const MAINS_GONE: [SceneOver; 4] = [
+    (
+        r#",
+{"t":"main","k":5,"v":["E"],"s":[50,0,50,10]},
+{"t":"hydrant","k":6,"v":[5],"s":[50,5]}"#,
+        &[
+            r#"{"t":"main","k":5,"gone":true},
+{"t":"hydrant","k":6,"gone":true}"#,
+        ],
+        r#"rule 2 parts 1 1 hydrant/6/old-0 served main/5/old-0 picked main/5/old-0 blocked 0
+independent
+"#,
+    ),
+    (
+        r#",
+{"t":"main","k":5,"v":["E"],"s":[50,0,50,10]},
+{"t":"hydrant","k":6,"v":[5],"s":[50,5]}"#,
+        &[
+            r#"{"t":"main","k":5,"gone":true}"#,
+            r#"{"t":"hydrant","k":6,"gone":true}"#,
+        ],
+        r#"rule 2 parts 1 1 hydrant/6/old-1 served main/5/old-0 picked blocked 0
+independent no
+"#,
+    ),
+    (
+        r#""#,
+        &[
+            r#"{"t":"main","k":1,"gone":true}"#,
+            r#"{"t":"main","k":2,"gone":true}"#,
+        ],
+        r#"independent no
+"#,
+    ),
+    (
+        r#""#,
+        &[
+            r#"{"t":"main","k":20,"v":["D"],"s":[100,0,100,10]}"#,
+            r#"{"t":"main","k":21,"v":["E"],"s":[200,0,200,10]}"#,
+            r#"{"t":"main","k":22,"v":["F"],"s":[150,5,250,5]}"#,
+        ],
+        r#"rule 1 parts 1 1 main/21/new+1 main/22/new+2 served picked blocked 1 2
+independent yes yes no
+"#,
+    ),
+];
+
+#[test]
+fn mains_and_hydrants(rt: HostRuntime) -> Result<(), Fail> {
+    assert_said(&rt, rt.alloc(), (MAINS, CROSSING), &MAINS_GONE)
+}
+
+/// Main 20 is a path whose first and third part are crossed by main 21.
+const PATHS_CROSSING: [SceneOver; 2] = [
+    (
+        r#",
+{"t":"node","k":30,"v":["tee"],"s":[105,0]},
+{"t":"node","k":31,"v":["tee"],"s":[105,10]},
+{"t":"main","k":20,"v":["D"],"s":[100,0,110,0,110,10,100,10]},
+{"t":"main","k":21,"v":["E"],"s":[105,-5,105,15]}"#,
+        &[r#"{"t":"node","k":31,"gone":true}"#],
+        r#"rule 1 parts 3 1 main/20/old main/21/old served node/31/old-0 picked blocked 0
+independent
+"#,
+    ),
+    (
+        r#",
+{"t":"node","k":30,"v":["tee"],"s":[105,0]},
+{"t":"node","k":31,"v":["tee"],"s":[105,10]},
+{"t":"main","k":20,"v":["D"],"s":[100,0,110,0,110,10,100,10]},
+{"t":"main","k":21,"v":["E"],"s":[105,-5,105,15]}"#,
+        &[
+            r#"{"t":"node","k":31,"gone":true},
+{"t":"node","k":32,"v":["tee"],"s":[105,10]}"#,
+        ],
+        r#"rule 1 parts 3 1 main/20/old main/21/old served node/31/old-0 node/32/new+0 picked node/31/old-0 node/32/new+0 blocked 0
+independent
+"#,
+    ),
+];
+
+#[test]
+fn paths(rt: HostRuntime) -> Result<(), Fail> {
+    assert_said(&rt, rt.alloc(), (PATHS, CROSSING), &PATHS_CROSSING)
+}
+
+#[test]
+fn one_cell_changed_by_two(rt: HostRuntime) -> Result<(), Fail> {
+    let alloc = rt.alloc();
+    let main = r#"{"t":"main","k":20,"v":["D"],"s":[100,0,100,10]}"#;
+    let office = network(alloc, MAINS, CROSSING, &[main, "", main])?;
+    let found = site_lines(alloc, &office, "LIVE", members(3))?;
+    assert_eq!(rt; found.as_str(), "shared main/20 0 2\n");
+    Ok(())
+}
+
+/// K, which is kept, and two children that change its rows.
+const KEPT: &str =
+    r#"{"name":"K","parent":"LIVE","kept":true,"marks":[{"child":"V1"},{"child":"V2"}]},
+{"name":"V1","parent":"K","rows":[{"t":"node","k":9,"gone":true},
+{"t":"node","k":10,"v":["valve"],"s":[5,5]}]},
+{"name":"V2","parent":"K","rows":[{"t":"main","k":21,"v":["E"],"s":[200,0,200,10]},
+{"t":"hydrant","k":1,"v":[1],"s":[7,7]}]}"#;
+
+#[test]
+fn children_of_a_kept_workspace(rt: HostRuntime) -> Result<(), Fail> {
+    let alloc = rt.alloc();
+    let text = format!(in alloc; r#"{MAINS}{CROSSING}],"workspaces":[{KEPT}]}}"#)?;
+    let office = office_of(alloc, text.as_str())?;
+    let found = site_lines(alloc, &office, "K", &["V1", "V2"])?;
+    assert_eq!(rt;
+        found.as_str(),
+        r#"rule 1 parts 1 1 main/1/old main/2/old served node/9/old-0 node/10/new+0 picked node/9/old-0 node/10/new+0 blocked 0
+rule 2 parts 1 1 hydrant/1/new+1 served main/1/old picked main/1/old blocked 1
+"#
+    );
+    Ok(())
+}

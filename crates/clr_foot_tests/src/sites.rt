@@ -1,0 +1,172 @@
+//! Scenes of members of LIVE or of a kept workspace.
+
+ghost use Rattle.std.specs.Prelude.{◌≡◌, ◌<◌, length, map};
+ghost use Rattle.clr_check.specs.SiteNames.{site};
+ghost use Rattle.clr_check.specs.Sites.{AreOfSite, AreParts};
+
+use crate::lines::need_lines;
+use crate::networks::{members, network};
+use clr_check::{SiteParts, read_site};
+use clr_engine::{Broken, Office};
+use clr_foot::SceneFault;
+use clr_lines::table_name;
+use std::alloc::{AllocError, Global};
+use std::process::Abort;
+use std::test::Fail;
+
+/// A line for each need that the members of a site touch, or for the cell that two of them change.
+fn lines_of_parts(alloc: Global, office: &Office, parts: &SiteParts) -> Result<String, AllocError>
+    requires { AreOfSite office.now parts.now }
+{
+    match parts.scene(alloc, office) {
+        Ok(scene) => need_lines(alloc, office.schema(), &scene),
+        Err(SceneFault::OutOfMemory) => Err(AllocError),
+        Err(
+            SceneFault::SharedCell {
+                cell,
+                first,
+                second,
+            },
+        ) => {
+            let table = table_name(office.schema(), cell.table);
+            format!(in alloc; "shared {table}/{} {first} {second}\n", cell.key)
+        }
+    }
+}
+
+/// The same by names. It fails for want of memory, and where a test of names or for conflicts fails.
+pub(crate) fn site_lines(
+    alloc: Global,
+    office: &Office,
+    root: &str,
+    members: &[&str],
+) -> Result<String, AllocError> {
+    match read_site(alloc, office, root, &members) {
+        Ok(parts) => lines_of_parts(alloc, office, &parts),
+        Err(_) => Err(AllocError),
+    }
+}
+
+/// Whether two members of a site are independent, by position.
+fn are_parts_independent(
+    alloc: Global,
+    office: &Office,
+    parts: &SiteParts,
+    root: &str,
+    members: &[&str],
+    pair: (u16, u16),
+) -> Result<bool, AllocError>
+    requires parts { AreParts office.now (site root.now (map (λ name. name.now) members.now)) parts.now }
+    requires first { pair.0 < length members.now }
+    requires second { pair.1 < length members.now }
+{
+    let _root = root;
+    match parts.scene(alloc, office) {
+        Ok(scene) => scene.independent(pair.0, pair.1),
+        Err(_) => Err(AllocError),
+    }
+}
+
+/// The same by names. It fails for want of memory, and where the members make no scene.
+pub(crate) fn are_independent(
+    alloc: Global,
+    office: &Office,
+    members: &[&str],
+    pair: (u16, u16),
+) -> Result<bool, AllocError> {
+    if usize::from(pair.0) >= members.len() || usize::from(pair.1) >= members.len() {
+        return Err(AllocError);
+    }
+    match read_site(alloc, office, "LIVE", &members) {
+        Ok(parts) => are_parts_independent(alloc, office, &parts, "LIVE", members, pair),
+        Err(_) => Err(AllocError),
+    }
+}
+
+/// The least need that is broken once the changes of a member are made.
+fn first_broken_of_parts(
+    alloc: Global,
+    office: &Office,
+    parts: &SiteParts,
+    root: &str,
+    members: &[&str],
+) -> Result<Option<Broken>, AllocError>
+    requires parts { AreParts office.now (site root.now (map (λ name. name.now) members.now)) parts.now }
+    requires one { length members.now ≡ 1 }
+{
+    let _book = office.book();
+    let _root = root;
+    let _members = members;
+    match parts.scene(alloc, office) {
+        Ok(scene) => scene.first_broken(),
+        Err(_) => Err(AllocError),
+    }
+}
+
+/// The same by names. It fails for want of memory, and where the member makes no scene.
+pub(crate) fn first_broken(
+    alloc: Global,
+    office: &Office,
+    root: &str,
+    member: &str,
+) -> Result<Option<Broken>, AllocError> {
+    let members = [member];
+    match read_site(alloc, office, root, &members.as_slice()) {
+        Ok(parts) => first_broken_of_parts(alloc, office, &parts, root, &members),
+        Err(_) => Err(AllocError),
+    }
+}
+
+/// The pairs of at most three members.
+const PAIRS: [(u16, u16); 3] = [(0, 1), (0, 2), (1, 2)];
+
+/// A word for each pair of members: whether they are independent.
+fn independence(alloc: Global, office: &Office, members: &[&str]) -> Result<String, AllocError> {
+    let mut line = String::new(alloc);
+    for pair in PAIRS {
+        if usize::from(pair.1) < members.len() {
+            let word = if are_independent(alloc, office, members, pair)? {
+                " yes"
+            } else {
+                " no"
+            };
+            line.push_str(word)?;
+        }
+    }
+    Ok(line)
+}
+
+/// A line for each need that children of LIVE touch, and which of them are independent.
+pub(crate) fn scene_lines(
+    alloc: Global,
+    office: &Office,
+    members: &[&str],
+) -> Result<String, AllocError> {
+    let needs = site_lines(alloc, office, "LIVE", members)?;
+    let pairs = independence(alloc, office, members)?;
+    format!(in alloc; "{needs}independent{pairs}\n")
+}
+
+/// Rows of LIVE, what each member changes, and what is said of it.
+pub(crate) type SceneOver = (&'static str, &'static [&'static str], &'static str);
+
+/// What is said of members over tables with rules, and rows of LIVE in two pieces.
+fn said(alloc: Global, front: (&str, &str), more: &str, changes: &[&str]) -> Result<String, Fail> {
+    let live = format!(in alloc; "{}{more}", front.1)?;
+    let office = network(alloc, front.0, live.as_str(), changes)?;
+    Ok(scene_lines(alloc, &office, members(changes.len()))?)
+}
+
+/// Asserts what is said of each of some scenes.
+pub(crate) fn assert_said(
+    rt: &impl Abort,
+    alloc: Global,
+    front: (&str, &str),
+    scenes: &[SceneOver],
+) -> Result<(), Fail> {
+    for (more, changes, lines) in scenes {
+        let found = said(alloc, front, more, changes)?;
+        assert_eq!(rt; found.as_str(), *lines);
+    }
+    Ok(())
+}
