@@ -23,4 +23,6 @@ mod runs;
 #[cfg(test)]
 mod texts;
 #[cfg(test)]
+mod two_texts;
+#[cfg(test)]
 mod verdicts;

@@ -56,7 +56,7 @@ fn flags_by_format(rt: HostRuntime) -> Result<(), Fail> {
         let text = text_with(alloc, format, set)?;
         let parts = read_office(alloc, text.as_bytes())?;
         assert_eq!(rt; parts.workspaces.len(), 1);
-        assert_eq!(rt; parts.workspaces[0].kept, kept, "{format}");
+        assert_eq!(rt; parts.workspaces[0].layer.kept, kept, "{format}");
     }
     Ok(())
 }
