@@ -7,8 +7,6 @@ mod devices;
 #[cfg(test)]
 mod faults;
 #[cfg(test)]
-mod refused_asks;
-#[cfg(test)]
 mod refused_runs;
 #[cfg(test)]
 mod separators;
