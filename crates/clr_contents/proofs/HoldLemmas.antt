@@ -1,5 +1,5 @@
 -- Entries that are made first: no content changes, and none is lost.
-use Rattle.std.proofs.Common.{◌≡◌, ℕ, ◌<◌, ◌≢◌, ⊎_elim, List, length, map, Some, None, refl, ap, sym, subst, ◌∙◌, slice_set}
+use Rattle.std.proofs.Common.{◌≡◌, ℕ, suc, zero, ◌<◌, ◌≢◌, ⊎_elim, true, false, cond, List, [], ◌∷◌, length, get_or, map, Some, None, refl, ap, sym, subst, ◌∙◌, arith, slice_set}
 use Rattle.std.proofs.lemmas.List.{length-set, get_or-set_same, get_or-set_other}
 use Rattle.std.proofs.lemmas.Bool.{cases_eq}
 use Rattle.std.specs.declared.option.Option.{Option}
@@ -7,15 +7,15 @@ use Rattle.std.specs.FinMap as finite
 use Rattle.clr_rows.specs.declared.cells.CellId.{CellId}
 use Rattle.clr_rows.specs.declared.rows.Row.{Row}
 use Rattle.clr_rows.specs.Contents.{Content, row_at, over}
-use Rattle.clr_differences.specs.Differences.{Differences, Rows, seen_over, put_each, cells_in, HasEntry}
-use Rattle.clr_differences.proofs.DifferenceLemmas.{neutral, neutral_new, entry_stays, entry_made, entries_keep, put_each_keeps, over_outside}
+use Rattle.clr_differences.specs.Differences.{Differences, Rows, seen_over, put_each, cells_in, is_among, HasEntry, IsOwnOver}
+use Rattle.clr_differences.proofs.DifferenceLemmas.{neutral, neutral_new, entry_stays, entry_made, entries_keep, put_each_keeps, over_outside, not_among, put_elsewhere, put_each_elsewhere}
 use Rattle.clr_layers.specs.Marks.{Name, Mark}
 use Rattle.clr_layers.specs.Workspaces.{Workspace, workspace_at, parent_of}
-use Rattle.clr_layers.specs.Layers.{Layer, no_layer, layer_at, layer_changed, whole_of, whole_mark, wholes, above_at, IsUnder}
+use Rattle.clr_layers.specs.Layers.{Layer, no_layer, layer_at, layer_changed, whole_of, whole_mark, wholes, above_at, IsUnder, StayOwnBeside}
 use Rattle.clr_layers.specs.declared.stored_marks.StoredMark.{StoredMark}
 use Rattle.clr_layers.proofs.Meaning.{wholes-at}
 use Rattle.clr_layers.proofs.Places.{LaterAgree}
-use Rattle.clr_contents.specs.Holding.{HasEntriesOf, Extends, ChildrenHold}
+use Rattle.clr_contents.specs.Holding.{HasEntriesOf, Extends, ChildrenHold, StaysOwnAt, StayOwnBut, StayOwnButChildren}
 use Rattle.clr_contents.specs.Roots.{IsRooted}
 use Rattle.clr_contents.proofs.ReadLemmas.{above_parent, base_of_whole, current_of_whole}
 use Rattle.clr_contents.proofs.MoveLemmas.{stays}
@@ -94,6 +94,59 @@ extends_put ls at rows lt = extends_set ls at _ lt (record { name = refl; parent
 
 pub extends_marks : (ls : List Layer) (at : ℕ) (ms : List StoredMark) → at < length ls → Extends ls (layer_changed ls at (λ l. record l { marks = ms }))
 extends_marks ls at ms lt = extends_set ls at _ lt (record { name = refl; parent = refl; base = λ q h. h; current = λ q h. h })
+
+-- other entries are as they were ----------------------------------------------------------------
+
+pub own_itself : (q : CellId) (l : Layer) → StaysOwnAt q l l
+own_itself q l = record { base = refl; current = λ row own. own; saved = λ row own. own }
+
+pub own_both : (q : CellId) (l m n : Layer) → StaysOwnAt q l m → StaysOwnAt q m n → StaysOwnAt q l n
+own_both q l m n a b = record { base = b.base ∙ a.base; current = λ row own. b.current row (a.current row own); saved = λ row own. b.saved row (a.saved row own) }
+
+pub but_itself : (at : ℕ) (cells : List CellId) (ls : List Layer) → StayOwnBut at cells ls ls
+but_itself at cells ls k q apart = own_itself q (layer_at ls k)
+
+pub but_both : (at : ℕ) (cells : List CellId) (ls ms ns : List Layer) → StayOwnBut at cells ls ms → StayOwnBut at cells ms ns → StayOwnBut at cells ls ns
+but_both at cells ls ms ns a b k q apart = own_both q (layer_at ls k) (layer_at ms k) (layer_at ns k) (a k q apart) (b k q apart)
+
+pub but_children_itself : (name : Name) (cells : List CellId) (ls : List Layer) → StayOwnButChildren name cells ls ls
+but_children_itself name cells ls k q apart = own_itself q (layer_at ls k)
+
+-- the child of a workspace alone
+pub but_child : (at p : ℕ) (cells : List CellId) (ls ms : List Layer) → IsUnder (layer_at ls p).name (layer_at ls at) → StayOwnBut at cells ls ms → StayOwnButChildren (layer_at ls p).name cells ls ms
+but_child at p cells ls ms under a k q apart = a k q (λ same. apart (subst (λ j. IsUnder (layer_at ls p).name (layer_at ls j)) (sym same) under))
+
+-- more children, over layers of the same names
+pub but_children_both : (at : ℕ) (cells : List CellId) (ls ms ns : List Layer) → Extends ls ms → StayOwnButChildren (layer_at ls at).name cells ls ms → StayOwnButChildren (layer_at ms at).name cells ms ns → StayOwnButChildren (layer_at ls at).name cells ls ns
+but_children_both at cells ls ms ns e a b k q apart =
+    own_both q (layer_at ls k) (layer_at ms k) (layer_at ns k) (a k q apart)
+    (b k q (λ under. apart (subst (λ n. IsUnder n (layer_at ls k)) (e.each at).name (subst (λ n. IsUnder (layer_at ms at).name (record (layer_at ls k) { parent = n })) (e.each k).parent under))))
+
+pub but_set : (ls : List Layer) (at : ℕ) (m : Layer) (cells : List CellId) → at < length ls → ((q : CellId) → is_among cells q ≡ false → StaysOwnAt q (layer_at ls at) m) → StayOwnBut at cells ls (slice_set ls at m)
+but_set ls at m cells lt one k q apart = ⊎_elim
+    (λ (e : k ≡ at). subst (λ j. StaysOwnAt q (layer_at ls j) (layer_at (slice_set ls at m) j)) (sym e) (subst (StaysOwnAt q (layer_at ls at)) (sym (get_or-set_same ls at m no_layer lt)) (one q (apart e))))
+    (λ (n : k ≢ at). subst (StaysOwnAt q (layer_at ls k)) (sym (get_or-set_other ls at k m no_layer n)) (own_itself q (layer_at ls k)))
+    (cases_eq k at)
+
+pub but_base : (ls : List Layer) (at : ℕ) (k : CellId) (v : Option Row) → at < length ls → StayOwnBut at (k ∷ []) ls (layer_changed ls at (λ l. record l { base = finite.insert l.base k v }))
+but_base ls at k v lt = but_set ls at _ (k ∷ []) lt (λ q apart. record { base = put_elsewhere (layer_at ls at).base k v q apart; current = λ row own. own; saved = λ row own. own })
+
+pub but_current : (ls : List Layer) (at : ℕ) (k : CellId) (v : Option Row) → at < length ls → StayOwnBut at (k ∷ []) ls (layer_changed ls at (λ l. record l { current = finite.insert l.current k v }))
+but_current ls at k v lt =
+    but_set ls at _ (k ∷ []) lt (λ q apart. record { base = refl; current = λ row own. subst (IsOwnOver row) (sym (put_elsewhere (layer_at ls at).current k v q apart)) own; saved = λ row own. own })
+
+pub but_put : (ls : List Layer) (at : ℕ) (rows : Rows) → at < length ls → StayOwnBut at (cells_in rows) ls (layer_changed ls at (λ l. record l { current = put_each l.current rows }))
+but_put ls at rows lt =
+    but_set ls at _ (cells_in rows) lt (λ q apart. record { base = refl; current = λ row own. subst (IsOwnOver row) (sym (put_each_elsewhere rows (layer_at ls at).current q apart)) own; saved = λ row own. own })
+
+pub but_marks : (ls : List Layer) (at : ℕ) (cells : List CellId) (ms : List StoredMark) → at < length ls → StayOwnBeside cells (layer_at ls at).marks ms → StayOwnBut at cells ls (layer_changed ls at (λ l. record l { marks = ms }))
+but_marks ls at cells ms lt stay = but_set ls at _ cells lt (λ q apart. record { base = refl; current = λ row own. own; saved = stay q apart })
+
+-- a cell of some is apart where all are
+pub apart_at : (cells : List CellId) (i : ℕ) (c q : CellId) → i < length cells → is_among cells q ≡ false → is_among (get_or cells i c ∷ []) q ≡ false
+apart_at [] i c q lt apart = absurd (omega arith)
+apart_at (cell ∷ cells) zero c q lt apart = ap (λ b. cond b true false) (not_among cell cells q apart).0
+apart_at (cell ∷ cells) (suc i) c q lt apart = apart_at cells i c q (omega arith) (not_among cell cells q apart).1
 
 pub held_base : (ls : List Layer) (at : ℕ) (k : CellId) (v : Option Row) → at < length ls → HasEntry (layer_at (layer_changed ls at (λ l. record l { base = finite.insert l.base k v })) at).base k
 held_base ls at k v lt = subst (λ (l : Layer). HasEntry l.base k) (sym (get_or-set_same ls at _ no_layer lt)) (entry_made (layer_at ls at).base k v)

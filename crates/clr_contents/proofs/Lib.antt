@@ -1,7 +1,9 @@
 pub mod ChangeLemmas
 pub mod DepthLemmas
 pub mod HoldLemmas
+pub mod LeanLemmas
 pub mod MarkLemmas
 pub mod MoveLemmas
 pub mod ReadLemmas
 pub mod RootLemmas
+pub mod SweepLemmas

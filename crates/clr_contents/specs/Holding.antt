@@ -1,11 +1,13 @@
 -- Entries that are made before a content changes, so that what follows it stays.
-use Rattle.std.specs.Prelude.{◌≡◌, ℕ, ◌<◌, List, [], ◌∷◌, length}
+use Rattle.std.specs.Prelude.{◌≡◌, ℕ, ◌<◌, false, List, [], ◌∷◌, Option, length}
+use Rattle.std.specs.FinMap as finite
 use Rattle.clr_rows.specs.declared.cells.CellId.{CellId}
+use Rattle.clr_rows.specs.declared.rows.Row.{Row}
 use Rattle.clr_rows.specs.Contents.{Content, Changes, row_at}
 use Rattle.clr_change.specs.ChangeSets.{set_change}
-use Rattle.clr_differences.specs.Differences.{Rows, HasEntry, HasEntries}
+use Rattle.clr_differences.specs.Differences.{Rows, HasEntry, HasEntries, is_among, IsOwnOver}
 use Rattle.clr_layers.specs.Marks.{Name}
-use Rattle.clr_layers.specs.Layers.{Layer, layer_at, IsUnder}
+use Rattle.clr_layers.specs.Layers.{Layer, layer_at, IsUnder, AreOwnOver}
 
 -- a layer of the same name and parent with at least the entries of another
 pub record HasEntriesOf (l m : Layer) : Type 0 where
@@ -18,6 +20,21 @@ pub record HasEntriesOf (l m : Layer) : Type 0 where
 pub record Extends (ls ms : List Layer) : Type 0 where
   pub long : length ms ≡ length ls
   pub each : (k : ℕ) → HasEntriesOf (layer_at ls k) (layer_at ms k)
+
+-- a layer has the base entry of another at a cell, and besides no entry with the row that it lies over where the other has none
+pub record StaysOwnAt (q : CellId) (l m : Layer) : Type 0 where
+  pub base : finite.get m.base q ≡ finite.get l.base q
+  pub current : (row : Option Row) → IsOwnOver row (finite.get l.current q) → IsOwnOver row (finite.get m.current q)
+  pub saved : (row : Option Row) → AreOwnOver row q l.marks → AreOwnOver row q m.marks
+
+-- so it is of each layer at each cell, but for the one at a position at some cells
+abbrev pub StayOwnBut : ℕ → List CellId → List Layer → List Layer → Type 0
+StayOwnBut at cells ls ms = (k : ℕ) (q : CellId) → (k ≡ at → is_among cells q ≡ false) → StaysOwnAt q (layer_at ls k) (layer_at ms k)
+
+-- but for the children of a workspace at some cells
+abbrev pub StayOwnButChildren : Name → List CellId → List Layer → List Layer → Type 0
+StayOwnButChildren name cells ls ms = (k : ℕ) (q : CellId) → (IsUnder name (layer_at ls k) → is_among cells q ≡ false)
+    → StaysOwnAt q (layer_at ls k) (layer_at ms k)
 
 -- the base of each child of a workspace has entries at these cells
 abbrev pub ChildrenHold : List Layer → Name → List CellId → Type 0

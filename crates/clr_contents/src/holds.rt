@@ -1,8 +1,8 @@
-ghost use Rattle.std.specs.Prelude.{◌≡◌, ◌<◌, length, OnOk};
+ghost use Rattle.std.specs.Prelude.{◌≡◌, ◌<◌, ◌∷◌, [], length, OnOk};
 ghost use Rattle.std.specs.Str.{bytes_eq};
 ghost use Rattle.clr_differences.specs.Differences.{HasEntry, HasEntries};
 ghost use Rattle.clr_layers.specs.Layers.{layer_at, wholes, IsUnder, EachMarkHolds};
-ghost use Rattle.clr_contents.specs.Holding.{Extends, ChildrenHold};
+ghost use Rattle.clr_contents.specs.Holding.{Extends, ChildrenHold, StayOwnBut, StayOwnButChildren};
 ghost use Rattle.clr_contents.specs.Roots.{IsRooted};
 
 use crate::reads::{base_row_of, parent_of, row_of};
@@ -26,6 +26,7 @@ fn hold_base(
     requires rooted { IsRooted (wholes live.now map.old) }
     ensures seen { wholes live.now map.new ≡ wholes live.now map.old }
     ensures extends { Extends map.old map.new }
+    ensures elsewhere { StayOwnBut at (cell ∷ []) map.old map.new }
     ensures held { OnOk result (HasEntry (layer_at map.new at).base cell) }
 {
     if map.base(at).get(cell).is_some() {
@@ -49,6 +50,7 @@ fn hold_bases(
     requires rooted { IsRooted (wholes live.now map.old) }
     ensures seen { wholes live.now map.new ≡ wholes live.now map.old }
     ensures extends { Extends map.old map.new }
+    ensures elsewhere { StayOwnBut at cells.now map.old map.new }
     ensures held { OnOk result (HasEntries (layer_at map.new at).base cells.now) }
 {
     for cell in cells {
@@ -80,6 +82,7 @@ fn hold_child(
     requires rooted { IsRooted (wholes live.now map.old) }
     ensures seen { wholes live.now map.new ≡ wholes live.now map.old }
     ensures extends { Extends map.old map.new }
+    ensures elsewhere { StayOwnButChildren (layer_at map.old parent).name cells.now map.old map.new }
     ensures held { OnOk result (IsUnder (layer_at map.old parent).name (layer_at map.new child) → HasEntries (layer_at map.new child).base cells.now) }
 {
     if !is_child_of(map, child, parent) {
@@ -101,6 +104,7 @@ pub fn hold_children(
     requires rooted { IsRooted (wholes live.now map.old) }
     ensures seen { wholes live.now map.new ≡ wholes live.now map.old }
     ensures extends { Extends map.old map.new }
+    ensures elsewhere { StayOwnButChildren (layer_at map.old at).name cells.now map.old map.new }
     ensures children { OnOk result (ChildrenHold map.new (layer_at map.old at).name cells.now) }
 {
     for k in 1..map.len() {
@@ -121,6 +125,7 @@ pub fn hold_current(
     requires rooted { IsRooted (wholes live.now map.old) }
     ensures seen { wholes live.now map.new ≡ wholes live.now map.old }
     ensures extends { Extends map.old map.new }
+    ensures elsewhere { StayOwnBut at (cell ∷ []) map.old map.new }
     ensures held { OnOk result (HasEntry (layer_at map.new at).current cell) }
 {
     if map.current(at).get(cell).is_some() {
@@ -143,6 +148,7 @@ pub fn hold_own(
     requires rooted { IsRooted (wholes live.now map.old) }
     ensures seen { wholes live.now map.new ≡ wholes live.now map.old }
     ensures extends { Extends map.old map.new }
+    ensures elsewhere { StayOwnBut at cells.now map.old map.new }
     ensures held { OnOk result (HasEntries (layer_at map.new at).current cells.now) }
 {
     for cell in cells {
@@ -163,6 +169,7 @@ pub fn hold_saved(
     requires rooted { IsRooted (wholes live.now map.old) }
     ensures seen { wholes live.now map.new ≡ wholes live.now map.old }
     ensures extends { Extends map.old map.new }
+    ensures elsewhere { StayOwnBut at (cell ∷ []) map.old map.new }
     ensures held { OnOk result (EachMarkHolds (layer_at map.new at).marks cell) }
 {
     let row = copy_row(base_row_of(live, map, at, cell))?;

@@ -1,13 +1,15 @@
-//! What workspaces see: their contents read by cell or whole, and the entries that keep them as they
-//! are before another content changes.
+//! What workspaces see: their contents read by cell or whole, the entries that keep them as they are
+//! before another content changes, and the neutral entries that go after it.
 #![tactic(auto)]
 
 mod holds;
 mod reads;
+mod sweeps;
 mod views;
 mod wholes;
 
 pub use holds::{hold_children, hold_current, hold_own, hold_saved};
 pub use reads::{base_row_of, depth_at, parent_of, row_of};
+pub use sweeps::{sweep, sweep_at};
 pub use views::{BaseView, View};
 pub use wholes::{base_rows, cells_of, changes_of, saved_at, saved_rows, whole_rows};

@@ -13,7 +13,7 @@ use Rattle.clr_rows.specs.Contents.{Content, row_at, set_cell, over}
 use Rattle.clr_rows.proofs.CellOrder.{cell_cmp_total}
 use Rattle.clr_rows.proofs.ChangeLemmas.{same_content, tied_self, row-set_cell, row-over, apart_from_sorted}
 use Rattle.clr_rows.proofs.RowLemmas.{tied_cells}
-use Rattle.clr_differences.specs.Differences.{Differences, Rows, cells_in, no_differences, seen_over, put_each, HasEntry, HasEntries}
+use Rattle.clr_differences.specs.Differences.{Differences, Rows, cells_in, no_differences, seen_over, put_each, is_among, HasEntry, HasEntries}
 
 -- what is seen ---------------------------------------------------------------------------------
 
@@ -141,6 +141,29 @@ entries_push d (c ∷ cells) cell held one = (held.0, entries_push d cells cell 
 -- entries at one more of some cells
 pub entries_next : (d : Differences) (cells : List CellId) (i : ℕ) (c : CellId) → i < length cells → HasEntries d (take i cells) → HasEntry d (get_or cells i c) → HasEntries d (take (i + 1) cells)
 entries_next d cells i c lt held one = subst (HasEntries d) (sym (take_at_read cells i c lt).1) (entries_push d (take i cells) (get_or cells i c) held one)
+
+-- other cells -------------------------------------------------------------------------------------
+
+-- a cell that is none of some is neither the first nor one of the others
+pub not_among : (cell : CellId) (cells : List CellId) (q : CellId) → is_among (cell ∷ cells) q ≡ false → (eq_by_cmp cell_cmp q cell ≡ false) × (is_among cells q ≡ false)
+not_among cell cells q e = by (eq_by_cmp cell_cmp q cell) e
+  where
+    by : (b : Bool) → cond b true (is_among cells q) ≡ false → (b ≡ false) × (is_among cells q ≡ false)
+    by true h = absurd (false≢true (sym h))
+    by false h = (refl, h)
+
+pub put_elsewhere : (d : Differences) (k : CellId) (v : Option Row) (q : CellId) → is_among (k ∷ []) q ≡ false → finite.get (finite.insert d k v) q ≡ finite.get d q
+put_elsewhere d k v q apart = finite.get-insert cell_cmp_total d k v q ∙ ap (λ b. cond b (Some v) (finite.get d q)) (not_among k [] q apart).0
+
+pub taken_elsewhere : (d : Differences) (k q : CellId) → is_among (k ∷ []) q ≡ false → finite.get (finite.remove d k) q ≡ finite.get d q
+taken_elsewhere d k q apart = finite.get-remove cell_cmp_total d k q ∙ ap (λ b. cond b None (finite.get d q)) (not_among k [] q apart).0
+
+pub put_each_elsewhere : (es : Rows) (d : Differences) (q : CellId) → is_among (cells_in es) q ≡ false → finite.get (put_each d es) q ≡ finite.get d q
+unfolding put_each
+put_each_elsewhere [] d q apart = refl
+put_each_elsewhere (e ∷ es) d q apart =
+    let both = not_among e.0 (cells_in es) q apart in
+    put_each_elsewhere es (finite.insert d e.0 e.1) q both.1 ∙ finite.get-insert cell_cmp_total d e.0 e.1 q ∙ ap (λ b. cond b (Some e.1) (finite.get d q)) both.0
 
 -- what a look-up says
 pub nothing_found : {A : Type 0} (o : Option (Bor A)) → is_some o ≡ false → option_copied o ≡ None

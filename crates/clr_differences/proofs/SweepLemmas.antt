@@ -1,5 +1,7 @@
 -- The entries that are left are the changed cells.
-use Rattle.std.proofs.Common.{◌≡◌, Bool, true, false, cond, not, T, suc, List, [], ◌∷◌, length, map, filter, Some, None, unwrap_or, refl, ap, sym, subst, ◌∙◌}
+use Rattle.std.proofs.Common.{◌≡◌, ℕ, ◌+◌, ◌<◌, Bool, true, false, cond, not, T, suc, List, [], ◌∷◌, ◌++◌, length, get_or, take, map, filter, Some, None, unwrap_or, refl, ap, sym, subst, ◌∙◌}
+use Rattle.std.proofs.lemmas.Bool.{false≢true}
+use Rattle.std.proofs.lemmas.Grind.{take_at_read}
 use Rattle.std.specs.declared.option.Option.{Option}
 use Rattle.std.specs.FinMap as finite
 use Rattle.std.specs.FinMap.Entries.{find, is_sorted}
@@ -18,8 +20,8 @@ use Rattle.clr_rows.proofs.Entries.{keys-from_sorted}
 use Rattle.clr_rows.proofs.RowLemmas.{tied_cells}
 use Rattle.clr_rows.proofs.SameLemmas.{same_is, same_itself}
 use Rattle.clr_rows.proofs.Tests.{first, second}
-use Rattle.clr_differences.specs.Differences.{Differences, Rows, seen_over, is_own, swept}
-use Rattle.clr_differences.proofs.DifferenceLemmas.{row-seen_over}
+use Rattle.clr_differences.specs.Differences.{Differences, Rows, seen_over, is_own, swept, is_among, is_neutral_over, swept_cell, swept_at, IsOwnOver}
+use Rattle.clr_differences.proofs.DifferenceLemmas.{row-seen_over, neutral_taken}
 
 -- what `retain` leaves, where the test keeps no state and changes no value
 pub filtered_from_retain : {K X F : Type 0} (T : F → K → X → Bool → X → F → Type 0) (p : K × X → Bool) (f : F) → ((k : K) (v : X) (b : Bool) (w : X) (g : F) → T f k v b w g → (b ≡ p (k, v)) × (w ≡ v) × (g ≡ f))
@@ -104,3 +106,93 @@ count-swept below d =
 
     keys_are : (changed : Changes) → length (map (λ (e : CellId × Change). e.0) (finite.entries changed)) ≡ length (finite.keys changed)
     keys_are changed = refl
+
+-- entries taken away at some cells -----------------------------------------------------------------------
+
+-- what is neutral at the cell goes, and nothing else
+get-swept_cell : (below : Content) (d : Differences) (cell q : CellId) → finite.get (swept_cell below d cell) q ≡ cond (is_neutral_over (row_at below cell) (finite.get d cell)) (cond (eq_by_cmp cell_cmp q cell) None (finite.get d q)) (finite.get d q)
+unfolding swept_cell
+get-swept_cell below d cell q = by (is_neutral_over (row_at below cell) (finite.get d cell))
+  where
+    by : (b : Bool) → finite.get (cond b (finite.remove d cell) d) q ≡ cond b (cond (eq_by_cmp cell_cmp q cell) None (finite.get d q)) (finite.get d q)
+    by true = finite.get-remove cell_cmp_total d cell q
+    by false = refl
+
+seen-swept_cell : (below : Content) (d : Differences) (cell : CellId) → seen_over below (swept_cell below d cell) ≡ seen_over below d
+unfolding swept_cell
+seen-swept_cell below d cell = by (finite.get d cell) refl
+  where
+    at : (row : Option Row) (b : Bool) → same (row_at below cell) row ≡ b → finite.get d cell ≡ Some row → seen_over below (cond b (finite.remove d cell) d) ≡ seen_over below d
+    at row true e is = neutral_taken below d cell (is ∙ ap (λ (r : Option Row). Some r) (sym (same_is (row_at below cell) row e)))
+    at row false e is = refl
+
+    by : (o : Option (Option Row)) → finite.get d cell ≡ o → seen_over below (cond (is_neutral_over (row_at below cell) o) (finite.remove d cell) d) ≡ seen_over below d
+    by None is = refl
+    by (Some row) is = at row (same (row_at below cell) row) refl is
+
+pub seen-swept_at : (below : Content) (cells : List CellId) (d : Differences) → seen_over below (swept_at below cells d) ≡ seen_over below d
+unfolding swept_at
+seen-swept_at below [] d = refl
+seen-swept_at below (cell ∷ cells) d = seen-swept_at below cells (swept_cell below d cell) ∙ seen-swept_cell below d cell
+
+-- what isn't neutral over any row stays so
+own_cell : (below : Content) (d : Differences) (cell q : CellId) (row : Option Row) → IsOwnOver row (finite.get d q) → IsOwnOver row (finite.get (swept_cell below d cell) q)
+own_cell below d cell q row own =
+    subst (IsOwnOver row) (sym (get-swept_cell below d cell q)) (by (is_neutral_over (row_at below cell) (finite.get d cell)) (eq_by_cmp cell_cmp q cell))
+  where
+    by : (b c : Bool) → IsOwnOver row (cond b (cond c None (finite.get d q)) (finite.get d q))
+    by true true = refl
+    by true false = own
+    by false c = own
+
+pub own_stays : (below : Content) (cells : List CellId) (d : Differences) (q : CellId) (row : Option Row) → IsOwnOver row (finite.get d q) → IsOwnOver row (finite.get (swept_at below cells d) q)
+unfolding swept_at
+own_stays below [] d q row own = own
+own_stays below (cell ∷ cells) d q row own = own_stays below cells (swept_cell below d cell) q row (own_cell below d cell q row own)
+
+-- nothing neutral is left at the cells
+own_here : (below : Content) (d : Differences) (cell q : CellId) → eq_by_cmp cell_cmp q cell ≡ true → IsOwnOver (row_at below q) (finite.get (swept_cell below d cell) q)
+own_here below d cell q tied =
+    subst (IsOwnOver (row_at below q)) (sym (get-swept_cell below d cell q ∙ ap (λ c. cond (is_neutral_over (row_at below cell) (finite.get d cell)) (cond c None (finite.get d q)) (finite.get d q)) tied))
+    (by (is_neutral_over (row_at below cell) (finite.get d cell)) (ap (λ (c : CellId). is_neutral_over (row_at below c) (finite.get d c)) (tied_cells q cell tied)))
+  where
+    by : (b : Bool) → is_neutral_over (row_at below q) (finite.get d q) ≡ b → IsOwnOver (row_at below q) (cond b None (finite.get d q))
+    by true e = refl
+    by false e = e
+
+pub own_made : (below : Content) (cells : List CellId) (d : Differences) (q : CellId) → is_among cells q ≡ true → IsOwnOver (row_at below q) (finite.get (swept_at below cells d) q)
+unfolding swept_at
+own_made below [] d q among = absurd (false≢true among)
+own_made below (cell ∷ cells) d q among = by (eq_by_cmp cell_cmp q cell) refl among (own_made below cells (swept_cell below d cell) q)
+  where
+    by : (b : Bool) → eq_by_cmp cell_cmp q cell ≡ b → cond b true (is_among cells q) ≡ true → (is_among cells q ≡ true → IsOwnOver (row_at below q) (finite.get (swept_at below cells (swept_cell below d cell)) q)) → IsOwnOver (row_at below q) (finite.get (swept_at below cells (swept_cell below d cell)) q)
+    by true e h rest = own_stays below cells (swept_cell below d cell) q (row_at below q) (own_here below d cell q e)
+    by false e h rest = rest h
+
+-- one cell more
+swept_at-push : (below : Content) (cells : List CellId) (cell : CellId) (d : Differences) → swept_at below (cells ++ cell ∷ []) d ≡ swept_cell below (swept_at below cells d) cell
+unfolding swept_at
+swept_at-push below [] cell d = refl
+swept_at-push below (c ∷ cells) cell d = swept_at-push below cells cell (swept_cell below d c)
+
+pub swept_at-next : (below : Content) (cells : List CellId) (i : ℕ) (c : CellId) (d e f : Differences) → i < length cells → e ≡ swept_at below (take i cells) d → f ≡ swept_cell below e (get_or cells i c) → f ≡ swept_at below (take (i + 1) cells) d
+swept_at-next below cells i c d e f lt so_far is =
+    is ∙ ap (λ (x : Differences). swept_cell below x (get_or cells i c)) so_far
+    ∙ sym (ap (λ (qs : List CellId). swept_at below qs d) (take_at_read cells i c lt).1 ∙ swept_at-push below (take i cells) (get_or cells i c) d)
+
+-- where nothing is neutral a sweep takes nothing away, and a sweep leaves nothing neutral -----------------
+
+pub own_swept : (below : Content) (d : Differences) (q : CellId) → IsOwnOver (row_at below q) (finite.get (swept below d) q)
+own_swept below d q = subst (IsOwnOver (row_at below q)) (sym (get-swept below d q)) (by (same (row_at below q) (row_at (seen_over below d) q)) refl)
+  where
+    by : (b : Bool) → same (row_at below q) (row_at (seen_over below d) q) ≡ b → IsOwnOver (row_at below q) (cond (not b) (Some (row_at (seen_over below d) q)) None)
+    by true e = refl
+    by false e = e
+
+pub swept_own : (below : Content) (d : Differences) → ((q : CellId) → IsOwnOver (row_at below q) (finite.get d q)) → swept below d ≡ d
+swept_own below d own = finite.same_map cell_cmp_total cell_cmp_exact _ _ (λ q.
+    get-swept below d q ∙ ap (λ (r : Option Row). cond (not (same (row_at below q) r)) (Some r) None) (row-seen_over below d q) ∙ by q (finite.get d q) (own q))
+  where
+    by : (q : CellId) (o : Option (Option Row)) → IsOwnOver (row_at below q) o → cond (not (same (row_at below q) (unwrap_or o (row_at below q)))) (Some (unwrap_or o (row_at below q))) None ≡ o
+    by q None e = ap (λ b. cond (not b) (Some (row_at below q)) None) (same_itself (row_at below q))
+    by q (Some row) e = ap (λ b. cond (not b) (Some row) None) e

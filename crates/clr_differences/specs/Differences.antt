@@ -1,7 +1,8 @@
 -- Differences from a content: at some cells a row, or none.
-use Rattle.std.specs.Prelude.{◌≡◌, T, Bool, true, not, filter, List, [], ◌∷◌, Option, is_some, map}
+use Rattle.std.specs.Prelude.{◌≡◌, T, Bool, true, false, if◌then◌else◌, not, filter, List, [], ◌∷◌, Option, Some, None, is_some, map}
 use Rattle.std.specs.Coded.{Coded, coded_option}
 use Rattle.std.specs.FinMap as finite
+use Rattle.std.specs.Ordering.{eq_by_cmp}
 use Rattle.clr_rows.specs.declared.cells.CellId.{CellId}
 use Rattle.clr_rows.specs.declared.rows.Row.{Row}
 use Rattle.clr_rows.specs.Cells.{cell_cmp, coded_cell}
@@ -42,6 +43,29 @@ is_own below e = not (same (row_at below e.0) e.1)
 -- the entries that haven't the row of the content below
 unfoldable pub swept : Content → Differences → Differences
 swept below d = finite.from_sorted (filter (is_own below) (finite.entries d))
+
+-- an entry, if there is one, has the row of the content below
+abbrev pub is_neutral_over : Option Row → Option (Option Row) → Bool
+is_neutral_over below None = false
+is_neutral_over below (Some row) = same below row
+
+-- an entry, if there is one, hasn't
+abbrev pub IsOwnOver : Option Row → Option (Option Row) → Type 0
+IsOwnOver below entry = is_neutral_over below entry ≡ false
+
+-- a cell is one of some
+abbrev pub is_among : List CellId → CellId → Bool
+is_among [] q = false
+is_among (cell ∷ cells) q = if eq_by_cmp cell_cmp q cell then true else is_among cells q
+
+-- without the entry at a cell, where that has the row of the content below
+unfoldable pub swept_cell : Content → Differences → CellId → Differences
+swept_cell below d cell = if is_neutral_over (row_at below cell) (finite.get d cell) then finite.remove d cell else d
+
+-- so at each of some cells
+unfoldable pub swept_at : Content → List CellId → Differences → Differences
+swept_at below [] d = d
+swept_at below (cell ∷ cells) d = swept_at below cells (swept_cell below d cell)
 
 -- entries put one after another
 unfoldable pub put_each : Differences → Rows → Differences

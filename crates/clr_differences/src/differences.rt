@@ -1,9 +1,10 @@
-ghost use Rattle.std.specs.Prelude.{◌≡◌, ◌<◌, ◌^◌, length, IfOk, OnOk, OnErr, IsOk};
+ghost use Rattle.std.specs.Prelude.{◌≡◌, ◌<◌, ◌^◌, ◌∷◌, [], false, length, IfOk, OnOk, OnErr, IsOk};
 ghost use Rattle.std.specs.FinMap as finite;
 ghost use Rattle.std.specs.Option.{option_copied};
 ghost use Rattle.clr_rows.specs.Contents.{Content, row_at};
 ghost use Rattle.clr_rows.specs.Same.{same};
-ghost use Rattle.clr_differences.specs.Differences.{no_differences, put_each, seen_over, swept, cells_in, HasEntry, HasEntries};
+ghost use Rattle.clr_differences.specs.Differences.{no_differences, put_each, seen_over, swept, swept_at, swept_cell, cells_in};
+ghost use Rattle.clr_differences.specs.Differences.{is_among, is_neutral_over, HasEntry, HasEntries};
 
 use clr_change::{are_same, copy_row};
 use clr_rows::{CellId, Row, RowView};
@@ -71,6 +72,35 @@ impl Differences {
         self.rows.retain(|cell, row| !is_neutral(below, *cell, row));
     }
 
+    /// Whether there is an entry at a cell that has the row of the content below.
+    fn has_neutral<V: RowView>(&self, below: &V, cell: CellId) -> bool
+        ensures { result ≡ is_neutral_over (row_at (V.content below.now) cell) (finite.get self.now cell) }
+    {
+        match self.get(cell) {
+            Some(row) => is_neutral(below, cell, row),
+            None => false,
+        }
+    }
+
+    #[tactic(auto, unfolding(crate::specs::Differences::swept_cell))]
+    fn sweep_cell<V: RowView>(&mut self, below: &V, cell: CellId)
+        ensures { self.new ≡ swept_cell (V.content below.now) self.old cell }
+    {
+        if self.has_neutral(below, cell) {
+            self.take(cell);
+        }
+    }
+
+    /// Takes away each entry at some cells that has the row of the content below, so that what is
+    /// seen stays. It takes no memory, and looks at no other entry.
+    pub fn sweep_at<V: RowView>(&mut self, below: &V, cells: &[CellId])
+        ensures { self.new ≡ swept_at (V.content below.now) cells.now self.old }
+    {
+        for cell in cells {
+            self.sweep_cell(below, *cell);
+        }
+    }
+
     /// Puts an entry at a cell. It fails for want of memory alone, never where the cell has an
     /// entry, and changes nothing then.
     pub fn put(&mut self, cell: CellId, row: Option<Row>) -> Result<(), AllocError>
@@ -114,6 +144,7 @@ impl Differences {
     pub fn hold(&mut self, cell: CellId, row: Option<&Row>) -> Result<(), AllocError>
         ensures seen { (below : Content) → row_at below cell ≡ option_copied row.entry → seen_over below self.new ≡ seen_over below self.old }
         ensures held { OnOk result (HasEntry self.new cell) }
+        ensures others { (q : CellId) → is_among (cell ∷ []) q ≡ false → finite.get self.new q ≡ finite.get self.old q }
     {
         if self.get(cell).is_some() {
             return Ok(());

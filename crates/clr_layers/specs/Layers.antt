@@ -6,8 +6,10 @@ use Rattle.std.specs.Coded.{Coded, code_by, coded×, coded⊎, coded_list, coded
 use Rattle.std.specs.FinMap as finite
 use Rattle.std.specs.Str.{bytes_eq}
 use Rattle.clr_rows.specs.declared.cells.CellId.{CellId}
+use Rattle.clr_rows.specs.declared.rows.Row.{Row}
 use Rattle.clr_rows.specs.Contents.{Content, no_rows}
-use Rattle.clr_differences.specs.Differences.{Differences, Rows, coded_differences, no_differences, put_each, seen_over, swept, HasEntry}
+use Rattle.clr_differences.specs.Differences.{Differences, Rows, HasEntry, IsOwnOver, coded_differences, is_among, no_differences, put_each, seen_over}
+use Rattle.clr_differences.specs.Differences.{swept, swept_at}
 use Rattle.clr_layers.specs.Marks.{Name, Mark, Saved, ChildMark, coded_name}
 use Rattle.clr_layers.specs.Workspaces.{Workspace, root}
 use Rattle.clr_layers.specs.declared.stored_marks.StoredMark.{StoredMark}
@@ -108,6 +110,20 @@ saved_differences (stored.Child name) = no_differences
 abbrev pub swept_mark : Content → StoredMark → StoredMark
 swept_mark base (stored.Saved name d) = stored.Saved name (swept base d)
 swept_mark base (stored.Child name) = stored.Child name
+
+-- so where only the entries at some cells are looked at
+abbrev pub swept_mark_at : Content → List CellId → StoredMark → StoredMark
+swept_mark_at base cells (stored.Saved name d) = stored.Saved name (swept_at base cells d)
+swept_mark_at base cells (stored.Child name) = stored.Child name
+
+-- no savepoint has an entry at a cell with this row of the base
+abbrev pub AreOwnOver : Option Row → CellId → List StoredMark → Type 0
+AreOwnOver base q [] = Unit {0}
+AreOwnOver base q (m ∷ ms) = IsOwnOver base (finite.get (saved_differences m) q) × AreOwnOver base q ms
+
+-- beside some cells no savepoint has such an entry that had none
+abbrev pub StayOwnBeside : List CellId → List StoredMark → List StoredMark → Type 0
+StayOwnBeside cells old new = (q : CellId) → is_among cells q ≡ false → (base : Option Row) → AreOwnOver base q old → AreOwnOver base q new
 
 -- how many entries a mark has
 abbrev pub entries_of_mark : StoredMark → ℕ

@@ -6,7 +6,7 @@ mod stored_parts;
 mod workspace_maps;
 
 pub use stored_marks::{
-    StoredMark, count_marks_of, count_saved, find_saved, has_child_after, sweep_each,
+    StoredMark, count_marks_of, count_saved, find_saved, has_child_after, sweep_each, sweep_each_at,
 };
 pub use stored_parts::StoredPart;
 pub use workspace_maps::{Layer, WorkspaceMap};

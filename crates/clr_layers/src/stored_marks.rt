@@ -3,7 +3,7 @@ ghost use Rattle.std.specs.List.{list_any};
 ghost use Rattle.std.specs.Option.{option_copied};
 ghost use Rattle.clr_rows.specs.Contents.{Content, row_at};
 ghost use Rattle.clr_layers.specs.Layers.{whole_mark, is_stored_child, is_stored_saved, is_stored_saved_as, is_stored_mark_of};
-ghost use Rattle.clr_layers.specs.Layers.{stored_without_mark_of, swept_mark, MarkHolds, EachMarkHolds};
+ghost use Rattle.clr_layers.specs.Layers.{stored_without_mark_of, swept_mark, swept_mark_at, MarkHolds, EachMarkHolds, StayOwnBeside};
 ghost use Rattle.clr_layers.specs.declared.stored_marks.StoredMark.TheVariants.{Child};
 
 use clr_differences::Differences;
@@ -21,6 +21,7 @@ pub enum StoredMark {
 fn hold(mark: &mut StoredMark, cell: CellId, row: Option<&Row>) -> Result<(), AllocError>
     ensures seen { (base : Content) → row_at base cell ≡ option_copied row.entry → whole_mark base mark.new ≡ whole_mark base mark.old }
     ensures held { OnOk result (MarkHolds cell mark.new) }
+    ensures others { StayOwnBeside (cell ∷ []) (mark.old ∷ []) (mark.new ∷ []) }
 {
     match mark {
         StoredMark::Saved(_, differences) => differences.hold(cell, row),
@@ -37,6 +38,7 @@ pub(crate) fn hold_each(
 ) -> Result<(), AllocError>
     ensures seen { (b : Content) → row_at b cell ≡ option_copied row.entry → map (whole_mark b) marks.new.items ≡ map (whole_mark b) marks.old.items }
     ensures held { OnOk result (EachMarkHolds marks.new.items cell) }
+    ensures others { StayOwnBeside (cell ∷ []) marks.old.items marks.new.items }
 {
     for i in 0..marks.len() {
         hold(&mut marks[i], cell, row)?;
@@ -60,6 +62,25 @@ pub fn sweep_each<V: RowView>(marks: &mut Vec<StoredMark>, base: &V)
 {
     for i in 0..marks.len() {
         sweep(&mut marks[i], base);
+    }
+}
+
+fn sweep_at<V: RowView>(mark: &mut StoredMark, base: &V, cells: &[CellId])
+    ensures { mark.new ≡ swept_mark_at (V.content base.now) cells.now mark.old }
+{
+    match mark {
+        StoredMark::Saved(_, differences) => differences.sweep_at(base, cells),
+        StoredMark::Child(_) => {}
+    }
+}
+
+/// Takes away each entry of a savepoint at some cells that has the row of the base, so that no
+/// savepoint's content over that base changes. It takes no memory, and looks at no other entry.
+pub fn sweep_each_at<V: RowView>(marks: &mut Vec<StoredMark>, base: &V, cells: &[CellId])
+    ensures { marks.new.items ≡ map (swept_mark_at (V.content base.now) cells.now) marks.old.items }
+{
+    for i in 0..marks.len() {
+        sweep_at(&mut marks[i], base, cells);
     }
 }
 

@@ -6,7 +6,7 @@ ghost use Rattle.indexmap.specs.IndexMap.{values};
 ghost use Rattle.clr_rows.specs.Contents.{Content, row_at};
 ghost use Rattle.clr_differences.specs.Differences.{no_differences, put_each, cells_in, HasEntry, HasEntries};
 ghost use Rattle.clr_layers.specs.Layers.{layer_at, layer_changed, find_layer, stored_in, whole_mark, is_stored_child};
-ghost use Rattle.clr_layers.specs.Layers.{stored_without_mark_of, EachMarkHolds, rows_taken_over, restarted_with};
+ghost use Rattle.clr_layers.specs.Layers.{stored_without_mark_of, EachMarkHolds, StayOwnBeside, rows_taken_over, restarted_with};
 ghost use Rattle.clr_layers.specs.Entries.{layer_of};
 ghost use Rattle.clr_layers.specs.declared.stored_marks.StoredMark.TheVariants.{Child};
 
@@ -210,6 +210,7 @@ impl WorkspaceMap {
         ensures seen { (base : Content) → row_at base cell ≡ option_copied row.entry
             → map (whole_mark base) (layer_at self.new at).marks ≡ map (whole_mark base) (layer_at self.old at).marks }
         ensures held { OnOk result (EachMarkHolds (layer_at self.new at).marks cell) }
+        ensures elsewhere { StayOwnBeside (cell ∷ []) (layer_at self.old at).marks (layer_at self.new at).marks }
     {
         let (_, layer) = self.map.pair_mut(at);
         hold_each(&mut layer.marks, cell, row)

@@ -47,13 +47,6 @@ module _ (live : Content) (ls : List Layer) (above : Content) (l : Layer) (p : P
       wholes-push live ls l filled ∙ ap (λ o. ws ++ whole_of (unwrap_or o no_rows) l ∷ []) seen
       ∙ ap (λ (w : Workspace). ws ++ w ∷ []) (ap (λ (m : Content). whole_of m l) (sym above_is) ∙ is)
 
--- positions before the next part
-pub at_take : (ws : List Workspace) (n i : ℕ) → i < n → workspace_at (take n ws) i ≡ workspace_at ws i
-at_take ws zero i lt = absurd (omega arith)
-at_take [] (suc n) i lt = refl
-at_take (w ∷ ws) (suc n) zero lt = refl
-at_take (w ∷ ws) (suc n) (suc i) lt = at_take ws n i (omega arith)
-
 pub few_taken : (ws : List Workspace) (n : ℕ) → length (take n ws) ≤ n
 few_taken ws zero = omega arith
 few_taken [] (suc n) = omega arith

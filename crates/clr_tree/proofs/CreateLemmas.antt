@@ -56,10 +56,10 @@ module _ (live : Content) (ls : List Layer) (name : Name) (p : ℕ) (r : IsRoote
   created_live first = leaf_made ∙ subst (λ k. ws ++ made ∷ [] ≡ change_marks ws k (with_mark_of name) ++ made ∷ []) (sym first) refl
 
   module _ (absent : find (wholes live ls) name ≡ None) (good : is_good_name name ≡ true) where
-    pushed_rooted : IsRooted (wholes live pushed)
+    pub pushed_rooted : IsRooted (wholes live (ls ++ leaf name (layer_at ls p).name ∷ []))
     pushed_rooted = subst IsRooted (sym leaf_made) (rooted_more ws made p absent good (r.own p p_in) r)
 
-    p_pushed : p < length pushed
+    pub p_pushed : p < length (ls ++ leaf name (layer_at ls p).name ∷ [])
     p_pushed = let more = length-append ls (leaf name (layer_at ls p).name ∷ []) in omega (arith, more, lt)
 
     pub created_under : 0 < p → wholes live (layer_changed (ls ++ leaf name (layer_at ls p).name ∷ []) p (λ l. record l { marks = l.marks ++ stored.Child name ∷ [] })) ≡ after_create (wholes live ls) name p

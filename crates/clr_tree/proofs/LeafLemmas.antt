@@ -191,7 +191,7 @@ unfolding wholes top
 live_dropped live [] child = refl
 live_dropped live (l ∷ ls) child = refl
 
-any_dropped : (live : Content) (ls : List Layer) (p : ℕ) (child : Name) → IsRooted (wholes live ls) → p < length ls
+pub any_dropped : (live : Content) (ls : List Layer) (p : ℕ) (child : Name) → IsRooted (wholes live ls) → p < length ls
     → wholes live (layer_changed ls p (λ l. record l { marks = stored_without_mark_of child l.marks })) ≡ change_at (wholes live ls) p (with_marks (without_mark_of child))
 any_dropped live ls zero child r lt = live_dropped live ls child
 any_dropped live ls (suc p) child r lt = mark_dropped live ls (suc p) r (omega arith) lt child
@@ -203,7 +203,7 @@ no_child_whole live ls at none k some lt under =
     no_child live ls at none k some (subst (λ n. k < n) (length-wholes live ls) lt) (sym (λ i. bytes_eq (name-wholes live ls at i) (parent-wholes live ls k i)) ∙ under)
 
 module _ (live : Content) (ls : List Layer) (at p : ℕ) (r : IsRooted (wholes live ls)) (some : 0 < at) (lt : at < length ls) (none : children_of (wholes live ls) (workspace_at (wholes live ls) at).name ≡ 0) (up : p < at) where
-  gone : wholes live (remove ls at) ≡ remove (wholes live ls) at
+  pub gone : wholes live (remove ls at) ≡ remove (wholes live ls) at
   gone = leaf_removed live ls at some lt (no_child live ls at none)
 
   pub parent_left : p < length (remove ls at)

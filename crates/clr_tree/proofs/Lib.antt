@@ -4,6 +4,7 @@ pub mod CreateLemmas
 pub mod FaultLemmas
 pub mod LayeredLemmas
 pub mod LeafLemmas
+pub mod LeanLemmas
 pub mod ModelLemmas
 pub mod NameLemmas
 pub mod OperationLemmas

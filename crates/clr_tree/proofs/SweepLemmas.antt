@@ -1,107 +1,23 @@
--- Entries that have the row of what they lie over go, and no content changes.
-use Rattle.std.proofs.Common.{◌≡◌, ℕ, suc, zero, ◌+◌, ◌<◌, List, [], ◌∷◌, ◌++◌, length, map, take, get_or, slice_set, Some, unwrap_or, refl, ap, sym, ◌∙◌, subst, arith}
+-- How many entries a sweep leaves.
+use Rattle.std.proofs.Common.{◌≡◌, ℕ, suc, zero, ◌+◌, ◌<◌, List, [], ◌∷◌, length, map, refl, ap, sym, ◌∙◌, arith}
 use Rattle.std.specs.Prelude.{slice_index_or}
 use Rattle.std.specs.FinMap as finite
-use Rattle.std.specs.Str.{bytes_eq}
-use Rattle.std.proofs.lemmas.List.{length-set, get_or-set_same}
-use Rattle.std.proofs.lemmas.List.Folds.{position_or_len-set}
-use Rattle.std.proofs.Math.ListN.{get_or-map}
-use Rattle.std.proofs.Math.Seq.{map-set_same}
-use Rattle.clr_rows.specs.Contents.{Content, no_rows}
-use Rattle.clr_rows.specs.Names.{is_good_name}
 use Rattle.clr_rows.specs.Cells.{cell_cmp}
+use Rattle.clr_rows.specs.Contents.{Content}
 use Rattle.clr_rows.proofs.CellOrder.{cell_cmp_total, cell_cmp_exact}
 use Rattle.clr_rows.proofs.Entries.{from_no_entries}
-use Rattle.clr_differences.specs.Differences.{Differences, Rows, no_differences, seen_over, swept}
-use Rattle.clr_differences.proofs.SweepLemmas.{seen-swept, count-swept}
-use Rattle.clr_layers.specs.Marks.{Name, Mark, Saved, ChildMark}
-use Rattle.clr_layers.specs.Workspaces.{Workspace, workspace_at, find, parent_of}
-use Rattle.clr_layers.specs.Layers.{Layer, no_layer, layer_at, layer_changed, find_layer, stored_in, whole_of, whole_mark, top, named, above_in, grow, wholes, above_at, entries_of_mark}
+use Rattle.clr_differences.specs.Differences.{Differences, Rows, no_differences, swept}
+use Rattle.clr_differences.proofs.SweepLemmas.{count-swept}
+use Rattle.clr_layers.specs.Marks.{Mark}
+use Rattle.clr_layers.specs.Workspaces.{Workspace, workspace_at}
+use Rattle.clr_layers.specs.Layers.{Layer, layer_at, whole_mark, wholes, entries_of_mark}
 use Rattle.clr_layers.specs.declared.stored_marks.StoredMark.{StoredMark}
 use Rattle.clr_layers.specs.declared.stored_marks.StoredMark.TheVariants as kinds
-use Rattle.clr_layers.proofs.Meaning.{length-wholes, name-wholes, parent-wholes, find-wholes, wholes-at}
+use Rattle.clr_contents.specs.Lean.{content_of_parent, swept_marks}
 use Rattle.clr_contents.specs.Roots.{IsRooted}
-use Rattle.clr_tree.specs.Trees.{content_above, content_of_parent, change_count, needed, needed_of_mark, needed_of_marks, stored_of_marks, swept_marks}
-use Rattle.clr_tree.proofs.BuildLemmas.{at_take}
-use Rattle.clr_contents.proofs.HoldLemmas.{whole_base, whole_current, whole_marks}
-use Rattle.clr_contents.proofs.MoveLemmas.{stays}
-use Rattle.clr_contents.proofs.ReadLemmas.{within_wholes, above_parent, base_of_whole, current-wholes, marks-wholes}
-
--- a layer set ------------------------------------------------------------------------------------------
-
-pub set_twice : {A : Type 0} (xs : List A) (at : ℕ) (x y : A) → slice_set (slice_set xs at x) at y ≡ slice_set xs at y
-set_twice [] at x y = refl
-set_twice (z ∷ xs) zero x y = refl
-set_twice (z ∷ xs) (suc at) x y = ap (λ ys. z ∷ ys) (set_twice xs at x y)
-
-module _ (ls : List Layer) (at : ℕ) (m : Layer) (lt : at < length ls) where
-  pub set_here : layer_at (slice_set ls at m) at ≡ m
-  set_here = get_or-set_same ls at m no_layer lt
-
-  pub set_again : (f : Layer → Layer) → layer_changed (slice_set ls at m) at f ≡ slice_set ls at (f m)
-  set_again f = ap (λ (l : Layer). slice_set (slice_set ls at m) at (f l)) set_here ∙ set_twice ls at m (f m)
-
-module _ (ls : List Layer) (at : ℕ) (m : Layer) (name : m.name ≡ (layer_at ls at).name) (parent : m.parent ≡ (layer_at ls at).parent) where
-  abbrev new : List Layer
-  new = slice_set ls at m
-
-  field_stays : (f : Layer → Name) → f m ≡ f (layer_at ls at) → (i : ℕ) → f (layer_at (slice_set ls at m) i) ≡ f (layer_at ls i)
-  field_stays f e i = sym (get_or-map f new i no_layer) ∙ ap (λ (fs : List Name). get_or fs i (f no_layer)) (map-set_same f ls at m no_layer e) ∙ get_or-map f ls i no_layer
-
-  found_same : (n : Name) → find_layer (slice_set ls at m) n ≡ find_layer ls n
-  found_same n = rw (position_or_len-set (λ (l : Layer). bytes_eq n l.name) ls at m no_layer (ap (bytes_eq n) name), length-set ls at m) refl
-
-  module _ (live : Content) where
-    name_same : (i : ℕ) → (workspace_at (wholes live new) i).name ≡ (workspace_at (wholes live ls) i).name
-    name_same i = name-wholes live new i ∙ field_stays (λ (l : Layer). l.name) name i ∙ sym (name-wholes live ls i)
-
-    parent_same : (i : ℕ) → (workspace_at (wholes live new) i).parent ≡ (workspace_at (wholes live ls) i).parent
-    parent_same i = parent-wholes live new i ∙ field_stays (λ (l : Layer). l.parent) parent i ∙ sym (parent-wholes live ls i)
-
-    find_same : (n : Name) → find (wholes live new) n ≡ find (wholes live ls) n
-    find_same n = find-wholes live new n ∙ found_same n ∙ sym (find-wholes live ls n)
-
-    pub above_same : (i : ℕ) → parent_of (wholes live (slice_set ls at m)) i ≡ parent_of (wholes live ls) i
-    above_same i = find_same (workspace_at (wholes live new) i).parent ∙ ap (find (wholes live ls)) (parent_same i)
-
-    -- a layer of the same name and parent leaves the workspaces rooted
-    pub rooted_still : IsRooted (wholes live ls) → IsRooted (wholes live (slice_set ls at m))
-    rooted_still r =
-        let long : length (wholes live new) ≡ length (wholes live ls) = length-wholes live new ∙ length-set ls at m ∙ sym (length-wholes live ls) in
-        let before : (i : ℕ) → i < length (wholes live new) → i < length (wholes live ls) = λ i lt. subst (λ n. i < n) long lt in
-        record {
-          filled = subst (λ n. 0 < n) (sym long) r.filled;
-          live = name_same 0 ∙ r.live;
-          top = parent_same 0 ∙ r.top;
-          good = λ i lt. ap is_good_name (name_same i) ∙ r.good i (before i lt);
-          own = λ i lt. find_same (workspace_at (wholes live new) i).name ∙ ap (find (wholes live ls)) (name_same i) ∙ r.own i (before i lt);
-          under = λ i later lt. let p = r.under i later (before i lt) in (p.0, above_same i ∙ p.1, p.2);
-        }
-
--- earlier workspaces stay -------------------------------------------------------------------------------
-
-before_grow : (ws : List Workspace) (ls : List Layer) (at : ℕ) (m : Layer) → take at (grow ws (slice_set ls at m)) ≡ take at (grow ws ls)
-unfolding grow
-before_grow ws [] at m = refl
-before_grow ws (l ∷ ls) zero m = refl
-before_grow ws (l ∷ ls) (suc at) m = let w = whole_of (above_in ws l) l in ap (λ rest. w ∷ rest) (before_grow (ws ++ w ∷ []) ls at m)
-
-pub before_stays : (live : Content) (ls : List Layer) (at : ℕ) (m : Layer) → take at (wholes live (slice_set ls at m)) ≡ take at (wholes live ls)
-unfolding wholes
-before_stays live [] at m = refl
-before_stays live (l ∷ ls) zero m = refl
-before_stays live (l ∷ ls) (suc at) m = let w = top live l in ap (λ rest. w ∷ rest) (before_grow (w ∷ []) ls at m)
-
-pub earlier_stays : (live : Content) (ls : List Layer) (at i : ℕ) (m : Layer) → i < at → workspace_at (wholes live (slice_set ls at m)) i ≡ workspace_at (wholes live ls) i
-earlier_stays live ls at i m lt =
-    sym (at_take (wholes live (slice_set ls at m)) at i lt) ∙ ap (λ (ws : List Workspace). workspace_at ws i) (before_stays live ls at m) ∙ at_take (wholes live ls) at i lt
-
--- savepoints ----------------------------------------------------------------------------------------------
-
-seen-swept_marks : (b : Content) (ms : List StoredMark) → map (whole_mark b) (swept_marks b ms) ≡ map (whole_mark b) ms
-seen-swept_marks b [] = refl
-seen-swept_marks b (kinds.Saved name d ∷ ms) = λ i. Saved name (seen-swept b d i) ∷ seen-swept_marks b ms i
-seen-swept_marks b (kinds.Child name ∷ ms) = ap (λ ns. ChildMark name ∷ ns) (seen-swept_marks b ms)
+use Rattle.clr_contents.proofs.ReadLemmas.{current-wholes, marks-wholes}
+use Rattle.clr_contents.proofs.SweepLemmas.{base_is}
+use Rattle.clr_tree.specs.Trees.{change_count, needed, needed_of_mark, needed_of_marks, stored_of_marks}
 
 no_entries : length (finite.keys no_differences) ≡ 0
 no_entries =
@@ -113,8 +29,6 @@ count-swept_marks b [] = refl
 count-swept_marks b (kinds.Saved name d ∷ ms) = λ i. count-swept b d i ∷ count-swept_marks b ms i
 count-swept_marks b (kinds.Child name ∷ ms) = λ i. no_entries i ∷ count-swept_marks b ms i
 
--- sweeping one workspace ----------------------------------------------------------------------------------
-
 module _ (live : Content) (ls : List Layer) (at : ℕ) (r : IsRooted (wholes live ls)) (some : 0 < at) (lt : at < length ls) where
   abbrev ws : List Workspace
   ws = wholes live ls
@@ -125,53 +39,10 @@ module _ (live : Content) (ls : List Layer) (at : ℕ) (r : IsRooted (wholes liv
   abbrev above : Content
   above = content_of_parent ws at
 
-  above_is : above_at live ls at ≡ content_of_parent (wholes live ls) at
-  above_is =
-      let q = r.under at some (within_wholes live ls at lt) in
-      above_parent live ls at q.0 q.1 q.2 ∙ sym (ap (content_above ws) q.1)
-
-  pub base_is : (workspace_at (wholes live ls) at).base ≡ seen_over (content_of_parent (wholes live ls) at) (layer_at ls at).base
-  base_is = ap (λ (w : Workspace). w.base) (wholes-at live ls at some lt) ∙ base_of_whole (above_at live ls at) stored ∙ ap (λ (m : Content). seen_over m stored.base) above_is
-
-  -- the parent's content while the base is taken out
-  pub parent_stays : (d : Differences) (p : ℕ) → parent_of (wholes live ls) at ≡ Some p → p < at
-      → (workspace_at (wholes live (layer_changed ls at (λ l. record l { base = d }))) p).current ≡ content_of_parent (wholes live ls) at
-  parent_stays d p e up = ap (λ (w : Workspace). w.current) (earlier_stays live ls at p (record stored { base = d }) up) ∙ sym (ap (content_above ws) e)
-
-  -- the base while the current content or the marks are taken out
-  pub base_stays : (m : Layer) → m.parent ≡ (layer_at ls at).parent → m.base ≡ (layer_at ls at).base → (workspace_at (wholes live (slice_set ls at m)) at).base ≡ (workspace_at (wholes live ls) at).base
-  base_stays m parent base =
-      let there : at < length (slice_set ls at m) = subst (λ n. at < n) (sym (length-set ls at m)) lt in
-      ap (λ (w : Workspace). w.base) (wholes-at live (slice_set ls at m) at some there)
-      ∙ ap (λ (l : Layer). (whole_of (above_in (take at (wholes live (slice_set ls at m))) l) l).base) (get_or-set_same ls at m no_layer lt)
-      ∙ ap (λ (vs : List Workspace). (whole_of (above_in vs m) m).base) (before_stays live ls at m)
-      ∙ base_of_whole (above_in (take at (wholes live ls)) m) m
-      ∙ (λ i. seen_over (unwrap_or (named (take at (wholes live ls)) (parent i)) no_rows) (base i))
-      ∙ sym (base_of_whole (above_at live ls at) stored)
-      ∙ sym (ap (λ (w : Workspace). w.base) (wholes-at live ls at some lt))
-
-  pub base_swept : wholes live (layer_changed ls at (λ l. record l { base = swept (content_of_parent (wholes live ls) at) l.base })) ≡ wholes live ls
-  base_swept = stays live ls at r some lt _ refl refl (whole_base (above_at live ls at) stored (swept above stored.base)
-      (ap (λ (m : Content). seen_over m (swept above stored.base)) above_is ∙ seen-swept above stored.base ∙ ap (λ (m : Content). seen_over m stored.base) (sym above_is)))
-
-  pub current_swept : wholes live (layer_changed ls at (λ l. record l { current = swept (workspace_at (wholes live ls) at).base l.current })) ≡ wholes live ls
-  current_swept =
-      let base = (workspace_at ws at).base in
-      let is : seen_over (above_at live ls at) stored.base ≡ base = ap (λ (m : Content). seen_over m stored.base) above_is ∙ sym base_is in
-      stays live ls at r some lt _ refl refl (whole_current (above_at live ls at) stored (swept base stored.current)
-      (ap (λ (m : Content). seen_over m (swept base stored.current)) is ∙ seen-swept base stored.current ∙ ap (λ (m : Content). seen_over m stored.current) (sym is)))
-
-  pub saved_swept : wholes live (layer_changed ls at (λ l. record l { marks = swept_marks (workspace_at (wholes live ls) at).base l.marks })) ≡ wholes live ls
-  saved_swept =
-      let base = (workspace_at ws at).base in
-      let is : seen_over (above_at live ls at) stored.base ≡ base = ap (λ (m : Content). seen_over m stored.base) above_is ∙ sym base_is in
-      stays live ls at r some lt _ refl refl (whole_marks (above_at live ls at) stored (swept_marks base stored.marks)
-      (ap (λ (m : Content). map (whole_mark m) (swept_marks base stored.marks)) is ∙ seen-swept_marks base stored.marks ∙ ap (λ (m : Content). map (whole_mark m) stored.marks) (sym is)))
-
   pub count_swept : length (finite.keys (swept (content_of_parent (wholes live ls) at) (layer_at ls at).base)) + length (finite.keys (swept (workspace_at (wholes live ls) at).base (layer_at ls at).current)) ≡ needed (wholes live ls) at
   count_swept =
       let w = workspace_at ws at in
-      let base = count-swept above stored.base ∙ ap (change_count above) (sym base_is) in
+      let base = count-swept above stored.base ∙ ap (change_count above) (sym (base_is live ls at r some lt)) in
       let current = count-swept w.base stored.current ∙ ap (change_count w.base) (sym (current-wholes live ls at some lt)) in
       λ i. base i + current i
 
@@ -179,74 +50,6 @@ module _ (live : Content) (ls : List Layer) (at : ℕ) (r : IsRooted (wholes liv
   count_saved =
       let base = (workspace_at ws at).base in
       count-swept_marks base stored.marks ∙ ap (λ (ms : List Mark). map (needed_of_mark base) ms) (sym (marks-wholes live ls at some lt))
-
--- one after another ---------------------------------------------------------------------------------------
-
-abbrev pub swept_layer : Content → Content → Layer → Layer
-swept_layer above base l = record l { base = swept above l.base; current = swept base l.current; marks = swept_marks base l.marks }
-
-module _ (live : Content) (ls : List Layer) (at : ℕ) (r : IsRooted (wholes live ls)) (some : 0 < at) (lt : at < length ls) where
-  abbrev old : Layer
-  old = layer_at ls at
-
-  abbrev seen_above : Content
-  seen_above = content_of_parent (wholes live ls) at
-
-  abbrev seen_base : Content
-  seen_base = (workspace_at (wholes live ls) at).base
-
-  -- the base
-  module _ (one : List Layer) (a : one ≡ layer_changed ls at (λ l. record l { base = swept (content_of_parent (wholes live ls) at) l.base })) where
-    abbrev l_one : Layer
-    l_one = record old { base = swept seen_above old.base }
-
-    pub seen_one : wholes live one ≡ wholes live ls
-    seen_one = ap (wholes live) a ∙ base_swept live ls at r some lt
-
-    pub rooted_one : IsRooted (wholes live one)
-    rooted_one = subst IsRooted (sym seen_one) r
-
-    within_one : at < length one
-    within_one = subst (λ n. at < n) (sym (ap (λ (ms : List Layer). length ms) a ∙ length-set ls at l_one)) lt
-
-    -- then the current content
-    module _ (two : List Layer) (b : two ≡ layer_changed one at (λ l. record l { current = swept (workspace_at (wholes live one) at).base l.current })) where
-      abbrev l_two : Layer
-      l_two = record l_one { current = swept seen_base old.current }
-
-      pub seen_two : wholes live two ≡ wholes live ls
-      seen_two = ap (wholes live) b ∙ current_swept live one at rooted_one some within_one ∙ seen_one
-
-      pub rooted_two : IsRooted (wholes live two)
-      rooted_two = subst IsRooted (sym seen_two) r
-
-      is_two : two ≡ slice_set ls at l_two
-      is_two = b ∙ (λ i. layer_changed (a i) at (λ l. record l { current = swept (workspace_at (seen_one i) at).base l.current })) ∙ set_again ls at l_one lt (λ l. record l { current = swept seen_base l.current })
-
-      within_two : at < length two
-      within_two = subst (λ n. at < n) (sym (ap (λ (ms : List Layer). length ms) is_two ∙ length-set ls at l_two)) lt
-
-      -- then the savepoints
-      module _ (three : List Layer) (c : three ≡ layer_changed two at (λ l. record l { marks = swept_marks (workspace_at (wholes live two) at).base l.marks })) where
-        pub seen_three : wholes live three ≡ wholes live ls
-        seen_three = ap (wholes live) c ∙ saved_swept live two at rooted_two some within_two ∙ seen_two
-
-        is_three : three ≡ slice_set ls at (swept_layer seen_above seen_base old)
-        is_three =
-            c ∙ (λ i. layer_changed (is_two i) at (λ l. record l { marks = swept_marks (workspace_at (seen_two i) at).base l.marks }))
-            ∙ set_again ls at l_two lt (λ l. record l { marks = swept_marks seen_base l.marks })
-
-        here_three : layer_at three at ≡ swept_layer seen_above seen_base old
-        here_three = ap (λ (ms : List Layer). layer_at ms at) is_three ∙ set_here ls at (swept_layer seen_above seen_base old) lt
-
-        pub count_three : stored_in (layer_at three at) ≡ needed (wholes live ls) at
-        count_three = ap stored_in here_three ∙ count_swept live ls at r some lt
-
-        pub saved_three : stored_of_marks (layer_at three at) ≡ needed_of_marks (wholes live ls) at
-        saved_three = ap stored_of_marks here_three ∙ count_saved live ls at r some lt
-
-        pub others_three : three ≡ layer_changed ls at (λ _. layer_at three at)
-        others_three = is_three ∙ ap (λ (l : Layer). slice_set ls at l) (sym here_three)
 
 -- what is told of a position
 pub told_at : {A : Type 0} (f : Layer → A) (none : A) (ls : List Layer) (at : ℕ) → at < length ls → slice_index_or (map f ls) at none ≡ f (layer_at ls at)

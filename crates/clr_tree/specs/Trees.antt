@@ -1,12 +1,12 @@
 -- A tree: its workspaces with whole contents, and how many entries are stored of each and of its marks.
-use Rattle.std.specs.Prelude.{ℕ, ◌+◌, List, [], Option, None, Some, length, map, slice_index_or, refl}
+use Rattle.std.specs.Prelude.{ℕ, ◌+◌, List, [], Option, length, map, slice_index_or, refl}
 use Rattle.std.specs.FinMap as finite
 use Rattle.std.specs.Coded.{Coded, code_by, coded×, coded_list, coded_ℕ}
-use Rattle.clr_rows.specs.Contents.{Content, no_rows, changes}
+use Rattle.clr_rows.specs.Contents.{Content, changes}
 use Rattle.clr_layers.specs.Marks.{Mark, Saved, ChildMark}
-use Rattle.clr_layers.specs.Workspaces.{Workspace, coded_workspace, workspace_at, parent_of}
-use Rattle.clr_layers.specs.Layers.{Layer, wholes, stored_in, swept_mark, entries_of_mark}
-use Rattle.clr_layers.specs.declared.stored_marks.StoredMark.{StoredMark}
+use Rattle.clr_layers.specs.Workspaces.{Workspace, coded_workspace, workspace_at}
+use Rattle.clr_layers.specs.Layers.{Layer, wholes, stored_in, entries_of_mark}
+use Rattle.clr_contents.specs.Lean as lean
 
 pub record Tree : Type 0 where
   pub list : List Workspace
@@ -23,11 +23,7 @@ saved_at counts at = slice_index_or counts at []
 
 -- the current content of the parent
 abbrev pub content_above : List Workspace → Option ℕ → Content
-content_above ws None = no_rows
-content_above ws (Some above) = (workspace_at ws above).current
-
-abbrev pub content_of_parent : List Workspace → ℕ → Content
-content_of_parent ws at = content_above ws (parent_of ws at)
+content_above ws above = lean.content_above ws above
 
 -- how many cells are changed
 abbrev pub change_count : Content → Content → ℕ
@@ -35,7 +31,7 @@ change_count base current = length (finite.keys (changes base current))
 
 -- how many cells of a base aren't as its parent's content, and how many of the current content aren't as the base
 abbrev pub needed : List Workspace → ℕ → ℕ
-needed ws at = let w = workspace_at ws at in change_count (content_of_parent ws at) w.base + change_count w.base w.current
+needed ws at = let w = workspace_at ws at in change_count (lean.content_of_parent ws at) w.base + change_count w.base w.current
 
 -- how many cells of a savepoint's content aren't as the base
 abbrev pub needed_of_mark : Content → Mark → ℕ
@@ -48,10 +44,6 @@ needed_of_marks ws at = let w = workspace_at ws at in map (needed_of_mark w.base
 -- how many entries a layer has in each of its marks
 abbrev pub stored_of_marks : Layer → List ℕ
 stored_of_marks l = map entries_of_mark l.marks
-
--- marks without the entries that have the row of the base
-abbrev pub swept_marks : Content → List StoredMark → List StoredMark
-swept_marks base marks = map (swept_mark base) marks
 
 abbrev pub coded_tree : Coded Tree
 coded_tree =

@@ -15,7 +15,8 @@ use std::alloc::Global;
 /// Puts a part at the end, as it is stored.
 fn push_layer(live: &Sheet, map: &mut WorkspaceMap, part: StoredPart) -> Result<(), PartFault>
     requires { IsRooted (wholes live.now map.old) }
-    ensures ok { OnOk result (wholes live.now map.new ≡ wholes live.now map.old ++ whole_of (above_in (wholes live.now map.old) (stored_layer part)) (stored_layer part) ∷ []) }
+    ensures ok { OnOk result (wholes live.now map.new
+        ≡ wholes live.now map.old ++ whole_of (above_in (wholes live.now map.old) (stored_layer part)) (stored_layer part) ∷ []) }
     ensures passed { OnOk result (place_fault (wholes live.now map.old) part.name part.layer.parent ≡ None) }
     ensures refused { IfErr result (IsFault (place_fault (wholes live.now map.old) part.name part.layer.parent)) }
 {

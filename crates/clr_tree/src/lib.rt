@@ -9,7 +9,6 @@ mod part_checks;
 mod part_reads;
 mod parts;
 mod rebases;
-mod sweeps;
 mod tree;
 
 pub use clr_change::{ChangeSet, Edit, EditFault, Edits, first_conflict, stage};

@@ -1,13 +1,17 @@
 ghost use Rattle.std.specs.Prelude.{◌≡◌, ◌<◌, ◌++◌, [], ◌∷◌, string_bytes, false, None, Some, true, length, OnOk, OnErr, IfOk};
 ghost use Rattle.clr_rows.specs.Names.{is_good_name};
 ghost use Rattle.clr_differences.specs.Differences.{cells_in};
-ghost use Rattle.clr_layers.specs.Layers.{layer_at, find_layer, leaf, wholes};
+ghost use Rattle.std.specs.FinMap as finite;
+ghost use Rattle.clr_layers.specs.Layers.{layer_at, find_layer, leaf, saved_differences, stored_at, wholes};
 ghost use Rattle.clr_layers.specs.Marks.{is_saved, is_held, mark_at};
 ghost use Rattle.clr_layers.specs.Workspaces.{workspace_at, find, parent_of as position_of_parent, children_of, live_name};
-ghost use Rattle.clr_contents.specs.Holding.{Extends, ChildrenHold};
+ghost use Rattle.clr_contents.specs.Holding.{Extends, ChildrenHold, StayOwnButChildren};
 ghost use Rattle.clr_tree.specs.Moves.{put_into, row_moved, mark_moved};
 ghost use Rattle.clr_tree.specs.Operations.{after_create, after_remove, after_mark, after_roll_to, after_roll_all};
 ghost use Rattle.clr_tree.specs.Operations.{after_refresh, after_merge, after_resolve, after_rebase};
+ghost use Rattle.clr_tree.specs.Operations.{own_changes};
+ghost use Rattle.clr_contents.specs.Lean.{IsLean, IsLeanBut, StayOwnButNear};
+ghost use Rattle.clr_rows.specs.Contents.{rows_after};
 ghost use Rattle.clr_contents.specs.Roots.{IsRooted};
 ghost use Rattle.clr_tree.specs.declared.rebases.Keep.TheVariants.{Child};
 
@@ -15,7 +19,7 @@ use crate::rebases::{Keep, Rebase};
 use clr_change::copy_row;
 use clr_contents::{
     base_row_of, cells_of, changes_of, hold_children, hold_current, hold_own, hold_saved,
-    parent_of, row_of, saved_at,
+    parent_of, row_of, saved_at, sweep_at,
 };
 use clr_differences::Differences;
 use clr_layers::{Layer, StoredMark, WorkspaceMap};
@@ -25,8 +29,8 @@ use std::alloc::{AllocError, Global};
 // Each function here fails for want of memory alone, and changes no content, mark or flag then: all
 // that can fail comes first, and then contents change without memory.
 
-/// Puts rows into a current content, one after another.
-pub fn put_rows(
+/// Puts rows into a current content, one after another. Neutral entries that it makes stay.
+fn put_rows(
     live: &mut Sheet,
     map: &mut WorkspaceMap,
     at: usize,
@@ -37,6 +41,7 @@ pub fn put_rows(
     ensures ok { OnOk result (wholes live.new map.new ≡ put_into (wholes live.old map.old) at rows.items) }
     ensures err { OnErr result (wholes live.new map.new ≡ wholes live.old map.old) }
     ensures extends { Extends map.old map.new }
+    ensures elsewhere { StayOwnButNear at (cells_in rows.items) map.old map.new }
     ensures children { OnOk result (ChildrenHold map.new (layer_at map.old at).name (cells_in rows.items)) }
 {
     let cells = cells_of(map.allocator(), rows.as_slice())?;
@@ -50,6 +55,25 @@ pub fn put_rows(
     Ok(())
 }
 
+/// Puts rows into a current content, one after another.
+pub fn write_rows(
+    live: &mut Sheet,
+    map: &mut WorkspaceMap,
+    at: usize,
+    rows: Vec<(CellId, Option<Row>)>,
+) -> Result<(), AllocError>
+    requires within { at < length map.old }
+    requires rooted { IsRooted (wholes live.old map.old) }
+    ensures ok { OnOk result (wholes live.new map.new ≡ put_into (wholes live.old map.old) at rows.items) }
+    ensures err { OnErr result (wholes live.new map.new ≡ wholes live.old map.old) }
+    ensures lean { IsLean live.old map.old → IsLean live.new map.new }
+{
+    let cells = cells_of(map.allocator(), rows.as_slice())?;
+    let done = put_rows(live, map, at, rows);
+    sweep_at(live, map, at, cells.as_slice());
+    done
+}
+
 /// Puts a savepoint with the current content at the end of the marks.
 pub fn mark(live: &Sheet, map: &mut WorkspaceMap, at: usize, name: &str) -> Result<(), AllocError>
     requires child { 0 < at }
@@ -57,11 +81,52 @@ pub fn mark(live: &Sheet, map: &mut WorkspaceMap, at: usize, name: &str) -> Resu
     requires rooted { IsRooted (wholes live.now map.old) }
     ensures ok { OnOk result (wholes live.now map.new ≡ after_mark (wholes live.now map.old) at name.now) }
     ensures err { OnErr result (wholes live.now map.new ≡ wholes live.now map.old) }
+    ensures lean { IsLean live.now map.old → IsLean live.now map.new }
 {
     let _live = live;
     let differences = map.current(at).copy()?;
     let name = Words::new(String::from_str(map.allocator(), name)?);
     map.push_mark(at, StoredMark::Saved(name, differences))
+}
+
+/// The cells of two lists.
+fn joined(alloc: Global, first: &[CellId], others: &[CellId]) -> Result<Vec<CellId>, AllocError>
+    ensures { IfOk result (λ cells. cells.items ≡ first.now ++ others.now) }
+{
+    let mut cells = Vec::new(alloc);
+    cells.extend_from_slice(first)?;
+    cells.extend_from_slice(others)?;
+    Ok(cells)
+}
+
+/// Makes differences of a savepoint, at these new cells, those of the current content, at these old
+/// ones; later savepoints go. Neutral entries that it makes stay.
+fn roll_back(
+    live: &Sheet,
+    map: &mut WorkspaceMap,
+    at: usize,
+    mark: usize,
+    differences: Differences,
+    new: &[CellId],
+    old: &[CellId],
+) -> Result<(), AllocError>
+    requires child { 0 < at }
+    requires within { at < length map.old }
+    requires rooted { IsRooted (wholes live.now map.old) }
+    requires saved { is_saved (mark_at (workspace_at (wholes live.now map.old) at).marks mark) ≡ true }
+    requires free { is_held (workspace_at (wholes live.now map.old) at).marks mark ≡ false }
+    requires differences { differences ≡ saved_differences (stored_at (layer_at map.old at).marks mark) }
+    requires new { new.now ≡ finite.keys differences }
+    requires old { old.now ≡ finite.keys (layer_at map.old at).current }
+    ensures ok { OnOk result (wholes live.now map.new ≡ after_roll_to (wholes live.now map.old) at mark) }
+    ensures err { OnErr result (wholes live.now map.new ≡ wholes live.now map.old) }
+    ensures long { length map.new ≡ length map.old }
+    ensures elsewhere { StayOwnButNear at (new.now ++ old.now) map.old map.new }
+{
+    hold_children(live, map, at, new)?;
+    hold_children(live, map, at, old)?;
+    map.roll_to(at, differences, mark);
+    Ok(())
 }
 
 /// Makes the content of a savepoint the current one; later savepoints go.
@@ -78,14 +143,23 @@ pub fn roll_to(
     requires free { is_held (workspace_at (wholes live.now map.old) at).marks mark ≡ false }
     ensures ok { OnOk result (wholes live.now map.new ≡ after_roll_to (wholes live.now map.old) at mark) }
     ensures err { OnErr result (wholes live.now map.new ≡ wholes live.now map.old) }
+    ensures lean { IsLean live.now map.old → IsLean live.now map.new }
 {
     let differences = saved_at(map, at, mark)?;
     let new = differences.cells()?;
     let old = map.current(at).cells()?;
-    hold_children(live, map, at, new.as_slice())?;
-    hold_children(live, map, at, old.as_slice())?;
-    map.roll_to(at, differences, mark);
-    Ok(())
+    let cells = joined(map.allocator(), new.as_slice(), old.as_slice())?;
+    let done = roll_back(
+        live,
+        map,
+        at,
+        mark,
+        differences,
+        new.as_slice(),
+        old.as_slice(),
+    );
+    sweep_at(live, map, at, cells.as_slice());
+    done
 }
 
 /// Makes the base of a leaf its current content; its savepoints go.
@@ -94,10 +168,38 @@ pub fn roll_all(live: &Sheet, map: &mut WorkspaceMap, at: usize)
     requires within { at < length map.old }
     requires rooted { IsRooted (wholes live.now map.old) }
     requires leaf { let ws = wholes live.now map.old in children_of ws (workspace_at ws at).name ≡ 0 }
-    ensures { wholes live.now map.new ≡ after_roll_all (wholes live.now map.old) at }
+    ensures rolled { wholes live.now map.new ≡ after_roll_all (wholes live.now map.old) at }
+    ensures lean { IsLean live.now map.old → IsLean live.now map.new }
 {
     let _live = live;
     map.roll_all(at);
+}
+
+/// Merges a workspace into its parent, by the rows that it changed. Neutral entries that it makes
+/// stay.
+fn merge_rows(
+    live: &mut Sheet,
+    map: &mut WorkspaceMap,
+    at: usize,
+    above: usize,
+    rows: Vec<(CellId, Option<Row>)>,
+    own: Vec<(CellId, Option<Row>)>,
+) -> Result<(), AllocError>
+    requires child { 0 < at }
+    requires within { at < length map.old }
+    requires rooted { IsRooted (wholes live.old map.old) }
+    requires parent { position_of_parent (wholes live.old map.old) at ≡ Some above }
+    requires earlier { above < at }
+    requires rows { rows.items ≡ rows_after (own_changes (workspace_at (wholes live.old map.old) at)) }
+    requires own { own.items ≡ rows_after (own_changes (workspace_at (wholes live.old map.old) at)) }
+    ensures ok { OnOk result (wholes live.new map.new ≡ after_merge (wholes live.old map.old) at above) }
+    ensures err { OnErr result (wholes live.new map.new ≡ wholes live.old map.old) }
+    ensures long { length map.new ≡ length map.old }
+    ensures elsewhere { StayOwnButNear above (cells_in own.items) map.old map.new }
+{
+    put_rows(live, map, above, rows)?;
+    map.take_over(at, own);
+    Ok(())
 }
 
 /// Merges a workspace into its parent.
@@ -114,13 +216,15 @@ fn merge(
     requires earlier { above < at }
     ensures ok { OnOk result (wholes live.new map.new ≡ after_merge (wholes live.old map.old) at above) }
     ensures err { OnErr result (wholes live.new map.new ≡ wholes live.old map.old) }
+    ensures lean { IsLean live.old map.old → IsLean live.new map.new }
 {
     let changed = changes_of(live, map, at)?;
     let rows = changed.rows_after()?;
     let own = changed.rows_after()?;
-    put_rows(live, map, above, rows)?;
-    map.take_over(at, own);
-    Ok(())
+    let cells = cells_of(map.allocator(), own.as_slice())?;
+    let done = merge_rows(live, map, at, above, rows, own);
+    sweep_at(live, map, above, cells.as_slice());
+    done
 }
 
 /// Makes the entries that the children of a workspace need before both its base and its current
@@ -137,6 +241,7 @@ fn hold_moves(
     requires rooted { IsRooted (wholes live.now map.old) }
     ensures seen { wholes live.now map.new ≡ wholes live.now map.old }
     ensures extends { Extends map.old map.new }
+    ensures elsewhere { StayOwnButChildren (layer_at map.old at).name (new.now ++ (base.now ++ old.now)) map.old map.new }
     ensures new { OnOk result (ChildrenHold map.new (layer_at map.old at).name new.now) }
     ensures base { OnOk result (ChildrenHold map.new (layer_at map.old at).name base.now) }
     ensures old { OnOk result (ChildrenHold map.new (layer_at map.old at).name old.now) }
@@ -160,6 +265,41 @@ fn move_mark(map: &mut WorkspaceMap, above: usize, child: Words) -> Result<(), A
     Ok(())
 }
 
+/// Refreshes a workspace from its parent, by the rows that it changed at these new cells, from
+/// entries of its base and of its current content at these. Neutral entries that it makes stay.
+fn refresh_base(
+    live: &Sheet,
+    map: &mut WorkspaceMap,
+    at: usize,
+    above: usize,
+    rows: Vec<(CellId, Option<Row>)>,
+    new: &[CellId],
+    base: &[CellId],
+    old: &[CellId],
+) -> Result<(), AllocError>
+    requires child { 0 < at }
+    requires within { at < length map.old }
+    requires rooted { IsRooted (wholes live.now map.old) }
+    requires parent { position_of_parent (wholes live.now map.old) at ≡ Some above }
+    requires earlier { above < at }
+    requires rows { rows.items ≡ rows_after (own_changes (workspace_at (wholes live.now map.old) at)) }
+    requires new { new.now ≡ cells_in rows.items }
+    requires base { base.now ≡ finite.keys (layer_at map.old at).base }
+    requires old { old.now ≡ finite.keys (layer_at map.old at).current }
+    ensures ok { OnOk result (wholes live.now map.new ≡ after_refresh (wholes live.now map.old) at above) }
+    ensures err { OnErr result (wholes live.now map.new ≡ wholes live.now map.old) }
+    ensures long { length map.new ≡ length map.old }
+    ensures elsewhere { StayOwnButNear at (new.now ++ (base.now ++ old.now)) map.old map.new }
+{
+    let alloc = map.allocator();
+    let name = Words::new(String::from_str(alloc, map.name_at(at))?);
+    hold_moves(live, map, at, new, base, old)?;
+    let differences = Differences::of_rows(alloc, rows)?;
+    move_mark(map, above, name)?;
+    map.restart(at, differences);
+    Ok(())
+}
+
 /// Refreshes a workspace from its parent.
 fn refresh(live: &Sheet, map: &mut WorkspaceMap, at: usize, above: usize) -> Result<(), AllocError>
     requires child { 0 < at }
@@ -169,25 +309,27 @@ fn refresh(live: &Sheet, map: &mut WorkspaceMap, at: usize, above: usize) -> Res
     requires earlier { above < at }
     ensures ok { OnOk result (wholes live.now map.new ≡ after_refresh (wholes live.now map.old) at above) }
     ensures err { OnErr result (wholes live.now map.new ≡ wholes live.now map.old) }
+    ensures lean { IsLean live.now map.old → IsLean live.now map.new }
 {
     let alloc = map.allocator();
     let rows = changes_of(live, map, at)?.rows_after()?;
     let new = cells_of(alloc, rows.as_slice())?;
     let base = map.base(at).cells()?;
     let old = map.current(at).cells()?;
-    let name = Words::new(String::from_str(alloc, map.name_at(at))?);
-    hold_moves(
+    let held = joined(alloc, base.as_slice(), old.as_slice())?;
+    let cells = joined(alloc, new.as_slice(), held.as_slice())?;
+    let done = refresh_base(
         live,
         map,
         at,
+        above,
+        rows,
         new.as_slice(),
         base.as_slice(),
         old.as_slice(),
-    )?;
-    let differences = Differences::of_rows(alloc, rows)?;
-    move_mark(map, above, name)?;
-    map.restart(at, differences);
-    Ok(())
+    );
+    sweep_at(live, map, at, cells.as_slice());
+    done
 }
 
 /// Makes the base of a workspace take its parent's row over at one cell.
@@ -205,6 +347,8 @@ fn keep_own(
     requires earlier { above < at }
     ensures ok { OnOk result (wholes live.now map.new ≡ after_resolve (wholes live.now map.old) at above cell Child) }
     ensures err { OnErr result (wholes live.now map.new ≡ wholes live.now map.old) }
+    ensures long { length map.new ≡ length map.old }
+    ensures elsewhere { StayOwnButNear at (cell ∷ []) map.old map.new }
 {
     hold_current(live, map, at, cell)?;
     hold_saved(live, map, at, cell)?;
@@ -222,6 +366,7 @@ fn hold_cell(
     requires rooted { IsRooted (wholes live.now map.old) }
     ensures seen { wholes live.now map.new ≡ wholes live.now map.old }
     ensures extends { Extends map.old map.new }
+    ensures elsewhere { StayOwnButChildren (layer_at map.old at).name (cell ∷ []) map.old map.new }
     ensures children { OnOk result (ChildrenHold map.new (layer_at map.old at).name (cell ∷ [])) }
 {
     hold_children(live, map, at, &[cell])
@@ -244,12 +389,55 @@ fn move_row(
     requires earlier { above < at }
     ensures ok { OnOk result (wholes live.now map.new ≡ row_moved (wholes live.now map.old) at above cell row) }
     ensures err { OnErr result (wholes live.now map.new ≡ wholes live.now map.old) }
+    ensures long { length map.new ≡ length map.old }
+    ensures elsewhere { StayOwnButNear at (cell ∷ []) map.old map.new }
 {
     hold_cell(live, map, at, cell)?;
     hold_current(live, map, at, cell)?;
     hold_saved(live, map, at, cell)?;
     map.move_row(at, cell, row);
     Ok(())
+}
+
+/// Settles one cell of a workspace. Neutral entries that it makes stay.
+fn settle(
+    live: &Sheet,
+    map: &mut WorkspaceMap,
+    at: usize,
+    above: usize,
+    cell: CellId,
+    keep: Keep,
+) -> Result<(), AllocError>
+    requires child { 0 < at }
+    requires within { at < length map.old }
+    requires rooted { IsRooted (wholes live.now map.old) }
+    requires parent { position_of_parent (wholes live.now map.old) at ≡ Some above }
+    requires earlier { above < at }
+    ensures ok { OnOk result (wholes live.now map.new ≡ after_resolve (wholes live.now map.old) at above cell keep) }
+    ensures err { OnErr result (wholes live.now map.new ≡ wholes live.now map.old) }
+    ensures long { length map.new ≡ length map.old }
+    ensures elsewhere { StayOwnButNear at (cell ∷ []) map.old map.new }
+{
+    match keep {
+        Keep::Child => keep_own(live, map, at, above, cell),
+        Keep::Parent => {
+            let row = copy_row(row_of(live, map, above, cell))?;
+            move_row(live, map, at, above, cell, row)
+        }
+        Keep::Base => {
+            let row = copy_row(base_row_of(live, map, at, cell))?;
+            move_row(live, map, at, above, cell, row)
+        }
+    }
+}
+
+fn sweep_cell(live: &Sheet, map: &mut WorkspaceMap, at: usize, cell: CellId)
+    requires within { at < length map.old }
+    requires rooted { IsRooted (wholes live.now map.old) }
+    ensures seen { wholes live.now map.new ≡ wholes live.now map.old }
+    ensures lean { IsLeanBut at (cell ∷ []) live.now map.old → IsLean live.now map.new }
+{
+    sweep_at(live, map, at, &[cell]);
 }
 
 /// Settles one cell of a workspace.
@@ -268,18 +456,11 @@ fn resolve(
     requires earlier { above < at }
     ensures ok { OnOk result (wholes live.now map.new ≡ after_resolve (wholes live.now map.old) at above cell keep) }
     ensures err { OnErr result (wholes live.now map.new ≡ wholes live.now map.old) }
+    ensures lean { IsLean live.now map.old → IsLean live.now map.new }
 {
-    match keep {
-        Keep::Child => keep_own(live, map, at, above, cell),
-        Keep::Parent => {
-            let row = copy_row(row_of(live, map, above, cell))?;
-            move_row(live, map, at, above, cell, row)
-        }
-        Keep::Base => {
-            let row = copy_row(base_row_of(live, map, at, cell))?;
-            move_row(live, map, at, above, cell, row)
-        }
-    }
+    let done = settle(live, map, at, above, cell, keep);
+    sweep_cell(live, map, at, cell);
+    done
 }
 
 /// Moves the base of a workspace.
@@ -294,6 +475,7 @@ pub fn rebase(
     requires rooted { IsRooted (wholes live.old map.old) }
     ensures ok { OnOk result (wholes live.new map.new ≡ after_rebase (wholes live.old map.old) at rebase) }
     ensures err { OnErr result (wholes live.new map.new ≡ wholes live.old map.old) }
+    ensures lean { IsLean live.old map.old → IsLean live.new map.new }
 {
     let above = parent_of(live, map, at);
     match rebase {
@@ -343,6 +525,7 @@ pub fn create(
     requires absent { find (wholes live.now map.old) name.now ≡ None }
     ensures ok { OnOk result (wholes live.now map.new ≡ after_create (wholes live.now map.old) name.now parent) }
     ensures err { OnErr result (wholes live.now map.new ≡ wholes live.now map.old) }
+    ensures lean { IsLean live.now map.old → IsLean live.now map.new }
 {
     let _live = live;
     let alloc = map.allocator();
@@ -367,7 +550,8 @@ pub fn remove(live: &Sheet, map: &mut WorkspaceMap, at: usize)
     requires within { at < length map.old }
     requires rooted { IsRooted (wholes live.now map.old) }
     requires leaf { let ws = wholes live.now map.old in children_of ws (workspace_at ws at).name ≡ 0 }
-    ensures { wholes live.now map.new ≡ after_remove (wholes live.now map.old) at }
+    ensures removed { wholes live.now map.new ≡ after_remove (wholes live.now map.old) at }
+    ensures lean { IsLean live.now map.old → IsLean live.now map.new }
 {
     let above = parent_of(live, map, at);
     let name = map.remove(at);

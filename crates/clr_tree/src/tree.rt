@@ -13,15 +13,14 @@ ghost use Rattle.clr_tree.specs.Trees.{stored_at, saved_at, needed, needed_of_ma
 use crate::builds::push_parts;
 use crate::layered_builds::push_layers;
 use crate::limits::{MOST_LEVELS, MOST_SAVEPOINTS, MOST_WORKSPACES};
-use crate::operations::{create, live_alone, mark, put_rows, rebase, remove, roll_all, roll_to};
+use crate::operations::{create, live_alone, mark, rebase, remove, roll_all, roll_to, write_rows};
 use crate::part_checks::judge_marks;
 use crate::part_reads::part_at;
 use crate::parts::{Part, PartFault};
 use crate::rebases::Rebase;
-use crate::sweeps::sweep;
 use clr_change::ChangeSet;
 use clr_contents::{
-    View, base_row_of, base_rows, changes_of, depth_at, row_of, saved_rows, whole_rows,
+    View, base_row_of, base_rows, changes_of, depth_at, row_of, saved_rows, sweep, whole_rows,
 };
 use clr_layers::{StoredPart, WorkspaceMap, count_saved, find_saved, has_child_after};
 use clr_rows::{CellId, Row, Sheet};
@@ -31,17 +30,21 @@ use std::marker::Model;
 /// The workspaces in order of creation, LIVE first, each with whole contents. A workspace is named
 /// by its position, which is below `len`. LIVE is stored whole; of every other workspace the base is
 /// stored by its differences from the parent's current content, and the current content and the
-/// savepoints by theirs from the base.
+/// savepoints by theirs from the base. A difference that is none comes in with the parts of a tree
+/// alone; where there is one may be told before a sweep, and after it there is none again.
 #[derive(Drop)]
 pub struct Tree {
     live: Sheet,
     map: WorkspaceMap,
+    swept: bool,
 }
 
 impl Model for Tree {
     ghost use Rattle.clr_tree.specs.Trees.{Tree as Whole, coded_tree, tree_of};
     ghost use Rattle.clr_tree.specs.Soundness.{IsSound};
     ghost use Rattle.clr_layers.specs.Layers.{wholes};
+    ghost use Rattle.clr_contents.specs.Lean.{IsLean};
+    ghost use Rattle.std.specs.Prelude.{◌≡◌, true};
 
     ghost Value = { Whole };
 
@@ -49,7 +52,7 @@ impl Model for Tree {
 
     ghost view = { λ t. tree_of t.live t.map };
 
-    ghost invariant = { λ t. IsSound (wholes t.live t.map) };
+    ghost invariant = { λ t. IsSound (wholes t.live t.map) × (t.swept ≡ true → IsLean t.live t.map) };
 }
 
 impl Tree {
@@ -58,7 +61,11 @@ impl Tree {
         ensures { IfOk result (λ tree. tree.list ≡ root live ∷ []) }
     {
         let map = live_alone(alloc)?;
-        Ok(Tree { live, map })
+        Ok(Tree {
+            live,
+            map,
+            swept: false,
+        })
     }
 
     /// A tree of LIVE with this content and of these parts, or the position of the first part with a
@@ -71,7 +78,11 @@ impl Tree {
     {
         let map = push_parts(alloc, &live, parts.as_slice())?;
         judge_marks(&live, &map)?;
-        Ok(Tree { live, map })
+        Ok(Tree {
+            live,
+            map,
+            swept: false,
+        })
     }
 
     /// A tree of LIVE with this content and of these parts by their differences, each base over the
@@ -90,7 +101,11 @@ impl Tree {
     {
         let map = push_layers(alloc, &live, parts)?;
         judge_marks(&live, &map)?;
-        Ok(Tree { live, map })
+        Ok(Tree {
+            live,
+            map,
+            swept: false,
+        })
     }
 
     /// LIVE's current content.
@@ -307,7 +322,7 @@ impl Tree {
         ensures err { OnErr result (self.new.list ≡ self.old.list) }
     {
         let rows = changed.rows_after()?;
-        put_rows(&mut self.live, &mut self.map, at, rows)
+        write_rows(&mut self.live, &mut self.map, at, rows)
     }
 
     /// Puts a savepoint of a new name, with the current content, at the end of the marks of the
@@ -396,6 +411,10 @@ impl Tree {
         ensures counts { (at : ℕ) → 0 < at → at < length self.new.list → stored_at self.new.stored at ≡ needed self.new.list at }
         ensures saved { (at : ℕ) → 0 < at → at < length self.new.list → saved_at self.new.saved at ≡ needed_of_marks self.new.list at }
     {
+        if self.swept {
+            return;
+        }
         sweep(&self.live, &mut self.map);
+        self.swept = true;
     }
 }

@@ -1,10 +1,10 @@
-use Rattle.std.proofs.Common.{ap, sym, subst, ◌∙◌, List}
+use Rattle.std.proofs.Common.{ap, sym, subst, ◌∙◌, ◌∷◌, [], List}
 use Rattle.std.specs.FinMap as finite
 use Rattle.clr_differences.specs.Differences.{Differences, HasEntry}
 use Rattle.clr_differences.proofs.DifferenceLemmas.{nothing_found}
 use Rattle.clr_layers.specs.Layers.{Layer, wholes, layer_at}
-use Rattle.clr_contents.specs.Holding.{Extends}
-use Rattle.clr_contents.proofs.HoldLemmas.{base_held, extends_base, held_base}
+use Rattle.clr_contents.specs.Holding.{Extends, StayOwnBut}
+use Rattle.clr_contents.proofs.HoldLemmas.{base_held, extends_base, held_base, but_base}
 use Rattle.clr_contents.proofs.holds.hold_base.Goals as goal
 
 pub returns-clause-seen : goal.returns-clause-seen
@@ -18,3 +18,6 @@ returns-clause-extends c = subst (Extends c.args.map.now) (sym c.in_ok-put_base.
 
 pub returns-clause-held : goal.returns-clause-held
 returns-clause-held c = subst (λ (ls : List Layer). HasEntry (layer_at ls c.args.at).base c.args.cell) (sym c.in_ok-put_base.ensures.ok) (held_base c.args.map.now c.args.at c.args.cell c.in_ok-row.row c.requires.within)
+
+pub returns-clause-elsewhere : goal.returns-clause-elsewhere
+returns-clause-elsewhere c = subst (StayOwnBut c.args.at (c.args.cell ∷ []) c.args.map.now) (sym c.in_ok-put_base.ensures.ok) (but_base c.args.map.now c.args.at c.args.cell c.in_ok-row.row c.requires.within)

@@ -3,7 +3,7 @@ use Rattle.std.proofs.lemmas.Bool.{cases_eq}
 use Rattle.clr_differences.specs.Differences.{HasEntries}
 use Rattle.clr_differences.proofs.DifferenceLemmas.{entries_keep}
 use Rattle.clr_layers.specs.Layers.{layer_at, IsUnder}
-use Rattle.clr_contents.proofs.HoldLemmas.{extends_both}
+use Rattle.clr_contents.proofs.HoldLemmas.{extends_both, but_children_both}
 use Rattle.clr_contents.proofs.holds.hold_children.Goals as goal
 
 pub loop-k-preserved : goal.loop-k-preserved
@@ -17,6 +17,7 @@ loop-k-preserved c =
     record {
       seen = e.seen ∙ i.seen;
       extends = extends_both _ old new i.extends e.extends;
+      elsewhere = but_children_both c.args.at c.args.cells.now c.args.map.now old new i.extends i.elsewhere e.elsewhere;
       held = λ j some lt under. ⊎_elim
           (λ (same : j ≡ k).
           subst (λ n. HasEntries (layer_at new n).base c.args.cells.now) (sym same)
@@ -26,3 +27,7 @@ loop-k-preserved c =
           entries_keep (layer_at old j).base (layer_at new j).base _ more.base (i.held j some (omega arith) (subst (λ n. IsUnder name (record (layer_at old j) { parent = n })) more.parent under)))
           (cases_eq j k);
     }
+
+pub returns-in_err-hold_child-clause-elsewhere : goal.returns-in_err-hold_child-clause-elsewhere
+returns-in_err-hold_child-clause-elsewhere c =
+    but_children_both c.args.at c.args.cells.now c.args.map.now c.loop-k.map c.hold_child.new.map c.loop-k.invariant.extends c.loop-k.invariant.elsewhere c.hold_child.ensures.elsewhere

@@ -1,8 +1,8 @@
-use Rattle.std.proofs.Common.{ap, sym, subst, ◌∙◌, List}
+use Rattle.std.proofs.Common.{ap, sym, subst, ◌∙◌, ◌∷◌, [], List}
 use Rattle.clr_differences.specs.Differences.{HasEntry}
 use Rattle.clr_layers.specs.Layers.{Layer, wholes, layer_at}
-use Rattle.clr_contents.specs.Holding.{Extends}
-use Rattle.clr_contents.proofs.HoldLemmas.{current_held, extends_current, held_current}
+use Rattle.clr_contents.specs.Holding.{Extends, StayOwnBut}
+use Rattle.clr_contents.proofs.HoldLemmas.{current_held, extends_current, held_current, but_current}
 use Rattle.clr_contents.proofs.holds.hold_current.Goals as goal
 
 pub returns-clause-seen : goal.returns-clause-seen
@@ -15,3 +15,6 @@ returns-clause-extends c = subst (Extends c.args.map.now) (sym c.in_ok-put_curre
 
 pub returns-clause-held : goal.returns-clause-held
 returns-clause-held c = subst (λ (ls : List Layer). HasEntry (layer_at ls c.args.at).current c.args.cell) (sym c.in_ok-put_current.ensures.ok) (held_current c.args.map.now c.args.at c.args.cell c.in_ok-row.row c.requires.within)
+
+pub returns-clause-elsewhere : goal.returns-clause-elsewhere
+returns-clause-elsewhere c = subst (StayOwnBut c.args.at (c.args.cell ∷ []) c.args.map.now) (sym c.in_ok-put_current.ensures.ok) (but_current c.args.map.now c.args.at c.args.cell c.in_ok-row.row c.requires.within)

@@ -1,7 +1,7 @@
-use Rattle.std.proofs.Common.{ap, sym, subst, ◌∙◌}
+use Rattle.std.proofs.Common.{ap, sym, subst, ◌∙◌, ◌∷◌, []}
 use Rattle.clr_layers.specs.Layers.{wholes}
-use Rattle.clr_contents.specs.Holding.{Extends}
-use Rattle.clr_contents.proofs.HoldLemmas.{saved_held, extends_marks}
+use Rattle.clr_contents.specs.Holding.{Extends, StayOwnBut}
+use Rattle.clr_contents.proofs.HoldLemmas.{saved_held, extends_marks, but_marks}
 use Rattle.clr_contents.proofs.holds.hold_saved.Goals as goal
 
 pub returns-clause-seen : goal.returns-clause-seen
@@ -12,3 +12,7 @@ returns-clause-seen c =
 
 pub returns-clause-extends : goal.returns-clause-extends
 returns-clause-extends c = subst (Extends c.args.map.now) (sym c.hold_saved.ensures.others) (extends_marks c.args.map.now c.args.at _ c.requires.within)
+
+pub returns-clause-elsewhere : goal.returns-clause-elsewhere
+returns-clause-elsewhere c =
+    subst (StayOwnBut c.args.at (c.args.cell ∷ []) c.args.map.now) (sym c.hold_saved.ensures.others) (but_marks c.args.map.now c.args.at (c.args.cell ∷ []) _ c.requires.within c.hold_saved.ensures.elsewhere)

@@ -1,8 +1,9 @@
-use Rattle.std.proofs.Common.{◌≡◌, ℕ, suc, zero, ◌+◌, List, [], ◌∷◌, take, slice_set, subst, arith, ◌∙◌, ap}
+use Rattle.std.proofs.Common.{◌≡◌, ℕ, suc, zero, ◌+◌, List, [], ◌∷◌, take, slice_set, subst, sym, arith, ◌∙◌, ap}
 use Rattle.std.proofs.Math.Seq.{map-set_same}
 use Rattle.clr_rows.specs.declared.cells.CellId.{CellId}
 use Rattle.clr_layers.specs.declared.stored_marks.StoredMark.{StoredMark}
-use Rattle.clr_layers.specs.Layers.{whole_mark, MarkHolds, EachMarkHolds}
+use Rattle.clr_layers.specs.Layers.{whole_mark, MarkHolds, EachMarkHolds, AreOwnOver}
+use Rattle.clr_layers.proofs.MarkLemmas.{own_set}
 use Rattle.clr_layers.proofs.stored_marks.hold_each.Goals as goal
 
 next : (cell : CellId) (ms : List StoredMark) (i : ℕ) (m : StoredMark) → EachMarkHolds (take i ms) cell → MarkHolds cell m → EachMarkHolds (take (suc i) (slice_set ms i m)) cell
@@ -18,9 +19,19 @@ pub returns-in_err-hold-clause-seen : goal.returns-in_err-hold-clause-seen
 returns-in_err-hold-clause-seen c = λ base is.
     map-set_same (whole_mark base) c.loop-i.marks.items c.loop-i.i c.hold.new.mark c.index_mut.result.now (c.hold.ensures.seen base is ∙ ap (whole_mark base) c.index_mut.ensures.value) ∙ c.loop-i.invariant.seen base is
 
+pub returns-in_err-hold-clause-others : goal.returns-in_err-hold-clause-others
+returns-in_err-hold-clause-others c = λ q apart base own.
+    own_set base q c.loop-i.marks.items c.loop-i.i c.hold.new.mark c.index_mut.result.now
+    (λ was. c.hold.ensures.others q apart base (subst (λ (m : StoredMark). AreOwnOver base q (m ∷ [])) (sym c.index_mut.ensures.value) was))
+    (c.loop-i.invariant.others q apart base own)
+
 pub loop-i-preserved : goal.loop-i-preserved
 loop-i-preserved c = record {
   seen = λ base is.
       map-set_same (whole_mark base) c.loop-i.marks.items c.loop-i.i c.hold.new.mark c.index_mut.result.now (c.hold.ensures.seen base is ∙ ap (whole_mark base) c.index_mut.ensures.value) ∙ c.loop-i.invariant.seen base is;
+  others = λ q apart base own.
+      own_set base q c.loop-i.marks.items c.loop-i.i c.hold.new.mark c.index_mut.result.now
+      (λ was. c.hold.ensures.others q apart base (subst (λ (m : StoredMark). AreOwnOver base q (m ∷ [])) (sym c.index_mut.ensures.value) was))
+      (c.loop-i.invariant.others q apart base own);
   held = one_more c.args.cell c.loop-i.marks.items c.loop-i.i c.hold.new.mark c.loop-i.invariant.held c.in_ok-hold.ensures.held;
 }

@@ -1,38 +1,56 @@
-use Rattle.std.proofs.Common.{ap, sym, subst, refl, ◌∙◌, arith, filter}
-use Rattle.clr_differences.specs.Differences.{Rows, no_differences, put_each, cells_in, HasEntries}
-use Rattle.clr_layers.specs.Layers.{wholes, layer_at, layer_changed, is_stored_child, IsUnder}
+use Rattle.std.proofs.Common.{◌∙◌, ◌<◌, ap, sym, subst, refl, arith, List, length}
+use Rattle.clr_rows.specs.declared.cells.CellId.{CellId}
+use Rattle.clr_rows.specs.Contents.{Changes, rows_after}
+use Rattle.clr_differences.specs.Differences.{Rows, cells_in}
+use Rattle.clr_layers.specs.Layers.{wholes}
 use Rattle.clr_layers.specs.Workspaces.{workspace_at}
-use Rattle.clr_rows.specs.Contents.{over, rows_after}
-use Rattle.clr_tree.specs.Moves.{put_into}
-use Rattle.clr_tree.specs.Operations.{with_current}
+use Rattle.clr_layers.proofs.Answered.{on_ok, on_err}
 use Rattle.clr_contents.specs.Roots.{IsRooted}
-use Rattle.clr_contents.proofs.ReadLemmas.{under_its_parent}
+use Rattle.clr_contents.specs.Lean.{IsLeanBut, StayOwnButNear}
+use Rattle.clr_tree.specs.Operations.{own_changes, rebase, after_write}
+use Rattle.clr_tree.proofs.LeanLemmas.{lean_merged, lean_still}
+use Rattle.clr_tree.proofs.ModelLemmas.{either}
 use Rattle.clr_tree.proofs.RootLemmas.{rooted_set}
-use Rattle.clr_tree.proofs.OperationLemmas.{merged_is}
 use Rattle.clr_tree.proofs.operations.merge.Goals as goal
 
-pub take_over-requires-clause-held : goal.take_over-requires-clause-held
-take_over-requires-clause-held c =
-    let ls = c.args.map.now in
-    let hs = c.put_rows.new.map in
-    let at = c.args.at in
-    let e = c.in_ok-put_rows.ensures in
-    let name = (layer_at ls c.args.above).name in
-    let under : IsUnder name (layer_at hs at) = subst (λ n. IsUnder name (record (layer_at ls at) { parent = n })) (sym (e.extends.each at).parent) (under_its_parent c.args.live.now ls at c.args.above c.requires.parent) in
-    subst (λ (rs : Rows). HasEntries (layer_at hs at).base (cells_in rs)) (c.in_ok-rows.ensures ∙ sym c.in_ok-own.ensures)
-    (e.children at c.requires.child (omega (arith, c.requires.within, e.extends.long)) under)
+pub merge_rows-done-requires-clause-rows : goal.merge_rows-done-requires-clause-rows
+merge_rows-done-requires-clause-rows c = c.in_ok-rows.ensures ∙ ap (λ (x : Changes). rows_after x) c.in_ok-changed.ensures
+
+pub merge_rows-done-requires-clause-own : goal.merge_rows-done-requires-clause-own
+merge_rows-done-requires-clause-own c = c.in_ok-own.ensures ∙ ap (λ (x : Changes). rows_after x) c.in_ok-changed.ensures
+
+pub sweep_at-requires-clause-within : goal.sweep_at-requires-clause-within
+sweep_at-requires-clause-within c = let within = c.requires.within in let up = c.requires.earlier in let long = c.merge_rows-done.ensures.long in omega (arith, within, up, long)
+
+pub sweep_at-requires-clause-rooted : goal.sweep_at-requires-clause-rooted
+sweep_at-requires-clause-rooted c =
+    let ws = wholes c.args.live.now c.args.map.now in
+    let p = c.args.above in
+    let vs = after_write ws p (own_changes (workspace_at ws c.args.at)) in
+    either c.merge_rows-done.result _ _ _ (λ is. subst IsRooted (sym is) (rooted_set vs c.args.at (rebase (workspace_at vs c.args.at)) refl refl (rooted_set ws p _ refl refl c.requires.rooted))) (λ is. subst IsRooted (sym is) c.requires.rooted)
+    c.merge_rows-done.ensures.ok c.merge_rows-done.ensures.err
 
 pub returns-clause-ok : goal.returns-clause-ok
-returns-clause-ok c =
+returns-clause-ok c = on_ok c.merge_rows-done.result _ _ (λ is. c.sweep_at.ensures.seen ∙ is) c.merge_rows-done.ensures.ok
+
+pub returns-clause-err : goal.returns-clause-err
+returns-clause-err c = on_err c.merge_rows-done.result _ _ (λ is. c.sweep_at.ensures.seen ∙ is) c.merge_rows-done.ensures.err
+
+pub returns-clause-lean : goal.returns-clause-lean
+returns-clause-lean c = λ lean.
+    let live = c.args.live.now in
     let ls = c.args.map.now in
-    let hs = c.put_rows.new.map in
-    let live = c.put_rows.new.live in
-    let ws = wholes c.args.live.now ls in
-    let e = c.in_ok-put_rows.ensures in
-    let changed = c.in_ok-changed.changed in
-    let rows = c.in_ok-rows.ensures in
-    let put = e.ok ∙ ap (λ (rs : Rows). put_into ws c.args.above rs) rows in
-    let rooted = subst IsRooted (sym put) (rooted_set ws c.args.above (with_current (over (workspace_at ws c.args.above).current (rows_after changed)) (workspace_at ws c.args.above)) refl refl c.requires.rooted) in
-    ap (wholes live) c.take_over.ensures
-    ∙ ap (λ (rs : Rows). wholes live (layer_changed hs c.args.at (λ l. record l { base = put_each l.base rs; current = no_differences; marks = filter is_stored_child l.marks }))) c.in_ok-own.ensures
-    ∙ merged_is live hs ws c.args.at c.args.above changed rooted c.requires.child (omega (arith, c.requires.within, e.extends.long)) c.requires.earlier put c.in_ok-changed.ensures
+    let ws = wholes live ls in
+    let next = c.merge_rows-done.new.live in
+    let ms = c.merge_rows-done.new.map in
+    let p = c.args.above in
+    let rows = rows_after (own_changes (workspace_at ws c.args.at)) in
+    let e = c.merge_rows-done.ensures in
+    let own = c.in_ok-own.ensures ∙ ap (λ (x : Changes). rows_after x) c.in_ok-changed.ensures in
+    let cells = c.as_slice-2.ensures.value ∙ c.in_ok-cells.ensures ∙ ap cells_in (c.as_slice.ensures.value ∙ own) in
+    let stay = subst (λ (rs : Rows). StayOwnButNear p (cells_in rs) ls ms) own e.elsewhere in
+    let p_in : p < length ls = let within = c.requires.within in let up = c.requires.earlier in omega (arith, within, up) in
+    let but : IsLeanBut p (cells_in rows) next ms = either c.merge_rows-done.result _ _ _
+    (λ is. lean_merged live next ls ms c.args.at p c.requires.rooted p_in e.long is stay lean)
+    (λ is. lean_still live next ls ms p (cells_in rows) c.requires.rooted p_in is stay lean) e.ok e.err in
+    c.sweep_at.ensures.lean (subst (λ (qs : List CellId). IsLeanBut p qs next ms) (sym cells) but)

@@ -1,4 +1,4 @@
-use Rattle.std.proofs.Common.{◌≡◌, ◌∙◌, ap, sym, subst, arith, List}
+use Rattle.std.proofs.Common.{◌≡◌, refl, ◌∙◌, ap, sym, subst, arith, List}
 use Rattle.clr_rows.specs.declared.cells.CellId.{CellId}
 use Rattle.clr_rows.specs.Contents.{Content}
 use Rattle.clr_differences.specs.Differences.{cells_in, HasEntries}
@@ -8,6 +8,9 @@ use Rattle.clr_tree.specs.Moves.{put_into}
 use Rattle.clr_contents.specs.Roots.{IsRooted}
 use Rattle.clr_contents.proofs.HoldLemmas.{extends_both, extends_put, children_keep}
 use Rattle.clr_tree.proofs.OperationLemmas.{live_put, put}
+use Rattle.clr_contents.proofs.HoldLemmas.{but_put}
+use Rattle.clr_contents.specs.Holding.{StayOwnBut}
+use Rattle.clr_tree.proofs.LeanLemmas.{near_children, near_own}
 use Rattle.clr_tree.proofs.operations.put_rows.Goals as goal
 
 pub returns-then-at-eq0-clause-ok : goal.returns-then-at-eq0-clause-ok
@@ -74,3 +77,38 @@ returns-clause-children c =
     let held : ChildrenHold gs name (cells_in rows) = subst (λ (qs : List CellId). ChildrenHold gs name qs) cells c.in_ok-hold_children.ensures.children in
     let put = subst (Extends hs) (sym c.set_current.ensures) (extends_put hs c.args.at rows (omega (arith, c.requires.within, both.long))) in
     children_keep gs c.set_current.new.self name (cells_in rows) (extends_both gs hs c.set_current.new.self c.in_ok-hold_own.ensures.extends put) held
+
+pub returns-in_err-hold_children-clause-elsewhere : goal.returns-in_err-hold_children-clause-elsewhere
+returns-in_err-hold_children-clause-elsewhere c =
+    let cells = c.as_slice-2.ensures.value ∙ c.in_ok-cells.ensures ∙ ap cells_in c.as_slice.ensures.value in
+    near_children c.args.at (cells_in c.args.rows.items) _ c.args.map.now c.hold_children.new.map cells c.hold_children.ensures.elsewhere
+
+pub returns-in_err-put_all-clause-elsewhere : goal.returns-in_err-put_all-clause-elsewhere
+returns-in_err-put_all-clause-elsewhere c =
+    let cells = c.as_slice-2.ensures.value ∙ c.in_ok-cells.ensures ∙ ap cells_in c.as_slice.ensures.value in
+    near_children c.args.at (cells_in c.args.rows.items) _ c.args.map.now c.hold_children.new.map cells c.hold_children.ensures.elsewhere
+
+pub returns-then-at-eq0-clause-elsewhere : goal.returns-then-at-eq0-clause-elsewhere
+returns-then-at-eq0-clause-elsewhere c =
+    let cells = c.as_slice-2.ensures.value ∙ c.in_ok-cells.ensures ∙ ap cells_in c.as_slice.ensures.value in
+    near_children c.args.at (cells_in c.args.rows.items) _ c.args.map.now c.hold_children.new.map cells c.hold_children.ensures.elsewhere
+
+pub returns-in_err-hold_own-clause-elsewhere : goal.returns-in_err-hold_own-clause-elsewhere
+returns-in_err-hold_own-clause-elsewhere c =
+    let cells = c.as_slice-2.ensures.value ∙ c.in_ok-cells.ensures ∙ ap cells_in c.as_slice.ensures.value in
+    let again = c.as_slice-3.ensures.value ∙ c.in_ok-cells.ensures ∙ ap cells_in c.as_slice.ensures.value in
+    near_own c.args.at (cells_in c.args.rows.items) _ c.args.map.now c.hold_children.new.map c.hold_own.new.map again
+    (near_children c.args.at (cells_in c.args.rows.items) _ c.args.map.now c.hold_children.new.map cells c.hold_children.ensures.elsewhere) c.hold_own.ensures.elsewhere
+
+pub returns-clause-elsewhere : goal.returns-clause-elsewhere
+returns-clause-elsewhere c =
+    let cells = c.as_slice-2.ensures.value ∙ c.in_ok-cells.ensures ∙ ap cells_in c.as_slice.ensures.value in
+    let again = c.as_slice-3.ensures.value ∙ c.in_ok-cells.ensures ∙ ap cells_in c.as_slice.ensures.value in
+    let ls = c.args.map.now in
+    let gs = c.hold_children.new.map in
+    let hs = c.hold_own.new.map in
+    let rows = c.args.rows.items in
+    let both = extends_both ls gs hs c.in_ok-hold_children.ensures.extends c.in_ok-hold_own.ensures.extends in
+    let put = subst (StayOwnBut c.args.at (cells_in rows) hs) (sym c.set_current.ensures) (but_put hs c.args.at rows (omega (arith, c.requires.within, both.long))) in
+    near_own c.args.at (cells_in rows) (cells_in rows) ls hs c.set_current.new.self refl
+    (near_own c.args.at (cells_in rows) _ ls gs hs again (near_children c.args.at (cells_in rows) _ ls gs cells c.hold_children.ensures.elsewhere) c.hold_own.ensures.elsewhere) put

@@ -1,51 +1,76 @@
-use Rattle.std.proofs.Common.{◌<◌, ap, sym, subst, ◌∙◌, arith, List, length, filter}
+use Rattle.std.proofs.Common.{◌≡◌, ◌∙◌, ◌++◌, ap, sym, subst, refl, arith, false, None, List}
 use Rattle.std.specs.FinMap as finite
 use Rattle.clr_rows.specs.declared.cells.CellId.{CellId}
-use Rattle.clr_differences.specs.Differences.{Differences, no_differences, cells_in}
-use Rattle.clr_layers.specs.Layers.{wholes, layer_at, layer_changed, is_stored_child}
+use Rattle.clr_rows.specs.Contents.{Changes, rows_after}
+use Rattle.clr_differences.specs.Differences.{Differences, cells_in, is_among}
+use Rattle.clr_layers.specs.Layers.{layer_at, wholes}
 use Rattle.clr_layers.specs.Marks.{mark_last}
-use Rattle.clr_layers.proofs.Meaning.{name-wholes}
-use Rattle.clr_contents.specs.Holding.{Extends, ChildrenHold}
-use Rattle.clr_tree.specs.Operations.{change_marks}
+use Rattle.clr_layers.specs.Workspaces.{workspace_at}
+use Rattle.clr_layers.proofs.Answered.{on_ok, on_err}
 use Rattle.clr_contents.specs.Roots.{IsRooted}
-use Rattle.clr_contents.proofs.HoldLemmas.{children_keep}
-use Rattle.clr_tree.proofs.CreateLemmas.{moved_is, moved_extends, refreshed_is}
+use Rattle.clr_contents.specs.Lean.{IsLeanBut, StayOwnButNear}
+use Rattle.clr_tree.specs.Operations.{change_marks, own_changes, refresh}
+use Rattle.clr_tree.proofs.CreateLemmas.{below_rooted}
+use Rattle.clr_tree.proofs.LeanLemmas.{among_neither, lean_refreshed, lean_still, no_entry}
+use Rattle.clr_tree.proofs.ModelLemmas.{either}
+use Rattle.clr_tree.proofs.RootLemmas.{rooted_set}
 use Rattle.clr_tree.proofs.operations.refresh.Goals as goal
 
-pub restart-requires : goal.restart-requires
-restart-requires c =
-    let hs = c.hold_moves.new.map in
-    let p_in : c.args.above < length hs = omega (arith, c.requires.within, c.requires.earlier, c.in_ok-hold_moves.ensures.extends.long) in
-    let more : Extends hs c.move_mark.new.map = subst (Extends hs) (sym c.in_ok-move_mark.ensures.ok) (moved_extends hs c.args.above c.new-name.result p_in) in
-    omega (arith, c.requires.within, c.in_ok-hold_moves.ensures.extends.long, more.long)
+pub refresh_base-done-requires-clause-rows : goal.refresh_base-done-requires-clause-rows
+refresh_base-done-requires-clause-rows c = c.in_ok-rows.ensures ∙ ap (λ (x : Changes). rows_after x) c.in_ok-changes_of.ensures
+
+pub refresh_base-done-requires-clause-new : goal.refresh_base-done-requires-clause-new
+refresh_base-done-requires-clause-new c = c.as_slice-6.ensures.value ∙ c.in_ok-new.ensures ∙ ap cells_in c.as_slice.ensures.value
+
+pub refresh_base-done-requires-clause-base : goal.refresh_base-done-requires-clause-base
+refresh_base-done-requires-clause-base c = c.as_slice-7.ensures.value ∙ c.in_ok-base.ensures ∙ ap (λ (d : Differences). finite.keys d) c.base.ensures
+
+pub refresh_base-done-requires-clause-old : goal.refresh_base-done-requires-clause-old
+refresh_base-done-requires-clause-old c = c.as_slice-8.ensures.value ∙ c.in_ok-old.ensures ∙ ap (λ (d : Differences). finite.keys d) c.current.ensures
+
+pub sweep_at-requires-clause-within : goal.sweep_at-requires-clause-within
+sweep_at-requires-clause-within c = let within = c.requires.within in let long = c.refresh_base-done.ensures.long in omega (arith, within, long)
+
+pub sweep_at-requires-clause-rooted : goal.sweep_at-requires-clause-rooted
+sweep_at-requires-clause-rooted c =
+    let ws = wholes c.args.live.now c.args.map.now in
+    let moved = change_marks ws c.args.above (mark_last (workspace_at ws c.args.at).name) in
+    either c.refresh_base-done.result _ _ _
+    (λ is. subst IsRooted (sym is) (rooted_set moved c.args.at (refresh (workspace_at ws c.args.above).current (workspace_at moved c.args.at)) refl refl (below_rooted ws c.args.above (mark_last (workspace_at ws c.args.at).name) c.requires.rooted)))
+    (λ is. subst IsRooted (sym is) c.requires.rooted) c.refresh_base-done.ensures.ok c.refresh_base-done.ensures.err
 
 pub returns-clause-ok : goal.returns-clause-ok
-returns-clause-ok c =
+returns-clause-ok c = on_ok c.refresh_base-done.result _ _ (λ is. c.sweep_at.ensures.seen ∙ is) c.refresh_base-done.ensures.ok
+
+pub returns-clause-err : goal.returns-clause-err
+returns-clause-err c = on_err c.refresh_base-done.result _ _ (λ is. c.sweep_at.ensures.seen ∙ is) c.refresh_base-done.ensures.err
+
+pub returns-clause-lean : goal.returns-clause-lean
+returns-clause-lean c = λ lean.
     let live = c.args.live.now in
     let ls = c.args.map.now in
-    let hs = c.hold_moves.new.map in
-    let gs = c.move_mark.new.map in
+    let ms = c.refresh_base-done.new.map in
     let at = c.args.at in
     let p = c.args.above in
-    let lt = c.requires.within in
-    let h = c.in_ok-hold_moves.ensures in
-    let rows = c.in_ok-rows.rows.items in
-    let changed = c.in_ok-changes_of.field-0 in
-    let child = c.new-name.result in
-    let p_in : p < length hs = omega (arith, lt, c.requires.earlier, h.extends.long) in
-    let more : Extends hs gs = subst (Extends hs) (sym c.in_ok-move_mark.ensures.ok) (moved_extends hs p child p_in) in
-    let lt_new : at < length gs = omega (arith, lt, h.extends.long, more.long) in
-    let rooted = subst IsRooted (sym h.seen) c.requires.rooted in
-    let named = c.new-name.ensures ∙ c.in_ok-from_str.ensures.ok ∙ c.name_at.ensures ∙ sym (name-wholes live ls at) in
-    let end = ap (wholes live) c.in_ok-move_mark.ensures.ok ∙ moved_is live hs p child rooted p_in ∙ (λ i. change_marks (h.seen i) p (mark_last (named i))) in
-    let same_name = (more.each at).name ∙ (h.extends.each at).name in
-    let keep = λ (qs : List CellId). λ (held : ChildrenHold hs (layer_at ls at).name qs). subst (λ n. ChildrenHold gs n qs) (sym same_name) (children_keep hs gs (layer_at ls at).name qs more held) in
-    let new_is = c.as_slice-2.ensures.value ∙ c.in_ok-new.ensures ∙ ap cells_in c.as_slice.ensures.value in
-    let base_is = c.as_slice-3.ensures.value ∙ c.in_ok-base.ensures ∙ ap (λ (d : Differences). finite.keys d) c.base.ensures in
-    let old_is = c.as_slice-4.ensures.value ∙ c.in_ok-old.ensures ∙ ap (λ (d : Differences). finite.keys d) c.current.ensures in
-    let held_rows = keep (cells_in rows) (subst (λ (qs : List CellId). ChildrenHold hs (layer_at ls at).name qs) new_is h.new) in
-    let held_base = keep (finite.keys (layer_at ls at).base) (subst (λ (qs : List CellId). ChildrenHold hs (layer_at ls at).name qs) base_is h.base) in
-    let held_old = keep (finite.keys (layer_at ls at).current) (subst (λ (qs : List CellId). ChildrenHold hs (layer_at ls at).name qs) old_is h.old) in
-    ap (wholes live) c.restart.ensures
-    ∙ ap (λ (d : Differences). wholes live (layer_changed gs at (λ l. record l { base = no_differences; current = d; marks = filter is_stored_child l.marks }))) c.in_ok-differences.ensures
-    ∙ refreshed_is live ls gs at p rows changed c.requires.rooted c.requires.child lt lt_new c.requires.parent c.requires.earlier end held_rows held_base held_old c.in_ok-rows.ensures c.in_ok-changes_of.ensures
+    let rows = rows_after (own_changes (workspace_at (wholes live ls) at)) in
+    let under = (layer_at ls at).base in
+    let now = (layer_at ls at).current in
+    let all = cells_in rows ++ (finite.keys under ++ finite.keys now) in
+    let e = c.refresh_base-done.ensures in
+    let after = c.in_ok-rows.ensures ∙ ap (λ (x : Changes). rows_after x) c.in_ok-changes_of.ensures in
+    let new = c.in_ok-new.ensures ∙ ap cells_in (c.as_slice.ensures.value ∙ after) in
+    let base = c.in_ok-base.ensures ∙ ap (λ (d : Differences). finite.keys d) c.base.ensures in
+    let old = c.in_ok-old.ensures ∙ ap (λ (d : Differences). finite.keys d) c.current.ensures in
+    let held : c.as_slice-2.result.now ++ c.as_slice-3.result.now ≡ finite.keys under ++ finite.keys now = λ i. (c.as_slice-2.ensures.value ∙ base) i ++ (c.as_slice-3.ensures.value ∙ old) i in
+    let rest = c.as_slice-5.ensures.value ∙ c.in_ok-held.ensures ∙ held in
+    let joined : c.as_slice-4.result.now ++ c.as_slice-5.result.now ≡ all = λ i. (c.as_slice-4.ensures.value ∙ new) i ++ rest i in
+    let cells = c.as_slice-9.ensures.value ∙ c.in_ok-cells.ensures ∙ joined in
+    let moved : c.as_slice-6.result.now ++ (c.as_slice-7.result.now ++ c.as_slice-8.result.now) ≡ all = λ i. (c.as_slice-6.ensures.value ∙ new) i ++ ((c.as_slice-7.ensures.value ∙ base) i ++ (c.as_slice-8.ensures.value ∙ old) i) in
+    let stay = subst (λ (qs : List CellId). StayOwnButNear at qs ls ms) moved e.elsewhere in
+    let none : (q : CellId) → is_among all q ≡ false → (is_among (cells_in rows) q ≡ false) × ((finite.get under q ≡ None) × (finite.get now q ≡ None)) = λ q apart.
+    let one = among_neither (cells_in rows) (finite.keys under ++ finite.keys now) q apart in
+    let two = among_neither (finite.keys under) (finite.keys now) q one.1 in (one.0, (no_entry under q two.0, no_entry now q two.1)) in
+    let but : IsLeanBut at all live ms = either c.refresh_base-done.result _ _ _
+    (λ is. lean_refreshed live ls at p c.requires.rooted c.requires.child c.requires.within c.requires.parent c.requires.earlier all none ms e.long is stay lean)
+    (λ is. lean_still live live ls ms at all c.requires.rooted c.requires.within is stay lean) e.ok e.err in
+    c.sweep_at.ensures.lean (subst (λ (qs : List CellId). IsLeanBut at qs live ms) (sym cells) but)

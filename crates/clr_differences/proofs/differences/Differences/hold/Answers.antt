@@ -1,6 +1,7 @@
 use Rattle.std.proofs.Common.{ap, sym, subst, ◌∙◌}
+use Rattle.std.specs.FinMap as finite
 use Rattle.clr_differences.specs.Differences.{Differences, seen_over, HasEntry}
-use Rattle.clr_differences.proofs.DifferenceLemmas.{neutral_new, entry_made, nothing_found}
+use Rattle.clr_differences.proofs.DifferenceLemmas.{neutral_new, entry_made, nothing_found, put_elsewhere}
 use Rattle.clr_differences.proofs.differences.Differences.hold.Goals as goal
 
 pub returns-clause-seen : goal.returns-clause-seen
@@ -10,3 +11,6 @@ returns-clause-seen c = λ below is.
 
 pub returns-clause-held : goal.returns-clause-held
 returns-clause-held c = subst (λ (d : Differences). HasEntry d c.args.cell) (sym c.in_ok-put.ensures.ok) (entry_made c.args.self.now c.args.cell c.in_ok-row.row)
+
+pub returns-clause-others : goal.returns-clause-others
+returns-clause-others c = λ q apart. ap (λ (d : Differences). finite.get d q) c.in_ok-put.ensures.ok ∙ put_elsewhere c.args.self.now c.args.cell c.in_ok-row.row q apart

@@ -1,7 +1,7 @@
 use Rattle.std.proofs.Common.{ap, sym, subst, refl, ◌∙◌, List, map}
 use Rattle.std.proofs.lemmas.List.{get_or-set_same}
 use Rattle.clr_layers.specs.declared.stored_marks.StoredMark.{StoredMark}
-use Rattle.clr_layers.specs.Layers.{Layer, no_layer, layer_at, layer_changed, whole_mark, EachMarkHolds}
+use Rattle.clr_layers.specs.Layers.{Layer, no_layer, layer_at, layer_changed, whole_mark, EachMarkHolds, AreOwnOver}
 use Rattle.clr_layers.proofs.Answered.{on_ok}
 use Rattle.clr_layers.proofs.EntryLemmas.{changed, entry_at}
 use Rattle.clr_layers.proofs.workspace_maps.WorkspaceMap.hold_saved.Goals as goal
@@ -30,3 +30,12 @@ returns-clause-held c =
     let set = changed c.self.inside.map.entries c.args.self.now c.args.at k v _ (λ (l : Layer). record l { marks = new }) c.self.view_is c.pair_mut-layer.ensures.value refl in
     let is = ap (λ (ls : List Layer). (layer_at ls c.args.at).marks) set ∙ ap (λ (l : Layer). l.marks) (get_or-set_same c.args.self.now c.args.at _ no_layer c.requires) in
     on_ok c.hold_each.result _ _ (λ held. subst (λ (ms : List StoredMark). EachMarkHolds ms c.args.cell) (sym is) held) c.hold_each.ensures.held
+
+pub returns-clause-elsewhere : goal.returns-clause-elsewhere
+returns-clause-elsewhere c = λ q apart base own.
+    let k = c.pair_mut-layer.result.0.now in let v = c.pair_mut-layer.result.1.now in
+    let new = c.hold_each.new.marks.items in
+    let set = changed c.self.inside.map.entries c.args.self.now c.args.at k v _ (λ (l : Layer). record l { marks = new }) c.self.view_is c.pair_mut-layer.ensures.value refl in
+    let is = ap (λ (ls : List Layer). (layer_at ls c.args.at).marks) set ∙ ap (λ (l : Layer). l.marks) (get_or-set_same c.args.self.now c.args.at _ no_layer c.requires) in
+    let was = ap (λ (l : Layer). l.marks) (entry_at c.self.inside.map.entries c.args.self.now c.args.at (k, v) c.self.view_is c.pair_mut-layer.ensures.value) in
+    subst (AreOwnOver base q) (sym is) (c.hold_each.ensures.others q apart base (subst (AreOwnOver base q) was own))

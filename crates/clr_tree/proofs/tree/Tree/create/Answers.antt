@@ -25,11 +25,13 @@ invariant_of-self c =
     let at = c.args.parent in
     let in_ls = within_tree c.self.inside.live c.self.inside.map c.args.self.now c.args.parent c.self.view_is c.requires.within in
     let lt = within_wholes live ls at in_ls in
-    let s = c.self.invariant in
+    let s = c.self.invariant.0 in
     let absent = subst (λ (t : Tree). find t.list c.args.name.now ≡ None) (sym c.self.view_is) c.requires.absent in
     let room = subst (λ (t : Tree). length t.list < MOST_WORKSPACES) (sym c.self.view_is) c.requires.room in
-    let shallow = subst (λ (t : Tree). depth_of t.list at < MOST_LEVELS) (sym c.self.view_is) c.requires.shallow in
-    either c.create.result _ _ _ (λ is. subst IsSound (sym (is)) (sound_created ws c.args.name.now at s lt absent c.requires.good room shallow)) (λ is. subst IsSound (sym is) s) c.create.ensures.ok c.create.ensures.err
+    let shallow = subst (λ (t : Tree). depth_of t.list at < MOST_LEVELS) (sym c.self.view_is) c.requires.shallow in (
+      either c.create.result _ _ _ (λ is. subst IsSound (sym (is)) (sound_created ws c.args.name.now at s lt absent c.requires.good room shallow)) (λ is. subst IsSound (sym is) s) c.create.ensures.ok c.create.ensures.err,
+      λ flag. c.create.ensures.lean (c.self.invariant.1 flag),
+    )
 
 pub returns-clause-ok : goal.returns-clause-ok
 returns-clause-ok c =
@@ -39,7 +41,7 @@ returns-clause-ok c =
     let at = c.args.parent in
     let in_ls = within_tree c.self.inside.live c.self.inside.map c.args.self.now c.args.parent c.self.view_is c.requires.within in
     let lt = within_wholes live ls at in_ls in
-    let s = c.self.invariant in
+    let s = c.self.invariant.0 in
     let absent = subst (λ (t : Tree). find t.list c.args.name.now ≡ None) (sym c.self.view_is) c.requires.absent in
     let room = subst (λ (t : Tree). length t.list < MOST_WORKSPACES) (sym c.self.view_is) c.requires.room in
     let shallow = subst (λ (t : Tree). depth_of t.list at < MOST_LEVELS) (sym c.self.view_is) c.requires.shallow in

@@ -9,4 +9,4 @@ pub returns : goal.returns
 returns c =
     let live = c.self.inside.live in
     let ls = c.self.inside.map in
-    sym (live-wholes live ls (within_layers live ls 0 c.self.invariant.rooted.filled)) ∙ ap (λ (t : Tree). (workspace_at t.list 0).current) c.self.view_is
+    sym (live-wholes live ls (within_layers live ls 0 c.self.invariant.0.rooted.filled)) ∙ ap (λ (t : Tree). (workspace_at t.list 0).current) c.self.view_is

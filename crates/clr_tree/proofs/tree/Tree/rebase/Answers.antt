@@ -19,8 +19,10 @@ invariant_of-self c =
     let at = c.args.at in
     let in_ls = within_tree c.self.inside.live c.self.inside.map c.args.self.now c.args.at c.self.view_is c.requires.within in
     let lt = within_wholes live ls at in_ls in
-    let s = c.self.invariant in
-    either c.rebase.result _ _ _ (λ is. subst IsSound (sym (is)) (sound_rebased ws at s lt c.requires.child c.args.how)) (λ is. subst IsSound (sym is) s) c.rebase.ensures.ok c.rebase.ensures.err
+    let s = c.self.invariant.0 in (
+      either c.rebase.result _ _ _ (λ is. subst IsSound (sym (is)) (sound_rebased ws at s lt c.requires.child c.args.how)) (λ is. subst IsSound (sym is) s) c.rebase.ensures.ok c.rebase.ensures.err,
+      λ flag. c.rebase.ensures.lean (c.self.invariant.1 flag),
+    )
 
 pub returns-clause-ok : goal.returns-clause-ok
 returns-clause-ok c =
@@ -30,7 +32,7 @@ returns-clause-ok c =
     let at = c.args.at in
     let in_ls = within_tree c.self.inside.live c.self.inside.map c.args.self.now c.args.at c.self.view_is c.requires.within in
     let lt = within_wholes live ls at in_ls in
-    let s = c.self.invariant in
+    let s = c.self.invariant.0 in
     on_ok c.rebase.result _ _ (λ is. became live c.rebase.new.live ls c.rebase.new.map c.args.self.now (λ ws. after_rebase ws c.args.at c.args.how) c.self.view_is (is)) c.rebase.ensures.ok
 
 pub returns-clause-err : goal.returns-clause-err

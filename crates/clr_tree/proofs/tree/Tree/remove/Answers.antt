@@ -24,10 +24,12 @@ invariant_of-self c =
     let at = c.args.at in
     let in_ls = within_tree c.self.inside.live c.self.inside.map c.args.self.now c.args.at c.self.view_is c.requires.within in
     let lt = within_wholes live ls at in_ls in
-    let s = c.self.invariant in
+    let s = c.self.invariant.0 in
     let q = s.rooted.under at c.requires.child lt in
-    let leaf = subst (λ (t : Tree). children_of t.list (workspace_at t.list at).name ≡ 0) (sym c.self.view_is) c.requires.leaf in
-    subst IsSound (sym (c.remove.ensures)) (subst IsSound (ap (λ o. at_position ws o (after_remove_under ws at)) (sym q.1)) (sound_removed ws at q.0 s c.requires.child lt (no_child_whole live ls at leaf) q.1 q.2))
+    let leaf = subst (λ (t : Tree). children_of t.list (workspace_at t.list at).name ≡ 0) (sym c.self.view_is) c.requires.leaf in (
+      subst IsSound (sym (c.remove.ensures.removed)) (subst IsSound (ap (λ o. at_position ws o (after_remove_under ws at)) (sym q.1)) (sound_removed ws at q.0 s c.requires.child lt (no_child_whole live ls at leaf) q.1 q.2)),
+      λ flag. c.remove.ensures.lean (c.self.invariant.1 flag),
+    )
 
 pub returns : goal.returns
 returns c =
@@ -37,7 +39,7 @@ returns c =
     let at = c.args.at in
     let in_ls = within_tree c.self.inside.live c.self.inside.map c.args.self.now c.args.at c.self.view_is c.requires.within in
     let lt = within_wholes live ls at in_ls in
-    let s = c.self.invariant in
+    let s = c.self.invariant.0 in
     let q = s.rooted.under at c.requires.child lt in
     let leaf = subst (λ (t : Tree). children_of t.list (workspace_at t.list at).name ≡ 0) (sym c.self.view_is) c.requires.leaf in
-    became live c.self.inside.live ls c.remove.new.map c.args.self.now (λ ws. after_remove ws c.args.at) c.self.view_is (c.remove.ensures)
+    became live c.self.inside.live ls c.remove.new.map c.args.self.now (λ ws. after_remove ws c.args.at) c.self.view_is (c.remove.ensures.removed)

@@ -23,8 +23,10 @@ invariant_of-self c =
     let at = c.args.at in
     let in_ls = within_tree c.self.inside.live c.self.inside.map c.args.self.now c.args.at c.self.view_is c.requires.within in
     let lt = within_wholes live ls at in_ls in
-    let s = c.self.invariant in
-    subst IsSound (sym (c.roll_all.ensures)) (sound_unsaved ws at s lt c.requires.child (workspace_at ws at).base (workspace_at ws at).base)
+    let s = c.self.invariant.0 in (
+      subst IsSound (sym (c.roll_all.ensures.rolled)) (sound_unsaved ws at s lt c.requires.child (workspace_at ws at).base (workspace_at ws at).base),
+      λ flag. c.roll_all.ensures.lean (c.self.invariant.1 flag),
+    )
 
 pub returns : goal.returns
 returns c =
@@ -34,5 +36,5 @@ returns c =
     let at = c.args.at in
     let in_ls = within_tree c.self.inside.live c.self.inside.map c.args.self.now c.args.at c.self.view_is c.requires.within in
     let lt = within_wholes live ls at in_ls in
-    let s = c.self.invariant in
-    became live c.self.inside.live ls c.roll_all.new.map c.args.self.now (λ ws. after_roll_all ws c.args.at) c.self.view_is (c.roll_all.ensures)
+    let s = c.self.invariant.0 in
+    became live c.self.inside.live ls c.roll_all.new.map c.args.self.now (λ ws. after_roll_all ws c.args.at) c.self.view_is (c.roll_all.ensures.rolled)

@@ -28,8 +28,10 @@ invariant_of-self c =
     let at = c.args.at in
     let in_ls = within_tree c.self.inside.live c.self.inside.map c.args.self.now c.args.at c.self.view_is c.requires.within in
     let lt = within_wholes live ls at in_ls in
-    let s = c.self.invariant in
-    either c.roll_to.result _ _ _ (λ is. subst IsSound (sym (is)) (sound_rolled_to ws at s lt c.requires.child c.args.mark)) (λ is. subst IsSound (sym is) s) c.roll_to.ensures.ok c.roll_to.ensures.err
+    let s = c.self.invariant.0 in (
+      either c.roll_to.result _ _ _ (λ is. subst IsSound (sym (is)) (sound_rolled_to ws at s lt c.requires.child c.args.mark)) (λ is. subst IsSound (sym is) s) c.roll_to.ensures.ok c.roll_to.ensures.err,
+      λ flag. c.roll_to.ensures.lean (c.self.invariant.1 flag),
+    )
 
 pub returns-clause-ok : goal.returns-clause-ok
 returns-clause-ok c =
@@ -39,7 +41,7 @@ returns-clause-ok c =
     let at = c.args.at in
     let in_ls = within_tree c.self.inside.live c.self.inside.map c.args.self.now c.args.at c.self.view_is c.requires.within in
     let lt = within_wholes live ls at in_ls in
-    let s = c.self.invariant in
+    let s = c.self.invariant.0 in
     on_ok c.roll_to.result _ _ (λ is. became live c.self.inside.live ls c.roll_to.new.map c.args.self.now (λ ws. after_roll_to ws c.args.at c.args.mark) c.self.view_is (is)) c.roll_to.ensures.ok
 
 pub returns-clause-err : goal.returns-clause-err

@@ -10,8 +10,8 @@ use Rattle.clr_tree.proofs.ModelLemmas.{within_tree, became, either}
 use Rattle.clr_layers.proofs.Answered.{on_ok, on_err}
 use Rattle.clr_tree.proofs.tree.Tree.write_all.Goals as goal
 
-pub put_rows-requires-clause-within : goal.put_rows-requires-clause-within
-put_rows-requires-clause-within c = within_tree c.self.inside.live c.self.inside.map c.args.self.now c.args.at c.self.view_is c.requires
+pub write_rows-requires-clause-within : goal.write_rows-requires-clause-within
+write_rows-requires-clause-within c = within_tree c.self.inside.live c.self.inside.map c.args.self.now c.args.at c.self.view_is c.requires
 
 pub invariant_of-self : goal.invariant_of-self
 invariant_of-self c =
@@ -21,8 +21,10 @@ invariant_of-self c =
     let at = c.args.at in
     let in_ls = within_tree c.self.inside.live c.self.inside.map c.args.self.now c.args.at c.self.view_is c.requires in
     let lt = within_wholes live ls at in_ls in
-    let s = c.self.invariant in
-    either c.put_rows.result _ _ _ (λ is. subst IsSound (sym (is ∙ ap (λ (rs : Rows). put_into ws at rs) c.in_ok-rows.ensures)) (sound_current ws at s lt _)) (λ is. subst IsSound (sym is) s) c.put_rows.ensures.ok c.put_rows.ensures.err
+    let s = c.self.invariant.0 in (
+      either c.write_rows.result _ _ _ (λ is. subst IsSound (sym (is ∙ ap (λ (rs : Rows). put_into ws at rs) c.in_ok-rows.ensures)) (sound_current ws at s lt _)) (λ is. subst IsSound (sym is) s) c.write_rows.ensures.ok c.write_rows.ensures.err,
+      λ flag. c.write_rows.ensures.lean (c.self.invariant.1 flag),
+    )
 
 pub returns-clause-ok : goal.returns-clause-ok
 returns-clause-ok c =
@@ -32,8 +34,8 @@ returns-clause-ok c =
     let at = c.args.at in
     let in_ls = within_tree c.self.inside.live c.self.inside.map c.args.self.now c.args.at c.self.view_is c.requires in
     let lt = within_wholes live ls at in_ls in
-    let s = c.self.invariant in
-    on_ok c.put_rows.result _ _ (λ is. became live c.put_rows.new.live ls c.put_rows.new.map c.args.self.now (λ ws. after_write ws c.args.at c.args.changed.now) c.self.view_is (is ∙ ap (λ (rs : Rows). put_into ws at rs) c.in_ok-rows.ensures)) c.put_rows.ensures.ok
+    let s = c.self.invariant.0 in
+    on_ok c.write_rows.result _ _ (λ is. became live c.write_rows.new.live ls c.write_rows.new.map c.args.self.now (λ ws. after_write ws c.args.at c.args.changed.now) c.self.view_is (is ∙ ap (λ (rs : Rows). put_into ws at rs) c.in_ok-rows.ensures)) c.write_rows.ensures.ok
 
 pub returns-clause-err : goal.returns-clause-err
-returns-clause-err c = on_err c.put_rows.result _ _ (λ is. became c.self.inside.live c.put_rows.new.live c.self.inside.map c.put_rows.new.map c.args.self.now (λ ws. ws) c.self.view_is is) c.put_rows.ensures.err
+returns-clause-err c = on_err c.write_rows.result _ _ (λ is. became c.self.inside.live c.write_rows.new.live c.self.inside.map c.write_rows.new.map c.args.self.now (λ ws. ws) c.self.view_is is) c.write_rows.ensures.err

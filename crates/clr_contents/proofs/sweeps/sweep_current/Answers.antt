@@ -3,8 +3,8 @@ use Rattle.clr_differences.specs.Differences.{Differences, swept}
 use Rattle.clr_layers.specs.Layers.{Layer, layer_at, layer_changed, wholes}
 use Rattle.clr_layers.specs.Workspaces.{workspace_at}
 use Rattle.clr_contents.specs.Roots.{IsRooted}
-use Rattle.clr_tree.proofs.SweepLemmas.{rooted_still, set_again, base_stays}
-use Rattle.clr_tree.proofs.sweeps.sweep_current.Goals as goal
+use Rattle.clr_contents.proofs.SweepLemmas.{rooted_still, set_again, base_stays}
+use Rattle.clr_contents.proofs.sweeps.sweep_current.Goals as goal
 
 pub new-requires-clause-rooted : goal.new-requires-clause-rooted
 new-requires-clause-rooted c =
