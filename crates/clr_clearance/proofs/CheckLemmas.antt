@@ -19,13 +19,12 @@ use Rattle.clr_steps.specs.Quiet.{Site, is_quiet, is_root}
 use Rattle.clr_steps.specs.Refusals.{breaks, depth_within, first_broken, refusal, refusals_of}
 use Rattle.clr_steps.specs.Steps.{Answer, AreAnswers, is_lost, lost_in, step, step_or_lost}
 use Rattle.clr_rows.specs.Names.{is_good_name}
-use Rattle.clr_steps.proofs.RunLemmas.{more_law}
+use Rattle.clr_steps.proofs.RunLemmas.{lost_later, more_law}
 use Rattle.clr_clearance.specs.CheckLaws.{AllJudgedLaw, FirstJudgedLaw, IsCovered, OneMoreLaw}
 use Rattle.clr_clearance.specs.Examples.{FaultExample}
 use Rattle.clr_clearance.specs.Runs.{AreQuiet}
 use Rattle.clr_clearance.specs.Verdicts.{name_fault}
 use Rattle.clr_clearance.proofs.OrderLemmas.{need_total}
-use Rattle.clr_clearance.proofs.RunLemmas.{lost_behind}
 
 pub fault_example : FaultExample
 unfolding name_fault refusal refusals_of effect step same_name is_live workspace stands is_kept content_of after_create set_kept breaks first_broken broken broken_below depth_within is_good_name is_root
@@ -103,8 +102,8 @@ quiet_more o site (x ∷ cs) (r ∷ rs) now c reply answers quiet is zero d e = 
 quiet_more o site (x ∷ cs) (r ∷ rs) now c reply answers quiet is (suc at) d e =
     let next = answers.0 in
     let office : (step_or_lost (is_lost r) o x).office ≡ next = ap (λ (a : Answer). a.office) (sym answers.1) in
-    let lost : (λ k. lost_in (r ∷ rs) (k + 1)) ≡ lost_in rs = λ i k. lost_behind r rs k i in
-    let lost_more : (λ k. lost_in (r ∷ rs ++ reply ∷ []) (k + 1)) ≡ lost_in (rs ++ reply ∷ []) = λ i k. lost_behind r (rs ++ reply ∷ []) k i in
+    let lost : (λ k. lost_in (r ∷ rs) (k + 1)) ≡ lost_in rs = λ i k. lost_later r rs k i in
+    let lost_more : (λ k. lost_in (r ∷ rs ++ reply ∷ []) (k + 1)) ≡ lost_in (rs ++ reply ∷ []) = λ i k. lost_later r (rs ++ reply ∷ []) k i in
     let behind : AreQuiet (step_or_lost (is_lost r) o x).office site cs (λ k. lost_in (r ∷ rs) (k + 1)) = λ k y g. quiet (suc k) y g in
     let rest = quiet_more next site cs rs now c reply answers.2 (subst (λ p. AreQuiet p site cs (lost_in rs)) office (subst (AreQuiet (step_or_lost (is_lost r) o x).office site cs) lost behind)) is in
     let whole : AreQuiet (step_or_lost (is_lost r) o x).office site (cs ++ c ∷ []) (λ k. lost_in (r ∷ rs ++ reply ∷ []) (k + 1)) =

@@ -2,7 +2,7 @@
 use Rattle.std.proofs.Common.{◌≡◌, ◌⊎◌, ℕ, suc, ◌+◌, Bool, true, false, ◌||◌, cond, List, [], ◌∷◌, ◌++◌, inl, inr, refl, sym, ap, ◌∙◌, subst, arith, Option, Some, None, is_some, slice_get, unwrap_or}
 use Rattle.std.specs.List.{cons_option}
 use Rattle.std.specs.Option.{option_map, option_map_or, option_or}
-use Rattle.std.proofs.lemmas.Bool.{cases_Bool, false≢true, true≢false, or_cases, or_left, or_right}
+use Rattle.std.proofs.lemmas.Bool.{cases_Bool, false≢true, or_cases, or_left, or_parts, or_right}
 use Rattle.std.proofs.lemmas.List.{append_assoc, append-nil}
 use Rattle.clr_rows.specs.declared.cells.CellId.{CellId}
 use Rattle.clr_rows.specs.Contents.{Content, conflicts, least_and_count, row_at}
@@ -96,10 +96,6 @@ unbroken_holds o name content kept none = holds_if_none o.book content (by (firs
 
 -- merges of members one after another -------------------------------------------------------------------------
 
-neither_true : (a b : Bool) → (a || b) ≡ false → (a ≡ false) × (b ≡ false)
-neither_true true b e = absurd (true≢false e)
-neither_true false b e = (refl, e)
-
 module _ (first : Office) (site : Site) (mergeable : AreMergeable first site) where
   abbrev AllStand : Office → Type 0
   AllStand now = (name : Name) → is_member site name ≡ true → is_some (shown now name) ≡ true
@@ -155,7 +151,7 @@ module _ (first : Office) (site : Site) (mergeable : AreMergeable first site) wh
   all_done [] names now inv stand part calm holds = subst (λ ms. Holds first.book (rows_with first site ms)) (sym (append-nil names)) holds
   all_done (n ∷ ns) names now inv stand part calm holds =
       let member : is_member site n ≡ true = sym (has_is site.members n) ∙ part n (or_left (same_name n n) (has_by same_name ns n) (same_name_itself n)) in
-      let both = neither_true (is_clash (step now (merge_of n)).reply) (is_refused (step now (merge_of n)).office ns) calm in
+      let both = or_parts (is_clash (step now (merge_of n)).reply) (is_refused (step now (merge_of n)).office ns) calm in
       let (w, e) = stands_as (workspace now n) (stand n member) in
       let next = next_is names now inv n member w e both.0 in
       subst (λ ms. Holds first.book (rows_with first site ms)) (append_assoc names (n ∷ []) ns)

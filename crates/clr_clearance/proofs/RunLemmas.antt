@@ -6,7 +6,7 @@ use Rattle.clr_steps.specs.declared.commands.Reply.{Reply}
 use Rattle.clr_steps.specs.Offices.{Office}
 use Rattle.clr_steps.specs.Quiet.{Site, is_of_member, root_content}
 use Rattle.clr_steps.specs.Steps.{Answer, AreAnswers, IsAnswer, Run, answer, is_lost, lost_in, step_or_lost}
-use Rattle.clr_steps.proofs.RunLemmas.{run_law}
+use Rattle.clr_steps.proofs.RunLemmas.{lost_later, run_law}
 use Rattle.clr_clearance.specs.Invariants.{Invariant}
 use Rattle.clr_clearance.specs.Laws.{ClearIsSafeLaw, ClearedRunLaw}
 use Rattle.clr_clearance.specs.Runs.{AreQuiet, merged_by, merged_in}
@@ -18,10 +18,6 @@ use Rattle.clr_clearance.proofs.StaticLemmas.{static_law}
 
 pub clear_is_safe : ClearIsSafeLaw
 clear_is_safe o site entries clear holds = let covers = clear_covers o site entries clear in (static_law o site entries covers holds, safe_law o site entries covers holds)
-
--- what is lost behind the first reply
-pub lost_behind : (reply : Reply) (replies : List Reply) (k : ℕ) → lost_in (reply ∷ replies) (k + 1) ≡ lost_in replies k
-lost_behind reply replies k = let e : k + 1 ≡ suc k = omega arith in ap (lost_in (reply ∷ replies)) e
 
 module _ (first : Office) (site : Site) (mergeable : AreMergeable first site) (keeps : KeepsRules first site) where
   -- one answer doesn't clash
@@ -44,7 +40,7 @@ module _ (first : Office) (site : Site) (mergeable : AreMergeable first site) (k
       let next = answers.0 in
       let is : answer r next ≡ step_or_lost (is_lost r) now d = answers.1 in
       let office : (step_or_lost (is_lost r) now d).office ≡ next = ap (λ (a : Answer). a.office) (sym is) in
-      let lost : (λ k. lost_in (r ∷ rs) (k + 1)) ≡ lost_in rs = λ i k. lost_behind r rs k i in
+      let lost : (λ k. lost_in (r ∷ rs) (k + 1)) ≡ lost_in rs = λ i k. lost_later r rs k i in
       let after = answer_lasts first site mergeable (is_lost r) names now d inv (quiet 0 d refl) in
       let behind : AreQuiet (step_or_lost (is_lost r) now d).office site cs (λ k. lost_in (r ∷ rs) (k + 1)) = λ k x g. quiet (suc k) x g in
       all_clear cs rs _ next left

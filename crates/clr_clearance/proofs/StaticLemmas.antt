@@ -2,7 +2,7 @@
 use Rattle.std.proofs.Common.{◌≡◌, ℕ, zero, suc, true, false, not, ◌==◌, List, [], ◌∷◌, refl, sym, ap, ◌∙◌, subst, Option, Some, None, is_some, slice_get}
 use Rattle.std.specs.List.{range_with_len}
 use Rattle.std.specs.Option.{option_map, option_map_or}
-use Rattle.std.proofs.lemmas.Bool.{false≢true, or_left, or_right}
+use Rattle.std.proofs.lemmas.Bool.{and_parts, false≢true, or_left, or_right}
 use Rattle.std.proofs.lemmas.Bool.Decides.{Decides-eqb}
 use Rattle.std.proofs.lemmas.List.{length-map}
 use Rattle.std.proofs.lemmas.Option.{slice_get-map}
@@ -21,7 +21,7 @@ use Rattle.clr_steps.specs.Offices.{Office, workspace, content_of}
 use Rattle.clr_steps.specs.Quiet.{Site, is_root, is_member, root_content}
 use Rattle.clr_steps.specs.Readings.{changes_in, conflicts_in}
 use Rattle.clr_steps.proofs.FindLemmas.{same_itself}
-use Rattle.clr_steps.proofs.MarkLemmas.{and_both, not_true}
+use Rattle.clr_steps.proofs.MarkLemmas.{not_true}
 use Rattle.clr_clearance.specs.Laws.{StaticLaw}
 use Rattle.clr_clearance.specs.Sites.{AgreesWith, AreMergeable, Covers, KeepsRules, RootHolds, change_sets, changed_by, is_child, numbered, setting_of}
 use Rattle.clr_clearance.proofs.SiteLemmas.{changed_by-standing, content_above, free_agrees, some_is_changed, untaken}
@@ -34,17 +34,17 @@ pub record IsUnder (o : Office) (site : Site) (name : Name) : Type 0 where
   pub under : is_root site at.parent ≡ true
 
 pub child_under : (o : Office) (site : Site) (name : Name) → is_child o site name ≡ true → IsUnder o site name
-child_under o site name h = by (workspace o name) refl (and_both (not (is_root site name)) _ h).1
+child_under o site name h = by (workspace o name) refl (and_parts (not (is_root site name)) _ h).1
   where
     by : (r : Option Workspace) → workspace o name ≡ r → option_map_or (λ (w : Workspace). is_root site w.parent) r false ≡ true → IsUnder o site name
     by None e h = absurd (false≢true h)
     by (Some w) e h = record { at = w; is = e; under = h }
 
 pub child_apart : (o : Office) (site : Site) (name : Name) → is_child o site name ≡ true → is_root site name ≡ false
-child_apart o site name h = not_true _ (and_both (not (is_root site name)) _ h).0
+child_apart o site name h = not_true _ (and_parts (not (is_root site name)) _ h).0
 
 pub child_parent : (o : Office) (site : Site) (name : Name) (w : Workspace) → is_child o site name ≡ true → workspace o name ≡ Some w → is_root site w.parent ≡ true
-child_parent o site name w h e = sym (ap (λ r. option_map_or (λ (v : Workspace). is_root site v.parent) r false) e) ∙ (and_both (not (is_root site name)) _ h).1
+child_parent o site name w h e = sym (ap (λ r. option_map_or (λ (v : Workspace). is_root site v.parent) r false) e) ∙ (and_parts (not (is_root site name)) _ h).1
 
 -- a child without conflicts took over the root's rows where it changed them
 pub child_agrees : (o : Office) (site : Site) (name : Name) (w : Workspace) → is_child o site name ≡ true → conflicts_in o name ≡ [] → workspace o name ≡ Some w → AgreesWith (row_at (root_content o site)) w.base w.current

@@ -4,7 +4,7 @@ use Rattle.std.specs.Option.{option_map}
 use Rattle.std.specs.declared.cmp.Ordering.{Ordering}
 use Rattle.std.specs.declared.cmp.Ordering.TheVariants.{Less, Equal, Greater}
 use Rattle.std.specs.Ordering.{ordering_reverse}
-use Rattle.std.proofs.lemmas.Bool.{cases_lt, false≢true}
+use Rattle.std.proofs.lemmas.Bool.{and_parts, cases_lt, false≢true}
 use Rattle.std.proofs.lemmas.Bool.Decides.{Decides-eqb}
 use Rattle.clr_rows.specs.Cells.{cell_cmp}
 use Rattle.clr_rows.proofs.CellOrder.{cell_cmp_total}
@@ -38,10 +38,6 @@ told_opposed _ _ e = absurd (false≢true e)
 
 -- ---- one need
 
-and_both : (a b : Bool) → (a && b) ≡ true → (a ≡ true) × (b ≡ true)
-and_both true b e = (refl, e)
-and_both false b e = absurd (false≢true e)
-
 pub unserved : (x y z : Bool) → z ≡ x → z ≡ false → (x && y) ≡ false
 unserved x y z is fails = ap (λ b. b && y) (sym is ∙ fails)
 
@@ -54,7 +50,7 @@ both_told x y v w is is_too passes passes_too = (λ i. sym is i && sym is_too i)
 
 module _ (rules : List Rule) (number : ℕ) (r : Option Version) (s : Version) where
   pub they_call : (t : Option Version) (n : Need) → IsNeedOf rules number r s t n → calls rules (ask_of n) (row_of s) (option_map row_of t) ≡ true
-  they_call t n w = (and_both (serves_too rules (ask_of n) s t r) (calls rules (ask_of n) (row_of s) (option_map row_of t)) w.asked).1
+  they_call t n w = (and_parts (serves_too rules (ask_of n) s t r) (calls rules (ask_of n) (row_of s) (option_map row_of t)) w.asked).1
 
   -- the need of an ask
   pub asked_need : (t : Option Version) (ask : Ask) (n : Need) → ask.rule ≡ number → n ≡ need_of ask s.id (option_map id_of t) → is_asked rules ask r s t ≡ true → IsNeedOf rules number r s t n

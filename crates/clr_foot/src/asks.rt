@@ -50,6 +50,6 @@ impl<V: RowView, F: RowFinder> Scene<'_, V, F> {
         requires { rule < length self.now.book.now }
         ensures { result ≡ may_serve_under self.now.book.now rule (row_of version.entry) }
     {
-        may_serve(self.book.rule(rule), version.held())
+        may_serve(self.book.rule(rule), version.as_held())
     }
 }

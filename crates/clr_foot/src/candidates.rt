@@ -47,8 +47,7 @@ impl<V: RowView, F: RowFinder> Scene<'_, V, F> {
         match server {
             None => true,
             Some(server) => {
-                self.book
-                    .serves(ask, first.held(), held_if_any(second), server.held())
+                self.book.serves(ask, first.as_held(), held_if_any(second), server.as_held())
             }
         }
     }
@@ -71,7 +70,9 @@ impl<V: RowView, F: RowFinder> Scene<'_, V, F> {
             needs.old.items needs.new.items) }
     {
         let ask = Ask::plain(rule);
-        if self.serves_if_any(ask, first, None, server) && self.book.calls_one(rule, first.held()) {
+        if self.serves_if_any(ask, first, None, server)
+            && self.book.calls_one(rule, first.as_held())
+        {
             needs.push(Need::new(ask, first.id, None))?;
         }
         Ok(())
@@ -95,7 +96,7 @@ impl<V: RowView, F: RowFinder> Scene<'_, V, F> {
             (IsNeedOfAsk self.now.book.now ask server.entry first.entry second.entry) needs.old.items needs.new.items) }
     {
         if self.serves_if_any(ask, first, Some(second), server)
-            && self.book.calls_two(ask, first.held(), second.held())
+            && self.book.calls_two(ask, first.as_held(), second.as_held())
         {
             needs.push(Need::new(ask, first.id, Some(second.id)))?;
         }
@@ -120,7 +121,7 @@ impl<V: RowView, F: RowFinder> Scene<'_, V, F> {
         ensures { OnOk result (Gains (IsNeedOf self.now.book.now rule server.entry first.entry (Some second.entry))
             (IsNeedOfPart self.now.book.now rule server.entry first.entry second.entry part) needs.old.items needs.new.items) }
     {
-        for other in 0..self.book.part_count(rule, second.held()) {
+        for other in 0..self.book.part_count(rule, second.as_held()) {
             let ask = Ask {
                 rule,
                 first_part: part,
@@ -148,7 +149,7 @@ impl<V: RowView, F: RowFinder> Scene<'_, V, F> {
         ensures { OnOk result (Gains (IsNeedOf self.now.book.now rule server.entry first.entry (Some second.entry))
             (IsNeedOf self.now.book.now rule server.entry first.entry (Some second.entry)) needs.old.items needs.new.items) }
     {
-        for part in 0..self.book.part_count(rule, first.held()) {
+        for part in 0..self.book.part_count(rule, first.as_held()) {
             self.add_of_part(rule, part + 1, server, first, second, needs)?;
         }
         Ok(())

@@ -66,7 +66,7 @@ impl<V: RowView, F: RowFinder> Scene<'_, V, F> {
         requires at { IsAt (setting_in V.content self.now) version }
         ensures { IfOk result (λ list. Finds (setting_in V.content self.now) false (IsNear servers self.now.book.now rule (row_of version.entry)) list.items) }
     {
-        let cells = cells_near(self.finder, self.book, servers, rule, version.held())?;
+        let cells = cells_near(self.finder, self.book, servers, rule, version.as_held())?;
         let list = self.versions_at(false, cells.as_slice())?;
         Ok(list)
     }
@@ -83,7 +83,7 @@ impl<V: RowView, F: RowFinder> Scene<'_, V, F> {
         requires at { IsAt (setting_in V.content self.now) version }
         ensures { IfOk result (λ list. Finds (setting_in V.content self.now) true (IsNear servers self.now.book.now rule (row_of version.entry)) list.items) }
     {
-        let cells = cells_near(&self.new_rows, self.book, servers, rule, version.held())?;
+        let cells = cells_near(&self.new_rows, self.book, servers, rule, version.as_held())?;
         let list = self.versions_at(true, cells.as_slice())?;
         Ok(list)
     }

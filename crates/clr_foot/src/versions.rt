@@ -15,7 +15,7 @@ pub(crate) struct Version<'a> {
 
 impl<'a> Version<'a> {
     /// The row at its cell.
-    pub(crate) fn held(self) -> Held<'a>
+    pub(crate) fn as_held(self) -> Held<'a>
         ensures { held_of result ≡ row_of self.entry }
     {
         Held {
@@ -31,6 +31,6 @@ pub(crate) fn held_if_any(version: Option<Version>) -> Option<Held>
 {
     match version {
         None => None,
-        Some(version) => Some(version.held()),
+        Some(version) => Some(version.as_held()),
     }
 }

@@ -3,7 +3,7 @@ use Rattle.std.proofs.Common.{◌≡◌, ℕ, suc, ◌+◌, ◌<◌, ◌≤◌, 
 use Rattle.std.proofs.Math.Seq.{drop-cons}
 use Rattle.std.proofs.lemmas.List.{append-nil, drop_all}
 use Rattle.std.specs.List.{flat_map, list_any}
-use Rattle.clr_office.proofs.ScriptOutcomes.{or_assoc, or_false}
+use Rattle.std.proofs.Math.Bool.{or-false, or_assoc}
 
 module _ {A : Type 0} (xs : List A) (i : ℕ) where
   module _ (f : A → List ℕ) where
@@ -26,9 +26,9 @@ module _ {A : Type 0} (xs : List A) (i : ℕ) where
     any_more unread so also lt also_is so_far =
         let x = get_or xs i unread in
         let next : drop i xs ≡ x ∷ drop (i + 1) xs = rw (add-one i) (drop-cons xs i unread lt) in
-        rw also_is (sym (or_assoc so (p x) (list_any p (drop (i + 1) xs))) ∙ ap (λ ys. so || list_any p ys) (sym next) ∙ so_far)
+        rw also_is (or_assoc so (p x) (list_any p (drop (i + 1) xs)) ∙ ap (λ ys. so || list_any p ys) (sym next) ∙ so_far)
 
     pub any_end : (so : Bool) → length xs ≤ i → (so || list_any p (drop i xs)) ≡ list_any p xs → so ≡ list_any p xs
     any_end so le so_far =
-        let none : (so || list_any p (drop i xs)) ≡ so = rw (drop_all i xs le, or_false so) refl in
+        let none : (so || list_any p (drop i xs)) ≡ so = rw (drop_all i xs le, or-false so) refl in
         sym none ∙ so_far

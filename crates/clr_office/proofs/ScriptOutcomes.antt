@@ -1,5 +1,6 @@
 -- What steps print one after another.
 use Rattle.std.proofs.Common.{◌≡◌, ℕ, suc, ◌+◌, ◌<◌, ◌≤◌, Bool, true, false, ◌||◌, List, ◌∷◌, [], ◌++◌, length, get_or, drop, Result, Ok, refl, sym, ap, subst, ◌∙◌, append_assoc, add-one}
+use Rattle.std.proofs.Math.Bool.{or-false, or_assoc}
 use Rattle.std.proofs.Math.Seq.{drop-cons}
 use Rattle.std.proofs.lemmas.List.{append-nil, drop_all}
 use Rattle.clr_steps.specs.Offices.{Office}
@@ -13,18 +14,6 @@ use Rattle.clr_office.specs.Printing.{ArePrinted, IsMade, printed}
 abbrev pub Leads : Office → List Step → Outcome → List Step → Type 0
 Leads start steps all rest = (later : Outcome) → IsScriptOutcome all.office rest later → IsScriptOutcome start steps (followed_by all later)
 
-pub or_assoc : (a b c : Bool) → (a || (b || c)) ≡ ((a || b) || c)
-or_assoc true b c = refl
-or_assoc false b c = refl
-
-pub or_false : (a : Bool) → (a || false) ≡ a
-or_false true = refl
-or_false false = refl
-
-pub or_parts : (a b : Bool) → (a || b) ≡ false → (a ≡ false) × (b ≡ false)
-or_parts true b e = (e, absurd (cc))
-or_parts false b e = (refl, e)
-
 pub starts : (o : Office) (steps : List Step) → Leads o steps (outcome [] false o) steps
 starts o steps later is = is
 
@@ -37,14 +26,14 @@ goes_on start before after steps i s lines line refused also lt is now so_far la
     let next : s ∷ drop (i + 1) steps ≡ drop i steps = rw (add-one i) (sym (drop-cons steps i s lt ∙ ap (λ x. x ∷ drop (suc i) steps) (sym is))) in
     let both : IsScriptOutcome before (s ∷ drop (i + 1) steps) (followed_by first later) = (first, later, now, rest, refl) in
     let regrouped : followed_by (outcome lines refused before) (followed_by first later) ≡ followed_by (outcome (lines ++ line) (refused || also) after) later =
-    rw (append_assoc, or_assoc refused also later.refused) refl in
+    rw (append_assoc, sym (or_assoc refused also later.refused)) refl in
     subst (IsScriptOutcome start steps) regrouped (so_far (followed_by first later) (subst (λ xs. IsScriptOutcome before xs (followed_by first later)) next both))
 
 -- no step is left
 pub ends : (start o : Office) (steps : List Step) (i : ℕ) (lines : List ℕ) (refused : Bool) → length steps ≤ i → Leads start steps (outcome lines refused o) (drop i steps)
     → IsScriptOutcome start steps (outcome lines refused o)
 ends start o steps i lines refused le so_far =
-    let none : followed_by (outcome lines refused o) (outcome [] false o) ≡ outcome lines refused o = rw (append-nil lines, or_false refused) refl in
+    let none : followed_by (outcome lines refused o) (outcome [] false o) ≡ outcome lines refused o = rw (append-nil lines, or-false refused) refl in
     subst (IsScriptOutcome start steps) none (so_far (outcome [] false o) (subst (λ xs. IsScriptOutcome o xs (outcome [] false o)) (sym (drop_all i steps le)) refl))
 
 -- texts --------------------------------------------------------------------------------------

@@ -26,7 +26,7 @@ pub fn draft_of(alloc: Global, office: &[u8]) -> Result<Draft, RunFault>
 }
 
 /// The line that says which content breaks a rule, and its least broken need.
-fn unheld(
+fn unheld_output(
     alloc: Global,
     draft: &Draft,
     position: usize,
@@ -62,7 +62,7 @@ pub fn open_office(alloc: Global, office: &[u8]) -> Result<Office, Result<Output
         Ok(office) => Ok(office),
         Err((draft, fault)) => match fault {
             AdmitFault::Broken { position, need } => {
-                match unheld(alloc, &draft, position, &need) {
+                match unheld_output(alloc, &draft, position, &need) {
                     Ok(output) => Err(Ok(output)),
                     Err(_) => Err(Err(RunFault::OutOfMemory)),
                 }

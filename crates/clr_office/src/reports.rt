@@ -22,7 +22,7 @@ use std::alloc::{AllocError, Global};
 pub const LIVE: &str = "LIVE";
 
 /// What a report prints where no workspace has the name.
-fn unknown(alloc: Global, schema: &Schema) -> Result<Output, AllocError>
+fn unknown_workspace(alloc: Global, schema: &Schema) -> Result<Output, AllocError>
     ensures lines { IfOk result (λ o. o.lines.items ≡ reply_text schema.now NoWorkspace) }
     ensures refused { IfOk result (λ o. o.refused ≡ true) }
 {
@@ -44,7 +44,7 @@ pub fn show(alloc: Global, office: &Office, name: &str) -> Result<Output, AllocE
     }
     match office.rows(name)? {
         Some(rows) => Ok(Output::of_lines(rows_lines(alloc, schema, &rows)?)),
-        None => unknown(alloc, schema),
+        None => unknown_workspace(alloc, schema),
     }
 }
 
@@ -56,7 +56,7 @@ pub fn changes(alloc: Global, office: &Office, name: &str) -> Result<Output, All
     let schema = office.schema();
     match office.changes(name)? {
         Some(changes) => Ok(Output::of_lines(changes_lines(alloc, schema, &changes)?)),
-        None => unknown(alloc, schema),
+        None => unknown_workspace(alloc, schema),
     }
 }
 
@@ -68,7 +68,7 @@ pub fn conflicts(alloc: Global, office: &Office, name: &str) -> Result<Output, A
     let schema = office.schema();
     match office.conflicts(name)? {
         Some(cells) => Ok(Output::of_lines(conflicts_lines(alloc, schema, cells.as_slice())?)),
-        None => unknown(alloc, schema),
+        None => unknown_workspace(alloc, schema),
     }
 }
 
@@ -78,7 +78,7 @@ pub fn audit_rows(alloc: Global, office: &Office, name: &str) -> Result<Output, 
     ensures { IfOk result (λ o. outcome o.lines.items o.refused office.now ≡ audit_outcome office.now name.now) }
 {
     let Some(rows) = office.rows(name)? else {
-        return unknown(alloc, office.schema());
+        return unknown_workspace(alloc, office.schema());
     };
     let needs = audit(alloc, office.book(), &rows)?;
     Ok(Output {

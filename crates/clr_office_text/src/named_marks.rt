@@ -21,7 +21,7 @@ pub enum NamedMark {
 }
 
 #[tactic(auto, unfolding(crate::specs::Workspaces::saved_of))]
-fn saved(alloc: Global, json: &Json, schema: &Schema) -> Result<NamedMark, TextFault>
+fn read_savepoint(alloc: Global, json: &Json, schema: &Schema) -> Result<NamedMark, TextFault>
     ensures { Gives (λ m. m) result (saved_of schema.now (view json.now)) }
 {
     let name = words_in(alloc, json, "savepoint")?;
@@ -35,7 +35,7 @@ fn named_mark(alloc: Global, json: &Json, schema: &Schema) -> Result<NamedMark, 
 {
     match json.get("child") {
         Some(child) => Ok(NamedMark::Child(words_from(alloc, words(child)?)?)),
-        None => saved(alloc, json, schema),
+        None => read_savepoint(alloc, json, schema),
     }
 }
 

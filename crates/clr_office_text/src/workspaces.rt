@@ -24,7 +24,7 @@ pub struct Head {
     pub kept: bool,
 }
 
-fn kept(json: &Json, format: Format) -> Result<bool, TextFault>
+fn read_kept(json: &Json, format: Format) -> Result<bool, TextFault>
     ensures { Gives (λ b. b) result (kept_of format (view json.now)) }
 {
     match format {
@@ -39,7 +39,7 @@ fn read_head(alloc: Global, json: &Json, format: Format) -> Result<Head, TextFau
 {
     let name = words_in(alloc, json, "name")?;
     let parent = words_in(alloc, json, "parent")?;
-    let kept = kept(json, format)?;
+    let kept = read_kept(json, format)?;
     Ok(Head { name, parent, kept })
 }
 

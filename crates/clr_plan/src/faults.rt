@@ -15,7 +15,7 @@ use clr_foot::SceneFault;
 use std::alloc::Global;
 
 /// A blocked plan, or `OutOfMemory` where no memory is found for its order.
-fn blocked(alloc: Global, order: &[usize], cause: Verdict) -> Plan
+fn blocked_plan(alloc: Global, order: &[usize], cause: Verdict) -> Plan
     ensures { IsBlockedIn order.now cause result }
 {
     match Vec::from_slice(alloc, order) {
@@ -35,7 +35,7 @@ pub(crate) fn plan_fault(alloc: Global, fault: Verdict) -> Plan
             member,
             cell,
             count,
-        } => blocked(
+        } => blocked_plan(
             alloc,
             &[member],
             Verdict::Conflict {
@@ -60,7 +60,7 @@ pub(crate) fn plan_shared(alloc: Global, fault: SceneFault) -> Plan
             second,
         } => {
             let (first, second) = (first as usize, second as usize);
-            blocked(
+            blocked_plan(
                 alloc,
                 &[first, second],
                 Verdict::SharedCell {

@@ -24,7 +24,7 @@ enum Verb {
     Delete,
 }
 
-fn verb_named(word: &str) -> Result<Verb, RecordFault>
+fn verb_of_word(word: &str) -> Result<Verb, RecordFault>
     ensures { result ≡ verb_of word.now }
 {
     match word {
@@ -190,7 +190,7 @@ fn edit_of_table(
 fn edit(alloc: Global, schema: &Schema, fields: &StringRecord) -> Result<Edit, RecordFault>
     ensures { Gives result (edit_of schema.now (fields_of fields.now)) }
 {
-    let verb = verb_named(field(fields, 0))?;
+    let verb = verb_of_word(field(fields, 0))?;
     if fields.len() < 3 {
         return Err(RecordFault::FieldCount);
     }

@@ -1,7 +1,7 @@
 -- What quiet commands leave, and what every command leaves.
 use Rattle.std.proofs.Common.{◌≡◌, Bool, true, false, not, ◌||◌, cond, List, [], ◌∷◌, ◌++◌, refl, sym, ap, ◌∙◌, subst, Option, Some, None, is_some}
 use Rattle.std.specs.Option.{option_map, option_map_or}
-use Rattle.std.proofs.lemmas.Bool.{true≢false}
+use Rattle.std.proofs.lemmas.Bool.{and_parts, true≢false}
 use Rattle.clr_rows.specs.declared.cells.CellId.{CellId}
 use Rattle.clr_rows.specs.Contents.{Content, no_rows}
 use Rattle.clr_change.specs.declared.edits.Edit.{Edit}
@@ -22,7 +22,7 @@ use Rattle.clr_steps.specs.Quiet.{Site, is_root, is_member, is_other, is_under_o
 use Rattle.clr_steps.specs.Laws.{QuietLaw}
 use Rattle.clr_steps.proofs.FindLemmas.{same_is, same_itself, other_way, has_apart, seen_by, seen_modify, seen_other, seen_marks, seen_without, seen_append, seen_behind, find_modify, found_name}
 use Rattle.clr_steps.proofs.KeptLemmas.{Root, root_of, content_seen, kept_seen, or_false}
-use Rattle.clr_steps.proofs.MarkLemmas.{and_both, not_true}
+use Rattle.clr_steps.proofs.MarkLemmas.{not_true}
 use Rattle.clr_steps.proofs.ModifyLemmas.{LeavesName}
 
 -- LIVE's content where it is the root, and else what is seen of the root; and what is seen of each member
@@ -65,7 +65,7 @@ record IsOutside (site : Site) (n : Name) : Type 0 where
 
 outside : (site : Site) (n : Name) → is_other site n ≡ true → IsOutside site n
 unfolding is_other
-outside site n h = let both = and_both (not (is_root site n)) (not (is_member site n)) h in record { root = not_true _ both.0; members = not_true _ both.1 }
+outside site n h = let both = and_parts (not (is_root site n)) (not (is_member site n)) h in record { root = not_true _ both.0; members = not_true _ both.1 }
 
 -- what each part of an effect leaves -----------------------------------------------------------------------
 
@@ -237,7 +237,7 @@ leaves_effect site o (command.Refresh n) kept quiet plain =
     let out : IsOutside site n = record { root = not_true _ (or_false _ _ quiet plain); members = plain } in
     leaves_on site o n _ (λ w is e. leaves_refresh site o w (named site n w e out))
 leaves_effect site o (command.Merge n gone) kept quiet plain =
-    let both = and_both (not (is_root site n)) (is_under_other o site n) (or_false _ _ quiet plain) in
+    let both = and_parts (not (is_root site n)) (is_under_other o site n) (or_false _ _ quiet plain) in
     let out : IsOutside site n = record { root = not_true _ both.0; members = plain } in
     leaves_on site o n _ (λ w is e. leaves_either site o w gone (named site n w e out) (above site o n w is both.1))
 leaves_effect site o (command.Resolve n cell keep) kept quiet plain = leaves_on site o n _ (λ w is e. leaves_resolve site o w (named site n w e (outside site n quiet)) cell keep)

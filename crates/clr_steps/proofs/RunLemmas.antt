@@ -6,7 +6,7 @@ use Rattle.clr_steps.specs.Steps.{Answer, answer, step_or_lost, is_lost, IsAnswe
 use Rattle.clr_steps.specs.Laws.{MoreLaw, RunLaw}
 
 -- what is lost after the first is lost in the rest
-lost_later : (reply : Reply) (replies : List Reply) (k : ℕ) → lost_in (reply ∷ replies) (k + 1) ≡ lost_in replies k
+pub lost_later : (reply : Reply) (replies : List Reply) (k : ℕ) → lost_in (reply ∷ replies) (k + 1) ≡ lost_in replies k
 lost_later reply replies k = let e : k + 1 ≡ suc k = omega arith in ap (lost_in (reply ∷ replies)) e
 
 pub run_law : RunLaw

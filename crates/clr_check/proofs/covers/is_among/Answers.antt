@@ -1,5 +1,6 @@
 use Rattle.std.proofs.Common.{Contains, subst, sym}
-use Rattle.clr_clearance.proofs.OrderLemmas.{version_exact, version_total}
+use Rattle.clr_foot.proofs.NeedOrder.{version_exact}
+use Rattle.clr_foot.proofs.VersionOrder.{version_total}
 use Rattle.clr_foot.specs.Orders.{version_cmp}
 use Rattle.clr_check.specs.Entries.{IsTold}
 use Rattle.clr_check.proofs.SearchLemmas.{found_or_not}

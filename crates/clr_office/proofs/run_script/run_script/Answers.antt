@@ -1,5 +1,6 @@
 use Rattle.std.proofs.Common.{sym, ◌∙◌}
-use Rattle.clr_office.proofs.ScriptOutcomes.{goes_on, ends, or_parts}
+use Rattle.std.proofs.lemmas.Bool.{or_parts}
+use Rattle.clr_office.proofs.ScriptOutcomes.{goes_on, ends}
 use Rattle.clr_office.proofs.run_script.run_script.Goals as goal
 
 pub loop-step-preserved : goal.loop-step-preserved

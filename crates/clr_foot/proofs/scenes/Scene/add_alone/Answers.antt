@@ -9,7 +9,7 @@ use Rattle.clr_foot.proofs.scenes.Scene.add_alone.Goals as goal
 use Rattle.clr_foot.proofs.scenes.Scene.add_alone.Goals.{else-serves_if_any-via-then-serves_if_any+else-calls_one, else-serves_if_any-via-else-serves_if_any}
 
 pub calls_one-requires-clause-fit : goal.calls_one-requires-clause-fit
-calls_one-requires-clause-fit g c = fit_one (setting_in g.V.RowView.content c.args.self.now) c.requires.fit c.args.first _ c.requires.first c.held.ensures
+calls_one-requires-clause-fit g c = fit_one (setting_in g.V.RowView.content c.args.self.now) c.requires.fit c.args.first _ c.requires.first c.as_held.ensures
 
 pub returns-in_ok-push : goal.returns-in_ok-push
 returns-in_ok-push g c =
@@ -17,7 +17,7 @@ returns-in_ok-push g c =
     let ask = plain_ask c.args.rule in
     let s = c.args.first in
     let serves = c.serves_if_any.ensures ∙ ap (λ a. serves_too rules a s None c.args.server) c.plain-ask.ensures in
-    let called = c.calls_one.ensures ∙ ap (λ h. calls rules ask h None) c.held.ensures in
+    let called = c.calls_one.ensures ∙ ap (λ h. calls rules ask h None) c.as_held.ensures in
     add_alone rules c.args.rule c.args.server s c.args.needs.now.items c.push.new.self.items c.new.result c.in_ok-push.ensures.items
     (c.new.ensures ∙ ap (λ a. need_of a s.id None) c.plain-ask.ensures) (both_told _ _ _ _ serves called c.if-serves_if_any.true c.if-calls_one.true)
 
@@ -29,7 +29,7 @@ returns-else-serves_if_any g c =
     let serves = c.serves_if_any.ensures ∙ ap (λ a. serves_too rules a s None c.args.server) c.plain-ask.ensures in
     elim c.else-serves_if_any.branch [
       | else-serves_if_any-via-then-serves_if_any+else-calls_one w ↦ none_alone rules c.args.rule c.args.server s c.args.needs.now.items
-          (uncalled (serves_too rules ask s None c.args.server) _ _ (w.calls_one.ensures ∙ ap (λ h. calls rules ask h None) w.held.ensures) w.if-calls_one.false)
+          (uncalled (serves_too rules ask s None c.args.server) _ _ (w.calls_one.ensures ∙ ap (λ h. calls rules ask h None) w.as_held.ensures) w.if-calls_one.false)
       | else-serves_if_any-via-else-serves_if_any w ↦ none_alone rules c.args.rule c.args.server s c.args.needs.now.items
           (unserved _ _ _ serves w.if-serves_if_any.false)
     ]

@@ -9,12 +9,12 @@ use Rattle.clr_foot.proofs.scenes.Scene.add_of_ask.Goals.{else-serves_if_any-via
 
 pub calls_two-requires-clause-fit : goal.calls_two-requires-clause-fit
 calls_two-requires-clause-fit g c =
-    fit_two (setting_in g.V.RowView.content c.args.self.now) c.requires.fit c.args.first c.args.second _ _ c.requires.first c.requires.second c.held.ensures c.held-then-serves_if_any.ensures
+    fit_two (setting_in g.V.RowView.content c.args.self.now) c.requires.fit c.args.first c.args.second _ _ c.requires.first c.requires.second c.as_held.ensures c.as_held-then-serves_if_any.ensures
 
 pub returns-in_ok-push : goal.returns-in_ok-push
 returns-in_ok-push g c =
     let rules = c.args.self.now.book.now in
-    let called = c.calls_two.ensures ∙ (λ i. calls rules c.args.ask (c.held.ensures i) (Some (c.held-then-serves_if_any.ensures i))) in
+    let called = c.calls_two.ensures ∙ (λ i. calls rules c.args.ask (c.as_held.ensures i) (Some (c.as_held-then-serves_if_any.ensures i))) in
     add_asked rules c.args.ask c.args.server c.args.first c.args.second c.args.needs.now.items c.push.new.self.items c.new.result c.in_ok-push.ensures.items
     c.new.ensures (both_told _ _ _ _ c.serves_if_any.ensures called c.if-serves_if_any.true c.if-calls_two.true)
 
@@ -24,7 +24,7 @@ returns-else-serves_if_any g c =
     elim c.else-serves_if_any.branch [
       | else-serves_if_any-via-then-serves_if_any+else-calls_two w ↦ none_asked rules c.args.ask c.args.server c.args.first c.args.second c.args.needs.now.items
           (uncalled (serves_too rules c.args.ask c.args.first (Some c.args.second) c.args.server) _ _
-          (w.calls_two.ensures ∙ (λ i. calls rules c.args.ask (w.held.ensures i) (Some (w.held-then-serves_if_any.ensures i)))) w.if-calls_two.false)
+          (w.calls_two.ensures ∙ (λ i. calls rules c.args.ask (w.as_held.ensures i) (Some (w.as_held-then-serves_if_any.ensures i)))) w.if-calls_two.false)
       | else-serves_if_any-via-else-serves_if_any w ↦ none_asked rules c.args.ask c.args.server c.args.first c.args.second c.args.needs.now.items
           (unserved _ _ _ c.serves_if_any.ensures w.if-serves_if_any.false)
     ]

@@ -6,7 +6,7 @@ use Rattle.clr_foot.proofs.VersionFits.{fit_one}
 use Rattle.clr_foot.proofs.scenes.Scene.add_of_part.Goals as goal
 
 pub part_count-other-end-requires-clause-fit : goal.part_count-other-end-requires-clause-fit
-part_count-other-end-requires-clause-fit g c = fit_one (setting_in g.V.RowView.content c.args.self.now) c.requires.fit c.args.second _ c.requires.second c.held.ensures
+part_count-other-end-requires-clause-fit g c = fit_one (setting_in g.V.RowView.content c.args.self.now) c.requires.fit c.args.second _ c.requires.second c.as_held.ensures
 
 pub loop-other-init : goal.loop-other-init
 loop-other-init g c = no_part_yet c.args.self.now.book.now c.args.rule c.args.server c.args.first c.args.second c.args.part c.args.needs.now.items
@@ -18,5 +18,5 @@ loop-other-preserved g c =
 
 pub returns : goal.returns
 returns g c =
-    let count = c.part_count-other-end.ensures ∙ ap (part_count c.args.self.now.book.now c.args.rule) c.held.ensures in
+    let count = c.part_count-other-end.ensures ∙ ap (part_count c.args.self.now.book.now c.args.rule) c.as_held.ensures in
     all_parts c.args.self.now.book.now c.args.rule c.args.server c.args.first c.args.second c.args.part c.loop-other.other _ _ (subst (λ n. n ≤ c.loop-other.other) count c.loop-other-test.false) c.loop-other.invariant

@@ -6,7 +6,7 @@ use Rattle.clr_foot.proofs.VersionFits.{fit_one}
 use Rattle.clr_foot.proofs.scenes.Scene.add_of_two.Goals as goal
 
 pub part_count-part-end-requires-clause-fit : goal.part_count-part-end-requires-clause-fit
-part_count-part-end-requires-clause-fit g c = fit_one (setting_in g.V.RowView.content c.args.self.now) c.requires.fit c.args.first _ c.requires.first c.held.ensures
+part_count-part-end-requires-clause-fit g c = fit_one (setting_in g.V.RowView.content c.args.self.now) c.requires.fit c.args.first _ c.requires.first c.as_held.ensures
 
 pub loop-part-init : goal.loop-part-init
 loop-part-init g c = no_first_yet c.args.self.now.book.now c.args.rule c.args.server c.args.first c.args.second c.args.needs.now.items
@@ -17,5 +17,5 @@ loop-part-preserved g c =
 
 pub returns : goal.returns
 returns g c =
-    let count = c.part_count-part-end.ensures ∙ ap (part_count c.args.self.now.book.now c.args.rule) c.held.ensures in
+    let count = c.part_count-part-end.ensures ∙ ap (part_count c.args.self.now.book.now c.args.rule) c.as_held.ensures in
     all_firsts c.args.self.now.book.now c.args.rule c.args.server c.args.first c.args.second c.loop-part.part _ _ (subst (λ n. n ≤ c.loop-part.part) count c.loop-part-test.false) c.loop-part.invariant
