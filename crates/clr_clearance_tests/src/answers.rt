@@ -1,6 +1,6 @@
 //! What is asked of an office, and what is answered, as lines.
 
-use crate::texts::{certificate_of, commands_of, line_of, run_lines};
+use crate::texts::{certificate_of, commands_of, line_of, reply_lines, run_lines};
 use clr_cert::{Certificate, read_certificate, write_certificate};
 use clr_check::{Verdict, check, perform_cleared};
 use clr_engine::{Office, Reply};
@@ -104,13 +104,13 @@ fn planned(
 }
 
 /// The lines of the rows of LIVE or a workspace.
-fn rows_of(alloc: Global, office: &Office, name: &str) -> Option<Vec<u8>> {
+pub(crate) fn rows_of(alloc: Global, office: &Office, name: &str) -> Option<Vec<u8>> {
     let rows = office.rows(name).ok()??;
     rows_lines(alloc, office.schema(), &rows).ok()
 }
 
 /// What commands are answered under a certificate, or the line of its verdict.
-fn run_under(
+pub(crate) fn run_under(
     alloc: Global,
     office: &mut Office,
     certificate: &Certificate,
@@ -201,6 +201,13 @@ fn rows_after(alloc: Global, office: &mut Office, script: &str) -> Option<Vec<u8
     rows_of(alloc, office, "LIVE")
 }
 
+/// The lines of the replies to commands.
+fn replied(alloc: Global, office: &mut Office, script: &str) -> Option<Vec<u8>> {
+    let commands = commands_of(alloc, office.schema(), script)?;
+    let replies = office.perform_all(commands.as_slice()).ok()?;
+    reply_lines(alloc, office.schema(), replies.as_slice())
+}
+
 /// What is planned for a root and members, whose names stand in a line.
 fn planned_for(alloc: Global, office: &Office, names: &str, text: &str) -> Option<Vec<u8>> {
     let (root, mut rest) = match names.split_once(" ") {
@@ -224,7 +231,7 @@ fn planned_for(alloc: Global, office: &Office, names: &str, text: &str) -> Optio
 }
 
 /// What is answered: the first line is a word, with names behind it for `plan`, and the rest is the
-/// text of a certificate, or one and commands for `run`, parted by a line `--`.
+/// text of a certificate, or commands for `give` and `rows`, or both for `run`, parted by a line `--`.
 pub(crate) fn answer(alloc: Global, office: &mut Office, asked: &str) -> Option<Vec<u8>> {
     let (word, text) = asked.split_once("\n")?;
     match word {
@@ -232,6 +239,7 @@ pub(crate) fn answer(alloc: Global, office: &mut Office, asked: &str) -> Option<
         "read" => read_line(alloc, office, text),
         "write" => rewritten(alloc, office, text),
         "rows" => rows_after(alloc, office, text),
+        "give" => replied(alloc, office, text),
         "judge" => judged(alloc, office, text),
         "run" => {
             let (certificate, commands) = text.split_once("--\n")?;

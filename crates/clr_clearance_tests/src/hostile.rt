@@ -479,3 +479,24 @@ fn one_entry_among_many(rt: HostRuntime) -> Result<(), Fail> {
     assert_eq!(rt; first_wrong(rt.alloc(), case.as_str()), None);
     Ok(())
 }
+
+/// The check of a certificate of 100,000 names, and then this.
+fn with_many_names(alloc: Global, rest: &str) -> Result<String, AllocError> {
+    let mut text = String::from_str(alloc, "one_node\ncreate,W1,LIVE\n----\ncheck\n")?;
+    for number in 1..100_001u32 {
+        let member = format!(in alloc; "member,W{number},,,,\n")?;
+        text.push_str(member.as_str())?;
+    }
+    text.push_str(rest)?;
+    Ok(text)
+}
+
+#[test]
+fn many_names(rt: HostRuntime) -> Result<(), Fail> {
+    let unknown = with_many_names(rt.alloc(), "----\n2 NoWorkspace W2\n====\n")?;
+    assert_eq!(rt; first_wrong(rt.alloc(), unknown.as_str()), None);
+    let rest = "member,W7,,,,\n----\n1 RepeatedMember W7\n====\n";
+    let repeated = with_many_names(rt.alloc(), rest)?;
+    assert_eq!(rt; first_wrong(rt.alloc(), repeated.as_str()), None);
+    Ok(())
+}

@@ -13,11 +13,19 @@ mod hostile;
 #[cfg(test)]
 mod made_up;
 #[cfg(test)]
+mod mixed_runs;
+#[cfg(test)]
 mod networks;
 #[cfg(test)]
 mod offices;
 #[cfg(test)]
 mod plans;
+#[cfg(test)]
+mod refusals;
+#[cfg(test)]
+mod refused_calls;
+#[cfg(test)]
+mod refused_merges;
 #[cfg(test)]
 mod runs;
 #[cfg(test)]

@@ -1,6 +1,7 @@
 //! Offices of texts, and what is answered in them.
 
 use crate::answers::answer;
+use crate::networks::network;
 use crate::texts::commands_of;
 use clr_drafts::read_office;
 use clr_engine::{Draft, Office, Reply};
@@ -15,7 +16,7 @@ fn admitted(draft: Draft) -> Option<Office> {
 }
 
 /// The office of a text in which every rule holds.
-fn office_of(alloc: Global, text: &str) -> Option<Office> {
+pub(crate) fn office_of(alloc: Global, text: &str) -> Option<Office> {
     match read_office(alloc, text.as_bytes()) {
         Ok(draft) => admitted(draft),
         Err(_) => None,
@@ -27,6 +28,18 @@ fn perform(alloc: Global, office: &mut Office, script: &str) -> Option<bool> {
     let commands = commands_of(alloc, office.schema(), script)?;
     let replies = office.perform_all(commands.as_slice()).ok()?;
     Some(replies.iter().all(|reply| *reply == Reply::Done))
+}
+
+/// The office that a script, each of whose commands is done, makes of a network: the first line is
+/// the network's name, and the rest is the script.
+pub(crate) fn office_after(alloc: Global, setting: &str) -> Option<Office> {
+    let (name, script) = setting.split_once("\n")?;
+    let mut office = office_of(alloc, network(name)?)?;
+    if perform(alloc, &mut office, script)? {
+        Some(office)
+    } else {
+        None
+    }
 }
 
 /// Whether each command of a script is done in an office, and what is answered after them.

@@ -193,3 +193,55 @@ main,2,C,0,10,10,0
 fn runs_under_certificates(rt: HostRuntime) {
     assert_eq!(rt; first_wrong(rt.alloc(), RUNS), None);
 }
+
+/// Two nodes, merged in both orders.
+const ORDERS: &str = "one_node
+create,W1,LIVE
+create,W2,LIVE
+apply,W1,1
+insert,node,10,tee,7,7
+apply,W2,1
+insert,node,11,tee,8,8
+----
+run
+member,W1,,,,
+member,W2,,,,
+--
+merge,W1,keep
+merge,W2,keep
+----
+done
+done
+rows 3
+node,9,valve,5,5
+node,10,tee,7,7
+node,11,tee,8,8
+====
+one_node
+create,W1,LIVE
+create,W2,LIVE
+apply,W1,1
+insert,node,10,tee,7,7
+apply,W2,1
+insert,node,11,tee,8,8
+----
+run
+member,W1,,,,
+member,W2,,,,
+--
+merge,W2,keep
+merge,W1,keep
+----
+done
+done
+rows 3
+node,9,valve,5,5
+node,10,tee,7,7
+node,11,tee,8,8
+====
+";
+
+#[test]
+fn both_orders(rt: HostRuntime) {
+    assert_eq!(rt; first_wrong(rt.alloc(), ORDERS), None);
+}

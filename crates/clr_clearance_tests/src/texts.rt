@@ -27,6 +27,15 @@ pub(crate) fn certificate_of(alloc: Global, schema: &Schema, text: &str) -> Opti
     read_certificate(alloc, schema, text.as_bytes()).ok()
 }
 
+/// The names of the members of a certificate.
+pub(crate) fn names_of(alloc: Global, certificate: &Certificate) -> Option<Vec<&str>> {
+    let mut names = Vec::new(alloc);
+    for name in certificate.members.as_slice() {
+        names.push(name.as_str()).ok()?;
+    }
+    Some(names)
+}
+
 /// The line of a verdict on the root and members of a certificate.
 pub(crate) fn line_of(
     alloc: Global,
@@ -34,16 +43,13 @@ pub(crate) fn line_of(
     certificate: &Certificate,
     verdict: &Verdict,
 ) -> Option<Vec<u8>> {
-    let mut names = Vec::new(alloc);
-    for name in certificate.members.as_slice() {
-        names.push(name.as_str()).ok()?;
-    }
+    let names = names_of(alloc, certificate)?;
     let root = certificate.root.as_str();
     verdict_line(alloc, schema, names.as_slice(), root, verdict).ok()
 }
 
 /// The lines of replies.
-fn reply_lines(alloc: Global, schema: &Schema, replies: &[Reply]) -> Option<Vec<u8>> {
+pub(crate) fn reply_lines(alloc: Global, schema: &Schema, replies: &[Reply]) -> Option<Vec<u8>> {
     let mut lines = Vec::new(alloc);
     for reply in replies {
         let line = reply_line(alloc, schema, reply).ok()?;

@@ -3,10 +3,12 @@
 ghost use Rattle.std.specs.Prelude.{◌≡◌};
 ghost use Rattle.std.specs.FinMap as finite;
 
-use crate::networks::network;
+use crate::networks::{
+    CROSSING, MAINS, ONE_HYDRANT, PATHS, TWO_MORE_MAINS, TWO_MORE_NODES, TWO_NODES, network,
+};
 use crate::streets::{SCENES, STREETS};
 use clr_engine::Office;
-use clr_grid::{ListFinder, RowFinder};
+use clr_grid::{ListFinder, RowFinder, SpotIndex};
 use clr_lines::add_cell;
 use clr_rows::{CellId, Held, Row};
 use std::alloc::Global;
@@ -23,13 +25,15 @@ fn add<F: RowFinder>(office: &Office, finder: &mut F, cell: CellId, row: &Row) -
     Ok(())
 }
 
-/// A finder of the rows of LIVE that goes over all of them.
-fn list_finder(alloc: Global, office: &Office) -> Result<ListFinder, Fail> {
-    let mut finder = ListFinder::new(alloc);
+/// Gives a finder without pending changes the rows of LIVE.
+fn add_live<F: RowFinder>(office: &Office, finder: &mut F) -> Result<(), Fail>
+    requires { F.pending finder.old ≡ finite.empty }
+    ensures { F.pending finder.new ≡ finite.empty }
+{
     for (cell, row) in office.live().iter() {
-        add(office, &mut finder, *cell, row)?;
+        add(office, finder, *cell, row)?;
     }
-    Ok(finder)
+    Ok(())
 }
 
 /// The cells of the rows that share with a row under a rule, all or servers alone.
@@ -100,12 +104,11 @@ fn indexed_lines_under(alloc: Global, office: &Office, rule: u16) -> Result<Vec<
     lines_under(alloc, office, finder, rule)
 }
 
-/// Whether both finders find the same for each row of LIVE under each rule.
-fn find_the_same(alloc: Global, office: &Office) -> Result<bool, Fail> {
-    let list = list_finder(alloc, office)?;
+/// Whether a finder finds for each row of LIVE under each rule what the office's own finder does.
+fn finds_as_office<F: RowFinder>(alloc: Global, office: &Office, finder: &F) -> Result<bool, Fail> {
     for rule in 0..office.book().len() {
         let rule = u16::try_from(rule)?;
-        let lines = lines_under(alloc, office, &list, rule)?;
+        let lines = lines_under(alloc, office, finder, rule)?;
         if lines.as_slice() != indexed_lines_under(alloc, office, rule)?.as_slice() {
             return Ok(false);
         }
@@ -113,7 +116,32 @@ fn find_the_same(alloc: Global, office: &Office) -> Result<bool, Fail> {
     Ok(true)
 }
 
-/// Mains that are long, two of them wide, with nodes on some of them.
+/// Whether a finder without rows, once it has those of LIVE, finds what the office's own finder does,
+/// also while it is noted of one row after another that it goes.
+fn finds_live<F: RowFinder>(alloc: Global, office: &Office, finder: &mut F) -> Result<bool, Fail>
+    requires { F.pending finder.old ≡ finite.empty }
+{
+    add_live(office, finder)?;
+    for (cell, _) in office.live().iter() {
+        finder.note(office.book(), *cell, None)?;
+        let as_office = finds_as_office(alloc, office, finder)?;
+        finder.forget();
+        if !as_office {
+            return Ok(false);
+        }
+    }
+    finds_as_office(alloc, office, finder)
+}
+
+/// Whether both finders find the same for each row of LIVE under each rule.
+fn find_the_same(alloc: Global, office: &Office) -> Result<bool, Fail> {
+    Ok(
+        finds_live(alloc, office, &mut ListFinder::new(alloc))?
+            && finds_live(alloc, office, &mut SpotIndex::new(alloc))?,
+    )
+}
+
+/// Mains that are long, three of them wide, with nodes on some of them.
 const LONG_MAINS: &str = r#"{"t":"node","k":1,"v":["tee"],"s":[250000,0]},
 {"t":"node","k":2,"v":["tee"],"s":[9000000,9000000]},
 {"t":"node","k":3,"v":["valve"],"s":[250000,0]},
@@ -122,18 +150,20 @@ const LONG_MAINS: &str = r#"{"t":"node","k":1,"v":["tee"],"s":[250000,0]},
 {"t":"main","k":3,"v":["C"],"s":[0,0,700000,700000]},
 {"t":"main","k":4,"v":["D"],"s":[0,0,6400000,0]},
 {"t":"main","k":5,"v":["E"],"s":[-1000000000,-1000000000,1000000000,1000000000]},
-{"t":"main","k":6,"v":["F"],"s":[9000000,9000000,9000000,9000001]}"#;
+{"t":"main","k":6,"v":["F"],"s":[9000000,9000000,9000000,9000001]},
+{"t":"main","k":7,"v":["G"],"s":[-1000000000,1000000000,1000000000,-1000000000]}"#;
 
 /// What shares by squares with each of them, where mains and ducts cross at tees.
-const SHARING: &str = r#"node/1: node/1 main/1 main/2 main/3 main/4 main/5 served by node/1
-node/2: node/2 main/4 main/5 main/6 served by node/2
+const SHARING: &str = r#"node/1: node/1 main/1 main/2 main/3 main/4 main/5 main/7 served by node/1
+node/2: node/2 main/4 main/5 main/6 main/7 served by node/2
 node/3: served by
-main/1: node/1 main/1 main/2 main/3 main/4 main/5 served by node/1
-main/2: node/1 main/1 main/2 main/3 main/4 main/5 served by node/1
-main/3: node/1 main/1 main/2 main/3 main/4 main/5 served by node/1
-main/4: node/1 node/2 main/1 main/2 main/3 main/4 main/5 main/6 served by node/1 node/2
-main/5: node/1 node/2 main/1 main/2 main/3 main/4 main/5 main/6 served by node/1 node/2
-main/6: node/2 main/4 main/5 main/6 served by node/2
+main/1: node/1 main/1 main/2 main/3 main/4 main/5 main/7 served by node/1
+main/2: node/1 main/1 main/2 main/3 main/4 main/5 main/7 served by node/1
+main/3: node/1 main/1 main/2 main/3 main/4 main/5 main/7 served by node/1
+main/4: node/1 node/2 main/1 main/2 main/3 main/4 main/5 main/6 main/7 served by node/1 node/2
+main/5: node/1 node/2 main/1 main/2 main/3 main/4 main/5 main/6 main/7 served by node/1 node/2
+main/6: node/2 main/4 main/5 main/6 main/7 served by node/2
+main/7: node/1 node/2 main/1 main/2 main/3 main/4 main/5 main/6 main/7 served by node/1 node/2
 "#;
 
 #[test]
@@ -143,6 +173,27 @@ fn wide_rows(rt: HostRuntime) -> Result<(), Fail> {
     let lines = indexed_lines_under(alloc, &office, 3)?;
     assert!(rt; lines.as_slice() == SHARING.as_bytes());
     assert!(rt; find_the_same(alloc, &office)?);
+    Ok(())
+}
+
+/// Tables with rules, and rows of LIVE beside the crossing.
+const CROSSINGS: [(&str, &str); 6] = [
+    (MAINS, ""),
+    (MAINS, TWO_MORE_NODES),
+    (MAINS, TWO_MORE_MAINS),
+    (MAINS, ONE_HYDRANT),
+    (PATHS, TWO_NODES),
+    (PATHS, ONE_HYDRANT),
+];
+
+#[test]
+fn both_finders_find_the_same_at_a_crossing(rt: HostRuntime) -> Result<(), Fail> {
+    let alloc = rt.alloc();
+    for (rules, more) in CROSSINGS {
+        let live = format!(in alloc; "{CROSSING}{more}")?;
+        let office = network(alloc, rules, live.as_str(), &[])?;
+        assert!(rt; find_the_same(alloc, &office)?, "{more}");
+    }
     Ok(())
 }
 

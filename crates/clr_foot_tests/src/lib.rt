@@ -6,6 +6,8 @@ mod finders;
 #[cfg(test)]
 mod lines;
 #[cfg(test)]
+mod memory;
+#[cfg(test)]
 mod merges;
 #[cfg(test)]
 mod networks;

@@ -3,6 +3,7 @@
 ghost use Rattle.clr_foot.specs.Needs.{IsPossibleNeed};
 ghost use Rattle.clr_foot.specs.Scenes.{IsReady, model_of, setting_of};
 
+use crate::memory::Memory;
 use clr_foot::{Life, Need, Scene, VersionId};
 use clr_grid::RowFinder;
 use clr_lines::table_name;
@@ -75,11 +76,12 @@ fn picked<V: RowView, F: RowFinder>(
     alloc: Global,
     scene: &Scene<'_, V, F>,
     need: &Need,
+    memory: &mut Memory,
 ) -> Result<Vec<VersionId>, AllocError>
     requires ready { IsReady F.settled (model_of V.content scene.now) }
     requires possible { IsPossibleNeed (setting_of (model_of V.content scene.now)) need.now }
 {
-    match scene.pick(need)? {
+    match memory.answer(|| scene.pick(need))? {
         Some((one, two)) => one_or_two(alloc, one, two),
         None => Ok(Vec::new(alloc)),
     }
@@ -91,33 +93,43 @@ fn need_line<V: RowView, F: RowFinder>(
     schema: &Schema,
     scene: &Scene<'_, V, F>,
     need: &Need,
+    memory: &mut Memory,
 ) -> Result<String, AllocError>
     requires ready { IsReady F.settled (model_of V.content scene.now) }
     requires possible { IsPossibleNeed (setting_of (model_of V.content scene.now)) need.now }
 {
     let subjects = one_or_two(alloc, need.first, need.second)?;
     let subjects = version_list(alloc, schema, scene, subjects.as_slice())?;
-    let servers = version_list(alloc, schema, scene, scene.servers(need)?.as_slice())?;
-    let witnesses = version_list(alloc, schema, scene, picked(alloc, scene, need)?.as_slice())?;
-    let blockers = member_list(alloc, scene.blockers(need)?.as_slice())?;
+    let servers = memory.answer(|| scene.servers(need))?;
+    let servers = version_list(alloc, schema, scene, servers.as_slice())?;
+    let witnesses = picked(alloc, scene, need, memory)?;
+    let witnesses = version_list(alloc, schema, scene, witnesses.as_slice())?;
+    let blockers = memory.answer(|| scene.blockers(need))?;
+    let blockers = member_list(alloc, blockers.as_slice())?;
     format!(in alloc;
         "rule {} parts {} {}{subjects} served{servers} picked{witnesses} blocked{blockers}\n",
         need.rule, need.first_part, need.second_part
     )
 }
 
-/// A line for each need that is touched.
+/// A line for each need that is touched, by calls that have this memory. It fails where memory makes
+/// a difference.
 pub(crate) fn need_lines<V: RowView, F: RowFinder>(
     alloc: Global,
     schema: &Schema,
     scene: &Scene<'_, V, F>,
+    memory: &mut Memory,
 ) -> Result<String, AllocError>
     requires ready { IsReady F.settled (model_of V.content scene.now) }
 {
     let mut lines = String::new(alloc);
+    let answered = memory.answer(|| scene.touched_needs())?;
     let needs = scene.touched_needs()?;
+    if answered.as_slice() != needs.as_slice() {
+        return Err(AllocError);
+    }
     for need in &needs {
-        lines.push_str(need_line(alloc, schema, scene, need)?.as_str())?;
+        lines.push_str(need_line(alloc, schema, scene, need, memory)?.as_str())?;
     }
     Ok(lines)
 }

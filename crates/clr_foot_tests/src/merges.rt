@@ -1,26 +1,28 @@
-use crate::networks::{CROSSING, MAINS, PATHS, network};
+use crate::memory::Memory;
+use crate::networks::{CROSSING, MAINS, PATHS, TWO_NODES, network};
 use crate::sites::first_broken;
+use clr_hoard::Hoard;
 use clr_lines::add_need;
 use std::alloc::{AllocError, Global};
+use std::process::Abort;
 use std::test::Fail;
 
 /// The least need that the changes of W1 break, as it stands in a reply, or nothing.
-fn broken_line(alloc: Global, rules: &str, more: &str, changes: &str) -> Result<Vec<u8>, Fail> {
+fn broken_line(
+    alloc: Global,
+    rules: &str,
+    more: &str,
+    changes: &str,
+    memory: &mut Memory,
+) -> Result<Vec<u8>, Fail> {
     let live = format!(in alloc; "{CROSSING}{more}")?;
     let office = network(alloc, rules, live.as_str(), &[changes])?;
     let mut line = Vec::new(alloc);
-    if let Some(need) = first_broken(alloc, &office, "LIVE", "W1")? {
+    if let Some(need) = first_broken(alloc, &office, "LIVE", "W1", memory)? {
         add_need(&mut line, office.schema(), &need)?;
     }
     Ok(line)
 }
-
-/// Four mains as paths, of which main 21 crosses main 20 at two nodes.
-const TWO_NODES: &str = r#",
-{"t":"node","k":30,"v":["tee"],"s":[105,0]},
-{"t":"node","k":31,"v":["tee"],"s":[105,10]},
-{"t":"main","k":20,"v":["D"],"s":[100,0,110,0,110,10,100,10]},
-{"t":"main","k":21,"v":["E"],"s":[105,-5,105,15]}"#;
 
 /// Tables and rules, rows of LIVE beside the crossing, what a member changes, and the need.
 const MERGES: [(&str, &str, &str, &str); 9] = [
@@ -75,12 +77,22 @@ const MERGES: [(&str, &str, &str, &str); 9] = [
     ),
 ];
 
-#[test]
-fn least_needs_that_changes_break(rt: HostRuntime) -> Result<(), Fail> {
-    let alloc = rt.alloc();
+/// Asserts which needs are broken, by calls that have this memory.
+fn assert_needs(rt: &impl Abort, alloc: Global, memory: &mut Memory) -> Result<(), Fail> {
     for (rules, more, changes, need) in MERGES {
-        let found = broken_line(alloc, rules, more, changes)?;
+        let found = broken_line(alloc, rules, more, changes, memory)?;
         assert!(rt; found.as_slice() == need.as_bytes(), "{changes}");
     }
     Ok(())
+}
+
+#[test]
+fn least_needs_that_changes_break(rt: HostRuntime) -> Result<(), Fail> {
+    assert_needs(&rt, rt.alloc(), &mut Memory::All)
+}
+
+#[test]
+fn least_needs_once_there_is_memory(rt: HostRuntime) -> Result<(), Fail> {
+    let mut memory = Memory::Hoarded(Hoard::take(rt.alloc())?);
+    assert_needs(&rt, rt.alloc(), &mut memory)
 }

@@ -31,6 +31,28 @@ pub(crate) const CROSSING: &str = r#"{"t":"node","k":9,"v":["valve"],"s":[5,5]},
 {"t":"main","k":1,"v":["A"],"s":[0,0,10,10]},
 {"t":"main","k":2,"v":["C"],"s":[0,10,10,0]}"#;
 
+/// Two more nodes there.
+pub(crate) const TWO_MORE_NODES: &str = r#",
+{"t":"node","k":10,"v":["valve"],"s":[5,5]},
+{"t":"node","k":11,"v":["valve"],"s":[5,5]}"#;
+
+/// Two mains far from there.
+pub(crate) const TWO_MORE_MAINS: &str = r#",
+{"t":"main","k":20,"v":["D"],"s":[100,0,100,10]},
+{"t":"main","k":21,"v":["E"],"s":[200,0,200,10]}"#;
+
+/// A main far from there with a hydrant.
+pub(crate) const ONE_HYDRANT: &str = r#",
+{"t":"main","k":5,"v":["E"],"s":[50,0,50,10]},
+{"t":"hydrant","k":6,"v":[5],"s":[50,5]}"#;
+
+/// Two mains more as paths, of which main 21 crosses main 20 at two nodes.
+pub(crate) const TWO_NODES: &str = r#",
+{"t":"node","k":30,"v":["tee"],"s":[105,0]},
+{"t":"node","k":31,"v":["tee"],"s":[105,10]},
+{"t":"main","k":20,"v":["D"],"s":[100,0,110,0,110,10,100,10]},
+{"t":"main","k":21,"v":["E"],"s":[105,-5,105,15]}"#;
+
 /// The members, by position.
 const MEMBERS: [&str; 3] = ["W1", "W2", "W3"];
 

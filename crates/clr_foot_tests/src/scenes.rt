@@ -1,7 +1,11 @@
 //! What is said of scenes over two mains that cross.
 
-use crate::networks::{CROSSING, MAINS, PATHS, members, network, office_of};
+use crate::memory::Memory;
+use crate::networks::{
+    CROSSING, MAINS, ONE_HYDRANT, PATHS, TWO_MORE_NODES, TWO_NODES, members, network, office_of,
+};
 use crate::sites::{SceneOver, assert_said, site_lines};
+use clr_hoard::Hoard;
 use std::test::Fail;
 
 /// What serves no need: codes that are given up and taken.
@@ -53,7 +57,7 @@ independent
 
 #[test]
 fn codes(rt: HostRuntime) -> Result<(), Fail> {
-    assert_said(&rt, rt.alloc(), (MAINS, CROSSING), &CODES)
+    assert_said(&rt, rt.alloc(), (MAINS, CROSSING), &CODES, &mut Memory::All)
 }
 
 /// Nodes of a crossing, taken away and put in their place.
@@ -76,9 +80,7 @@ independent
 "#,
     ),
     (
-        r#",
-{"t":"node","k":10,"v":["valve"],"s":[5,5]},
-{"t":"node","k":11,"v":["valve"],"s":[5,5]}"#,
+        TWO_MORE_NODES,
         &[
             r#"{"t":"node","k":9,"gone":true}"#,
             r#"{"t":"node","k":10,"gone":true}"#,
@@ -88,9 +90,7 @@ independent no
 "#,
     ),
     (
-        r#",
-{"t":"node","k":10,"v":["valve"],"s":[5,5]},
-{"t":"node","k":11,"v":["valve"],"s":[5,5]}"#,
+        TWO_MORE_NODES,
         &[
             r#"{"t":"node","k":9,"gone":true}"#,
             r#"{"t":"node","k":11,"gone":true}"#,
@@ -100,9 +100,7 @@ independent no
 "#,
     ),
     (
-        r#",
-{"t":"node","k":10,"v":["valve"],"s":[5,5]},
-{"t":"node","k":11,"v":["valve"],"s":[5,5]}"#,
+        TWO_MORE_NODES,
         &[
             r#"{"t":"node","k":10,"gone":true}"#,
             r#"{"t":"node","k":11,"gone":true}"#,
@@ -112,9 +110,7 @@ independent no
 "#,
     ),
     (
-        r#",
-{"t":"node","k":10,"v":["valve"],"s":[5,5]},
-{"t":"node","k":11,"v":["valve"],"s":[5,5]}"#,
+        TWO_MORE_NODES,
         &[
             r#"{"t":"node","k":9,"gone":true}"#,
             r#"{"t":"node","k":10,"gone":true}"#,
@@ -128,15 +124,19 @@ independent no no no
 
 #[test]
 fn nodes(rt: HostRuntime) -> Result<(), Fail> {
-    assert_said(&rt, rt.alloc(), (MAINS, CROSSING), &NODES)
+    assert_said(&rt, rt.alloc(), (MAINS, CROSSING), &NODES, &mut Memory::All)
+}
+
+#[test]
+fn nodes_once_there_is_memory(rt: HostRuntime) -> Result<(), Fail> {
+    let mut memory = Memory::Hoarded(Hoard::take(rt.alloc())?);
+    assert_said(&rt, rt.alloc(), (MAINS, CROSSING), &NODES, &mut memory)
 }
 
 /// Mains that go or come, and hydrants that name them.
 const MAINS_GONE: [SceneOver; 4] = [
     (
-        r#",
-{"t":"main","k":5,"v":["E"],"s":[50,0,50,10]},
-{"t":"hydrant","k":6,"v":[5],"s":[50,5]}"#,
+        ONE_HYDRANT,
         &[
             r#"{"t":"main","k":5,"gone":true},
 {"t":"hydrant","k":6,"gone":true}"#,
@@ -146,9 +146,7 @@ independent
 "#,
     ),
     (
-        r#",
-{"t":"main","k":5,"v":["E"],"s":[50,0,50,10]},
-{"t":"hydrant","k":6,"v":[5],"s":[50,5]}"#,
+        ONE_HYDRANT,
         &[
             r#"{"t":"main","k":5,"gone":true}"#,
             r#"{"t":"hydrant","k":6,"gone":true}"#,
@@ -181,28 +179,26 @@ independent yes yes no
 
 #[test]
 fn mains_and_hydrants(rt: HostRuntime) -> Result<(), Fail> {
-    assert_said(&rt, rt.alloc(), (MAINS, CROSSING), &MAINS_GONE)
+    assert_said(
+        &rt,
+        rt.alloc(),
+        (MAINS, CROSSING),
+        &MAINS_GONE,
+        &mut Memory::All,
+    )
 }
 
 /// Main 20 is a path whose first and third part are crossed by main 21.
 const PATHS_CROSSING: [SceneOver; 2] = [
     (
-        r#",
-{"t":"node","k":30,"v":["tee"],"s":[105,0]},
-{"t":"node","k":31,"v":["tee"],"s":[105,10]},
-{"t":"main","k":20,"v":["D"],"s":[100,0,110,0,110,10,100,10]},
-{"t":"main","k":21,"v":["E"],"s":[105,-5,105,15]}"#,
+        TWO_NODES,
         &[r#"{"t":"node","k":31,"gone":true}"#],
         r#"rule 1 parts 3 1 main/20/old main/21/old served node/31/old-0 picked blocked 0
 independent
 "#,
     ),
     (
-        r#",
-{"t":"node","k":30,"v":["tee"],"s":[105,0]},
-{"t":"node","k":31,"v":["tee"],"s":[105,10]},
-{"t":"main","k":20,"v":["D"],"s":[100,0,110,0,110,10,100,10]},
-{"t":"main","k":21,"v":["E"],"s":[105,-5,105,15]}"#,
+        TWO_NODES,
         &[
             r#"{"t":"node","k":31,"gone":true},
 {"t":"node","k":32,"v":["tee"],"s":[105,10]}"#,
@@ -215,7 +211,25 @@ independent
 
 #[test]
 fn paths(rt: HostRuntime) -> Result<(), Fail> {
-    assert_said(&rt, rt.alloc(), (PATHS, CROSSING), &PATHS_CROSSING)
+    assert_said(
+        &rt,
+        rt.alloc(),
+        (PATHS, CROSSING),
+        &PATHS_CROSSING,
+        &mut Memory::All,
+    )
+}
+
+#[test]
+fn paths_once_there_is_memory(rt: HostRuntime) -> Result<(), Fail> {
+    let mut memory = Memory::Hoarded(Hoard::take(rt.alloc())?);
+    assert_said(
+        &rt,
+        rt.alloc(),
+        (PATHS, CROSSING),
+        &PATHS_CROSSING,
+        &mut memory,
+    )
 }
 
 #[test]
@@ -223,7 +237,7 @@ fn one_cell_changed_by_two(rt: HostRuntime) -> Result<(), Fail> {
     let alloc = rt.alloc();
     let main = r#"{"t":"main","k":20,"v":["D"],"s":[100,0,100,10]}"#;
     let office = network(alloc, MAINS, CROSSING, &[main, "", main])?;
-    let found = site_lines(alloc, &office, "LIVE", members(3))?;
+    let found = site_lines(alloc, &office, "LIVE", members(3), &mut Memory::All)?;
     assert_eq!(rt; found.as_str(), "shared main/20 0 2\n");
     Ok(())
 }
@@ -241,7 +255,7 @@ fn children_of_a_kept_workspace(rt: HostRuntime) -> Result<(), Fail> {
     let alloc = rt.alloc();
     let text = format!(in alloc; r#"{MAINS}{CROSSING}],"workspaces":[{KEPT}]}}"#)?;
     let office = office_of(alloc, text.as_str())?;
-    let found = site_lines(alloc, &office, "K", &["V1", "V2"])?;
+    let found = site_lines(alloc, &office, "K", &["V1", "V2"], &mut Memory::All)?;
     assert_eq!(rt;
         found.as_str(),
         r#"rule 1 parts 1 1 main/1/old main/2/old served node/9/old-0 node/10/new+0 picked node/9/old-0 node/10/new+0 blocked 0

@@ -1,6 +1,7 @@
 //! Offices with rules of all five kinds, with paths and with mains and ducts that are wide, and what an
 //! independent program says of what members change there. The offices were drawn at random.
 
+use crate::memory::Memory;
 use crate::sites::{SceneOver, assert_said};
 use std::test::Fail;
 
@@ -268,5 +269,5 @@ independent no no no
 
 #[test]
 fn random_scenes(rt: HostRuntime) -> Result<(), Fail> {
-    assert_said(&rt, rt.alloc(), (STREETS, ""), &SCENES)
+    assert_said(&rt, rt.alloc(), (STREETS, ""), &SCENES, &mut Memory::All)
 }

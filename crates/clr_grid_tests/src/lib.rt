@@ -6,4 +6,8 @@ mod changes;
 #[cfg(test)]
 mod network;
 #[cfg(test)]
+mod refused_notes;
+#[cfg(test)]
+mod refused_searches;
+#[cfg(test)]
 mod sharing;

@@ -78,7 +78,7 @@ pub(crate) struct RowAt {
 }
 
 impl RowAt {
-    fn held(&self) -> Held
+    pub(crate) fn held(&self) -> Held
         ensures cell { result.cell ≡ self.now.cell }
         ensures row { result.row.now ≡ self.now.row }
     {
@@ -144,8 +144,8 @@ pub(crate) fn main(
 /// The tables and rules of the network.
 #[derive(Drop)]
 pub(crate) struct Network {
-    schema: Schema,
-    book: RuleBook,
+    pub schema: Schema,
+    pub book: RuleBook,
     ghost fits: { FitsBook schema book },
 }
 
@@ -242,7 +242,7 @@ impl Network {
 }
 
 /// Whether a list has these cells, by table and key, in this order.
-fn are_cells(found: &[CellId], cells: &[(u16, i64)]) -> bool {
+pub(crate) fn are_cells(found: &[CellId], cells: &[(u16, i64)]) -> bool {
     if found.len() != cells.len() {
         return false;
     }

@@ -7,7 +7,11 @@ use std::alloc::Global;
 use std::test::Fail;
 
 /// Two mains that cross, one that is far from both, one that is wide, and a node at the crossing.
-fn crossings<F: RowFinder>(alloc: Global, network: &Network, finder: &mut F) -> Result<(), Fail>
+pub(crate) fn crossings<F: RowFinder>(
+    alloc: Global,
+    network: &Network,
+    finder: &mut F,
+) -> Result<(), Fail>
     requires { F.pending finder.old ≡ finite.empty }
     ensures { F.pending finder.new ≡ finite.empty }
 {

@@ -3,8 +3,8 @@
 //! This rests on Linux and on glibc's `malloc`: Linux lends address space that is never written
 //! without memory behind it, so that a test can take all of it, and `malloc` gives no more than
 //! what is left in its heap then. A request of 16 bytes more than there are is refused, but freed
-//! blocks of a few sizes are kept apart by `malloc`, so a budget is a budget to within some of
-//! these.
+//! blocks of a few sizes are kept apart by `malloc`, and what is left may lie in several places, so
+//! a budget is a budget to within some of these.
 #![tactic(auto)]
 
 use std::alloc::{AllocError, Global};
@@ -25,10 +25,13 @@ const SMALL: usize = 2_048;
 const STEP: usize = 16;
 
 /// How many blocks of `CUSHION_SIZE` bytes are left to the test itself, to make its offices.
-const CUSHIONS: usize = 16;
+const CUSHIONS: usize = 64;
 
 /// Small enough that `malloc` takes it from its heap.
 const CUSHION_SIZE: usize = 1 << 16;
+
+/// The most blocks that make up a budget.
+const MOST_PIECES: usize = 64;
 
 /// All address space of the process, but for what a test leaves free. What is held is never
 /// written.
@@ -37,6 +40,7 @@ pub struct Hoard {
     alloc: Global,
     large: Vec<Vec<u8>>,
     small: Vec<Vec<u8>>,
+    room: Vec<Vec<u8>>,
 }
 
 /// Takes blocks of this size until none is left, then smaller ones, down to a least size. It
@@ -57,14 +61,38 @@ fn take_all(alloc: Global, blocks: &mut Vec<Vec<u8>>, first: usize, least: usize
     false
 }
 
+/// Takes blocks of this many bytes together, as large as they can be had; refused where what is free
+/// lies in too many places.
+fn set_aside(alloc: Global, blocks: &mut Vec<Vec<u8>>, bytes: usize) -> Result<(), AllocError> {
+    let mut left = bytes;
+    let mut size = bytes;
+    for _ in 0..MOST_PIECES {
+        if left == 0 {
+            return Ok(());
+        }
+        size = size.min(left).max(SMALL);
+        let block: Result<Vec<u8>, AllocError> = Vec::with_capacity(alloc, size);
+        match block {
+            Ok(block) => {
+                blocks.push(block)?;
+                left = left.saturating_sub(size);
+            }
+            Err(_) if size <= SMALL => return Err(AllocError),
+            Err(_) => size /= 2,
+        }
+    }
+    Err(AllocError)
+}
+
 impl Hoard {
-    /// Takes all address space but about 1,000,000 bytes, with which the test goes on; refused
+    /// Takes all address space but about 4,000,000 bytes, with which the test goes on; refused
     /// too where there are more blocks than the list takes.
     pub fn take(alloc: Global) -> Result<Hoard, AllocError> {
         let mut hoard = Hoard {
             alloc,
             large: Vec::with_capacity(alloc, MOST_BLOCKS)?,
             small: Vec::with_capacity(alloc, MOST_BLOCKS)?,
+            room: Vec::with_capacity(alloc, MOST_PIECES)?,
         };
         for _ in 0..CUSHIONS {
             hoard.small.push(Vec::with_capacity(alloc, CUSHION_SIZE)?)?;
@@ -79,11 +107,11 @@ impl Hoard {
     /// Takes what is left, but for this many bytes; refused too where there are more blocks than
     /// the list takes.
     pub fn leave(&mut self, budget: usize) -> Result<(), AllocError> {
-        let room: Vec<u8> = Vec::with_capacity(self.alloc, budget.saturating_add(SMALL))?;
+        set_aside(self.alloc, &mut self.room, budget.saturating_add(SMALL))?;
         if !take_all(self.alloc, &mut self.small, LARGE, STEP) {
             return Err(AllocError);
         }
-        drop(room);
+        self.room.clear();
         let front: Vec<u8> = Vec::with_capacity(self.alloc, SMALL)?;
         self.small.push(front)?;
         Ok(())

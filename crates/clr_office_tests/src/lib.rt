@@ -7,6 +7,8 @@ mod devices;
 #[cfg(test)]
 mod faults;
 #[cfg(test)]
+mod refused_asks;
+#[cfg(test)]
 mod refused_runs;
 #[cfg(test)]
 mod separators;

@@ -1,6 +1,6 @@
-//! Parts and rows without values, each told apart by its key.
+//! Parts, sheets and rows. A row has one number, or no value where its key tells it apart.
 
-use clr_rows::{CellId, Row, Shape, Sheet, Values, Words};
+use clr_rows::{CellId, Row, Shape, Sheet, Value, Values, Words};
 use clr_tree::{MarkPart, Part};
 use std::alloc::{AllocError, Global};
 
@@ -20,6 +20,33 @@ pub fn bare_row(alloc: Global) -> Row {
         values: Values::new(Vec::new(alloc)),
         shape: Shape::Bare,
     }
+}
+
+/// A row with one number.
+pub fn row_of(alloc: Global, number: i64) -> Result<Row, AllocError> {
+    let mut values = Vec::new(alloc);
+    values.push(Value::Int(number))?;
+    Ok(Row {
+        values: Values::new(values),
+        shape: Shape::Bare,
+    })
+}
+
+/// The number of a row, or 0 for a row without values.
+pub fn number_of(row: &Row) -> i64 {
+    match row.values.as_slice().first() {
+        Some(Value::Int(number)) => *number,
+        _ => 0,
+    }
+}
+
+/// A sheet with a row of this number at each of these keys.
+pub fn numbered_sheet(alloc: Global, rows: &[(i64, i64)]) -> Result<Sheet, AllocError> {
+    let mut sheet = Sheet::new(alloc);
+    for (key, number) in rows {
+        let _before = sheet.put(cell(*key), row_of(alloc, *number)?)?;
+    }
+    Ok(sheet)
 }
 
 /// A sheet with a bare row at each of these keys.

@@ -1,138 +1,108 @@
-use crate::fixtures::{bare_row, cell, sheet_of};
-use clr_change::ChangeSet;
-use clr_rows::{Row, Sheet, good_name};
-use clr_tree::{MOST_LEVELS, MOST_WORKSPACES, Rebase, Tree};
+use crate::cases::{
+    BASE_KEPT, CHILD_KEPT, FLAGS, MARKS, MERGES, PARENT_KEPT, REFRESHES, REMOVALS, ROLLS,
+    THREE_LEVELS, THREE_LEVELS_TEXT, WRITES,
+};
+use crate::scripts::{act_lines, split_case, tree_after};
+use crate::texts::{counts_text, new_lines, tree_text};
 use std::alloc::{AllocError, Global};
+use std::process::Abort;
 use std::test::Fail;
 
-/// What is done in a tree.
-#[derive(Clone, Copy)]
-enum Deed {
-    /// Makes a workspace of this name under another.
-    Create(&'static str, &'static str),
-    /// Puts a bare row at a key of a workspace, or none.
-    Write(&'static str, i64, bool),
-    /// Moves the base of a workspace.
-    Move(&'static str, Rebase),
-}
+/// More cases than a text has.
+const MOST_CASES: usize = 20;
 
-/// Makes a workspace under another, unless it can't be made.
-fn create(tree: &mut Tree, name: &str, parent: &str) -> Result<(), AllocError> {
-    let Some(at) = tree.find(parent) else {
-        return Ok(());
-    };
-    if !good_name(name) || tree.find(name).is_some() {
-        return Ok(());
-    }
-    if tree.len() >= MOST_WORKSPACES || tree.depth(at) >= MOST_LEVELS {
-        return Ok(());
-    }
-    tree.create(name, at)
-}
-
-fn write(
-    alloc: Global,
-    tree: &mut Tree,
-    name: &str,
-    key: i64,
-    stands: bool,
-) -> Result<(), AllocError> {
-    let Some(at) = tree.find(name) else {
-        return Ok(());
-    };
-    let row: Option<Row> = if stands { Some(bare_row(alloc)) } else { None };
-    let mut changed = ChangeSet::new(alloc);
-    changed.set(cell(key), tree.read(at, cell(key)), row.as_ref())?;
-    tree.write_all(at, &changed)
-}
-
-fn rebase(tree: &mut Tree, name: &str, how: Rebase) -> Result<(), AllocError> {
-    match tree.find(name) {
-        Some(at) if at > 0 => tree.rebase(at, how),
-        _ => Ok(()),
-    }
-}
-
-fn act(alloc: Global, tree: &mut Tree, deed: Deed) -> Result<(), AllocError> {
-    match deed {
-        Deed::Create(name, parent) => create(tree, name, parent),
-        Deed::Write(name, key, stands) => write(alloc, tree, name, key, stands),
-        Deed::Move(name, how) => rebase(tree, name, how),
-    }
-}
-
-/// The keys of rows, each before a space.
-fn keys_of(alloc: Global, rows: &Sheet) -> Result<String, AllocError> {
-    let mut keys = String::new(alloc);
-    for (cell, _) in rows.iter() {
-        keys.push_str(format!(in alloc; "{} ", cell.key)?.as_str())?;
-    }
-    Ok(keys)
-}
-
-/// The workspace at a position: its name, the keys of its rows, and how many entries are stored.
-fn line_of(alloc: Global, tree: &Tree, at: usize) -> Result<String, AllocError> {
-    if at >= tree.len() {
-        return Ok(String::new(alloc));
-    }
-    let keys = keys_of(alloc, &tree.rows(at)?)?;
-    let stored = if at > 0 { tree.stored(at) } else { 0 };
-    format!(in alloc; "{} {keys}stored {stored}\n", tree.name_at(at))
-}
-
-/// A line for each workspace of a tree with a row at key 1, after deeds and a sweep.
-fn told(alloc: Global, deeds: &[Deed]) -> Result<String, AllocError> {
-    let mut tree = Tree::new(alloc, sheet_of(alloc, &[1])?)?;
-    for deed in deeds {
-        act(alloc, &mut tree, *deed)?;
-    }
+/// What isn't as before in three levels after deeds and a sweep, and how many entries are stored
+/// then.
+fn text_after(alloc: Global, deeds: &'static str) -> Result<String, AllocError> {
+    let mut tree = tree_after(alloc, THREE_LEVELS)?;
+    act_lines(alloc, &mut tree, deeds)?;
     tree.sweep();
-    let mut lines = String::new(alloc);
-    for at in 0..tree.len() {
-        lines.push_str(line_of(alloc, &tree, at)?.as_str())?;
+    let all = tree_text(alloc, &tree)?;
+    let mut text = new_lines(alloc, all.as_str(), THREE_LEVELS_TEXT)?;
+    text.push_str(counts_text(alloc, &tree)?.as_str())?;
+    Ok(text)
+}
+
+/// Runs all cases of a text.
+fn check_cases(rt: &impl Abort, alloc: Global, cases: &'static str) -> Result<(), Fail> {
+    let mut rest = cases;
+    for _ in 0..MOST_CASES {
+        let Some((deeds, text, others)) = split_case(rest) else {
+            break;
+        };
+        let left = text_after(alloc, deeds)?;
+        assert_eq!(rt; left.as_str(), text, "after {deeds}");
+        rest = others;
     }
-    Ok(lines)
-}
-
-/// A under LIVE with two children. B, which is one of them, puts a row and takes one away.
-const THREE_LEVELS: [Deed; 6] = [
-    Deed::Create("A", "LIVE"),
-    Deed::Create("B", "A"),
-    Deed::Create("C", "A"),
-    Deed::Write("B", 2, true),
-    Deed::Write("B", 1, false),
-    Deed::Move("B", Rebase::Merge),
-];
-
-#[test]
-fn merges_at_three_levels(rt: HostRuntime) -> Result<(), Fail> {
-    let lines = told(rt.alloc(), &THREE_LEVELS)?;
-    assert_eq!(rt;
-        lines.as_str(),
-        "LIVE 1 stored 0\nA 2 stored 2\nB 2 stored 0\nC 1 stored 2\n"
-    );
+    assert_eq!(rt; rest, "");
     Ok(())
 }
 
-/// LIVE has a row that A hasn't, and then A has it too.
-const BEHIND: [Deed; 2] = [Deed::Create("A", "LIVE"), Deed::Write("LIVE", 20, true)];
-
 #[test]
-fn counts_what_a_base_lags_behind(rt: HostRuntime) -> Result<(), Fail> {
-    let lines = told(rt.alloc(), &BEHIND)?;
-    assert_eq!(rt; lines.as_str(), "LIVE 1 20 stored 0\nA 1 stored 1\n");
-    Ok(())
+fn writes_rows(rt: HostRuntime) -> Result<(), Fail> {
+    check_cases(&rt, rt.alloc(), WRITES)
 }
 
-const REFRESHED: [Deed; 3] = [
-    Deed::Create("A", "LIVE"),
-    Deed::Write("LIVE", 20, true),
-    Deed::Move("A", Rebase::Refresh),
-];
+#[test]
+fn merges(rt: HostRuntime) -> Result<(), Fail> {
+    check_cases(&rt, rt.alloc(), MERGES)
+}
 
 #[test]
 fn refreshes(rt: HostRuntime) -> Result<(), Fail> {
-    let lines = told(rt.alloc(), &REFRESHED)?;
-    assert_eq!(rt; lines.as_str(), "LIVE 1 20 stored 0\nA 1 20 stored 0\n");
+    check_cases(&rt, rt.alloc(), REFRESHES)
+}
+
+#[test]
+fn rolls_back(rt: HostRuntime) -> Result<(), Fail> {
+    check_cases(&rt, rt.alloc(), ROLLS)
+}
+
+#[test]
+fn keeps_marks(rt: HostRuntime) -> Result<(), Fail> {
+    check_cases(&rt, rt.alloc(), MARKS)
+}
+
+#[test]
+fn removes_leaves(rt: HostRuntime) -> Result<(), Fail> {
+    check_cases(&rt, rt.alloc(), REMOVALS)
+}
+
+#[test]
+fn holds_and_releases(rt: HostRuntime) -> Result<(), Fail> {
+    check_cases(&rt, rt.alloc(), FLAGS)
+}
+
+#[test]
+fn keeps_rows_of_the_parent(rt: HostRuntime) -> Result<(), Fail> {
+    check_cases(&rt, rt.alloc(), PARENT_KEPT)
+}
+
+#[test]
+fn keeps_rows_of_its_own(rt: HostRuntime) -> Result<(), Fail> {
+    check_cases(&rt, rt.alloc(), CHILD_KEPT)
+}
+
+#[test]
+fn keeps_rows_of_the_old_base(rt: HostRuntime) -> Result<(), Fail> {
+    check_cases(&rt, rt.alloc(), BASE_KEPT)
+}
+
+/// How many entries are stored of the workspaces under LIVE after deeds and a sweep.
+fn stored_after(alloc: Global, deeds: &'static str) -> Result<String, AllocError> {
+    let mut tree = tree_after(alloc, deeds)?;
+    tree.sweep();
+    counts_text(alloc, &tree)
+}
+
+#[test]
+fn counts_entries(rt: HostRuntime) -> Result<(), Fail> {
+    let alloc = rt.alloc();
+    let inserted = stored_after(alloc, "W1 create LIVE\nW1 put 10 7")?;
+    assert_eq!(rt; inserted.as_str(), "stored 1");
+    let behind = stored_after(alloc, "W1 create LIVE\nLIVE put 20 4")?;
+    assert_eq!(rt; behind.as_str(), "stored 1");
+    let refreshed = stored_after(alloc, "W1 create LIVE\nLIVE put 20 4\nW1 refresh")?;
+    assert_eq!(rt; refreshed.as_str(), "stored 0");
     Ok(())
 }

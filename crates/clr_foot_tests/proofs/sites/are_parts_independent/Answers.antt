@@ -5,16 +5,16 @@ use Rattle.clr_check.specs.SiteNames.{site}
 use Rattle.clr_foot_tests.proofs.SceneLemmas.{members_counted}
 use Rattle.clr_foot_tests.proofs.sites.are_parts_independent.Goals as goal
 
-pub independent-requires-clause-first : goal.independent-requires-clause-first
-independent-requires-clause-first c =
+pub are_scene_members_independent-requires-clause-first : goal.are_scene_members_independent-requires-clause-first
+are_scene_members_independent-requires-clause-first c =
     let s = site c.args.root.now (map (λ name. name.now) c.args.members.now) in
     let m = model_of (λ rows. rows) c.in-Ok.scene in
     let of = c.in-Ok.ensures.scene s c.requires.parts in
     let counted = members_counted c.args.office.now s m.rules m.root m.sets of.setting ∙ length-map c.args.members.now (λ name. name.now) in
     subst (λ n. c.args.pair.0 < n) (sym counted) c.requires.first
 
-pub independent-requires-clause-second : goal.independent-requires-clause-second
-independent-requires-clause-second c =
+pub are_scene_members_independent-requires-clause-second : goal.are_scene_members_independent-requires-clause-second
+are_scene_members_independent-requires-clause-second c =
     let s = site c.args.root.now (map (λ name. name.now) c.args.members.now) in
     let m = model_of (λ rows. rows) c.in-Ok.scene in
     let of = c.in-Ok.ensures.scene s c.requires.parts in

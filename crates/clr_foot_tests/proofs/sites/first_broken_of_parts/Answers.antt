@@ -5,15 +5,15 @@ use Rattle.clr_check.specs.SiteNames.{site}
 use Rattle.clr_foot_tests.proofs.SceneLemmas.{members_counted, root_keeps_rules}
 use Rattle.clr_foot_tests.proofs.sites.first_broken_of_parts.Goals as goal
 
-pub first_broken-requires-clause-one : goal.first_broken-requires-clause-one
-first_broken-requires-clause-one c =
+pub first_broken_of_scene-requires-clause-one : goal.first_broken_of_scene-requires-clause-one
+first_broken_of_scene-requires-clause-one c =
     let s = site c.args.root.now (map (λ name. name.now) c.args.members.now) in
     let m = model_of (λ rows. rows) c.in-Ok.scene in
     let of = c.in-Ok.ensures.scene s c.requires.parts in
     members_counted c.args.office.now s m.rules m.root m.sets of.setting ∙ length-map c.args.members.now (λ name. name.now) ∙ c.requires.one
 
-pub first_broken-requires-clause-holds : goal.first_broken-requires-clause-holds
-first_broken-requires-clause-holds c =
+pub first_broken_of_scene-requires-clause-holds : goal.first_broken_of_scene-requires-clause-holds
+first_broken_of_scene-requires-clause-holds c =
     let s = site c.args.root.now (map (λ name. name.now) c.args.members.now) in
     let m = model_of (λ rows. rows) c.in-Ok.scene in
     let of = c.in-Ok.ensures.scene s c.requires.parts in

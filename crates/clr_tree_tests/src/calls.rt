@@ -1,0 +1,129 @@
+ghost use Rattle.std.specs.Prelude.{◌<◌, length};
+
+use crate::deeds::find_savepoint;
+use crate::fixtures::{cell, row_of, words};
+use crate::scripts::{act_line, parts_of};
+use crate::texts::{changes_text, part_text, rows_text, tree_text};
+use clr_change::ChangeSet;
+use clr_differences::Differences;
+use clr_layers::{Layer, StoredMark, StoredPart};
+use clr_rows::Sheet;
+use clr_tree::{Part, PartFault, Tree};
+use std::alloc::{AllocError, Global};
+
+/// What is answered.
+#[derive(Drop)]
+pub(crate) enum Answer {
+    Nothing,
+    Changes(ChangeSet),
+    Rows(Sheet),
+    Part(Part),
+    Tree(Tree),
+}
+
+impl Answer {
+    /// The answer as a text, if there is one.
+    pub(crate) fn text(&self, alloc: Global) -> Result<String, AllocError> {
+        match self {
+            Answer::Nothing => Ok(String::new(alloc)),
+            Answer::Changes(changed) => changes_text(alloc, changed),
+            Answer::Rows(rows) => rows_text(alloc, rows),
+            Answer::Part(part) => part_text(alloc, part),
+            Answer::Tree(tree) => tree_text(alloc, tree),
+        }
+    }
+}
+
+/// A tree that is made, or want of memory. A fault of its parts is no answer.
+fn answer_of_tree(tree: Result<Tree, (usize, PartFault)>) -> Result<Answer, AllocError> {
+    match tree {
+        Ok(tree) => Ok(Answer::Tree(tree)),
+        Err((0, PartFault::OutOfMemory)) => Err(AllocError),
+        Err(_) => Ok(Answer::Nothing),
+    }
+}
+
+fn build(alloc: Global, tree: &Tree) -> Result<Answer, AllocError> {
+    let mut parts = Vec::new(alloc);
+    for at in 1..tree.len() {
+        parts.push(tree.part(at)?)?;
+    }
+    answer_of_tree(Tree::build(alloc, tree.live().copy()?, parts))
+}
+
+/// What is stored of a workspace with a row in its base and none in its current content.
+fn layer(alloc: Global, parent: &str, mark: StoredMark) -> Result<Layer, AllocError> {
+    let mut base = Differences::new(alloc);
+    base.put(cell(2), Some(row_of(alloc, 5)?))?;
+    let mut current = Differences::new(alloc);
+    current.put(cell(2), None)?;
+    let mut marks = Vec::new(alloc);
+    marks.push(mark)?;
+    Ok(Layer {
+        parent: words(alloc, parent)?,
+        base,
+        current,
+        marks,
+        kept: true,
+    })
+}
+
+fn layers(alloc: Global) -> Result<Vec<StoredPart>, AllocError> {
+    let mut saved = Differences::new(alloc);
+    saved.put(cell(3), Some(row_of(alloc, 6)?))?;
+    let child = StoredMark::Child(words(alloc, "B")?);
+    let savepoint = StoredMark::Saved(words(alloc, "s")?, saved);
+    let mut parts = Vec::new(alloc);
+    parts.push(StoredPart {
+        name: words(alloc, "A")?,
+        layer: layer(alloc, "LIVE", child)?,
+    })?;
+    parts.push(StoredPart {
+        name: words(alloc, "B")?,
+        layer: layer(alloc, "A", savepoint)?,
+    })?;
+    Ok(parts)
+}
+
+/// What a word reads of a workspace.
+fn read(tree: &Tree, at: usize, word: &str, rest: &str) -> Result<Answer, AllocError>
+    requires child { 0 < at }
+    requires within { at < length tree.now.list }
+{
+    match word {
+        "changes" => Ok(Answer::Changes(tree.changes(at)?)),
+        "rows" => Ok(Answer::Rows(tree.rows(at)?)),
+        "base" => Ok(Answer::Rows(tree.base_rows(at)?)),
+        "part" => Ok(Answer::Part(tree.part(at)?)),
+        "saved" => match find_savepoint(tree, at, rest) {
+            Some(mark) => Ok(Answer::Rows(tree.saved_rows(at, mark)?)),
+            None => Ok(Answer::Nothing),
+        },
+        _ => Ok(Answer::Nothing),
+    }
+}
+
+/// What a word makes of the rows of LIVE, and of all parts.
+fn make(alloc: Global, tree: &Tree, word: &str) -> Result<Answer, AllocError> {
+    match word {
+        "new" => Ok(Answer::Tree(Tree::new(alloc, tree.live().copy()?)?)),
+        "build" => build(alloc, tree),
+        "layers" => answer_of_tree(Tree::of_layers(alloc, tree.live().copy()?, layers(alloc)?)),
+        _ => Ok(Answer::Nothing),
+    }
+}
+
+/// Does what a line says, or answers what it asks. It fails for want of memory alone.
+pub(crate) fn call(
+    alloc: Global,
+    tree: &mut Tree,
+    line: &'static str,
+) -> Result<Answer, AllocError> {
+    act_line(alloc, tree, line)?;
+    let (name, word, rest) = parts_of(line);
+    match tree.find(name) {
+        Some(0) => make(alloc, tree, word),
+        Some(at) => read(tree, at, word, rest),
+        None => Ok(Answer::Nothing),
+    }
+}

@@ -1,0 +1,110 @@
+use crate::deeds::{Deed, act};
+use crate::dice::Dice;
+use crate::plain_trees::PlainTree;
+use crate::scripts::tree_after;
+use crate::texts::{counts_text, tree_text};
+use clr_tree::{Keep, Tree};
+use std::alloc::{AllocError, Global};
+use std::process::Abort;
+use std::test::Fail;
+
+/// How many deeds are to change a tree.
+const DEEDS: usize = 10_000;
+
+/// The most throws, some of which change nothing.
+const MOST_THROWS: usize = 40_000;
+
+const NAMES: [&str; 12] = [
+    "LIVE", "A", "B", "C", "D", "E", "F", "G", "H", "I", "J", "K",
+];
+
+/// What is done next, and to which workspace. Savepoints have the names of the first workspaces.
+fn deed(dice: &mut Dice) -> (&'static str, Deed) {
+    let name = NAMES[dice.throw(12) as usize];
+    let other = NAMES[dice.throw(12) as usize];
+    let savepoint = NAMES[dice.throw(4) as usize + 1];
+    let key = dice.throw(8) as i64;
+    let number = dice.throw(3) as i64 + 1;
+    let keep = match dice.throw(3) {
+        0 => Keep::Parent,
+        1 => Keep::Child,
+        _ => Keep::Base,
+    };
+    let deed = match dice.throw(18) {
+        0 | 1 | 2 => Deed::Create(other),
+        3 => Deed::Remove,
+        4 | 5 | 6 => Deed::Put(key, number),
+        7 => Deed::Delete(key),
+        8 | 9 => Deed::Mark(savepoint),
+        10 => Deed::Unmark(savepoint),
+        11 => Deed::RollTo(savepoint),
+        12 => Deed::RollAll,
+        13 => Deed::Refresh,
+        14 => Deed::Merge,
+        15 => Deed::Resolve(key, keep),
+        16 => Deed::Hold,
+        _ => Deed::Release,
+    };
+    (name, deed)
+}
+
+/// A tree, and one of whole copies beside it.
+#[derive(Drop)]
+struct Pair {
+    tree: Tree,
+    plain: PlainTree,
+}
+
+impl Pair {
+    fn new(alloc: Global) -> Result<Pair, AllocError> {
+        Ok(Pair {
+            tree: tree_after(alloc, "")?,
+            plain: PlainTree::new(alloc, [0, 1, 1, 1, 0, 0, 0, 0])?,
+        })
+    }
+
+    /// Does something to both, and sweeps.
+    fn act(&mut self, alloc: Global, name: &'static str, deed: Deed) -> Result<(), AllocError> {
+        act(alloc, &mut self.tree, name, deed)?;
+        self.plain.act(name, deed)?;
+        self.tree.sweep();
+        Ok(())
+    }
+
+    /// What both are, which is to be the same.
+    fn text(&self, rt: &impl Abort, alloc: Global) -> Result<String, Fail> {
+        let text = tree_text(alloc, &self.tree)?;
+        assert_eq!(rt; text.as_str(), self.plain.text()?.as_str());
+        let counts = counts_text(alloc, &self.tree)?;
+        assert_eq!(rt; counts.as_str(), self.plain.counts_text()?.as_str());
+        Ok(text)
+    }
+}
+
+/// How many deeds change a tree, which whole copies follow.
+fn count_changes(rt: &impl Abort, alloc: Global, seed: u64) -> Result<usize, Fail> {
+    let mut dice = Dice::new(seed);
+    let mut pair = Pair::new(alloc)?;
+    let mut last = pair.text(rt, alloc)?;
+    let mut changes = 0;
+    for _ in 0..MOST_THROWS {
+        if changes == DEEDS {
+            break;
+        }
+        let (name, deed) = deed(&mut dice);
+        pair.act(alloc, name, deed)?;
+        let text = pair.text(rt, alloc)?;
+        if text.as_str() != last.as_str() {
+            changes = changes.saturating_add(1);
+        }
+        last = text;
+    }
+    Ok(changes)
+}
+
+#[test]
+fn is_as_whole_copies_are(rt: HostRuntime) -> Result<(), Fail> {
+    let changes = count_changes(&rt, rt.alloc(), 11)?;
+    assert_eq!(rt; changes, DEEDS);
+    Ok(())
+}

@@ -1,0 +1,103 @@
+//! Deeds as texts. A line has the name of a workspace, a word, and what belongs to it.
+
+use crate::deeds::{Deed, act};
+use crate::fixtures::numbered_sheet;
+use clr_tree::{Keep, Tree};
+use std::alloc::{AllocError, Global};
+
+/// The part of a text before a space, and the rest.
+fn split_word(text: &'static str) -> (&'static str, &'static str) {
+    match text.split_once(" ") {
+        Some(parts) => parts,
+        None => (text, ""),
+    }
+}
+
+fn number(text: &str) -> Option<i64> {
+    text.parse::<i64>().ok()
+}
+
+fn put(text: &'static str) -> Option<Deed> {
+    let (key, row) = split_word(text);
+    Some(Deed::Put(number(key)?, number(row)?))
+}
+
+fn resolve(text: &'static str) -> Option<Deed> {
+    let (key, word) = split_word(text);
+    let keep = match word {
+        "parent" => Keep::Parent,
+        "child" => Keep::Child,
+        "base" => Keep::Base,
+        _ => return None,
+    };
+    Some(Deed::Resolve(number(key)?, keep))
+}
+
+/// The deed of a word, with what belongs to it.
+fn deed_of(word: &str, rest: &'static str) -> Option<Deed> {
+    match word {
+        "create" => Some(Deed::Create(rest)),
+        "remove" => Some(Deed::Remove),
+        "put" => put(rest),
+        "delete" => Some(Deed::Delete(number(rest)?)),
+        "mark" => Some(Deed::Mark(rest)),
+        "unmark" => Some(Deed::Unmark(rest)),
+        "rollto" => Some(Deed::RollTo(rest)),
+        "rollall" => Some(Deed::RollAll),
+        "refresh" => Some(Deed::Refresh),
+        "merge" => Some(Deed::Merge),
+        "resolve" => resolve(rest),
+        "hold" => Some(Deed::Hold),
+        "release" => Some(Deed::Release),
+        _ => None,
+    }
+}
+
+/// The name, the word and the rest of a line.
+pub(crate) fn parts_of(line: &'static str) -> (&'static str, &'static str, &'static str) {
+    let (name, rest) = split_word(line);
+    let (word, rest) = split_word(rest);
+    (name, word, rest)
+}
+
+/// Does what a line says, which is nothing where it can't be read. It fails for want of memory
+/// alone.
+pub(crate) fn act_line(
+    alloc: Global,
+    tree: &mut Tree,
+    line: &'static str,
+) -> Result<(), AllocError> {
+    let (name, word, rest) = parts_of(line);
+    match deed_of(word, rest) {
+        Some(deed) => act(alloc, tree, name, deed),
+        None => Ok(()),
+    }
+}
+
+/// Does what lines say, one after another.
+pub(crate) fn act_lines(
+    alloc: Global,
+    tree: &mut Tree,
+    lines: &'static str,
+) -> Result<(), AllocError> {
+    for line in lines.lines() {
+        act_line(alloc, tree, line)?;
+    }
+    Ok(())
+}
+
+/// A tree of LIVE, with a row of number 1 at each of the keys 1 to 3, after lines.
+pub(crate) fn tree_after(alloc: Global, lines: &'static str) -> Result<Tree, AllocError> {
+    let mut tree = Tree::new(alloc, numbered_sheet(alloc, &[(1, 1), (2, 1), (3, 1)])?)?;
+    act_lines(alloc, &mut tree, lines)?;
+    Ok(tree)
+}
+
+/// The first of some cases, in two parts, and the others.
+pub(crate) fn split_case(
+    cases: &'static str,
+) -> Option<(&'static str, &'static str, &'static str)> {
+    let (case, others) = cases.split_once("\n==\n")?;
+    let (first, second) = case.split_once("\n--\n")?;
+    Some((first, second, others))
+}

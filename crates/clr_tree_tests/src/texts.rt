@@ -1,0 +1,88 @@
+//! Trees as texts.
+
+use crate::fixtures::number_of;
+use clr_rows::Sheet;
+use clr_tree::{ChangeSet, MarkPart, Part, Tree};
+use std::alloc::{AllocError, Global};
+
+/// Each key of a sheet with the number of its row, after a space.
+pub(crate) fn rows_text(alloc: Global, rows: &Sheet) -> Result<String, AllocError> {
+    let mut text = String::new(alloc);
+    for (cell, row) in rows.iter() {
+        let row = format!(in alloc; " {}={}", cell.key, number_of(row))?;
+        text.push_str(row.as_str())?;
+    }
+    Ok(text)
+}
+
+/// Each changed key with the numbers of the rows before and after, or 0 where there is none.
+pub(crate) fn changes_text(alloc: Global, changed: &ChangeSet) -> Result<String, AllocError> {
+    let mut text = String::new(alloc);
+    for (cell, change) in changed.iter() {
+        let before = change.before.as_ref().map_or(0, number_of);
+        let after = change.after.as_ref().map_or(0, number_of);
+        let change = format!(in alloc; " {}:{before}>{after}", cell.key)?;
+        text.push_str(change.as_str())?;
+    }
+    Ok(text)
+}
+
+fn mark_text(alloc: Global, mark: &MarkPart) -> Result<String, AllocError> {
+    match mark {
+        MarkPart::Saved(name, rows) => {
+            let rows = rows_text(alloc, rows)?;
+            format!(in alloc; " saved {}{rows}", name.as_str())
+        }
+        MarkPart::ChildMark(child) => format!(in alloc; " child {}", child.as_str()),
+    }
+}
+
+fn marks_text(alloc: Global, marks: &[MarkPart]) -> Result<String, AllocError> {
+    let mut text = String::new(alloc);
+    for mark in marks {
+        text.push_str(mark_text(alloc, mark)?.as_str())?;
+    }
+    Ok(text)
+}
+
+/// A workspace with all that it has: its parent, its base, its current content, its marks in order,
+/// and `kept` where every rule is to hold.
+pub(crate) fn part_text(alloc: Global, part: &Part) -> Result<String, AllocError> {
+    let base = rows_text(alloc, &part.base)?;
+    let current = rows_text(alloc, &part.current)?;
+    let marks = marks_text(alloc, part.marks.as_slice())?;
+    let kept = if part.kept { " kept" } else { "" };
+    let (name, parent) = (part.name.as_str(), part.parent.as_str());
+    format!(in alloc; "{name} under {parent} base{base} now{current}{marks}{kept}\n")
+}
+
+/// A line for each workspace of a tree.
+pub(crate) fn tree_text(alloc: Global, tree: &Tree) -> Result<String, AllocError> {
+    let mut text = format!(in alloc; "LIVE now{}\n", rows_text(alloc, tree.live())?)?;
+    for at in 1..tree.len() {
+        let part = tree.part(at)?;
+        text.push_str(part_text(alloc, &part)?.as_str())?;
+    }
+    Ok(text)
+}
+
+/// How many entries are stored of each workspace under LIVE.
+pub(crate) fn counts_text(alloc: Global, tree: &Tree) -> Result<String, AllocError> {
+    let mut text = String::from_str(alloc, "stored")?;
+    for at in 1..tree.len() {
+        text.push_str(format!(in alloc; " {}", tree.stored(at))?.as_str())?;
+    }
+    Ok(text)
+}
+
+/// The lines of a text that another hasn't.
+pub(crate) fn new_lines(alloc: Global, text: &str, before: &str) -> Result<String, AllocError> {
+    let mut new = String::new(alloc);
+    for line in text.lines() {
+        if !before.lines().any(|old| old == line) {
+            new.push_str(line)?;
+            new.push_str("\n")?;
+        }
+    }
+    Ok(new)
+}
