@@ -38,9 +38,9 @@ pub fn base_rows(live: &Sheet, map: &WorkspaceMap, at: usize) -> Result<Sheet, A
     ensures { IfOk result (λ sheet. sheet ≡ (workspace_at (wholes live.now map.now) at).base) }
 {
     let above = parent_of(live, map, at);
-    let mut sheet = whole_rows(live, map, above)?;
-    sheet.put_all(map.base(at).rows()?)?;
-    Ok(sheet)
+    let mut content = whole_rows(live, map, above)?;
+    content.put_all(map.base(at).rows()?)?;
+    Ok(content)
 }
 
 #[tactic(auto, unfolding(crate::specs::Holding::set_each))]

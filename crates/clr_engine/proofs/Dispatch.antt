@@ -17,10 +17,7 @@ use Rattle.clr_steps.specs.Positions.{at_savepoint, effect_at, merge_at, refusal
 use Rattle.clr_steps.specs.Refusals.{first_of, name_in}
 use Rattle.clr_engine.specs.Trees.{IsPerformedAt}
 use Rattle.clr_engine.proofs.Positions.{below}
-
-some_below : (at : ℕ) → (at ≡ 0 → ⊥) → 0 < at
-some_below zero other = absurd (other refl)
-some_below (suc k) other = omega arith
+use Rattle.clr_engine.proofs.Readings.{some_below}
 
 module _ (schema : List TableDef) (book : List Rule) (ws : List Workspace) (at : ℕ) (other : at ≡ 0 → ⊥) (reply : Reply) (left : List Workspace) (x : Command) (there : find ws (name_in x) ≡ Some at) where
   abbrev Performs : Command → Type 0

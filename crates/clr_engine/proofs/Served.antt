@@ -8,11 +8,12 @@ use Rattle.std.proofs.Math.Seq.{take-length}
 use Rattle.std.proofs.lemmas.List.{length-append, length-map, map-set, take-append-le, take_more}
 use Rattle.clr_rows.specs.Contents.{Content, no_rows, row_at}
 use Rattle.clr_rows.specs.declared.tables.TableDef.{TableDef}
+use Rattle.clr_rows.specs.Names.{live_name}
 use Rattle.clr_rules.specs.Needs.{Holds}
 use Rattle.clr_rules.specs.declared.rules.Rule.{Rule}
 use Rattle.clr_grid.specs.RowMaps.{Rows}
 use Rattle.clr_layers.specs.Marks.{Mark, Name, find_mark}
-use Rattle.clr_layers.specs.Workspaces.{Workspace, find, live_name, no_workspace, workspace_at}
+use Rattle.clr_layers.specs.Workspaces.{Workspace, find, no_workspace, workspace_at}
 use Rattle.clr_tree.specs.Operations.{after_create, after_mark, after_remove, after_unmark, at_position, save, set_kept, with_kept, with_marks}
 use Rattle.clr_tree.specs.Soundness.{IsSound}
 use Rattle.clr_steps.specs.Laws.{IsPerformed, without_memory, refused, done}

@@ -10,7 +10,7 @@ use Rattle.clr_layers.specs.Workspaces.{Workspace, no_workspace, workspace_at}
 use Rattle.clr_tree.specs.Soundness.{IsSound}
 use Rattle.clr_steps.specs.declared.commands.Reply.{Reply}
 use Rattle.clr_steps.specs.declared.commands.Reply.TheVariants.{RuleBroken}
-use Rattle.clr_steps.specs.Invariants.{unheld, unheld_from}
+use Rattle.clr_steps.specs.Invariants.{first_unheld, unheld_from}
 use Rattle.clr_steps.specs.Offices.{Office, office_of}
 use Rattle.clr_steps.specs.Refusals.{broken_where, first_broken}
 use Rattle.clr_engine.specs.Drafts.{unheld_in}
@@ -41,12 +41,12 @@ unheld_here book ws at need lt e =
     ∙ ap (λ k. option_or (option_map (λ need. (at, need)) need) (unheld_from book k rest)) (one at)
 
 -- LIVE is kept, so that an office says the same
-of_live : (schema : List TableDef) (book : List Rule) (ws : List Workspace) → IsSound ws → unheld book ws ≡ unheld_in (office_of schema book ws)
+of_live : (schema : List TableDef) (book : List Rule) (ws : List Workspace) → IsSound ws → first_unheld book ws ≡ unheld_in (office_of schema book ws)
 unfolding unheld_from
 of_live schema book [] sound = absurd (omega (arith, sound.rooted.filled))
 of_live schema book (live ∷ ws) sound = ap (λ (kept : Bool). option_or (option_map (λ need. (0, need)) (cond kept (first_broken book live.current) None)) (unheld_from book 1 ws)) sound.held
 
-pub unheld_is : (schema : List TableDef) (book : List Rule) (ws : List Workspace) (o : Office) → IsSound ws → office_of schema book ws ≡ o → unheld book ws ≡ unheld_in o
+pub unheld_is : (schema : List TableDef) (book : List Rule) (ws : List Workspace) (o : Office) → IsSound ws → office_of schema book ws ≡ o → first_unheld book ws ≡ unheld_in o
 unheld_is schema book ws o sound is = of_live schema book ws sound ∙ ap unheld_in is
 
 -- no workspace is left past the end

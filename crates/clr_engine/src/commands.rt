@@ -23,7 +23,7 @@ ghost use Rattle.clr_engine.specs.Trees.{IsPerformedAt, IsServed, name_of};
 
 use crate::finders::Finders;
 use crate::judges::Judge;
-use clr_change::{Edit, EditFault, are_same, first_conflict, stage};
+use clr_change::{ChangeSet, Edit, EditFault, are_same, first_conflict, stage};
 use clr_rows::{CellId, Row, Schema, good_name};
 use clr_steps::{Command, Keep, Reply};
 use clr_tree::{MOST_LEVELS, MOST_SAVEPOINTS, MOST_WORKSPACES, Rebase, Tree};
@@ -33,7 +33,7 @@ use std::alloc::AllocError;
 // position, whole or not at all.
 
 /// What a call is answered that can fail for want of memory alone.
-fn finished(done: Result<(), AllocError>) -> Reply
+fn end_command(done: Result<(), AllocError>) -> Reply
     ensures ok { OnOk done (result ≡ Done) }
     ensures err { OnErr done (result ≡ OutOfMemory) }
 {
@@ -177,7 +177,7 @@ fn mark(tree: &mut Tree, at: usize, savepoint: &str) -> Reply
     if tree.saved(at) >= MOST_SAVEPOINTS {
         return Reply::TooMany;
     }
-    finished(tree.mark(at, savepoint))
+    end_command(tree.mark(at, savepoint))
 }
 
 #[tactic(auto, unfolding(clr_steps::specs::Positions::refusals_at))]
@@ -266,7 +266,7 @@ fn refresh(judge: &Judge, tree: &mut Tree, finders: &mut Finders, at: usize) -> 
     }
     match judge.prepare_refresh(tree, finders, at, above, &changed) {
         Ok(None) => {
-            let done = tree.rebase(at, Rebase::Refresh);
+            let done = tree.refresh_changes(at, &changed);
             finish(finders, at, done)
         }
         Ok(Some(need)) => Reply::RuleBroken(need),
@@ -281,12 +281,14 @@ fn write_above(
     finders: &mut Finders,
     at: usize,
     above: usize,
+    changed: &ChangeSet,
     remove: bool,
 ) -> Reply
     requires child { 0 < at }
     requires within { at < length tree.old.list }
     requires parent { parent_of tree.old.list at ≡ Some above }
     requires earlier { above < at }
+    requires changed { changed.now ≡ own_changes (workspace_at tree.old.list at) }
     requires leaf { remove ≡ true → children_of tree.old.list (workspace_at tree.old.list at).name ≡ 0 }
     requires along { length finders.old ≡ length tree.old.list }
     ensures performed { IsPerformed None tree.old.list (merge_at tree.old.list remove at) result tree.new.list }
@@ -294,7 +296,7 @@ fn write_above(
         → IsPrepared book tree.old.list above (taken_over (workspace_at tree.old.list above).current (own_changes (workspace_at tree.old.list at))) finders.old
         → AreFinders book (kept_contents tree.new.list) finders.new }
 {
-    match tree.rebase(at, Rebase::Merge) {
+    match tree.merge_changes(at, changed) {
         Ok(()) => {
             finders.settle(above);
             if remove {
@@ -329,7 +331,7 @@ fn merge(judge: &Judge, tree: &mut Tree, finders: &mut Finders, at: usize, remov
         return Reply::Conflict(cell, count);
     }
     match judge.prepare(tree, finders, above, &changed) {
-        Ok(None) => write_above(tree, finders, at, above, remove),
+        Ok(None) => write_above(tree, finders, at, above, &changed, remove),
         Ok(Some(need)) => Reply::RuleBroken(need),
         Err(_) => Reply::OutOfMemory,
     }
@@ -349,7 +351,7 @@ fn is_in_conflict(tree: &Tree, at: usize, above: usize, cell: CellId) -> bool
 
 /// The row that a workspace has at a cell once it is resolved.
 #[tactic(auto, using(crate::proofs::Contents::set_same))]
-fn row_kept(tree: &Tree, at: usize, above: usize, cell: CellId, keep: Keep) -> Option<&Row>
+fn row_to_keep(tree: &Tree, at: usize, above: usize, cell: CellId, keep: Keep) -> Option<&Row>
     requires child { 0 < at }
     requires within { at < length tree.now.list }
     requires above { above < length tree.now.list }
@@ -388,7 +390,7 @@ fn resolve(
         finders,
         at,
         cell,
-        row_kept(tree, at, above, cell, keep),
+        row_to_keep(tree, at, above, cell, keep),
     ) {
         Ok(None) => {
             let done = tree.rebase(at, Rebase::OneRow(cell, keep));
@@ -408,7 +410,7 @@ fn hold(judge: &Judge, tree: &mut Tree, finders: &mut Finders, at: usize) -> Rep
         IsPerformedAt judge.now (command.Hold (name_of list at)) at list (set_kept list at true) result tree.new.list }
     ensures finders { AreFinders judge.now (kept_contents tree.new.list) finders.new }
 {
-    match judge.broken_now(tree, at, !tree.kept(at)) {
+    match judge.first_broken_if_kept(tree, at, !tree.kept(at)) {
         Ok(None) => match judge.serve(tree, finders, at) {
             Ok(()) => {
                 tree.hold(at);

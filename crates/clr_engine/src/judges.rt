@@ -7,7 +7,7 @@ ghost use Rattle.clr_layers.specs.Marks.{is_saved, mark_at, saved_content};
 ghost use Rattle.clr_layers.specs.Workspaces.{workspace_at};
 ghost use Rattle.clr_tree.specs.Operations.{own_changes, set_kept};
 ghost use Rattle.clr_tree.specs.Soundness.{IsSound};
-ghost use Rattle.clr_steps.specs.Invariants.{unheld};
+ghost use Rattle.clr_steps.specs.Invariants.{first_unheld};
 ghost use Rattle.clr_steps.specs.Refusals.{broken_where, first_broken};
 ghost use Rattle.clr_steps.specs.declared.commands.Reply.TheVariants.{RuleBroken};
 ghost use Rattle.clr_engine.specs.Finders.{AreFinders, IsFinderAt, IsFinderOf, IsPrepared, kept_content, kept_contents};
@@ -97,7 +97,7 @@ impl Judge {
 
     /// The least broken need of the content that a workspace has, where the rules are to hold in it
     /// from now on.
-    pub fn broken_now(
+    pub fn first_broken_if_kept(
         &self,
         tree: &Tree,
         at: usize,
@@ -288,11 +288,11 @@ impl Judge {
     /// having position 0, and its least broken need.
     pub fn first_unheld(&self, tree: &Tree) -> Result<Option<(usize, Broken)>, AllocError>
         requires fit { FitSome self.now tree.now.list }
-        ensures first { IfOk result (λ first. first ≡ unheld self.now tree.now.list) }
+        ensures first { IfOk result (λ first. first ≡ first_unheld self.now tree.now.list) }
         ensures sound { IsSound tree.now.list }
     {
         for at in 0..tree.len() {
-            if let Some(need) = self.broken_now(tree, at, tree.kept(at))? {
+            if let Some(need) = self.first_broken_if_kept(tree, at, tree.kept(at))? {
                 return Ok(Some((at, need)));
             }
         }

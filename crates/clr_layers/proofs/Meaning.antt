@@ -16,7 +16,7 @@ use Rattle.clr_layers.specs.Layers.{Layer, no_layer, layer_at, find_layer, whole
 
 -- lengths, names and parents -------------------------------------------------------------------
 
-length-grow : (ws : List Workspace) (ls : List Layer) → length (grow ws ls) ≡ length ls
+pub length-grow : (ws : List Workspace) (ls : List Layer) → length (grow ws ls) ≡ length ls
 unfolding grow
 length-grow ws [] = refl
 length-grow ws (l ∷ ls) = ap suc (length-grow (ws ++ whole_of (above_in ws l) l ∷ []) ls)

@@ -3,6 +3,7 @@ use Rattle.std.specs.Prelude.{ℕ, zero, suc, ◌+◌, Bool, true, false, ◌&&�
 use Rattle.std.specs.Coded.{Coded, code_by, coded×, coded_list, coded_bool}
 use Rattle.std.specs.Str.{bytes_eq}
 use Rattle.clr_rows.specs.Contents.{Content, coded_content, no_rows}
+use Rattle.clr_rows.specs.Names.{live_name}
 use Rattle.clr_layers.specs.Marks.{Name, Mark, coded_name, coded_mark}
 
 -- a workspace: what it took over from its parent, what it sees now, its marks in order, and whether every rule is to hold in it
@@ -24,10 +25,6 @@ coded_workspace =
 
 abbrev pub no_workspace : Workspace
 no_workspace = record { name = []; parent = []; base = no_rows; current = no_rows; marks = []; kept = false }
-
--- the name of the root of all workspaces
-abbrev pub live_name : Name
-live_name = codes "LIVE"
 
 -- LIVE with this content: it has no parent, no base and no marks, and every rule is to hold in it
 abbrev pub root : Content → Workspace

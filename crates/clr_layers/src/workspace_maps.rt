@@ -108,7 +108,7 @@ impl WorkspaceMap {
     }
 
     /// Whether every rule is to hold in the workspace at a position.
-    pub fn kept(&self, at: usize) -> bool
+    pub fn is_kept(&self, at: usize) -> bool
         requires { at < length self.now }
         ensures { result ≡ (layer_at self.now at).kept }
     {
@@ -295,7 +295,7 @@ impl WorkspaceMap {
     }
 
     /// How many entries the base and the current content of the workspace at a position have.
-    pub fn stored(&self, at: usize) -> usize
+    pub fn count_entries(&self, at: usize) -> usize
         requires { at < length self.now }
         ensures { result ≡ stored_in (layer_at self.now at) }
     {

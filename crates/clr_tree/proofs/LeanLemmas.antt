@@ -374,9 +374,6 @@ among_neither (cell ∷ first) others q apart =
     let rest = among_neither first others q both.1 in
     (ap (λ b. cond b true (is_among first q)) both.0 ∙ rest.0, rest.1)
 
-pub children_more : (name : Name) (part all : List CellId) (ls ms : List Layer) → ((q : CellId) → is_among all q ≡ false → is_among part q ≡ false) → StayOwnButChildren name part ls ms → StayOwnButChildren name all ls ms
-children_more name part all ls ms less stay k q apart = stay k q (λ u. less q (apart u))
-
 -- there is no entry but at the cells of the entries
 pub no_entry : (d : Differences) (q : CellId) → is_among (finite.keys d) q ≡ false → finite.get d q ≡ None
 no_entry d q apart = finite.get-entries d q ∙ by (finite.entries d) apart

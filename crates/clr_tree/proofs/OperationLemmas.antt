@@ -11,7 +11,7 @@ use Rattle.clr_rows.specs.declared.cells.CellId.{CellId}
 use Rattle.clr_rows.specs.declared.rows.Row.{Row}
 use Rattle.clr_rows.specs.Contents.{Content, Changes, row_at, set_cell, over, rows_after, taken_over}
 use Rattle.clr_rows.proofs.ChangeLemmas.{taken_over-own}
-use Rattle.clr_differences.specs.Differences.{Differences, Rows, no_differences, seen_over, put_each, cells_in, HasEntry}
+use Rattle.clr_differences.specs.Differences.{Differences, Rows, no_differences, seen_over, put_each, cells_in, HasEntry, HasEntries}
 use Rattle.clr_differences.proofs.DifferenceLemmas.{seen_over-none, seen_over-fresh, seen_over-insert, seen_over-put_each, seen_over-remove, seen_outside, over_outside, hidden, set_outside}
 use Rattle.clr_layers.specs.Marks.{Name, Mark, Saved, ChildMark, mark_at, is_child_mark, is_saved, is_saved_as, is_mark_of, saved_content, saved_count, mark_count, find_mark, is_held, without_saved, without_mark_of, mark_last}
 use Rattle.clr_layers.specs.Workspaces.{Workspace, workspace_at, parent_of}
@@ -277,6 +277,15 @@ module _ (live : Content) (ls : List Layer) (at : ℕ) (r : IsRooted (wholes liv
         becomes live ls at r some lt _ (λ w. record w { base = set_cell w.base k (row_at over_it k); current = set_cell w.current k v }) refl refl
         (whole_row_moved above l_at k v entry held ∙ ap (λ (m : Content). let w = whole_of above l_at in record w { base = set_cell w.base k (row_at m k); current = set_cell w.current k v }) (above_parent live ls at p parent up))
         (λ j j_some j_lt under q none. set_outside (layer_at ls j).base here.current k v (children j j_some j_lt under).0 q none)
+
+-- entries at the cells of two lists
+entries_both : (d : Differences) (first others : List CellId) → HasEntries d (first ++ others) → HasEntries d first × HasEntries d others
+entries_both d [] others held = (tt, held)
+entries_both d (cell ∷ first) others held = let rest = entries_both d first others held.1 in ((held.0, rest.0), rest.1)
+
+pub children_both : (ls : List Layer) (name : Name) (first others : List CellId) → ChildrenHold ls name (first ++ others) → ChildrenHold ls name first × ChildrenHold ls name others
+children_both ls name first others held =
+    (λ k some lt under. (entries_both (layer_at ls k).base first others (held k some lt under)).0, λ k some lt under. (entries_both (layer_at ls k).base first others (held k some lt under)).1)
 
 -- rows put into LIVE
 top_put : (live : Content) (l : Layer) (rows : Rows) → top (over live rows) l ≡ (let w = top live l in record w { current = over w.current rows })

@@ -1,10 +1,10 @@
 ghost use Rattle.std.specs.Prelude.{◌≡◌, ◌<◌, ◌++◌, [], ◌∷◌, string_bytes, false, None, Some, true, length, OnOk, OnErr, IfOk};
-ghost use Rattle.clr_rows.specs.Names.{is_good_name};
+ghost use Rattle.clr_rows.specs.Names.{is_good_name, live_name};
 ghost use Rattle.clr_differences.specs.Differences.{cells_in};
 ghost use Rattle.std.specs.FinMap as finite;
 ghost use Rattle.clr_layers.specs.Layers.{layer_at, find_layer, leaf, saved_differences, stored_at, wholes};
 ghost use Rattle.clr_layers.specs.Marks.{is_saved, is_held, mark_at};
-ghost use Rattle.clr_layers.specs.Workspaces.{workspace_at, find, parent_of as position_of_parent, children_of, live_name};
+ghost use Rattle.clr_layers.specs.Workspaces.{workspace_at, find, parent_of as position_of_parent, children_of};
 ghost use Rattle.clr_contents.specs.Holding.{Extends, ChildrenHold, StayOwnButChildren};
 ghost use Rattle.clr_tree.specs.Moves.{put_into, row_moved, mark_moved};
 ghost use Rattle.clr_tree.specs.Operations.{after_create, after_remove, after_mark, after_roll_to, after_roll_all};
@@ -14,16 +14,17 @@ ghost use Rattle.clr_contents.specs.Lean.{IsLean, IsLeanBut, StayOwnButNear};
 ghost use Rattle.clr_rows.specs.Contents.{rows_after};
 ghost use Rattle.clr_contents.specs.Roots.{IsRooted};
 ghost use Rattle.clr_tree.specs.declared.rebases.Keep.TheVariants.{Child};
+ghost use Rattle.clr_tree.specs.declared.rebases.Rebase.TheVariants.{Merge, Refresh};
 
 use crate::rebases::{Keep, Rebase};
-use clr_change::copy_row;
+use clr_change::{ChangeSet, copy_row};
 use clr_contents::{
     base_row_of, cells_of, changes_of, hold_children, hold_current, hold_own, hold_saved,
     parent_of, row_of, saved_at, sweep_at,
 };
 use clr_differences::Differences;
 use clr_layers::{Layer, StoredMark, WorkspaceMap};
-use clr_rows::{CellId, Row, Sheet, Words};
+use clr_rows::{CellId, LIVE, Row, Sheet, Words};
 use std::alloc::{AllocError, Global};
 
 // Each function here fails for want of memory alone, and changes no content, mark or flag then: all
@@ -90,7 +91,7 @@ pub fn mark(live: &Sheet, map: &mut WorkspaceMap, at: usize, name: &str) -> Resu
 }
 
 /// The cells of two lists.
-fn joined(alloc: Global, first: &[CellId], others: &[CellId]) -> Result<Vec<CellId>, AllocError>
+fn join_cells(alloc: Global, first: &[CellId], others: &[CellId]) -> Result<Vec<CellId>, AllocError>
     ensures { IfOk result (λ cells. cells.items ≡ first.now ++ others.now) }
 {
     let mut cells = Vec::new(alloc);
@@ -99,16 +100,15 @@ fn joined(alloc: Global, first: &[CellId], others: &[CellId]) -> Result<Vec<Cell
     Ok(cells)
 }
 
-/// Makes differences of a savepoint, at these new cells, those of the current content, at these old
-/// ones; later savepoints go. Neutral entries that it makes stay.
+/// Makes differences of a savepoint those of the current content, at the cells of both; later
+/// savepoints go. Neutral entries that it makes stay.
 fn roll_back(
     live: &Sheet,
     map: &mut WorkspaceMap,
     at: usize,
     mark: usize,
     differences: Differences,
-    new: &[CellId],
-    old: &[CellId],
+    cells: &[CellId],
 ) -> Result<(), AllocError>
     requires child { 0 < at }
     requires within { at < length map.old }
@@ -116,15 +116,13 @@ fn roll_back(
     requires saved { is_saved (mark_at (workspace_at (wholes live.now map.old) at).marks mark) ≡ true }
     requires free { is_held (workspace_at (wholes live.now map.old) at).marks mark ≡ false }
     requires differences { differences ≡ saved_differences (stored_at (layer_at map.old at).marks mark) }
-    requires new { new.now ≡ finite.keys differences }
-    requires old { old.now ≡ finite.keys (layer_at map.old at).current }
+    requires cells { cells.now ≡ finite.keys differences ++ finite.keys (layer_at map.old at).current }
     ensures ok { OnOk result (wholes live.now map.new ≡ after_roll_to (wholes live.now map.old) at mark) }
     ensures err { OnErr result (wholes live.now map.new ≡ wholes live.now map.old) }
     ensures long { length map.new ≡ length map.old }
-    ensures elsewhere { StayOwnButNear at (new.now ++ old.now) map.old map.new }
+    ensures elsewhere { StayOwnButNear at cells.now map.old map.new }
 {
-    hold_children(live, map, at, new)?;
-    hold_children(live, map, at, old)?;
+    hold_children(live, map, at, cells)?;
     map.roll_to(at, differences, mark);
     Ok(())
 }
@@ -148,16 +146,8 @@ pub fn roll_to(
     let differences = saved_at(map, at, mark)?;
     let new = differences.cells()?;
     let old = map.current(at).cells()?;
-    let cells = joined(map.allocator(), new.as_slice(), old.as_slice())?;
-    let done = roll_back(
-        live,
-        map,
-        at,
-        mark,
-        differences,
-        new.as_slice(),
-        old.as_slice(),
-    );
+    let cells = join_cells(map.allocator(), new.as_slice(), old.as_slice())?;
+    let done = roll_back(live, map, at, mark, differences, cells.as_slice());
     sweep_at(live, map, at, cells.as_slice());
     done
 }
@@ -202,54 +192,30 @@ fn merge_rows(
     Ok(())
 }
 
-/// Merges a workspace into its parent.
+/// Merges a workspace into its parent by its changes.
 fn merge(
     live: &mut Sheet,
     map: &mut WorkspaceMap,
     at: usize,
     above: usize,
+    changed: &ChangeSet,
 ) -> Result<(), AllocError>
     requires child { 0 < at }
     requires within { at < length map.old }
     requires rooted { IsRooted (wholes live.old map.old) }
     requires parent { position_of_parent (wholes live.old map.old) at ≡ Some above }
     requires earlier { above < at }
+    requires changed { changed.now ≡ own_changes (workspace_at (wholes live.old map.old) at) }
     ensures ok { OnOk result (wholes live.new map.new ≡ after_merge (wholes live.old map.old) at above) }
     ensures err { OnErr result (wholes live.new map.new ≡ wholes live.old map.old) }
     ensures lean { IsLean live.old map.old → IsLean live.new map.new }
 {
-    let changed = changes_of(live, map, at)?;
     let rows = changed.rows_after()?;
     let own = changed.rows_after()?;
     let cells = cells_of(map.allocator(), own.as_slice())?;
     let done = merge_rows(live, map, at, above, rows, own);
     sweep_at(live, map, above, cells.as_slice());
     done
-}
-
-/// Makes the entries that the children of a workspace need before both its base and its current
-/// content have other differences from what they lie over.
-fn hold_moves(
-    live: &Sheet,
-    map: &mut WorkspaceMap,
-    at: usize,
-    new: &[CellId],
-    base: &[CellId],
-    old: &[CellId],
-) -> Result<(), AllocError>
-    requires within { at < length map.old }
-    requires rooted { IsRooted (wholes live.now map.old) }
-    ensures seen { wholes live.now map.new ≡ wholes live.now map.old }
-    ensures extends { Extends map.old map.new }
-    ensures elsewhere { StayOwnButChildren (layer_at map.old at).name (new.now ++ (base.now ++ old.now)) map.old map.new }
-    ensures new { OnOk result (ChildrenHold map.new (layer_at map.old at).name new.now) }
-    ensures base { OnOk result (ChildrenHold map.new (layer_at map.old at).name base.now) }
-    ensures old { OnOk result (ChildrenHold map.new (layer_at map.old at).name old.now) }
-{
-    hold_children(live, map, at, new)?;
-    hold_children(live, map, at, base)?;
-    hold_children(live, map, at, old)?;
-    Ok(())
 }
 
 /// Moves the mark of a child to the end of the marks of its parent, where that isn't LIVE.
@@ -265,17 +231,15 @@ fn move_mark(map: &mut WorkspaceMap, above: usize, child: Words) -> Result<(), A
     Ok(())
 }
 
-/// Refreshes a workspace from its parent, by the rows that it changed at these new cells, from
-/// entries of its base and of its current content at these. Neutral entries that it makes stay.
+/// Refreshes a workspace from its parent, by the rows that it changed, at the cells of these and of
+/// the entries of its base and its current content. Neutral entries that it makes stay.
 fn refresh_base(
     live: &Sheet,
     map: &mut WorkspaceMap,
     at: usize,
     above: usize,
     rows: Vec<(CellId, Option<Row>)>,
-    new: &[CellId],
-    base: &[CellId],
-    old: &[CellId],
+    cells: &[CellId],
 ) -> Result<(), AllocError>
     requires child { 0 < at }
     requires within { at < length map.old }
@@ -283,51 +247,47 @@ fn refresh_base(
     requires parent { position_of_parent (wholes live.now map.old) at ≡ Some above }
     requires earlier { above < at }
     requires rows { rows.items ≡ rows_after (own_changes (workspace_at (wholes live.now map.old) at)) }
-    requires new { new.now ≡ cells_in rows.items }
-    requires base { base.now ≡ finite.keys (layer_at map.old at).base }
-    requires old { old.now ≡ finite.keys (layer_at map.old at).current }
+    requires cells { let l = layer_at map.old at in cells.now ≡ cells_in rows.items ++ (finite.keys l.base ++ finite.keys l.current) }
     ensures ok { OnOk result (wholes live.now map.new ≡ after_refresh (wholes live.now map.old) at above) }
     ensures err { OnErr result (wholes live.now map.new ≡ wholes live.now map.old) }
     ensures long { length map.new ≡ length map.old }
-    ensures elsewhere { StayOwnButNear at (new.now ++ (base.now ++ old.now)) map.old map.new }
+    ensures elsewhere { StayOwnButNear at cells.now map.old map.new }
 {
     let alloc = map.allocator();
     let name = Words::new(String::from_str(alloc, map.name_at(at))?);
-    hold_moves(live, map, at, new, base, old)?;
+    hold_children(live, map, at, cells)?;
     let differences = Differences::of_rows(alloc, rows)?;
     move_mark(map, above, name)?;
     map.restart(at, differences);
     Ok(())
 }
 
-/// Refreshes a workspace from its parent.
-fn refresh(live: &Sheet, map: &mut WorkspaceMap, at: usize, above: usize) -> Result<(), AllocError>
+/// Refreshes a workspace from its parent by its changes.
+fn refresh(
+    live: &Sheet,
+    map: &mut WorkspaceMap,
+    at: usize,
+    above: usize,
+    changed: &ChangeSet,
+) -> Result<(), AllocError>
     requires child { 0 < at }
     requires within { at < length map.old }
     requires rooted { IsRooted (wholes live.now map.old) }
     requires parent { position_of_parent (wholes live.now map.old) at ≡ Some above }
     requires earlier { above < at }
+    requires changed { changed.now ≡ own_changes (workspace_at (wholes live.now map.old) at) }
     ensures ok { OnOk result (wholes live.now map.new ≡ after_refresh (wholes live.now map.old) at above) }
     ensures err { OnErr result (wholes live.now map.new ≡ wholes live.now map.old) }
     ensures lean { IsLean live.now map.old → IsLean live.now map.new }
 {
     let alloc = map.allocator();
-    let rows = changes_of(live, map, at)?.rows_after()?;
+    let rows = changed.rows_after()?;
     let new = cells_of(alloc, rows.as_slice())?;
     let base = map.base(at).cells()?;
     let old = map.current(at).cells()?;
-    let held = joined(alloc, base.as_slice(), old.as_slice())?;
-    let cells = joined(alloc, new.as_slice(), held.as_slice())?;
-    let done = refresh_base(
-        live,
-        map,
-        at,
-        above,
-        rows,
-        new.as_slice(),
-        base.as_slice(),
-        old.as_slice(),
-    );
+    let held = join_cells(alloc, base.as_slice(), old.as_slice())?;
+    let cells = join_cells(alloc, new.as_slice(), held.as_slice())?;
+    let done = refresh_base(live, map, at, above, rows, cells.as_slice());
     sweep_at(live, map, at, cells.as_slice());
     done
 }
@@ -463,6 +423,44 @@ fn resolve(
     done
 }
 
+/// Merges a workspace into its parent by its changes.
+pub fn merge_changes(
+    live: &mut Sheet,
+    map: &mut WorkspaceMap,
+    at: usize,
+    changed: &ChangeSet,
+) -> Result<(), AllocError>
+    requires child { 0 < at }
+    requires within { at < length map.old }
+    requires rooted { IsRooted (wholes live.old map.old) }
+    requires changed { changed.now ≡ own_changes (workspace_at (wholes live.old map.old) at) }
+    ensures ok { OnOk result (wholes live.new map.new ≡ after_rebase (wholes live.old map.old) at Merge) }
+    ensures err { OnErr result (wholes live.new map.new ≡ wholes live.old map.old) }
+    ensures lean { IsLean live.old map.old → IsLean live.new map.new }
+{
+    let above = parent_of(live, map, at);
+    merge(live, map, at, above, changed)
+}
+
+/// Refreshes a workspace from its parent by its changes.
+pub fn refresh_changes(
+    live: &Sheet,
+    map: &mut WorkspaceMap,
+    at: usize,
+    changed: &ChangeSet,
+) -> Result<(), AllocError>
+    requires child { 0 < at }
+    requires within { at < length map.old }
+    requires rooted { IsRooted (wholes live.now map.old) }
+    requires changed { changed.now ≡ own_changes (workspace_at (wholes live.now map.old) at) }
+    ensures ok { OnOk result (wholes live.now map.new ≡ after_rebase (wholes live.now map.old) at Refresh) }
+    ensures err { OnErr result (wholes live.now map.new ≡ wholes live.now map.old) }
+    ensures lean { IsLean live.now map.old → IsLean live.now map.new }
+{
+    let above = parent_of(live, map, at);
+    refresh(live, map, at, above, changed)
+}
+
 /// Moves the base of a workspace.
 pub fn rebase(
     live: &mut Sheet,
@@ -477,11 +475,19 @@ pub fn rebase(
     ensures err { OnErr result (wholes live.new map.new ≡ wholes live.old map.old) }
     ensures lean { IsLean live.old map.old → IsLean live.new map.new }
 {
-    let above = parent_of(live, map, at);
     match rebase {
-        Rebase::Refresh => refresh(live, map, at, above),
-        Rebase::Merge => merge(live, map, at, above),
-        Rebase::OneRow(cell, keep) => resolve(live, map, at, above, cell, keep),
+        Rebase::Refresh => {
+            let changed = changes_of(live, map, at)?;
+            refresh_changes(live, map, at, &changed)
+        }
+        Rebase::Merge => {
+            let changed = changes_of(live, map, at)?;
+            merge_changes(live, map, at, &changed)
+        }
+        Rebase::OneRow(cell, keep) => {
+            let above = parent_of(live, map, at);
+            resolve(live, map, at, above, cell, keep)
+        }
     }
 }
 
@@ -506,7 +512,7 @@ pub fn live_alone(alloc: Global) -> Result<WorkspaceMap, AllocError>
     ensures { IfOk result (λ map. map ≡ leaf live_name [] ∷ []) }
 {
     let mut map = WorkspaceMap::new(alloc);
-    let name = String::from_str(alloc, "LIVE")?;
+    let name = String::from_str(alloc, LIVE)?;
     let no_name = Words::new(String::new(alloc));
     push_leaf(&mut map, name, no_name)?;
     Ok(map)

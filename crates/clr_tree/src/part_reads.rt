@@ -66,6 +66,6 @@ pub fn part_at(live: &Sheet, map: &WorkspaceMap, at: usize) -> Result<Part, Allo
         base,
         current,
         marks,
-        kept: map.kept(at),
+        kept: map.is_kept(at),
     })
 }

@@ -2,18 +2,23 @@ ghost use Rattle.std.specs.Prelude.{ℕ, ◌≡◌, ◌<◌, ◌↔◌, [], ◌�
 ghost use Rattle.std.specs.Option.{option_copied};
 ghost use Rattle.clr_rows.specs.Contents.{row_at, changes};
 ghost use Rattle.clr_rows.specs.Names.{is_good_name};
+ghost use Rattle.clr_layers.specs.Layers.{wholes};
 ghost use Rattle.clr_layers.specs.Marks.{find_mark, is_held, is_saved, mark_at, saved_content, saved_count};
 ghost use Rattle.clr_layers.specs.Workspaces.{workspace_at, find, parent_of as position_of_parent, children_of, depth_of, root};
 ghost use Rattle.clr_tree.specs.Operations.{after_create, after_remove, after_write, after_mark, after_unmark};
-ghost use Rattle.clr_tree.specs.Operations.{after_roll_to, after_roll_all, after_rebase, set_kept};
+ghost use Rattle.clr_tree.specs.Operations.{after_roll_to, after_roll_all, after_rebase, own_changes, set_kept};
 ghost use Rattle.clr_tree.specs.Parts.{workspace_of, list_of, spaces_of, first_fault, workspaces_fault, IsRefused};
 ghost use Rattle.clr_tree.specs.Soundness.{IsSound};
-ghost use Rattle.clr_tree.specs.Trees.{stored_at, saved_at, needed, needed_of_marks};
+ghost use Rattle.clr_tree.specs.declared.rebases.Rebase.TheVariants as rebase;
+ghost use Rattle.clr_tree.specs.Trees.{tree_of, stored_at, saved_at, needed, needed_of_marks};
 
 use crate::builds::push_parts;
 use crate::layered_builds::push_layers;
 use crate::limits::{MOST_LEVELS, MOST_SAVEPOINTS, MOST_WORKSPACES};
-use crate::operations::{create, live_alone, mark, rebase, remove, roll_all, roll_to, write_rows};
+use crate::operations::{
+    create, live_alone, mark, merge_changes, rebase, refresh_changes, remove, roll_all, roll_to,
+    write_rows,
+};
 use crate::part_checks::judge_marks;
 use crate::part_reads::part_at;
 use crate::parts::{Part, PartFault};
@@ -56,16 +61,24 @@ impl Model for Tree {
 }
 
 impl Tree {
+    /// A tree of LIVE with this content and of what is stored of all workspaces, never swept.
+    fn of_map(live: Sheet, map: WorkspaceMap) -> Tree
+        requires { IsSound (wholes live map) }
+        ensures { result ≡ tree_of live map }
+    {
+        Tree {
+            live,
+            map,
+            swept: false,
+        }
+    }
+
     /// A tree of LIVE alone, with this content. It fails for want of memory alone.
     pub fn new(alloc: Global, live: Sheet) -> Result<Tree, AllocError>
         ensures { IfOk result (λ tree. tree.list ≡ root live ∷ []) }
     {
         let map = live_alone(alloc)?;
-        Ok(Tree {
-            live,
-            map,
-            swept: false,
-        })
+        Ok(Tree::of_map(live, map))
     }
 
     /// A tree of LIVE with this content and of these parts, or the position of the first part with a
@@ -78,11 +91,7 @@ impl Tree {
     {
         let map = push_parts(alloc, &live, parts.as_slice())?;
         judge_marks(&live, &map)?;
-        Ok(Tree {
-            live,
-            map,
-            swept: false,
-        })
+        Ok(Tree::of_map(live, map))
     }
 
     /// A tree of LIVE with this content and of these parts by their differences, each base over the
@@ -101,11 +110,7 @@ impl Tree {
     {
         let map = push_layers(alloc, &live, parts)?;
         judge_marks(&live, &map)?;
-        Ok(Tree {
-            live,
-            map,
-            swept: false,
-        })
+        Ok(Tree::of_map(live, map))
     }
 
     /// LIVE's current content.
@@ -172,7 +177,7 @@ impl Tree {
         requires { at < length self.now.list }
         ensures { result ≡ (workspace_at self.now.list at).kept }
     {
-        at == 0 || self.map.kept(at)
+        at == 0 || self.map.is_kept(at)
     }
 
     /// How many savepoints the workspace at a position has, which isn't LIVE.
@@ -229,7 +234,7 @@ impl Tree {
         requires within { at < length self.now.list }
         ensures { result ≡ stored_at self.now.stored at }
     {
-        self.map.stored(at)
+        self.map.count_entries(at)
     }
 
     /// The current content of the workspace at a position, seen by cell.
@@ -371,6 +376,30 @@ impl Tree {
         ensures { self.new.list ≡ after_roll_all self.old.list at }
     {
         roll_all(&self.live, &mut self.map, at);
+    }
+
+    /// Merges the workspace at a position, which isn't LIVE, into its parent, by its changes, as
+    /// `changes` gives them. It fails for want of memory alone, and changes nothing then.
+    pub fn merge_changes(&mut self, at: usize, changed: &ChangeSet) -> Result<(), AllocError>
+        requires child { 0 < at }
+        requires within { at < length self.old.list }
+        requires changed { changed.now ≡ own_changes (workspace_at self.old.list at) }
+        ensures ok { OnOk result (self.new.list ≡ after_rebase self.old.list at rebase.Merge) }
+        ensures err { OnErr result (self.new.list ≡ self.old.list) }
+    {
+        merge_changes(&mut self.live, &mut self.map, at, changed)
+    }
+
+    /// Refreshes the workspace at a position, which isn't LIVE, from its parent, by its changes, as
+    /// `changes` gives them. It fails for want of memory alone, and changes nothing then.
+    pub fn refresh_changes(&mut self, at: usize, changed: &ChangeSet) -> Result<(), AllocError>
+        requires child { 0 < at }
+        requires within { at < length self.old.list }
+        requires changed { changed.now ≡ own_changes (workspace_at self.old.list at) }
+        ensures ok { OnOk result (self.new.list ≡ after_rebase self.old.list at rebase.Refresh) }
+        ensures err { OnErr result (self.new.list ≡ self.old.list) }
+    {
+        refresh_changes(&self.live, &mut self.map, at, changed)
     }
 
     /// Moves the base of the workspace at a position, which isn't LIVE. It fails for want of

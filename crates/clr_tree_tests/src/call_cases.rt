@@ -53,7 +53,16 @@ A refresh
 --
 A under LIVE base 1=1 2=1 3=9 7=4 now 1=2 3=9 6=8 7=4 child B
 ==
+A refresh_changes
+--
+A under LIVE base 1=1 2=1 3=9 7=4 now 1=2 3=9 6=8 7=4 child B
+==
 B refresh
+--
+A under LIVE base 1=1 2=1 3=1 now 1=2 3=1 6=8 saved s 1=1 2=1 3=1 saved t 1=2 3=1 child B
+B under A base 1=2 3=1 6=8 now 1=5 2=7 3=1 4=3 6=8 child C
+==
+B refresh_changes
 --
 A under LIVE base 1=1 2=1 3=1 now 1=2 3=1 6=8 saved s 1=1 2=1 3=1 saved t 1=2 3=1 child B
 B under A base 1=2 3=1 6=8 now 1=5 2=7 3=1 4=3 6=8 child C
@@ -63,7 +72,17 @@ A merge
 LIVE now 1=2 3=9 6=8 7=4
 A under LIVE base 1=2 3=1 6=8 now 1=2 3=1 6=8 child B
 ==
+A merge_changes
+--
+LIVE now 1=2 3=9 6=8 7=4
+A under LIVE base 1=2 3=1 6=8 now 1=2 3=1 6=8 child B
+==
 B merge
+--
+A under LIVE base 1=1 2=1 3=1 now 1=5 2=7 3=1 4=3 6=8 saved s 1=1 2=1 3=1 child B saved t 1=2 3=1
+B under A base 1=5 2=7 3=1 4=3 now 1=5 2=7 3=1 4=3 child C
+==
+B merge_changes
 --
 A under LIVE base 1=1 2=1 3=1 now 1=5 2=7 3=1 4=3 6=8 saved s 1=1 2=1 3=1 child B saved t 1=2 3=1
 B under A base 1=5 2=7 3=1 4=3 now 1=5 2=7 3=1 4=3 child C
@@ -116,7 +135,7 @@ E under D base 1=1 2=1 3=9 7=3 now 1=1 2=1 3=9 7=3
 LIVE layers
 --
 LIVE now 1=1 2=1 3=9 7=4
-A under LIVE base 1=1 2=5 3=9 7=4 now 1=1 3=9 7=4 child B kept
-B under A base 1=1 2=5 3=9 7=4 now 1=1 3=9 7=4 saved s 1=1 2=5 3=6 7=4 kept
+A under LIVE base 1=1 2=5 3=9 7=4 now 1=1 2=5 3=2 7=4 saved s 1=1 2=5 3=7 7=4 child B kept
+B under A base 1=1 2=5 3=2 7=4 now 1=3 3=2 7=4 kept
 ==
 ";

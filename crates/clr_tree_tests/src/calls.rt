@@ -1,12 +1,10 @@
 ghost use Rattle.std.specs.Prelude.{◌<◌, length};
 
 use crate::deeds::find_savepoint;
-use crate::fixtures::{cell, row_of, words};
+use crate::layered::layered_parts;
 use crate::scripts::{act_line, parts_of};
 use crate::texts::{changes_text, part_text, rows_text, tree_text};
 use clr_change::ChangeSet;
-use clr_differences::Differences;
-use clr_layers::{Layer, StoredMark, StoredPart};
 use clr_rows::Sheet;
 use clr_tree::{Part, PartFault, Tree};
 use std::alloc::{AllocError, Global};
@@ -51,40 +49,6 @@ fn build(alloc: Global, tree: &Tree) -> Result<Answer, AllocError> {
     answer_of_tree(Tree::build(alloc, tree.live().copy()?, parts))
 }
 
-/// What is stored of a workspace with a row in its base and none in its current content.
-fn layer(alloc: Global, parent: &str, mark: StoredMark) -> Result<Layer, AllocError> {
-    let mut base = Differences::new(alloc);
-    base.put(cell(2), Some(row_of(alloc, 5)?))?;
-    let mut current = Differences::new(alloc);
-    current.put(cell(2), None)?;
-    let mut marks = Vec::new(alloc);
-    marks.push(mark)?;
-    Ok(Layer {
-        parent: words(alloc, parent)?,
-        base,
-        current,
-        marks,
-        kept: true,
-    })
-}
-
-fn layers(alloc: Global) -> Result<Vec<StoredPart>, AllocError> {
-    let mut saved = Differences::new(alloc);
-    saved.put(cell(3), Some(row_of(alloc, 6)?))?;
-    let child = StoredMark::Child(words(alloc, "B")?);
-    let savepoint = StoredMark::Saved(words(alloc, "s")?, saved);
-    let mut parts = Vec::new(alloc);
-    parts.push(StoredPart {
-        name: words(alloc, "A")?,
-        layer: layer(alloc, "LIVE", child)?,
-    })?;
-    parts.push(StoredPart {
-        name: words(alloc, "B")?,
-        layer: layer(alloc, "A", savepoint)?,
-    })?;
-    Ok(parts)
-}
-
 /// What a word reads of a workspace.
 fn read(tree: &Tree, at: usize, word: &str, rest: &str) -> Result<Answer, AllocError>
     requires child { 0 < at }
@@ -108,7 +72,11 @@ fn make(alloc: Global, tree: &Tree, word: &str) -> Result<Answer, AllocError> {
     match word {
         "new" => Ok(Answer::Tree(Tree::new(alloc, tree.live().copy()?)?)),
         "build" => build(alloc, tree),
-        "layers" => answer_of_tree(Tree::of_layers(alloc, tree.live().copy()?, layers(alloc)?)),
+        "layers" => answer_of_tree(Tree::of_layers(
+            alloc,
+            tree.live().copy()?,
+            layered_parts(alloc)?,
+        )),
         _ => Ok(Answer::Nothing),
     }
 }

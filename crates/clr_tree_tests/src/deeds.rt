@@ -24,6 +24,10 @@ pub(crate) enum Deed {
     RollAll,
     Refresh,
     Merge,
+    /// A refresh by the changes, counted before.
+    RefreshChanges,
+    /// A merge by the changes, counted before.
+    MergeChanges,
     /// Settles the row at a key.
     Resolve(i64, Keep),
     Hold,
@@ -113,6 +117,22 @@ fn act_on_leaf(tree: &mut Tree, at: usize, deed: Deed)
     }
 }
 
+fn refresh_changes(tree: &mut Tree, at: usize) -> Result<(), AllocError>
+    requires child { 0 < at }
+    requires within { at < length tree.old.list }
+{
+    let changed = tree.changes(at)?;
+    tree.refresh_changes(at, &changed)
+}
+
+fn merge_changes(tree: &mut Tree, at: usize) -> Result<(), AllocError>
+    requires child { 0 < at }
+    requires within { at < length tree.old.list }
+{
+    let changed = tree.changes(at)?;
+    tree.merge_changes(at, &changed)
+}
+
 fn act_on_child(tree: &mut Tree, at: usize, deed: Deed) -> Result<(), AllocError>
     requires child { 0 < at }
     requires within { at < length tree.old.list }
@@ -123,6 +143,8 @@ fn act_on_child(tree: &mut Tree, at: usize, deed: Deed) -> Result<(), AllocError
         Deed::RollTo(savepoint) => roll_to(tree, at, savepoint)?,
         Deed::Refresh => tree.rebase(at, Rebase::Refresh)?,
         Deed::Merge => tree.rebase(at, Rebase::Merge)?,
+        Deed::RefreshChanges => refresh_changes(tree, at)?,
+        Deed::MergeChanges => merge_changes(tree, at)?,
         Deed::Resolve(key, keep) => tree.rebase(at, Rebase::OneRow(cell(key), keep))?,
         Deed::Hold => tree.hold(at),
         Deed::Release => tree.release(at),

@@ -15,6 +15,8 @@ mod dice;
 #[cfg(test)]
 mod fixtures;
 #[cfg(test)]
+mod layered;
+#[cfg(test)]
 mod operations;
 #[cfg(test)]
 mod parts;

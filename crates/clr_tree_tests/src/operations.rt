@@ -3,7 +3,7 @@ use crate::cases::{
     THREE_LEVELS, THREE_LEVELS_TEXT, WRITES,
 };
 use crate::scripts::{act_lines, split_case, tree_after};
-use crate::texts::{counts_text, new_lines, tree_text};
+use crate::texts::{counts_text, news_text};
 use std::alloc::{AllocError, Global};
 use std::process::Abort;
 use std::test::Fail;
@@ -11,16 +11,18 @@ use std::test::Fail;
 /// More cases than a text has.
 const MOST_CASES: usize = 20;
 
-/// What isn't as before in three levels after deeds and a sweep, and how many entries are stored
-/// then.
-fn text_after(alloc: Global, deeds: &'static str) -> Result<String, AllocError> {
+/// What is new in three levels after deeds and a sweep.
+fn news_after(alloc: Global, deeds: &'static str) -> Result<String, AllocError> {
     let mut tree = tree_after(alloc, THREE_LEVELS)?;
     act_lines(alloc, &mut tree, deeds)?;
     tree.sweep();
-    let all = tree_text(alloc, &tree)?;
-    let mut text = new_lines(alloc, all.as_str(), THREE_LEVELS_TEXT)?;
-    text.push_str(counts_text(alloc, &tree)?.as_str())?;
-    Ok(text)
+    news_text(alloc, &tree, THREE_LEVELS_TEXT)
+}
+
+fn check_case(rt: &impl Abort, alloc: Global, deeds: &'static str, text: &str) -> Result<(), Fail> {
+    let left = news_after(alloc, deeds)?;
+    assert_eq!(rt; left.as_str(), text, "after {deeds}");
+    Ok(())
 }
 
 /// Runs all cases of a text.
@@ -30,8 +32,7 @@ fn check_cases(rt: &impl Abort, alloc: Global, cases: &'static str) -> Result<()
         let Some((deeds, text, others)) = split_case(rest) else {
             break;
         };
-        let left = text_after(alloc, deeds)?;
-        assert_eq!(rt; left.as_str(), text, "after {deeds}");
+        check_case(rt, alloc, deeds, text)?;
         rest = others;
     }
     assert_eq!(rt; rest, "");
@@ -89,20 +90,28 @@ fn keeps_rows_of_the_old_base(rt: HostRuntime) -> Result<(), Fail> {
 }
 
 /// How many entries are stored of the workspaces under LIVE after deeds and a sweep.
-fn stored_after(alloc: Global, deeds: &'static str) -> Result<String, AllocError> {
+fn counts_after(alloc: Global, deeds: &'static str) -> Result<String, AllocError> {
     let mut tree = tree_after(alloc, deeds)?;
     tree.sweep();
     counts_text(alloc, &tree)
 }
 
+fn check_counts(
+    rt: &impl Abort,
+    alloc: Global,
+    deeds: &'static str,
+    counts: &str,
+) -> Result<(), Fail> {
+    let stored = counts_after(alloc, deeds)?;
+    assert_eq!(rt; stored.as_str(), counts, "after {deeds}");
+    Ok(())
+}
+
 #[test]
 fn counts_entries(rt: HostRuntime) -> Result<(), Fail> {
     let alloc = rt.alloc();
-    let inserted = stored_after(alloc, "W1 create LIVE\nW1 put 10 7")?;
-    assert_eq!(rt; inserted.as_str(), "stored 1");
-    let behind = stored_after(alloc, "W1 create LIVE\nLIVE put 20 4")?;
-    assert_eq!(rt; behind.as_str(), "stored 1");
-    let refreshed = stored_after(alloc, "W1 create LIVE\nLIVE put 20 4\nW1 refresh")?;
-    assert_eq!(rt; refreshed.as_str(), "stored 0");
-    Ok(())
+    check_counts(&rt, alloc, "W1 create LIVE\nW1 put 10 7", "stored 1")?;
+    check_counts(&rt, alloc, "W1 create LIVE\nLIVE put 20 4", "stored 1")?;
+    let refreshed = "W1 create LIVE\nLIVE put 20 4\nW1 refresh";
+    check_counts(&rt, alloc, refreshed, "stored 0")
 }

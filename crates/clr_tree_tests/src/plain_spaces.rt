@@ -176,7 +176,7 @@ impl Space {
             Deed::Unmark(name) => self.drop_savepoint(name),
             Deed::RollTo(name) => self.roll_to(name),
             Deed::RollAll => self.roll_all(),
-            Deed::Refresh => self.refresh(above),
+            Deed::Refresh | Deed::RefreshChanges => self.refresh(above),
             Deed::Resolve(key, keep) => self.resolve(place_of(key), keep, above),
             Deed::Hold => self.kept = true,
             Deed::Release => self.kept = false,

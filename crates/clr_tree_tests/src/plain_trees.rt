@@ -158,8 +158,8 @@ impl PlainTree {
         };
         match deed {
             Deed::Remove => self.remove(above, name),
-            Deed::Merge => self.merge(above, at),
-            Deed::Refresh => {
+            Deed::Merge | Deed::MergeChanges => self.merge(above, at),
+            Deed::Refresh | Deed::RefreshChanges => {
                 self.drop_mark(above, name);
                 self.push_mark(above, name)?;
                 self.act_over(above, at, deed)?;
@@ -179,7 +179,7 @@ impl PlainTree {
     }
 
     /// At how many keys the base isn't as the parent, and the current content isn't as the base.
-    fn needed(&self, at: usize) -> usize {
+    fn count_needed(&self, at: usize) -> usize {
         let Some(above) = self.find_parent(at) else {
             return 0;
         };
@@ -208,7 +208,7 @@ impl PlainTree {
     pub(crate) fn counts_text(&self) -> Result<String, AllocError> {
         let mut text = String::from_str(self.alloc, "stored")?;
         for at in 1..self.spaces.len() {
-            text.push_str(format!(in self.alloc; " {}", self.needed(at))?.as_str())?;
+            text.push_str(format!(in self.alloc; " {}", self.count_needed(at))?.as_str())?;
         }
         Ok(text)
     }

@@ -1,7 +1,8 @@
 use crate::deeds::{Deed, act};
 use crate::dice::Dice;
+use crate::layered::{SAME_DEEDS, layered_tree};
 use crate::plain_trees::PlainTree;
-use crate::scripts::tree_after;
+use crate::scripts::deed_in;
 use crate::texts::{counts_text, tree_text};
 use clr_tree::{Keep, Tree};
 use std::alloc::{AllocError, Global};
@@ -48,18 +49,33 @@ fn deed(dice: &mut Dice) -> (&'static str, Deed) {
     (name, deed)
 }
 
-/// A tree, and one of whole copies beside it.
+/// The tree of whole copies after lines.
+fn plain_tree_after(alloc: Global, lines: &'static str) -> Result<PlainTree, AllocError> {
+    let mut plain = PlainTree::new(alloc, [0, 1, 1, 1, 0, 0, 0, 0])?;
+    for line in lines.lines() {
+        if let Some((name, deed)) = deed_in(line) {
+            plain.act(name, deed)?;
+        }
+    }
+    Ok(plain)
+}
+
+/// A tree, one of whole copies beside it, and what both were when they were last looked at.
 #[derive(Drop)]
 struct Pair {
     tree: Tree,
     plain: PlainTree,
+    last: String,
 }
 
 impl Pair {
+    /// Trees of parts with neutral entries.
     fn new(alloc: Global) -> Result<Pair, AllocError> {
+        let tree = layered_tree(alloc)?;
         Ok(Pair {
-            tree: tree_after(alloc, "")?,
-            plain: PlainTree::new(alloc, [0, 1, 1, 1, 0, 0, 0, 0])?,
+            last: tree_text(alloc, &tree)?,
+            tree,
+            plain: plain_tree_after(alloc, SAME_DEEDS)?,
         })
     }
 
@@ -71,40 +87,58 @@ impl Pair {
         Ok(())
     }
 
+    /// As many entries are stored as are needed.
+    fn check_counts(&self, rt: &impl Abort, alloc: Global) -> Result<(), Fail> {
+        let counts = counts_text(alloc, &self.tree)?;
+        let needed = self.plain.counts_text()?;
+        assert_eq!(rt; counts.as_str(), needed.as_str());
+        Ok(())
+    }
+
     /// What both are, which is to be the same.
     fn text(&self, rt: &impl Abort, alloc: Global) -> Result<String, Fail> {
         let text = tree_text(alloc, &self.tree)?;
-        assert_eq!(rt; text.as_str(), self.plain.text()?.as_str());
-        let counts = counts_text(alloc, &self.tree)?;
-        assert_eq!(rt; counts.as_str(), self.plain.counts_text()?.as_str());
+        let plain = self.plain.text()?;
+        assert_eq!(rt; text.as_str(), plain.as_str());
         Ok(text)
+    }
+
+    /// Does something to both, and says whether it changed anything.
+    fn step(&mut self, rt: &impl Abort, alloc: Global, dice: &mut Dice) -> Result<bool, Fail> {
+        let (name, deed) = deed(dice);
+        self.act(alloc, name, deed)?;
+        self.check_counts(rt, alloc)?;
+        let text = self.text(rt, alloc)?;
+        let changes = text.as_str() != self.last.as_str();
+        self.last = text;
+        Ok(changes)
     }
 }
 
 /// How many deeds change a tree, which whole copies follow.
-fn count_changes(rt: &impl Abort, alloc: Global, seed: u64) -> Result<usize, Fail> {
+fn count_changes(
+    rt: &impl Abort,
+    alloc: Global,
+    pair: &mut Pair,
+    seed: u64,
+) -> Result<usize, Fail> {
     let mut dice = Dice::new(seed);
-    let mut pair = Pair::new(alloc)?;
-    let mut last = pair.text(rt, alloc)?;
     let mut changes = 0;
     for _ in 0..MOST_THROWS {
         if changes == DEEDS {
             break;
         }
-        let (name, deed) = deed(&mut dice);
-        pair.act(alloc, name, deed)?;
-        let text = pair.text(rt, alloc)?;
-        if text.as_str() != last.as_str() {
+        if pair.step(rt, alloc, &mut dice)? {
             changes = changes.saturating_add(1);
         }
-        last = text;
     }
     Ok(changes)
 }
 
 #[test]
 fn is_as_whole_copies_are(rt: HostRuntime) -> Result<(), Fail> {
-    let changes = count_changes(&rt, rt.alloc(), 11)?;
+    let mut pair = Pair::new(rt.alloc())?;
+    let changes = count_changes(&rt, rt.alloc(), &mut pair, 11)?;
     assert_eq!(rt; changes, DEEDS);
     Ok(())
 }

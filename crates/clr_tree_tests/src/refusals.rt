@@ -4,6 +4,7 @@ use crate::cases::THREE_LEVELS;
 use crate::scripts::{act_lines, split_case, tree_after};
 use crate::texts::{new_lines, tree_text};
 use clr_hoard::Hoard;
+use clr_tree::Tree;
 use std::alloc::{AllocError, Global};
 use std::process::Abort;
 use std::test::Fail;
@@ -22,6 +23,21 @@ struct Outcome {
     answer: String,
 }
 
+/// Three levels, and a workspace in conflict with LIVE.
+fn conflict_tree(alloc: Global) -> Result<Tree, AllocError> {
+    let mut tree = tree_after(alloc, THREE_LEVELS)?;
+    act_lines(alloc, &mut tree, CONFLICT)?;
+    Ok(tree)
+}
+
+/// The text of an answer, which is empty for a refused call.
+fn text_of(alloc: Global, answer: &Result<Answer, AllocError>) -> Result<String, AllocError> {
+    match answer {
+        Ok(answer) => answer.text(alloc),
+        Err(_) => Ok(String::new(alloc)),
+    }
+}
+
 impl Outcome {
     /// Makes a call of a line with this many bytes of memory.
     fn of(
@@ -30,18 +46,14 @@ impl Outcome {
         budget: usize,
         line: &'static str,
     ) -> Result<Outcome, AllocError> {
-        let mut tree = tree_after(alloc, THREE_LEVELS)?;
-        act_lines(alloc, &mut tree, CONFLICT)?;
+        let mut tree = conflict_tree(alloc)?;
         hoard.leave(budget)?;
         let answer: Result<Answer, AllocError> = call(alloc, &mut tree, line);
         hoard.give_back();
         Ok(Outcome {
             is_done: answer.is_ok(),
             tree: tree_text(alloc, &tree)?,
-            answer: match answer {
-                Ok(answer) => answer.text(alloc)?,
-                Err(_) => String::new(alloc),
-            },
+            answer: text_of(alloc, &answer)?,
         })
     }
 
@@ -87,20 +99,23 @@ fn count_refusals(
     Ok(0)
 }
 
-#[test]
-fn refused_calls_change_nothing(rt: HostRuntime) -> Result<(), Fail> {
-    let alloc = rt.alloc();
-    let mut hoard = Hoard::take(alloc)?;
+/// Makes each call with ever more memory.
+fn check_calls(rt: &impl Abort, alloc: Global, hoard: &mut Hoard) -> Result<(), Fail> {
     let mut rest = CALLS;
     for _ in 0..MOST_CALLS {
         let Some((line, wanted, others)) = split_case(rest) else {
             break;
         };
-        let refusals = count_refusals(&rt, alloc, &mut hoard, line, wanted)?;
-        eprintln!(rt; "{line}: {refusals} refusals")?;
+        let refusals = count_refusals(rt, alloc, hoard, line, wanted)?;
         assert!(rt; refusals > 0, "{line}");
         rest = others;
     }
     assert_eq!(rt; rest, "");
     Ok(())
+}
+
+#[test]
+fn refused_calls_change_nothing(rt: HostRuntime) -> Result<(), Fail> {
+    let mut hoard = Hoard::take(rt.alloc())?;
+    check_calls(&rt, rt.alloc(), &mut hoard)
 }

@@ -46,6 +46,8 @@ fn deed_of(word: &str, rest: &'static str) -> Option<Deed> {
         "rollall" => Some(Deed::RollAll),
         "refresh" => Some(Deed::Refresh),
         "merge" => Some(Deed::Merge),
+        "refresh_changes" => Some(Deed::RefreshChanges),
+        "merge_changes" => Some(Deed::MergeChanges),
         "resolve" => resolve(rest),
         "hold" => Some(Deed::Hold),
         "release" => Some(Deed::Release),
@@ -60,6 +62,13 @@ pub(crate) fn parts_of(line: &'static str) -> (&'static str, &'static str, &'sta
     (name, word, rest)
 }
 
+/// What a line says: a deed, and to the workspace of which name. There is none where it can't be
+/// read.
+pub(crate) fn deed_in(line: &'static str) -> Option<(&'static str, Deed)> {
+    let (name, word, rest) = parts_of(line);
+    Some((name, deed_of(word, rest)?))
+}
+
 /// Does what a line says, which is nothing where it can't be read. It fails for want of memory
 /// alone.
 pub(crate) fn act_line(
@@ -67,9 +76,8 @@ pub(crate) fn act_line(
     tree: &mut Tree,
     line: &'static str,
 ) -> Result<(), AllocError> {
-    let (name, word, rest) = parts_of(line);
-    match deed_of(word, rest) {
-        Some(deed) => act(alloc, tree, name, deed),
+    match deed_in(line) {
+        Some((name, deed)) => act(alloc, tree, name, deed),
         None => Ok(()),
     }
 }

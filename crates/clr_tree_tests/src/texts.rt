@@ -1,5 +1,7 @@
 //! Trees as texts.
 
+ghost use Rattle.std.specs.Prelude.{◌<◌, length};
+
 use crate::fixtures::number_of;
 use clr_rows::Sheet;
 use clr_tree::{ChangeSet, MarkPart, Part, Tree};
@@ -56,12 +58,24 @@ pub(crate) fn part_text(alloc: Global, part: &Part) -> Result<String, AllocError
     format!(in alloc; "{name} under {parent} base{base} now{current}{marks}{kept}\n")
 }
 
+fn live_text(alloc: Global, tree: &Tree) -> Result<String, AllocError> {
+    let rows = rows_text(alloc, tree.live())?;
+    format!(in alloc; "LIVE now{rows}\n")
+}
+
+fn space_text(alloc: Global, tree: &Tree, at: usize) -> Result<String, AllocError>
+    requires child { 0 < at }
+    requires within { at < length tree.now.list }
+{
+    let part = tree.part(at)?;
+    part_text(alloc, &part)
+}
+
 /// A line for each workspace of a tree.
 pub(crate) fn tree_text(alloc: Global, tree: &Tree) -> Result<String, AllocError> {
-    let mut text = format!(in alloc; "LIVE now{}\n", rows_text(alloc, tree.live())?)?;
+    let mut text = live_text(alloc, tree)?;
     for at in 1..tree.len() {
-        let part = tree.part(at)?;
-        text.push_str(part_text(alloc, &part)?.as_str())?;
+        text.push_str(space_text(alloc, tree, at)?.as_str())?;
     }
     Ok(text)
 }
@@ -85,4 +99,12 @@ pub(crate) fn new_lines(alloc: Global, text: &str, before: &str) -> Result<Strin
         }
     }
     Ok(new)
+}
+
+/// The lines of the text of a tree that another hasn't, and how many entries are stored.
+pub(crate) fn news_text(alloc: Global, tree: &Tree, before: &str) -> Result<String, AllocError> {
+    let all = tree_text(alloc, tree)?;
+    let mut text = new_lines(alloc, all.as_str(), before)?;
+    text.push_str(counts_text(alloc, tree)?.as_str())?;
+    Ok(text)
 }

@@ -14,10 +14,10 @@ use Rattle.clr_tree.proofs.RootLemmas.{rooted_set}
 use Rattle.clr_tree.proofs.operations.merge.Goals as goal
 
 pub merge_rows-done-requires-clause-rows : goal.merge_rows-done-requires-clause-rows
-merge_rows-done-requires-clause-rows c = c.in_ok-rows.ensures ∙ ap (λ (x : Changes). rows_after x) c.in_ok-changed.ensures
+merge_rows-done-requires-clause-rows c = c.in_ok-rows.ensures ∙ ap (λ (x : Changes). rows_after x) c.requires.changed
 
 pub merge_rows-done-requires-clause-own : goal.merge_rows-done-requires-clause-own
-merge_rows-done-requires-clause-own c = c.in_ok-own.ensures ∙ ap (λ (x : Changes). rows_after x) c.in_ok-changed.ensures
+merge_rows-done-requires-clause-own c = c.in_ok-own.ensures ∙ ap (λ (x : Changes). rows_after x) c.requires.changed
 
 pub sweep_at-requires-clause-within : goal.sweep_at-requires-clause-within
 sweep_at-requires-clause-within c = let within = c.requires.within in let up = c.requires.earlier in let long = c.merge_rows-done.ensures.long in omega (arith, within, up, long)
@@ -46,7 +46,7 @@ returns-clause-lean c = λ lean.
     let p = c.args.above in
     let rows = rows_after (own_changes (workspace_at ws c.args.at)) in
     let e = c.merge_rows-done.ensures in
-    let own = c.in_ok-own.ensures ∙ ap (λ (x : Changes). rows_after x) c.in_ok-changed.ensures in
+    let own = c.in_ok-own.ensures ∙ ap (λ (x : Changes). rows_after x) c.requires.changed in
     let cells = c.as_slice-2.ensures.value ∙ c.in_ok-cells.ensures ∙ ap cells_in (c.as_slice.ensures.value ∙ own) in
     let stay = subst (λ (rs : Rows). StayOwnButNear p (cells_in rs) ls ms) own e.elsewhere in
     let p_in : p < length ls = let within = c.requires.within in let up = c.requires.earlier in omega (arith, within, up) in

@@ -17,16 +17,18 @@ use Rattle.clr_tree.proofs.RootLemmas.{rooted_set}
 use Rattle.clr_tree.proofs.operations.refresh.Goals as goal
 
 pub refresh_base-done-requires-clause-rows : goal.refresh_base-done-requires-clause-rows
-refresh_base-done-requires-clause-rows c = c.in_ok-rows.ensures ∙ ap (λ (x : Changes). rows_after x) c.in_ok-changes_of.ensures
+refresh_base-done-requires-clause-rows c = c.in_ok-rows.ensures ∙ ap (λ (x : Changes). rows_after x) c.requires.changed
 
-pub refresh_base-done-requires-clause-new : goal.refresh_base-done-requires-clause-new
-refresh_base-done-requires-clause-new c = c.as_slice-6.ensures.value ∙ c.in_ok-new.ensures ∙ ap cells_in c.as_slice.ensures.value
-
-pub refresh_base-done-requires-clause-base : goal.refresh_base-done-requires-clause-base
-refresh_base-done-requires-clause-base c = c.as_slice-7.ensures.value ∙ c.in_ok-base.ensures ∙ ap (λ (d : Differences). finite.keys d) c.base.ensures
-
-pub refresh_base-done-requires-clause-old : goal.refresh_base-done-requires-clause-old
-refresh_base-done-requires-clause-old c = c.as_slice-8.ensures.value ∙ c.in_ok-old.ensures ∙ ap (λ (d : Differences). finite.keys d) c.current.ensures
+pub refresh_base-done-requires-clause-cells : goal.refresh_base-done-requires-clause-cells
+refresh_base-done-requires-clause-cells c =
+    let under = (layer_at c.args.map.now c.args.at).base in
+    let now = (layer_at c.args.map.now c.args.at).current in
+    let new = c.in_ok-new.ensures ∙ ap cells_in c.as_slice.ensures.value in
+    let base = c.in_ok-base.ensures ∙ ap (λ (d : Differences). finite.keys d) c.base.ensures in
+    let old = c.in_ok-old.ensures ∙ ap (λ (d : Differences). finite.keys d) c.current.ensures in
+    let held : c.as_slice-2.result.now ++ c.as_slice-3.result.now ≡ finite.keys under ++ finite.keys now = λ i. (c.as_slice-2.ensures.value ∙ base) i ++ (c.as_slice-3.ensures.value ∙ old) i in
+    let rest = c.as_slice-5.ensures.value ∙ c.in_ok-held.ensures ∙ held in
+    c.as_slice-6.ensures.value ∙ c.in_ok-cells.ensures ∙ (λ i. (c.as_slice-4.ensures.value ∙ new) i ++ rest i)
 
 pub sweep_at-requires-clause-within : goal.sweep_at-requires-clause-within
 sweep_at-requires-clause-within c = let within = c.requires.within in let long = c.refresh_base-done.ensures.long in omega (arith, within, long)
@@ -57,15 +59,15 @@ returns-clause-lean c = λ lean.
     let now = (layer_at ls at).current in
     let all = cells_in rows ++ (finite.keys under ++ finite.keys now) in
     let e = c.refresh_base-done.ensures in
-    let after = c.in_ok-rows.ensures ∙ ap (λ (x : Changes). rows_after x) c.in_ok-changes_of.ensures in
+    let after = c.in_ok-rows.ensures ∙ ap (λ (x : Changes). rows_after x) c.requires.changed in
     let new = c.in_ok-new.ensures ∙ ap cells_in (c.as_slice.ensures.value ∙ after) in
     let base = c.in_ok-base.ensures ∙ ap (λ (d : Differences). finite.keys d) c.base.ensures in
     let old = c.in_ok-old.ensures ∙ ap (λ (d : Differences). finite.keys d) c.current.ensures in
     let held : c.as_slice-2.result.now ++ c.as_slice-3.result.now ≡ finite.keys under ++ finite.keys now = λ i. (c.as_slice-2.ensures.value ∙ base) i ++ (c.as_slice-3.ensures.value ∙ old) i in
     let rest = c.as_slice-5.ensures.value ∙ c.in_ok-held.ensures ∙ held in
     let joined : c.as_slice-4.result.now ++ c.as_slice-5.result.now ≡ all = λ i. (c.as_slice-4.ensures.value ∙ new) i ++ rest i in
-    let cells = c.as_slice-9.ensures.value ∙ c.in_ok-cells.ensures ∙ joined in
-    let moved : c.as_slice-6.result.now ++ (c.as_slice-7.result.now ++ c.as_slice-8.result.now) ≡ all = λ i. (c.as_slice-6.ensures.value ∙ new) i ++ ((c.as_slice-7.ensures.value ∙ base) i ++ (c.as_slice-8.ensures.value ∙ old) i) in
+    let cells = c.as_slice-7.ensures.value ∙ c.in_ok-cells.ensures ∙ joined in
+    let moved = c.as_slice-6.ensures.value ∙ c.in_ok-cells.ensures ∙ joined in
     let stay = subst (λ (qs : List CellId). StayOwnButNear at qs ls ms) moved e.elsewhere in
     let none : (q : CellId) → is_among all q ≡ false → (is_among (cells_in rows) q ≡ false) × ((finite.get under q ≡ None) × (finite.get now q ≡ None)) = λ q apart.
     let one = among_neither (cells_in rows) (finite.keys under ++ finite.keys now) q apart in

@@ -18,11 +18,10 @@ pub saved_at-requires-clause-marked : goal.saved_at-requires-clause-marked
 saved_at-requires-clause-marked c =
     subst (λ n. c.args.mark < n) (length-marks c.args.live.now c.args.map.now c.args.at c.requires.child c.requires.within) (saved_within (workspace_at (wholes c.args.live.now c.args.map.now) c.args.at).marks c.args.mark c.requires.saved)
 
-pub roll_back-done-requires-clause-new : goal.roll_back-done-requires-clause-new
-roll_back-done-requires-clause-new c = c.as_slice-3.ensures.value ∙ c.in_ok-new.ensures
-
-pub roll_back-done-requires-clause-old : goal.roll_back-done-requires-clause-old
-roll_back-done-requires-clause-old c = c.as_slice-4.ensures.value ∙ c.in_ok-old.ensures ∙ ap (λ (d : Differences). finite.keys d) c.current.ensures
+pub roll_back-done-requires-clause-cells : goal.roll_back-done-requires-clause-cells
+roll_back-done-requires-clause-cells c =
+    let old = c.in_ok-old.ensures ∙ ap (λ (d : Differences). finite.keys d) c.current.ensures in
+    c.as_slice-3.ensures.value ∙ c.in_ok-cells.ensures ∙ (λ i. (c.as_slice.ensures.value ∙ c.in_ok-new.ensures) i ++ (c.as_slice-2.ensures.value ∙ old) i)
 
 pub sweep_at-requires-clause-within : goal.sweep_at-requires-clause-within
 sweep_at-requires-clause-within c = let within = c.requires.within in let long = c.roll_back-done.ensures.long in omega (arith, within, long)
@@ -52,8 +51,8 @@ returns-clause-lean c = λ lean.
     let new = c.in_ok-new.ensures ∙ ap (λ (x : Differences). finite.keys x) c.in_ok-differences.ensures in
     let old = c.in_ok-old.ensures ∙ ap (λ (x : Differences). finite.keys x) c.current.ensures in
     let joined : c.as_slice.result.now ++ c.as_slice-2.result.now ≡ all = λ i. (c.as_slice.ensures.value ∙ new) i ++ (c.as_slice-2.ensures.value ∙ old) i in
-    let moved : c.as_slice-3.result.now ++ c.as_slice-4.result.now ≡ all = λ i. (c.as_slice-3.ensures.value ∙ new) i ++ (c.as_slice-4.ensures.value ∙ old) i in
-    let cells = c.as_slice-5.ensures.value ∙ c.in_ok-cells.ensures ∙ joined in
+    let moved = c.as_slice-3.ensures.value ∙ c.in_ok-cells.ensures ∙ joined in
+    let cells = c.as_slice-4.ensures.value ∙ c.in_ok-cells.ensures ∙ joined in
     let stay = subst (λ (qs : List CellId). StayOwnButNear at qs ls ms) moved e.elsewhere in
     let none : (q : CellId) → is_among all q ≡ false → (finite.get d q ≡ None) × (finite.get now q ≡ None) = λ q apart.
     let both = among_neither (finite.keys d) (finite.keys now) q apart in (no_entry d q both.0, no_entry now q both.1) in

@@ -10,5 +10,5 @@ returns c =
     let at = c.args.at in
     let name = c.new-name.ensures ∙ c.in_ok-from_str.ensures.ok ∙ c.name_at.ensures ∙ sym (name-wholes live ls at) in
     let parent = c.new-parent.ensures ∙ c.in_ok-from_str-2.ensures.ok ∙ c.parent_name.ensures ∙ sym (parent-wholes live ls at) in
-    let kept = c.kept.ensures ∙ sym (kept-wholes live ls at c.requires.child c.requires.within) in
+    let kept = c.is_kept.ensures ∙ sym (kept-wholes live ls at c.requires.child c.requires.within) in
     λ i. record { name = name i; parent = parent i; base = c.in_ok-base.ensures i; current = c.in_ok-current.ensures i; marks = c.in_ok-marks.ensures i; kept = kept i }

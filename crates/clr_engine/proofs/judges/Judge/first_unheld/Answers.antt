@@ -5,8 +5,8 @@ use Rattle.clr_engine.proofs.Fits.{fit_current}
 use Rattle.clr_engine.proofs.Unheld.{need_is, none_past, unheld_here}
 use Rattle.clr_engine.proofs.judges.Judge.first_unheld.Goals as goal
 
-pub broken_now-requires-clause-fit : goal.broken_now-requires-clause-fit
-broken_now-requires-clause-fit c = fit_current c.args.self.now c.args.tree.now.list c.requires.fit c.loop-at.at
+pub first_broken_if_kept-requires-clause-fit : goal.first_broken_if_kept-requires-clause-fit
+first_broken_if_kept-requires-clause-fit c = fit_current c.args.self.now c.args.tree.now.list c.requires.fit c.loop-at.at
 
 pub returns-in-Some-clause-first : goal.returns-in-Some-clause-first
 returns-in-Some-clause-first c =

@@ -1,11 +1,7 @@
 use Rattle.std.proofs.Common.{◌≡◌, ℕ, zero, suc, ◌<◌, refl, sym, ap, ◌∙◌, Some, arith}
 use Rattle.clr_steps.specs.Readings.{changes_in}
-use Rattle.clr_engine.proofs.Readings.{changes_is, live_is, no_changes_is, seen_in, shown, unknown}
+use Rattle.clr_engine.proofs.Readings.{changes_is, live_is, no_changes_is, seen_in, shown, some_below, unknown}
 use Rattle.clr_engine.proofs.offices.Office.changes.Goals as goal
-
-some_below : (at : ℕ) → (at ≡ 0 → ⊥) → 0 < at
-some_below zero other = absurd (other refl)
-some_below (suc k) other = omega arith
 
 pub returns-in-Some-eq0 : goal.returns-in-Some-eq0
 returns-in-Some-eq0 c =

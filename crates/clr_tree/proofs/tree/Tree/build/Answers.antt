@@ -1,5 +1,4 @@
 use Rattle.std.proofs.Common.{List, map, ap, sym, subst, ◌∙◌}
-use Rattle.std.proofs.lemmas.Bool.{false≢true}
 use Rattle.std.proofs.lemmas.Result.{err_from_is_err_and}
 use Rattle.clr_tree.specs.Parts.{workspace_of, first_fault, IsRefused}
 use Rattle.clr_tree.specs.declared.parts.Part.{Part}
@@ -9,8 +8,8 @@ use Rattle.clr_tree.proofs.tree.Tree.build.Goals as goal
 pub judge_marks-requires : goal.judge_marks-requires
 judge_marks-requires c = some_layers c.args.live c.in_ok-map.map (map workspace_of c.as_slice.result.now) c.in_ok-map.ensures.made
 
-pub invariant_of-result : goal.invariant_of-result
-invariant_of-result c = (sound_layers c.args.live c.in_ok-map.map (map workspace_of c.as_slice.result.now) c.in_ok-map.ensures.made c.in_ok-map.ensures.passed c.in_ok-judge_marks.ensures.passed, λ flag. absurd (false≢true flag))
+pub of_map-requires : goal.of_map-requires
+of_map-requires c = sound_layers c.args.live c.in_ok-map.map (map workspace_of c.as_slice.result.now) c.in_ok-map.ensures.made c.in_ok-map.ensures.passed c.in_ok-judge_marks.ensures.passed
 
 pub returns-clause-passed : goal.returns-clause-passed
 returns-clause-passed c =

@@ -1,4 +1,3 @@
-use Rattle.std.proofs.lemmas.Bool.{false≢true}
 use Rattle.std.proofs.lemmas.Result.{err_from_is_err_and}
 use Rattle.clr_tree.specs.Parts.{spaces_of}
 use Rattle.clr_tree.proofs.BuildLemmas.{some_layers, sound_layers, none_wrong, marks_wrong}
@@ -7,8 +6,8 @@ use Rattle.clr_tree.proofs.tree.Tree.of_layers.Goals as goal
 pub judge_marks-requires : goal.judge_marks-requires
 judge_marks-requires c = some_layers c.args.live c.in_ok-map.map (spaces_of c.args.live c.args.parts.items) c.in_ok-map.ensures.made
 
-pub invariant_of-result : goal.invariant_of-result
-invariant_of-result c = (sound_layers c.args.live c.in_ok-map.map (spaces_of c.args.live c.args.parts.items) c.in_ok-map.ensures.made c.in_ok-map.ensures.passed c.in_ok-judge_marks.ensures.passed, λ flag. absurd (false≢true flag))
+pub of_map-requires : goal.of_map-requires
+of_map-requires c = sound_layers c.args.live c.in_ok-map.map (spaces_of c.args.live c.args.parts.items) c.in_ok-map.ensures.made c.in_ok-map.ensures.passed c.in_ok-judge_marks.ensures.passed
 
 pub returns-clause-passed : goal.returns-clause-passed
 returns-clause-passed c = none_wrong c.args.live c.in_ok-map.map (spaces_of c.args.live c.args.parts.items) c.in_ok-map.ensures.made c.in_ok-map.ensures.passed c.in_ok-judge_marks.ensures.passed

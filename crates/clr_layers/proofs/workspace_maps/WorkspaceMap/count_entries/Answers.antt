@@ -1,7 +1,7 @@
 use Rattle.std.proofs.Common.{◌+◌, [], List, ap, sym, ◌∙◌}
 use Rattle.clr_layers.specs.Layers.{Layer, layer_at, stored_in}
 use Rattle.clr_layers.proofs.EntryLemmas.{value_at}
-use Rattle.clr_layers.proofs.workspace_maps.WorkspaceMap.stored.Goals as goal
+use Rattle.clr_layers.proofs.workspace_maps.WorkspaceMap.count_entries.Goals as goal
 
 pub returns : goal.returns
 returns c =

@@ -1,7 +1,7 @@
 use Rattle.std.proofs.Common.{[], ap, sym, ◌∙◌}
 use Rattle.clr_layers.specs.Layers.{Layer, layer_at}
 use Rattle.clr_layers.proofs.EntryLemmas.{value_at}
-use Rattle.clr_layers.proofs.workspace_maps.WorkspaceMap.kept.Goals as goal
+use Rattle.clr_layers.proofs.workspace_maps.WorkspaceMap.is_kept.Goals as goal
 
 pub returns : goal.returns
 returns c =

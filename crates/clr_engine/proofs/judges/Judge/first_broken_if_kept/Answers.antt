@@ -1,7 +1,7 @@
 use Rattle.std.proofs.Common.{refl}
 use Rattle.clr_layers.specs.Workspaces.{workspace_at}
 use Rattle.clr_engine.proofs.Contents.{judged}
-use Rattle.clr_engine.proofs.judges.Judge.broken_now.Goals as goal
+use Rattle.clr_engine.proofs.judges.Judge.first_broken_if_kept.Goals as goal
 
 pub returns : goal.returns
 returns c =
