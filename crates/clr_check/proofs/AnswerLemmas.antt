@@ -9,7 +9,7 @@ use Rattle.clr_foot.specs.Settings.{Setting}
 use Rattle.clr_steps.specs.Offices.{Office}
 use Rattle.clr_steps.specs.Quiet.{Site}
 use Rattle.clr_clearance.specs.declared.verdicts.Verdict.TheVariants as verdict
-use Rattle.clr_clearance.specs.Sites.{change_sets, numbered}
+use Rattle.clr_clearance.specs.Sites.{change_sets, setting_by_position}
 use Rattle.clr_clearance.specs.Verdicts.{member_fault, of_cell, of_need, of_none}
 use Rattle.clr_check.specs.Answers.{IsAnswer, IsRefusal, of_memory, of_verdict, verdict_of}
 use Rattle.clr_check.specs.Entries.{IsLeastUncovered}
@@ -26,7 +26,7 @@ module _ (o : Office) (s : Site) (entries : List Entry) (free : member_fault o s
   scene_answers (scene.SharedCell cell i j) shared = of_verdict (of_cell cell i j free shared refl)
   scene_answers scene.OutOfMemory h = memory_answers
 
-  module _ (c : Setting ℕ) (is : c ≡ numbered o s) (apart : AreApart (change_sets o s)) where
+  module _ (c : Setting ℕ) (is : c ≡ setting_by_position o s) (apart : AreApart (change_sets o s)) where
     pub clear_answers : AreCovered c entries → IsAnswer o s entries verdict.Clear
     clear_answers covered = of_verdict (of_none free apart (subst (λ d. AreCovered d entries) is covered) refl)
 

@@ -11,8 +11,10 @@ use Rattle.clr_foot.specs.Needs.{AreOpposed, AreServers, IsBesideToo, IsPossible
 use Rattle.clr_foot.specs.Settings.{Setting, Lifetime, Always, With, Without, Lived, version}
 use Rattle.clr_foot.proofs.BreakLaws.{subjects_once}
 use Rattle.clr_foot.proofs.Gaining.{none_taken, one_more, all_taken}
+use Rattle.clr_foot.proofs.PickLaws.{listed_serves, serving_listed}
+use Rattle.clr_clearance.proofs.CheckLemmas.{one_lived}
 use Rattle.clr_check.specs.Entries.{HasCover, IsTold, lasts, same_too}
-use Rattle.clr_cert.specs.declared.entries.Entry.{Entry}
+use Rattle.clr_cert.specs.declared.certificates.Entry.{Entry}
 use Rattle.clr_check.proofs.SearchLemmas.{either_told, it_is_not, told_as, told_by}
 
 -- lives ------------------------------------------------------------------------------------------
@@ -78,9 +80,6 @@ module _ (c : Setting ℕ) where
       by None is f = absurd (cc)
       by (Some l) is f = (l, is, let one : life ≡ l.life = cc in sym one)
 
-  one_at : (v : VersionId) (l m : Lived ℕ) → version c v ≡ Some l → version c v ≡ Some m → l ≡ m
-  one_at v l m e f = let both : Some l ≡ Some m = sym e ∙ f in cc
-
   second_life : (first : VersionId) (a : Lived ℕ) (v : Option VersionId) (b : Option (Lived ℕ)) → IsBesideToo c first a v b → life_at_too v ≡ life_of b
   unfolding life_of
   second_life first a None None h = refl
@@ -89,18 +88,8 @@ module _ (c : Setting ℕ) where
   second_life first a (Some v) (Some b) h = ap (option_map (λ (l : Lived ℕ). l.life)) h.is
 
   module _ (n : Need) (servers : List VersionId) (are : AreServers c n servers) (a : Lived ℕ) (b : Option (Lived ℕ)) (possible : IsPossible c n a b) where
-    -- a listed version serves these subjects
-    serves_these : (v : VersionId) → Contains servers v → (l : Lived ℕ) × Serves c n a b v l
-    serves_these v h =
-        let (x, y, l, possible_too, serves) = (are.exactly v).0 h in
-        let (same, same_too) = subjects_once c n a x b y possible possible_too in
-        (l, subst (λ z. Serves c n a z v l) same_too (subst (λ z. Serves c n z y v l) same serves))
-
-    serving_is_listed : (v : VersionId) (l : Lived ℕ) → Serves c n a b v l → Contains servers v
-    serving_is_listed v l serves = (are.exactly v).1 (a, b, l, possible, serves)
-
     pub unlisted : (v : VersionId) → ¬ (Contains servers v) → ¬ (CoversAlone c n a b v)
-    unlisted v out (l, serves, lasting) = out (serving_is_listed v l serves)
+    unlisted v out (l, serves, lasting) = out (serving_listed c n servers are a b possible v l serves)
 
     pub alone_told : (v : VersionId) (life : Lifetime ℕ) (first second : Option (Lifetime ℕ)) (told : Bool) → Contains servers v → Some life ≡ life_at v → first ≡ life_at n.first → second ≡ life_at_too n.second
         → told ≡ lasts life first second → IsTold told (CoversAlone c n a b v)
@@ -109,31 +98,31 @@ module _ (c : Setting ℕ) where
         let first_is : first ≡ Some a.life = e ∙ ap (option_map (λ (x : Lived ℕ). x.life)) possible.first_is in
         let second_is : second ≡ life_of b = f ∙ second_life n.first a n.second b possible.second_is in
         let whole : told ≡ lasts l.life (Some a.life) (life_of b) = is ∙ (λ i. lasts (sym same i) (first_is i) (second_is i)) in
-        let (m, serves) = serves_these v h in
+        let (m, serves) = listed_serves c n servers are a b possible v h in
         subst (λ t. IsTold t (CoversAlone c n a b v)) (sym whole)
         (told_as _ (Lasts l.life a b) (CoversAlone c n a b v)
-        (λ lasting. (l, subst (Serves c n a b v) (one_at v m l serves.is there) serves, lasting))
-        (λ (k, serving, lasting). subst (λ (z : Lived ℕ). Lasts z.life a b) (one_at v k l serving.is there) lasting) (lasts_told l.life a b))
+        (λ lasting. (l, subst (Serves c n a b v) (one_lived c v m l serves.is there) serves, lasting))
+        (λ (k, serving, lasting). subst (λ (z : Lived ℕ). Lasts z.life a b) (one_lived c v k l serving.is there) lasting) (lasts_told l.life a b))
 
     pub one_unlisted : (v w : VersionId) → ¬ (Contains servers v) → ¬ (CoverTogether c n a b v w)
-    one_unlisted v w out (l, m, serves, serves_too, opposed) = out (serving_is_listed v l serves)
+    one_unlisted v w out (l, m, serves, serves_too, opposed) = out (serving_listed c n servers are a b possible v l serves)
 
     pub other_unlisted : (v w : VersionId) → ¬ (Contains servers w) → ¬ (CoverTogether c n a b v w)
-    other_unlisted v w out (l, m, serves, serves_too, opposed) = out (serving_is_listed w m serves_too)
+    other_unlisted v w out (l, m, serves, serves_too, opposed) = out (serving_listed c n servers are a b possible w m serves_too)
 
     pub together_told : (v w : VersionId) (one two : Lifetime ℕ) (told : Bool) → Contains servers v → Contains servers w → Some one ≡ life_at v → Some two ≡ life_at w → told ≡ are_opposed one two
         → IsTold told (CoverTogether c n a b v w)
     together_told v w one two told h k at at_too is =
         let (l, there, same) = lived_at v one at in
         let (m, there_too, same_too) = lived_at w two at_too in
-        let (x, serves) = serves_these v h in
-        let (y, serves_too) = serves_these w k in
+        let (x, serves) = listed_serves c n servers are a b possible v h in
+        let (y, serves_too) = listed_serves c n servers are a b possible w k in
         let whole : told ≡ are_opposed l.life m.life = is ∙ (λ i. are_opposed (sym same i) (sym same_too i)) in
         subst (λ t. IsTold t (CoverTogether c n a b v w)) (sym whole)
         (told_as _ (AreOpposed l.life m.life) (CoverTogether c n a b v w)
-        (λ opposed. (l, m, subst (Serves c n a b v) (one_at v x l serves.is there) serves, subst (Serves c n a b w) (one_at w y m serves_too.is there_too) serves_too, opposed))
-        (λ (p, q, serving, serving_too, opposed). (let first : AreOpposed l.life q.life = subst (λ (z : Lived ℕ). AreOpposed z.life q.life) (one_at v p l serving.is there) opposed in
-        subst (λ (z : Lived ℕ). AreOpposed l.life z.life) (one_at w q m serving_too.is there_too) first)) (opposed_told l.life m.life))
+        (λ opposed. (l, m, subst (Serves c n a b v) (one_lived c v x l serves.is there) serves, subst (Serves c n a b w) (one_lived c w y m serves_too.is there_too) serves_too, opposed))
+        (λ (p, q, serving, serving_too, opposed). (let first : AreOpposed l.life q.life = subst (λ (z : Lived ℕ). AreOpposed z.life q.life) (one_lived c v p l serving.is there) opposed in
+        subst (λ (z : Lived ℕ). AreOpposed l.life z.life) (one_lived c w q m serving_too.is there_too) first)) (opposed_told l.life m.life))
 
   module _ (n : Need) (a : Lived ℕ) (b : Option (Lived ℕ)) where
     -- the versions of an entry

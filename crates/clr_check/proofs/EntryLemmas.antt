@@ -10,13 +10,14 @@ use Rattle.std.proofs.lemmas.Cmp.{upto}
 use Rattle.std.proofs.lemmas.List.{get_or-drop, get_or-take, length-drop, length-take-le}
 use Rattle.std.proofs.lemmas.List.Sorted.{ranks_by, sorted_far}
 use Rattle.clr_rules.proofs.Elements.{Among, among, contained}
+use Rattle.clr_rules.proofs.BrokenLemmas.{lt_is}
 use Rattle.clr_foot.specs.declared.needs.Need.{Need}
 use Rattle.clr_foot.specs.Covers.{HasEntry, WitnessesCover}
 use Rattle.clr_foot.specs.Orders.{need_cmp}
 use Rattle.clr_foot.specs.Settings.{Setting, Lived}
 use Rattle.clr_check.specs.Certificates.{entries_in}
 use Rattle.clr_check.specs.Entries.{HasCover, IsEntryOf, RiseByNeed}
-use Rattle.clr_cert.specs.declared.entries.Entry.{Entry}
+use Rattle.clr_cert.specs.declared.certificates.Entry.{Entry}
 
 -- by need ----------------------------------------------------------------------------------------
 
@@ -54,16 +55,11 @@ module _ (total : IsTotalOrder need_cmp) (entries : List Entry) (rises : RiseByN
   pub parted_before : IsPartitionedBy (is_before n) entries
   parted_before i j d le less e = by (need_cmp (get_or entries i d).need n) refl
     where
-      lesser : (o : Ordering) → is_lt o ≡ true → o ≡ Less
-      lesser Less f = refl
-      lesser Equal f = absurd (false≢true f)
-      lesser Greater f = absurd (false≢true f)
-
       -- n isn't above the earlier need, which isn't above the later one, which is before n
       not_both : is_gt (need_cmp n (get_or entries i d).need) ≡ false → ⊥
       not_both f =
           let over = upto total n (get_or entries i d).need (get_or entries j d).need f (rising i j d le less) in
-          let turned : need_cmp n (get_or entries j d).need ≡ Greater = total.antisymm n (get_or entries j d).need ∙ ap ordering_reverse (lesser _ e) in
+          let turned : need_cmp n (get_or entries j d).need ≡ Greater = total.antisymm n (get_or entries j d).need ∙ ap ordering_reverse (lt_is _ e) in
           false≢true (sym over ∙ ap is_gt turned)
 
       turned_back : (o : Ordering) → need_cmp (get_or entries i d).need n ≡ o → need_cmp n (get_or entries i d).need ≡ ordering_reverse o

@@ -1,4 +1,4 @@
--- The members of a site in which no test of names fails: other workspaces than LIVE, each once, so that they are 255 at most.
+-- The members of a site in which no test of names fails: other workspaces than LIVE, each once, so that they are at most `MOST_MEMBERS`.
 use Rattle.std.proofs.Common.{◌≡◌, ℕ, suc, ◌≤◌, Bool, true, false, cond, ◌||◌, List, [], ◌∷◌, Some, None, length, map, refl, sym, ap, ◌∙◌, arith}
 use Rattle.std.specs.Prelude.{slice_get}
 use Rattle.std.specs.Cmp.{IsEquivalence}
@@ -9,6 +9,7 @@ use Rattle.std.proofs.lemmas.Map.Made.{length-le_from_is_member}
 use Rattle.clr_layers.specs.Marks.{Name}
 use Rattle.clr_layers.specs.Workspaces.{Workspace, root}
 use Rattle.clr_tree.specs.Soundness.{IsSound}
+use Rattle.clr_foot.specs.declared.limits.TheConstants.{MOST_MEMBERS}
 use Rattle.clr_steps.specs.Names.{has, is_live, same_name}
 use Rattle.clr_steps.specs.Offices.{Office, find_name, workspace}
 use Rattle.clr_steps.specs.Quiet.{Site}
@@ -71,7 +72,7 @@ module _ (o : Office) (s : Site) (free : member_fault o s ≡ None) where
       by true w e = absurd (cc)
       by false w e = named name o.workspaces w e
 
-  pub few_members : IsSound (root o.live ∷ o.workspaces) → length s.members ≤ 255
+  pub few_members : IsSound (root o.live ∷ o.workspaces) → length s.members ≤ MOST_MEMBERS
   few_members sound =
       let fewer = length-le_from_is_member same_equiv s.members (names_of o.workspaces) (distinct s.members (faultless o s free).differ) found in
       let long = length-map o.workspaces (λ (w : Workspace). w.name) in

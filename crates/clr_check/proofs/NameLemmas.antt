@@ -4,7 +4,7 @@ use Rattle.std.specs.Prelude.{position, slice_get}
 use Rattle.std.specs.List.{position_or_len}
 use Rattle.std.specs.Option.{option_map, option_map_or, option_or}
 use Rattle.std.specs.Str.{bytes_eq}
-use Rattle.std.proofs.lemmas.Bool.{false≢true}
+use Rattle.std.proofs.lemmas.Bool.{false≢true, lt-ltb, le-ltb}
 use Rattle.std.proofs.lemmas.List.Sums.{position_or_len_is}
 use Rattle.std.proofs.lemmas.Option.{slice_get-get_or, slice_get_within}
 use Rattle.clr_rows.specs.Contents.{no_rows}
@@ -111,24 +111,18 @@ module _ (p : Name → Bool) (names : List Name) where
   position_at : (at : ℕ) → position_or_len p names ≡ at → position p names ≡ cond (nat_lt at (length names)) (Some at) None
   position_at at e = λ i. cond (nat_lt (e i) (length names)) (Some (e i)) None
 
-  lt_true : (m n : ℕ) → m < n → nat_lt m n ≡ true
-  lt_true m n h = grind arith
-
-  lt_false : (m n : ℕ) → n ≤ m → nat_lt m n ≡ false
-  lt_false m n h = grind arith
-
   pub first_passes : (at : ℕ) (n : Name) → slice_get names at ≡ Some n → p n ≡ true → NonePasses at → Some at ≡ position p names
   first_passes at n is passes before =
       let within = slice_get_within names at n is in
       sym (position_at at (first_at at (omega (arith, within)) before (λ m e. (let one : n ≡ m = (let both : Some n ≡ Some m = sym is ∙ e in cc) in ap p (sym one) ∙ passes)))
-      ∙ ap (λ b. cond b (Some at) None) (lt_true at (length names) within))
+      ∙ ap (λ b. cond b (Some at) None) (lt-ltb at (length names) within))
 
   pub none_passes : (at : ℕ) → length names ≤ at → NonePasses at → None ≡ position p names
   none_passes at past before =
       let whole = length names in
       let past_end : (n : Name) → slice_get names whole ≡ Some n → p n ≡ true = λ n e. absurd (let within = slice_get_within names whole n e in omega (arith, within)) in
       sym (position_at whole (first_at whole (omega arith) (λ k n less e. before k n (omega (arith, less, past)) e) past_end)
-      ∙ ap (λ b. cond b (Some whole) None) (lt_false whole whole (omega arith)))
+      ∙ ap (λ b. cond b (Some whole) None) (le-ltb whole whole (omega arith)))
 
 -- the tests in order -----------------------------------------------------------------------------------
 

@@ -1,5 +1,6 @@
 -- Names that stand earlier in a list, and the first of them.
 use Rattle.std.proofs.Common.{◌≡◌, ℕ, zero, suc, ◌+◌, ◌<◌, ◌≤◌, Bool, true, false, not, cond, ◌||◌, List, [], ◌∷◌, Some, None, Bor, BTreeSet, get_or, length, nat_lt, take, refl, sym, ap, ◌∙◌, arith}
+use Rattle.std.proofs.lemmas.Bool.{lt-ltb, le-ltb}
 use Rattle.std.specs.Prelude.{position, slice_get}
 use Rattle.std.specs.BTreeSet.{IsEmpty, Updates, contains}
 use Rattle.std.specs.Cmp.Lexicographic.{slice_cmp}
@@ -12,19 +13,12 @@ use Rattle.std.proofs.lemmas.List.FromFn.{length-range_with_len}
 use Rattle.std.proofs.lemmas.List.Sums.{position_or_len_is}
 use Rattle.std.proofs.lemmas.Map.Text.{is_eq-slice_cmp}
 use Rattle.std.proofs.lemmas.Option.{get_or_from_slice_get, slice_get_within}
+use Rattle.std.proofs.Math.Bool.{or-false, or_assoc}
 use Rattle.clr_layers.specs.Marks.{Name}
 use Rattle.clr_steps.specs.Names.{has, same_name}
 use Rattle.clr_clearance.specs.Verdicts.{first_repeated, is_repeated}
 
 -- one more name -------------------------------------------------------------------------------
-
-or_nothing : (b : Bool) → b || false ≡ b
-or_nothing true = refl
-or_nothing false = refl
-
-or_again : (a b c : Bool) → a || (b || c) ≡ (a || b) || c
-or_again true b c = refl
-or_again false b c = refl
 
 pub has_none : (names : List Name) (name : Name) → has (take 0 names) name ≡ false
 has_none [] name = refl
@@ -32,8 +26,8 @@ has_none (n ∷ ns) name = refl
 
 has_suc : (names : List Name) (k : ℕ) (n name : Name) → slice_get names k ≡ Some n → has (take (suc k) names) name ≡ has (take k names) name || same_name n name
 has_suc [] k n name e = absurd (cc)
-has_suc (m ∷ ms) zero n name e = let one : m ≡ n = cc in ap (λ x. x || false) (ap (λ x. same_name x name) one) ∙ or_nothing (same_name n name)
-has_suc (m ∷ ms) (suc k) n name e = ap (λ b. same_name m name || b) (has_suc ms k n name e) ∙ or_again (same_name m name) (has (take k ms) name) (same_name n name)
+has_suc (m ∷ ms) zero n name e = let one : m ≡ n = cc in ap (λ x. x || false) (ap (λ x. same_name x name) one) ∙ or-false (same_name n name)
+has_suc (m ∷ ms) (suc k) n name e = ap (λ b. same_name m name || b) (has_suc ms k n name e) ∙ sym (or_assoc (same_name m name) (has (take k ms) name) (same_name n name))
 
 pub has_more : (names : List Name) (k : ℕ) (n name : Name) → slice_get names k ≡ Some n → has (take (k + 1) names) name ≡ has (take k names) name || same_name n name
 has_more names k n name e = let next : k + 1 ≡ suc k = omega arith in ap (λ m. has (take m names) name) next ∙ has_suc names k n name e
@@ -90,22 +84,16 @@ first_at names at le before here =
 position_at : (p : ℕ → Bool) (xs : List ℕ) (at : ℕ) → position_or_len p xs ≡ at → position p xs ≡ cond (nat_lt at (length xs)) (Some at) None
 position_at p xs at e = λ i. cond (nat_lt (e i) (length xs)) (Some (e i)) None
 
-lt_true : (m n : ℕ) → m < n → nat_lt m n ≡ true
-lt_true m n h = grind arith
-
-lt_false : (m n : ℕ) → n ≤ m → nat_lt m n ≡ false
-lt_false m n h = grind arith
-
 pub first_is : (names : List Name) (at : ℕ) → at < length names → ((k : ℕ) → k < at → is_repeated names k ≡ false) → is_repeated names at ≡ true → Some at ≡ first_repeated names
 first_is names at less before here =
     sym (position_at (is_repeated names) (range_with_len 0 (length names)) at (first_at names at (omega (arith, less)) before (λ _. here))
-    ∙ ap (λ b. cond b (Some at) None) (ap (nat_lt at) (length-range_with_len 0 (length names)) ∙ lt_true at (length names) less))
+    ∙ ap (λ b. cond b (Some at) None) (ap (nat_lt at) (length-range_with_len 0 (length names)) ∙ lt-ltb at (length names) less))
 
 pub none_is : (names : List Name) (at : ℕ) → length names ≤ at → ((k : ℕ) → k < at → is_repeated names k ≡ false) → None ≡ first_repeated names
 none_is names at past before =
     let whole = length names in
     sym (position_at (is_repeated names) (range_with_len 0 whole) whole (first_at names whole (omega arith) (λ k less. before k (omega (arith, less, past))) (λ less. absurd (omega (arith, less))))
-    ∙ ap (λ b. cond b (Some whole) None) (ap (nat_lt whole) (length-range_with_len 0 whole) ∙ lt_false whole whole (omega arith)))
+    ∙ ap (λ b. cond b (Some whole) None) (ap (nat_lt whole) (length-range_with_len 0 whole) ∙ le-ltb whole whole (omega arith)))
 
 -- sets of names ----------------------------------------------------------------------------------
 

@@ -28,7 +28,7 @@ use Rattle.clr_clearance.specs.declared.verdicts.Verdict.{Verdict}
 use Rattle.clr_clearance.specs.declared.verdicts.Verdict.TheVariants as verdict
 use Rattle.clr_clearance.specs.Laws.{StaysFree}
 use Rattle.clr_clearance.specs.Safety.{Safe}
-use Rattle.clr_clearance.specs.Sites.{RootHolds, change_sets, numbered}
+use Rattle.clr_clearance.specs.Sites.{RootHolds, change_sets, setting_by_position}
 use Rattle.clr_clearance.specs.Verdicts.{IsVerdict, first_conflict, member_fault, name_fault}
 use Rattle.clr_clearance.specs.Verdicts.{of_member as member}
 use Rattle.clr_clearance.proofs.ClearLemmas.{clear_covers}
@@ -130,13 +130,13 @@ module _ (o : Office) (admitted : IsAdmitted o) where
 
     new_fits : (v : VersionId) (l : Lived ℕ) (n : Option ℕ) → new_version (after_of sets) v.cell n ≡ Some l → FitsCell o.schema (held v l)
     new_fits v l None e = absurd (cc)
-    new_fits v l (Some n) e = sets_fit s.members n v.cell l.row (new_is (numbered o s) n (after_of sets n v.cell) l e).0
+    new_fits v l (Some n) e = sets_fit s.members n v.cell l.row (new_is (setting_by_position o s) n (after_of sets n v.cell) l e).0
 
     either_fits : (v : VersionId) (l : Lived ℕ) (b : Bool) → cond b (new_version (after_of sets) v.cell (first v.cell)) (old_version (first v.cell) (row_at (content_of o s.root) v.cell)) ≡ Some l → FitsCell o.schema (held v l)
     either_fits v l true e = new_fits v l (first v.cell) e
-    either_fits v l false e = fits_content_of o admitted.fit.rows s.root v.cell l.row (old_is (numbered o s) (first v.cell) (row_at (content_of o s.root) v.cell) l e).0
+    either_fits v l false e = fits_content_of o admitted.fit.rows s.root v.cell l.row (old_is (setting_by_position o s) (first v.cell) (row_at (content_of o s.root) v.cell) l e).0
 
-    pub site_fits : FitsSetting (numbered o s)
+    pub site_fits : FitsSetting (setting_by_position o s)
     unfolding version root_content
     site_fits = record { tables = o.schema; book = admitted.fit.book; each = λ v l e. either_fits v l v.fresh e }
 

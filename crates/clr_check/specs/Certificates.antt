@@ -1,7 +1,7 @@
 -- The site that a certificate names, and the entries that it has.
 use Rattle.std.specs.Prelude.{List, map}
 use Rattle.clr_cert.specs.declared.certificates.Certificate.{Certificate}
-use Rattle.clr_cert.specs.declared.entries.Entry.{Entry}
+use Rattle.clr_cert.specs.declared.certificates.Entry.{Entry}
 use Rattle.clr_foot.specs.Covers.{Entry as Witnesses}
 use Rattle.clr_steps.specs.Quiet.{Site}
 

@@ -1,7 +1,7 @@
 -- Entries by need, and which of them cover one.
 use Rattle.std.specs.Prelude.{◌≡◌, ℕ, Bool, true, false, ◌||◌, List, Option, Some, None, Contains}
 use Rattle.std.specs.List.Sorted.{IsSortedByKey}
-use Rattle.clr_cert.specs.declared.entries.Entry.{Entry}
+use Rattle.clr_cert.specs.declared.certificates.Entry.{Entry}
 use Rattle.clr_foot.specs.declared.needs.Need.{Need}
 use Rattle.clr_foot.specs.Blocking.{same_life}
 use Rattle.clr_foot.specs.Covers.{Entry as Witnesses, WitnessesCover}

@@ -5,7 +5,7 @@ use Rattle.clr_foot.specs.Members.{AreApart}
 use Rattle.clr_foot.specs.Scenes.{IsReady, SceneModel, setting_of}
 use Rattle.clr_steps.specs.Offices.{Office}
 use Rattle.clr_steps.specs.Quiet.{Site, root_content}
-use Rattle.clr_clearance.specs.Sites.{change_sets, numbered}
+use Rattle.clr_clearance.specs.Sites.{change_sets, setting_by_position}
 use Rattle.clr_clearance.specs.Verdicts.{member_fault}
 use Rattle.clr_check.specs.declared.site_parts.SiteParts.{SiteParts}
 
@@ -22,6 +22,6 @@ AreOfSite o parts = (s : Site) × AreParts o s parts
 
 -- a scene of the root's rows and of the changes of each member by position, ready for its calls; no cell is changed by two
 pub record IsSceneOf {F : Type 0} (settled : F → Settled) (o : Office) (s : Site) (m : SceneModel F) : Type 0 where
-  pub setting : setting_of m ≡ numbered o s
+  pub setting : setting_of m ≡ setting_by_position o s
   pub ready : IsReady settled m
   pub apart : AreApart (change_sets o s)

@@ -1,7 +1,7 @@
 //! Entries of a certificate in the order of needs, so that those of a need are found by a search.
 
 ghost use Rattle.std.specs.Prelude.{◌↔◌, Contains, IfOk};
-ghost use Rattle.clr_cert.specs.declared.entries.Entry.{Entry as OneEntry};
+ghost use Rattle.clr_cert.specs.declared.certificates.Entry.{Entry as OneEntry};
 ghost use Rattle.clr_check.specs.Entries.{IsEntryOf, RiseByNeed};
 
 use clr_cert::Entry;

@@ -1,6 +1,6 @@
 ghost use Rattle.std.specs.Prelude.{◌≡◌, ◌<◌, ℕ, List, Some, length, map, slice_get};
 
-use clr_cert::Names;
+use clr_rows::Names;
 
 /// Names of workspaces in an order, seen as their list.
 pub trait NameList {

@@ -1,4 +1,5 @@
 ghost use Rattle.std.specs.Prelude.{◌≤◌, length};
+ghost use Rattle.clr_foot.specs.declared.limits.TheConstants.{MOST_MEMBERS};
 
 use clr_change::ChangeSet;
 use clr_grid::SpotIndex;
@@ -11,5 +12,5 @@ pub struct SiteParts<'a> {
     pub(crate) rows: View<'a>,
     pub(crate) finder: &'a SpotIndex,
     pub(crate) sets: Vec<ChangeSet>,
-    ghost few: { length sets.items ≤ 255 },
+    ghost few: { length sets.items ≤ MOST_MEMBERS },
 }

@@ -19,7 +19,7 @@ use Rattle.clr_steps.specs.Offices.{Office, content_of, find_name, is_kept, work
 use Rattle.clr_steps.specs.Effects.{after_merge, after_refresh, after_remove, effect, merged_content}
 use Rattle.clr_steps.specs.Quiet.{Member, Site, is_member, member_of}
 use Rattle.clr_steps.specs.Refusals.{breaks, first_broken, first_of, has_child, name_in, refusal, refusals_of, when}
-use Rattle.clr_steps.specs.Steps.{Answer, answer, settle, step}
+use Rattle.clr_steps.specs.Steps.{Answer, answer, refused_or_done, step}
 use Rattle.clr_steps.proofs.FindLemmas.{found_name}
 use Rattle.clr_steps.proofs.NeedLemmas.{none_if_holds}
 use Rattle.clr_steps.proofs.SchemaLemmas.{schema_law}
@@ -77,9 +77,9 @@ none_breaks o name content holds = ap (λ r. cond (is_kept o name) (option_map R
 
 -- answers ---------------------------------------------------------------------------------------------------
 
-pub step_as : (o : Office) (c : Command) (r : Option Reply) → refusal o c ≡ r → step o c ≡ settle r o (effect o c)
+pub step_as : (o : Office) (c : Command) (r : Option Reply) → refusal o c ≡ r → step o c ≡ refused_or_done r o (effect o c)
 unfolding step
-step_as o c r e = ap (λ x. settle x o (effect o c)) e
+step_as o c r e = ap (λ x. refused_or_done x o (effect o c)) e
 
 abbrev is_done : Reply → Bool
 is_done Done = true
@@ -100,8 +100,8 @@ absent_answered o c next of e = elim (of_absent o c e) [
 ]
 
 -- safe, where it is refused for this or for nothing
-safe_as : (o : Office) (c : Command) (r : Option Reply) → refusal o c ≡ r → is_clash (settle r o (effect o c)).reply ≡ false
-    → (is_ready o c ≡ true → (settle r o (effect o c)).reply ≡ Done) → IsSafeAnswer o c
+safe_as : (o : Office) (c : Command) (r : Option Reply) → refusal o c ≡ r → is_clash (refused_or_done r o (effect o c)).reply ≡ false
+    → (is_ready o c ≡ true → (refused_or_done r o (effect o c)).reply ≡ Done) → IsSafeAnswer o c
 safe_as o c r e clash done = record {
   no_clash = ap (λ (a : Answer). is_clash a.reply) (step_as o c r e) ∙ clash;
   is_done = λ h. ap (λ (a : Answer). a.reply) (step_as o c r e) ∙ done h;

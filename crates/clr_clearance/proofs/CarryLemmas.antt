@@ -10,7 +10,7 @@ use Rattle.clr_rules.specs.Calls.{calls, serves}
 use Rattle.clr_foot.specs.declared.needs.Need.{Need}
 use Rattle.clr_foot.specs.declared.needs.VersionId.{VersionId}
 use Rattle.clr_foot.specs.Covers.{AreCovered, CoversAlone, Entry, HasEntry, IsLifeOf, Lasts, WitnessesCover}
-use Rattle.clr_foot.specs.Needs.{AreOpposed, IsBesideToo, IsChanged, IsPossible, IsTouched, IsTouchedBy, Serves, ask_of, held_too, is_fresh}
+use Rattle.clr_foot.specs.Needs.{AreOpposed, IsBesideToo, IsChanged, IsPossible, IsTouchedBy, Serves, ask_of, held_too, is_fresh}
 use Rattle.clr_foot.specs.Settings.{Setting, AreDisjoint, Lifetime, Always, With, Without, Lived, changer, has, held, new_row, new_version, old_version, version}
 use Rattle.clr_foot.proofs.Lives.{new_is, old_is, opposed_too, version_by, version_by_changer}
 use Rattle.clr_foot.proofs.Merges.{IsChanger, changer_is}
@@ -397,7 +397,3 @@ module _ {A B : Type 0} (c : Setting A) (next : Setting B) (fate : A → Fate B)
     carried es covered n d e possible touched =
         let old = old_need n d e possible in
         entry_on n d e old es (covered old.need old.a old.b old.possible (was_touched n d e old touched))
-
-    -- a need that members touch was touched
-    pub was_touched_need : (n : Need) → IsTouched next n → (m : Need) × IsTouched c m × (on_need m ≡ n)
-    was_touched_need n (d, e, possible, touched) = let old = old_need n d e possible in (old.need, (old.a, old.b, old.possible, was_touched n d e old touched), old.named)

@@ -37,7 +37,7 @@ all_judged c entries needs list covered n a b possible touched = covered n ((lis
 
 -- a need has one row and life of each subject
 module _ (c : Setting ℕ) where
-  one_lived : (v : VersionId) (a d : Lived ℕ) → version c v ≡ Some a → version c v ≡ Some d → a ≡ d
+  pub one_lived : (v : VersionId) (a d : Lived ℕ) → version c v ≡ Some a → version c v ≡ Some d → a ≡ d
   one_lived v a d e f = let both : Some a ≡ Some d = sym e ∙ f in cc
 
   one_beside : (v : VersionId) (a d : Lived ℕ) (w : Option VersionId) (b e : Option (Lived ℕ)) → IsBesideToo c v a w b → IsBesideToo c v d w e → b ≡ e

@@ -2,7 +2,7 @@
 use Rattle.std.proofs.Common.{◌≡◌, ℕ, zero, suc, ◌+◌, ◌<◌, Bool, true, false, not, ◌||◌, cond, List, [], ◌∷◌, ◌⊎◌, inl, inr, refl, sym, ap, ◌∙◌, subst, arith, Option, Some, None, is_some, length, slice_get, slice_index_or, take}
 use Rattle.std.specs.List.{position, position_from, range_with_len}
 use Rattle.std.specs.Option.{option_map, option_or}
-use Rattle.std.proofs.lemmas.Bool.{cases_Bool, false≢true, true≢false, or_cases, or_left, or_right}
+use Rattle.std.proofs.lemmas.Bool.{cases_Bool, false≢true, true≢false, or_cases, or_left, or_right, not-false}
 use Rattle.std.proofs.lemmas.Iterator.Adapters.{position_from-zero}
 use Rattle.std.proofs.lemmas.List.FromFn.{length-range_with_len}
 use Rattle.std.proofs.lemmas.Option.{get_or_from_slice_get, slice_get-get_or, slice_get_within}
@@ -179,10 +179,6 @@ no_first_conflict o at (n ∷ ns) free =
     ap (λ cells. option_or (option_map (λ (c : CellId × ℕ). verdict.Conflict at c.0 c.1) (least_and_count cells)) (first_conflict o (suc at) ns)) (free n (or_left (same_name n n) (has ns n) (same_itself n)))
     ∙ no_first_conflict o (suc at) ns (λ name h. free name (or_right (same_name n name) (has ns name) h))
 
-not_false : (b : Bool) → not b ≡ false → b ≡ true
-not_false true e = refl
-not_false false e = absurd (false≢true (sym e))
-
 standing : (o : Office) (name : Name) (w : Workspace) → workspace o name ≡ Some w → stands o name ≡ true
 unfolding workspace stands
 standing o name w e = by (is_live name) (find_name name o.workspaces) e
@@ -230,7 +226,7 @@ module _ (o : Office) (site : Site) where
       record {
         kept = is_kept_root root.0;
         differ = all_differ site.members (no_map verdict.RepeatedMember (first_repeated site.members) repeated.0);
-        children = λ name h. not_false _ (each_of (λ n. not (is_child o site n)) site.members (no_map verdict.NotUnderRoot (position (λ n. not (is_child o site n)) site.members) missing.1) name h);
+        children = λ name h. not-false _ (each_of (λ n. not (is_child o site n)) site.members (no_map verdict.NotUnderRoot (position (λ n. not (is_child o site n)) site.members) missing.1) name h);
         free = all_free o 0 site.members both.1;
       }
 

@@ -22,6 +22,7 @@ use Rattle.clr_steps.specs.Quiet.{Site, is_member, is_root, root_content}
 use Rattle.clr_steps.specs.Readings.{conflicts_in}
 use Rattle.clr_steps.specs.Refusals.{conflict, in_conflict}
 use Rattle.clr_steps.proofs.FindLemmas.{same_is, same_itself}
+use Rattle.clr_steps.proofs.WorkspaceLemmas.{none_listed}
 use Rattle.clr_clearance.specs.Invariants.{Invariant}
 use Rattle.clr_clearance.specs.PlanLaws.{LastingCoverLaw, LastingLaw, StaysClear}
 use Rattle.clr_clearance.specs.Plans.{standing}
@@ -132,11 +133,7 @@ module _ (first : Office) (site : Site) (mergeable : AreMergeable first site) (n
   free_now name member h =
       let (w, e) = there name h in
       ap (λ r. option_map_or (λ (v : Workspace). conflicts (content_of now v.parent) (own_changes v)) r []) e
-      ∙ empty (conflicts (content_of now w.parent) (own_changes w)) (no_conflict_now first site mergeable names now inv name member w e)
-    where
-      empty : (cells : List CellId) → option_map in_conflict (least_and_count cells) ≡ None → cells ≡ []
-      empty [] e = refl
-      empty (cell ∷ cells) e = absurd (cc)
+      ∙ none_listed (conflicts (content_of now w.parent) (own_changes w)) (no_conflict_now first site mergeable names now inv name member w e)
 
   -- a member that stands has the changes that it had, unless it is merged
   changes_now : (name : Name) → is_member site name ≡ true → stands_now name ≡ true → (cell : CellId) → changed_by now name cell ≡ cond (has names name) None (changed_by first name cell)

@@ -9,7 +9,6 @@ pub mod NameLemmas
 pub mod OrderLemmas
 pub mod PickLemmas
 pub mod PlanLemmas
-pub mod PositionLemmas
 pub mod RefusedLemmas
 pub mod RunLemmas
 pub mod SafeLemmas

@@ -17,6 +17,7 @@ use Rattle.clr_steps.specs.Effects.{after_merge, after_refresh, after_remove, me
 use Rattle.clr_steps.specs.Quiet.{Member, Site, is_member, is_root, member_of, root_content}
 use Rattle.clr_steps.specs.Refusals.{conflict, conflict_with}
 use Rattle.clr_steps.proofs.FindLemmas.{same_is, same_itself}
+use Rattle.clr_steps.proofs.FirstLemmas.{some_is}
 use Rattle.clr_steps.proofs.WorkspaceLemmas.{merge_law, refresh_law}
 use Rattle.clr_clearance.specs.Invariants.{Invariant, IsMemberNow}
 use Rattle.clr_clearance.specs.Sites.{AreMergeable, changed_by, rows_with, setting_of}
@@ -148,9 +149,6 @@ module _ (first : Office) (site : Site) (mergeable : AreMergeable first site) (n
       where
         last : has more w.name ≡ true
         last = sym (has_moved names w.name w.name) ∙ or_left (same_name w.name w.name) (has names w.name) (same_itself w.name)
-
-    some_is : (m k : Member) → Some m ≡ Some k → m ≡ k
-    some_is m k e = cc
 
     none_is : (k : Member) → None ≡ Some k → ⊥
     none_is k e = cc

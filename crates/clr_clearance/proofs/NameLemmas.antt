@@ -1,5 +1,6 @@
 -- Lists of names as sets.
 use Rattle.std.proofs.Common.{◌≡◌, Bool, true, false, ◌||◌, List, [], ◌∷◌, ◌++◌, refl, sym, ap, ◌∙◌}
+use Rattle.std.proofs.Math.Bool.{or-false, or_assoc}
 use Rattle.clr_layers.specs.Marks.{Name}
 use Rattle.clr_foot.specs.Settings.{has as has_by}
 use Rattle.clr_steps.specs.Names.{same_name, has}
@@ -9,14 +10,6 @@ pub has_is : (names : List Name) (name : Name) → has_by same_name names name �
 has_is [] name = refl
 has_is (n ∷ ns) name = ap (λ b. same_name n name || b) (has_is ns name)
 
-or_nothing : (b : Bool) → b || false ≡ b
-or_nothing true = refl
-or_nothing false = refl
-
-or_again : (a b c : Bool) → (a || b) || c ≡ a || (b || c)
-or_again true b c = refl
-or_again false b c = refl
-
 or_turned : (a b : Bool) → a || b ≡ b || a
 or_turned true true = refl
 or_turned true false = refl
@@ -24,8 +17,8 @@ or_turned false true = refl
 or_turned false false = refl
 
 pub has_last : (names : List Name) (n name : Name) → has (names ++ n ∷ []) name ≡ has names name || same_name n name
-has_last [] n name = or_nothing (same_name n name)
-has_last (m ∷ ms) n name = ap (λ b. same_name m name || b) (has_last ms n name) ∙ sym (or_again (same_name m name) (has ms name) (same_name n name))
+has_last [] n name = or-false (same_name n name)
+has_last (m ∷ ms) n name = ap (λ b. same_name m name || b) (has_last ms n name) ∙ sym (or_assoc (same_name m name) (has ms name) (same_name n name))
 
 -- one more name, wherever it stands
 pub has_moved : (names : List Name) (n name : Name) → has (n ∷ names) name ≡ has (names ++ n ∷ []) name

@@ -1,5 +1,5 @@
 -- Orders of merges in which one is refused.
-use Rattle.std.proofs.Common.{◌≡◌, ◌⊎◌, ℕ, suc, ◌+◌, Bool, true, false, ◌||◌, cond, List, [], ◌∷◌, ◌++◌, inl, inr, refl, sym, ap, ◌∙◌, subst, arith, Option, Some, None, is_some, slice_get, unwrap_or}
+use Rattle.std.proofs.Common.{◌≡◌, ◌⊎◌, ℕ, suc, ◌+◌, Bool, true, false, cond, List, [], ◌∷◌, ◌++◌, inl, inr, refl, sym, ap, ◌∙◌, subst, arith, Option, Some, None, is_some, slice_get, unwrap_or}
 use Rattle.std.specs.List.{cons_option}
 use Rattle.std.specs.Option.{option_map, option_map_or, option_or}
 use Rattle.std.proofs.lemmas.Bool.{cases_Bool, false≢true, or_cases, or_left, or_parts, or_right}
@@ -32,6 +32,7 @@ use Rattle.clr_steps.specs.Refusals.{breaks, conflict, first_broken, first_of, i
 use Rattle.clr_steps.specs.Steps.{Answer, answer, step}
 use Rattle.clr_steps.proofs.FindLemmas.{found_name, same_is as same_name_is, same_itself as same_name_itself}
 use Rattle.clr_steps.proofs.NeedLemmas.{holds_if_none}
+use Rattle.clr_steps.proofs.RuleLemmas.{holds_where}
 use Rattle.clr_clearance.specs.Invariants.{Invariant}
 use Rattle.clr_clearance.specs.declared.verdicts.Verdict.TheVariants as verdict
 use Rattle.clr_clearance.specs.Plans.{IsFirstUnpicked, is_refused, names_at}
@@ -39,7 +40,7 @@ use Rattle.clr_clearance.specs.Verdicts.{first_conflict}
 use Rattle.clr_clearance.proofs.PickLemmas.{blockers_are, unpicked_is_uncovered}
 use Rattle.clr_clearance.specs.Runs.{merged_by}
 use Rattle.clr_clearance.specs.Safety.{is_clash}
-use Rattle.clr_clearance.specs.Sites.{AreMergeable, RootHolds, numbered, rows_with, setting_of}
+use Rattle.clr_clearance.specs.Sites.{AreMergeable, RootHolds, setting_by_position, rows_with, setting_of}
 use Rattle.clr_clearance.proofs.AnswerLemmas.{broken_or_none, merge_claim, of_standing, performed_as, step_as}
 use Rattle.clr_clearance.proofs.EffectLemmas.{StepsTo, merge_steps, shown}
 use Rattle.clr_clearance.proofs.MemberLemmas.{it, merged_rows, not_root, rows_last}
@@ -88,11 +89,7 @@ merge_ends o name w e = elim (conflict_or_none o w) [
 
 unbroken_holds : (o : Office) (name : Name) (content : Content) → is_kept o name ≡ true → breaks o name content ≡ None → Holds o.book (row_at content)
 unfolding breaks
-unbroken_holds o name content kept none = holds_if_none o.book content (by (first_broken o.book content) (sym (ap (λ b. cond b (option_map RuleBroken (first_broken o.book content)) None) kept) ∙ none))
-  where
-    by : (r : Option Broken) → option_map RuleBroken r ≡ None → r ≡ None
-    by None e = refl
-    by (Some need) e = absurd (cc)
+unbroken_holds o name content kept none = holds_where (is_kept o name) o.book content none kept
 
 -- merges of members one after another -------------------------------------------------------------------------
 
@@ -192,15 +189,15 @@ module _ (o : Office) (site : Site) where
 
 -- a need that nothing covers ------------------------------------------------------------------------------------
 
-pub unpicked_is_refused : (o : Office) (site : Site) (order : List ℕ) (n : Need) → AreMergeable o site → RootHolds o site → IsFirstUnpicked (numbered o site) n → Blocks (numbered o site) n order
+pub unpicked_is_refused : (o : Office) (site : Site) (order : List ℕ) (n : Need) → AreMergeable o site → RootHolds o site → IsFirstUnpicked (setting_by_position o site) n → Blocks (setting_by_position o site) n order
     → is_refused o (names_at site order) ≡ true
 unpicked_is_refused o site order n mergeable holds first blocks = breaking_is_refused o site mergeable (names_at site order) (names_part o site order) holds breaking
   where
     breaking : Holds o.book (rows_with o site (names_at site order)) → ⊥
     breaking good =
         let (a, b, possible, touched) = first.touched in
-        let uncovered = unpicked_is_uncovered (numbered o site) n a b possible (first.none a b possible) in
-        let blockers = blockers_are (numbered o site) n a b order possible (blocks a b possible) in
+        let uncovered = unpicked_is_uncovered (setting_by_position o site) n a b possible (first.none a b possible) in
+        let blockers = blockers_are (setting_by_position o site) n a b order possible (blocks a b possible) in
         uncovered_breaks (by_position (setting_of o site)) n a b order
         (subst (λ c. IsUncovered c n a b) (numbered_is o site) uncovered)
         (subst (λ c. AreBlockers c n a b order) (numbered_is o site) blockers)

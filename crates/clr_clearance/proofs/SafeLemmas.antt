@@ -14,6 +14,7 @@ use Rattle.clr_steps.specs.declared.commands.Reply.TheVariants.{Done, OutOfMemor
 use Rattle.clr_steps.specs.Offices.{Office}
 use Rattle.clr_steps.specs.Quiet.{Member, Site, is_of_member, is_quiet, member_of}
 use Rattle.clr_steps.specs.Steps.{run, step, step_or_lost}
+use Rattle.clr_steps.proofs.FirstLemmas.{some_is}
 use Rattle.clr_steps.proofs.QuietLemmas.{quiet_law}
 use Rattle.clr_steps.proofs.SchemaLemmas.{schema_law}
 use Rattle.clr_clearance.specs.Invariants.{Invariant, IsMemberNow}
@@ -39,9 +40,6 @@ at_first first site mergeable = record {
         agrees = member_agrees first site name child.at mergeable member child.is;
       }));
 }
-  where
-    some_is : (m k : Member) → Some m ≡ Some k → m ≡ k
-    some_is m k e = cc
 
 -- what no merge or refresh of a member leaves
 others_last : (first : Office) (site : Site) (names : List Name) (now : Office) (c : Command) → Invariant first site names now → is_quiet now site c ≡ true → is_of_member site c ≡ false → Invariant first site names (step now c).office

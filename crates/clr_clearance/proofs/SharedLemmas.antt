@@ -2,7 +2,7 @@
 use Rattle.std.proofs.Common.{◌≡◌, ℕ, Bool, true, false, ◌&&◌, cond, not, [], ◌∷◌, inl, inr, refl, sym, ap, ◌∙◌, arith, Option, Some, None, is_some, slice_get, unwrap_or}
 use Rattle.std.specs.List.{cons_option}
 use Rattle.std.specs.Option.{option_map}
-use Rattle.std.proofs.lemmas.Bool.{false≢true, true≢false, or_left, or_right}
+use Rattle.std.proofs.lemmas.Bool.{false≢true, true≢false, or_left, or_right, not-false}
 use Rattle.clr_rows.specs.declared.cells.CellId.{CellId}
 use Rattle.clr_rows.specs.Contents.{is_changed, row_at, taken_over}
 use Rattle.clr_rows.specs.Same.{same}
@@ -71,12 +71,8 @@ module _ (o : Office) (site : Site) (kept : is_kept o site.root ≡ true) (cell 
       let changed : is_changed v.base v.current cell ≡ true = ap (λ (k : Member). is_changed k.base k.current cell) looks ∙ second.changed in
       let above : row_at (content_of next v.parent) cell ≡ row_at first.at.current cell = ap (λ c. row_at c cell) (content_above next site v parent ∙ root) ∙ taken_there in
       let free = (conflict_law (content_of next v.parent) v).0 none cell in
-      let equal : same (row_at (content_of next v.parent) cell) (row_at v.base cell) ≡ true = of_false _ (sym (ap (λ b. b && not (same (row_at (content_of next v.parent) cell) (row_at v.base cell))) changed) ∙ free) in
+      let equal : same (row_at (content_of next v.parent) cell) (row_at v.base cell) ≡ true = not-false _ (sym (ap (λ b. b && not (same (row_at (content_of next v.parent) cell) (row_at v.base cell))) changed) ∙ free) in
       differs (sym above ∙ same_is (row_at (content_of next v.parent) cell) (row_at v.base cell) equal ∙ ap (λ (k : Member). row_at k.base cell) looks)
-    where
-      of_false : (b : Bool) → not b ≡ false → b ≡ true
-      of_false true e = refl
-      of_false false e = absurd (true≢false e)
 
   both_are_refused : is_refused o (m ∷ n ∷ []) ≡ true
   both_are_refused = by (merge_ends o m first.at first.is)

@@ -2,7 +2,7 @@
 use Rattle.std.proofs.Common.{◌≡◌, ℕ, zero, suc, true, false, not, ◌==◌, List, [], ◌∷◌, refl, sym, ap, ◌∙◌, subst, Option, Some, None, is_some, slice_get}
 use Rattle.std.specs.List.{range_with_len}
 use Rattle.std.specs.Option.{option_map, option_map_or}
-use Rattle.std.proofs.lemmas.Bool.{and_parts, false≢true, or_left, or_right}
+use Rattle.std.proofs.lemmas.Bool.{and_parts, false≢true, or_left, or_right, not-true}
 use Rattle.std.proofs.lemmas.Bool.Decides.{Decides-eqb}
 use Rattle.std.proofs.lemmas.List.{length-map}
 use Rattle.std.proofs.lemmas.Option.{slice_get-map}
@@ -11,19 +11,20 @@ use Rattle.clr_rows.specs.Contents.{conflicts, row_at}
 use Rattle.clr_layers.specs.Marks.{Name}
 use Rattle.clr_layers.specs.Workspaces.{Workspace}
 use Rattle.clr_tree.specs.Operations.{own_changes}
-use Rattle.clr_foot.specs.Covers.{AreCovered, Entry}
+use Rattle.clr_foot.specs.Covers.{Entry}
+use Rattle.clr_foot.specs.Laws.{SayTheSame}
 use Rattle.clr_foot.specs.Members.{AreApart, after_at, after_of}
 use Rattle.clr_foot.specs.Positions.{after_member, by_position}
 use Rattle.clr_foot.specs.Settings.{Setting, AreDisjoint, has as has_by}
-use Rattle.clr_foot.proofs.PositionLaws.{holds_by_position}
+use Rattle.clr_foot.proofs.CoverLaws.{covered_holds}
+use Rattle.clr_foot.proofs.PositionLaws.{say_the_same}
 use Rattle.clr_steps.specs.Names.{same_name}
 use Rattle.clr_steps.specs.Offices.{Office, workspace, content_of}
 use Rattle.clr_steps.specs.Quiet.{Site, is_root, is_member, root_content}
 use Rattle.clr_steps.specs.Readings.{changes_in, conflicts_in}
 use Rattle.clr_steps.proofs.FindLemmas.{same_itself}
-use Rattle.clr_steps.proofs.MarkLemmas.{not_true}
-use Rattle.clr_clearance.specs.Laws.{StaticLaw}
-use Rattle.clr_clearance.specs.Sites.{AgreesWith, AreMergeable, Covers, KeepsRules, RootHolds, change_sets, changed_by, is_child, numbered, setting_of}
+use Rattle.clr_clearance.specs.Laws.{NumberLaw, StaticLaw}
+use Rattle.clr_clearance.specs.Sites.{AgreesWith, AreMergeable, Covers, KeepsRules, RootHolds, change_sets, changed_by, is_child, setting_by_position, setting_of}
 use Rattle.clr_clearance.proofs.SiteLemmas.{changed_by-standing, content_above, free_agrees, some_is_changed, untaken}
 
 -- children -------------------------------------------------------------------------------------------
@@ -41,7 +42,7 @@ child_under o site name h = by (workspace o name) refl (and_parts (not (is_root 
     by (Some w) e h = record { at = w; is = e; under = h }
 
 pub child_apart : (o : Office) (site : Site) (name : Name) → is_child o site name ≡ true → is_root site name ≡ false
-child_apart o site name h = not_true _ (and_parts (not (is_root site name)) _ h).0
+child_apart o site name h = not-true _ (and_parts (not (is_root site name)) _ h).0
 
 pub child_parent : (o : Office) (site : Site) (name : Name) (w : Workspace) → is_child o site name ≡ true → workspace o name ≡ Some w → is_root site w.parent ≡ true
 child_parent o site name w h e = sym (ap (λ r. option_map_or (λ (v : Workspace). is_root site v.parent) r false) e) ∙ (and_parts (not (is_root site name)) _ h).1
@@ -70,7 +71,7 @@ module _ (o : Office) (site : Site) where
       by None = refl
       by (Some name) = refl
 
-  pub numbered_is : numbered o site ≡ by_position c
+  pub numbered_is : setting_by_position o site ≡ by_position c
   numbered_is = λ i. record {
     rules = o.book;
     root = row_at (root_content o site);
@@ -103,12 +104,15 @@ module _ (o : Office) (site : Site) where
   apart_by_position mergeable j k cell hj hk changes changes_too =
       apart_sets mergeable cell j k (ap is_some (same_after j cell) ∙ changes) (ap is_some (same_after k cell) ∙ changes_too)
 
+pub number_law : NumberLaw
+number_law o site = subst (SayTheSame (setting_of o site)) (sym (numbered_is o site)) (say_the_same (setting_of o site))
+
 pub keeps_rules : (o : Office) (site : Site) (entries : List Entry) → Covers o site entries → RootHolds o site → KeepsRules o site
 keeps_rules o site entries covers holds names part =
-    holds_by_position (setting_of o site) entries
+    covered_holds (setting_of o site) entries
     (record {
-      apart = apart_by_position o site covers.mergeable;
-      covered = subst (λ s. AreCovered s entries) (numbered_is o site) covers.covered;
+      apart = covers.mergeable.apart;
+      covered = ((number_law o site).covered entries).1 covers.covered;
       holds = holds;
     })
     names part

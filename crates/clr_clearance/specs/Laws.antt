@@ -3,10 +3,9 @@ use Rattle.std.specs.Prelude.{◌≡◌, ◌↔◌, ℕ, Bool, true, false, List
 use Rattle.clr_rows.specs.declared.cells.CellId.{CellId}
 use Rattle.clr_layers.specs.Marks.{Name}
 use Rattle.clr_layers.specs.Workspaces.{Workspace}
-use Rattle.clr_foot.specs.declared.needs.Need.{Need}
-use Rattle.clr_foot.specs.Covers.{AreCovered, Entry}
-use Rattle.clr_foot.specs.Needs.{IsTouched}
-use Rattle.clr_foot.specs.Settings.{Setting, IsPart}
+use Rattle.clr_foot.specs.Covers.{Entry}
+use Rattle.clr_foot.specs.Laws.{SayTheSame}
+use Rattle.clr_foot.specs.Settings.{IsPart}
 use Rattle.clr_steps.specs.declared.commands.Command.{Command}
 use Rattle.clr_steps.specs.declared.commands.Command.TheVariants as command
 use Rattle.clr_steps.specs.declared.commands.Reply.{Reply}
@@ -21,18 +20,13 @@ use Rattle.clr_clearance.specs.ClearedRuns.{IsClearedRun, IsQuietStart}
 use Rattle.clr_clearance.specs.Invariants.{Invariant}
 use Rattle.clr_clearance.specs.Runs.{AreQuiet, merged_by, merged_in}
 use Rattle.clr_clearance.specs.Safety.{IsMergeOf, IsSafeAnswer, Safe}
-use Rattle.clr_clearance.specs.Sites.{AgreesWith, AreMergeable, Covers, KeepsRules, RootHolds, numbered, rows_with, setting_of}
+use Rattle.clr_clearance.specs.Sites.{AgreesWith, AreMergeable, Covers, KeepsRules, RootHolds, setting_by_position, rows_with, setting_of}
 use Rattle.clr_clearance.specs.Verdicts.{IsVerdict}
 
 -- members by name and by position --------------------------------------------------------------------
 
--- the same needs are touched, and the same entries cover them
-pub record SayTheSame {A B : Type 0} (c : Setting A) (d : Setting B) : Type 0 where
-  pub touched : (need : Need) → IsTouched c need ↔ IsTouched d need
-  pub covered : (entries : List Entry) → AreCovered c entries ↔ AreCovered d entries
-
 abbrev pub NumberLaw : Type 0
-NumberLaw = (o : Office) (site : Site) → AreMergeable o site → SayTheSame (setting_of o site) (numbered o site)
+NumberLaw = (o : Office) (site : Site) → SayTheSame (setting_of o site) (setting_by_position o site)
 
 -- without commands between merges -------------------------------------------------------------------
 

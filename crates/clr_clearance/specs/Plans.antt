@@ -21,7 +21,7 @@ use Rattle.clr_steps.specs.Steps.{run}
 use Rattle.clr_clearance.specs.declared.verdicts.Verdict.{Verdict}
 use Rattle.clr_clearance.specs.declared.verdicts.Verdict.TheVariants as verdict
 use Rattle.clr_clearance.specs.Safety.{is_clash}
-use Rattle.clr_clearance.specs.Sites.{change_sets, numbered}
+use Rattle.clr_clearance.specs.Sites.{change_sets, setting_by_position}
 use Rattle.clr_clearance.specs.Verdicts.{first_conflict, member_fault, name_fault}
 
 -- merges of some members in order, the workspaces kept
@@ -55,7 +55,7 @@ IsUnfit o site v = name_fault o site ≡ Some v
 pub record IsCleared (o : Office) (site : Site) (entries : List Entry) : Type 0 where
   pub free : member_fault o site ≡ None
   pub apart : AreApart (change_sets o site)
-  pub picked : ArePicked (numbered o site) entries
+  pub picked : ArePicked (setting_by_position o site) entries
 
 -- a blocked plan: the cause, and the positions of members in the order of merges that it refuses: the member in conflict; the first two that change a
 -- cell; or the members that break a need
@@ -64,8 +64,8 @@ pub data IsBlocked (o : Office) (site : Site) (order : List ℕ) (cause : Verdic
       → order ≡ at ∷ [] → cause ≡ verdict.Conflict at cell count → IsBlocked o site order cause
   of_shared : (cell : CellId) (i j : ℕ) → member_fault o site ≡ None → IsSceneFault (change_sets o site) (scene.SharedCell cell i j)
       → order ≡ i ∷ j ∷ [] → cause ≡ verdict.SharedCell cell i j → IsBlocked o site order cause
-  of_unpicked : (n : Need) → member_fault o site ≡ None → AreApart (change_sets o site) → IsFirstUnpicked (numbered o site) n
-      → Blocks (numbered o site) n order → cause ≡ verdict.Uncovered n → IsBlocked o site order cause
+  of_unpicked : (n : Need) → member_fault o site ≡ None → AreApart (change_sets o site) → IsFirstUnpicked (setting_by_position o site) n
+      → Blocks (setting_by_position o site) n order → cause ≡ verdict.Uncovered n → IsBlocked o site order cause
 
 -- the members that stand
 abbrev pub standing : Office → Site → Site

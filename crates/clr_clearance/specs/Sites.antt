@@ -44,8 +44,8 @@ abbrev pub change_sets : Office → Site → List Changes
 change_sets o site = map (changes_in o) site.members
 
 -- the members by position
-abbrev pub numbered : Office → Site → Setting ℕ
-numbered o site = setting o.book (root_content o site) (change_sets o site)
+abbrev pub setting_by_position : Office → Site → Setting ℕ
+setting_by_position o site = setting o.book (root_content o site) (change_sets o site)
 
 -- a workspace under the root, which is no child of itself
 abbrev pub is_child : Office → Site → Name → Bool
@@ -62,7 +62,7 @@ pub record AreMergeable (o : Office) (site : Site) : Type 0 where
 -- and each need that they touch has an entry that covers it
 pub record Covers (o : Office) (site : Site) (entries : List Entry) : Type 0 where
   pub mergeable : AreMergeable o site
-  pub covered : AreCovered (numbered o site) entries
+  pub covered : AreCovered (setting_by_position o site) entries
 
 -- every rule holds in the root
 abbrev pub RootHolds : Office → Site → Type 0

@@ -19,7 +19,7 @@ use Rattle.clr_steps.specs.Quiet.{Site}
 use Rattle.clr_steps.specs.Readings.{conflicts_in}
 use Rattle.clr_clearance.specs.declared.verdicts.Verdict.{Verdict}
 use Rattle.clr_clearance.specs.declared.verdicts.Verdict.TheVariants as verdict
-use Rattle.clr_clearance.specs.Sites.{change_sets, is_child, numbered}
+use Rattle.clr_clearance.specs.Sites.{change_sets, is_child, setting_by_position}
 
 -- the name at a position stands earlier in the list
 abbrev pub is_repeated : List Name → ℕ → Bool
@@ -70,5 +70,5 @@ pub data IsVerdict (o : Office) (site : Site) (entries : List Entry) (v : Verdic
   of_cell : (cell : CellId) (i j : ℕ) → member_fault o site ≡ None
       → IsSceneFault (change_sets o site) (scene.SharedCell cell i j) → v ≡ verdict.SharedCell cell i j → IsVerdict o site entries v
   of_need : (n : Need) (a : Lived ℕ) (b : Option (Lived ℕ)) → member_fault o site ≡ None → AreApart (change_sets o site)
-      → IsFirstUncovered (numbered o site) entries n a b → v ≡ verdict.Uncovered n → IsVerdict o site entries v
-  of_none : member_fault o site ≡ None → AreApart (change_sets o site) → AreCovered (numbered o site) entries → v ≡ verdict.Clear → IsVerdict o site entries v
+      → IsFirstUncovered (setting_by_position o site) entries n a b → v ≡ verdict.Uncovered n → IsVerdict o site entries v
+  of_none : member_fault o site ≡ None → AreApart (change_sets o site) → AreCovered (setting_by_position o site) entries → v ≡ verdict.Clear → IsVerdict o site entries v

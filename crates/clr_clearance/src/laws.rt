@@ -3,8 +3,8 @@
 ghost use Rattle.clr_clearance.specs.Laws.{ClearIsSafeLaw, ClearLaw, ClearedRunLaw, MergeLaw, OneVerdictLaw};
 ghost use Rattle.clr_clearance.specs.Laws.{NumberLaw, OrderLaw, QuietListLaw, RefreshLaw, SafeLaw, StaticLaw};
 
-/// Members by name and by position say the same: they touch the same needs, which the same entries
-/// cover.
+/// Members by name and by position say the same: the same versions, whose lives name the same
+/// members, the same needs, and what serves, covers or breaks them.
 pub fn numbers_stand_for_names()
     ensures { NumberLaw }
 {}

@@ -19,7 +19,7 @@ use Rattle.clr_rules.specs.declared.needs.Broken.{Broken}
 use Rattle.clr_rules.specs.declared.rules.Rule.{Rule}
 use Rattle.clr_rules.specs.Calls.{serves}
 use Rattle.clr_rules.proofs.BrokenOrder.{broken_total}
-use Rattle.clr_rules.specs.Needs.{Holds, IsBroken, IsMet, IsNeed, IsLeastBroken, View, broken_at, broken_cmp}
+use Rattle.clr_rules.specs.Needs.{Holds, IsBroken, IsMet, IsNeed, IsLeastBroken, broken_at, broken_cmp}
 use Rattle.clr_rules.specs.Needs as audit
 use Rattle.clr_foot.specs.declared.needs.Need.{Need}
 use Rattle.clr_foot.specs.declared.needs.VersionId.{VersionId}
@@ -81,8 +81,8 @@ module _ (rules : List Rule) (root : Content) (sets : List Changes) (one : lengt
       by (Without n) e = ap not (or_left (0 == n) false (member n (subst (λ k. Names k n) (sym e) refl)))
 
   module _ (n : Need) (a : Lived ℕ) (b : Option (Lived ℕ)) (p : IsPossible s n a b) where
-    standing : are_living a b ≡ true → IsStandingNeed s ts n a b
-    standing living = record { possible = p; live = λ l h. by n.second b p.second_is living l h }
+    it_stands : are_living a b ≡ true → IsStandingNeed s ts n a b
+    it_stands living = record { possible = p; live = λ l h. by n.second b p.second_is living l h }
       where
         by : (w : Option VersionId) (b : Option (Lived ℕ)) → IsBesideToo s n.first a w b → are_living a b ≡ true → (l : Lifetime ℕ) → IsSubjectLife s a b l → lives s ts l ≡ true
         by None None is e l (inl f) = ap (lives s ts) f ∙ life_told n.first a p.first_is ∙ e
@@ -144,17 +144,17 @@ module _ (rules : List Rule) (root : Content) (sets : List Changes) (one : lengt
   lost_is_broken n (a, b, p, living, unserved) = subst (λ view. IsBroken rules view (broken_of n)) views (record {
     first = held n.first a;
     second = held_too n.second b;
-    need = is_need s ts n a b merge (standing n a b p living);
+    need = is_need s ts n a b merge (it_stands n a b p living);
     unmet = λ met. unserved (server_lives n a b (server_of s ts n a b merge met));
-    named = named n.second b p.second_is;
+    named = same_names n.second b p.second_is;
   })
     where
-      named : (w : Option VersionId) (b : Option (Lived ℕ)) → IsBesideToo s n.first a w b
+      same_names : (w : Option VersionId) (b : Option (Lived ℕ)) → IsBesideToo s n.first a w b
           → broken_of (need_of (ask_of n) n.first w) ≡ broken_at (ask_of n) (held n.first a) (held_too w b)
-      named None None is = refl
-      named None (Some b) is = absurd is
-      named (Some w) None is = absurd is
-      named (Some w) (Some b) is = refl
+      same_names None None is = refl
+      same_names None (Some b) is = absurd is
+      same_names (Some w) None is = absurd is
+      same_names (Some w) (Some b) is = refl
 
   -- a broken need is that of a touched one that nothing serves
   pub record IsBrokenBy (b : Broken) (n : Need) : Type 0 where
@@ -165,8 +165,8 @@ module _ (rules : List Rule) (root : Content) (sets : List Changes) (one : lengt
   pub broken_by : Holds rules s.root → (b : Broken) → IsBroken rules (merged s) b → (n : Need) × IsBrokenBy b n
   broken_by holds b broken = by b (subst (λ view. IsBroken rules view b) (sym views) broken)
     where
-      made : (b : Broken) (n : Need) (x : Lived ℕ) (y : Option (Lived ℕ)) → IsStandingNeed s ts n x y → b ≡ broken_of n → (HasServer s ts n x y → ⊥) → (n : Need) × IsBrokenBy b n
-      made b n x y need named unserved = go (touched_or_served holds n x y need.possible)
+      break_of : (b : Broken) (n : Need) (x : Lived ℕ) (y : Option (Lived ℕ)) → IsStandingNeed s ts n x y → b ≡ broken_of n → (HasServer s ts n x y → ⊥) → (n : Need) × IsBrokenBy b n
+      break_of b n x y need named unserved = go (touched_or_served holds n x y need.possible)
         where
           go : IsTouchedBy s n x y ⊎ HasServer s ts n x y → (n : Need) × IsBrokenBy b n
           go (inl touched) = (
@@ -189,7 +189,7 @@ module _ (rules : List Rule) (root : Content) (sets : List Changes) (one : lengt
               let x : Lived ℕ = record { row = first.1; life = v.life } in
               let n = need_of (audit.ask_of b) (record { cell = first.0; fresh = v.fresh }) None in
               let stand : IsStandingNeed s ts n x None = record { possible = record { first_is = v.is; second_is = tt; they_call = need.they_call }; live = λ l h. alone l x v.lives h } in
-              made b n x None stand named (λ h. unmet (met_by s ts n x None merge h))
+              break_of b n x None stand named (λ h. unmet (met_by s ts n x None merge h))
             where
               alone : (l : Lifetime ℕ) (x : Lived ℕ) → lives s ts x.life ≡ true → IsSubjectLife s x None l → lives s ts l ≡ true
               alone l x living (inl e) = ap (lives s ts) e ∙ living
@@ -204,7 +204,7 @@ module _ (rules : List Rule) (root : Content) (sets : List Changes) (one : lengt
                 possible = record { first_is = v.is; second_is = record { is = w.is; ascending = need.beside.1; not_opposed = never_both s ts v.life w.life v.lives w.lives }; they_call = need.they_call };
                 live = λ l h. both l x y v.lives w.lives h;
               } in
-              made b n x (Some y) stand named (λ h. unmet (met_by s ts n x (Some y) merge h))
+              break_of b n x (Some y) stand named (λ h. unmet (met_by s ts n x (Some y) merge h))
             where
               both : (l : Lifetime ℕ) (x y : Lived ℕ) → lives s ts x.life ≡ true → lives s ts y.life ≡ true → IsSubjectLife s x (Some y) l → lives s ts l ≡ true
               both l x y living living_too (inl e) = ap (lives s ts) e ∙ living

@@ -38,12 +38,12 @@ told_opposed _ _ e = absurd (false≢true e)
 
 -- ---- one need
 
-pub unserved : (x y z : Bool) → z ≡ x → z ≡ false → (x && y) ≡ false
-unserved x y z is fails = ap (λ b. b && y) (sym is ∙ fails)
+pub asked_without_server : (x y z : Bool) → z ≡ x → z ≡ false → (x && y) ≡ false
+asked_without_server x y z is fails = ap (λ b. b && y) (sym is ∙ fails)
 
-pub uncalled : (x y z : Bool) → z ≡ y → z ≡ false → (x && y) ≡ false
-uncalled true y z is fails = sym is ∙ fails
-uncalled false y z is fails = refl
+pub asked_without_call : (x y z : Bool) → z ≡ y → z ≡ false → (x && y) ≡ false
+asked_without_call true y z is fails = sym is ∙ fails
+asked_without_call false y z is fails = refl
 
 pub both_told : (x y v w : Bool) → v ≡ x → w ≡ y → v ≡ true → w ≡ true → (x && y) ≡ true
 both_told x y v w is is_too passes passes_too = (λ i. sym is i && sym is_too i) ∙ (λ i. passes i && passes_too i)
@@ -66,8 +66,8 @@ module _ (rules : List Rule) (number : ℕ) (r : Option Version) (s : Version) w
   pub plain_need : (n : Need) → IsNeedOf rules number r s None n → ask_of n ≡ plain_ask number
   plain_need n w = let parts = alone_parts rules (ask_of n) (row_of s) (they_call None n w) in λ i. record { rule = w.rule i; first_part = parts.0 i; second_part = parts.1 i }
 
-  unasked : (t : Option Version) (ask : Ask) (n : Need) → is_asked rules ask r s t ≡ false → IsNeedOf rules number r s t n → ask_of n ≡ ask → ⊥
-  unasked t ask n fails w is = false≢true (sym fails ∙ ap (λ a. is_asked rules a r s t) (sym is) ∙ w.asked)
+  not_asked : (t : Option Version) (ask : Ask) (n : Need) → is_asked rules ask r s t ≡ false → IsNeedOf rules number r s t n → ask_of n ≡ ask → ⊥
+  not_asked t ask n fails w is = false≢true (sym fails ∙ ap (λ a. is_asked rules a r s t) (sym is) ∙ w.asked)
 
   module _ (needs : List Need) where
     pub add_alone : (new : List Need) (n : Need) → new ≡ needs ++ n ∷ [] → n ≡ need_of (plain_ask number) s.id None → is_asked rules (plain_ask number) r s None ≡ true
@@ -76,7 +76,7 @@ module _ (rules : List Rule) (number : ℕ) (r : Option Version) (s : Version) w
         (λ x w. same_need None (plain_ask number) x w (plain_need x w) ∙ sym named)
 
     pub none_alone : is_asked rules (plain_ask number) r s None ≡ false → Gains (IsNeedOf rules number r s None) (IsNeedOf rules number r s None) needs needs
-    none_alone fails = gains_none (IsNeedOf rules number r s None) (IsNeedOf rules number r s None) needs (λ x w. unasked None (plain_ask number) x fails w (plain_need x w))
+    none_alone fails = gains_none (IsNeedOf rules number r s None) (IsNeedOf rules number r s None) needs (λ x w. not_asked None (plain_ask number) x fails w (plain_need x w))
 
   -- the number of a part
   pub first_within : (t : Version) (n : Need) → IsNeedOf rules number r s (Some t) n → n.first_part ≤ part_count rules number (row_of s)
@@ -105,7 +105,7 @@ module _ (rules : List Rule) (ask : Ask) (r : Option Version) (s t : Version) (n
       (λ x w. same_need rules ask.rule r s (Some t) ask x w.need w.is ∙ sym named)
 
   pub none_asked : is_asked rules ask r s (Some t) ≡ false → Gains (IsNeedOf rules ask.rule r s (Some t)) (IsNeedOfAsk rules ask r s t) needs needs
-  none_asked fails = gains_none (IsNeedOf rules ask.rule r s (Some t)) (IsNeedOfAsk rules ask r s t) needs (λ x w. unasked rules ask.rule r s (Some t) ask x fails w.need w.is)
+  none_asked fails = gains_none (IsNeedOf rules ask.rule r s (Some t)) (IsNeedOfAsk rules ask r s t) needs (λ x w. not_asked rules ask.rule r s (Some t) ask x fails w.need w.is)
 
 -- ---- part after part
 
@@ -178,12 +178,12 @@ module _ (rules : List Rule) (number : ℕ) (r : Option Version) (s t : Version)
     where
       none : (n : Need) → Pair n → ⊥
       none n (inl w) = w.not_opposed (told_opposed (lived s).life (lived t).life opposed)
-      none n (inr w) = w.not_opposed (turned (lived s).life (lived t).life (told_opposed (lived s).life (lived t).life opposed))
+      none n (inr w) = w.not_opposed (opposed_back (lived s).life (lived t).life (told_opposed (lived s).life (lived t).life opposed))
         where
-          turned : (l m : Lifetime ℕ) → AreOpposed l m → AreOpposed m l
-          turned (With m) (Without n) e = sym e
-          turned (Without m) (With n) e = sym e
-          turned _ _ e = absurd e
+          opposed_back : (l m : Lifetime ℕ) → AreOpposed l m → AreOpposed m l
+          opposed_back (With m) (Without n) e = sym e
+          opposed_back (Without m) (With n) e = sym e
+          opposed_back _ _ e = absurd e
 
   pub one_cell : (needs : List Need) → cell_cmp s.id.cell t.id.cell ≡ Equal → Gains Pair Pair needs needs
   one_cell needs tie = gains_none Pair Pair needs none

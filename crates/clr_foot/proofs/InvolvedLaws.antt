@@ -143,8 +143,8 @@ module _ (c : Setting ℕ) where
   -- ---- two members
 
   -- of one need both tell, whatever its subjects were taken for
-  tied : (n : Need) (x y : ℕ) → IsInvolving c x n → IsInvolving c y n → AreDependent c x y
-  tied n x y (a, b, p, first) (d, e, q, second) =
+  both_depend : (n : Need) (x y : ℕ) → IsInvolving c x n → IsInvolving c y n → AreDependent c x y
+  both_depend n x y (a, b, p, first) (d, e, q, second) =
       let once = subjects_once c n d a e b q p in
       (n, d, e, q, subst (λ k. Involves c n d k x) once.1 (subst (λ k. Involves c n k b x) once.0 first), second)
 
@@ -154,7 +154,7 @@ module _ (c : Setting ℕ) where
 
     pub dependent_at : (k : ℕ) (d n : Need) (told : Bool) → k < length read → n ≡ get_or read k d → IsToldInvolving c y n told → told ≡ true → AreDependent c x y
     dependent_at k d n told less is tells e =
-        tied n x y (subst (IsInvolving c x) (sym is) ((are.exactly (get_or read k d)).0 (read_of read needs k d same less))) (subst (IsToldInvolving c y n) e tells)
+        both_depend n x y (subst (IsInvolving c x) (sym is) ((are.exactly (get_or read k d)).0 (read_of read needs k d same less))) (subst (IsToldInvolving c y n) e tells)
 
     pub one_apart_more : (k : ℕ) (d n : Need) (told : Bool) → k < length read → n ≡ get_or read k d → IsToldInvolving c y n told → told ≡ false
         → ((m : Need) → Contains (take k read) m → ¬ (IsInvolving c y m))

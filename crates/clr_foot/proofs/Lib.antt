@@ -4,6 +4,7 @@ pub mod BreakLaws
 pub mod BrokenLaws
 pub mod CandidateLaws
 pub mod ChangedCells
+pub mod ChangerSteps
 pub mod CoverLaws
 pub mod Gaining
 pub mod InvolvedLaws
@@ -15,6 +16,7 @@ pub mod NewRows
 pub mod PickLaws
 pub mod Placing
 pub mod PositionLaws
+pub mod RenamingLaws
 pub mod Searches
 pub mod ServedNeeds
 pub mod ServerLaws

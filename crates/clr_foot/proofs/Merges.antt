@@ -21,11 +21,11 @@ module _ {A : Type 0} (c : Setting A) where
   IsChanger ns q None = (n : A) → has c.same ns n ≡ true → c.after n q ≡ None
   IsChanger ns q (Some m) = (has c.same ns m ≡ true) × (is_some (c.after m q) ≡ true)
 
-  unchanging : (m n : A) (q : CellId) → c.after m q ≡ None → c.same m n ≡ true → c.after n q ≡ None
-  unchanging m n q e s = ap (λ k. c.after k q) (sym ((c.decides m n).0 s)) ∙ e
+  same_is_unchanging : (m n : A) (q : CellId) → c.after m q ≡ None → c.same m n ≡ true → c.after n q ≡ None
+  same_is_unchanging m n q e s = ap (λ k. c.after k q) (sym ((c.decides m n).0 s)) ∙ e
 
   behind : (m : A) (ns : List A) (q : CellId) (x : Option A) → c.after m q ≡ None → IsChanger ns q x → IsChanger (m ∷ ns) q x
-  behind m ns q None e h = λ n k. elim (or_cases (c.same m n) (has c.same ns n) k) [ inl s ↦ unchanging m n q e s | inr j ↦ h n j ]
+  behind m ns q None e h = λ n k. elim (or_cases (c.same m n) (has c.same ns n) k) [ inl s ↦ same_is_unchanging m n q e s | inr j ↦ h n j ]
   behind m ns q (Some n) e h = (or_right (c.same m n) (has c.same ns n) h.0, h.1)
 
   first_is_changer : (ns : List A) (q : CellId) → IsChanger ns q (first_changer c.after ns q)
@@ -74,7 +74,7 @@ module _ {A : Type 0} (c : Setting A) where
   no_difference : (n : A) (ns : List A) (q : CellId) (x : Option A) → c.after n q ≡ None → standing_row ns q x ≡ standing_row (n ∷ ns) q x
   no_difference n ns q None e = refl
   no_difference n ns q (Some m) e = elim (cases_Bool (c.same n m)) [
-    | inl s ↦ idle_row ns q m (unchanging n m q e s) ∙ sym (idle_row (n ∷ ns) q m (unchanging n m q e s))
+    | inl s ↦ idle_row ns q m (same_is_unchanging n m q e s) ∙ sym (idle_row (n ∷ ns) q m (same_is_unchanging n m q e s))
     | inr s ↦ ap (λ b. cond (b || has c.same ns m) (unwrap_or (c.after m q) (c.root q)) (c.root q)) (sym s)
   ]
 

@@ -48,20 +48,20 @@ settled_too old noted new pending same settles q = settles q ∙ ap (λ m. next_
 
 module _ (rules : List Rule) (sets : List Changes) where
   -- the spots of the row that is brought to a cell
-  abbrev pub filed : CellId → Option (List RuleSpots)
-  filed q = option_map (λ l. row_spots rules (q, l.row)) (new_version_at sets q)
+  abbrev pub new_spots_at : CellId → Option (List RuleSpots)
+  new_spots_at q = option_map (λ l. row_spots rules (q, l.row)) (new_version_at sets q)
 
   -- those of some cells are filed, and no others
   pub record AreFiledAt (cells : List CellId) (settled : Settled) : Type 0 where
-    pub only : (q : CellId) → (finite.get settled q ≡ None) ⊎ (finite.get settled q ≡ filed q)
-    pub every : (q : CellId) → Contains cells q → finite.get settled q ≡ filed q
+    pub only : (q : CellId) → (finite.get settled q ≡ None) ⊎ (finite.get settled q ≡ new_spots_at q)
+    pub every : (q : CellId) → Contains cells q → finite.get settled q ≡ new_spots_at q
 
   pub none_filed : (cells : List CellId) → AreFiledAt (take 0 cells) finite.empty
   none_filed cells = record { only = λ q. inl (finite.get-empty {X = List RuleSpots} cell_cmp q); every = λ q h. absurd (none_taken cells q h) }
 
   one_cell_more : (cells : List CellId) (k : ℕ) (d : CellId) (old new : Settled) → k < length cells
-      → ((q : CellId) → (finite.get new q ≡ filed q) ⊎ (finite.get new q ≡ finite.get old q))
-      → finite.get new (get_or cells k d) ≡ filed (get_or cells k d)
+      → ((q : CellId) → (finite.get new q ≡ new_spots_at q) ⊎ (finite.get new q ≡ finite.get old q))
+      → finite.get new (get_or cells k d) ≡ new_spots_at (get_or cells k d)
       → AreFiledAt (take k cells) old
       → AreFiledAt (take (k + 1) cells) new
   one_cell_more cells k d old new less either here before = record {
@@ -69,13 +69,13 @@ module _ (rules : List Rule) (sets : List Changes) where
     every = λ q h. every q (one_more cells k d q less h);
   }
     where
-      only : (q : CellId) → (finite.get new q ≡ filed q) ⊎ (finite.get new q ≡ finite.get old q) → (finite.get new q ≡ None) ⊎ (finite.get new q ≡ filed q)
+      only : (q : CellId) → (finite.get new q ≡ new_spots_at q) ⊎ (finite.get new q ≡ finite.get old q) → (finite.get new q ≡ None) ⊎ (finite.get new q ≡ new_spots_at q)
       only q (inl e) = inr e
       only q (inr e) = elim (before.only q) [ inl f ↦ inl (e ∙ f) | inr f ↦ inr (e ∙ f) ]
 
-      every : (q : CellId) → Contains (take k cells) q ⊎ (q ≡ get_or cells k d) → finite.get new q ≡ filed q
+      every : (q : CellId) → Contains (take k cells) q ⊎ (q ≡ get_or cells k d) → finite.get new q ≡ new_spots_at q
       every q (inl h) = elim (either q) [ inl e ↦ e | inr e ↦ e ∙ before.every q h ]
-      every q (inr e) = subst (λ p. finite.get new p ≡ filed p) (sym e) here
+      every q (inr e) = subst (λ p. finite.get new p ≡ new_spots_at p) (sym e) here
 
   -- a row of the cell is settled
   pub one_filed : (cells : List CellId) (k : ℕ) (d : CellId) (l : Lived ℕ) (old new : Settled) (pending : Pending) → k < length cells
@@ -96,16 +96,16 @@ module _ (rules : List Rule) (sets : List Changes) where
       pending_at q = ap (λ m. finite.get m q) noted ∙ finite.get-insert cell_cmp_total finite.empty cell (Some (row_spots rules (cell, l.row))) q
           ∙ ap (cond (eq_by_cmp cell_cmp q cell) spots) (finite.get-empty {X = Option (List RuleSpots)} cell_cmp q)
 
-      itself : (q : CellId) → eq_by_cmp cell_cmp q cell ≡ true → finite.get new q ≡ filed q
+      itself : (q : CellId) → eq_by_cmp cell_cmp q cell ≡ true → finite.get new q ≡ new_spots_at q
       itself q tie =
           let same : q ≡ cell = cell_cmp_exact q cell ((Equal-is (cell_cmp q cell)).0 tie) in
           settles q ∙ ap (next_of (finite.get old q)) (pending_at q ∙ ap (λ b. cond b spots None) tie)
-          ∙ sym (ap filed same ∙ ap (option_map (λ (m : Lived ℕ). row_spots rules (cell, m.row))) is)
+          ∙ sym (ap new_spots_at same ∙ ap (option_map (λ (m : Lived ℕ). row_spots rules (cell, m.row))) is)
 
-      either : (q : CellId) → (finite.get new q ≡ filed q) ⊎ (finite.get new q ≡ finite.get old q)
+      either : (q : CellId) → (finite.get new q ≡ new_spots_at q) ⊎ (finite.get new q ≡ finite.get old q)
       either q = by (eq_by_cmp cell_cmp q cell) refl
         where
-          by : (b : Bool) → eq_by_cmp cell_cmp q cell ≡ b → (finite.get new q ≡ filed q) ⊎ (finite.get new q ≡ finite.get old q)
+          by : (b : Bool) → eq_by_cmp cell_cmp q cell ≡ b → (finite.get new q ≡ new_spots_at q) ⊎ (finite.get new q ≡ finite.get old q)
           by true tie = inl (itself q tie)
           by false apart = inr (settles q ∙ ap (next_of (finite.get old q)) (pending_at q ∙ ap (λ b. cond b spots None) apart))
 
@@ -116,16 +116,16 @@ module _ (rules : List Rule) (sets : List Changes) where
       cell : CellId
       cell = get_or cells k d
 
-      none : filed cell ≡ None
+      none : new_spots_at cell ≡ None
       none = ap (option_map (λ (m : Lived ℕ). row_spots rules (cell, m.row))) is
 
-      here : (finite.get old cell ≡ None) ⊎ (finite.get old cell ≡ filed cell) → finite.get old cell ≡ filed cell
+      here : (finite.get old cell ≡ None) ⊎ (finite.get old cell ≡ new_spots_at cell) → finite.get old cell ≡ new_spots_at cell
       here (inl e) = e ∙ sym none
       here (inr e) = e
 
   pub all_filed : (cells : List CellId) (k : ℕ) (settled : Settled) → cells ≡ changed_cells sets → length cells ≤ k → AreFiledAt (take k cells) settled → AreNewRowsFiled settled rules sets
   all_filed cells k settled all past h q = by (new_version_at sets q) refl
     where
-      by : (o : Option (Lived ℕ)) → new_version_at sets q ≡ o → finite.get settled q ≡ filed q
+      by : (o : Option (Lived ℕ)) → new_version_at sets q ≡ o → finite.get settled q ≡ new_spots_at q
       by (Some l) e = h.every q (all_taken cells k q past (subst (λ cs. Contains cs q) (sym all) (brought_is_listed sets q l e)))
       by None e = elim (h.only q) [ inl f ↦ f ∙ sym (ap (option_map (λ (m : Lived ℕ). row_spots rules (q, m.row))) e) | inr f ↦ f ]

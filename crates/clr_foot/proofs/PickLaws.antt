@@ -21,13 +21,13 @@ least_as P Q v there back (is, least) = (there v is, λ w lesser h. least w less
 module _ (c : Setting ℕ) (n : Need) (servers : List VersionId) (are : AreServers c n servers) (a : Lived ℕ) (b : Option (Lived ℕ)) (p : IsPossible c n a b) where
   -- ---- the versions that serve
 
-  listed_serves : (v : VersionId) → Contains servers v → (l : Lived ℕ) × Serves c n a b v l
+  pub listed_serves : (v : VersionId) → Contains servers v → (l : Lived ℕ) × Serves c n a b v l
   listed_serves v h =
       let (x, y, l, q, serve) = (are.exactly v).0 h in
       let once = subjects_once c n a x b y p q in
       (l, subst (λ d. Serves c n d b v l) once.0 (subst (λ e. Serves c n x e v l) once.1 serve))
 
-  serving_listed : (v : VersionId) (l : Lived ℕ) → Serves c n a b v l → Contains servers v
+  pub serving_listed : (v : VersionId) (l : Lived ℕ) → Serves c n a b v l → Contains servers v
   serving_listed v l serve = (are.exactly v).1 (a, b, l, p, serve)
 
   -- ---- those that last
@@ -51,8 +51,8 @@ module _ (c : Setting ℕ) (n : Need) (servers : List VersionId) (are : AreServe
   covers : (v : VersionId) → IsPassing (lasts_at c n) servers v → CoversAlone c n a b v
   covers v (h, e) = let (l, serve) = listed_serves v h in (l, serve, told_lasting l (sym (ap (lasts c n) serve.is) ∙ e))
 
-  covering : (v : VersionId) → CoversAlone c n a b v → IsPassing (lasts_at c n) servers v
-  covering v (l, serve, last) = (serving_listed v l serve, ap (lasts c n) serve.is ∙ lasting_told l last)
+  covers_and_lasts : (v : VersionId) → CoversAlone c n a b v → IsPassing (lasts_at c n) servers v
+  covers_and_lasts v (l, serve, last) = (serving_listed v l serve, ap (lasts c n) serve.is ∙ lasting_told l last)
 
   -- ---- those with a life
 
@@ -65,21 +65,21 @@ module _ (c : Setting ℕ) (n : Need) (servers : List VersionId) (are : AreServe
   least_served : (life : Lifetime ℕ) (v : VersionId) → IsLeastVersion (IsPassing (has_life_at life c) servers) v → IsLeastVersion (ServesAs c n a b life) v
   least_served life v = least_as (IsPassing (has_life_at life c) servers) (ServesAs c n a b life) v (serves_as life) (serving_as life)
 
-  paired : (x : ℕ) → HasBoth c n a b x → HasPair c servers x
-  paired x ((v, h), (w, k)) = ((v, serving_as (Without x) v h), (w, serving_as (With x) w k))
+  both_pass : (x : ℕ) → HasBoth c n a b x → HasPair c servers x
+  both_pass x ((v, h), (w, k)) = ((v, serving_as (Without x) v h), (w, serving_as (With x) w k))
 
   -- ---- what is picked
 
   none_alone : IsLeastPassing (lasts_at c n) servers None → (u : VersionId) → ¬ (CoversAlone c n a b u)
-  none_alone none u h = none u (covering u h)
+  none_alone none u h = none u (covers_and_lasts u h)
 
   is_alone : (v : VersionId) → IsLeastPassing (lasts_at c n) servers (Some v) → IsPick c n a b (Some (v, None))
-  is_alone v least = least_as (IsPassing (lasts_at c n) servers) (CoversAlone c n a b) v covers covering least
+  is_alone v least = least_as (IsPassing (lasts_at c n) servers) (CoversAlone c n a b) v covers covers_and_lasts least
 
   are_two : (count : ℕ) (v w : VersionId) → IsLeastPassing (lasts_at c n) servers None → IsFirstPair c servers count (Some (v, w)) → IsPick c n a b (Some (v, Some w))
   are_two count v w none (x, two, first) = (
     none_alone none,
-    (x, ((v, (least_served (Without x) v two.0).0), (w, (least_served (With x) w two.1).0)), λ y less h. first y less (paired y h), least_served (Without x) v two.0, least_served (With x) w two.1),
+    (x, ((v, (least_served (Without x) v two.0).0), (w, (least_served (With x) w two.1).0)), λ y less h. first y less (both_pass y h), least_served (Without x) v two.0, least_served (With x) w two.1),
   )
 
 module _ (c : Setting ℕ) (n : Need) (servers : List VersionId) (are : AreServers c n servers) where
@@ -94,7 +94,7 @@ module _ (rules : List Rule) (root : Content) (sets : List Changes) (n : Need) (
   s = setting rules root sets
 
   pub picks_none : AreServers s n servers → IsLeastPassing (lasts_at s n) servers None → IsFirstPair s servers (length sets) None → Picks s n None
-  picks_none are none first a b p = (none_alone s n servers are a b p none, λ x h. first x (below x h) (paired s n servers are a b p x h))
+  picks_none are none first a b p = (none_alone s n servers are a b p none, λ x h. first x (below x h) (both_pass s n servers are a b p x h))
     where
       below : (x : ℕ) → HasBoth s n a b x → x < length sets
       below x h = let (v, served) = h.0 in blocker_below rules root sets n a b p x (inr (inr (v, served.0, served.1, served.2)))

@@ -1,16 +1,14 @@
 -- Searches for a member that changes a cell: what a search finds is settled by what it says of the positions that it passes.
-use Rattle.std.proofs.Common.{◌≡◌, ◌∙◌, ◌<◌, ◌≤◌, ◌+◌, ℕ, zero, suc, Bool, true, false, cond, List, Option, Some, None, Bor, inl, inr, is_some, length, map, refl, sym, ap, subst, arith}
+use Rattle.std.proofs.Common.{◌≡◌, ◌∙◌, ◌<◌, ◌+◌, ℕ, zero, suc, Bool, true, false, cond, List, Option, Some, None, Bor, inl, inr, is_some, length, map, refl, sym, ap, subst, arith}
 use Rattle.std.specs.Prelude.{slice_get}
 use Rattle.std.specs.FinMap as finite
 use Rattle.std.specs.List.{range_with_len, slice_index_or}
-use Rattle.std.specs.Option.{option_map, option_copied}
+use Rattle.std.specs.Option.{option_map}
 use Rattle.std.proofs.lemmas.Bool.{cases_lt, false≢true}
-use Rattle.std.proofs.lemmas.List.{length-map}
 use Rattle.std.proofs.lemmas.Option.{slice_get-map, slice_get_past, slice_get_read}
 use Rattle.clr_rows.specs.declared.cells.CellId.{CellId}
-use Rattle.clr_rows.specs.declared.cells.Change.{Change}
 use Rattle.clr_rows.specs.Contents.{Changes}
-use Rattle.clr_foot.specs.Members.{ChangesCell, after_at, after_of}
+use Rattle.clr_foot.specs.Members.{ChangesCell, IsFound, NoneChanges, after_at, after_of}
 use Rattle.clr_foot.specs.Settings.{first_changer}
 
 -- what the borrowed change sets are
@@ -20,21 +18,6 @@ sets_of refs = map (λ s. s.now) refs
 -- the first of some members from a position on that changes the cell
 abbrev pub search : List Changes → CellId → ℕ → ℕ → Option ℕ
 search sets q from count = first_changer (after_of sets) (range_with_len from count) q
-
--- no member of these positions changes the cell
-abbrev pub NoneChanges : List Changes → CellId → ℕ → ℕ → Type 0
-NoneChanges sets q from end = (k : ℕ) → from ≤ k → k < end → ChangesCell sets q k → ⊥
-
-pub record IsFirstChanger (sets : List Changes) (q : CellId) (from end m : ℕ) : Type 0 where
-  pub from_on : from ≤ m
-  pub below : m < end
-  pub changes : ChangesCell sets q m
-  pub passed : NoneChanges sets q from m
-
--- what is found among these positions
-abbrev pub IsFound : List Changes → CellId → ℕ → ℕ → Option ℕ → Type 0
-IsFound sets q from end None = NoneChanges sets q from end
-IsFound sets q from end (Some m) = IsFirstChanger sets q from end m
 
 module _ (sets : List Changes) (q : CellId) where
   -- one thing alone can be found
@@ -91,20 +74,9 @@ module _ (sets : List Changes) (q : CellId) where
 pub set_at : (refs : List (Bor Changes)) (k : ℕ) (ref : Bor Changes) → k < length refs → ref ≡ slice_index_or refs k ref → slice_get (sets_of refs) k ≡ Some ref.now
 set_at refs k ref less read = slice_get-map (λ (s : Bor Changes). s.now) refs k ∙ ap (option_map (λ (s : Bor Changes). s.now)) (slice_get_read refs (length refs) k ref refl less read)
 
-module _ (refs : List (Bor Changes)) (q : CellId) where
-  some_called : (r : Option (Bor Change)) → is_some (option_map (λ (e : Change). e.after) (option_copied r)) ≡ is_some r
-  some_called None = refl
-  some_called (Some e) = refl
-
-  -- a set's call tells whether its member changes the cell
-  pub changes_by_call : (k : ℕ) (ref : Bor Changes) (r : Option (Bor Change)) → k < length refs → ref ≡ slice_index_or refs k ref → option_copied r ≡ finite.get ref.now q
-      → is_some (after_of (sets_of refs) k q) ≡ is_some r
-  changes_by_call k ref r less read got =
-      ap (λ s. is_some (after_at s q)) (set_at refs k ref less read) ∙ ap (λ e. is_some (option_map (λ (e : Change). e.after) e)) (sym got) ∙ some_called r
-
-  -- only members that are there change cells
-  pub changer_below : (k : ℕ) → ChangesCell (sets_of refs) q k → k < length refs
-  changer_below k changes = elim (cases_lt k (length refs)) [
-    | inl below ↦ below
-    | inr past ↦ absurd (false≢true (ap (λ s. is_some (after_at s q)) (sym (slice_get_past (sets_of refs) k (subst (λ n. n ≤ k) (sym (length-map refs (λ s. s.now))) past))) ∙ changes))
-  ]
+-- only members that are there change cells
+pub changer_below : (sets : List Changes) (q : CellId) (k : ℕ) → ChangesCell sets q k → k < length sets
+changer_below sets q k changes = elim (cases_lt k (length sets)) [
+  | inl below ↦ below
+  | inr past ↦ absurd (false≢true (ap (λ s. is_some (after_at s q)) (sym (slice_get_past sets k past)) ∙ changes))
+]

@@ -29,8 +29,8 @@ module _ (c : Setting ℕ) where
     serving_is rs v are (r, h, same, serve) =
         (lived r, ap (version c) (sym same) ∙ are r h, (λ i. serves c.rules ask (row_of s) (option_map row_of t) ((sym same i).cell, r.row.now)) ∙ serve)
 
-    listed : (rs : List Version) (v : VersionId) (l : Lived ℕ) → AreAt c rs → version c v ≡ Some l → serves c.rules ask (row_of s) (option_map row_of t) (held v l) ≡ true → HasVersion rs v → Serving rs v
-    listed rs v l are is serve (r, h, same) =
+    server_is_listed : (rs : List Version) (v : VersionId) (l : Lived ℕ) → AreAt c rs → version c v ≡ Some l → serves c.rules ask (row_of s) (option_map row_of t) (held v l) ≡ true → HasVersion rs v → Serving rs v
+    server_is_listed rs v l are is serve (r, h, same) =
         let row = lived_is c r v l same (are r h) is in
         (r, h, same, (λ i. serves c.rules ask (row_of s) (option_map row_of t) ((same i).cell, (row i).row)) ∙ serve)
 
@@ -61,10 +61,10 @@ module _ (c : Setting ℕ) where
             by : (b : Bool) → v.fresh ≡ b → Contains names v
             by false e =
                 let same : version_of false v.cell ≡ v = λ i. record { cell = v.cell; fresh = sym e i } in
-                h.kept v (g.every v (listed old v l found.are is serve (subst (HasVersion old) same (found.every v.cell l (ap (version c) same ∙ is) near))))
+                h.kept v (g.every v (server_is_listed old v l found.are is serve (subst (HasVersion old) same (found.every v.cell l (ap (version c) same ∙ is) near))))
             by true e =
                 let same : version_of true v.cell ≡ v = λ i. record { cell = v.cell; fresh = sym e i } in
-                h.every v (listed others v l found_too.are is serve (subst (HasVersion others) same (found_too.every v.cell l (ap (version c) same ∙ is) near)))
+                h.every v (server_is_listed others v l found_too.are is serve (subst (HasVersion others) same (found_too.every v.cell l (ap (version c) same ∙ is) near)))
 
   -- ---- the subjects of a possible need
 

@@ -1,5 +1,5 @@
 -- Cells that two members change: the first two of a cell, and the least of all.
-use Rattle.std.proofs.Common.{◌≡◌, ◌∙◌, ◌<◌, ◌≤◌, ◌+◌, ◌-◌, ℕ, zero, suc, Bool, true, false, cond, List, [], ◌∷◌, Option, Some, None, Bor, get_or, is_some, length, inl, inr, refl, sym, ap, subst, arith}
+use Rattle.std.proofs.Common.{◌≡◌, ◌∙◌, ◌<◌, ◌≤◌, ◌+◌, ◌-◌, ℕ, zero, suc, Bool, true, false, cond, List, [], ◌∷◌, Option, Some, None, get_or, is_some, length, inl, inr, refl, sym, ap, subst, arith}
 use Rattle.std.specs.Prelude.{⊤, slice_get, MatchOption}
 use Rattle.std.specs.FinMap as finite
 use Rattle.std.specs.FinMap.{contains_key-keys}
@@ -17,55 +17,45 @@ use Rattle.clr_rows.proofs.CellOrder.{cell_cmp_total}
 use Rattle.clr_rules.proofs.Elements.{Among, among_left, among_right, not_itself}
 use Rattle.clr_rules.proofs.BrokenLemmas.{lt_is}
 use Rattle.clr_grid.proofs.EntryLemmas.{one_among}
+use Rattle.clr_foot.specs.declared.changers.Changers.{Changers}
 use Rattle.clr_foot.specs.declared.members.SharedCell.{SharedCell}
-use Rattle.clr_foot.specs.Members.{AreApart, AreFirstTwo, ChangesCell, IsApart, IsLeastShared, after_in, changed_cells, lesser}
-use Rattle.clr_foot.proofs.Searches.{IsFirstChanger, changer_below, is_found, search, sets_of}
+use Rattle.clr_foot.specs.Members.{AreApart, AreChangersAt, AreFirstTwo, ChangesCell, IsApart, IsFirstChanger, IsFound, IsLeastShared, after_in, changed_cells, lesser}
 
 -- ---- one cell
 
-module _ (refs : List (Bor Changes)) (q : CellId) where
-  -- the search among all members from a position on
-  abbrev pub search_from : ℕ → Option ℕ
-  search_from from = search (sets_of refs) q from (length refs - from)
-
-  pub none_is_apart : None ≡ search_from 0 → IsApart (sets_of refs) q
-  none_is_apart e j k changes changes_too =
-      let none = is_found (sets_of refs) q 0 (length refs - 0) None e in
-      let below = changer_below refs q j changes in
-      absurd (none j (omega arith) (omega (arith, below)) changes)
+module _ (sets : List Changes) (q : CellId) (end : ℕ) (all : (k : ℕ) → ChangesCell sets q k → k < end) where
+  pub none_is_apart : AreChangersAt sets end q None → IsApart sets q
+  none_is_apart none j k changes changes_too = absurd (none j (omega arith) (all j changes) changes)
 
   -- a member that changes the cell is the first one, where none behind it does
-  only_first : (m : ℕ) → Some m ≡ search_from 0 → None ≡ search_from (m + 1) → (k : ℕ) → ChangesCell (sets_of refs) q k → k ≡ m
-  only_first m e f k changes =
-      let first = is_found (sets_of refs) q 0 (length refs - 0) (Some m) e in
-      let behind = is_found (sets_of refs) q (m + 1) (length refs - (m + 1)) None f in
-      let below = changer_below refs q k changes in
-      elim (cases_lt k m) [
-        | inl before ↦ absurd (first.passed k (omega arith) before changes)
-        | inr least ↦ elim (cases_lt m k) [
-          | inl after ↦ absurd (behind k (omega (arith, after)) (omega (arith, after, below)) changes)
-          | inr most ↦ omega (arith, least, most)
-        ]
-      ]
+  only_first : (c : Changers) → AreChangersAt sets end q (Some c) → c.second ≡ None → (k : ℕ) → ChangesCell sets q k → k ≡ c.first
+  only_first c h alone k changes = elim (cases_lt k c.first) [
+    | inl before ↦ absurd (h.0.passed k (omega arith) before changes)
+    | inr least ↦ elim (cases_lt c.first k) [
+      | inl after ↦ absurd (subst (IsFound sets q (c.first + 1) end) alone h.1 k (omega (arith, after)) (all k changes) changes)
+      | inr most ↦ omega (arith, least, most)
+    ]
+  ]
 
-  pub one_is_apart : (m : ℕ) → Some m ≡ search_from 0 → None ≡ search_from (m + 1) → IsApart (sets_of refs) q
-  one_is_apart m e f j k changes changes_too = only_first m e f j changes ∙ sym (only_first m e f k changes_too)
+  pub one_is_apart : (c : Changers) → AreChangersAt sets end q (Some c) → c.second ≡ None → IsApart sets q
+  one_is_apart c h alone j k changes changes_too = only_first c h alone j changes ∙ sym (only_first c h alone k changes_too)
 
-  pub first_two : (m n : ℕ) → Some m ≡ search_from 0 → Some n ≡ search_from (m + 1) → AreFirstTwo (sets_of refs) q m n
-  first_two m n e f =
-      let one = is_found (sets_of refs) q 0 (length refs - 0) (Some m) e in
-      let two = is_found (sets_of refs) q (m + 1) (length refs - (m + 1)) (Some n) f in
-      let behind = two.from_on in
-      record { ascending = omega (arith, behind); first = one.changes; second = two.changes; no_other = only one two }
+  pub first_two : (c : Changers) (n : ℕ) → AreChangersAt sets end q (Some c) → c.second ≡ Some n → AreFirstTwo sets q c.first n
+  first_two c n h two = by h.0 (subst (IsFound sets q (c.first + 1) end) two h.1)
     where
-      only : IsFirstChanger (sets_of refs) q 0 (0 + (length refs - 0)) m → IsFirstChanger (sets_of refs) q (m + 1) ((m + 1) + (length refs - (m + 1))) n → (k : ℕ) → k < n → ChangesCell (sets_of refs) q k → k ≡ m
-      only one two k less changes = elim (cases_lt k m) [
-        | inl before ↦ absurd (one.passed k (omega arith) before changes)
-        | inr least ↦ elim (cases_lt m k) [
-          | inl between ↦ absurd (two.passed k (omega (arith, between)) less changes)
-          | inr most ↦ omega (arith, least, most)
-        ]
-      ]
+      by : IsFirstChanger sets q 0 end c.first → IsFirstChanger sets q (c.first + 1) end n → AreFirstTwo sets q c.first n
+      by one next = let behind = next.from_on in record {
+        ascending = omega (arith, behind);
+        first = one.changes;
+        second = next.changes;
+        no_other = λ k less changes. elim (cases_lt k c.first) [
+          | inl before ↦ absurd (one.passed k (omega arith) before changes)
+          | inr least ↦ elim (cases_lt c.first k) [
+            | inl between ↦ absurd (next.passed k (omega (arith, between)) less changes)
+            | inr most ↦ omega (arith, least, most)
+          ]
+        ];
+      }
 
 -- ---- the least of some cells
 
@@ -165,7 +155,7 @@ module _ (sets : List Changes) where
 
 -- ---- the least of all cells
 
-changes_mapped : (change : Option Change) → is_some (option_map (λ (e : Change). e.after) change) ≡ is_some change
+pub changes_mapped : (change : Option Change) → is_some (option_map (λ (e : Change). e.after) change) ≡ is_some change
 changes_mapped None = refl
 changes_mapped (Some e) = refl
 

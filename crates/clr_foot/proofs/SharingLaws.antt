@@ -152,16 +152,16 @@ module _ (servers : Bool) (rules : List Rule) (number : ℕ) (s : Held) (q : Cel
   unfolding found_cells sharing sharing_servers
   is_met below near = by servers near
     where
-      met : (b : Bool) → Among q (found_cells b one_settled number (rule_spots rules number s)) → is_met_at b (rule_spots rules number s) number (Some (row_spots rules (q, row))) ≡ true
-      met b h =
+      its_spots_meet : (b : Bool) → Among q (found_cells b one_settled number (rule_spots rules number s)) → is_met_at b (rule_spots rules number s) number (Some (row_spots rules (q, row))) ≡ true
+      its_spots_meet b h =
           let (ys, at, met) = in_passes (λ e. is_met_at b (rule_spots rules number s) number (Some e.1)) one_settled q h in
           let same : Some ys ≡ Some (row_spots rules (q, row)) = sym at ∙ is_settled q ∙ ap (option_map (λ r. row_spots rules (q, r))) has_row in
           ap (is_met_at b (rule_spots rules number s) number) (sym same) ∙ met
 
       by : (b : Bool) → IsNear b rules number s (q, row) → is_met_at b (rule_spots rules number s) number (Some (row_spots rules (q, row))) ≡ true
-      by false h = met false (subst (Among q) (sym (found_sharing rules one_row one_settled number s is_settled below))
+      by false h = its_spots_meet false (subst (Among q) (sym (found_sharing rules one_row one_settled number s is_settled below))
           (passes_in (are_sharing rules number s) one_row q row has_row (and_parts (are_sharing rules number s (q, row)) _ h).0))
-      by true h = met true (subst (Among q) (sym (found_servers rules one_row one_settled number s is_settled below))
+      by true h = its_spots_meet true (subst (Among q) (sym (found_servers rules one_row one_settled number s is_settled below))
           (passes_in (λ t. are_sharing rules number s t && may_serve_under rules number t) one_row q row has_row h))
 
   pub found_near : (settled : Settled) → number < length rules → finite.get settled q ≡ Some (row_spots rules (q, row)) → IsNear servers rules number s (q, row)

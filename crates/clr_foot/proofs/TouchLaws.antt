@@ -171,8 +171,8 @@ module _ (c : Setting ℕ) where
     abbrev pub IsFound : Need → Type 0
     IsFound n = IsNeedOf c.rules number None v None n ⊎ IsNeedAmong c.rules number None v near n
 
-    listed : (n : Need) (id : VersionId) → ((t : Version) → t.id ≡ id → IsAt c t → IsNeedOfPair c.rules number None v t n) → HasVersion near id → IsFound n
-    listed n id pair (t, h, e) = inr (t, h, pair t e (found.are t h))
+    need_is_found : (n : Need) (id : VersionId) → ((t : Version) → t.id ≡ id → IsAt c t → IsNeedOfPair c.rules number None v t n) → HasVersion near id → IsFound n
+    need_is_found n id pair (t, h, e) = inr (t, h, pair t e (found.are t h))
 
     -- the other subject is near, and in either order the two make the need
     pub with_found : (n : Need) → IsNeedWith c number v.id n → IsFound n
@@ -188,14 +188,14 @@ module _ (c : Setting ℕ) where
             let row = lived_is v n.first a (sym e) at p.first_is in
             let shared = (subjects_near c fits (ask_of n) (held n.first a) (held w b) called).0 in
             let near = near_of v n.first a (held w b) number n.rule rule (sym e) row (near_all c.rules n.rule (held n.first a) (held w b) shared) in
-            listed n w (λ t same t_at. inl (need_between number None v t n a w b rule (sym e) same second at t_at p.first_is beside called (λ row rows. refl)))
+            need_is_found n w (λ t same t_at. inl (need_between number None v t n a w b rule (sym e) same second at t_at p.first_is beside called (λ row rows. refl)))
             (found.every w b beside.is near)
         by (Some w) (Some b) second beside called (inr e) =
             let same : w ≡ v.id = let both : Some w ≡ Some v.id = sym second ∙ e in cc in
             let row = lived_is v w b (sym same) at beside.is in
             let shared = (subjects_near c fits (ask_of n) (held n.first a) (held w b) called).1 in
             let near = near_of v w b (held n.first a) number n.rule rule (sym same) row (near_all c.rules n.rule (held w b) (held n.first a) shared) in
-            listed n n.first (λ t is t_at. inr (need_between number None t v n a w b rule is (sym same) second t_at at p.first_is beside called (λ row rows. refl)))
+            need_is_found n n.first (λ t is t_at. inr (need_between number None t v n a w b rule is (sym same) second t_at at p.first_is beside called (λ row rows. refl)))
             (found.every n.first a p.first_is near)
 
   -- a need that a version serves is found among those near it

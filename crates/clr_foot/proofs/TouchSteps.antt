@@ -27,6 +27,7 @@ use Rattle.clr_foot.specs.Needs.{IsBesideToo, IsChanged, IsTouched, IsTouchedBy,
 use Rattle.clr_foot.specs.Settings.{Setting, Lived, changer, held, new_version, old_life, old_version, version}
 use Rattle.clr_foot.specs.Touches.{IsNear, IsNeedAtCells, IsNeedServedAmong, IsTouchedOf}
 use Rattle.clr_foot.specs.Versions.{FindsAll, FitsSetting, IsAt, row_of, version_of}
+use Rattle.clr_foot.proofs.ChangerSteps.{changed_key}
 use Rattle.clr_foot.proofs.Gaining.{all_taken, gains_as, gains_both, gains_none, none_taken, one_more}
 use Rattle.clr_foot.proofs.Lives.{new_is, old_is}
 use Rattle.clr_foot.proofs.Merges.{IsChanger, changer_is}
@@ -36,13 +37,6 @@ use Rattle.clr_foot.proofs.SharedCells.{changed_is_listed}
 use Rattle.clr_foot.proofs.TouchLaws.{alone_of_one, alone_with, among_served, among_with, not_served, served_found, with_found}
 
 -- ---- changed cells
-
-changed_key : (s : Changes) (q : CellId) → Among q (finite.keys s) → is_some (after_in s q) ≡ true
-changed_key s q h = by (finite.get s q) (contains_key-keys s q ∙ any_by (eq_by_cmp cell_cmp q) q (finite.keys s) h (ap is_eq (tied_itself cell_cmp_total q)))
-  where
-    by : (o : Option Change) → is_some o ≡ true → is_some (option_map (λ (e : Change). e.after) o) ≡ true
-    by None e = e
-    by (Some x) e = refl
 
 -- the position of a set that changes a listed cell
 listed_changes : (sets : List Changes) (q : CellId) → Among q (changed_cells sets) → (k : ℕ) × (k < length sets) × ChangesCell sets q k
@@ -74,15 +68,15 @@ module _ (rules : List Rule) (root : Content) (sets : List Changes) where
   unfolding version
   changed_is_old v l is changed = by v.fresh refl (changer c v.cell) refl (changer_is c v.cell) is
     where
-      listed : (n : ℕ) → is_some (c.after n v.cell) ≡ true → Contains (changed_cells sets) v.cell
-      listed n e = contained v.cell (changed_cells sets) (changed_is_listed sets n v.cell e)
+      its_cell_is_listed : (n : ℕ) → is_some (c.after n v.cell) ≡ true → Contains (changed_cells sets) v.cell
+      its_cell_is_listed n e = contained v.cell (changed_cells sets) (changed_is_listed sets n v.cell e)
 
       by : (fresh : Bool) → v.fresh ≡ fresh → (x : Option ℕ) → changer c v.cell ≡ x → IsChanger c c.members v.cell x
           → (if fresh then new_version c.after v.cell x else old_version x (c.root v.cell)) ≡ Some l → (v.fresh ≡ false) × Contains (changed_cells sets) v.cell
       by true f None e h k = cc
       by true f (Some n) e h k = absurd (subst IsChanged (new_is c n (c.after n v.cell) l k).1 changed)
       by false f None e h k = absurd (subst IsChanged (old_is c None (c.root v.cell) l k).1 changed)
-      by false f (Some n) e h k = (f, listed n h.1)
+      by false f (Some n) e h k = (f, its_cell_is_listed n h.1)
 
   pub new_is_listed : (v : VersionId) (l : Lived ℕ) → v.fresh ≡ true → version c v ≡ Some l → Contains (changed_cells sets) v.cell
   unfolding version
@@ -90,24 +84,24 @@ module _ (rules : List Rule) (root : Content) (sets : List Changes) where
 
   -- ---- cell after cell
 
-  named : (v : VersionId) (fresh : Bool) → v.fresh ≡ fresh → v ≡ version_of fresh v.cell
-  named v fresh e = λ i. record { cell = v.cell; fresh = e i }
+  its_name : (v : VersionId) (fresh : Bool) → v.fresh ≡ fresh → v ≡ version_of fresh v.cell
+  its_name v fresh e = λ i. record { cell = v.cell; fresh = e i }
 
   -- a touched need is that of a changed cell
   pub touched_at : (n : Need) → IsTouched c n → (q : CellId) × Contains (changed_cells sets) q × IsNeedAt c n.rule q n
   touched_at n (a, b, p, touched) = by n.first.fresh refl n.second b refl p.second_is
     where
       first_new : n.first.fresh ≡ true → (q : CellId) × Contains (changed_cells sets) q × IsNeedAt c n.rule q n
-      first_new e = (n.first.cell, new_is_listed n.first a e p.first_is, inl (refl, inl (named n.first true e), a, b, p))
+      first_new e = (n.first.cell, new_is_listed n.first a e p.first_is, inl (refl, inl (its_name n.first true e), a, b, p))
 
       second_new : (w : VersionId) (m : Lived ℕ) → n.second ≡ Some w → version c w ≡ Some m → w.fresh ≡ true → (q : CellId) × Contains (changed_cells sets) q × IsNeedAt c n.rule q n
-      second_new w m is at e = (w.cell, new_is_listed w m e at, inl (refl, inr (is ∙ ap Some (named w true e)), a, b, p))
+      second_new w m is at e = (w.cell, new_is_listed w m e at, inl (refl, inr (is ∙ ap Some (its_name w true e)), a, b, p))
 
       old : n.first.fresh ≡ false → is_fresh n.second ≡ false → IsTouchedBy c n a b → (q : CellId) × Contains (changed_cells sets) q × IsNeedAt c n.rule q n
       old e f (inl new) = absurd (false≢true (sym (λ i. e i || f i) ∙ new))
       old e f (inr (v, l, serve, changed)) =
           let is = changed_is_old v l serve.is changed in
-          (v.cell, is.1, inr (subst (λ u. IsNeedServedBy c n.rule u n) (named v false is.0) (refl, a, b, l, p, serve)))
+          (v.cell, is.1, inr (subst (λ u. IsNeedServedBy c n.rule u n) (its_name v false is.0) (refl, a, b, l, p, serve)))
 
       by : (fresh : Bool) → n.first.fresh ≡ fresh → (w : Option VersionId) (m : Option (Lived ℕ)) → n.second ≡ w → IsBesideToo c n.first a w m → (q : CellId) × Contains (changed_cells sets) q × IsNeedAt c n.rule q n
       by true e w m is beside = first_new e

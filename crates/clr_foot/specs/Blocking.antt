@@ -27,8 +27,8 @@ abbrev pub has_life_too : Lifetime ℕ → Setting ℕ → Need → Bool
 has_life_too life c n = has_life_by life c n.first n.second
 
 -- the member breaks the possible need
-abbrev pub IsBlockerOf : Setting ℕ → Need → ℕ → Type 0
-IsBlockerOf c n x = (a : Lived ℕ) × (b : Option (Lived ℕ)) × IsPossible c n a b × IsBlocker c n a b x
+abbrev pub IsBlockerOf : {A : Type 0} → Setting A → Need → A → Type 0
+IsBlockerOf {A} c n x = (a : Lived A) × (b : Option (Lived A)) × IsPossible c n a b × IsBlocker c n a b x
 
 abbrev pub IsToldBlocker : Setting ℕ → Need → ℕ → Bool → Type 0
 IsToldBlocker c n x true = IsBlockerOf c n x

@@ -46,6 +46,9 @@ pub record IsUncovered {A : Type 0} (c : Setting A) (n : Need) (a : Lived A) (b 
   pub not_alone : (v : VersionId) → CoversAlone c n a b v → ⊥
   pub not_together : (v w : VersionId) → CoverTogether c n a b v w → ⊥
 
+abbrev pub IsUncoveredNeed : {A : Type 0} → Setting A → Need → Type 0
+IsUncoveredNeed {A} c n = (a : Lived A) × (b : Option (Lived A)) × IsUncovered c n a b
+
 -- a member with a subject With it, or a serving version Without it
 abbrev pub IsBlocker : {A : Type 0} → Setting A → Need → Lived A → Option (Lived A) → A → Type 0
 IsBlocker {A} c n a b x = (a.life ≡ With x) ⊎ (IsLifeOf (With x) b ⊎ ((v : VersionId) × (l : Lived A) × Serves c n a b v l × (l.life ≡ Without x)))

@@ -1,15 +1,19 @@
 -- What covered settings promise, by definitions alone.
-use Rattle.std.specs.Prelude.{◌≡◌, ℕ, List, [], ◌∷◌, Option, slice_get}
+use Rattle.std.specs.Prelude.{◌≡◌, ◌↔◌, ℕ, List, [], ◌∷◌, Option, slice_get}
 use Rattle.clr_rows.specs.Contents.{Changes, Content, row_at, taken_over}
 use Rattle.clr_rules.specs.declared.needs.Broken.{Broken}
 use Rattle.clr_rules.specs.declared.rules.Rule.{Rule}
 use Rattle.clr_rules.specs.Needs.{Holds, IsFirstBroken, broken}
 use Rattle.clr_foot.specs.declared.needs.Need.{Need}
-use Rattle.clr_foot.specs.Covers.{AreBlockers, AreCovered, Entry, IsUncovered}
+use Rattle.clr_foot.specs.declared.needs.VersionId.{VersionId}
+use Rattle.clr_foot.specs.Blocking.{IsBlockerOf}
+use Rattle.clr_foot.specs.Covers.{AreBlockers, AreCovered, Entry, IsUncovered, IsUncoveredNeed}
 use Rattle.clr_foot.specs.Broken.{merged}
 use Rattle.clr_foot.specs.Members.{setting}
-use Rattle.clr_foot.specs.Positions.{by_position}
-use Rattle.clr_foot.specs.Settings.{Setting, Lived, AreDisjoint, IsPart, taken}
+use Rattle.clr_foot.specs.Needs.{IsPossibleNeed, IsServing, IsTouched}
+use Rattle.clr_foot.specs.Positions.{StandsAt, by_position}
+use Rattle.clr_foot.specs.Renamings.{IsSameVersionToo}
+use Rattle.clr_foot.specs.Settings.{Setting, Lived, AreDisjoint, IsPart, taken, version}
 
 -- where each touched need is covered and every rule holds in the root, every rule holds in the root with the changes of any of the members over it
 abbrev pub CoveredHolds : {A : Type 0} → Setting A → Type 0
@@ -42,18 +46,19 @@ UncoveredByPosition = (c : Setting ℕ) → UncoveredBreaks c
 abbrev pub UncoveredByName : Type 0
 UncoveredByName = (c : Setting (List ℕ)) → UncoveredBreaks c
 
--- what is covered by positions keeps every rule, whoever the members are
-abbrev pub CoveredAtPositions : {A : Type 0} → Setting A → Type 0
-CoveredAtPositions {A} c = (es : List Entry)
-    → AreDisjoint (by_position c)
-    → AreCovered (by_position c) es
-    → Holds c.rules c.root
-    → (ts : List A)
-    → IsPart c ts c.members
-    → Holds c.rules (taken c ts)
+-- the members of one setting and their first positions in another: the same versions, the same needs, and what covers or breaks them
+pub record SayTheSame {A : Type 0} (c : Setting A) (d : Setting ℕ) : Type 0 where
+  pub versions : (v : VersionId) → IsSameVersionToo (StandsAt c) (version c v) (version d v)
+  pub possible : (n : Need) → IsPossibleNeed c n ↔ IsPossibleNeed d n
+  pub servers : (n : Need) (v : VersionId) → IsServing c n v ↔ IsServing d n v
+  pub touched : (n : Need) → IsTouched c n ↔ IsTouched d n
+  pub covered : (es : List Entry) → AreCovered c es ↔ AreCovered d es
+  pub uncovered : (n : Need) → IsUncoveredNeed c n ↔ IsUncoveredNeed d n
+  pub blockers : (n : Need) (m : A) (k : ℕ) → StandsAt c m k → IsBlockerOf c n m ↔ IsBlockerOf d n k
+  pub apart : AreDisjoint d → AreDisjoint c
 
 abbrev pub NamesByPosition : Type 0
-NamesByPosition = (c : Setting (List ℕ)) → CoveredAtPositions c
+NamesByPosition = (c : Setting (List ℕ)) → SayTheSame c (by_position c)
 
 -- what is told of the merge of one change set is told of the content with the changes over it
 abbrev pub FirstBrokenAfter : Type 0

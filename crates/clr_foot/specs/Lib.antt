@@ -11,6 +11,7 @@ pub mod Needs
 pub mod Orders
 pub mod Picks
 pub mod Positions
+pub mod Renamings
 pub mod Scenes
 pub mod Settings
 pub mod Touches

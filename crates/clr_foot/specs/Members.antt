@@ -1,6 +1,7 @@
 -- Members by position: change sets, the first of them that changes a cell, and cells that two change.
-use Rattle.std.specs.Prelude.{◌≡◌, ℕ, ◌<◌, ◌==◌, true, List, Option, Some, None, is_some, length, slice_get, if◌then◌else◌}
+use Rattle.std.specs.Prelude.{◌≡◌, ℕ, ◌<◌, ◌≤◌, ◌+◌, ◌==◌, ◌-◌, true, List, Option, Some, None, is_some, length, slice_get, if◌then◌else◌}
 use Rattle.std.proofs.lemmas.Bool.Decides.{Decides-eqb}
+use Rattle.std.specs.BTreeMap.{BTreeMap, get}
 use Rattle.std.specs.FinMap as finite
 use Rattle.std.specs.List.{flat_map, range_with_len}
 use Rattle.std.specs.Option.{option_map}
@@ -11,12 +12,13 @@ use Rattle.clr_rows.specs.declared.rows.Row.{Row}
 use Rattle.clr_rows.specs.Cells.{cell_cmp}
 use Rattle.clr_rows.specs.Contents.{Content, Changes, row_at}
 use Rattle.clr_rules.specs.declared.rules.Rule.{Rule}
+use Rattle.clr_foot.specs.declared.changers.Changers.{Changers}
 use Rattle.clr_foot.specs.declared.faults.SceneFault.{SceneFault}
 use Rattle.clr_foot.specs.declared.faults.SceneFault.TheVariants as fault
 use Rattle.clr_foot.specs.declared.members.SharedCell.{SharedCell}
 use Rattle.clr_foot.specs.declared.needs.Life.{Life}
 use Rattle.clr_foot.specs.declared.needs.Life.TheVariants as life
-use Rattle.clr_foot.specs.Settings.{Setting, Lifetime, Always, With, Without}
+use Rattle.clr_foot.specs.Settings.{Setting, Lifetime, Always, With, Without, first_changer}
 
 -- what a change set has at a cell that it changes
 abbrev pub after_in : Changes → CellId → Option (Option Row)
@@ -77,6 +79,50 @@ pub record IsLeastShared (sets : List Changes) (s : SharedCell) : Type 0 where
 abbrev pub IsSceneFault : List Changes → SceneFault → Type 0
 IsSceneFault sets (fault.SharedCell cell first second) = IsLeastShared sets (record { cell = cell; first = first; second = second })
 IsSceneFault sets fault.OutOfMemory = Unit {0}
+
+-- the first two members that change each cell ---------------------------------------------------
+
+-- none of the members from one position to below another changes the cell
+abbrev pub NoneChanges : List Changes → CellId → ℕ → ℕ → Type 0
+NoneChanges sets q from end = (k : ℕ) → from ≤ k → k < end → ChangesCell sets q k → ⊥
+
+-- the first of them that does
+pub record IsFirstChanger (sets : List Changes) (q : CellId) (from end m : ℕ) : Type 0 where
+  pub from_on : from ≤ m
+  pub below : m < end
+  pub changes : ChangesCell sets q m
+  pub passed : NoneChanges sets q from m
+
+-- the first of them that does, if one does
+abbrev pub IsFound : List Changes → CellId → ℕ → ℕ → Option ℕ → Type 0
+IsFound sets q from end None = NoneChanges sets q from end
+IsFound sets q from end (Some m) = IsFirstChanger sets q from end m
+
+-- the first of the members below a number that changes the cell and the next one that does, as far as there are such
+abbrev pub AreChangersAt : List Changes → ℕ → CellId → Option Changers → Type 0
+AreChangersAt sets end q None = NoneChanges sets q 0 end
+AreChangersAt sets end q (Some c) = IsFirstChanger sets q 0 end c.first × IsFound sets q (c.first + 1) end c.second
+
+-- those of each cell
+abbrev pub AreChangersBelow : List Changes → ℕ → BTreeMap CellId Changers → Type 0
+AreChangersBelow sets end changers = (q : CellId) → AreChangersAt sets end q (get cell_cmp changers q)
+
+-- the first member of all that changes the cell and the next one
+abbrev pub changers_from : List Changes → CellId → Option ℕ → Option Changers
+changers_from sets q None = None
+changers_from sets q (Some m) = Some (record { first = m; second = first_changer (after_of sets) (range_with_len (m + 1) (length sets - (m + 1))) q })
+
+abbrev pub changers_at : List Changes → CellId → Option Changers
+changers_at sets q = changers_from sets q (first_changer (after_of sets) (positions sets) q)
+
+-- the changers of a cell with one more member behind them
+abbrev pub with_second : Changers → Option ℕ → ℕ → Changers
+with_second c None n = if c.first == n then c else record { first = c.first; second = Some n }
+with_second c (Some m) n = c
+
+abbrev pub with_member : Option Changers → ℕ → Changers
+with_member None n = record { first = n; second = None }
+with_member (Some c) n = with_second c c.second n
 
 -- the cells that members change, one member after another
 unfoldable pub changed_cells : List Changes → List CellId

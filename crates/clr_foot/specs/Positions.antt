@@ -1,5 +1,5 @@
 -- The same setting, its members named by their positions in the list.
-use Rattle.std.specs.Prelude.{◌≡◌, ℕ, ◌==◌, Option, Some, None, length, slice_get}
+use Rattle.std.specs.Prelude.{◌≡◌, ℕ, ◌≤◌, ◌==◌, Option, Some, None, length, slice_get}
 use Rattle.std.proofs.lemmas.Bool.Decides.{Decides-eqb}
 use Rattle.std.specs.List.{range_with_len}
 use Rattle.clr_rows.specs.declared.cells.CellId.{CellId}
@@ -19,6 +19,11 @@ by_position c = record {
   same = λ j k. j == k;
   decides = Decides-eqb;
 }
+
+-- the first position of a member
+pub record StandsAt {A : Type 0} (c : Setting A) (n : A) (k : ℕ) : Type 0 where
+  pub there : slice_get c.members k ≡ Some n
+  pub first : (j : ℕ) → slice_get c.members j ≡ Some n → k ≤ j
 
 -- no member stands twice in the list
 abbrev pub AreDistinct : {A : Type 0} → Setting A → Type 0

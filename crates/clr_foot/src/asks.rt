@@ -1,16 +1,15 @@
 //! Of how many rows a rule is asked, and which rows may serve.
 
 ghost use Rattle.std.specs.Prelude.{◌≡◌, ◌<◌, length};
-ghost use Rattle.clr_rows.specs.Held.{held_of};
-ghost use Rattle.clr_grid.specs.Sharing.{may_serve, may_serve_under};
+ghost use Rattle.clr_grid.specs.Sharing.{may_serve_under};
 ghost use Rattle.clr_foot.specs.Candidates.{is_of_two, is_of_two_under};
 ghost use Rattle.clr_foot.specs.Versions.{row_of};
 
 use crate::scenes::Scene;
 use crate::versions::Version;
-use clr_grid::RowFinder;
-use clr_rows::{Held, RowView};
-use clr_rules::{Rule, is_of_side};
+use clr_grid::{RowFinder, may_serve};
+use clr_rows::RowView;
+use clr_rules::Rule;
 
 /// Whether a rule is asked of two rows.
 fn is_of_two(rule: &Rule) -> bool
@@ -19,18 +18,6 @@ fn is_of_two(rule: &Rule) -> bool
     match rule {
         Rule::Unique { .. } | Rule::Crossing { .. } | Rule::Near { .. } => true,
         Rule::Partner { .. } | Rule::EndNode { .. } => false,
-    }
-}
-
-/// Whether a row is of the side of a rule that serves.
-fn may_serve(rule: &Rule, held: Held) -> bool
-    ensures { result ≡ may_serve rule.now (held_of held.entry) }
-{
-    match rule {
-        Rule::Partner { server, .. }
-        | Rule::EndNode { server, .. }
-        | Rule::Crossing { server, .. } => is_of_side(server, held),
-        Rule::Unique { .. } | Rule::Near { .. } => false,
     }
 }
 

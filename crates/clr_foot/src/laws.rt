@@ -16,9 +16,8 @@ pub fn uncovered_needs_are_broken()
     ensures by_name { UncoveredByName }
 {}
 
-/// What holds of a setting by the positions of its members holds of it by their names: where each
-/// need touched by positions is covered, every rule holds with the changes of any of the named
-/// members over the root.
+/// A setting by the positions of its members says the same as by their names: the same versions,
+/// whose lives name the same members, the same needs, and what serves, covers or breaks them.
 pub fn positions_stand_for_names()
     ensures { NamesByPosition }
 {}

@@ -5,10 +5,12 @@ mod asks;
 mod blockers;
 mod breaks;
 mod candidates;
+mod changers;
 mod faults;
 mod independence;
 mod involvement;
 mod laws;
+mod limits;
 mod lists;
 mod members;
 mod needs;
@@ -24,5 +26,6 @@ pub use laws::{
     covered_members_keep_rules, first_broken_is_listed_first, positions_stand_for_names,
     uncovered_needs_are_broken,
 };
+pub use limits::MOST_MEMBERS;
 pub use needs::{Life, Need, VersionId};
 pub use scenes::Scene;

@@ -1,12 +1,16 @@
-//! The members of a scene: change sets, and the cells that they change.
+//! The members of a scene: change sets, the cells that they change, and which of them change each.
 
-ghost use Rattle.std.specs.Prelude.{◌≡◌, ◌<◌, ◌≤◌, ◌-◌, ◌++◌, true, Some, None, length, map, IfOk, IfSome, MatchOption, OnOk};
+ghost use Rattle.std.specs.Prelude.{◌≡◌, ◌<◌, ◌≤◌, ◌++◌, true, Some, None, length, map, IfOk, IfSome, MatchOption, OnOk};
+ghost use Rattle.std.specs.BTreeMap.{get};
 ghost use Rattle.std.specs.FinMap as finite;
-ghost use Rattle.std.specs.List.{range_with_len};
-ghost use Rattle.clr_foot.specs.Members.{AreApart, AreFirstTwo, IsApart, IsLeastShared, after_of, changed_cells, lesser, positions};
+ghost use Rattle.clr_rows.specs.Cells.{cell_cmp};
+ghost use Rattle.clr_rows.specs.declared.cells.CellId.{CellId as Cell};
+ghost use Rattle.clr_foot.specs.declared.limits.TheConstants.{MOST_MEMBERS};
+ghost use Rattle.clr_foot.specs.Members.{AreApart, AreFirstTwo, IsApart, IsLeastShared, after_of, changed_cells, changers_at, lesser, positions};
 ghost use Rattle.clr_foot.specs.Settings.{first_changer};
 ghost use Rattle.clr_foot.specs.Versions.{AreNewRowsFiled, FitNewRows, new_version_at, lived, version_of};
 
+use crate::changers::{Changers, changers_of};
 use crate::needs::{Life, VersionId};
 use crate::versions::Version;
 use clr_change::ChangeSet;
@@ -14,6 +18,7 @@ use clr_grid::{RowFinder, SpotIndex};
 use clr_rows::CellId;
 use clr_rules::RuleBook;
 use std::alloc::{AllocError, Global};
+use std::collections::BTreeMap;
 
 /// A cell with the first two members that change it.
 #[derive(Clone, Copy, Debug)]
@@ -23,13 +28,15 @@ pub(crate) struct SharedCell {
     pub(crate) second: u16,
 }
 
-/// Change sets, and the cells that they change.
+/// Change sets, the cells that they change, and the first two that change each.
 #[derive(Drop)]
 pub(crate) struct Members<'a> {
     pub(crate) sets: Vec<&'a ChangeSet>,
     pub(crate) cells: Vec<CellId>,
-    ghost few: { length sets.items ≤ 255 },
+    changers: BTreeMap<CellId, Changers>,
+    ghost few: { length sets.items ≤ MOST_MEMBERS },
     ghost all: { cells.items ≡ changed_cells (map (λ s. s.now) sets.items) },
+    ghost changed_by: { (q : Cell) → get cell_cmp changers q ≡ changers_at (map (λ s. s.now) sets.items) q },
 }
 
 /// Adds the cells that a change set changes.
@@ -66,25 +73,16 @@ fn lesser(found: Option<SharedCell>, other: SharedCell) -> SharedCell
 impl<'a> Members<'a> {
     /// The members of these change sets. It fails for want of memory alone.
     pub(crate) fn new(alloc: Global, sets: Vec<&'a ChangeSet>) -> Result<Members<'a>, AllocError>
-        requires { length sets.items ≤ 255 }
+        requires { length sets.items ≤ MOST_MEMBERS }
         ensures { IfOk result (λ members. members.sets.items ≡ sets.entry.items) }
     {
         let cells = changed_cells(alloc, sets.as_slice())?;
-        Ok(Members { sets, cells })
-    }
-
-    /// The first member from a position on that changes a cell.
-    fn changer_from(&self, from: usize, cell: CellId) -> Option<u16>
-        ensures first { result
-            ≡ first_changer (after_of (map (λ s. s.now) self.now.sets.items)) (range_with_len from (length self.now.sets.items - from)) cell }
-        ensures position { IfSome result (λ n. n < length self.now.sets.items) }
-    {
-        for position in from..self.sets.len() {
-            if self.sets[position].get(cell).is_some() {
-                return Some(position as u16);
-            }
-        }
-        None
+        let changers = changers_of(alloc, sets.as_slice())?;
+        Ok(Members {
+            sets,
+            cells,
+            changers,
+        })
     }
 
     /// The first member that changes a cell.
@@ -92,7 +90,8 @@ impl<'a> Members<'a> {
         ensures first { result ≡ first_changer (after_of (map (λ s. s.now) self.now.sets.items)) (positions (map (λ s. s.now) self.now.sets.items)) cell }
         ensures position { IfSome result (λ n. n < length self.now.sets.items) }
     {
-        self.changer_from(0, cell)
+        let changers = self.changers.get(&cell)?;
+        Some(changers.first)
     }
 
     /// The new version of a cell, if its changer brings a row there.
@@ -117,13 +116,9 @@ impl<'a> Members<'a> {
         ensures { MatchOption result (IsApart (map (λ s. s.now) self.now.sets.items) cell)
             (λ two. AreFirstTwo (map (λ s. s.now) self.now.sets.items) cell two.0 two.1) }
     {
-        match self.changer_from(0, cell) {
-            None => None,
-            Some(first) => match self.changer_from(first as usize + 1, cell) {
-                None => None,
-                Some(second) => Some((first, second)),
-            },
-        }
+        let changers = self.changers.get(&cell)?;
+        let second = changers.second?;
+        Some((changers.first, second))
     }
 
     /// The least cell that two members change, with the first two that do, if there is one.

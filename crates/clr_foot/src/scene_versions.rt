@@ -2,6 +2,7 @@
 
 ghost use Rattle.std.specs.Prelude.{◌≡◌, ◌≤◌, false, length, map, option_map, Some, None, IfOk, MatchOption, MatchResult};
 ghost use Rattle.std.specs.Option.{option_copied};
+ghost use Rattle.clr_foot.specs.declared.limits.TheConstants.{MOST_MEMBERS};
 ghost use Rattle.clr_foot.specs.Members.{AreApart, IsSceneFault, lifetime, setting};
 ghost use Rattle.clr_foot.specs.Scenes.{model_of, setting_in, setting_of};
 ghost use Rattle.clr_foot.specs.Settings.{old_version, version};
@@ -36,8 +37,8 @@ fn old_version(cell: CellId, row: Option<&Row>, changer: Option<u16>) -> Option<
 }
 
 impl<'a, V: RowView, F: RowFinder> Scene<'a, V, F> {
-    /// The scene of a book, a root, a finder that has settled the root's rows, and at most 255
-    /// change sets. Fails with `SharedCell` where two of them change one cell, and with
+    /// The scene of a book, a root, a finder that has settled the root's rows, and at most
+    /// `MOST_MEMBERS` change sets. Fails with `SharedCell` where two of them change one cell, and with
     /// `OutOfMemory` for want of memory.
     pub fn new(
         alloc: Global,
@@ -46,7 +47,7 @@ impl<'a, V: RowView, F: RowFinder> Scene<'a, V, F> {
         finder: &'a F,
         sets: Vec<&'a ChangeSet>,
     ) -> Result<Scene<'a, V, F>, SceneFault>
-        requires few { length sets.items ≤ 255 }
+        requires few { length sets.items ≤ MOST_MEMBERS }
         requires fit { FitsSetting (setting book.now (V.content root.now) (map (λ s. s.now) sets.items)) }
         ensures model { IfOk result (λ scene. model_of V.content scene ≡ record {
           rules = book.entry.now;

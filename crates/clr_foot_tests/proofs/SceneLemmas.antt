@@ -11,12 +11,12 @@ use Rattle.clr_steps.specs.Offices.{Office}
 use Rattle.clr_steps.specs.Quiet.{Site}
 use Rattle.clr_steps.specs.Readings.{changes_in}
 use Rattle.clr_engine.specs.Drafts.{IsAdmitted}
-use Rattle.clr_clearance.specs.Sites.{change_sets, numbered}
+use Rattle.clr_clearance.specs.Sites.{change_sets, setting_by_position}
 use Rattle.clr_clearance.specs.Verdicts.{member_fault}
 use Rattle.clr_clearance.proofs.ClearLemmas.{faultless}
 use Rattle.clr_check.proofs.SiteLemmas.{root_holds}
 
-module _ (o : Office) (s : Site) (rules : List Rule) (root : Content) (sets : List Changes) (is : setting rules root sets ≡ numbered o s) where
+module _ (o : Office) (s : Site) (rules : List Rule) (root : Content) (sets : List Changes) (is : setting rules root sets ≡ setting_by_position o s) where
   pub members_counted : length sets ≡ length s.members
   members_counted = sym (length-range_with_len 0 (length sets)) ∙ ap (λ (c : Setting ℕ). length c.members) is
       ∙ length-range_with_len 0 (length (change_sets o s)) ∙ length-map s.members (changes_in o)

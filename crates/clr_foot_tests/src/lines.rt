@@ -6,7 +6,6 @@ ghost use Rattle.clr_foot.specs.Scenes.{IsReady, model_of, setting_of};
 use crate::memory::Memory;
 use clr_foot::{Life, Need, Scene, VersionId};
 use clr_grid::RowFinder;
-use clr_lines::table_name;
 use clr_rows::{RowView, Schema};
 use std::alloc::{AllocError, Global};
 
@@ -27,7 +26,7 @@ fn version_text<V: RowView, F: RowFinder>(
     scene: &Scene<'_, V, F>,
     id: VersionId,
 ) -> Result<String, AllocError> {
-    let table = table_name(schema, id.cell.table);
+    let table = schema.name_of_table(id.cell.table);
     let age = if id.fresh { "new" } else { "old" };
     let life = life_text(alloc, scene.life(id))?;
     format!(in alloc; "{table}/{}/{age}{life}", id.cell.key)
@@ -72,7 +71,7 @@ fn one_or_two(
 }
 
 /// The witnesses that are picked for a need.
-fn picked<V: RowView, F: RowFinder>(
+fn witnesses_of<V: RowView, F: RowFinder>(
     alloc: Global,
     scene: &Scene<'_, V, F>,
     need: &Need,
@@ -102,7 +101,7 @@ fn need_line<V: RowView, F: RowFinder>(
     let subjects = version_list(alloc, schema, scene, subjects.as_slice())?;
     let servers = memory.answer(|| scene.servers(need))?;
     let servers = version_list(alloc, schema, scene, servers.as_slice())?;
-    let witnesses = picked(alloc, scene, need, memory)?;
+    let witnesses = witnesses_of(alloc, scene, need, memory)?;
     let witnesses = version_list(alloc, schema, scene, witnesses.as_slice())?;
     let blockers = memory.answer(|| scene.blockers(need))?;
     let blockers = member_list(alloc, blockers.as_slice())?;

@@ -1,14 +1,29 @@
 use crate::memory::Memory;
 use crate::networks::{CROSSING, MAINS, PATHS, TWO_NODES, network};
 use crate::sites::first_broken;
+use clr_engine::Office;
 use clr_hoard::Hoard;
 use clr_lines::add_need;
 use std::alloc::{AllocError, Global};
 use std::process::Abort;
 use std::test::Fail;
 
-/// The least need that the changes of W1 break, as it stands in a reply, or nothing.
-fn broken_line(
+/// The least need that the changes of a child of LIVE break, as it stands in a reply, or nothing.
+pub(crate) fn broken_line(
+    alloc: Global,
+    office: &Office,
+    member: &str,
+    memory: &mut Memory,
+) -> Result<Vec<u8>, Fail> {
+    let mut line = Vec::new(alloc);
+    if let Some(need) = first_broken(alloc, office, "LIVE", member, memory)? {
+        add_need(&mut line, office.schema(), &need)?;
+    }
+    Ok(line)
+}
+
+/// The same of changes over the crossing and more rows.
+fn line_of_changes(
     alloc: Global,
     rules: &str,
     more: &str,
@@ -17,11 +32,7 @@ fn broken_line(
 ) -> Result<Vec<u8>, Fail> {
     let live = format!(in alloc; "{CROSSING}{more}")?;
     let office = network(alloc, rules, live.as_str(), &[changes])?;
-    let mut line = Vec::new(alloc);
-    if let Some(need) = first_broken(alloc, &office, "LIVE", "W1", memory)? {
-        add_need(&mut line, office.schema(), &need)?;
-    }
-    Ok(line)
+    broken_line(alloc, &office, "W1", memory)
 }
 
 /// Tables and rules, rows of LIVE beside the crossing, what a member changes, and the need.
@@ -80,7 +91,7 @@ const MERGES: [(&str, &str, &str, &str); 9] = [
 /// Asserts which needs are broken, by calls that have this memory.
 fn assert_needs(rt: &impl Abort, alloc: Global, memory: &mut Memory) -> Result<(), Fail> {
     for (rules, more, changes, need) in MERGES {
-        let found = broken_line(alloc, rules, more, changes, memory)?;
+        let found = line_of_changes(alloc, rules, more, changes, memory)?;
         assert!(rt; found.as_slice() == need.as_bytes(), "{changes}");
     }
     Ok(())

@@ -15,7 +15,6 @@ use clr_check::{SiteParts, read_site};
 use clr_engine::{Broken, Office};
 use clr_foot::{Scene, SceneFault};
 use clr_grid::{RowFinder, SpotIndex};
-use clr_lines::table_name;
 use clr_rows::RowView;
 use clr_tree::View;
 use std::alloc::{AllocError, Global};
@@ -58,7 +57,7 @@ fn lines_of_parts(
                 second,
             },
         ) => {
-            let table = table_name(office.schema(), cell.table);
+            let table = office.schema().name_of_table(cell.table);
             format!(in alloc; "shared {table}/{} {first} {second}\n", cell.key)
         }
     }
@@ -217,7 +216,7 @@ pub(crate) fn scene_lines(
 pub(crate) type SceneOver = (&'static str, &'static [&'static str], &'static str);
 
 /// What is said of members over tables with rules, and rows of LIVE in two pieces.
-fn said(
+fn describe_members(
     alloc: Global,
     front: (&str, &str),
     more: &str,
@@ -238,7 +237,7 @@ pub(crate) fn assert_said(
     memory: &mut Memory,
 ) -> Result<(), Fail> {
     for (more, changes, lines) in scenes {
-        let found = said(alloc, front, more, changes, memory)?;
+        let found = describe_members(alloc, front, more, changes, memory)?;
         assert_eq!(rt; found.as_str(), *lines);
     }
     Ok(())

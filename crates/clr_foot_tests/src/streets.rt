@@ -2,7 +2,11 @@
 //! independent program says of what members change there. The offices were drawn at random.
 
 use crate::memory::Memory;
+use crate::merges::broken_line;
+use crate::networks::network;
 use crate::sites::{SceneOver, assert_said};
+use std::alloc::Global;
+use std::process::Abort;
 use std::test::Fail;
 
 /// Tables and rules. No code of a main stands twice, the number of a hydrant is the key of a main, a
@@ -267,7 +271,59 @@ independent no no no
     ),
 ];
 
+/// For each scene, the least need that is broken once the changes of each member alone are made, or
+/// nothing.
+const BROKEN: [[&str; 3]; 8] = [
+    ["", "rule 0 main/3 main/4", ""],
+    ["", "rule 4 node/10 hydrant/2", "rule 2 duct/5"],
+    [
+        "rule 1 hydrant/7",
+        "rule 0 main/1 main/4",
+        "rule 1 hydrant/6",
+    ],
+    ["rule 2 duct/8", "", ""],
+    [
+        "rule 0 main/7 main/11",
+        "rule 1 hydrant/2",
+        "rule 3 main/1 duct/6",
+    ],
+    [
+        "rule 4 node/1 hydrant/9",
+        "rule 2 duct/6",
+        "rule 0 main/1 main/2",
+    ],
+    [
+        "rule 2 duct/1",
+        "rule 4 node/1 hydrant/1",
+        "rule 0 main/3 main/5",
+    ],
+    ["rule 0 main/4 main/9", "", "rule 1 hydrant/8"],
+];
+
 #[test]
 fn random_scenes(rt: HostRuntime) -> Result<(), Fail> {
     assert_said(&rt, rt.alloc(), (STREETS, ""), &SCENES, &mut Memory::All)
+}
+
+/// Asserts which need is broken once the changes of each member alone are made.
+fn assert_broken(
+    rt: &impl Abort,
+    alloc: Global,
+    scene: SceneOver,
+    needs: [&str; 3],
+) -> Result<(), Fail> {
+    let office = network(alloc, STREETS, scene.0, scene.1)?;
+    for (member, need) in ["W1", "W2", "W3"].iter().zip(needs.iter()) {
+        let line = broken_line(alloc, &office, member, &mut Memory::All)?;
+        assert!(rt; line.as_slice() == need.as_bytes(), "{member}: {need}");
+    }
+    Ok(())
+}
+
+#[test]
+fn least_needs_that_members_alone_break(rt: HostRuntime) -> Result<(), Fail> {
+    for (scene, needs) in SCENES.iter().zip(BROKEN.iter()) {
+        assert_broken(&rt, rt.alloc(), *scene, *needs)?;
+    }
+    Ok(())
 }

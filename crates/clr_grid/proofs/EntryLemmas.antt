@@ -58,27 +58,27 @@ module _ {X : Type 0} where
   pub listed_entry : (m : FinMap cell_cmp X) (s : CellId × X) → Among s (entries m) → get m s.0 ≡ Some s.1
   listed_entry m s h = get-entries m s.0 ∙ found_back s (entries m) (entries_sorted m) h
 
-  rising : (es : List (CellId × X)) → T (is_sorted cell_cmp es) → IsStrictlySortedBy entry_cmp es
+  entry_list_rises : (es : List (CellId × X)) → T (is_sorted cell_cmp es) → IsStrictlySortedBy entry_cmp es
   unfolding IsStrictlySortedBy
-  rising [] b = tt
-  rising (e ∷ es) b =
+  entry_list_rises [] b = tt
+  entry_list_rises (e ∷ es) b =
       let c = both (below_all cell_cmp e.0 es) (is_sorted cell_cmp es) b in
-      (all_by (λ s. cell_cmp e.0 s.0 ≡ Less) es (λ s h. below_among e.0 s es c.0 h), rising es c.1)
+      (all_by (λ s. cell_cmp e.0 s.0 ≡ Less) es (λ s h. below_among e.0 s es c.0 h), entry_list_rises es c.1)
 
   pub entries_rise : (m : FinMap cell_cmp X) → IsStrictlySortedBy entry_cmp (entries m)
-  entries_rise m = rising (entries m) (entries_sorted m)
+  entries_rise m = entry_list_rises (entries m) (entries_sorted m)
 
   -- the cells whose entries pass a test, ascending
-  abbrev pub passing : (CellId × X → Bool) → FinMap cell_cmp X → List CellId
-  passing p m = map (λ (e : CellId × X). e.0) (filter p (entries m))
+  abbrev pub passing_cells : (CellId × X → Bool) → FinMap cell_cmp X → List CellId
+  passing_cells p m = map (λ (e : CellId × X). e.0) (filter p (entries m))
 
-  pub passing_rise : (p : CellId × X → Bool) (m : FinMap cell_cmp X) → IsStrictlySortedBy cell_cmp (passing p m)
+  pub passing_rise : (p : CellId × X → Bool) (m : FinMap cell_cmp X) → IsStrictlySortedBy cell_cmp (passing_cells p m)
   passing_rise p m = rising_mapped entry_cmp cell_cmp (λ (e : CellId × X). e.0) (λ e f less. less) (filter p (entries m)) (IsStrictlySortedBy-filter entry_cmp p (entries m) (entries_rise m))
 
-  pub passes_in : (p : CellId × X → Bool) (m : FinMap cell_cmp X) (q : CellId) (x : X) → get m q ≡ Some x → p (q, x) ≡ true → Among q (passing p m)
+  pub passes_in : (p : CellId × X → Bool) (m : FinMap cell_cmp X) (q : CellId) (x : X) → get m q ≡ Some x → p (q, x) ≡ true → Among q (passing_cells p m)
   passes_in p m q x e h = mapped_among (λ (e : CellId × X). e.0) (q, x) (filter p (entries m)) (kept_among p (q, x) (entries m) (entry_listed m q x e) h)
 
-  pub in_passes : (p : CellId × X → Bool) (m : FinMap cell_cmp X) (q : CellId) → Among q (passing p m) → (x : X) × (get m q ≡ Some x) × (p (q, x) ≡ true)
+  pub in_passes : (p : CellId × X → Bool) (m : FinMap cell_cmp X) (q : CellId) → Among q (passing_cells p m) → (x : X) × (get m q ≡ Some x) × (p (q, x) ≡ true)
   in_passes p m q h =
       let (e, k, same) = among_mapped (λ (e : CellId × X). e.0) q (filter p (entries m)) h in
       let f = among_kept p e (entries m) k in

@@ -152,13 +152,13 @@ stays_by i j cell kept all wide spots (At x) q s e = spots x q (not-true _ s) e
 
 -- the cells that are looked at, added one part after another
 pub near_by : (i : SideIndex) (x : RuleSpots) (m m' m'' n : Cells) (list : List Spot) → ((q : CellId) → set.contains m' q ≡ (set.contains m q || (x.spots.wide && set.contains i.all q)))
-    → ((q : CellId) → set.contains m'' q ≡ (set.contains m' q || set.contains i.wide q))
+    → ((q : CellId) → set.contains m'' q ≡ (set.contains m' q || (x.has_role && set.contains i.wide q)))
     → ((q : CellId) → set.contains n q ≡ (set.contains m'' q || list_any (λ y. has_cell (get spot_cmp i.by_spot y) q) list))
     → list ≡ x.spots.list
     → (k : Key) (q : CellId) → is_looked_at x k ≡ true → is_filed i k q ≡ true → set.contains n q ≡ true
 near_by i x m m' m'' n list all wide spots same All q l e =
     spots q ∙ or_left _ _ (wide q ∙ or_left _ _ (all q ∙ or_right (set.contains m q) _ (λ j. l j && e j)))
-near_by i x m m' m'' n list all wide spots same Wide q l e = spots q ∙ or_left _ _ (wide q ∙ or_right (set.contains m' q) _ e)
+near_by i x m m' m'' n list all wide spots same Wide q l e = spots q ∙ or_left _ _ (wide q ∙ or_right (set.contains m' q) _ (λ j. l j && e j))
 near_by i x m m' m'' n list all wide spots same (At y) q l e = spots q ∙ or_right (set.contains m'' q) _ (some_at list (ap (list_any (same_spot y)) same ∙ l))
   where
     some_at : (ys : List Spot) → list_any (same_spot y) ys ≡ true → list_any (λ z. has_cell (get spot_cmp i.by_spot z) q) ys ≡ true
@@ -169,7 +169,7 @@ near_by i x m m' m'' n list all wide spots same (At y) q l e = spots q ∙ or_ri
     ]
 
 pub near_keeps : (i : SideIndex) (x : RuleSpots) (m m' m'' n : Cells) (list : List Spot) → ((q : CellId) → set.contains m' q ≡ (set.contains m q || (x.spots.wide && set.contains i.all q)))
-    → ((q : CellId) → set.contains m'' q ≡ (set.contains m' q || set.contains i.wide q))
+    → ((q : CellId) → set.contains m'' q ≡ (set.contains m' q || (x.has_role && set.contains i.wide q)))
     → ((q : CellId) → set.contains n q ≡ (set.contains m'' q || list_any (λ y. has_cell (get spot_cmp i.by_spot y) q) list))
     → (q : CellId) → set.contains m q ≡ true → set.contains n q ≡ true
 near_keeps i x m m' m'' n list all wide spots q e = spots q ∙ or_left _ _ (wide q ∙ or_left _ _ (all q ∙ or_left _ _ e))

@@ -139,7 +139,7 @@ met_near rows indexes servers x number cells filed near q met = row (finite.get 
         let p = and_parts x.has_role _ e in
         let r = and_parts y.has_role _ p.1 in
         elim (or_cases (x.spots.wide || y.spots.wide) (have_common_spot x.spots.list y.spots.list) r.1) [
-          | inl wide ↦ (elim (or_cases x.spots.wide y.spots.wide wide) [ inl one ↦ found All one r.0 | inr other ↦ found Wide refl other ])
+          | inl wide ↦ (elim (or_cases x.spots.wide y.spots.wide wide) [ inl one ↦ found All one r.0 | inr other ↦ found Wide p.0 other ])
           | inr common ↦ (let (z, among, has) = some_of (λ z. list_any (same_spot z) y.spots.list) x.spots.list common in
               found (At z) (any_by (same_spot z) z x.spots.list among (same_spot_itself z)) has)
         ]

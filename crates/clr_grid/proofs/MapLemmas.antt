@@ -20,8 +20,8 @@ use Rattle.clr_grid.specs.Sharing.{Settled, Pending, next_of, next_at}
 abbrev pub at_cell : {X : Type 0} → List (CellId × X) → CellId → Option X
 at_cell es q = lookup (is_at (cell_cmp q)) es
 
-pub turned : (k q : CellId) → is_at (cell_cmp k) q ≡ eq_by_cmp cell_cmp q k
-turned k q = (eq_by_cmp_equiv cell_cmp_total).symm k q
+pub same_tie : (k q : CellId) → is_at (cell_cmp k) q ≡ eq_by_cmp cell_cmp q k
+same_tie k q = (eq_by_cmp_equiv cell_cmp_total).symm k q
 
 -- ---- settled rows
 pub get_set_at : (m : Settled) (k : CellId) (row : RowOrNone) (q : CellId) → finite.get (set_at m k row) q ≡ cond (eq_by_cmp cell_cmp q k) row (finite.get m q)
@@ -48,7 +48,7 @@ flat_chosen false w o = refl
 -- entries that differ at one cell
 pub one_settled : (es fs : List (CellId × RowOrNone)) (k : CellId) (w : Option RowOrNone) → ((q : CellId) → at_cell fs q ≡ cond (is_at (cell_cmp k) q) w (at_cell es q)) → settled_of fs ≡ set_at (settled_of es) k (option_flatten w)
 one_settled es fs k w h = finite.same_map cell_cmp_total cell_cmp_exact _ _ (λ q.
-    get_settled fs q ∙ ap option_flatten (h q) ∙ flat_chosen (is_at (cell_cmp k) q) w (at_cell es q) ∙ ap (λ b. cond b (option_flatten w) (option_flatten (at_cell es q))) (turned k q)
+    get_settled fs q ∙ ap option_flatten (h q) ∙ flat_chosen (is_at (cell_cmp k) q) w (at_cell es q) ∙ ap (λ b. cond b (option_flatten w) (option_flatten (at_cell es q))) (same_tie k q)
     ∙ ap (cond (eq_by_cmp cell_cmp q k) (option_flatten w)) (sym (get_settled es q)) ∙ sym (get_set_at (settled_of es) k (option_flatten w) q))
 
 -- ---- pending changes
@@ -61,12 +61,12 @@ get_pending es q = finite.get-from_entries cell_cmp_total es q ∙ find_at es q
 
 pub one_noted : (es fs : List (CellId × RowOrNone)) (k : CellId) (row : RowOrNone) → ((q : CellId) → at_cell fs q ≡ cond (is_at (cell_cmp k) q) (Some row) (at_cell es q)) → pending_of fs ≡ finite.insert (pending_of es) k row
 one_noted es fs k row h = finite.same_map cell_cmp_total cell_cmp_exact _ _ (λ q.
-    get_pending fs q ∙ h q ∙ ap (λ b. cond b (Some row) (at_cell es q)) (turned k q)
+    get_pending fs q ∙ h q ∙ ap (λ b. cond b (Some row) (at_cell es q)) (same_tie k q)
     ∙ ap (cond (eq_by_cmp cell_cmp q k) (Some row)) (sym (get_pending es q)) ∙ sym (finite.get-insert cell_cmp_total (pending_of es) k row q))
 
 pub one_taken : (es fs : List (CellId × RowOrNone)) (k : CellId) → ((q : CellId) → at_cell fs q ≡ cond (is_at (cell_cmp k) q) None (at_cell es q)) → pending_of fs ≡ finite.remove (pending_of es) k
 one_taken es fs k h = finite.same_map cell_cmp_total cell_cmp_exact _ _ (λ q.
-    get_pending fs q ∙ h q ∙ ap (λ b. cond b None (at_cell es q)) (turned k q)
+    get_pending fs q ∙ h q ∙ ap (λ b. cond b None (at_cell es q)) (same_tie k q)
     ∙ ap (cond (eq_by_cmp cell_cmp q k) None) (sym (get_pending es q)) ∙ sym (finite.get-remove cell_cmp_total (pending_of es) k q))
 
 -- ---- both
@@ -112,8 +112,8 @@ pub fewer_left : (m : Pending) (k : CellId) → is_some (finite.get m k) ≡ tru
 fewer_left m k some = subst (λ n. n < finite.len m) (sym (finite.len-remove cell_cmp_total m k)) (fewer (finite.contains_key m k) (finite.len m) some (some_left m k some))
 
 -- ---- room
-tied : (k q : CellId) → is_at (cell_cmp k) q ≡ true → k ≡ q
-tied k q e = cell_cmp_exact k q ((Equal-is (cell_cmp k q)).0 e)
+tie_is_same : (k q : CellId) → is_at (cell_cmp k) q ≡ true → k ≡ q
+tie_is_same k q e = cell_cmp_exact k q ((Equal-is (cell_cmp k q)).0 e)
 
 flat_none : (o : Option RowOrNone) → is_some o ≡ false → option_flatten o ≡ None
 flat_none None e = refl
@@ -124,14 +124,14 @@ pub room_made : (es fs : List (CellId × RowOrNone)) (k : CellId) → is_some (a
 room_made es fs k none h = same_settled es fs (λ q. ap option_flatten (h q) ∙ go q (is_at (cell_cmp k) q) refl)
   where
     go : (q : CellId) (b : Bool) → is_at (cell_cmp k) q ≡ b → option_flatten (cond b (Some None) (at_cell es q)) ≡ option_flatten (at_cell es q)
-    go q true e = sym (flat_none (at_cell es q) (subst (λ c. is_some (at_cell es c) ≡ false) (tied k q e) none))
+    go q true e = sym (flat_none (at_cell es q) (subst (λ c. is_some (at_cell es c) ≡ false) (tie_is_same k q e) none))
     go q false e = refl
 
 pub room_gone : (es fs : List (CellId × RowOrNone)) (k : CellId) → at_cell es k ≡ Some None → ((q : CellId) → at_cell fs q ≡ cond (is_at (cell_cmp k) q) None (at_cell es q)) → settled_of fs ≡ settled_of es
 room_gone es fs k none h = same_settled es fs (λ q. ap option_flatten (h q) ∙ go q (is_at (cell_cmp k) q) refl)
   where
     go : (q : CellId) (b : Bool) → is_at (cell_cmp k) q ≡ b → option_flatten (cond b None (at_cell es q)) ≡ option_flatten (at_cell es q)
-    go q true e = sym (ap option_flatten (subst (λ c. at_cell es c ≡ Some None) (tied k q e) none))
+    go q true e = sym (ap option_flatten (subst (λ c. at_cell es c ≡ Some None) (tie_is_same k q e) none))
     go q false e = refl
 
 pub still_some : (b : Bool) (v : RowOrNone) (o : Option RowOrNone) → is_some o ≡ true → is_some (cond b (Some v) o) ≡ true
@@ -155,7 +155,7 @@ pub room_for : (rows new old pending : List (CellId × RowOrNone)) (k : CellId) 
 room_for rows new old pending k row h here kept had q some = go (is_at (cell_cmp k) q) refl (sym (ap is_some (h q)) ∙ some)
   where
     go : (b : Bool) → is_at (cell_cmp k) q ≡ b → is_some (cond b (Some row) (at_cell old q)) ≡ true → is_some (at_cell new q) ≡ true
-    go true e f = subst (λ c. is_some (at_cell new c) ≡ true) (tied k q e) here
+    go true e f = subst (λ c. is_some (at_cell new c) ≡ true) (tie_is_same k q e) here
     go false e f = kept q (had q f)
 
 -- where a pending change is gone, the others still have their room

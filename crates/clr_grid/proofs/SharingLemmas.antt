@@ -14,12 +14,12 @@ use Rattle.clr_spots.specs.Spots.{are_sharing, share, share_by, share_under, spo
 use Rattle.clr_rules.proofs.Elements.{same_rising}
 use Rattle.clr_grid.specs.Sharing.{Settled, IsSettledFor, are_meeting, found_cells, is_met, is_met_at, may_serve_under, row_spots, rule_spots, sharing, sharing_servers}
 use Rattle.clr_grid.specs.declared.row_spots.RuleSpots.{RuleSpots}
-use Rattle.clr_grid.proofs.EntryLemmas.{passing, passing_rise, passes_in, in_passes}
+use Rattle.clr_grid.proofs.EntryLemmas.{passing_cells, passing_rise, passes_in, in_passes}
 
-counted : {X : Type 0} (f : ℕ → X) (from n k m : ℕ) → k < n → m ≡ from + k → slice_get (map f (range_with_len from n)) k ≡ Some (f m)
-counted f from zero k m less is = absurd (omega (arith, less))
-counted f from (suc n) zero m less is = let same : from ≡ m = omega arith in ap (λ i. Some (f i)) same
-counted f from (suc n) (suc k) m less is = counted f (from + 1) n k m (omega (arith, less)) (omega arith)
+get_mapped_range : {X : Type 0} (f : ℕ → X) (from n k m : ℕ) → k < n → m ≡ from + k → slice_get (map f (range_with_len from n)) k ≡ Some (f m)
+get_mapped_range f from zero k m less is = absurd (omega (arith, less))
+get_mapped_range f from (suc n) zero m less is = let same : from ≡ m = omega arith in ap (λ i. Some (f i)) same
+get_mapped_range f from (suc n) (suc k) m less is = get_mapped_range f (from + 1) n k m (omega (arith, less)) (omega arith)
 
 -- spots tell what shares
 share_told : (rules : List Rule) (number : ℕ) (s t : Held) → number < length rules
@@ -40,7 +40,7 @@ met_told : (servers : Bool) (rules : List Rule) (number : ℕ) (s t : Held) → 
     → is_met_at servers (rule_spots rules number s) number (Some (row_spots rules t)) ≡ (are_sharing rules number s t && (not servers || may_serve_under rules number t))
 unfolding rule_spots
 met_told servers rules number s t less =
-    ap (is_met servers (rule_spots rules number s)) (counted (λ n. rule_spots rules n t) 0 (length rules) number number less (omega arith))
+    ap (is_met servers (rule_spots rules number s)) (get_mapped_range (λ n. rule_spots rules n t) 0 (length rules) number number less (omega arith))
     ∙ ap (λ b. b && (not servers || may_serve_under rules number t)) (meeting_told rules number s t less)
 
 settled_row : (settled : Settled) (rules : List Rule) (content : Content) → IsSettledFor settled rules content → (q : CellId) (ys : List RuleSpots) → finite.get settled q ≡ Some ys → (row : Row) × (row_at content q ≡ Some row) × (ys ≡ row_spots rules (q, row))
@@ -52,8 +52,8 @@ settled_row settled rules content is q ys e = go (row_at content q) refl (sym (i
 
 -- the same cells pass
 same_passing : (rules : List Rule) (content : Content) (settled : Settled) (p : CellId × List RuleSpots → Bool) (r : Held → Bool) → IsSettledFor settled rules content
-    → ((t : Held) → p (t.0, row_spots rules t) ≡ r t) → passing p settled ≡ passing r content
-same_passing rules content settled p r is alike = same_rising cell_cmp_total (passing p settled) (passing r content) (passing_rise p settled) (passing_rise r content)
+    → ((t : Held) → p (t.0, row_spots rules t) ≡ r t) → passing_cells p settled ≡ passing_cells r content
+same_passing rules content settled p r is alike = same_rising cell_cmp_total (passing_cells p settled) (passing_cells r content) (passing_rise p settled) (passing_rise r content)
     (λ q h. let (ys, e, f) = in_passes p settled q h in
     let (row, at, same) = settled_row settled rules content is q ys e in
     passes_in r content q row at (sym (alike (q, row)) ∙ ap (λ zs. p (q, zs)) (sym same) ∙ f))

@@ -27,7 +27,7 @@ has_key x (At y) = list_any (same_spot y) x.spots.list
 -- the cells there are found for the row
 abbrev pub is_looked_at : RuleSpots → Key → Bool
 is_looked_at x All = x.spots.wide
-is_looked_at x Wide = true
+is_looked_at x Wide = x.has_role
 is_looked_at x (At y) = list_any (same_spot y) x.spots.list
 
 -- what a row that stays has

@@ -17,4 +17,5 @@ pub use finders::RowFinder;
 pub use laws::{finders_find_servers, finders_find_what_shares};
 pub use list_finder::ListFinder;
 pub use row_spots::{RowSpots, RuleSpots};
+pub use sides::may_serve;
 pub use spot_index::SpotIndex;

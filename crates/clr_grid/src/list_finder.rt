@@ -55,7 +55,7 @@ impl ListFinder {
         let spots = RuleSpots::new(self.alloc, book, rule, held)?;
         let cells = self.rows.cells(self.alloc)?;
         self.rows
-            .found_among(self.alloc, servers, rule, &spots, cells.as_slice())
+            .find_among(self.alloc, servers, rule, &spots, cells.as_slice())
     }
 }
 

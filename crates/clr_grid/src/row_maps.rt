@@ -204,7 +204,7 @@ impl RowMap {
 
     /// The cells whose rows are found under a rule, servers alone or all, where they are among
     /// some that ascend. It fails for want of memory alone.
-    pub(crate) fn found_among(
+    pub(crate) fn find_among(
         &self,
         alloc: Global,
         servers: bool,

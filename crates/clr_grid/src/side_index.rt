@@ -233,7 +233,7 @@ impl SideIndex {
         ensures near { OnOk result ((k : Key) (q : Cell) → is_looked_at spots.now k ≡ true → is_filed self.now k q ≡ true → set.contains cells.new q ≡ true) }
     {
         cells.add_all(spots.spots.wide, &self.all)?;
-        cells.add_all(true, &self.wide)?;
+        cells.add_all(spots.has_role, &self.wide)?;
         self.add_cells_at_each(spots.spots.list.as_slice(), cells)?;
         Ok(())
     }

@@ -33,7 +33,7 @@ pub(crate) fn has_role(rule: &Rule, held: Held) -> bool
 }
 
 /// Whether a row is of the side of a rule that serves.
-pub(crate) fn may_serve(rule: &Rule, held: Held) -> bool
+pub fn may_serve(rule: &Rule, held: Held) -> bool
     ensures { result ≡ may_serve rule.now (held_of held.entry) }
 {
     match rule {

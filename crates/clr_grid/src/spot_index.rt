@@ -64,7 +64,7 @@ impl SpotIndex {
         let spots = RuleSpots::new(self.alloc, book, rule, held)?;
         let cells = cells_near(self.rules.as_slice(), self.alloc, servers, rule, &spots)?;
         self.rows
-            .found_among(self.alloc, servers, rule, &spots, cells.as_slice())
+            .find_among(self.alloc, servers, rule, &spots, cells.as_slice())
     }
 
     /// A cell with a pending change, or none.

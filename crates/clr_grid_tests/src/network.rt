@@ -107,39 +107,31 @@ fn row_at(
     })
 }
 
-/// A point row of a table, with its number.
-pub(crate) fn point(
-    alloc: Global,
-    table: u16,
-    key: i64,
-    number: i64,
-    at: (i64, i64),
-) -> Result<RowAt, AllocError> {
-    row_at(
-        alloc,
-        table,
-        key,
-        number,
-        Shape::At(Place { x: at.0, y: at.1 }),
-    )
+/// A row in a table of values: its table, key and number, and the ends of a main, or one place twice.
+pub(crate) type Drawn = (u16, i64, i64, [i64; 4]);
+
+/// The row of such a line.
+pub(crate) fn row_of(alloc: Global, drawn: Drawn) -> Result<RowAt, AllocError> {
+    let (table, key, number, ends) = drawn;
+    let from = Place {
+        x: ends[0],
+        y: ends[1],
+    };
+    let to = Place {
+        x: ends[2],
+        y: ends[3],
+    };
+    let shape = if table == MAIN {
+        Shape::Line(from, to)
+    } else {
+        Shape::At(from)
+    };
+    row_at(alloc, table, key, number, shape)
 }
 
-/// A main from a place to another.
-pub(crate) fn main(
-    alloc: Global,
-    key: i64,
-    from: (i64, i64),
-    to: (i64, i64),
-) -> Result<RowAt, AllocError> {
-    let (from, to) = (
-        Place {
-            x: from.0,
-            y: from.1,
-        },
-        Place { x: to.0, y: to.1 },
-    );
-    row_at(alloc, MAIN, key, 0, Shape::Line(from, to))
-}
+/// A search: its rule, whether it is for servers alone, its row, and the cells that it finds, by table
+/// and key.
+pub(crate) type Search = (u16, bool, Drawn, &'static [(u16, i64)]);
 
 /// The tables and rules of the network.
 #[derive(Drop)]
@@ -192,52 +184,61 @@ impl Network {
         Ok(())
     }
 
-    fn sharing<F: RowFinder>(
+    /// Gives a finder without pending changes some rows.
+    pub(crate) fn add_all<F: RowFinder>(
+        &self,
+        alloc: Global,
+        finder: &mut F,
+        rows: &[Drawn],
+    ) -> Result<(), Fail>
+        requires { F.pending finder.old ≡ finite.empty }
+        ensures { F.pending finder.new ≡ finite.empty }
+    {
+        for drawn in rows {
+            self.add(finder, &row_of(alloc, *drawn)?)?;
+        }
+        Ok(())
+    }
+
+    /// The cells whose rows share a spot with a row under a rule, all or servers alone.
+    fn search<F: RowFinder>(
         &self,
         finder: &F,
         rule: u16,
+        servers: bool,
         row: &RowAt,
     ) -> Result<Vec<CellId>, Fail> {
         self.schema.fits(row.cell, &row.row)?;
         if usize::from(rule) >= self.book.len() {
             return Err("no such rule".into());
         }
-        Ok(finder.sharing(&self.book, rule, row.held())?)
-    }
-
-    fn sharing_servers<F: RowFinder>(
-        &self,
-        finder: &F,
-        rule: u16,
-        row: &RowAt,
-    ) -> Result<Vec<CellId>, Fail> {
-        self.schema.fits(row.cell, &row.row)?;
-        if usize::from(rule) >= self.book.len() {
-            return Err("no such rule".into());
+        if servers {
+            Ok(finder.sharing_servers(&self.book, rule, row.held())?)
+        } else {
+            Ok(finder.sharing(&self.book, rule, row.held())?)
         }
-        Ok(finder.sharing_servers(&self.book, rule, row.held())?)
     }
 
-    /// Whether a row shares a spot with the rows of just these cells under a rule.
-    pub(crate) fn shares_with<F: RowFinder>(
-        &self,
-        finder: &F,
-        rule: u16,
-        row: &RowAt,
-        cells: &[(u16, i64)],
-    ) -> Result<bool, Fail> {
-        Ok(are_cells(self.sharing(finder, rule, row)?.as_slice(), cells))
+    /// Whether a search finds just its cells.
+    fn finds<F: RowFinder>(&self, alloc: Global, finder: &F, search: Search) -> Result<bool, Fail> {
+        let (rule, servers, drawn, cells) = search;
+        let found = self.search(finder, rule, servers, &row_of(alloc, drawn)?)?;
+        Ok(are_cells(found.as_slice(), cells))
     }
 
-    /// Whether those that may serve are of just these cells.
-    pub(crate) fn finds_servers<F: RowFinder>(
+    /// Whether each of some searches does.
+    pub(crate) fn finds_all<F: RowFinder>(
         &self,
+        alloc: Global,
         finder: &F,
-        rule: u16,
-        row: &RowAt,
-        cells: &[(u16, i64)],
+        searches: &[Search],
     ) -> Result<bool, Fail> {
-        Ok(are_cells(self.sharing_servers(finder, rule, row)?.as_slice(), cells))
+        for search in searches {
+            if !self.finds(alloc, finder, *search)? {
+                return Ok(false);
+            }
+        }
+        Ok(true)
     }
 }
 

@@ -3,7 +3,7 @@
 ghost use Rattle.std.specs.Prelude.{◌≡◌};
 ghost use Rattle.std.specs.FinMap as finite;
 
-use crate::network::{CROSSING, MAIN, Network, RowAt, main};
+use crate::network::{CROSSING, Drawn, MAIN, Network, RowAt, row_of};
 use clr_grid::{ListFinder, RowFinder, SpotIndex};
 use clr_hoard::Hoard;
 use clr_rows::{CellId, Row};
@@ -38,7 +38,7 @@ const FIRST: CellId = CellId {
 
 /// Notes a row, and then a row of another cell within this many bytes, and takes over what is
 /// pending. Whether the second found memory.
-fn noted_within<F: RowFinder>(
+fn note_within<F: RowFinder>(
     network: &Network,
     finder: &mut F,
     first: &Row,
@@ -60,6 +60,17 @@ fn noted_within<F: RowFinder>(
     Ok(noted.is_ok())
 }
 
+/// Searches where main 2 stands before, where it stands after, and where main 1 stands.
+const SEARCHES: [Drawn; 3] = [
+    (MAIN, 3, 0, [0, 900_000, 10, 900_000]),
+    (MAIN, 3, 0, [3_000_000, 0, 3_000_010, 10]),
+    (MAIN, 3, 0, [0, -500_000, 10, -500_000]),
+];
+
+const MAIN_1: &[(u16, i64)] = &[(MAIN, 1)];
+
+const MAIN_2: &[(u16, i64)] = &[(MAIN, 2)];
+
 /// Whether main 2 is found where it stands alone, and main 1 is found too.
 fn is_found<F: RowFinder>(
     alloc: Global,
@@ -69,17 +80,15 @@ fn is_found<F: RowFinder>(
 ) -> Result<bool, Fail> {
     let (before, after): (&[(u16, i64)], &[(u16, i64)]) = match standing {
         Standing::Nowhere => (&[], &[]),
-        Standing::Before => (&[(MAIN, 2)], &[]),
-        Standing::After => (&[], &[(MAIN, 2)]),
+        Standing::Before => (MAIN_2, &[]),
+        Standing::After => (&[], MAIN_2),
     };
-    let here = main(alloc, 3, (0, 900_000), (10, 900_000))?;
-    let there = main(alloc, 3, (3_000_000, 0), (3_000_010, 10))?;
-    let first = main(alloc, 3, (0, -500_000), (10, -500_000))?;
-    Ok(
-        network.shares_with(finder, CROSSING, &here, before)?
-            && network.shares_with(finder, CROSSING, &there, after)?
-            && network.shares_with(finder, CROSSING, &first, &[(MAIN, 1)])?,
-    )
+    let searches = [
+        (CROSSING, false, SEARCHES[0], before),
+        (CROSSING, false, SEARCHES[1], after),
+        (CROSSING, false, SEARCHES[2], MAIN_1),
+    ];
+    network.finds_all(alloc, finder, &searches)
 }
 
 /// Whether main 2 is found as a long main once it was noted with memory, and as it stood while
@@ -96,7 +105,7 @@ fn is_taken_over<F: RowFinder>(
 {
     let mut hoard = Hoard::take(alloc)?;
     for budget in (0..MOST).step_by(STEP) {
-        let is_noted = noted_within(network, finder, &first.row, &long.row, &mut hoard, budget)?;
+        let is_noted = note_within(network, finder, &first.row, &long.row, &mut hoard, budget)?;
         let standing = if is_noted { Standing::After } else { before };
         let is_right = is_found(alloc, network, finder, standing)?;
         if is_noted || !is_right {
@@ -106,6 +115,13 @@ fn is_taken_over<F: RowFinder>(
     }
     Ok(false)
 }
+
+/// Main 2 before and after, and main 1.
+const SHORT: Drawn = (MAIN, 2, 0, [0, 900_000, 10, 900_000]);
+
+const LONG: Drawn = (MAIN, 2, 0, [0, 0, 3_000_000, 0]);
+
+const OTHER: Drawn = (MAIN, 1, 0, [0, -500_000, 10, -500_000]);
 
 /// The same of a finder without rows, where main 2 stands nowhere at first, or as a short main.
 fn is_noted_whole<F: RowFinder>(
@@ -117,10 +133,10 @@ fn is_noted_whole<F: RowFinder>(
 {
     let network = Network::new(alloc)?;
     if before == Standing::Before {
-        network.add(finder, &main(alloc, 2, (0, 900_000), (10, 900_000))?)?;
+        network.add(finder, &row_of(alloc, SHORT)?)?;
     }
-    let first = main(alloc, 1, (0, -500_000), (10, -500_000))?;
-    let long = main(alloc, 2, (0, 0), (3_000_000, 0))?;
+    let first = row_of(alloc, OTHER)?;
+    let long = row_of(alloc, LONG)?;
     is_taken_over(alloc, &network, finder, before, &first, &long)
 }
 

@@ -3,8 +3,8 @@
 ghost use Rattle.std.specs.Prelude.{◌≡◌};
 ghost use Rattle.std.specs.FinMap as finite;
 
-use crate::network::{CROSSING, MAIN, NODE, Network, RowAt, are_cells, main};
-use crate::sharing::crossings;
+use crate::network::{CROSSING, MAIN, NODE, Network, RowAt, are_cells, row_of};
+use crate::sharing::{CROSSINGS, FIRST};
 use clr_grid::{ListFinder, RowFinder, SpotIndex};
 use clr_hoard::Hoard;
 use clr_rows::CellId;
@@ -22,7 +22,7 @@ enum Asked {
 }
 
 /// What is found for a row within this many bytes, or none for want of memory.
-fn found_within<F: RowFinder>(
+fn find_within<F: RowFinder>(
     network: &Network,
     finder: &F,
     asked: Asked,
@@ -53,11 +53,11 @@ fn finds_or_refuses<F: RowFinder>(
     requires { F.pending finder.old ≡ finite.empty }
 {
     let network = Network::new(alloc)?;
-    crossings(alloc, &network, finder)?;
-    let row = main(alloc, 1, (0, 0), (500_000, 0))?;
+    network.add_all(alloc, finder, &CROSSINGS)?;
+    let row = row_of(alloc, FIRST)?;
     let mut hoard = Hoard::take(alloc)?;
     for budget in (0..MOST).step_by(16) {
-        if let Some(found) = found_within(&network, finder, asked, &row, &mut hoard, budget)? {
+        if let Some(found) = find_within(&network, finder, asked, &row, &mut hoard, budget)? {
             return Ok(budget > 0 && are_cells(found.as_slice(), cells));
         }
     }

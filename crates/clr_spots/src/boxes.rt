@@ -1,5 +1,8 @@
-ghost use Rattle.std.specs.Prelude.{◌≡◌, ◌≤◌, ◌≤ℤ◌, ◌+ℤ◌, ◌-ℤ◌, pos, unsigned_abs};
+ghost use Rattle.std.specs.Prelude.{◌≡◌, ◌≤◌, ◌≤ℤ◌, ◌+ℤ◌, ◌-ℤ◌, unsigned_abs};
+ghost use Rattle.clr_rows.specs.declared.limits.TheConstants.{GREATEST_COORDINATE};
 ghost use Rattle.clr_rows.specs.Places.{InRange};
+ghost use Rattle.clr_rules.specs.declared.limits.TheConstants.{LEAST_DISTANCE};
+ghost use Rattle.clr_segments.specs.declared.limits.TheConstants.{GREATEST_DISTANCE};
 ghost use Rattle.clr_segments.specs.Bounding.{box_between, grown_box};
 ghost use Rattle.clr_spots.specs.Reach.{IsNear, IsInRange};
 
@@ -18,9 +21,9 @@ pub(crate) fn box_between(first: Place, second: Place) -> Bounds
 
 /// A coordinate less d millimetres.
 fn subtract_distance(x: i64, d: i64) -> i64
-    requires in_range { unsigned_abs x ≤ 1_000_000_000 }
-    requires d_least { pos 1 ≤ℤ d }
-    requires d_most { d ≤ℤ pos 1_000_000 }
+    requires in_range { unsigned_abs x ≤ GREATEST_COORDINATE }
+    requires d_least { LEAST_DISTANCE ≤ℤ d }
+    requires d_most { d ≤ℤ GREATEST_DISTANCE }
     ensures value { result ≡ x -ℤ d }
     ensures bound { unsigned_abs result ≤ 2_000_000_000 }
 {
@@ -29,9 +32,9 @@ fn subtract_distance(x: i64, d: i64) -> i64
 
 /// A coordinate and d millimetres more.
 fn add_distance(x: i64, d: i64) -> i64
-    requires in_range { unsigned_abs x ≤ 1_000_000_000 }
-    requires d_least { pos 1 ≤ℤ d }
-    requires d_most { d ≤ℤ pos 1_000_000 }
+    requires in_range { unsigned_abs x ≤ GREATEST_COORDINATE }
+    requires d_least { LEAST_DISTANCE ≤ℤ d }
+    requires d_most { d ≤ℤ GREATEST_DISTANCE }
     ensures value { result ≡ x +ℤ d }
     ensures bound { unsigned_abs result ≤ 2_000_000_000 }
 {
@@ -41,8 +44,8 @@ fn add_distance(x: i64, d: i64) -> i64
 /// A box grown by d millimetres on each side.
 pub(crate) fn grown_box(bounds: Bounds, d: i64) -> Bounds
     requires in_range { IsInRange bounds }
-    requires d_least { pos 1 ≤ℤ d }
-    requires d_most { d ≤ℤ pos 1_000_000 }
+    requires d_least { LEAST_DISTANCE ≤ℤ d }
+    requires d_most { d ≤ℤ GREATEST_DISTANCE }
     ensures value { result ≡ grown_box bounds d }
     ensures near { IsNear result }
 {

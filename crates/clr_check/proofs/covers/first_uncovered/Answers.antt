@@ -6,7 +6,7 @@ use Rattle.clr_foot.proofs.BreakLaws.{touched_possible}
 use Rattle.clr_foot.proofs.Gaining.{read_of}
 use Rattle.clr_check.specs.Certificates.{entries_in}
 use Rattle.clr_check.specs.Entries.{HasCover, IsTold}
-use Rattle.clr_cert.specs.declared.entries.Entry.{Entry}
+use Rattle.clr_cert.specs.declared.certificates.Entry.{Entry}
 use Rattle.clr_check.proofs.JudgeLemmas.{AreJudged, all_before, first_after, need_covered, need_uncovered, no_need, none_before, one_before}
 use Rattle.clr_check.proofs.covers.first_uncovered.Goals as goal
 

@@ -1,6 +1,6 @@
 use Rattle.std.proofs.Common.{Contains, rules, subst, sym}
 use Rattle.std.proofs.lemmas.List.Sorted.{Contains-permutation, IsPermutation-sym, answers_always}
-use Rattle.clr_cert.specs.declared.entries.Entry.{Entry}
+use Rattle.clr_cert.specs.declared.certificates.Entry.{Entry}
 use Rattle.clr_check.proofs.entries.sort_entries.Goals as goal
 
 pub returns-clause-same : goal.returns-clause-same

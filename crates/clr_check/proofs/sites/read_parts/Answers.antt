@@ -1,5 +1,6 @@
 use Rattle.std.proofs.Common.{◌≤◌, length, subst, sym, arith}
 use Rattle.std.proofs.lemmas.List.{length-map}
+use Rattle.clr_foot.specs.declared.limits.TheConstants.{MOST_MEMBERS}
 use Rattle.clr_grid.specs.Sharing.{IsSettledFor}
 use Rattle.clr_steps.specs.Quiet.{root_content}
 use Rattle.clr_steps.specs.Readings.{changes_in}
@@ -16,7 +17,7 @@ invariant_of-result g c =
     let o = c.args.office.now in
     let names = g.N.NameList.names c.args.members.now in
     let few = few_members o (site c.args.root.now names) c.requires c.len-sound.ensures.sound in
-    record { few = subst (λ sets. length sets ≤ 255) (sym c.in_ok-sets.ensures) (let long = length-map names (changes_in o) in omega (arith, few, long)) }
+    record { few = subst (λ sets. length sets ≤ MOST_MEMBERS) (sym c.in_ok-sets.ensures) (let long = length-map names (changes_in o) in omega (arith, few, long)) }
 
 pub returns : goal.returns
 unfolding root_content

@@ -22,15 +22,15 @@ returns-then-contains_key-clause-filed c =
     added_has f g c.args.spot.now (unwrap_or (f c.args.spot.now) set.empty) c.args.cell c.in_ok-add_at.ensures.ok
 
 -- the new cells at the spot
-put : (f g : AtSpots) (s : Spot) (m : Cells) (cell : CellId) (fresh : Cells) → ((x : Spot) → g x ≡ cond (is_at (spot_cmp s) x) (Some m) (f x)) → m ≡ set.insert fresh cell → (x : Spot) → g x ≡ cond (is_at (spot_cmp s) x) (Some (set.insert fresh cell)) (f x)
-put f g s m cell fresh is same x = is x ∙ ap (λ n. cond (is_at (spot_cmp s) x) (Some n) (f x)) same
+put_again : (f g : AtSpots) (s : Spot) (m : Cells) (cell : CellId) (fresh : Cells) → ((x : Spot) → g x ≡ cond (is_at (spot_cmp s) x) (Some m) (f x)) → m ≡ set.insert fresh cell → (x : Spot) → g x ≡ cond (is_at (spot_cmp s) x) (Some (set.insert fresh cell)) (f x)
+put_again f g s m cell fresh is same x = is x ∙ ap (λ n. cond (is_at (spot_cmp s) x) (Some n) (f x)) same
 
 pub returns-clause-kept : goal.returns-clause-kept
 returns-clause-kept c =
     let f : AtSpots = get spot_cmp c.args.by_spot.now in
     let g : AtSpots = get spot_cmp c.insert.new.self in
     let s = c.in_ok-copy_of.field-0 in
-    added_keeps f g s c.new-cells.result c.args.cell (put f g s c.add.new.self c.args.cell c.new-cells.result c.in_ok-insert.ensures.updates.0 c.in_ok-add.ensures.ok)
+    added_keeps f g s c.new-cells.result c.args.cell (put_again f g s c.add.new.self c.args.cell c.new-cells.result c.in_ok-insert.ensures.updates.0 c.in_ok-add.ensures.ok)
     (λ q h. none_has (f s) q (ap (λ x. is_some (f x)) c.in_ok-copy_of.ensures ∙ sym c.contains_key.ensures ∙ c.if-contains_key.false) h)
 
 pub returns-clause-filed : goal.returns-clause-filed
@@ -39,4 +39,4 @@ returns-clause-filed c =
     let g : AtSpots = get spot_cmp c.insert.new.self in
     let s = c.in_ok-copy_of.field-0 in
     subst (λ (x : Spot). has_cell (g x) c.args.cell ≡ true) c.in_ok-copy_of.ensures
-    (added_has f g s c.new-cells.result c.args.cell (put f g s c.add.new.self c.args.cell c.new-cells.result c.in_ok-insert.ensures.updates.0 c.in_ok-add.ensures.ok))
+    (added_has f g s c.new-cells.result c.args.cell (put_again f g s c.add.new.self c.args.cell c.new-cells.result c.in_ok-insert.ensures.updates.0 c.in_ok-add.ensures.ok))

@@ -4,7 +4,7 @@ use Rattle.clr_foot.specs.Members.{AreApart, setting}
 use Rattle.clr_foot.specs.Scenes.{IsReady, setting_of}
 use Rattle.clr_foot.specs.Versions.{FitsSetting}
 use Rattle.clr_steps.specs.Quiet.{root_content}
-use Rattle.clr_clearance.specs.Sites.{numbered}
+use Rattle.clr_clearance.specs.Sites.{setting_by_position}
 use Rattle.clr_check.proofs.SiteLemmas.{made_with, site_fits}
 use Rattle.clr_check.proofs.site_parts.SiteParts.scene.Goals as goal
 
@@ -22,7 +22,7 @@ returns-clause-scene c =
     let o = c.args.office.now in
     made_with _ _ _ _ c.new.result c.new.ensures.model c.new.ensures.apart (λ scene model apart s parts.
     (let sets = c.in_ok-sets.ensures ∙ c.as_slice.ensures.value ∙ parts.sets in
-    let whole : setting c.book.result.now c.args.self.now.rows _ ≡ numbered o s = λ i. setting (c.book.ensures.value i) (parts.rows i) (sets i) in
+    let whole : setting c.book.result.now c.args.self.now.rows _ ≡ setting_by_position o s = λ i. setting (c.book.ensures.value i) (parts.rows i) (sets i) in
     record {
       setting = ap setting_of model ∙ whole;
       ready = subst (IsReady (λ finder. finder.settled)) (sym model) (record {

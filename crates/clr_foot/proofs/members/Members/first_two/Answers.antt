@@ -1,11 +1,26 @@
-use Rattle.clr_foot.proofs.SharedCells.{first_two, none_is_apart, one_is_apart}
+use Rattle.std.proofs.Common.{◌∙◌, Some, None, length, subst, sym}
+use Rattle.clr_foot.proofs.ChangerSteps.{are_changers}
+use Rattle.clr_foot.proofs.Searches.{changer_below, sets_of}
+use Rattle.clr_foot.proofs.SharedCells.{AreTwoOf, first_two, none_is_apart, one_is_apart}
 use Rattle.clr_foot.proofs.members.Members.first_two.Goals as goal
 
-pub returns-in-None : goal.returns-in-None
-returns-in-None c = none_is_apart c.args.self.now.sets.items c.args.cell c.in-None.ensures.first
+pub returns-in_err-changers : goal.returns-in_err-changers
+returns-in_err-changers c =
+    let sets = sets_of c.args.self.now.sets.items in
+    let none = c.in_err-changers.ensures.value ∙ c.args.self.now.changed_by c.args.cell in
+    subst (λ r. AreTwoOf sets c.args.cell r) (sym c.from_residual.ensures) (none_is_apart sets c.args.cell (length sets) (changer_below sets c.args.cell) (are_changers sets c.args.cell None none))
 
-pub returns-in-None-changer_from : goal.returns-in-None-changer_from
-returns-in-None-changer_from c = one_is_apart c.args.self.now.sets.items c.args.cell c.in-Some.first c.in-Some.ensures.first c.in-None-changer_from.ensures.first
+pub returns-in_err-second : goal.returns-in_err-second
+returns-in_err-second c =
+    let sets = sets_of c.args.self.now.sets.items in
+    let changers = c.in_ok-changers.changers.now in
+    let are = are_changers sets c.args.cell (Some changers) (c.in_ok-changers.ensures.value ∙ c.args.self.now.changed_by c.args.cell) in
+    subst (λ r. AreTwoOf sets c.args.cell r) (sym c.from_residual-in_err-second.ensures)
+    (one_is_apart sets c.args.cell (length sets) (changer_below sets c.args.cell) changers are c.in_err-second.was)
 
-pub returns-in-Some-changer_from : goal.returns-in-Some-changer_from
-returns-in-Some-changer_from c = first_two c.args.self.now.sets.items c.args.cell c.in-Some.first c.in-Some-changer_from.second c.in-Some.ensures.first c.in-Some-changer_from.ensures.first
+pub returns : goal.returns
+returns c =
+    let sets = sets_of c.args.self.now.sets.items in
+    let changers = c.in_ok-changers.changers.now in
+    let are = are_changers sets c.args.cell (Some changers) (c.in_ok-changers.ensures.value ∙ c.args.self.now.changed_by c.args.cell) in
+    first_two sets c.args.cell (length sets) (changer_below sets c.args.cell) changers c.in_ok-second.second are c.in_ok-second.was

@@ -3,7 +3,7 @@ use Rattle.clr_rules.specs.Calls.{calls, plain_ask}
 use Rattle.clr_foot.specs.Candidates.{serves_too}
 use Rattle.clr_foot.specs.Needs.{need_of}
 use Rattle.clr_foot.specs.Scenes.{setting_in}
-use Rattle.clr_foot.proofs.CandidateLaws.{add_alone, both_told, none_alone, uncalled, unserved}
+use Rattle.clr_foot.proofs.CandidateLaws.{add_alone, both_told, none_alone, asked_without_call, asked_without_server}
 use Rattle.clr_foot.proofs.VersionFits.{fit_one}
 use Rattle.clr_foot.proofs.scenes.Scene.add_alone.Goals as goal
 use Rattle.clr_foot.proofs.scenes.Scene.add_alone.Goals.{else-serves_if_any-via-then-serves_if_any+else-calls_one, else-serves_if_any-via-else-serves_if_any}
@@ -29,7 +29,7 @@ returns-else-serves_if_any g c =
     let serves = c.serves_if_any.ensures ∙ ap (λ a. serves_too rules a s None c.args.server) c.plain-ask.ensures in
     elim c.else-serves_if_any.branch [
       | else-serves_if_any-via-then-serves_if_any+else-calls_one w ↦ none_alone rules c.args.rule c.args.server s c.args.needs.now.items
-          (uncalled (serves_too rules ask s None c.args.server) _ _ (w.calls_one.ensures ∙ ap (λ h. calls rules ask h None) w.as_held.ensures) w.if-calls_one.false)
+          (asked_without_call (serves_too rules ask s None c.args.server) _ _ (w.calls_one.ensures ∙ ap (λ h. calls rules ask h None) w.as_held.ensures) w.if-calls_one.false)
       | else-serves_if_any-via-else-serves_if_any w ↦ none_alone rules c.args.rule c.args.server s c.args.needs.now.items
-          (unserved _ _ _ serves w.if-serves_if_any.false)
+          (asked_without_server _ _ _ serves w.if-serves_if_any.false)
     ]

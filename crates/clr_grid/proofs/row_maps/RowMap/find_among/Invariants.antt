@@ -1,7 +1,7 @@
 use Rattle.std.proofs.Common.{◌≡◌, filter, take}
 use Rattle.std.specs.FinMap as finite
 use Rattle.clr_grid.specs.Sharing.{is_met_at}
-use Rattle.clr_grid.proofs.row_maps.RowMap.found_among.Given as goal
+use Rattle.clr_grid.proofs.row_maps.RowMap.find_among.Given as goal
 
 -- the cells found among those so far
 abbrev pub invariant-loop-cell : goal.invariant-loop-cell

@@ -3,7 +3,7 @@ use Rattle.std.specs.FinMap as finite
 use Rattle.clr_rows.specs.Cells.{cell_cmp}
 use Rattle.clr_rows.specs.declared.cells.CellId.{CellId as Cell}
 use Rattle.clr_rows.proofs.CellOrder.{cell_cmp_total}
-use Rattle.clr_grid_tests.proofs.refused_notes.noted_within.Goals as goal
+use Rattle.clr_grid_tests.proofs.refused_notes.note_within.Goals as goal
 
 abbrev first : Cell
 first = record { table = 1; key = pos 1 }

@@ -4,8 +4,8 @@ use Rattle.std.specs.FinMap as finite
 use Rattle.clr_rows.specs.declared.cells.CellId.{CellId}
 use Rattle.clr_grid.specs.Sharing.{is_met_at}
 use Rattle.clr_grid.proofs.FoundLemmas.{kept_more, found_is}
-use Rattle.clr_grid.proofs.row_maps.RowMap.found_among.Goals as goal
-use Rattle.clr_grid.proofs.row_maps.RowMap.found_among.Goals.{then-is_found+in_ok-push, else-is_found}
+use Rattle.clr_grid.proofs.row_maps.RowMap.find_among.Goals as goal
+use Rattle.clr_grid.proofs.row_maps.RowMap.find_among.Goals.{then-is_found+in_ok-push, else-is_found}
 
 pub loop-cell-preserved : goal.loop-cell-preserved
 loop-cell-preserved c =

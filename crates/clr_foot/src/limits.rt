@@ -1,0 +1,2 @@
+/// The most change sets of a scene.
+pub const MOST_MEMBERS: usize = 255;
