@@ -2,10 +2,20 @@
 #![tactic(auto)]
 
 #[cfg(test)]
-mod change;
+mod answers;
 #[cfg(test)]
-mod fixtures;
+mod cases;
 #[cfg(test)]
-mod rows;
+mod changes;
+#[cfg(test)]
+mod copies;
+#[cfg(test)]
+mod places;
+#[cfg(test)]
+mod schemas;
 #[cfg(test)]
 mod segments;
+#[cfg(test)]
+mod sheets;
+#[cfg(test)]
+mod texts;

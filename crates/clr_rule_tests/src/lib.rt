@@ -2,6 +2,22 @@
 #![tactic(auto)]
 
 #[cfg(test)]
+mod answers;
+#[cfg(test)]
 mod audits;
 #[cfg(test)]
-mod rules;
+mod cases;
+#[cfg(test)]
+mod lists;
+#[cfg(test)]
+mod needs;
+#[cfg(test)]
+mod networks;
+#[cfg(test)]
+mod one_rule;
+#[cfg(test)]
+mod rule_texts;
+#[cfg(test)]
+mod spot_order;
+#[cfg(test)]
+mod texts;

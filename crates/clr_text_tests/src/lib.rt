@@ -4,10 +4,6 @@
 #[cfg(test)]
 mod command_lines;
 #[cfg(test)]
-mod command_words;
-#[cfg(test)]
-mod edits;
-#[cfg(test)]
 mod lines;
 #[cfg(test)]
 mod network;
@@ -18,6 +14,10 @@ mod plan_lines;
 #[cfg(test)]
 mod report_lines;
 #[cfg(test)]
+mod script_cases;
+#[cfg(test)]
 mod scripts;
+#[cfg(test)]
+mod texts;
 #[cfg(test)]
 mod verdict_lines;

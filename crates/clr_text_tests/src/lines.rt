@@ -1,8 +1,7 @@
-use crate::edits::insertion;
-use crate::network::{MAIN, NODE, network};
-use clr_change::EditFault;
+use crate::network::{MAIN, NODE, schema};
+use clr_change::{Edit, EditFault};
 use clr_lines::{reply_line, rows_lines};
-use clr_rows::{CellId, RowFault, Sheet};
+use clr_rows::{CellId, RowFault, Schema, Sheet};
 use clr_rules::{Ask, Broken};
 use clr_scripts::read_edits;
 use clr_steps::Reply;
@@ -10,13 +9,18 @@ use std::alloc::Global;
 use std::test::Fail;
 
 /// Whether this is the line of a reply.
-fn is_line(alloc: Global, reply: Reply, text: &str) -> Result<bool, Fail> {
-    let line = reply_line(alloc, &network(alloc)?, &reply)?;
-    Ok(line.as_slice() == text.as_bytes())
+fn is_line(alloc: Global, reply: Reply, text: &str) -> bool {
+    let Some(schema) = schema(alloc) else {
+        return false;
+    };
+    match reply_line(alloc, &schema, &reply) {
+        Ok(line) => line.as_slice() == text.as_bytes(),
+        Err(_) => false,
+    }
 }
 
 #[test]
-fn plain_replies(rt: HostRuntime) -> Result<(), Fail> {
+fn lines_of_plain_replies(rt: HostRuntime) {
     let cases = [
         (Reply::Done, "done\n"),
         (Reply::OutOfMemory, "refused 0 OutOfMemory\n"),
@@ -31,13 +35,12 @@ fn plain_replies(rt: HostRuntime) -> Result<(), Fail> {
         (Reply::NotInConflict, "refused 11 NotInConflict\n"),
     ];
     for (reply, text) in cases {
-        assert!(rt; is_line(rt.alloc(), reply, text)?, "at {text}");
+        assert!(rt; is_line(rt.alloc(), reply, text), "at {text}");
     }
-    Ok(())
 }
 
 #[test]
-fn bad_edits(rt: HostRuntime) -> Result<(), Fail> {
+fn lines_of_bad_edits(rt: HostRuntime) {
     let cases = [
         (1, EditFault::KeyTaken, "refused 9 BadEdit 1 KeyTaken\n"),
         (2, EditFault::NoRow, "refused 9 BadEdit 2 NoRow\n"),
@@ -59,9 +62,8 @@ fn bad_edits(rt: HostRuntime) -> Result<(), Fail> {
     ];
     for (number, fault, text) in cases {
         let reply = Reply::BadEdit(number, fault);
-        assert!(rt; is_line(rt.alloc(), reply, text)?, "at {text}");
+        assert!(rt; is_line(rt.alloc(), reply, text), "at {text}");
     }
-    Ok(())
 }
 
 fn main_at(key: i64) -> CellId {
@@ -69,14 +71,13 @@ fn main_at(key: i64) -> CellId {
 }
 
 #[test]
-fn a_conflict(rt: HostRuntime) -> Result<(), Fail> {
+fn the_line_of_a_conflict(rt: HostRuntime) {
     let reply = Reply::Conflict(main_at(20), 12);
-    assert!(rt; is_line(rt.alloc(), reply, "refused 10 Conflict main/20 12\n")?);
-    Ok(())
+    assert!(rt; is_line(rt.alloc(), reply, "refused 10 Conflict main/20 12\n"));
 }
 
 #[test]
-fn broken_rules(rt: HostRuntime) -> Result<(), Fail> {
+fn lines_of_broken_rules(rt: HostRuntime) {
     let node = CellId {
         table: NODE,
         key: 9,
@@ -101,9 +102,8 @@ fn broken_rules(rt: HostRuntime) -> Result<(), Fail> {
     ];
     for (need, text) in cases {
         let reply = Reply::RuleBroken(need);
-        assert!(rt; is_line(rt.alloc(), reply, text)?, "at {text}");
+        assert!(rt; is_line(rt.alloc(), reply, text), "at {text}");
     }
-    Ok(())
 }
 
 /// A crossing of these parts of mains 20 and 21, under rule 1.
@@ -122,19 +122,31 @@ const ROWS: &str =
 const LINES: &str =
     "rows 5\nnode,9,\"a,\"\"b\"\" \n\",-5,5\nmain,3,A,3,0,0,10,10\nmain,20,,-3,0,0,-10,10\nnote,4\nroute,7,R,0,0,10,0,-1,5\n";
 
-#[test]
-fn rows_have_lines(rt: HostRuntime) -> Result<(), Fail> {
-    let alloc = rt.alloc();
-    let schema = network(alloc)?;
+/// The rows that edits insert.
+fn rows_of(alloc: Global, schema: &Schema, text: &str) -> Option<Sheet> {
     let mut sheet = Sheet::new(alloc);
-    let none = rows_lines(alloc, &schema, &sheet)?;
-    assert_eq!(rt; none.as_slice(), b"rows 0\n".as_slice());
-    let edits = read_edits(alloc, &schema, ROWS.as_bytes()).map_err(|fault| fault.1)?;
-    for edit in edits.as_slice() {
-        let (cell, row) = insertion(edit).ok_or("no insertion")?;
-        sheet.put(cell, row.copy()?)?;
+    for edit in read_edits(alloc, schema, text.as_bytes()).ok()?.into_vec() {
+        if let Edit::Insert(cell, row) = edit {
+            sheet.put(cell, row).ok()?;
+        }
     }
-    let lines = rows_lines(alloc, &schema, &sheet)?;
-    assert_eq!(rt; lines.as_slice(), LINES.as_bytes());
+    Some(sheet)
+}
+
+/// Whether rows that are inserted have these lines.
+fn have_lines(alloc: Global, text: &str, lines: &str) -> Option<bool> {
+    let schema = schema(alloc)?;
+    let sheet = rows_of(alloc, &schema, text)?;
+    let found = rows_lines(alloc, &schema, &sheet).ok()?;
+    Some(found.as_slice() == lines.as_bytes())
+}
+
+#[test]
+fn lines_of_rows(rt: HostRuntime) -> Result<(), Fail> {
+    let alloc = rt.alloc();
+    let schema = schema(alloc).ok_or("no network")?;
+    let none = rows_lines(alloc, &schema, &Sheet::new(alloc))?;
+    assert!(rt; none.as_slice() == b"rows 0\n".as_slice());
+    assert!(rt; have_lines(alloc, ROWS, LINES) == Some(true));
     Ok(())
 }

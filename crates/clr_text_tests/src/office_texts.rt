@@ -1,11 +1,7 @@
 //! Tests of office texts.
 
-mod cells;
-mod fixtures;
-mod network;
-mod paths;
-mod rule_faults;
+mod answers;
+mod cases;
+mod live;
 mod rules;
-mod tables;
-mod workspace_faults;
 mod workspaces;

@@ -1,70 +1,73 @@
-use crate::network::{MAIN, network};
-use crate::verdict_lines::{need, version};
+//! Plans as lines.
+
+use crate::network::{MAIN, schema};
+use crate::verdict_lines::{uncovered_need, version};
 use clr_cert::read_certificate;
 use clr_clearance::Verdict;
 use clr_plan::Plan;
 use clr_plan_lines::plan_lines;
 use clr_rows::CellId;
 use std::alloc::Global;
-use std::test::Fail;
+
+/// Certificates and the lines of plans that have them, with bars in place of line ends.
+const CERTIFICATES: &str = " => cleared 0|
+member,W1,,,,|member,W2,,,,| => cleared 0|member,W1,,,,|member,W2,,,,|
+member,V1,,,,|root,K,,,,|member,V2,,,,| => cleared 0|root,K,,,,|member,V1,,,,|member,V2,,,,|
+need,1,main/1/old,main/2/old,node/9/old,node/10/new|member,W1,,,,| \
+=> cleared 1|member,W1,,,,|need,1,main/1/old,main/2/old,node/9/old,node/10/new|
+member,W1,,,,|need,1,main/20/old/3,main/21/old,node/31/old,node/32/new| \
+=> cleared 1|member,W1,,,,|need,1,main/20/old/3,main/21/old,node/31/old,node/32/new|";
+
+/// A text with line ends in place of bars.
+fn unfold(alloc: Global, line: &str) -> Option<String> {
+    let mut text = String::new(alloc);
+    for character in line.chars() {
+        let part = if character == '|' { '\n' } else { character };
+        text.push(part).ok()?;
+    }
+    Some(text)
+}
 
 /// The lines of a plan of three members of a root.
-fn lines_of(alloc: Global, root: &str, plan: &Plan) -> Result<Vec<u8>, Fail> {
-    let schema = network(alloc)?;
-    Ok(plan_lines(alloc, &schema, &["W1", "W2", "W3"], root, plan)?)
+fn lines_of(alloc: Global, root: &str, plan: &Plan) -> Option<Vec<u8>> {
+    let schema = schema(alloc)?;
+    plan_lines(alloc, &schema, &["W1", "W2", "W3"], root, plan).ok()
 }
 
-/// The lines of a plan that clears by the certificate of this text.
-fn cleared(alloc: Global, text: &str) -> Result<Vec<u8>, Fail> {
-    let certificate = read_certificate(alloc, &network(alloc)?, text.as_bytes())?;
-    lines_of(alloc, "LIVE", &Plan::Cleared(certificate))
-}
-
-#[test]
-fn cleared_plans_have_their_certificates(rt: HostRuntime) -> Result<(), Fail> {
-    let cases = [
-        ("", "cleared 0\n"),
-        (
-            "member,W1,,,,\nmember,W2,,,,\n",
-            "cleared 0\nmember,W1,,,,\nmember,W2,,,,\n",
-        ),
-        (
-            "member,V1,,,,\nroot,K,,,,\nmember,V2,,,,\n",
-            "cleared 0\nroot,K,,,,\nmember,V1,,,,\nmember,V2,,,,\n",
-        ),
-        (
-            "need,1,main/1/old,main/2/old,node/9/old,node/10/new\nmember,W1,,,,\n",
-            "cleared 1\nmember,W1,,,,\nneed,1,main/1/old,main/2/old,node/9/old,node/10/new\n",
-        ),
-        (
-            "member,W1,,,,\nneed,1,main/20/old/3,main/21/old,node/31/old,node/32/new\n",
-            "cleared 1\nmember,W1,,,,\nneed,1,main/20/old/3,main/21/old,node/31/old,node/32/new\n",
-        ),
-    ];
-    for (text, lines) in cases {
-        assert_eq!(rt; cleared(rt.alloc(), text)?.as_slice(), lines.as_bytes());
+fn has_lines(alloc: Global, root: &str, plan: &Plan, text: &str) -> bool {
+    match lines_of(alloc, root, plan) {
+        Some(lines) => lines.as_slice() == text.as_bytes(),
+        None => false,
     }
-    Ok(())
 }
 
-/// The lines of a plan that is blocked in an order.
-fn blocked(alloc: Global, order: &[usize], cause: Verdict) -> Result<Vec<u8>, Fail> {
-    let order = Vec::from_slice(alloc, order)?;
-    lines_of(alloc, "LIVE", &Plan::Blocked { order, cause })
-}
-
-/// A need of two mains, both without a part above 1.
-fn uncovered(rule: u16, second: i64, fresh: bool) -> Verdict {
-    need(
-        rule,
-        version(MAIN, 1, false),
-        1,
-        Some(version(MAIN, second, fresh)),
-    )
+/// Whether a plan that clears by a certificate has the lines that stand behind it.
+fn is_right(alloc: Global, case: &str) -> Option<bool> {
+    let (text, lines) = case.split_once(" => ")?;
+    let (text, lines) = (unfold(alloc, text)?, unfold(alloc, lines)?);
+    let schema = schema(alloc)?;
+    let certificate = read_certificate(alloc, &schema, text.as_str().as_bytes()).ok()?;
+    let plan = Plan::Cleared(certificate);
+    Some(has_lines(alloc, "LIVE", &plan, lines.as_str()))
 }
 
 #[test]
-fn blocked_plans_name_order_and_cause(rt: HostRuntime) -> Result<(), Fail> {
+fn certificates_of_plans(rt: HostRuntime) {
+    for case in CERTIFICATES.lines() {
+        assert!(rt; is_right(rt.alloc(), case) == Some(true), "{case}");
+    }
+}
+
+/// Whether a plan that is blocked in an order has these lines.
+fn has_blocked_lines(alloc: Global, order: &[usize], cause: Verdict, text: &str) -> bool {
+    match Vec::from_slice(alloc, order) {
+        Ok(order) => has_lines(alloc, "LIVE", &Plan::Blocked { order, cause }, text),
+        Err(_) => false,
+    }
+}
+
+#[test]
+fn orders_blocked_by_changes(rt: HostRuntime) {
     let cell = CellId {
         table: MAIN,
         key: 20,
@@ -74,44 +77,33 @@ fn blocked_plans_name_order_and_cause(rt: HostRuntime) -> Result<(), Fail> {
         first: 0,
         second: 1,
     };
+    let text = "blocked 2 W1 W2\ncause 5 SharedCell main/20 W1 W2\n";
+    assert!(rt; has_blocked_lines(rt.alloc(), &[0, 1], shared, text));
     let conflict = Verdict::Conflict {
         member: 0,
         cell,
         count: 1,
     };
-    let cases = [
-        (
-            [0, 1].as_slice(),
-            shared,
-            "blocked 2 W1 W2\ncause 5 SharedCell main/20 W1 W2\n",
-        ),
-        (
-            [0].as_slice(),
-            conflict,
-            "blocked 1 W1\ncause 4 Conflict W1 main/20 1\n",
-        ),
-        (
-            [1].as_slice(),
-            uncovered(0, 30, true),
-            "blocked 1 W2\ncause 6 Uncovered rule 0 main/1/old main/30/new\n",
-        ),
-        (
-            [0, 1, 2].as_slice(),
-            uncovered(1, 2, false),
-            "blocked 3 W1 W2 W3\ncause 6 Uncovered rule 1 main/1/old main/2/old\n",
-        ),
-    ];
-    for (order, cause, lines) in cases {
-        assert_eq!(rt;
-            blocked(rt.alloc(), order, cause)?.as_slice(),
-            lines.as_bytes()
-        );
-    }
-    Ok(())
+    let text = "blocked 1 W1\ncause 4 Conflict W1 main/20 1\n";
+    assert!(rt; has_blocked_lines(rt.alloc(), &[0], conflict, text));
+}
+
+/// That a need of two mains, both without a part above 1, isn't covered.
+fn uncovered_mains(rule: u16, second: i64, fresh: bool) -> Verdict {
+    let (first, second) = (version(MAIN, 1, false), version(MAIN, second, fresh));
+    uncovered_need(rule, first, 1, Some(second))
 }
 
 #[test]
-fn other_plans_have_a_line(rt: HostRuntime) -> Result<(), Fail> {
+fn orders_blocked_by_needs(rt: HostRuntime) {
+    let text = "blocked 1 W2\ncause 6 Uncovered rule 0 main/1/old main/30/new\n";
+    assert!(rt; has_blocked_lines(rt.alloc(), &[1], uncovered_mains(0, 30, true), text));
+    let text = "blocked 3 W1 W2 W3\ncause 6 Uncovered rule 1 main/1/old main/2/old\n";
+    assert!(rt; has_blocked_lines(rt.alloc(), &[0, 1, 2], uncovered_mains(1, 2, false), text));
+}
+
+#[test]
+fn lines_of_other_plans(rt: HostRuntime) {
     let cases = [
         (
             Plan::Unfit(Verdict::RepeatedMember(0)),
@@ -124,11 +116,7 @@ fn other_plans_have_a_line(rt: HostRuntime) -> Result<(), Fail> {
         (Plan::Unfit(Verdict::NotKept), "unfit 7 NotKept K\n"),
         (Plan::OutOfMemory, "refused 0 OutOfMemory\n"),
     ];
-    for (plan, lines) in cases {
-        assert_eq!(rt;
-            lines_of(rt.alloc(), "K", &plan)?.as_slice(),
-            lines.as_bytes()
-        );
+    for (plan, text) in cases {
+        assert!(rt; has_lines(rt.alloc(), "K", &plan, text), "at {text}");
     }
-    Ok(())
 }

@@ -1,113 +1,162 @@
-use crate::edits::deletion;
-use crate::network::{NODE, network, words};
-use clr_change::Edits;
-use clr_rows::CellId;
-use clr_scripts::{Names, RecordFault, Step, Word, read_script};
-use clr_steps::Command;
+//! Edits and scripts as they are read, or why they aren't.
+
+use crate::network::{schema, words};
+use crate::script_cases::{
+    COMMANDS, COUNTS, EDIT_FAULTS, EDITS, REPORTS, SCRIPT_FAULTS, SCRIPTS, TURNS,
+};
+use crate::texts::{edits_text, steps_text};
+use clr_rows::Names;
+use clr_scripts::{RecordFault, read_edits, read_script};
+use std::alloc::Global;
+use std::process::Abort;
 use std::test::Fail;
 
-fn is_creation(step: &Step, wanted: &str, under: &str) -> bool {
-    match step {
-        Step::Act(Command::Create { name, parent }) => {
-            name.as_str() == wanted && parent.as_str() == under
+/// A text with line ends in place of strokes.
+fn unfold(alloc: Global, line: &str) -> Option<String> {
+    let mut text = String::new(alloc);
+    let mut is_first = true;
+    for part in line.split('/') {
+        if !is_first {
+            text.push('\n').ok()?;
         }
-        _ => false,
+        is_first = false;
+        text.push_str(part).ok()?;
+    }
+    Some(text)
+}
+
+/// Edits, or the number of the record that is bad, and why.
+fn read_edits_text(alloc: Global, text: &str) -> Option<String> {
+    let schema = schema(alloc)?;
+    match read_edits(alloc, &schema, text.as_bytes()) {
+        Ok(edits) => edits_text(alloc, edits.as_slice()),
+        Err((number, fault)) => format!(in alloc; "{number} {fault:?}").ok(),
     }
 }
 
-fn application(step: &Step) -> Option<(&str, &Edits)> {
-    match step {
-        Step::Act(Command::Apply { ws, edits }) => Some((ws.as_str(), edits)),
-        _ => None,
+/// Steps, or the number of the record that is bad, and why.
+fn read_script_text(alloc: Global, text: &str) -> Option<String> {
+    let schema = schema(alloc)?;
+    match read_script(alloc, &schema, text.as_bytes()) {
+        Ok(steps) => steps_text(alloc, steps.as_slice()),
+        Err((number, fault)) => format!(in alloc; "{number} {fault:?}").ok(),
     }
 }
 
-/// Whether a step shows this workspace alone.
-fn is_show(step: &Step, wanted: &str) -> bool {
-    match step {
-        Step::Report(Word::Show, names) => {
-            names.as_slice().len() == 1 && names.as_slice()[0].as_str() == wanted
-        }
-        _ => false,
+/// An insertion of a route with so many coordinates, which are 0 and 1 in turn.
+fn route_with(alloc: Global, coordinates: &str) -> Option<String> {
+    let mut text = String::from_str(alloc, "insert,route,5,R").ok()?;
+    for n in 0..coordinates.parse::<u16>().ok()? {
+        text.push_str(if n % 4 < 2 { ",0" } else { ",1" }).ok()?;
+    }
+    Some(text)
+}
+
+/// `read`, or why a route with so many coordinates isn't.
+fn route_text(alloc: Global, coordinates: &str) -> Option<String> {
+    let text = route_with(alloc, coordinates)?;
+    match read_edits(alloc, &schema(alloc)?, text.as_bytes()) {
+        Ok(_) => String::from_str(alloc, "read").ok(),
+        Err((number, fault)) => format!(in alloc; "{number} {fault:?}").ok(),
     }
 }
 
-const SCRIPT: &str =
-    "\"cre\"ate,W1,LIVE\n\napply,W1,2\ndelete,note,4\ndelete,node,-9\napply,,0\nshow,W 1";
+fn answer(alloc: Global, question: &str) -> Option<String> {
+    let (word, line) = question.split_once(' ')?;
+    match word {
+        "edits" => read_edits_text(alloc, unfold(alloc, line)?.as_str()),
+        "script" => read_script_text(alloc, unfold(alloc, line)?.as_str()),
+        _ => route_text(alloc, line),
+    }
+}
+
+fn is_right(alloc: Global, line: &str) -> bool {
+    let Some((question, wanted)) = line.split_once(" => ") else {
+        return false;
+    };
+    match answer(alloc, question) {
+        Some(text) => text.as_str() == wanted,
+        None => false,
+    }
+}
+
+/// Each line is read as it says.
+fn check(rt: &impl Abort, alloc: Global, lines: &str) {
+    for line in lines.lines() {
+        assert!(rt; is_right(alloc, line), "{line}");
+    }
+}
 
 #[test]
-fn scripts_are_read(rt: HostRuntime) -> Result<(), Fail> {
-    let alloc = rt.alloc();
-    let steps = read_script(alloc, &network(alloc)?, SCRIPT.as_bytes())?;
-    assert_eq!(rt; steps.len(), 4);
-    assert!(rt; is_creation(&steps[0], "W1", "LIVE"));
-    let (ws, edits) = application(&steps[1]).ok_or("no edits")?;
-    assert_eq!(rt; ws, "W1");
-    assert_eq!(rt; edits.as_slice().len(), 2);
-    let cell = deletion(&edits.as_slice()[1]).ok_or("no deletion")?;
-    assert_eq!(rt;
-        cell,
-        CellId {
-            table: NODE,
-            key: -9
-        }
-    );
-    let (ws, edits) = application(&steps[2]).ok_or("no edits")?;
-    assert_eq!(rt; ws, "");
-    assert_eq!(rt; edits.as_slice().len(), 0);
-    assert!(rt; is_show(&steps[3], "W 1"));
+fn edits_and_their_rows(rt: HostRuntime) {
+    check(&rt, rt.alloc(), EDITS);
+}
+
+#[test]
+fn faults_of_edits(rt: HostRuntime) {
+    check(&rt, rt.alloc(), EDIT_FAULTS);
+}
+
+#[test]
+fn commands(rt: HostRuntime) {
+    check(&rt, rt.alloc(), COMMANDS);
+}
+
+#[test]
+fn reports(rt: HostRuntime) {
+    check(&rt, rt.alloc(), REPORTS);
+}
+
+#[test]
+fn scripts_of_several_steps(rt: HostRuntime) {
+    check(&rt, rt.alloc(), SCRIPTS);
+}
+
+/// Whether a script of one record has too few or too many fields.
+fn has_wrong_count(alloc: Global, line: &str) -> bool {
+    match read_script_text(alloc, line) {
+        Some(text) => text.as_str() == "1 FieldCount",
+        None => false,
+    }
+}
+
+#[test]
+fn counts_of_fields(rt: HostRuntime) {
+    for line in COUNTS.lines() {
+        assert!(rt; has_wrong_count(rt.alloc(), line), "{line}");
+    }
+}
+
+#[test]
+fn words_and_fields_in_turn(rt: HostRuntime) {
+    check(&rt, rt.alloc(), TURNS);
+}
+
+#[test]
+fn faults_of_scripts(rt: HostRuntime) {
+    check(&rt, rt.alloc(), SCRIPT_FAULTS);
+}
+
+#[test]
+fn bytes_that_are_no_text(rt: HostRuntime) -> Result<(), Fail> {
+    let schema = schema(rt.alloc()).ok_or("no schema")?;
+    let fault = Some((1, RecordFault::NotCsv));
+    assert!(rt; read_edits(rt.alloc(), &schema, b"move\n\xff").err() == fault);
+    assert!(rt; read_script(rt.alloc(), &schema, b"open\n\xff").err() == fault);
     Ok(())
 }
 
-#[test]
-fn faults_of_scripts(rt: HostRuntime) -> Result<(), Fail> {
-    let alloc = rt.alloc();
-    let schema = network(alloc)?;
-    let cases = [
-        ("open,W1", 1, RecordFault::BadWord),
-        ("\"\"", 1, RecordFault::BadWord),
-        ("insert,node,9,tee,1,1", 1, RecordFault::BadWord),
-        ("show,LIVE\n\nweak,W1", 2, RecordFault::BadWord),
-        ("apply,W1", 1, RecordFault::FieldCount),
-        ("apply,W1,-1", 1, RecordFault::BadNumber),
-        ("apply,W1,+1", 1, RecordFault::BadNumber),
-        ("apply,W1,01", 1, RecordFault::BadNumber),
-        ("apply,W1,1\nshow,W1", 2, RecordFault::BadWord),
-        ("apply,W1,2\ndelete,note,4", 1, RecordFault::FieldCount),
-        ("apply,W1,2\ndelete,pipe,4", 2, RecordFault::NoTable),
-        (
-            "show,W1\napply,W1,2\ndelete,note,x",
-            3,
-            RecordFault::BadNumber,
-        ),
-        (
-            "show,W1\napply,W1,9223372036854775807\ndelete,note,4",
-            2,
-            RecordFault::FieldCount,
-        ),
-        (
-            "apply,W1,1\ndelete,note,4\ndelete,note,4",
-            3,
-            RecordFault::BadWord,
-        ),
-    ];
-    for (text, number, fault) in cases {
-        let answer = read_script(alloc, &schema, text.as_bytes()).err();
-        assert_eq!(rt; answer, Some((number, fault)), "at {text}");
-    }
-    let answer = read_script(alloc, &schema, b"open\n\xff").err();
-    assert_eq!(rt; answer, Some((1, RecordFault::NotCsv)));
-    Ok(())
-}
-
-#[test]
-fn names_are_given_back(rt: HostRuntime) -> Result<(), Fail> {
-    let alloc = rt.alloc();
+fn two_names(alloc: Global) -> Option<Names> {
     let mut list = Vec::new(alloc);
-    list.push(words(alloc, "W1")?)?;
-    list.push(words(alloc, "W2")?)?;
-    let list = Names::new(list).into_vec();
-    assert_eq!(rt; list.len(), 2);
-    assert_eq!(rt; list[1].as_str(), "W2");
+    list.push(words(alloc, "W1").ok()?).ok()?;
+    list.push(words(alloc, "W2").ok()?).ok()?;
+    Some(Names::new(list))
+}
+
+#[test]
+fn names_as_a_list(rt: HostRuntime) -> Result<(), Fail> {
+    let list = two_names(rt.alloc()).ok_or("no names")?.into_vec();
+    assert!(rt; list.len() == 2);
+    assert!(rt; list[1].as_str() == "W2");
     Ok(())
 }

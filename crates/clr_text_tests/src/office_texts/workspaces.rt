@@ -1,10 +1,11 @@
-use crate::network::row_of_words;
+//! Workspaces of office texts.
+
+use crate::texts::{add_part, change_text};
 use clr_differences::Differences;
 use clr_layers::StoredMark;
 use clr_office_text::{StoredPart, read_office};
-use clr_rows::{CellId, Place, Shape};
-use std::alloc::{AllocError, Global};
-use std::test::Fail;
+use clr_rows::{CellId, Row};
+use std::alloc::Global;
 
 /// Node 9 in LIVE, K under LIVE, which is kept, and V1 under K.
 const NESTED: &str =
@@ -16,82 +17,78 @@ const NESTED: &str =
 "marks":[{"savepoint":"s1","rows":[{"t":"node","k":7,"gone":true}]},{"child":"V1","savepoint":1},{"savepoint":"LIVE"}]},
 {"name":"V1","parent":"K"}]}"#;
 
-fn node_at(key: i64) -> CellId {
-    CellId { table: 0, key }
-}
+/// What the workspaces are: names and parents, flags, bases, rows and marks.
+const WORKSPACES: [&str; 2] = [
+    "K under LIVE true base [row 0.7 'tap 1,1, gone 0.9] rows [row 0.10 'tee 7,7] marks [s1 [gone 0.7], child V1, LIVE []]",
+    "V1 under K false base [] rows [] marks []",
+];
 
-fn is_named(part: &StoredPart, name: &str, parent: &str, kept: bool) -> bool {
-    part.name.as_str() == name && part.layer.parent.as_str() == parent && part.layer.kept == kept
-}
-
-/// Whether a node has no row.
-fn is_gone(differences: &Differences, key: i64) -> bool {
-    match differences.get(node_at(key)) {
-        Some(row) => row.is_none(),
-        None => false,
+fn difference_text(alloc: Global, cell: CellId, row: Option<&Row>) -> Option<String> {
+    match row {
+        Some(row) => change_text(alloc, "row", cell, row),
+        None => format!(in alloc; "gone {}.{}", cell.table, cell.key).ok(),
     }
 }
 
-/// Whether a node has a row of this kind and place.
-fn has_node(
-    alloc: Global,
-    differences: &Differences,
-    key: i64,
-    kind: &str,
-    place: i64,
-) -> Result<bool, AllocError> {
-    let shape = Shape::At(Place { x: place, y: place });
-    let row = row_of_words(alloc, kind, shape)?;
-    match differences.get(node_at(key)) {
-        Some(Some(found)) => Ok(found.same(&row)),
-        _ => Ok(false),
+/// The differences by cell.
+fn differences_text(alloc: Global, differences: &Differences) -> Option<String> {
+    let mut text = String::new(alloc);
+    for (cell, row) in differences.rows().ok()?.as_slice() {
+        let part = difference_text(alloc, *cell, row.as_ref())?;
+        add_part(&mut text, ", ", part.as_str())?;
     }
+    Some(text)
 }
 
-/// Whether marks are the savepoint s1 without node 7, then the child V1, then the savepoint LIVE
-/// with the rows of the base.
-fn are_marks(marks: &[StoredMark]) -> bool {
-    match marks {
-        [
-            StoredMark::Saved(first, rows),
-            StoredMark::Child(child),
-            StoredMark::Saved(last, none),
-        ] => {
-            first.as_str() == "s1"
-                && rows.len() == 1
-                && is_gone(rows, 7)
-                && child.as_str() == "V1"
-                && last.as_str() == "LIVE"
-                && none.len() == 0
+fn mark_text(alloc: Global, mark: &StoredMark) -> Option<String> {
+    match mark {
+        StoredMark::Saved(name, rows) => {
+            let rows = differences_text(alloc, rows)?;
+            format!(in alloc; "{} [{}]", name.as_str(), rows.as_str()).ok()
         }
+        StoredMark::Child(name) => format!(in alloc; "child {}", name.as_str()).ok(),
+    }
+}
+
+fn marks_text(alloc: Global, marks: &[StoredMark]) -> Option<String> {
+    let mut text = String::new(alloc);
+    for mark in marks {
+        add_part(&mut text, ", ", mark_text(alloc, mark)?.as_str())?;
+    }
+    Some(text)
+}
+
+fn part_text(alloc: Global, part: &StoredPart) -> Option<String> {
+    let (name, parent) = (part.name.as_str(), part.layer.parent.as_str());
+    let base = differences_text(alloc, &part.layer.base)?;
+    let rows = differences_text(alloc, &part.layer.current)?;
+    let marks = marks_text(alloc, part.layer.marks.as_slice())?;
+    let (base, rows, kept) = (base.as_str(), rows.as_str(), part.layer.kept);
+    format!(in alloc;
+        "{name} under {parent} {kept} base [{base}] rows [{rows}] marks [{}]",
+        marks.as_str()
+    )
+    .ok()
+}
+
+/// The workspace of a number, as a text.
+fn workspace_text(alloc: Global, number: usize) -> Option<String> {
+    let parts = read_office(alloc, NESTED.as_bytes()).ok()?;
+    part_text(alloc, parts.workspaces.get(number)?)
+}
+
+/// Whether the workspace of a number is as it must be, or there is none beyond the last.
+fn is_right(alloc: Global, number: usize) -> bool {
+    match (workspace_text(alloc, number), WORKSPACES.get(number)) {
+        (Some(text), Some(wanted)) => text.as_str() == *wanted,
+        (None, None) => true,
         _ => false,
     }
 }
 
 #[test]
-fn a_kept_workspace(rt: HostRuntime) -> Result<(), Fail> {
-    let alloc = rt.alloc();
-    let parts = read_office(alloc, NESTED.as_bytes())?;
-    assert_eq!(rt; parts.workspaces.len(), 2);
-    let part = &parts.workspaces[0];
-    assert!(rt; is_named(part, "K", "LIVE", true));
-    assert_eq!(rt; part.layer.base.len(), 2);
-    assert!(rt; is_gone(&part.layer.base, 9));
-    assert!(rt; has_node(alloc, &part.layer.base, 7, "tap", 1)?);
-    assert_eq!(rt; part.layer.current.len(), 1);
-    assert!(rt; has_node(alloc, &part.layer.current, 10, "tee", 7)?);
-    assert!(rt; are_marks(part.layer.marks.as_slice()));
-    Ok(())
-}
-
-#[test]
-fn a_bare_workspace(rt: HostRuntime) -> Result<(), Fail> {
-    let parts = read_office(rt.alloc(), NESTED.as_bytes())?;
-    assert_eq!(rt; parts.workspaces.len(), 2);
-    let part = &parts.workspaces[1];
-    assert!(rt; is_named(part, "V1", "K", false));
-    assert_eq!(rt; part.layer.base.len(), 0);
-    assert_eq!(rt; part.layer.current.len(), 0);
-    assert_eq!(rt; part.layer.marks.len(), 0);
-    Ok(())
+fn workspaces_with_their_marks(rt: HostRuntime) {
+    for number in 0..3 {
+        assert!(rt; is_right(rt.alloc(), number), "{number}");
+    }
 }

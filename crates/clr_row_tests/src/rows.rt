@@ -1,4 +1,0 @@
-mod limits;
-mod schemas;
-mod sheets;
-mod values;
