@@ -11,53 +11,53 @@ use Rattle.clr_spots.specs.SpotOrderLaws.{spot_cmp_total, spot_cmp_exact, same_s
 use Rattle.clr_spots.specs.Spots.{unless_many, are_many}
 use Rattle.clr_rules.proofs.Elements.{Among, among_left, among_right, flat_among, some_of}
 use Rattle.clr_spots.proofs.SharedSpots.{Common, Listed}
-use Rattle.clr_audit.specs.declared.spot_maps.Entry.{Entry}
+use Rattle.clr_audit.specs.declared.spot_maps.FiledPart.{FiledPart}
 use Rattle.clr_audit.specs.Filing.{Filed, EntriesBySpot, entries_at, filed_at, filed_at_all, filed_entry, near}
 
 spot_itself : (x : Spot) → eq_by_cmp spot_cmp x x ≡ true
 spot_itself x = (Equal-is (spot_cmp x x)).1 (tied_itself spot_cmp_total x)
 
-entries_after : (m : EntriesBySpot) (y x : Spot) (e : Entry) → entries_at (filed_at m y e) x ≡ unwrap_or (cond (eq_by_cmp spot_cmp x y) (Some (entries_at m y ++ e ∷ [])) (finite.get m x)) []
+entries_after : (m : EntriesBySpot) (y x : Spot) (e : FiledPart) → entries_at (filed_at m y e) x ≡ unwrap_or (cond (eq_by_cmp spot_cmp x y) (Some (entries_at m y ++ e ∷ [])) (finite.get m x)) []
 entries_after m y x e = ap (λ o. unwrap_or o []) (finite.get-insert spot_cmp_total m y (entries_at m y ++ e ∷ []) x)
 
-stays_at : (m : EntriesBySpot) (y x : Spot) (e q : Entry) → Among q (entries_at m x) → Among q (entries_at (filed_at m y e) x)
+stays_at : (m : EntriesBySpot) (y x : Spot) (e q : FiledPart) → Among q (entries_at m x) → Among q (entries_at (filed_at m y e) x)
 stays_at m y x e q h = subst (Among q) (sym (entries_after m y x e)) (go (eq_by_cmp spot_cmp x y) refl)
   where
     go : (b : Bool) → eq_by_cmp spot_cmp x y ≡ b → Among q (unwrap_or (cond b (Some (entries_at m y ++ e ∷ [])) (finite.get m x)) [])
     go true tie = let same : x ≡ y = spot_cmp_exact x y ((Equal-is (spot_cmp x y)).0 tie) in among_left q (entries_at m y) (e ∷ []) (subst (λ z. Among q (entries_at m z)) same h)
     go false tie = h
 
-stays_at_all : (m : EntriesBySpot) (ys : List Spot) (x : Spot) (e q : Entry) → Among q (entries_at m x) → Among q (entries_at (filed_at_all m ys e) x)
+stays_at_all : (m : EntriesBySpot) (ys : List Spot) (x : Spot) (e q : FiledPart) → Among q (entries_at m x) → Among q (entries_at (filed_at_all m ys e) x)
 stays_at_all m [] x e q h = h
 stays_at_all m (y ∷ ys) x e q h = stays_at_all (filed_at m y e) ys x e q (stays_at m y x e q h)
 
-put_at : (m : EntriesBySpot) (x : Spot) (e : Entry) → Among e (entries_at (filed_at m x e) x)
+put_at : (m : EntriesBySpot) (x : Spot) (e : FiledPart) → Among e (entries_at (filed_at m x e) x)
 put_at m x e = subst (Among e) (sym (entries_after m x x e ∙ ap (λ b. unwrap_or (cond b (Some (entries_at m x ++ e ∷ [])) (finite.get m x)) []) (spot_itself x)))
     (among_right e (entries_at m x) (e ∷ []) (inl refl))
 
-put_at_each : (m : EntriesBySpot) (ys : List Spot) (x : Spot) (e : Entry) → Among x ys → Among e (entries_at (filed_at_all m ys e) x)
+put_at_each : (m : EntriesBySpot) (ys : List Spot) (x : Spot) (e : FiledPart) → Among x ys → Among e (entries_at (filed_at_all m ys e) x)
 put_at_each m [] x e h = absurd h
 put_at_each m (y ∷ ys) x e (inl is) = stays_at_all (filed_at m y e) ys x e e (subst (λ z. Among e (entries_at (filed_at m y e) z)) is (put_at m y e))
 put_at_each m (y ∷ ys) x e (inr h) = put_at_each (filed_at m y e) ys x e h
 
 -- the entry of a row of these spots is filed
-pub record IsFiled (m : Filed) (e : Entry) (xs : List Spot) : Type 0 where
+pub record IsFiled (m : Filed) (e : FiledPart) (xs : List Spot) : Type 0 where
   pub wide : are_many xs ≡ true → Among e m.wide
   pub at : (x : Spot) → Among x (unless_many xs) → Among e (entries_at m.by_spot x)
   pub all : Among e m.all
 
-in_wide : (b : Bool) (wide : List Entry) (e q : Entry) → Among q wide → Among q (cond b (wide ++ e ∷ []) wide)
+in_wide : (b : Bool) (wide : List FiledPart) (e q : FiledPart) → Among q wide → Among q (cond b (wide ++ e ∷ []) wide)
 in_wide true wide e q h = among_left q wide (e ∷ []) h
 in_wide false wide e q h = h
 
-pub entry_stays : (m : Filed) (e q : Entry) (xs ys : List Spot) (wide : Bool) → IsFiled m q ys → IsFiled (filed_entry m e xs wide) q ys
+pub entry_stays : (m : Filed) (e q : FiledPart) (xs ys : List Spot) (wide : Bool) → IsFiled m q ys → IsFiled (filed_entry m e xs wide) q ys
 entry_stays m e q xs ys wide h = record {
   wide = λ many. in_wide wide m.wide e q (h.wide many);
   at = λ x k. stays_at_all m.by_spot xs x e q (h.at x k);
   all = among_left q m.all (e ∷ []) h.all;
 }
 
-pub entry_filed : (m : Filed) (e : Entry) (xs : List Spot) → IsFiled (filed_entry m e (unless_many xs) (are_many xs)) e xs
+pub entry_filed : (m : Filed) (e : FiledPart) (xs : List Spot) → IsFiled (filed_entry m e (unless_many xs) (are_many xs)) e xs
 entry_filed m e xs = record {
   wide = λ many. subst (λ b. Among e (cond b (m.wide ++ e ∷ []) m.wide)) (sym many) (among_right e m.wide (e ∷ []) (inl refl));
   at = λ x k. put_at_each m.by_spot (unless_many xs) x e k;
@@ -72,7 +72,7 @@ few_kept : (xs : List Spot) (x : Spot) → are_many xs ≡ false → Among x xs 
 few_kept xs x few h = subst (λ b. Among x (cond b [] xs)) (sym few) h
 
 -- an entry is near the spots that its row shares
-pub found_near : (m : Filed) (e : Entry) (xs ys : List Spot) → IsFiled m e ys → Common xs ys → Among e (near m (unless_many xs) (are_many xs))
+pub found_near : (m : Filed) (e : FiledPart) (xs ys : List Spot) → IsFiled m e ys → Common xs ys → Among e (near m (unless_many xs) (are_many xs))
 found_near m e xs ys h w = elim (cases_Bool (are_many xs)) [
   | inl many ↦ subst (λ b. Among e (cond b m.all (m.wide ++ flat_map (entries_at m.by_spot) (unless_many xs)))) (sym many) h.all
   | inr few ↦ subst (λ b. Among e (cond b m.all (m.wide ++ flat_map (entries_at m.by_spot) (unless_many xs)))) (sym few) (elim (cases_Bool (are_many ys)) [

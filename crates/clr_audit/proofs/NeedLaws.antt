@@ -22,7 +22,7 @@ use Rattle.clr_spots.proofs.RoleLaws.{alone_parts, first_part_there, second_part
 use Rattle.clr_spots.proofs.SharedSpots.{Common}
 use Rattle.clr_audit.specs.declared.role_index.RoleIndex.{RoleIndex}
 use Rattle.clr_audit.specs.declared.searching.Search.{Search}
-use Rattle.clr_audit.specs.declared.spot_maps.Entry.{Entry}
+use Rattle.clr_audit.specs.declared.spot_maps.FiledPart.{FiledPart}
 use Rattle.clr_audit.specs.Filing.{near}
 use Rattle.clr_audit.specs.RoleFiling.{filed_rows, no_rows_filed, partners}
 use Rattle.clr_audit.specs.Searches.{serves_if, serves_at, need_if_broken, need_with, need_beside, IsBeside, IsBrokenAmong, Gains, IsAlone, IsOfPart, IsOfRow, IsPaired}
@@ -62,7 +62,7 @@ row_filed search spots part s ready k t at =
     (rows_filed search.book.now search.rule no_rows_filed 0 (map held_of search.rows.now) k t at))
 
 -- servers ----------------------------------------------------------------------------------------
-served_by_row : (rules : List Rule) (ask : Ask) (rows : List Held) (s : Held) (t : Option Held) (e : Entry) → serves_at rules ask rows s t e ≡ true → list_any (serves rules ask s t) rows ≡ true
+served_by_row : (rules : List Rule) (ask : Ask) (rows : List Held) (s : Held) (t : Option Held) (e : FiledPart) → serves_at rules ask rows s t e ≡ true → list_any (serves rules ask s t) rows ≡ true
 served_by_row rules ask rows s t e f = go (slice_get rows e.position) refl f
   where
     go : (o : Option Held) → slice_get rows e.position ≡ o → serves_if rules ask s t o ≡ true → list_any (serves rules ask s t) rows ≡ true
@@ -165,25 +165,25 @@ alone_gains search spots s before after ready listed added =
     (at_second rules rows ask s h.second None b w.2 (needed rules rows search.rule 1 1 s b h w.0 parts.0 parts.1 w.1))))
 
 -- two rows -----------------------------------------------------------------------------------------
-beside_broken : (search : Search) (spots : Spots) (part : ℕ) (s : Held) → IsReady search spots part s → Contains (map held_of search.rows.now) s → (es : List Entry) (b : Broken)
+beside_broken : (search : Search) (spots : Spots) (part : ℕ) (s : Held) → IsReady search spots part s → Contains (map held_of search.rows.now) s → (es : List FiledPart) (b : Broken)
     → Among b (flat_map (need_beside search spots s part) es) → IsBrokenAmong search.book.now (map held_of search.rows.now) b
 beside_broken search spots part s ready listed es b h =
     let (e, _, m) = among_flat (need_beside search spots s part) b es h in
     go e (slice_get (map held_of search.rows.now) e.position) refl m
   where
-    by : (e : Entry) (t : Held) (after : Bool) → is_after s t ≡ after → Contains (map held_of search.rows.now) t → Among b (cond after (need_if_broken search spots (ask_of_parts search.rule part e.part) s (Some t)) [])
+    by : (e : FiledPart) (t : Held) (after : Bool) → is_after s t ≡ after → Contains (map held_of search.rows.now) t → Among b (cond after (need_if_broken search spots (ask_of_parts search.rule part e.part) s (Some t)) [])
         → IsBrokenAmong search.book.now (map held_of search.rows.now) b
     by e t false after here k = absurd k
     by e t true after here k = need_broken search.book.now (ask_of_parts search.rule part e.part) (map held_of search.rows.now) s (Some t) b listed (here, after)
         (subst (Among b) (need_is search spots part e.part s (Some t) ready) k)
 
-    go : (e : Entry) (o : Option Held) → slice_get (map held_of search.rows.now) e.position ≡ o → Among b (need_with search spots (ask_of_parts search.rule part e.part) s o)
+    go : (e : FiledPart) (o : Option Held) → slice_get (map held_of search.rows.now) e.position ≡ o → Among b (need_with search spots (ask_of_parts search.rule part e.part) s o)
         → IsBrokenAmong search.book.now (map held_of search.rows.now) b
     go e None at m = absurd m
     go e (Some t) at m = by e t (is_after s t) refl (contained t (map held_of search.rows.now) (at_among (map held_of search.rows.now) e.position t at)) m
 
 -- the entry of a row that may stand beside another is one of its partners
-partner_found : (index : RoleIndex) (roles others : Roles) (e : Entry) (xs ys : List Spot) → IsSubjectFiled index others e ys → Common xs ys
+partner_found : (index : RoleIndex) (roles others : Roles) (e : FiledPart) (xs ys : List Spot) → IsSubjectFiled index others e ys → Common xs ys
     → ((roles.first ≡ true) × (others.second ≡ true)) ⊎ ((others.first ≡ true) × (roles.second ≡ true)) → Among e (partners index roles (unless_many xs) (are_many xs))
 partner_found index roles others e xs ys filed common (inl h) = elim (cases_Bool others.first) [
   | inl both ↦ among_left e _ _ (found_near index.boths e xs ys (filed.both both h.1) common)
@@ -196,8 +196,8 @@ partner_found index roles others e xs ys filed common (inr h) = elim (cases_Bool
       (subst (λ (b : Bool). Among e (cond b (near index.firsts (unless_many xs) (are_many xs)) [])) (sym h.1) (found_near index.firsts e xs ys (filed.first h.0 alone) common)))
 ]
 
-pair_found : (search : Search) (spots : Spots) (part other : ℕ) (s : Held) (roles : Roles) (es : List Entry) → IsReady search spots part s → roles ≡ roles_under search.book.now search.rule s
-    → ((e : Entry) → Among e (partners search.index.now roles spots.list spots.wide) → Among e es) → (t : Held) (b : Broken)
+pair_found : (search : Search) (spots : Spots) (part other : ℕ) (s : Held) (roles : Roles) (es : List FiledPart) → IsReady search spots part s → roles ≡ roles_under search.book.now search.rule s
+    → ((e : FiledPart) → Among e (partners search.index.now roles spots.list spots.wide) → Among e es) → (t : Held) (b : Broken)
     → IsNeeded search.book.now (map held_of search.rows.now) (ask_of_parts search.rule part other) s (Some t) b → Among b (flat_map (need_beside search spots s part) es)
 pair_found search spots part other s roles es ready is all t b h =
     let rules = search.book.now in
@@ -221,9 +221,9 @@ pair_found search spots part other s roles es ready is all t b h =
     flat_among (need_beside search spots s part) (entry k other) b es (all (entry k other) here) own
 
 -- the broken needs of a part of a row are gained
-pub part_gains : (search : Search) (spots : Spots) (part : ℕ) (s : Held) (roles : Roles) (es : List Entry) (before after : List Broken) → IsReady search spots part s
+pub part_gains : (search : Search) (spots : Spots) (part : ℕ) (s : Held) (roles : Roles) (es : List FiledPart) (before after : List Broken) → IsReady search spots part s
     → Contains (map held_of search.rows.now) s → roles ≡ roles_under search.book.now search.rule s
-    → ((e : Entry) → Among e (partners search.index.now roles spots.list spots.wide) → Among e es)
+    → ((e : FiledPart) → Among e (partners search.index.now roles spots.list spots.wide) → Among e es)
     → after ≡ before ++ flat_map (need_beside search spots s part) es
     → Gains search.book.now (map held_of search.rows.now) (IsOfPart search.rule s part) before after
 part_gains search spots part s roles es before after ready listed is all added =

@@ -10,14 +10,14 @@ use Rattle.clr_spots.specs.RoleSpots.{subject_spots_under, server_spots_under}
 use Rattle.clr_rows.specs.Held.{Held}
 use Rattle.clr_spots.specs.Spots.{unless_many, are_many}
 use Rattle.clr_audit.specs.declared.role_index.RoleIndex.{RoleIndex}
-use Rattle.clr_audit.specs.declared.spot_maps.Entry.{Entry}
+use Rattle.clr_audit.specs.declared.spot_maps.FiledPart.{FiledPart}
 use Rattle.clr_audit.specs.Filing.{Filed, filed_entry}
 use Rattle.clr_audit.specs.RoleFiling.{with_subject, with_parts, with_pairs, with_server, with_row, filed_rows}
 use Rattle.clr_audit.proofs.Filed.{IsFiled, entry_stays, entry_filed}
 
 -- what is filed in one map is filed in another
 abbrev Stays : Filed → Filed → Type 0
-Stays m m' = (q : Entry) (ys : List Spot) → IsFiled m q ys → IsFiled m' q ys
+Stays m m' = (q : FiledPart) (ys : List Spot) → IsFiled m q ys → IsFiled m' q ys
 
 -- and so in each role
 record Grows (index index' : RoleIndex) : Type 0 where
@@ -29,7 +29,7 @@ record Grows (index index' : RoleIndex) : Type 0 where
 same_stays : (m : Filed) → Stays m m
 same_stays m q ys h = h
 
-more_stays : (m : Filed) (e : Entry) (xs : List Spot) (wide : Bool) → Stays m (filed_entry m e xs wide)
+more_stays : (m : Filed) (e : FiledPart) (xs : List Spot) (wide : Bool) → Stays m (filed_entry m e xs wide)
 more_stays m e xs wide q ys h = entry_stays m e q xs ys wide h
 
 grows_same : (index : RoleIndex) → Grows index index
@@ -45,7 +45,7 @@ grows_on a b c g h = record {
 
 -- subjects -----------------------------------------------------------------------------------
 
-grows_subject : (index : RoleIndex) (roles : Roles) (e : Entry) (xs : List Spot) (wide : Bool) → Grows index (with_subject index roles e xs wide)
+grows_subject : (index : RoleIndex) (roles : Roles) (e : FiledPart) (xs : List Spot) (wide : Bool) → Grows index (with_subject index roles e xs wide)
 grows_subject index roles e xs wide = go roles.first roles.second
   where
     go : (a b : Bool) → Grows index (cond a
@@ -57,26 +57,26 @@ grows_subject index roles e xs wide = go roles.first roles.second
     go false false = grows_same index
 
 -- the entry of a subject is filed where its roles say
-pub record IsSubjectFiled (index : RoleIndex) (roles : Roles) (e : Entry) (xs : List Spot) : Type 0 where
+pub record IsSubjectFiled (index : RoleIndex) (roles : Roles) (e : FiledPart) (xs : List Spot) : Type 0 where
   pub both : roles.first ≡ true → roles.second ≡ true → IsFiled index.boths e xs
   pub first : roles.first ≡ true → roles.second ≡ false → IsFiled index.firsts e xs
   pub second : roles.first ≡ false → roles.second ≡ true → IsFiled index.seconds e xs
 
-subject_stays : (index index' : RoleIndex) (roles : Roles) (e : Entry) (xs : List Spot) → Grows index index' → IsSubjectFiled index roles e xs → IsSubjectFiled index' roles e xs
+subject_stays : (index index' : RoleIndex) (roles : Roles) (e : FiledPart) (xs : List Spot) → Grows index index' → IsSubjectFiled index roles e xs → IsSubjectFiled index' roles e xs
 subject_stays index index' roles e xs g h = record {
   both = λ a b. g.boths e xs (h.both a b);
   first = λ a b. g.firsts e xs (h.first a b);
   second = λ a b. g.seconds e xs (h.second a b);
 }
 
-subject_filed : (index : RoleIndex) (roles : Roles) (e : Entry) (xs : List Spot) → IsSubjectFiled (with_subject index roles e (unless_many xs) (are_many xs)) roles e xs
+subject_filed : (index : RoleIndex) (roles : Roles) (e : FiledPart) (xs : List Spot) → IsSubjectFiled (with_subject index roles e (unless_many xs) (are_many xs)) roles e xs
 subject_filed index roles e xs = record {
   both = λ a b. rw (a, b) (entry_filed index.boths e xs);
   first = λ a b. rw (a, b) (entry_filed index.firsts e xs);
   second = λ a b. rw (a, b) (entry_filed index.seconds e xs);
 }
 
-abbrev pub entry : ℕ → ℕ → Entry
+abbrev pub entry : ℕ → ℕ → FiledPart
 entry position part = record { position = position; part = part }
 
 grows_parts : (rules : List Rule) (n : ℕ) (index : RoleIndex) (position : ℕ) (s : Held) (k : ℕ) → Grows index (with_parts rules n index position s k)

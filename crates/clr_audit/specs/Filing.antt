@@ -7,22 +7,22 @@ use Rattle.std.specs.List.{flat_map}
 use Rattle.clr_spots.specs.declared.spots.Spot.{Spot}
 use Rattle.clr_spots.specs.contracts.spots.Spot as spot_type
 use Rattle.clr_spots.specs.SpotOrder.{spot_cmp}
-use Rattle.clr_audit.specs.declared.spot_maps.Entry.{Entry}
+use Rattle.clr_audit.specs.declared.spot_maps.FiledPart.{FiledPart}
 
-abbrev pub coded_entry : Coded Entry
+abbrev pub coded_entry : Coded FiledPart
 coded_entry = code_by (ℕ × ℕ) (coded× coded_ℕ coded_ℕ) (λ e. (e.position, e.part)) (λ p. record { position = p.0; part = p.1 }) (λ _. refl)
 
 abbrev pub EntriesBySpot : Type 0
-EntriesBySpot = finite.FinMap spot_cmp (List Entry)
+EntriesBySpot = finite.FinMap spot_cmp (List FiledPart)
 
 -- the entries of each spot, those of wide rows, and all, in the order in which they are filed
 pub record Filed : Type 0 where
   pub by_spot : EntriesBySpot
-  pub wide : List Entry
-  pub all : List Entry
+  pub wide : List FiledPart
+  pub all : List FiledPart
 
 abbrev pub coded_filed : Coded Filed
-coded_filed = code_by (EntriesBySpot × (List Entry × List Entry))
+coded_filed = code_by (EntriesBySpot × (List FiledPart × List FiledPart))
     (coded× (finite.code spot_type.the_row.coded (coded_list coded_entry)) (coded× (coded_list coded_entry) (coded_list coded_entry)))
     (λ i. (i.by_spot, (i.wide, i.all)))
     (λ p. record { by_spot = p.0; wide = p.1.0; all = p.1.1 })
@@ -31,19 +31,19 @@ coded_filed = code_by (EntriesBySpot × (List Entry × List Entry))
 abbrev pub no_entries : Filed
 no_entries = record { by_spot = finite.empty; wide = []; all = [] }
 
-abbrev pub entries_at : EntriesBySpot → Spot → List Entry
+abbrev pub entries_at : EntriesBySpot → Spot → List FiledPart
 entries_at by_spot x = unwrap_or (finite.get by_spot x) []
 
-abbrev pub filed_at : EntriesBySpot → Spot → Entry → EntriesBySpot
+abbrev pub filed_at : EntriesBySpot → Spot → FiledPart → EntriesBySpot
 filed_at by_spot x e = finite.insert by_spot x (entries_at by_spot x ++ e ∷ [])
 
 -- an entry filed at each of some spots
-abbrev pub filed_at_all : EntriesBySpot → List Spot → Entry → EntriesBySpot
+abbrev pub filed_at_all : EntriesBySpot → List Spot → FiledPart → EntriesBySpot
 filed_at_all by_spot [] e = by_spot
 filed_at_all by_spot (x ∷ xs) e = filed_at_all (filed_at by_spot x e) xs e
 
 -- the entry of a row of these spots, wide or not
-abbrev pub filed_entry : Filed → Entry → List Spot → Bool → Filed
+abbrev pub filed_entry : Filed → FiledPart → List Spot → Bool → Filed
 filed_entry m e xs wide = record {
   by_spot = filed_at_all m.by_spot xs e;
   wide = if wide then m.wide ++ e ∷ [] else m.wide;
@@ -51,9 +51,9 @@ filed_entry m e xs wide = record {
 }
 
 -- the entries that may stand in a need with a row of these spots, wide or not
-abbrev pub near : Filed → List Spot → Bool → List Entry
+abbrev pub near : Filed → List Spot → Bool → List FiledPart
 near m xs wide = if wide then m.all else m.wide ++ flat_map (entries_at m.by_spot) xs
 
 -- one more entry at a spot, and the others as before
-abbrev pub HasMore : Spot → Entry → (Spot → Option (List Entry)) → (Spot → Option (List Entry)) → Type 0
+abbrev pub HasMore : Spot → FiledPart → (Spot → Option (List FiledPart)) → (Spot → Option (List FiledPart)) → Type 0
 HasMore x e before after = (y : Spot) → after y ≡ (if is_at (spot_cmp x) y then Some (unwrap_or (before x) [] ++ e ∷ []) else before y)

@@ -9,14 +9,14 @@ use Rattle.clr_spots.specs.RoleSpots.{subject_spots_under, server_spots_under}
 use Rattle.clr_rows.specs.Held.{Held}
 use Rattle.clr_spots.specs.Spots.{unless_many, are_many}
 use Rattle.clr_audit.specs.declared.role_index.RoleIndex.{RoleIndex}
-use Rattle.clr_audit.specs.declared.spot_maps.Entry.{Entry}
+use Rattle.clr_audit.specs.declared.spot_maps.FiledPart.{FiledPart}
 use Rattle.clr_audit.specs.Filing.{no_entries, filed_entry, near}
 
 abbrev pub no_rows_filed : RoleIndex
 no_rows_filed = record { firsts = no_entries; seconds = no_entries; boths = no_entries; servers = no_entries }
 
 -- an entry of one of two subjects, filed by which of them it may be
-abbrev pub with_subject : RoleIndex → Roles → Entry → List Spot → Bool → RoleIndex
+abbrev pub with_subject : RoleIndex → Roles → FiledPart → List Spot → Bool → RoleIndex
 with_subject index roles e xs wide =
     if roles.first
     then (if roles.second then record index { boths = filed_entry index.boths e xs wide } else record index { firsts = filed_entry index.firsts e xs wide })
@@ -52,7 +52,7 @@ filed_rows rules n index position [] = index
 filed_rows rules n index position (s ∷ rows) = filed_rows rules n (with_row rules n index position s) (suc position) rows
 
 -- the entries of the subjects that may stand beside a row of these roles and spots
-abbrev pub partners : RoleIndex → Roles → List Spot → Bool → List Entry
+abbrev pub partners : RoleIndex → Roles → List Spot → Bool → List FiledPart
 partners index roles xs wide =
     near index.boths xs wide
     ++ ((if roles.second then near index.firsts xs wide else []) ++ (if roles.first then near index.seconds xs wide else []))

@@ -11,7 +11,7 @@ use Rattle.clr_spots.specs.declared.spots.Spots.{Spots}
 use Rattle.clr_rules.specs.Calls.{ask_of_parts, calls, serves}
 use Rattle.clr_rules.specs.Needs.{ask_of, broken_at, is_after}
 use Rattle.clr_audit.specs.declared.searching.Search.{Search}
-use Rattle.clr_audit.specs.declared.spot_maps.Entry.{Entry}
+use Rattle.clr_audit.specs.declared.spot_maps.FiledPart.{FiledPart}
 use Rattle.clr_audit.specs.Filing.{entries_at, near}
 use Rattle.clr_audit.specs.RoleFiling.{filed_rows, no_rows_filed}
 
@@ -20,7 +20,7 @@ serves_if rules ask s t None = false
 serves_if rules ask s t (Some r) = serves rules ask s t r
 
 -- the row of an entry serves these subjects
-abbrev pub serves_at : List Rule → Ask → List Held → Held → Option Held → Entry → Bool
+abbrev pub serves_at : List Rule → Ask → List Held → Held → Option Held → FiledPart → Bool
 serves_at rules ask rows s t e = serves_if rules ask s t (slice_get rows e.position)
 
 -- the rows of a search
@@ -32,15 +32,15 @@ abbrev pub AreRowsFiled : Search → Type 0
 AreRowsFiled search = search.index.now ≡ filed_rows search.book.now search.rule no_rows_filed 0 (rows_of search)
 
 -- one of some entries is of a row that serves these subjects
-abbrev pub serves_among : Search → Ask → Held → Option Held → List Entry → Bool
+abbrev pub serves_among : Search → Ask → Held → Option Held → List FiledPart → Bool
 serves_among search ask s t entries = list_any (serves_at search.book.now ask (rows_of search) s t) entries
 
 -- the servers of some spots
-abbrev pub servers_at_spots : Search → List Spot → List Entry
+abbrev pub servers_at_spots : Search → List Spot → List FiledPart
 servers_at_spots search spots = flat_map (entries_at search.index.now.servers.by_spot) spots
 
 -- the servers that may serve a row of these spots
-abbrev pub servers_near : Search → Spots → List Entry
+abbrev pub servers_near : Search → Spots → List FiledPart
 servers_near search spots = near search.index.now.servers spots.list spots.wide
 
 -- the need, where its subjects call and no server near these spots serves them
@@ -55,7 +55,7 @@ need_with search spots ask s None = []
 need_with search spots ask s (Some t) = if is_after s t then need_if_broken search spots ask s (Some t) else []
 
 -- the need of a part of a row with the part and the row of an entry, if it comes after the first one
-abbrev pub need_beside : Search → Spots → Held → ℕ → Entry → List Broken
+abbrev pub need_beside : Search → Spots → Held → ℕ → FiledPart → List Broken
 need_beside search spots s part e = need_with search spots (ask_of_parts search.rule part e.part) s (slice_get (map held_of search.rows.now) e.position)
 
 -- a second subject is one of the rows too, at a greater cell

@@ -5,7 +5,7 @@ ghost use Rattle.clr_rows.specs.Held.{held_of};
 ghost use Rattle.clr_rules.specs.Books.{FitTogether};
 ghost use Rattle.clr_audit.specs.RoleFiling.{no_rows_filed, with_subject, with_pairs, with_server, filed_rows, partners};
 
-use crate::spot_maps::{Entry, SpotMap};
+use crate::spot_maps::{FiledPart, SpotMap};
 use clr_rows::Held;
 use clr_rules::{Roles, RuleBook};
 use clr_spots::{Spots, server_spots, subject_spots};
@@ -36,7 +36,7 @@ impl RoleIndex {
         &mut self,
         alloc: Global,
         roles: Roles,
-        entry: Entry,
+        entry: FiledPart,
         spots: Spots,
     ) -> Result<(), AllocError>
         ensures { OnOk result (self.new ≡ with_subject self.old roles entry spots.list spots.wide) }
@@ -67,7 +67,7 @@ impl RoleIndex {
             return Ok(());
         }
         for part in 0..book.part_count(rule, held) {
-            let entry = Entry {
+            let entry = FiledPart {
                 position,
                 part: part + 1,
             };
@@ -93,7 +93,7 @@ impl RoleIndex {
         if book.roles_of(rule, held).server {
             let spots = server_spots(alloc, book, rule, held)?;
             self.servers
-                .file(alloc, Entry { position, part: 1 }, spots)?;
+                .file(alloc, FiledPart { position, part: 1 }, spots)?;
         }
         Ok(())
     }
@@ -124,7 +124,7 @@ impl RoleIndex {
         &self,
         roles: Roles,
         spots: &Spots,
-        list: &mut Vec<Entry>,
+        list: &mut Vec<FiledPart>,
     ) -> Result<(), AllocError>
         ensures { OnOk result (list.new.items ≡ list.old.items ++ partners self.now roles spots.now.list spots.now.wide) }
     {

@@ -13,13 +13,13 @@ ghost use Rattle.clr_audit.specs.Searches.{need_if_broken, need_beside, rows_of,
 
 use crate::role_index::RoleIndex;
 use crate::sorting::sort_and_dedup;
-use crate::spot_maps::Entry;
+use crate::spot_maps::FiledPart;
 use clr_rows::Held;
 use clr_rules::{Ask, Broken, Roles, RuleBook};
 use clr_spots::{Spot, Spots, subject_spots};
 use std::alloc::{AllocError, Global};
 
-fn held_at<'a, 'b>(rows: &'a [Held<'b>], position: usize) -> Option<&'a Held<'b>>
+fn row_by_position<'a, 'b>(rows: &'a [Held<'b>], position: usize) -> Option<&'a Held<'b>>
     ensures { option_map (λ h. h.now) result ≡ slice_get rows.now position }
 {
     rows.get(position)
@@ -38,11 +38,11 @@ impl<'a> Search<'a> {
     fn row_at(&self, position: usize) -> Option<Held<'a>>
         ensures { option_map held_of result ≡ slice_get (rows_of self.now) position }
     {
-        held_at(self.rows, position).copied()
+        row_by_position(self.rows, position).copied()
     }
 
     /// Whether the row of an entry serves these subjects.
-    fn serves_at(&self, ask: Ask, first: Held, second: Option<Held>, entry: Entry) -> bool
+    fn serves_at(&self, ask: Ask, first: Held, second: Option<Held>, entry: FiledPart) -> bool
         requires number { ask.rule < length self.now.book.now }
         requires fit { FitTogether self.now.book.now (held_of first ∷ (option_to_list (option_map held_of second) ++ rows_of self.now)) }
         ensures { result ≡ serves_at self.now.book.now ask (rows_of self.now) (held_of first.entry) (option_map held_of second.entry) entry }
@@ -53,7 +53,13 @@ impl<'a> Search<'a> {
         }
     }
 
-    fn serves_among(&self, ask: Ask, first: Held, second: Option<Held>, entries: &[Entry]) -> bool
+    fn serves_among(
+        &self,
+        ask: Ask,
+        first: Held,
+        second: Option<Held>,
+        entries: &[FiledPart],
+    ) -> bool
         requires number { ask.rule < length self.now.book.now }
         requires fit { FitTogether self.now.book.now (held_of first ∷ (option_to_list (option_map held_of second) ++ rows_of self.now)) }
         ensures { result ≡ serves_among self.now ask (held_of first.entry) (option_map held_of second.entry) entries.now }
@@ -137,7 +143,7 @@ impl<'a> Search<'a> {
         first: Held,
         part: u16,
         spots: &Spots,
-        entry: Entry,
+        entry: FiledPart,
         list: &mut Vec<Broken>,
     ) -> Result<(), AllocError>
         requires number { self.now.rule < length self.now.book.now }
@@ -162,7 +168,7 @@ impl<'a> Search<'a> {
         first: Held,
         part: u16,
         spots: &Spots,
-        entries: &[Entry],
+        entries: &[FiledPart],
         list: &mut Vec<Broken>,
     ) -> Result<(), AllocError>
         requires number { self.now.rule < length self.now.book.now }

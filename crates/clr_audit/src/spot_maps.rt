@@ -12,7 +12,7 @@ use std::marker::Model;
 
 /// A row by its position in a list, and a part of it.
 #[derive(Clone, Copy, Debug, PartialEq, Eq, PartialOrd, Ord)]
-pub(crate) struct Entry {
+pub(crate) struct FiledPart {
     pub position: usize,
     pub part: u16,
 }
@@ -20,14 +20,14 @@ pub(crate) struct Entry {
 /// The entries of one spot, in the order in which they are filed.
 #[derive(Drop)]
 struct EntryList {
-    list: Vec<Entry>,
+    list: Vec<FiledPart>,
 }
 
 impl Model for EntryList {
     ghost use Rattle.std.specs.Prelude.{List};
-    ghost use Rattle.clr_audit.specs.declared.spot_maps.Entry.{Entry as OneEntry};
+    ghost use Rattle.clr_audit.specs.declared.spot_maps.FiledPart.{FiledPart as OnePart};
 
-    ghost Value = { List OneEntry };
+    ghost Value = { List OnePart };
 
     ghost view = { λ a. a.list.items };
 }
@@ -41,14 +41,14 @@ impl EntryList {
         }
     }
 
-    fn push(&mut self, entry: Entry) -> Result<(), AllocError>
+    fn push(&mut self, entry: FiledPart) -> Result<(), AllocError>
         ensures { OnOk result (self.new ≡ self.old ++ entry ∷ []) }
     {
         self.list.push(entry)?;
         Ok(())
     }
 
-    fn as_slice(&self) -> &[Entry]
+    fn as_slice(&self) -> &[FiledPart]
         ensures { result.now ≡ self.now }
     {
         self.list.as_slice()
@@ -59,7 +59,7 @@ impl EntryList {
 fn push_at(
     by_spot: &mut BTreeMap<Spot, EntryList>,
     spot: &Spot,
-    entry: Entry,
+    entry: FiledPart,
 ) -> Result<(), AllocError>
     requires { IsSome (get spot_cmp by_spot.old spot.now) }
     ensures { OnOk result (HasMore spot.now entry (get spot_cmp by_spot.old) (get spot_cmp by_spot.new)) }
@@ -74,8 +74,8 @@ fn push_at(
 #[derive(Drop)]
 pub(crate) struct SpotMap {
     by_spot: BTreeMap<Spot, EntryList>,
-    wide: Vec<Entry>,
-    all: Vec<Entry>,
+    wide: Vec<FiledPart>,
+    all: Vec<FiledPart>,
 }
 
 impl Model for SpotMap {
@@ -101,7 +101,7 @@ impl SpotMap {
         }
     }
 
-    fn file_at(&mut self, alloc: Global, spot: Spot, entry: Entry) -> Result<(), AllocError>
+    fn file_at(&mut self, alloc: Global, spot: Spot, entry: FiledPart) -> Result<(), AllocError>
         ensures { OnOk result (self.new ≡ record self.old { by_spot = filed_at self.old.by_spot spot entry }) }
     {
         if self.by_spot.contains_key(&spot) {
@@ -119,7 +119,7 @@ impl SpotMap {
     pub(crate) fn file(
         &mut self,
         alloc: Global,
-        entry: Entry,
+        entry: FiledPart,
         spots: Spots,
     ) -> Result<(), AllocError>
         ensures { OnOk result (self.new ≡ filed_entry self.old entry spots.list spots.wide) }
@@ -135,7 +135,7 @@ impl SpotMap {
     }
 
     /// The entries of a spot.
-    pub(crate) fn entries_at(&self, spot: &Spot) -> &[Entry]
+    pub(crate) fn entries_at(&self, spot: &Spot) -> &[FiledPart]
         ensures { result.now ≡ entries_at self.now.by_spot spot.now }
     {
         match self.by_spot.get(spot) {
@@ -145,14 +145,14 @@ impl SpotMap {
     }
 
     /// The entries of wide rows.
-    pub(crate) fn wide(&self) -> &[Entry]
+    pub(crate) fn wide(&self) -> &[FiledPart]
         ensures { result.now ≡ self.now.wide }
     {
         self.wide.as_slice()
     }
 
     /// All entries.
-    pub(crate) fn all(&self) -> &[Entry]
+    pub(crate) fn all(&self) -> &[FiledPart]
         ensures { result.now ≡ self.now.all }
     {
         self.all.as_slice()
@@ -160,7 +160,11 @@ impl SpotMap {
 
     /// Adds the entries that may stand in a need with a row of these spots: all where it is wide,
     /// and else those of its spots and the wide ones. It fails for want of memory alone.
-    pub(crate) fn add_near(&self, spots: &Spots, list: &mut Vec<Entry>) -> Result<(), AllocError>
+    pub(crate) fn add_near(
+        &self,
+        spots: &Spots,
+        list: &mut Vec<FiledPart>,
+    ) -> Result<(), AllocError>
         ensures { OnOk result (list.new.items ≡ list.old.items ++ near self.now spots.now.list spots.now.wide) }
     {
         if spots.wide {

@@ -6,12 +6,12 @@ use Rattle.std.proofs.lemmas.Slice.Eq.{bytes_eq-Decides}
 use Rattle.std.proofs.lemmas.Str.Ascii.{IsAscii-nil}
 use Rattle.csv.specs.Records.{field_at}
 use Rattle.clr_rows.specs.declared.tables.TableDef.{TableDef}
-use Rattle.clr_rows.specs.Names.{is_good_name}
+use Rattle.clr_rows.specs.Names.{is_good_name, live_name}
 use Rattle.clr_records.proofs.RecordsAgain.{IsPlain, records_again}
 use Rattle.clr_cert.specs.declared.certificates.Certificate.{Certificate}
-use Rattle.clr_cert.specs.declared.entries.Entry.{Entry}
+use Rattle.clr_cert.specs.declared.certificates.Entry.{Entry}
 use Rattle.clr_cert.specs.declared.items.Item.TheVariants.{Root, Member, Need}
-use Rattle.clr_cert.specs.Certificates.{certificate_from, certificate_in, certificate_of, is_live, item_of, live_name}
+use Rattle.clr_cert.specs.Certificates.{certificate_from, certificate_in, certificate_of, is_live, item_of}
 use Rattle.clr_cert.specs.Texts.{IsReadBack, certificate_records, certificate_text, entry_fields, member_fields, name_fields, root_records}
 use Rattle.clr_cert.proofs.EntryAgain.{name_ascii}
 

@@ -18,14 +18,14 @@ use Rattle.clr_rows.specs.declared.cells.CellId.{CellId}
 use Rattle.clr_rows.specs.declared.tables.TableDef.{TableDef}
 use Rattle.clr_rows.specs.Names.{is_good_name, is_name_byte}
 use Rattle.clr_rows.specs.Numbers.{is_i64}
-use Rattle.clr_rows.specs.Schemas.{cell_fault, schema_fault, table_named}
+use Rattle.clr_rows.specs.Schemas.{cell_fault, schema_fault, table_named, name_of_table}
 use Rattle.clr_rows.proofs.SchemaLemmas.{cell_parts, good_table_name, key_of, table_of_name}
 use Rattle.clr_foot.specs.declared.needs.VersionId.{VersionId}
 use Rattle.clr_records.specs.Decimals.{number_of}
 use Rattle.clr_records.proofs.Decimals.{number_again}
-use Rattle.clr_cert.specs.declared.entries.Entry.{Entry}
+use Rattle.clr_cert.specs.declared.certificates.Entry.{Entry}
 use Rattle.clr_cert.specs.declared.limits.TheConstants.{GREATEST_PART}
-use Rattle.clr_cert.specs.Texts.{IsNamed, IsWellFormedEntry, IsPart, IsReadBack, entry_fields, fresh_word, name_of_table, part_text, second_text, subject_text, two_text, version_text}
+use Rattle.clr_cert.specs.Texts.{IsNamed, IsWellFormedEntry, IsPart, IsReadBack, entry_fields, fresh_word, part_text, second_text, subject_text, two_text, version_text}
 use Rattle.clr_cert.specs.Versions.{cell_and_rest, cut_of, entry_of, fresh_of, is_slash, second_of, subject_of, two_of, version_of, word_and_part}
 
 -- texts without `/` ------------------------------------------------------------------------------

@@ -8,7 +8,7 @@ use Rattle.csv.specs.Records.{Row, fields_of}
 use Rattle.clr_rows.specs.declared.tables.TableDef.{TableDef}
 use Rattle.clr_records.specs.Records.{◌>>=◌, at_record, field_of, or_fault}
 use Rattle.clr_cert.specs.declared.certificates.Certificate.{Certificate}
-use Rattle.clr_cert.specs.declared.entries.Entry.{Entry}
+use Rattle.clr_cert.specs.declared.certificates.Entry.{Entry}
 use Rattle.clr_cert.specs.declared.faults.CertFault.{CertFault}
 use Rattle.clr_cert.specs.declared.faults.CertFault.TheVariants as fault
 use Rattle.clr_cert.specs.declared.items.Item.{Item}

@@ -9,19 +9,19 @@ use Rattle.std.proofs.lemmas.Option.{same_Some}
 use Rattle.clr_rows.specs.declared.cells.CellId.{CellId}
 use Rattle.clr_rows.specs.declared.faults.RowFault.{RowFault}
 use Rattle.clr_rows.specs.declared.tables.TableDef.{TableDef}
-use Rattle.clr_rows.specs.Names.{is_good_name}
+use Rattle.clr_rows.specs.Names.{is_good_name, live_name}
 use Rattle.clr_rows.specs.Schemas.{cell_fault, table_named}
 use Rattle.clr_foot.specs.declared.needs.VersionId.{VersionId}
 use Rattle.clr_records.specs.Decimals.{number_of}
 use Rattle.clr_records.specs.Records.{◌>>=◌, at_record, field_of, or_fault}
 use Rattle.clr_cert.specs.declared.certificates.Certificate.{Certificate}
-use Rattle.clr_cert.specs.declared.entries.Entry.{Entry}
+use Rattle.clr_cert.specs.declared.certificates.Entry.{Entry}
 use Rattle.clr_cert.specs.declared.faults.CertFault.{CertFault}
 use Rattle.clr_cert.specs.declared.faults.CertFault.TheVariants as fault
 use Rattle.clr_cert.specs.declared.items.Item.{Item}
 use Rattle.clr_cert.specs.declared.items.Item.TheVariants.{Root, Member, Need}
 use Rattle.clr_cert.specs.declared.limits.TheConstants.{GREATEST_PART}
-use Rattle.clr_cert.specs.Certificates.{certificate_from, certificate_of, is_live, is_root, item_of, live_name, name_of, nothing_said, root_of, with_item}
+use Rattle.clr_cert.specs.Certificates.{certificate_from, certificate_of, is_live, is_root, item_of, name_of, nothing_said, root_of, with_item}
 use Rattle.clr_cert.specs.Texts.{IsNamed, IsWellFormed, IsWellFormedEntry, IsPart}
 use Rattle.clr_cert.specs.Versions.{cell_and_rest, cut_of, entry_of, fresh_of, if_named, is_empty, part_behind, part_of, rule_of, second_of, subject_of, two_of, version_of, word_and_part}
 

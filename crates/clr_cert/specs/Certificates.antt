@@ -4,17 +4,15 @@ use Rattle.std.specs.Prelude.{Bool, true, false, Option, Some, None, option_map,
 use Rattle.std.specs.Str.{bytes_eq}
 use Rattle.clr_rows.specs.declared.tables.TableDef.{TableDef}
 use Rattle.clr_rows.specs.Names.{is_good_name}
+use Rattle.clr_rows.specs.Names.{live_name}
 use Rattle.clr_records.specs.Records.{◌>>=◌, at_record, field_of, or_fault, records_in}
 use Rattle.clr_cert.specs.declared.certificates.Certificate.{Certificate}
 use Rattle.clr_cert.specs.declared.faults.CertFault.{CertFault}
 use Rattle.clr_cert.specs.declared.faults.CertFault.TheVariants.{NotCsv, FieldCount, BadKind, BadReference}
-use Rattle.clr_cert.specs.declared.limits.TheConstants.{LIVE, RECORD_FIELDS}
+use Rattle.clr_cert.specs.declared.limits.TheConstants.{RECORD_FIELDS}
 use Rattle.clr_cert.specs.declared.items.Item.{Item}
 use Rattle.clr_cert.specs.declared.items.Item.TheVariants.{Root, Member, Need}
 use Rattle.clr_cert.specs.Versions.{entry_of, is_empty}
-
-abbrev pub live_name : List ℕ
-live_name = LIVE.now
 
 abbrev pub is_live : List ℕ → Bool
 is_live name = bytes_eq name live_name

@@ -10,17 +10,13 @@ use Rattle.csv.specs.Writing.{default_writer, fields_written, has_written, row_t
 use Rattle.csv.specs.declared.writer.Writer.{Writer}
 use Rattle.clr_rows.specs.declared.tables.TableDef.{TableDef}
 use Rattle.clr_rows.specs.Names.{is_good_name}
-use Rattle.clr_rows.specs.Schemas.{cell_fault}
+use Rattle.clr_rows.specs.Schemas.{cell_fault, name_of_table}
 use Rattle.clr_foot.specs.declared.needs.VersionId.{VersionId}
 use Rattle.clr_cert.specs.declared.certificates.Certificate.{Certificate}
-use Rattle.clr_cert.specs.declared.entries.Entry.{Entry}
+use Rattle.clr_cert.specs.declared.certificates.Entry.{Entry}
 use Rattle.clr_cert.specs.declared.limits.TheConstants.{GREATEST_PART}
 use Rattle.clr_cert.specs.Certificates.{is_live}
 use Rattle.clr_cert.specs.Versions.{entry_of, slash}
-
--- a table's name, or no bytes where there is no such table
-abbrev pub name_of_table : List TableDef → ℕ → List ℕ
-name_of_table tables n = unwrap_or (option_map (λ table. table.name) (slice_get tables n)) []
 
 abbrev pub fresh_word : Bool → List ℕ
 fresh_word false = codes "old"

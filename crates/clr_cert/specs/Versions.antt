@@ -10,7 +10,7 @@ use Rattle.clr_rows.specs.Schemas.{cell_fault, table_named}
 use Rattle.clr_foot.specs.declared.needs.VersionId.{VersionId}
 use Rattle.clr_records.specs.Decimals.{number_of}
 use Rattle.clr_records.specs.Records.{field_of}
-use Rattle.clr_cert.specs.declared.entries.Entry.{Entry}
+use Rattle.clr_cert.specs.declared.certificates.Entry.{Entry}
 use Rattle.clr_cert.specs.declared.limits.TheConstants.{GREATEST_PART}
 
 infixl 10 ◌>>=◌

@@ -1,6 +1,62 @@
-use crate::entries::Entries;
-use crate::names::Names;
-use clr_rows::Words;
+ghost use Rattle.std.specs.Prelude.{◌≡◌, ◌++◌, ◌∷◌, [], OnOk};
+
+use clr_foot::{Need, VersionId};
+use clr_rows::{Names, Words};
+use std::alloc::AllocFailed;
+use std::marker::Model;
+
+/// A need, and the witnesses that cover it: one version that serves it alone, or two of which one
+/// stands before a member's change and one after it.
+#[derive(Clone, Copy, Debug, PartialEq, Eq)]
+pub struct Entry {
+    pub need: Need,
+    pub one: VersionId,
+    pub two: Option<VersionId>,
+}
+
+/// Entries of a certificate, in any order.
+#[derive(Debug, Drop)]
+pub struct Entries {
+    list: Vec<Entry>,
+}
+
+impl Model for Entries {
+    ghost use Rattle.std.specs.Prelude.{List};
+    ghost use Rattle.clr_cert.specs.declared.certificates.Entry.{Entry as OneEntry};
+
+    ghost Value = { List OneEntry };
+
+    ghost view = { λ a. a.list.items };
+}
+
+impl Entries {
+    /// The entries of this list.
+    pub fn new(list: Vec<Entry>) -> Entries
+        ensures { result ≡ list.items }
+    {
+        Entries { list }
+    }
+
+    /// The entries as a slice.
+    pub fn as_slice(&self) -> &[Entry]
+        ensures { result.now ≡ self.now }
+    {
+        self.list.as_slice()
+    }
+
+    /// The list back again.
+    pub fn into_vec(self) -> Vec<Entry>
+        ensures { result.items ≡ self }
+    {
+        self.list
+    }
+
+    pub(crate) fn push(&mut self, entry: Entry) -> Result<(), AllocFailed<Entry>>
+        ensures { OnOk result (self.new ≡ self.old ++ entry ∷ []) }
+    {
+        self.list.push(entry)
+    }
+}
 
 /// What somebody claims of a set of members: that they are children of the root, which is LIVE or
 /// another kept workspace, and that the entries cover each need that merging them touches. Nothing

@@ -3,12 +3,12 @@ ghost use Rattle.csv.specs.Records.{fields_of};
 ghost use Rattle.clr_cert.specs.Certificates.{is_empty_behind, is_root, item_by_word, item_of, name_of, root_of};
 ghost use Rattle.clr_cert.specs.Faults.{Gives};
 
-use crate::entries::Entry;
+use crate::certificates::Entry;
 use crate::faults::CertFault;
-use crate::limits::{LIVE, RECORD_FIELDS};
+use crate::limits::RECORD_FIELDS;
 use crate::versions::read_entry;
 use clr_records::field;
-use clr_rows::{Schema, Words, good_name};
+use clr_rows::{LIVE, Schema, Words, good_name};
 use csv::StringRecord;
 use std::alloc::{AllocError, Global};
 

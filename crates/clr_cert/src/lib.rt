@@ -3,19 +3,15 @@
 #![tactic(auto)]
 
 mod certificates;
-mod entries;
 mod faults;
 mod items;
 mod limits;
-mod names;
 mod reading;
 mod versions;
 mod writing;
 
-pub use certificates::Certificate;
-pub use entries::{Entries, Entry};
+pub use certificates::{Certificate, Entries, Entry};
 pub use faults::CertFault;
-pub use limits::{GREATEST_PART, LIVE};
-pub use names::Names;
+pub use limits::GREATEST_PART;
 pub use reading::read_certificate;
-pub use writing::write_certificate;
+pub use writing::{add_subject, write_certificate};

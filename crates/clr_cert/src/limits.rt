@@ -3,8 +3,5 @@ use clr_rows::MOST_VERTICES;
 /// The greatest number of a part: that of the last part of a path of the most vertices.
 pub const GREATEST_PART: u16 = MOST_VERTICES as u16 - 1;
 
-/// The name of the root of all workspaces.
-pub const LIVE: &str = "LIVE";
-
 /// How many fields each record of a certificate has.
 pub(crate) const RECORD_FIELDS: usize = 6;

@@ -5,14 +5,11 @@ ghost use Rattle.clr_cert.specs.Faults.{GivesAt};
 ghost use Rattle.clr_cert.specs.Texts.{IsWellFormed};
 ghost use Rattle.clr_cert.specs.declared.faults.CertFault.TheVariants as fault;
 
-use crate::certificates::Certificate;
-use crate::entries::Entries;
+use crate::certificates::{Certificate, Entries};
 use crate::faults::{CertFault, numbered_fault};
 use crate::items::{Item, read_item};
-use crate::limits::LIVE;
-use crate::names::Names;
 use clr_records::records_of;
-use clr_rows::{Schema, Words};
+use clr_rows::{LIVE, Names, Schema, Words};
 use csv::StringRecord;
 use std::alloc::{AllocError, Global};
 
@@ -74,17 +71,13 @@ fn read_records(
 /// of the first record that has one, beside the record's number from 1; in each record the count
 /// of fields is tested first, then the first field, and then the others.
 ///
-/// # Errors
-///
-/// - `NotCsv` at 1: the bytes aren't UTF-8.
-/// - `FieldCount`: a record hasn't six fields.
-/// - `BadKind`: the first field is none of `root`, `member` and `need`.
-/// - `BadReference`: a name that isn't good; a field that must be empty and isn't; a second root
-///   record, or one that names LIVE; a rule that isn't a number from 0 to 65,535; a version of
-///   another form, of a table that the schema hasn't, or of a key outside 1 to
-///   999,999,999,999,999; a part outside 2 to 31, or one behind a witness; a number that isn't
-///   decimal in its one form.
-/// - `OutOfMemory` at 0: no memory was found. It may come in place of any other answer.
+/// Fails with `NotCsv` at 1 where the bytes aren't UTF-8, with `FieldCount` where a record hasn't six
+/// fields, with `BadKind` where the first field is none of `root`, `member` and `need`, and with
+/// `BadReference` where a name isn't good, a field that must be empty isn't, a root record is the
+/// second or names LIVE, a rule isn't a number from 0 to 65,535, a version is of another form, of a
+/// table that the schema hasn't or of a key outside 1 to 999,999,999,999,999, a part is outside 2 to
+/// 31 or stands behind a witness, or a number isn't decimal in its one form. Want of memory is
+/// `OutOfMemory` at 0, which may come in place of any other answer.
 pub fn read_certificate(
     alloc: Global,
     schema: &Schema,

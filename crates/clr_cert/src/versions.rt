@@ -3,7 +3,7 @@ ghost use Rattle.csv.specs.Records.{fields_of};
 ghost use Rattle.clr_cert.specs.Versions.{cell_and_rest, cut_of, entry_of, fresh_of, if_named, part_of};
 ghost use Rattle.clr_cert.specs.Versions.{rule_of, second_of, subject_of, two_of, version_of, word_and_part};
 
-use crate::entries::Entry;
+use crate::certificates::Entry;
 use crate::limits::GREATEST_PART;
 use clr_foot::{Need, VersionId};
 use clr_records::{field, read_number};

@@ -4,33 +4,56 @@ ghost use Rattle.csv.specs.Writing.{default_writer, row_text};
 ghost use Rattle.clr_rows.specs.Schemas.{schema_fault};
 ghost use Rattle.clr_cert.specs.Certificates.{certificate_in};
 ghost use Rattle.clr_cert.specs.Texts.{IsBetween, IsReadBackWhereNamed, IsWellFormed, certificate_text, entry_fields, member_fields, name_fields};
-ghost use Rattle.clr_cert.specs.Texts.{fresh_word, name_of_table, part_text, records_text, root_records};
+ghost use Rattle.clr_cert.specs.Texts.{fresh_word, part_text, records_text, root_records};
 ghost use Rattle.clr_cert.specs.Texts.{second_text, subject_text, text_of, two_text, version_text};
 
-use crate::certificates::Certificate;
-use crate::entries::Entry;
-use crate::limits::LIVE;
+use crate::certificates::{Certificate, Entry};
 use clr_foot::VersionId;
-use clr_rows::{Schema, Words};
+use clr_rows::{LIVE, Schema, Words};
 use csv::{Writer, WriterBuilder};
 use itoa::Buffer;
 use std::alloc::{AllocError, Global};
-
-/// The name of a table, or no bytes where the schema has no such table.
-fn table_name(schema: &Schema, table: u16) -> &str
-    ensures value { result.now ≡ name_of_table schema.now table }
-    ensures sound { schema_fault schema.now ≡ None }
-{
-    match schema.def(table) {
-        Some(table) => table.name.as_str(),
-        None => "",
-    }
-}
 
 fn fresh_text(fresh: bool) -> &'static str
     ensures { result.now ≡ fresh_word fresh }
 {
     if fresh { "new" } else { "old" }
+}
+
+/// Adds a version, as `main/20/new`. It fails for want of memory alone.
+fn add_version(text: &mut Vec<u8>, schema: &Schema, version: VersionId) -> Result<(), AllocError>
+    ensures added { OnOk result (text.new.items ≡ text.old.items ++ version_text schema.now version) }
+    ensures sound { OnOk result (schema_fault schema.now ≡ None) }
+{
+    text.extend_from_slice(schema.name_of_table(version.cell.table).as_bytes())?;
+    text.extend_from_slice(b"/")?;
+    text.extend_from_slice(Buffer::new().format(version.cell.key).as_bytes())?;
+    text.extend_from_slice(b"/")?;
+    text.extend_from_slice(fresh_text(version.fresh).as_bytes())
+}
+
+fn add_part(text: &mut Vec<u8>, part: u16) -> Result<(), AllocError>
+    ensures { OnOk result (text.new.items ≡ text.old.items ++ part_text part) }
+{
+    if part == 1 {
+        return Ok(());
+    }
+    text.extend_from_slice(b"/")?;
+    text.extend_from_slice(Buffer::new().format(part).as_bytes())
+}
+
+/// Adds a subject, as `main/20/old/3`: its version, and its part where that isn't 1. The name of a
+/// table that the schema hasn't is empty. It fails for want of memory alone.
+pub fn add_subject(
+    text: &mut Vec<u8>,
+    schema: &Schema,
+    version: VersionId,
+    part: u16,
+) -> Result<(), AllocError>
+    ensures { OnOk result (text.new.items ≡ text.old.items ++ subject_text schema.now version part) }
+{
+    add_version(text, schema, version)?;
+    add_part(text, part)
 }
 
 /// A version as it is written.
@@ -42,22 +65,9 @@ fn version_in_text(
     ensures value { IfOk result (λ text. text.items ≡ version_text schema.now version) }
     ensures sound { OnOk result (schema_fault schema.now ≡ None) }
 {
-    let mut text = Vec::from_slice(alloc, table_name(schema, version.cell.table).as_bytes())?;
-    text.extend_from_slice(b"/")?;
-    text.extend_from_slice(Buffer::new().format(version.cell.key).as_bytes())?;
-    text.extend_from_slice(b"/")?;
-    text.extend_from_slice(fresh_text(version.fresh).as_bytes())?;
+    let mut text = Vec::new(alloc);
+    add_version(&mut text, schema, version)?;
     Ok(text)
-}
-
-fn add_part(text: &mut Vec<u8>, part: u16) -> Result<(), AllocError>
-    ensures { OnOk result (text.new.items ≡ text.old.items ++ part_text part) }
-{
-    if part != 1 {
-        text.extend_from_slice(b"/")?;
-        text.extend_from_slice(Buffer::new().format(part).as_bytes())?;
-    }
-    Ok(())
 }
 
 /// A subject as it is written.
@@ -69,8 +79,8 @@ fn subject_in_text(
 ) -> Result<Vec<u8>, AllocError>
     ensures { IfOk result (λ text. text.items ≡ subject_text schema.now version part) }
 {
-    let mut text = version_in_text(alloc, schema, version)?;
-    add_part(&mut text, part)?;
+    let mut text = Vec::new(alloc);
+    add_subject(&mut text, schema, version, part)?;
     Ok(text)
 }
 

@@ -13,7 +13,7 @@ use std::alloc::Global;
 const MOST_MEMBERS: usize = 10;
 
 /// The line of what is said of a certificate.
-fn checked(alloc: Global, office: &Office, text: &str) -> Option<Vec<u8>> {
+fn check_line(alloc: Global, office: &Office, text: &str) -> Option<Vec<u8>> {
     let certificate = certificate_of(alloc, office.schema(), text)?;
     let verdict = check(alloc, office, &certificate);
     line_of(alloc, office.schema(), &certificate, &verdict)
@@ -85,7 +85,7 @@ fn blocked_lines(
 }
 
 /// What is planned for members of a root.
-fn planned(
+fn plan_of(
     alloc: Global,
     office: &Office,
     root: &str,
@@ -124,7 +124,12 @@ pub(crate) fn run_under(
 }
 
 /// The same, and the rows of the root after them.
-fn performed(alloc: Global, office: &mut Office, text: &str, commands: &str) -> Option<Vec<u8>> {
+fn run_with_rows(
+    alloc: Global,
+    office: &mut Office,
+    text: &str,
+    commands: &str,
+) -> Option<Vec<u8>> {
     let certificate = certificate_of(alloc, office.schema(), text)?;
     let mut lines = run_under(alloc, office, &certificate, commands)?;
     let rows = rows_of(alloc, office, certificate.root.as_str())?;
@@ -140,7 +145,7 @@ fn read_line(alloc: Global, office: &Office, text: &str) -> Option<Vec<u8>> {
 }
 
 /// The text of a certificate that is read and written again.
-fn rewritten(alloc: Global, office: &Office, text: &str) -> Option<Vec<u8>> {
+fn write_again(alloc: Global, office: &Office, text: &str) -> Option<Vec<u8>> {
     let certificate = read_certificate(alloc, office.schema(), text.as_bytes()).ok()?;
     write_certificate(alloc, office.schema(), &certificate).ok()
 }
@@ -178,7 +183,7 @@ fn refused_line(
 }
 
 /// `cleared` where W1 and W2, and W3 too if the text names it, are cleared and clear, `refused` where they are blocked and it is so.
-fn judged(alloc: Global, office: &mut Office, text: &str) -> Option<Vec<u8>> {
+fn judge(alloc: Global, office: &mut Office, text: &str) -> Option<Vec<u8>> {
     let members: &[&str] = if text == "W1 W2\n" {
         &["W1", "W2"]
     } else {
@@ -202,14 +207,14 @@ fn rows_after(alloc: Global, office: &mut Office, script: &str) -> Option<Vec<u8
 }
 
 /// The lines of the replies to commands.
-fn replied(alloc: Global, office: &mut Office, script: &str) -> Option<Vec<u8>> {
+fn replies_to(alloc: Global, office: &mut Office, script: &str) -> Option<Vec<u8>> {
     let commands = commands_of(alloc, office.schema(), script)?;
     let replies = office.perform_all(commands.as_slice()).ok()?;
     reply_lines(alloc, office.schema(), replies.as_slice())
 }
 
 /// What is planned for a root and members, whose names stand in a line.
-fn planned_for(alloc: Global, office: &Office, names: &str, text: &str) -> Option<Vec<u8>> {
+fn plan_for(alloc: Global, office: &Office, names: &str, text: &str) -> Option<Vec<u8>> {
     let (root, mut rest) = match names.split_once(" ") {
         Some(parts) => parts,
         None => (names, ""),
@@ -227,7 +232,7 @@ fn planned_for(alloc: Global, office: &Office, names: &str, text: &str) -> Optio
     if !rest.is_empty() {
         members.push(rest).ok()?;
     }
-    planned(alloc, office, root, members.as_slice(), text)
+    plan_of(alloc, office, root, members.as_slice(), text)
 }
 
 /// What is answered: the first line is a word, with names behind it for `plan`, and the rest is the
@@ -235,19 +240,19 @@ fn planned_for(alloc: Global, office: &Office, names: &str, text: &str) -> Optio
 pub(crate) fn answer(alloc: Global, office: &mut Office, asked: &str) -> Option<Vec<u8>> {
     let (word, text) = asked.split_once("\n")?;
     match word {
-        "check" => checked(alloc, office, text),
+        "check" => check_line(alloc, office, text),
         "read" => read_line(alloc, office, text),
-        "write" => rewritten(alloc, office, text),
+        "write" => write_again(alloc, office, text),
         "rows" => rows_after(alloc, office, text),
-        "give" => replied(alloc, office, text),
-        "judge" => judged(alloc, office, text),
+        "give" => replies_to(alloc, office, text),
+        "judge" => judge(alloc, office, text),
         "run" => {
             let (certificate, commands) = text.split_once("--\n")?;
-            performed(alloc, office, certificate, commands)
+            run_with_rows(alloc, office, certificate, commands)
         }
         _ => {
             let (_, names) = word.split_once(" ")?;
-            planned_for(alloc, office, names, text)
+            plan_for(alloc, office, names, text)
         }
     }
 }

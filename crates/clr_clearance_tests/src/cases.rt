@@ -4,18 +4,18 @@
 //! script.
 
 use crate::networks::network;
-use crate::offices::answered;
+use crate::offices::answer_in;
 use std::alloc::Global;
 
 /// More cases than a text has.
 const MOST: usize = 100;
 
 /// What is answered in a network after a script, or in an office.
-fn answered_in(alloc: Global, setting: &str, asked: &str) -> Option<(bool, Vec<u8>)> {
+fn answer_case(alloc: Global, setting: &str, asked: &str) -> Option<(bool, Vec<u8>)> {
     let (name, rest) = setting.split_once("\n")?;
     match network(name) {
-        Some(text) => answered(alloc, text, rest, asked),
-        None => answered(alloc, rest, "", asked),
+        Some(text) => answer_in(alloc, text, rest, asked),
+        None => answer_in(alloc, rest, "", asked),
     }
 }
 
@@ -27,7 +27,7 @@ fn is_so(alloc: Global, case: &str) -> bool {
     let Some((asked, lines)) = rest.split_once("----\n") else {
         return false;
     };
-    match answered_in(alloc, setting, asked) {
+    match answer_case(alloc, setting, asked) {
         Some((true, answered)) => answered.as_slice() == lines.as_bytes(),
         _ => false,
     }

@@ -1,7 +1,7 @@
 //! Offices that dice make, with members whose merges are planned and then given.
 
 use crate::dice::Dice;
-use crate::offices::answered;
+use crate::offices::answer_in;
 use std::alloc::{AllocError, Global};
 use std::test::Fail;
 
@@ -92,7 +92,7 @@ fn rows_after_merges(
     members: u8,
 ) -> Result<Vec<u8>, Fail> {
     let merges = merges(alloc, dice, members)?;
-    let (_, rows) = answered(alloc, network, script, merges.as_str()).ok_or("a merge is refused")?;
+    let (_, rows) = answer_in(alloc, network, script, merges.as_str()).ok_or("a merge is refused")?;
     Ok(rows)
 }
 
@@ -132,7 +132,7 @@ fn plan_outcome(alloc: Global, seed: u64) -> Result<Outcome, Fail> {
     } else {
         "judge\nW1 W2 W3\n"
     };
-    let answered = answered(alloc, texts.0, texts.1, asked);
+    let answered = answer_in(alloc, texts.0, texts.1, asked);
     let (_, line) = answered.ok_or("nothing is planned")?;
     if line.as_slice() == b"refused\n".as_slice() {
         return Ok(Outcome::Refused);

@@ -8,7 +8,7 @@ use clr_engine::{Draft, Office, Reply};
 use std::alloc::Global;
 
 /// The office of a draft in which every rule holds.
-fn admitted(draft: Draft) -> Option<Office> {
+fn admit(draft: Draft) -> Option<Office> {
     match draft.admit() {
         Ok(office) => Some(office),
         Err(_) => None,
@@ -18,7 +18,7 @@ fn admitted(draft: Draft) -> Option<Office> {
 /// The office of a text in which every rule holds.
 pub(crate) fn office_of(alloc: Global, text: &str) -> Option<Office> {
     match read_office(alloc, text.as_bytes()) {
-        Ok(draft) => admitted(draft),
+        Ok(draft) => admit(draft),
         Err(_) => None,
     }
 }
@@ -55,7 +55,7 @@ fn answer_after(
 }
 
 /// The same in the office of a text.
-pub(crate) fn answered(
+pub(crate) fn answer_in(
     alloc: Global,
     text: &str,
     script: &str,

@@ -32,7 +32,7 @@ const WITHOUT: &str = "]}";
 const NEED: &str = "need,1,main/1/old,main/2/old,node/9/old,";
 
 /// What is said of a network behind the mains, and of a certificate with the member W1 and a record.
-fn checked(alloc: Global, network: &str, record: (&str, &str)) -> Result<Checked, Fail> {
+fn check_of(alloc: Global, network: &str, record: (&str, &str)) -> Result<Checked, Fail> {
     let office = format!(in alloc; "{CROSSING}{network}")?;
     let certificate = format!(in alloc; "member,W1,,,,\n{}{}", record.0, record.1)?;
     Ok(check_texts(alloc, office.as_bytes(), certificate.as_bytes()))
@@ -50,13 +50,13 @@ fn old(key: i64) -> VersionId {
 }
 
 /// That nothing covers the crossing of the mains.
-fn uncovered() -> Checked {
+fn no_cover() -> Checked {
     let need = Need::new(Ask::plain(1), old(1), Some(old(2)));
     Checked::Answer(Verdict::Uncovered(need))
 }
 
 /// That nothing serves the crossing, in LIVE or in the workspace at a position.
-fn unheld(position: usize) -> Checked {
+fn no_server_at(position: usize) -> Checked {
     Checked::Unheld {
         position,
         need: Broken::new(Ask::plain(1), main(1), Some(main(2))),
@@ -73,15 +73,15 @@ fn texts_are_checked_in_turn(rt: HostRuntime) -> Result<(), Fail> {
             (NEED, "node/10/new\n"),
             Checked::Answer(Verdict::Clear),
         ),
-        (REPLACED, (NEED, "\n"), uncovered()),
+        (REPLACED, (NEED, "\n"), no_cover()),
         (REPLACED, ("member,W1,,,,\n", ""), repeated),
         (REPLACED, (NEED, "nod"), bad),
-        (DELETED, (NEED, "nod"), unheld(1)),
-        (WITHOUT, (NEED, "nod"), unheld(0)),
+        (DELETED, (NEED, "nod"), no_server_at(1)),
+        (WITHOUT, (NEED, "nod"), no_server_at(0)),
         ("]", (NEED, "nod"), Checked::BadOffice(TextFault::NotJson)),
     ];
     for (network, record, said) in cases {
-        assert!(rt; checked(rt.alloc(), network, record)? == said);
+        assert!(rt; check_of(rt.alloc(), network, record)? == said);
     }
     Ok(())
 }

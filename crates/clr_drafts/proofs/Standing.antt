@@ -6,6 +6,7 @@ use Rattle.std.proofs.lemmas.Option.{none-some}
 use Rattle.clr_rows.specs.Contents.{Content}
 use Rattle.clr_layers.specs.Layers.{Layer, grow, above_in, whole_of, workspaces_over}
 use Rattle.clr_layers.specs.Workspaces.{Workspace, root, workspace_at}
+use Rattle.clr_layers.proofs.Meaning.{length-grow}
 use Rattle.clr_tree.specs.Parts.{IsRefused, first_below, name_fault_at, workspaces_fault}
 use Rattle.clr_tree.specs.declared.limits.TheConstants.{MOST_WORKSPACES}
 use Rattle.clr_tree.specs.declared.parts.PartFault.{PartFault}
@@ -46,11 +47,6 @@ not_many live ws many e =
     let few = (placed_from (take 256 (root live ∷ ws)) (workspace_at (root live ∷ ws) 256) here).few in
     omega (arith, before, few)
 
-grown : (ws : List Workspace) (ls : List Layer) → length (grow ws ls) ≡ length ls
-unfolding grow
-grown ws [] = refl
-grown ws (l ∷ ls) = ap suc (grown (ws ++ whole_of (above_in ws l) l ∷ []) ls)
-
 -- workspaces that are as many as there can be with LIVE
 pub too_many : (o : Office) (live : Content) (ls : List Layer) → o.live ≡ live → o.workspaces ≡ workspaces_over live ls → MOST_WORKSPACES ≤ length ls → if_standing o ≡ Err text.BadPart
 too_many o live ls is over many = by (workspaces_fault o.live o.workspaces) refl
@@ -58,5 +54,5 @@ too_many o live ls is over many = by (workspaces_fault o.live o.workspaces) refl
     by : (found : Option (ℕ × PartFault)) → workspaces_fault o.live o.workspaces ≡ found → if_standing o ≡ Err text.BadPart
     by (Some e) found = falls o e found
     by None found =
-        let count : length o.workspaces ≡ length ls = ap length over ∙ grown (root live ∷ []) ls in
+        let count : length o.workspaces ≡ length ls = ap length over ∙ length-grow (root live ∷ []) ls in
         absurd (not_many o.live o.workspaces (omega (arith, count, many)) found)

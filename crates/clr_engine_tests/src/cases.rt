@@ -3,7 +3,7 @@
 //! answered must also be the same where they are performed all at once.
 
 use crate::networks::network;
-use crate::offices::{office_of, performed, steps_of};
+use crate::offices::{office_of, replies_to, steps_of};
 use crate::pictures::add_picture;
 use crate::reports::step_lines;
 use clr_engine::Office;
@@ -59,7 +59,7 @@ fn step_by_step(alloc: Global, office: &mut Office, script: &str) -> Option<Answ
 
 /// What the commands of a script are answered all at once, with all that the office has after them.
 fn at_once(alloc: Global, office: &mut Office, script: &str) -> Option<Vec<u8>> {
-    let mut lines = performed(alloc, office, script)?;
+    let mut lines = replies_to(alloc, office, script)?;
     add_picture(&mut lines, alloc, office)?;
     Some(lines)
 }

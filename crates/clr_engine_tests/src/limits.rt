@@ -36,7 +36,7 @@ fn a_ninth_level(rt: HostRuntime) {
 }
 
 /// So many lines, each with its number between two words.
-fn numbered(alloc: Global, words: (&str, &str), count: usize) -> Result<String, AllocError> {
+fn numbered_lines(alloc: Global, words: (&str, &str), count: usize) -> Result<String, AllocError> {
     let mut lines = String::new(alloc);
     for number in 0..count {
         let line = format!(in alloc; "{}{number}{}\n", words.0, words.1)?;
@@ -61,7 +61,7 @@ fn are_most(
     words: (&str, &str),
     count: u16,
 ) -> Result<bool, AllocError> {
-    let commands = numbered(alloc, words, usize::from(count) + 1)?;
+    let commands = numbered_lines(alloc, words, usize::from(count) + 1)?;
     let dones = dones(alloc, usize::from(count))?;
     let case = format!(in alloc;
         "one node\n{before}\n{commands}----\ndone\n{dones}refused 6 TooMany\n"

@@ -41,7 +41,7 @@ pub(crate) fn reply_lines(alloc: Global, schema: &Schema, replies: &[Reply]) -> 
 }
 
 /// The lines of what the commands of a script are answered, all at once.
-pub(crate) fn performed(alloc: Global, office: &mut Office, script: &str) -> Option<Vec<u8>> {
+pub(crate) fn replies_to(alloc: Global, office: &mut Office, script: &str) -> Option<Vec<u8>> {
     let commands = commands_of(alloc, office, script)?;
     let replies = office.perform_all(commands.as_slice()).ok()?;
     reply_lines(alloc, office.schema(), replies.as_slice())

@@ -2,7 +2,7 @@
 //! want of memory: then it changed nothing, and is answered rightly when it is given again.
 
 use crate::networks::network;
-use crate::offices::{commands_of, office_of, performed, reply_lines};
+use crate::offices::{commands_of, office_of, replies_to, reply_lines};
 use crate::pictures::add_picture;
 use clr_engine::{Command, Office, Reply};
 use clr_hoard::Hoard;
@@ -111,7 +111,7 @@ fn end_in(
     office: &mut Office,
     task: &Task<'_>,
 ) -> Option<End> {
-    performed(alloc, office, task.script)?;
+    replies_to(alloc, office, task.script)?;
     let commands = commands_of(alloc, office, task.command)?;
     let command = commands.as_slice().first()?;
     let lost = answer_of(alloc, office, Reply::OutOfMemory)?;

@@ -3,11 +3,8 @@ use Rattle.std.specs.Prelude.{ℕ, List, [], ◌++◌, codes, nat_lt, Option, So
 use Rattle.std.specs.Fmt.{decimal, signed_decimal}
 use Rattle.clr_rows.specs.declared.cells.CellId.{CellId}
 use Rattle.clr_rows.specs.declared.tables.TableDef.{TableDef}
+use Rattle.clr_rows.specs.Schemas.{name_of_table}
 use Rattle.clr_rules.specs.declared.needs.Broken.{Broken}
-
--- a table's name, or no bytes where there is no such table
-abbrev pub name_of_table : List TableDef → ℕ → List ℕ
-name_of_table tables n = unwrap_or (option_map (λ table. table.name) (slice_get tables n)) []
 
 -- a cell is written as `main/20`
 abbrev pub cell_text : List TableDef → CellId → List ℕ

@@ -15,7 +15,7 @@ use Rattle.clr_rows.specs.declared.rows.Value.TheVariants.{Int, Words}
 use Rattle.clr_rows.specs.declared.rows.Row.{Row}
 use Rattle.clr_rows.specs.declared.tables.TableDef.{TableDef}
 use Rattle.clr_rows.specs.Contents.{Content, cells_of}
-use Rattle.clr_lines.specs.Pieces.{name_of_table}
+use Rattle.clr_rows.specs.Schemas.{name_of_table}
 
 abbrev pub value_field : Value → List ℕ
 value_field (Int n) = signed_decimal n

@@ -1,20 +1,10 @@
 ghost use Rattle.std.specs.Prelude.{◌≡◌, ◌++◌, decimal, OnOk};
-ghost use Rattle.clr_lines.specs.Pieces.{cell_text, name_of_table, need_text, part_text, second_text, subject_text};
+ghost use Rattle.clr_lines.specs.Pieces.{cell_text, need_text, part_text, second_text, subject_text};
 
 use clr_rows::{CellId, Schema};
 use clr_rules::Broken;
 use itoa::Buffer;
 use std::alloc::AllocError;
-
-/// The name of a table, or no bytes where the schema has no such table.
-pub fn table_name(schema: &Schema, table: u16) -> &str
-    ensures { result.now ≡ name_of_table schema.now table }
-{
-    match schema.table_name(table) {
-        Some(name) => name,
-        None => "",
-    }
-}
 
 /// Adds a count in decimal digits. It fails for want of memory alone.
 pub fn add_count(line: &mut Vec<u8>, count: usize) -> Result<(), AllocError>
@@ -28,7 +18,7 @@ pub fn add_count(line: &mut Vec<u8>, count: usize) -> Result<(), AllocError>
 pub fn add_cell(line: &mut Vec<u8>, schema: &Schema, cell: CellId) -> Result<(), AllocError>
     ensures { OnOk result (line.new.items ≡ line.old.items ++ cell_text schema.now cell) }
 {
-    line.extend_from_slice(table_name(schema, cell.table).as_bytes())?;
+    line.extend_from_slice(schema.name_of_table(cell.table).as_bytes())?;
     line.extend_from_slice(b"/")?;
     line.extend_from_slice(Buffer::new().format(cell.key).as_bytes())
 }

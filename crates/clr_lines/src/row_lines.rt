@@ -5,7 +5,7 @@ ghost use Rattle.csv.specs.Records.{fields_of, partial_of};
 ghost use Rattle.csv.specs.Writing.{writer_pending, writer_under};
 ghost use Rattle.clr_lines.specs.Rows.{IsBetween, place_fields, row_fields, row_line, rows_text, shape_fields, value_field};
 
-use crate::pieces::{add_count, table_name};
+use crate::pieces::add_count;
 use clr_rows::{CellId, Place, Row, Schema, Shape, Sheet, Value};
 use csv::{ByteRecord, Writer, WriterBuilder};
 use itoa::Buffer;
@@ -96,7 +96,7 @@ fn row_record(
     ensures { IfOk result (λ made. fields_of made ≡ row_fields schema.now cell row.now) }
 {
     let mut fields = ByteRecord::new(alloc);
-    add(&mut fields, table_name(schema, cell.table).as_bytes())?;
+    add(&mut fields, schema.name_of_table(cell.table).as_bytes())?;
     add_number(&mut fields, cell.key)?;
     add_values(&mut fields, row.values.as_slice())?;
     add_shape(&mut fields, &row.shape)?;

@@ -23,13 +23,13 @@ use Rattle.clr_office.specs.declared.outputs.Output.{Output}
 use Rattle.clr_office.specs.Clearances.{AreMerged, IsMergeOutcome, IsPrintOfCertificate, IsVerdictOn, IsVerdictOutcome}
 use Rattle.clr_office.specs.Clearances.{is_clear, is_without_memory, merge_outcome, of_merges, of_verdict as of_verdict_alone, verdict_outcome}
 use Rattle.clr_office.specs.Outcomes.{Outcome, outcome}
-use Rattle.clr_office.specs.Printing.{IsMade, printed}
+use Rattle.clr_office.specs.Printing.{IsMade, print_of}
 
 -- an output of the certificate of a text
 pub certificate_made : (IsRight : Certificate → Outcome → Type 0) (read : Result Certificate (ℕ × CertFault)) (c : Certificate) (o : Office) (output : Output)
     → read ≡ Ok c → (output.lost ≡ false → IsRight c (outcome output.lines.items output.refused o)) → IsMade (IsPrintOfCertificate IsRight read) (Ok output)
 certificate_made IsRight read c o output is h found =
-    subst (λ m. IsPrintOfCertificate IsRight m (printed output.lines.items output.refused)) (sym is) (outcome output.lines.items output.refused o, h found, refl)
+    subst (λ m. IsPrintOfCertificate IsRight m (print_of output.lines.items output.refused)) (sym is) (outcome output.lines.items output.refused o, h found, refl)
 
 -- where memory was found, the answer is the verdict
 found_verdict : (o : Office) (s : Site) (entries : List Entry) (v : Verdict) → IsAnswer o s entries v → is_without_memory v ≡ false → IsVerdict o s entries v

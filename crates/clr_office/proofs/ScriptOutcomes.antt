@@ -8,7 +8,7 @@ use Rattle.clr_scripts.specs.declared.faults.RecordFault.{RecordFault}
 use Rattle.clr_scripts.specs.declared.steps.Step.{Step}
 use Rattle.clr_office.specs.declared.outputs.Output.{Output}
 use Rattle.clr_office.specs.Outcomes.{Outcome, outcome, followed_by, IsOutcome, IsScriptOutcome}
-use Rattle.clr_office.specs.Printing.{ArePrinted, IsMade, printed}
+use Rattle.clr_office.specs.Printing.{ArePrinted, IsMade, print_of}
 
 -- whatever the rest prints makes with this the whole
 abbrev pub Leads : Office → List Step → Outcome → List Step → Type 0
@@ -41,4 +41,4 @@ ends start o steps i lines refused le so_far =
 -- the output of the script of a text
 pub script_made : (o after : Office) (read : Result (List Step) (ℕ × RecordFault)) (steps : List Step) (output : Output) → read ≡ Ok steps
     → (output.lost ≡ false → IsScriptOutcome o steps (outcome output.lines.items output.refused after)) → IsMade (ArePrinted o read) (Ok output)
-script_made o after read steps output is h found = subst (λ m. ArePrinted o m (printed output.lines.items output.refused)) (sym is) (outcome output.lines.items output.refused after, h found, refl)
+script_made o after read steps output is h found = subst (λ m. ArePrinted o m (print_of output.lines.items output.refused)) (sym is) (outcome output.lines.items output.refused after, h found, refl)

@@ -18,7 +18,6 @@ use Rattle.clr_check.specs.Certificates.{entries_in, site_of}
 use Rattle.clr_lines.specs.Replies.{reply_text}
 use Rattle.clr_lines.specs.Reports.{count_line}
 use Rattle.clr_verdict_lines.specs.Verdicts.{verdict_text}
-use Rattle.clr_office_writer.specs.Writing.{written}
 use Rattle.clr_office.specs.Outcomes.{Outcome, dump_text, is_refused, outcome}
 use Rattle.clr_office.specs.Printing.{IsPrintOf, Printed}
 use Rattle.clr_office.specs.declared.faults.RunFault.{RunFault}

@@ -3,9 +3,9 @@ use Rattle.std.specs.Prelude.{◌≡◌, ℕ, Bool, false, true, not, ◌||◌, 
 use Rattle.std.specs.Prelude.{⊤, codes, drop, if◌then◌else◌, length, map, nat_lt, unwrap_or}
 use Rattle.std.specs.FinMap as finite
 use Rattle.std.specs.List.{flat_map}
+use Rattle.clr_rows.specs.Names.{live_name}
 use Rattle.clr_rules.specs.Needs.{broken}
 use Rattle.clr_layers.specs.Marks.{Name}
-use Rattle.clr_layers.specs.Workspaces.{live_name}
 use Rattle.clr_steps.specs.declared.commands.Command.{Command}
 use Rattle.clr_steps.specs.declared.commands.Reply.{Reply}
 use Rattle.clr_steps.specs.declared.commands.Reply.TheVariants.{Done, NoWorkspace}
@@ -25,7 +25,7 @@ use Rattle.clr_lines.specs.Replies.{reply_text}
 use Rattle.clr_lines.specs.Reports.{audit_text, changes_text, conflicts_text, count_line, workspace_text}
 use Rattle.clr_lines.specs.Rows.{rows_text}
 use Rattle.clr_plan_lines.specs.Plans.{plan_text}
-use Rattle.clr_office_writer.specs.Writing.{written}
+use Rattle.clr_office_writer.specs.Writing.{bytes_of}
 
 -- the lines that a step or a script prints, whether something was refused, and the office that it leaves
 pub record Outcome : Type 0 where
@@ -86,7 +86,7 @@ workspaces_outcome o = outcome (workspaces_text o) false o
 
 -- the text of the whole office, a line
 abbrev pub dump_text : Office → List ℕ
-dump_text o = written o ++ codes "\n"
+dump_text o = bytes_of o ++ codes "\n"
 
 abbrev pub dump_outcome : Office → Outcome
 dump_outcome o = outcome (dump_text o) false o

@@ -28,11 +28,11 @@ status_of refused = if refused then 1 else 0
 abbrev pub Printed : Type 0
 Printed = Result (List ℕ × ℕ) RunFault
 
-abbrev pub printed : List ℕ → Bool → Printed
-printed lines refused = Ok (lines, status_of refused)
+abbrev pub print_of : List ℕ → Bool → Printed
+print_of lines refused = Ok (lines, status_of refused)
 
 abbrev pub IsPrintOf : (Outcome → Type 0) → Printed → Type 0
-IsPrintOf IsRight print = (all : Outcome) × IsRight all × (print ≡ printed all.lines all.refused)
+IsPrintOf IsRight print = (all : Outcome) × IsRight all × (print ≡ print_of all.lines all.refused)
 
 -- the script of a text, performed, or why it can't be read
 abbrev pub ArePrinted : Office → Result (List Step) (ℕ × RecordFault) → Printed → Type 0
@@ -51,7 +51,7 @@ name_below_live o (suc position) = name_at o (suc position)
 
 -- where a rule doesn't hold, that is told in place of what is asked
 abbrev pub IsPrintWhereHeld : (Office → Printed → Type 0) → Office → Option (ℕ × Broken) → Printed → Type 0
-IsPrintWhereHeld IsPrint o (Some (position, need)) print = print ≡ printed (unheld_text o.schema (name_below_live o position) need) true
+IsPrintWhereHeld IsPrint o (Some (position, need)) print = print ≡ print_of (unheld_text o.schema (name_below_live o position) need) true
 IsPrintWhereHeld IsPrint o None print = IsPrint o print
 
 -- what is asked of an office, or why there is none
@@ -78,7 +78,7 @@ IsTextFault IsPrint run_fault.NoSeparator = ⊥
 
 -- an output is what is to be printed, unless something found no memory; or a fault
 abbrev pub IsMade : (Printed → Type 0) → Result Output RunFault → Type 0
-IsMade IsPrint (Ok output) = output.lost ≡ false → IsPrint (printed output.lines.items output.refused)
+IsMade IsPrint (Ok output) = output.lost ≡ false → IsPrint (print_of output.lines.items output.refused)
 IsMade IsPrint (Err e) = IsTextFault IsPrint e
 
 -- why an office text gives no draft, or want of memory

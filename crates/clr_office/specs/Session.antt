@@ -1,7 +1,7 @@
 -- What a run prints for an input, and what it leaves of its reader and writer.
 use Rattle.std.specs.Prelude.{◌≡◌, ◌≢◌, ℕ, List, Bool, true, false, Option, Some, None, Result, Ok, Err}
 use Rattle.std.specs.Io.KnownBytes.{Appends}
-use Rattle.clr_command_line.specs.declared.asks.Ask.TheVariants as ask
+use Rattle.clr_command_line.specs.declared.requests.Request.TheVariants as request
 use Rattle.clr_office.specs.Answers.{IsAnswerWithin}
 use Rattle.clr_office.specs.Input.{GivesInput, GivesTooMuch}
 use Rattle.clr_office.specs.Printing.{Printed}
@@ -12,7 +12,7 @@ use Rattle.clr_office.specs.declared.faults.RunFault.TheVariants as run_fault
 -- what is to be printed for the office text and the script that stand on both sides of the separator
 abbrev pub IsSessionOf : Option (List ℕ × List ℕ) → Printed → Type 0
 IsSessionOf None print = print ≡ Err run_fault.NoSeparator
-IsSessionOf (Some parts) print = IsAnswerWithin ask.Run parts.0 parts.1 print
+IsSessionOf (Some parts) print = IsAnswerWithin request.Run parts.0 parts.1 print
 
 -- what is to be printed for an input
 abbrev pub IsSession : List ℕ → Printed → Type 0

@@ -20,7 +20,7 @@ mod separator;
 
 pub use answers::answer;
 pub use clr_check_texts::{Checked, check_texts};
-pub use clr_command_line::{Ask, AskFault, ask_of};
+pub use clr_command_line::{Request, RequestFault, request_of};
 pub use devices::{DeviceFault, Sink, Source};
 pub use faults::RunFault;
 pub use memory::{Page, Text};

@@ -14,12 +14,9 @@ use clr_lines::{
     add_workspace, audit_lines, changes_lines, conflicts_lines, count_line, reply_line, rows_lines,
 };
 use clr_office_writer::write_office;
-use clr_rows::Schema;
+use clr_rows::{LIVE, Schema};
 use clr_steps::Reply;
 use std::alloc::{AllocError, Global};
-
-/// The name of LIVE.
-pub const LIVE: &str = "LIVE";
 
 /// What a report prints where no workspace has the name.
 fn unknown_workspace(alloc: Global, schema: &Schema) -> Result<Output, AllocError>
@@ -123,7 +120,7 @@ fn workspaces_lines(alloc: Global, office: &Office) -> Result<Vec<u8>, AllocErro
     Ok(lines)
 }
 
-/// What is told of all workspaces under LIVE.
+/// The report on all workspaces under LIVE.
 pub fn workspaces(alloc: Global, office: &Office) -> Result<Output, AllocError>
     ensures { IfOk result (λ o. outcome o.lines.items o.refused office.now ≡ workspaces_outcome office.now) }
 {
@@ -139,7 +136,7 @@ pub fn dump_text(alloc: Global, office: &Office) -> Result<Vec<u8>, AllocError>
     Ok(text)
 }
 
-/// What is told of the whole office.
+/// The report that is the text of the whole office.
 pub fn dump(alloc: Global, office: &Office) -> Result<Output, AllocError>
     ensures { IfOk result (λ o. outcome o.lines.items o.refused office.now ≡ dump_outcome office.now) }
 {

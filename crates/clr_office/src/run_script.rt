@@ -8,10 +8,10 @@ use crate::faults::RunFault;
 use crate::outputs::Output;
 use crate::plans::plan_members;
 use crate::replies::reply_output;
-use crate::reports::{LIVE, audit_rows, changes, conflicts, dump, show, workspaces};
+use crate::reports::{audit_rows, changes, conflicts, dump, show, workspaces};
 use clr_engine::Office;
-use clr_rows::{Schema, Words};
-use clr_scripts::{Names, RecordFault, Step, Word, read_script};
+use clr_rows::{LIVE, Names, Schema, Words};
+use clr_scripts::{RecordFault, Step, Word, read_script};
 use clr_steps::Command;
 use std::alloc::{AllocError, Global};
 

@@ -19,7 +19,7 @@ use Rattle.clr_rows.specs.Contents.{Content}
 use Rattle.clr_rows.specs.Numbers.{is_i64}
 use Rattle.clr_rows.specs.Parts.{vertices_of}
 use Rattle.clr_rows.specs.Ranges.{is_place_within}
-use Rattle.clr_rows.specs.Schemas.{FitsSchema, is_number, has_coordinates, is_coordinate, is_of_form, is_place, row_fault, schema_fault, table_named}
+use Rattle.clr_rows.specs.Schemas.{FitsSchema, is_number, has_coordinates, is_coordinate, is_of_form, is_place, row_fault, schema_fault, table_named, name_of_table}
 use Rattle.clr_rows.proofs.SchemaLemmas.{cell_parts, fits_table, table_of_name}
 use Rattle.clr_differences.specs.Differences.{Differences}
 use Rattle.clr_office_text.specs.declared.cells.NamedRow.{NamedRow}
@@ -29,7 +29,6 @@ use Rattle.clr_office_text.specs.Fields.{each}
 use Rattle.clr_office_text.specs.Fits.{FitsDifferences}
 use Rattle.clr_office_text.specs.Patches.{named_cell_of, put_fault, with_cell, with_cells}
 use Rattle.clr_office_data.specs.CellData.{coordinates_of, named_cell, named_cell_data, named_cells, named_row, named_row_data, named_rows, row_data, row_or_gone_data}
-use Rattle.clr_office_data.specs.RuleData.{name_of_table}
 use Rattle.clr_office_data.specs.Values.{number_data, value_data}
 use Rattle.clr_office_data.proofs.ListsRead.{all_mapped, all_pass, each_read, key_within, number_read, value_read}
 use Rattle.clr_office_data.proofs.PutAgain.{AreFree, all_entries, all_put, all_put_again, first, free_after, free_at_first, second}

@@ -10,7 +10,7 @@ use Rattle.clr_rows.specs.declared.tables.Kind.{Kind}
 use Rattle.clr_rows.specs.declared.tables.TableDef.{TableDef}
 use Rattle.clr_rows.specs.Names.{is_key_word}
 use Rattle.clr_rows.specs.Numbers.{is_i64}
-use Rattle.clr_rows.specs.Schemas.{column_named, is_of_kind, is_number, schema_fault, table_named}
+use Rattle.clr_rows.specs.Schemas.{column_named, is_of_kind, is_number, schema_fault, table_named, name_of_table}
 use Rattle.clr_rows.proofs.SchemaLemmas.{column_of_name, good_column_name, passed, table_of_name}
 use Rattle.clr_rules.specs.declared.columns.Col.{Col}
 use Rattle.clr_rules.specs.declared.columns.Col.TheVariants as column
@@ -30,7 +30,8 @@ use Rattle.clr_office_text.specs.declared.named_sides.NamedSide.{NamedSide}
 use Rattle.clr_office_text.specs.Fields.{each, each_in, or_fault, words_of}
 use Rattle.clr_office_text.specs.Rules.{column_number, column_over, columns_over, crossing_of, end_node_of, filter_of, literal_of, literal_over, literal_pair, named_rule_of, names_at, near_of, partner_of}
 use Rattle.clr_office_text.specs.Rules.{crossing_over, end_node_over, near_over, partner_over, rule_over, side_at, side_of, side_over, tip_named, tip_of, unique_of, unique_over}
-use Rattle.clr_office_data.specs.RuleData.{literal_data, name_of_column, name_of_number, name_of_table, named_columns, named_literal, named_rule, named_rule_data, named_side, side_data, tip_word}
+use Rattle.clr_rules.proofs.FittingLemmas.{literal_within, no_fault}
+use Rattle.clr_office_data.specs.RuleData.{literal_data, name_of_column, name_of_number, named_columns, named_literal, named_rule, named_rule_data, named_side, side_data, tip_word}
 use Rattle.clr_office_data.proofs.ListsRead.{all_mapped, all_pass, any_read, each_found, each_read, number_read, value_read}
 
 -- with names ---------------------------------------------------------------------------------
@@ -88,14 +89,10 @@ passes tables r h =
     let l = passed (has_filters tables r) BadFilter _ d.1 in
     record { sides = a.0; columns = b.0; distance = d.0; filters = l.0 }
 
-none_here : (n : ℕ) (fault : Option RuleFault) (later : Option (ℕ × RuleFault)) → fault_or_later n fault later ≡ None → (fault ≡ None) × (later ≡ None)
-none_here n None later h = (refl, h)
-none_here n (Some f) later h = cc
-
 each_passes : (tables : List TableDef) (n : ℕ) (rules : List Rule) → first_fault tables n rules ≡ None → AllByRecursion (Passes tables) rules
 unfolding first_fault
 each_passes tables n [] h = tt
-each_passes tables n (r ∷ rules) h = let a = none_here n (rule_fault tables r) _ h in (passes tables r a.0, each_passes tables (n + 1) rules a.1)
+each_passes tables n (r ∷ rules) h = let a = no_fault n (rule_fault tables r) _ h in (passes tables r a.0, each_passes tables (n + 1) rules a.1)
 
 few_rules : (b : Bool) (first : Option (ℕ × RuleFault)) (e : ℕ × RuleFault) → (if b then first else Some e) ≡ None → first ≡ None
 few_rules true first e h = h
@@ -111,14 +108,10 @@ distance_within : (d : ℤ) → is_distance d ≡ true → is_i64 d ≡ true
 distance_within (pos n) e = lt-ltb n (2 ^ 63) (omega (arith, leb-true n 1000000 (and_parts _ _ e).1))
 distance_within (negsuc n) e = absurd (false≢true e)
 
-literal_number : (found : Option Kind) (v : Value) → is_literal_of found v ≡ true → is_number v ≡ true
-literal_number None v e = absurd (false≢true e)
-literal_number (Some k) v e = (and_parts (is_of_kind k v) (is_number v) e).1
-
 module _ (tables : List TableDef) where
   side_within : (s : Side) → has_filter tables s ≡ true → IsSideWithin (named_side tables s)
   side_within s h =
-      all_mapped (λ f. is_literal_of (kind_of tables s.table (column.At f.0)) f.1 ≡ true) (λ l. is_number l.1 ≡ true) (named_literal tables s.table) (λ f is. literal_number _ f.1 is) s.filter
+      all_mapped (λ f. is_literal_of (kind_of tables s.table (column.At f.0)) f.1 ≡ true) (λ l. is_number l.1 ≡ true) (named_literal tables s.table) (λ f is. literal_within _ f.1 is) s.filter
       (all_pass (λ f. is_literal_of (kind_of tables s.table (column.At f.0)) f.1) s.filter h)
 
   rule_within : (r : Rule) → Passes tables r → IsRuleWithin (named_rule tables r)

@@ -9,10 +9,10 @@ use Rattle.clr_rows.specs.declared.rows.Row.{Row}
 use Rattle.clr_rows.specs.declared.tables.TableDef.{TableDef}
 use Rattle.clr_rows.specs.Contents.{Content}
 use Rattle.clr_rows.specs.Parts.{vertices_of}
+use Rattle.clr_rows.specs.Schemas.{name_of_table}
 use Rattle.clr_differences.specs.Differences.{Differences}
 use Rattle.clr_office_text.specs.declared.cells.NamedRow.{NamedRow}
 use Rattle.clr_office_text.specs.declared.named_cells.NamedCell.{NamedCell}
-use Rattle.clr_office_data.specs.RuleData.{name_of_table}
 use Rattle.clr_office_data.specs.Values.{list_data, number_data, value_data}
 
 -- with names ---------------------------------------------------------------------------------

@@ -2,8 +2,10 @@
 use Rattle.std.specs.Prelude.{ℕ, List, [], codes, map, option_map, slice_get, unwrap_or}
 use Rattle.std.specs.Option.{option_and_then}
 use Rattle.serde_json.specs.Data.{Data, string, array, object, no_items, item, member, no_members}
+use Rattle.clr_rows.specs.declared.limits.TheConstants.{KEY}
 use Rattle.clr_rows.specs.declared.rows.Value.{Value}
 use Rattle.clr_rows.specs.declared.tables.TableDef.{TableDef}
+use Rattle.clr_rows.specs.Schemas.{name_of_table}
 use Rattle.clr_rules.specs.declared.columns.Col.{Col}
 use Rattle.clr_rules.specs.declared.columns.Col.TheVariants as column
 use Rattle.clr_rules.specs.declared.rules.Rule.{Rule}
@@ -18,17 +20,13 @@ use Rattle.clr_office_data.specs.Values.{list_data, number_data, value_data}
 
 -- with names ---------------------------------------------------------------------------------
 
--- the name of a table, or no bytes where there is no such table
-abbrev pub name_of_table : List TableDef → ℕ → List ℕ
-name_of_table tables n = unwrap_or (option_map (λ table. table.name) (slice_get tables n)) []
-
 -- the name of a column by its number, or no bytes where there is no such column
 abbrev pub name_of_number : List TableDef → ℕ → ℕ → List ℕ
 name_of_number tables table n = unwrap_or (option_map (λ c. c.0) (option_and_then (λ t. slice_get t.columns n) (slice_get tables table))) []
 
 -- the name of a column, where `KEY` is the primary key
 abbrev pub name_of_column : List TableDef → ℕ → Col → List ℕ
-name_of_column tables table column.Key = codes "KEY"
+name_of_column tables table column.Key = KEY.now
 name_of_column tables table (column.At n) = name_of_number tables table n
 
 abbrev pub named_literal : List TableDef → ℕ → ℕ × Value → List ℕ × Value

@@ -1,10 +1,10 @@
 ghost use Rattle.std.specs.Prelude.{◌≡◌, None, Some, IfOk};
 ghost use Rattle.serde_json.specs.View.{view};
 ghost use Rattle.clr_office_data.specs.CellData.{coordinates_of, live_data, named_cell, named_cell_data, named_row, named_row_data, row_data, shape_data};
-ghost use Rattle.clr_office_data.specs.RuleData.{name_of_table};
+ghost use Rattle.clr_rows.specs.Schemas.{name_of_table};
 ghost use Rattle.clr_office_data.specs.Values.{list_data, number_data, value_data};
 
-use crate::names::{table_name, value_json};
+use crate::names::value_json;
 use clr_rows::{CellId, Place, Row, Schema, Shape, Sheet, Value};
 use serde_json::{Value as Json, json};
 use std::alloc::{AllocError, Global};
@@ -48,7 +48,7 @@ pub fn row_json(alloc: Global, schema: &Schema, cell: CellId, row: &Row) -> Resu
 {
     let key = cell.key;
     let shape = shape_json(alloc, &row.shape)?;
-    let table = table_name(schema, cell.table);
+    let table = schema.name_of_table(cell.table);
     let values = values_json(alloc, row.values.as_slice())?;
     json!(in alloc; {"k": key, "s": shape, "t": table, "v": values})
 }
@@ -58,7 +58,7 @@ pub fn gone_json(alloc: Global, schema: &Schema, cell: CellId) -> Result<Json, A
     ensures { IfOk result (λ json. view json ≡ named_cell_data (named_cell schema.now (cell, None))) }
 {
     let key = cell.key;
-    let table = table_name(schema, cell.table);
+    let table = schema.name_of_table(cell.table);
     json!(in alloc; {"gone": true, "k": key, "t": table})
 }
 

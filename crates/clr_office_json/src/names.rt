@@ -1,22 +1,12 @@
 ghost use Rattle.std.specs.Prelude.{◌≡◌, IfOk};
 ghost use Rattle.serde_json.specs.View.{view};
-ghost use Rattle.clr_office_data.specs.RuleData.{name_of_column, name_of_number, name_of_table};
+ghost use Rattle.clr_office_data.specs.RuleData.{name_of_column, name_of_number};
 ghost use Rattle.clr_office_data.specs.Values.{value_data};
 
-use clr_rows::{Schema, Value};
+use clr_rows::{KEY, Schema, Value};
 use clr_rules::Col;
 use serde_json::{Value as Json, json};
 use std::alloc::{AllocError, Global};
-
-/// The name of a table, or no bytes where the schema has no such table.
-pub fn table_name(schema: &Schema, table: u16) -> &str
-    ensures { result.now ≡ name_of_table schema.now table }
-{
-    match schema.table_name(table) {
-        Some(name) => name,
-        None => "",
-    }
-}
 
 /// The name of a column by its number, or no bytes where there is no such column.
 pub fn numbered_name(schema: &Schema, table: u16, number: u16) -> &str
@@ -36,7 +26,7 @@ pub fn column_name(schema: &Schema, table: u16, column: Col) -> &str
     ensures { result.now ≡ name_of_column schema.now table column }
 {
     match column {
-        Col::Key => "KEY",
+        Col::Key => KEY,
         Col::At(number) => numbered_name(schema, table, number),
     }
 }

@@ -5,7 +5,7 @@ ghost use Rattle.clr_office_data.specs.RuleData.{literal_data, name_of_number, n
 ghost use Rattle.clr_office_data.specs.RuleData.{named_side, names_data, rules_data, side_data, tip_word};
 ghost use Rattle.clr_office_data.specs.Values.{list_data};
 
-use crate::names::{column_name, numbered_name, table_name, value_json};
+use crate::names::{column_name, numbered_name, value_json};
 use clr_rows::{Schema, Value};
 use clr_rules::{Col, Rule, RuleBook, Side, Tip};
 use serde_json::{Value as Json, json};
@@ -43,7 +43,7 @@ fn filter_json(
 fn side_json(alloc: Global, schema: &Schema, side: &Side) -> Result<Json, AllocError>
     ensures { IfOk result (λ json. view json ≡ side_data (named_side schema.now side.now)) }
 {
-    let table = table_name(schema, side.table);
+    let table = schema.name_of_table(side.table);
     let filter = filter_json(alloc, schema, side.table, side.filter.as_slice())?;
     json!(in alloc; {"table": table, "where": filter})
 }

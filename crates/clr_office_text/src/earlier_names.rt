@@ -1,17 +1,17 @@
 ghost use Rattle.std.specs.Prelude.{◌≡◌, List, ◌++◌, ◌∷◌, [], OnOk};
 ghost use Rattle.clr_layers.specs.Layers.{Layer};
-ghost use Rattle.clr_layers.specs.Workspaces.{live_name};
 ghost use Rattle.std.specs.Str.{bytes_eq};
+ghost use Rattle.clr_rows.specs.Names.{live_name};
 ghost use Rattle.clr_office_text.specs.Workspaces.{HasNames, stands_in};
 
-use clr_rows::Words;
+use clr_rows::{LIVE, Words};
 use std::alloc::AllocError;
 use std::collections::BTreeSet;
 
 fn is_live(name: &str) -> bool
     ensures { result ≡ bytes_eq name.now live_name }
 {
-    name == "LIVE"
+    name == LIVE
 }
 
 /// Whether a name is that of LIVE, or one of these.

@@ -6,7 +6,7 @@ ghost use Rattle.clr_office_text.specs.Rules.{rule_of_kind as meant_by, tip_of, 
 
 use crate::faults::TextFault;
 use crate::fields::{field, number_in, optional_list, words};
-use crate::named_sides::{NameList, NamedSide, names_in, side_in};
+use crate::named_sides::{ColumnNames, NamedSide, names_in, side_in};
 use clr_rules::Tip;
 use serde_json::Value as Json;
 use std::alloc::Global;
@@ -16,13 +16,13 @@ use std::alloc::Global;
 pub enum NamedRule {
     Unique {
         subject: NamedSide,
-        columns: NameList,
+        columns: ColumnNames,
     },
     Partner {
         subject: NamedSide,
-        columns: NameList,
+        columns: ColumnNames,
         server: NamedSide,
-        server_columns: NameList,
+        server_columns: ColumnNames,
     },
     EndNode {
         subject: NamedSide,

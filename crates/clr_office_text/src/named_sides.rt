@@ -37,11 +37,11 @@ impl NamedFilter {
 
 /// Names of columns, which may be unknown.
 #[derive(Debug, Drop)]
-pub struct NameList {
+pub struct ColumnNames {
     list: Vec<Words>,
 }
 
-impl Model for NameList {
+impl Model for ColumnNames {
     ghost use Rattle.std.specs.Prelude.{List, ℕ};
 
     ghost Value = { List (List ℕ) };
@@ -49,7 +49,7 @@ impl Model for NameList {
     ghost view = { λ a. a.list.items };
 }
 
-impl NameList {
+impl ColumnNames {
     /// The names as a slice.
     pub fn as_slice(&self) -> &[Words]
         ensures { result.now ≡ self.now }
@@ -140,9 +140,9 @@ fn each_name(alloc: Global, items: &[Json]) -> Result<Vec<Words>, TextFault>
 
 /// The list of names at a key. Fails with `BadField` where there is none.
 #[tactic(auto, unfolding(crate::specs::Rules::names_at))]
-pub fn names_in(alloc: Global, json: &Json, key: &str) -> Result<NameList, TextFault>
+pub fn names_in(alloc: Global, json: &Json, key: &str) -> Result<ColumnNames, TextFault>
     ensures { Gives (λ v. v) result (names_at key.now (view json.now)) }
 {
     let list = each_name(alloc, list_in(json, key)?)?;
-    Ok(NameList { list })
+    Ok(ColumnNames { list })
 }

@@ -7,8 +7,8 @@ ghost use Rattle.clr_office_text.specs.Rules.{literal_over, near_over, partner_o
 
 use crate::faults::TextFault;
 use crate::named_rules::{NamedRule, named_rules};
-use crate::named_sides::{NameList, NamedSide};
-use clr_rows::{Schema, Value, Words};
+use crate::named_sides::{ColumnNames, NamedSide};
+use clr_rows::{KEY, Schema, Value, Words};
 use clr_rules::{Col, ColumnList, Filter, Rule, RuleBook, Side, Tip};
 use serde_json::Value as Json;
 use std::alloc::Global;
@@ -62,7 +62,7 @@ fn side(alloc: Global, schema: &Schema, named: NamedSide) -> Result<Side, TextFa
 fn column(schema: &Schema, table: u16, name: &Words) -> Result<Col, TextFault>
     ensures { Gives (λ c. c) result (column_over schema.now table name.now) }
 {
-    if name.as_str() == "KEY" {
+    if name.as_str() == KEY {
         return Ok(Col::Key);
     }
     Ok(Col::At(column_number(schema, table, name)?))
@@ -88,7 +88,7 @@ fn columns(
     alloc: Global,
     schema: &Schema,
     table: u16,
-    names: &NameList,
+    names: &ColumnNames,
 ) -> Result<ColumnList, TextFault>
     ensures { Gives (λ v. v) result (columns_over schema.now table names.now) }
 {
@@ -101,7 +101,7 @@ fn unique(
     alloc: Global,
     schema: &Schema,
     subject: NamedSide,
-    names: NameList,
+    names: ColumnNames,
 ) -> Result<Rule, TextFault>
     ensures { Gives (λ r. r) result (unique_over schema.now subject names) }
 {
@@ -115,9 +115,9 @@ fn partner(
     alloc: Global,
     schema: &Schema,
     subject: NamedSide,
-    names: NameList,
+    names: ColumnNames,
     server: NamedSide,
-    server_names: NameList,
+    server_names: ColumnNames,
 ) -> Result<Rule, TextFault>
     ensures { Gives (λ r. r) result (partner_over schema.now subject names server server_names) }
 {

@@ -6,10 +6,11 @@ use Rattle.std.specs.Str.{bytes_eq}
 use Rattle.std.proofs.lemmas.List.{map-append}
 use Rattle.std.proofs.lemmas.Option.{none-some}
 use Rattle.clr_rows.specs.Contents.{Content, no_rows}
+use Rattle.clr_rows.specs.Names.{live_name}
 use Rattle.clr_rows.proofs.SchemaLemmas.{list_any-map}
 use Rattle.clr_layers.specs.Layers.{above_in, grow, named, whole_of, workspaces_over}
 use Rattle.clr_layers.specs.Marks.{Name}
-use Rattle.clr_layers.specs.Workspaces.{Workspace, live_name, no_workspace, root, workspace_at}
+use Rattle.clr_layers.specs.Workspaces.{Workspace, no_workspace, root, workspace_at}
 use Rattle.clr_layers.proofs.Meaning.{named_found}
 use Rattle.clr_tree.specs.Soundness.{IsSound}
 use Rattle.clr_tree.proofs.FaultLemmas.{take_next}

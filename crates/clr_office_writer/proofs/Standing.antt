@@ -20,18 +20,12 @@ use Rattle.clr_tree.specs.declared.parts.PartFault.TheVariants as fault
 use Rattle.clr_tree.proofs.CountLemmas.{count-tally, tally}
 use Rattle.clr_contents.proofs.DepthLemmas.{depth_step}
 use Rattle.clr_contents.proofs.RootLemmas.{no_parent}
+use Rattle.clr_contents.proofs.SweepLemmas.{at_take}
 use Rattle.clr_tree.proofs.FaultLemmas.{below_next, below_none}
 use Rattle.clr_tree.proofs.PartLemmas.{fits}
 use Rattle.clr_tree.proofs.TreeLemmas.{one_child}
 
 -- the first workspaces -----------------------------------------------------------------------
-
-front_at : (ws : List Workspace) (n i : ℕ) → i < n → workspace_at (take n ws) i ≡ workspace_at ws i
-front_at [] zero i lt = absurd (omega arith)
-front_at [] (suc n) i lt = refl
-front_at (w ∷ ws) zero i lt = absurd (omega arith)
-front_at (w ∷ ws) (suc n) zero lt = refl
-front_at (w ∷ ws) (suc n) (suc i) lt = front_at ws n i (omega arith)
 
 -- a name that stands among them is found there, and otherwise not
 place_front : (ws : List Workspace) (name : Name) (n : ℕ) → position_or_len (has_name name) ws < n → position_or_len (has_name name) (take n ws) ≡ position_or_len (has_name name) ws
@@ -84,13 +78,13 @@ module _ (ws : List Workspace) (r : IsRooted ws) (n : ℕ) (some : 0 < n) (withi
       let count = length-take-le n ws within in
       record {
         filled = omega (arith, count, some);
-        live = ap (λ (w : Workspace). w.name) (front_at ws n 0 some) ∙ r.live;
-        top = ap (λ (w : Workspace). w.parent) (front_at ws n 0 some) ∙ r.top;
-        good = λ i lt. let less : i < n = omega (arith, count, lt) in ap (λ (w : Workspace). is_good_name w.name) (front_at ws n i less) ∙ r.good i (omega (arith, less, within));
+        live = ap (λ (w : Workspace). w.name) (at_take ws n 0 some) ∙ r.live;
+        top = ap (λ (w : Workspace). w.parent) (at_take ws n 0 some) ∙ r.top;
+        good = λ i lt. let less : i < n = omega (arith, count, lt) in ap (λ (w : Workspace). is_good_name w.name) (at_take ws n i less) ∙ r.good i (omega (arith, less, within));
         own = λ i lt. let less : i < n = omega (arith, count, lt) in
-            ap (λ (w : Workspace). find (take n ws) w.name) (front_at ws n i less) ∙ find_front ws (workspace_at ws i).name i n (r.own i (omega (arith, less, within))) less within;
+            ap (λ (w : Workspace). find (take n ws) w.name) (at_take ws n i less) ∙ find_front ws (workspace_at ws i).name i n (r.own i (omega (arith, less, within))) less within;
         under = λ i later lt. let less : i < n = omega (arith, count, lt) in let p = r.under i later (omega (arith, less, within)) in
-            (p.0, ap (λ (w : Workspace). find (take n ws) w.parent) (front_at ws n i less) ∙ find_front ws (workspace_at ws i).parent p.0 n p.1 (let q = p.2 in omega (arith, q, less)) within, p.2);
+            (p.0, ap (λ (w : Workspace). find (take n ws) w.parent) (at_take ws n i less) ∙ find_front ws (workspace_at ws i).parent p.0 n p.1 (let q = p.2 in omega (arith, q, less)) within, p.2);
       }
 
   front_depth : (k at : ℕ) → at < n → depth_within (take n ws) k at ≡ depth_within ws k at
@@ -101,7 +95,7 @@ module _ (ws : List Workspace) (r : IsRooted ws) (n : ℕ) (some : 0 < n) (withi
       let p = r.under (suc at) (omega arith) (omega (arith, lt, within)) in
       let q = p.2 in
       let less : p.0 < n = omega (arith, q, lt) in
-      let here : parent_of (take n ws) (suc at) ≡ Some p.0 = ap (λ (w : Workspace). find (take n ws) w.parent) (front_at ws n (suc at) lt) ∙ find_front ws (workspace_at ws (suc at)).parent p.0 n p.1 less within in
+      let here : parent_of (take n ws) (suc at) ≡ Some p.0 = ap (λ (w : Workspace). find (take n ws) w.parent) (at_take ws n (suc at) lt) ∙ find_front ws (workspace_at ws (suc at)).parent p.0 n p.1 less within in
       ap (one_above (depth_within (take n ws) k)) here ∙ ap (λ d. d + 1) (front_depth k p.0 less) ∙ sym (ap (one_above (depth_within ws k)) p.1)
 
 -- counts -------------------------------------------------------------------------------------

@@ -15,6 +15,6 @@ layer_in o w = layer_from (content_of o w.parent) w
 abbrev pub text_of : Office → OfficeText
 text_of o = record { schema = o.schema; book = o.book; live = o.live; layers = map (layer_in o) o.workspaces }
 
--- the bytes
-abbrev pub written : Office → List ℕ
-written o = compact_text (office_data (text_of o))
+-- the bytes of the text
+abbrev pub bytes_of : Office → List ℕ
+bytes_of o = compact_text (office_data (text_of o))

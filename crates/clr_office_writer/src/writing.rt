@@ -7,7 +7,7 @@ ghost use Rattle.clr_office_data.specs.OfficeData.{office_data};
 ghost use Rattle.clr_office_data.specs.Values.{list_data};
 ghost use Rattle.clr_office_data.specs.WorkspaceData.{layer_data};
 ghost use Rattle.clr_drafts.specs.Drafts.{draft_in};
-ghost use Rattle.clr_office_writer.specs.Writing.{layer_in, text_of, written};
+ghost use Rattle.clr_office_writer.specs.Writing.{layer_in, text_of, bytes_of};
 
 use clr_engine::Office;
 use clr_office_json::{live_json, rules_json, tables_json, workspace_json};
@@ -45,8 +45,8 @@ fn json_of_each(alloc: Global, office: &Office) -> Result<Vec<Json>, AllocError>
 {
     let mut list = Vec::new(alloc);
     let count = office.len() - 1;
-    for place in 0..count {
-        list.push(json_at(alloc, office, place + 1)?)?;
+    for position in 0..count {
+        list.push(json_at(alloc, office, position + 1)?)?;
     }
     Ok(list)
 }
@@ -76,7 +76,7 @@ fn office_json(alloc: Global, office: &Office) -> Result<Json, AllocError>
 /// again it is the same office: schema, rules, contents, marks in their order and flags. It fails
 /// for want of memory alone.
 pub fn write_office(alloc: Global, office: &Office) -> Result<Vec<u8>, AllocError>
-    ensures text { IfOk result (λ bytes. bytes.items ≡ written office.now) }
+    ensures text { IfOk result (λ bytes. bytes.items ≡ bytes_of office.now) }
     ensures again { IfOk result (λ bytes. draft_in bytes.items ≡ Ok office.now) }
 {
     let _sound = office.schema().tables();

@@ -14,7 +14,7 @@ use Rattle.clr_steps.specs.Readings.{conflicts_in}
 use Rattle.clr_clearance.specs.declared.verdicts.Verdict.{Verdict}
 use Rattle.clr_clearance.specs.declared.verdicts.Verdict.TheVariants as verdict
 use Rattle.clr_clearance.specs.Plans.{IsBlocked, IsUnfit, of_conflict, of_shared, of_unpicked}
-use Rattle.clr_clearance.specs.Sites.{change_sets, numbered}
+use Rattle.clr_clearance.specs.Sites.{change_sets, setting_by_position}
 use Rattle.clr_clearance.specs.Verdicts.{first_conflict, first_repeated, member_fault, missing_member, name_fault, repeated_member, root_fault, stray_member}
 use Rattle.clr_check.specs.Answers.{IsFault, of_member, without_memory}
 use Rattle.clr_plan.specs.declared.plans.Plan.{Plan}
@@ -150,10 +150,10 @@ module _ (o : Office) (s : Site) where
   shared_plan cell i j p none shared h = blocked_plan (i ∷ j ∷ []) (verdict.SharedCell cell i j) p h (no_name_fault o s none) (of_shared cell i j none shared refl refl)
 
   -- what the touched needs decide
-  pub scene_plan : (c : Setting ℕ) (p : Plan) → member_fault o s ≡ None → AreApart (change_sets o s) → c ≡ numbered o s → IsScenePlan c s p → IsPlan o s p
+  pub scene_plan : (c : Setting ℕ) (p : Plan) → member_fault o s ≡ None → AreApart (change_sets o s) → c ≡ setting_by_position o s → IsScenePlan c s p → IsPlan o s p
   scene_plan c p none apart same h = by p (subst (λ d. IsScenePlan d s p) same h)
     where
-      by : (p : Plan) → IsScenePlan (numbered o s) s p → IsPlan o s p
+      by : (p : Plan) → IsScenePlan (setting_by_position o s) s p → IsPlan o s p
       by (plan.Cleared cert) h = record { site = h.0; cleared = record { free = none; apart = apart; picked = h.1 } }
       by (plan.Blocked order cause) h = of_unpicked h.0 none apart h.1 h.2 h.3
       by (plan.Unfit v) h = absurd h

@@ -2,8 +2,7 @@
 
 ghost use Rattle.std.specs.Prelude.{◌≡◌, IfOk, map};
 
-use clr_cert::Names;
-use clr_rows::Words;
+use clr_rows::{Names, Words};
 use std::alloc::{AllocError, Global};
 
 /// A text of its own.

@@ -3,7 +3,9 @@
 //! subcommand asks of files.
 #![tactic(auto)]
 
-use clr_office::{Ask, AskFault, Port, RunFault, answer, ask_of, read_input, run_office};
+use clr_office::{
+    Port, Request, RequestFault, RunFault, answer, read_input, request_of, run_office,
+};
 use clr_rows::Words;
 use std::alloc::AllocError;
 use std::env;
@@ -68,12 +70,12 @@ fn read_files(rt: &HostRuntime, files: &[Words]) -> Result<(Vec<u8>, Vec<u8>), R
 }
 
 /// Answers what the words ask of files on standard output, and gives the exit status.
-fn answer_files(rt: &HostRuntime, ask: &Ask, files: &[Words]) -> Result<u8, RunFault> {
+fn answer_files(rt: &HostRuntime, request: &Request, files: &[Words]) -> Result<u8, RunFault> {
     let (office, second) = read_files(rt, files)?;
     let mut writer = Port::new(rt.stdout());
     answer(
         rt.alloc(),
-        ask,
+        request,
         office.as_slice(),
         second.as_slice(),
         &mut writer,
@@ -92,10 +94,10 @@ fn texts<'a>(rt: &HostRuntime, words: &'a [String]) -> Result<Vec<&'a str>, Allo
 /// Does what the words ask for, and gives the exit status.
 fn run_words(rt: &HostRuntime, words: &[String]) -> Result<u8, RunFault> {
     let texts = texts(rt, words)?;
-    match ask_of(rt.alloc(), texts.as_slice()) {
-        Ok((ask, files)) => answer_files(rt, &ask, files.as_slice()),
-        Err(AskFault::Refused(error)) => Ok(refuse_words(rt, &error)),
-        Err(AskFault::OutOfMemory) => Err(RunFault::OutOfMemory),
+    match request_of(rt.alloc(), texts.as_slice()) {
+        Ok((request, files)) => answer_files(rt, &request, files.as_slice()),
+        Err(RequestFault::Refused(error)) => Ok(refuse_words(rt, &error)),
+        Err(RequestFault::OutOfMemory) => Err(RunFault::OutOfMemory),
     }
 }
 

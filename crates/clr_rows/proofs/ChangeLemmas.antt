@@ -8,7 +8,7 @@ use Rattle.std.specs.Option.{option_map}
 use Rattle.std.specs.Ordering.{eq_by_cmp, is_eq}
 use Rattle.std.specs.Cmp.{tied_itself}
 use Rattle.std.specs.declared.cmp.Ordering.TheVariants.{Less}
-use Rattle.std.proofs.lemmas.Bool.{false≢true}
+use Rattle.std.proofs.lemmas.Bool.{false≢true, not-false}
 use Rattle.std.proofs.lemmas.List.Folds.{list_any-append}
 use Rattle.clr_rows.specs.declared.cells.CellId.{CellId}
 use Rattle.clr_rows.specs.declared.rows.Row.{Row}
@@ -228,11 +228,7 @@ IsUntouched target changed = (q : CellId) (change : Change) → finite.get chang
 
 pub untouched_from_none : (target : Content) (changed : Changes) → conflicts target changed ≡ [] → IsUntouched target changed
 untouched_from_none target changed none q change is =
-    same_is _ _ (turned _ (sym (ap (has_conflict target q) is) ∙ sym (any-conflicts target changed q) ∙ ap (list_any (eq_by_cmp cell_cmp q)) none))
-  where
-    turned : (b : Bool) → not b ≡ false → b ≡ true
-    turned true e = refl
-    turned false e = sym e
+    same_is _ _ (not-false _ (sym (ap (has_conflict target q) is) ∙ sym (any-conflicts target changed q) ∙ ap (list_any (eq_by_cmp cell_cmp q)) none))
 
 pub none_from_untouched : (target : Content) (changed : Changes) → IsUntouched target changed → conflicts target changed ≡ []
 none_from_untouched target changed agree = nil (conflicts target changed) (λ q. any-conflicts target changed q ∙ none q (finite.get changed q) refl)

@@ -26,7 +26,7 @@ module _ {K X : Type 0} (R : K → K → Ordering) where
   sorted_from_ordered [] h = tt
   sorted_from_ordered (e ∷ es) h = both _ _ (below_from_all e.0 es h.0) (sorted_from_ordered es h.1)
 
-  find_row : (es : List (K × X)) (q : K) → find R q es ≡ lookup (is_at (R q)) es
+  pub find_row : (es : List (K × X)) (q : K) → find R q es ≡ lookup (is_at (R q)) es
   find_row [] q = refl
   find_row (e ∷ es) q = ap (cond (is_at (R q) e.0) (Some e.1)) (find_row es q)
 

@@ -1,8 +1,8 @@
 -- Names of tables, columns, workspaces and savepoints.
-use Rattle.std.specs.Prelude.{ℕ, Bool, false, List, [], ◌∷◌, length, ◌&&◌, ◌||◌, ◌==◌, nat_le, codes}
+use Rattle.std.specs.Prelude.{ℕ, Bool, false, List, [], ◌∷◌, length, ◌&&◌, ◌||◌, ◌==◌, nat_le}
 use Rattle.std.specs.List.{list_all}
 use Rattle.std.specs.Str.{bytes_eq}
-use Rattle.clr_rows.specs.declared.limits.TheConstants.{MOST_NAME_BYTES}
+use Rattle.clr_rows.specs.declared.limits.TheConstants.{KEY, LIVE, MOST_NAME_BYTES}
 
 abbrev pub is_between : ℕ → ℕ → ℕ → Bool
 is_between low c high = nat_le low c && nat_le c high
@@ -25,4 +25,8 @@ is_good_name name = begins_with_letter name && nat_le (length name) MOST_NAME_BY
 
 -- a name that a column may have: `KEY` stands for the primary key
 abbrev pub is_key_word : List ℕ → Bool
-is_key_word name = bytes_eq name (codes "KEY")
+is_key_word name = bytes_eq name KEY.now
+
+-- the name of the root of all workspaces
+abbrev pub live_name : List ℕ
+live_name = LIVE.now

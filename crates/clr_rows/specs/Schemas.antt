@@ -1,6 +1,6 @@
 -- Schemas: which tables make one, and which rows fit one.
 use Rattle.std.specs.Prelude.{◌≡◌, ℕ, ℤ, pos, Bool, true, false, not, List, [], ◌∷◌, ◌&&◌, ◌==◌, length, map}
-use Rattle.std.specs.Prelude.{nat_le, int_le, Option, Some, None, slice_get, position, unsigned_abs, if◌then◌else◌, Result, Ok, Err}
+use Rattle.std.specs.Prelude.{nat_le, int_le, Option, Some, None, slice_get, position, unsigned_abs, option_map, unwrap_or, if◌then◌else◌, Result, Ok, Err}
 use Rattle.std.specs.List.{list_all, list_any, zip}
 use Rattle.std.specs.Option.{option_and_then}
 use Rattle.std.specs.Str.{bytes_eq}
@@ -62,6 +62,10 @@ schema_fault tables =
     else (if not (list_all has_good_names tables) then Some unfit.BadName
     else (if not (are_distinct (map (λ t. t.name) tables) && list_all has_distinct_columns tables) then Some unfit.NameTaken
     else None))
+
+-- a table's name, or no bytes where there is no such table
+abbrev pub name_of_table : List TableDef → ℕ → List ℕ
+name_of_table tables n = unwrap_or (option_map (λ table. table.name) (slice_get tables n)) []
 
 -- the number of the table of this name
 abbrev pub table_named : List TableDef → List ℕ → Option ℕ

@@ -20,10 +20,10 @@ pub use cells::{CellId, Change, Held};
 pub use faults::{RowFault, SchemaFault};
 pub use laws::{changes_law, over_law};
 pub use limits::{
-    GREATEST_COORDINATE, GREATEST_KEY, LEAST_VERTICES, MOST_COLUMNS, MOST_NAME_BYTES, MOST_TABLES,
-    MOST_TEXT_BYTES, MOST_VERTICES,
+    GREATEST_COORDINATE, GREATEST_KEY, KEY, LEAST_VERTICES, LIVE, MOST_COLUMNS, MOST_NAME_BYTES,
+    MOST_TABLES, MOST_TEXT_BYTES, MOST_VERTICES,
 };
-pub use names::good_name;
+pub use names::{Names, good_name};
 pub use places::{Place, Shape};
 pub use rows::{Row, Value, Values};
 pub use schemas::Schema;

@@ -7,6 +7,12 @@ pub const MOST_COLUMNS: usize = 16;
 /// The most bytes of a name.
 pub const MOST_NAME_BYTES: usize = 30;
 
+/// The word that stands for the primary key where a column is named. No column has this name.
+pub const KEY: &str = "KEY";
+
+/// The name of the root of all workspaces.
+pub const LIVE: &str = "LIVE";
+
 /// The most bytes of a text in a row.
 pub const MOST_TEXT_BYTES: usize = 200;
 

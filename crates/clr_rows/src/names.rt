@@ -1,8 +1,11 @@
-ghost use Rattle.std.specs.Prelude.{◌≡◌};
+ghost use Rattle.std.specs.Prelude.{◌≡◌, ◌++◌, ◌∷◌, [], OnOk};
 ghost use Rattle.std.specs.List.{list_all};
 ghost use Rattle.clr_rows.specs.Names.{is_good_name, is_name_byte};
 
 use crate::limits::MOST_NAME_BYTES;
+use crate::texts::Words;
+use std::alloc::AllocFailed;
+use std::marker::Model;
 
 fn is_name_byte(byte: u8) -> bool
     ensures { result ≡ is_name_byte byte }
@@ -28,5 +31,49 @@ pub fn good_name(name: &str) -> bool
             first.is_ascii_alphabetic() && bytes.len() <= MOST_NAME_BYTES && are_name_bytes(bytes)
         }
         None => false,
+    }
+}
+
+/// Names, in their order.
+#[derive(Debug, Drop)]
+pub struct Names {
+    list: Vec<Words>,
+}
+
+impl Model for Names {
+    ghost use Rattle.std.specs.Prelude.{List, ℕ};
+
+    ghost Value = { List (List ℕ) };
+
+    ghost view = { λ a. a.list.items };
+}
+
+impl Names {
+    /// The names of this list.
+    pub fn new(list: Vec<Words>) -> Names
+        ensures { result ≡ list.items }
+    {
+        Names { list }
+    }
+
+    /// The names as a slice.
+    pub fn as_slice(&self) -> &[Words]
+        ensures { result.now ≡ self.now }
+    {
+        self.list.as_slice()
+    }
+
+    /// The list back again.
+    pub fn into_vec(self) -> Vec<Words>
+        ensures { result.items ≡ self }
+    {
+        self.list
+    }
+
+    /// Adds a name behind the others. It fails for want of memory alone.
+    pub fn push(&mut self, name: Words) -> Result<(), AllocFailed<Words>>
+        ensures { OnOk result (self.new ≡ self.old ++ name ∷ []) }
+    {
+        self.list.push(name)
     }
 }

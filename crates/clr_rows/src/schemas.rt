@@ -1,6 +1,6 @@
 ghost use Rattle.std.specs.Prelude.{◌≡◌, ◌<◌, ◌≤◌, length, IfOk, IfSome, MatchResult, Some, None, slice_get, option_map};
 ghost use Rattle.std.specs.Option.{option_copied};
-ghost use Rattle.clr_rows.specs.Schemas.{Answers, schema_fault, table_named, named_in, column_named, cell_fault, row_fault};
+ghost use Rattle.clr_rows.specs.Schemas.{Answers, schema_fault, name_of_table, table_named, named_in, column_named, cell_fault, row_fault};
 
 mod row_checks;
 mod table_checks;
@@ -36,10 +36,10 @@ impl Model for Schema {
 }
 
 impl Schema {
-    /// The schema of these tables, numbered in their order, or the first test that they fail,
-    /// each made over all tables before the next: `TooMany` for more than 32 tables or for a
-    /// table of more than 16 columns, `BadName` for a name that isn't good or a column `KEY`,
-    /// `NameTaken` for a table's name, or a column's in one table, that stands twice.
+    /// The schema of these tables, numbered in their order. Each test is made over all tables before
+    /// the next. Fails with `TooMany` where there are more than 32 tables or a table has more than 16
+    /// columns, with `BadName` where a name isn't good or a column is called `KEY`, and with
+    /// `NameTaken` where a table's name, or a column's in one table, stands twice.
     pub fn new(tables: Vec<TableDef>) -> Result<Schema, SchemaFault>
         ensures made { IfOk result (λ schema. schema ≡ tables.items) }
         ensures judged { MatchResult result (λ _. schema_fault tables.items ≡ None) (λ fault. schema_fault tables.items ≡ Some fault) }
@@ -79,6 +79,17 @@ impl Schema {
         }
     }
 
+    /// The name of the table of this number, or no bytes where there is no such table.
+    pub fn name_of_table(&self, table: u16) -> &str
+        ensures value { result.now ≡ name_of_table self.now table }
+        ensures sound { schema_fault self.now ≡ None }
+    {
+        match self.def(table) {
+            Some(table) => table.name.as_str(),
+            None => "",
+        }
+    }
+
     /// The number of the column of this name in a table, counted from 0, or none, also where
     /// there is no such table. Case counts.
     pub fn column(&self, table: u16, name: &str) -> Option<u16>
@@ -100,8 +111,8 @@ impl Schema {
         self.tables.get(table as usize)
     }
 
-    /// Whether some row could stand at this cell: `NoTable` where no table has its number,
-    /// else `OutOfRange` for a key outside 1 to 999,999,999,999,999.
+    /// Whether some row could stand at this cell. Fails with `NoTable` where no table has its number,
+    /// and with `OutOfRange` where its key isn't 1 to 999,999,999,999,999.
     #[tactic(auto, unfolding(crate::specs::Schemas::cell_fault))]
     pub fn names_cell(&self, cell: CellId) -> Result<(), RowFault>
         ensures { Answers result (cell_fault self.now cell) }
@@ -113,12 +124,14 @@ impl Schema {
         }
     }
 
-    /// Whether this row can stand at this cell, or the first test that it fails: `NoTable`;
-    /// `WrongCount` for another number of values than columns; `WrongKind`; `WordsTooLong` for
-    /// a text of more than 200 bytes; `WrongShape`; `OutOfRange` for a key outside 1 to
-    /// 999,999,999,999,999 or a coordinate beyond 1,000,000,000 millimetres either way;
-    /// `ZeroSegment` for a segment whose ends are one point, or a path with two equal vertices
-    /// in a row; `BadPath` for a path of fewer than 2 or more than 32 vertices.
+    /// Whether this row can stand at this cell, by tests in this order. Fails with `NoTable` where no
+    /// table has the cell's number, with `WrongCount` where there is another number of values than
+    /// columns, with `WrongKind` where a value isn't of its column's kind, with `WordsTooLong` where a
+    /// text has more than 200 bytes, with `WrongShape` where the shape isn't of the table's form, with
+    /// `OutOfRange` where the key isn't 1 to 999,999,999,999,999 or a coordinate is beyond
+    /// 1,000,000,000 millimetres either way, with `ZeroSegment` where the ends of a segment are one
+    /// point or two vertices of a path in a row are equal, and with `BadPath` where a path has fewer
+    /// than 2 or more than 32 vertices.
     #[tactic(auto, unfolding(crate::specs::Schemas::row_fault))]
     pub fn fits(&self, cell: CellId, row: &Row) -> Result<(), RowFault>
         ensures { Answers result (row_fault self.now cell row.now) }

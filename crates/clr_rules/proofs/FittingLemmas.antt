@@ -61,7 +61,7 @@ distance_without_fault tables rule h =
     let e = passed (has_forms tables rule) WrongShape _ d.1 in
     (passed (has_distance rule) BadDistance _ e.1).0
 
-no_fault : (number : ℕ) (fault : Option RuleFault) (later : Option (ℕ × RuleFault)) → fault_or_later number fault later ≡ None → (fault ≡ None) × (later ≡ None)
+pub no_fault : (number : ℕ) (fault : Option RuleFault) (later : Option (ℕ × RuleFault)) → fault_or_later number fault later ≡ None → (fault ≡ None) × (later ≡ None)
 no_fault number (Some fault) later h = cc
 no_fault number None later h = (refl, h)
 
@@ -85,7 +85,7 @@ pub distance_fits : (rules : List Rule) (rows : List Held) (i : ℕ) (rule : Rul
 distance_fits rules rows i rule h is = distance_without_fault h.tables rule (rule_fits h.tables rules i rule h.book is)
 
 -- the literals of a book that fits are within 64 bits
-literal_within : (k : Option Kind) (v : Value) → is_literal_of k v ≡ true → is_number v ≡ true
+pub literal_within : (k : Option Kind) (v : Value) → is_literal_of k v ≡ true → is_number v ≡ true
 literal_within None v h = absurd (false≢true h)
 literal_within (Some k) v h = (and_parts (is_of_kind k v) (is_number v) h).1
 

@@ -234,10 +234,10 @@ pub(crate) fn edits(
 ///
 /// Fails with `NotCsv` at 1 where the bytes aren't UTF-8, with `BadWord` where the first field is
 /// none of the three words, with `FieldCount` where there are fewer than three fields, or a count
-/// that the table's columns and shape don't allow (a path has 4 to 64 coordinates, an even count), with `NoTable` where the schema has no table
-/// of the name, and with `BadNumber` where a key, a value of a column of numbers or a coordinate
-/// isn't decimal in its one form, or isn't within 64 bits. Want of memory is `OutOfMemory` at 0,
-/// which may come in place of any other answer.
+/// that the table's columns and shape don't allow (a path has 4 to 64 coordinates, an even count),
+/// with `NoTable` where the schema has no table of the name, and with `BadNumber` where a key, a
+/// value of a column of numbers or a coordinate isn't decimal in its one form, or isn't within 64
+/// bits. Want of memory is `OutOfMemory` at 0, which may come in place of any other answer.
 pub fn read_edits(
     alloc: Global,
     schema: &Schema,

@@ -12,4 +12,4 @@ mod steps;
 pub use edits::read_edits;
 pub use faults::RecordFault;
 pub use script::read_script;
-pub use steps::{Names, Step, Word};
+pub use steps::{Step, Word};

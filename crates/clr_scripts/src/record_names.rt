@@ -5,9 +5,8 @@ ghost use Rattle.clr_scripts.specs.Records.{Gives};
 ghost use Rattle.clr_scripts.specs.Scripts.{only_name_of, two_names_of};
 
 use crate::faults::RecordFault;
-use crate::steps::Names;
 use clr_records::field;
-use clr_rows::Words;
+use clr_rows::{Names, Words};
 use csv::StringRecord;
 use std::alloc::Global;
 

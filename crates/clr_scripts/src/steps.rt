@@ -1,46 +1,5 @@
-ghost use Rattle.std.specs.Prelude.{◌≡◌};
-
-use clr_rows::Words;
+use clr_rows::Names;
 use clr_steps::Command;
-use std::marker::Model;
-
-/// The names that a report is asked for, in their order: of each kind of report, as many as its word
-/// says.
-#[derive(Debug, Drop)]
-pub struct Names {
-    list: Vec<Words>,
-}
-
-impl Model for Names {
-    ghost use Rattle.std.specs.Prelude.{List, ℕ};
-
-    ghost Value = { List (List ℕ) };
-
-    ghost view = { λ a. a.list.items };
-}
-
-impl Names {
-    /// The names of this list.
-    pub fn new(list: Vec<Words>) -> Names
-        ensures { result ≡ list.items }
-    {
-        Names { list }
-    }
-
-    /// The names as a slice.
-    pub fn as_slice(&self) -> &[Words]
-        ensures { result.now ≡ self.now }
-    {
-        self.list.as_slice()
-    }
-
-    /// The list back again.
-    pub fn into_vec(self) -> Vec<Words>
-        ensures { result.items ≡ self }
-    {
-        self.list
-    }
-}
 
 /// What a report shows, and which names it is asked for.
 #[derive(Clone, Copy, Debug, PartialEq, Eq)]
@@ -65,7 +24,8 @@ pub enum Word {
     PlanUnder,
 }
 
-/// A step of a script: a command to perform, or a report to print.
+/// A step of a script: a command to perform; or a report to print, with the names that it is asked
+/// for, of each kind of report as many as its word says.
 #[derive(Debug, Drop)]
 pub enum Step {
     Act(Command),

@@ -9,7 +9,6 @@ mod crossing;
 mod laws;
 mod limits;
 mod meeting;
-mod nearness;
 mod points;
 mod shape_parts;
 mod sides;
@@ -23,7 +22,6 @@ pub use laws::{
 };
 pub use limits::GREATEST_DISTANCE;
 pub use meeting::Meet;
-pub use nearness::near;
-pub use points::lies_on;
+pub use points::{lies_on, near};
 pub use shape_parts::{part, parts};
 pub use sides::turn;

@@ -1,9 +1,11 @@
-ghost use Rattle.std.specs.Prelude.{◌↔◌, IsTrue};
+ghost use Rattle.std.specs.Prelude.{◌↔◌, ◌≤ℤ◌, ◌<ℤ◌, ◌*ℤ◌, pos, IsTrue};
 ghost use Rattle.clr_rows.specs.Places.{InRange, Differ};
 ghost use Rattle.clr_segments.specs.Segments.{LiesOn};
+ghost use Rattle.clr_segments.specs.Turns.{squared_distance};
 
 use crate::boxes::{box_of, is_in_box};
-use crate::sides::turn;
+use crate::limits::GREATEST_DISTANCE;
+use crate::sides::{difference, product, turn};
 use clr_rows::Place;
 
 /// Whether p is a point of the segment from a to b, its ends counted in. The ends differ, and
@@ -16,4 +18,18 @@ pub fn lies_on(p: Place, a: Place, b: Place) -> bool
     ensures { IsTrue result ↔ LiesOn p a b }
 {
     turn(a, b, p) == 0 && is_in_box(p, box_of(a, b))
+}
+
+/// Whether p and q are nearer than d millimetres: two places just d apart are not. The distance d is
+/// 1 to 1,000,000, and coordinates are millimetres of at most 1,000,000,000 in size.
+pub fn near(p: Place, q: Place, d: i64) -> bool
+    requires p_in { InRange p }
+    requires q_in { InRange q }
+    requires d_least { pos 1 ≤ℤ d }
+    requires d_most { d ≤ℤ GREATEST_DISTANCE }
+    ensures { IsTrue result ↔ (squared_distance p q <ℤ (d *ℤ d)) }
+{
+    let x = difference(q.x, p.x);
+    let y = difference(q.y, p.y);
+    product(x, x) + product(y, y) < product(d, d)
 }

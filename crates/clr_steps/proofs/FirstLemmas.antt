@@ -3,7 +3,7 @@ use Rattle.std.proofs.Common.{◌≡◌, ℕ, zero, suc, ◌+◌, ◌<◌, Bool,
 use Rattle.std.specs.Prelude.{position, filter}
 use Rattle.std.specs.List.{position_or_len}
 use Rattle.std.specs.Option.{option_map}
-use Rattle.std.proofs.lemmas.Bool.{true≢false, ltb-true, lt-ltb}
+use Rattle.std.proofs.lemmas.Bool.{true≢false, ltb-true, lt-ltb, false_from_ne_true}
 
 -- none passes
 abbrev pub IsNone : {X : Type 0} → (X → Bool) → List X → Type 0
@@ -38,10 +38,6 @@ later_none (Some j) e = zero_suc j (sym (some_is (suc j) 0 e))
 later_some : (r : Option ℕ) (k : ℕ) → option_map suc r ≡ Some (suc k) → r ≡ Some k
 later_some None k e = absurd (cc)
 later_some (Some j) k e = ap Some (suc_is j k (some_is (suc j) (suc k) e))
-
-false_unless : (b : Bool) → (b ≡ true → ⊥) → b ≡ false
-false_unless true f = absurd (f refl)
-false_unless false f = refl
 
 module _ {X : Type 0} (p : X → Bool) where
   -- a search ends at a first element that passes, and goes on past one that doesn't
@@ -89,7 +85,7 @@ module _ {X : Type 0} (p : X → Bool) where
 
   none_of_each : (d : X) (xs : List X) → ((j : ℕ) → j < length xs → p (slice_index_or xs j d) ≡ true → ⊥) → IsNone p xs
   none_of_each d [] fails = tt
-  none_of_each d (x ∷ xs) fails = (false_unless (p x) (fails 0 (omega arith)), none_of_each d xs (λ j lt e. fails (suc j) (omega arith) e))
+  none_of_each d (x ∷ xs) fails = (false_from_ne_true (p x) (fails 0 (omega arith)), none_of_each d xs (λ j lt e. fails (suc j) (omega arith) e))
 
   -- the first passes alone, where whatever passes has its position
   pub only_of_first : (d : X) (xs : List X) (i : ℕ) → IsFirst p xs i → ((j : ℕ) → j < length xs → p (slice_index_or xs j d) ≡ true → j ≡ i) → IsOnly p xs i

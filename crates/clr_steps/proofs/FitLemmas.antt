@@ -29,7 +29,7 @@ use Rattle.clr_steps.specs.Names.{same_name, is_live}
 use Rattle.clr_steps.specs.Offices.{Office, with_workspaces, find_name, workspace, stands, content_of, current_of, set_content, modify, modify_marks, without}
 use Rattle.clr_steps.specs.Effects.{edited_content, merged_content, after_create, after_remove, after_apply, after_mark, after_unmark, after_roll_to, after_roll_all, after_refresh, after_merge, after_resolve, set_kept, effect}
 use Rattle.clr_steps.specs.Refusals.{when, bad_edit, edit_refusal, breaks, refusal}
-use Rattle.clr_steps.specs.Steps.{settle, step}
+use Rattle.clr_steps.specs.Steps.{refused_or_done, step}
 use Rattle.clr_steps.specs.Invariants.{WorkspaceFits, OfficeFits}
 use Rattle.clr_steps.specs.Laws.{FitLaw}
 use Rattle.clr_steps.proofs.RuleLemmas as rules
@@ -306,6 +306,6 @@ pub fit_law : FitLaw
 unfolding step
 fit_law o c g = by (refusal o c) refl
   where
-    by : (r : Option Reply) → refusal o c ≡ r → OfficeFits (settle r o (effect o c)).office
+    by : (r : Option Reply) → refusal o c ≡ r → OfficeFits (refused_or_done r o (effect o c)).office
     by None e = fits_effect o g c e
     by (Some reply) e = g

@@ -3,16 +3,12 @@ use Rattle.std.proofs.Common.{◌≡◌, ℕ, zero, suc, Bool, true, false, not,
 use Rattle.std.specs.List.{list_any, list_all}
 use Rattle.std.specs.Str.{bytes_eq}
 use Rattle.std.specs.Cmp.Lexicographic.{bytes_decides}
-use Rattle.std.proofs.lemmas.Bool.{and_parts, false≢true, or_parts}
+use Rattle.std.proofs.lemmas.Bool.{and_parts, false≢true, or_parts, not-true}
 use Rattle.clr_rows.specs.Names.{is_good_name}
 use Rattle.clr_rows.specs.Schemas.{are_distinct}
 use Rattle.clr_layers.specs.Marks.{Name, Mark, Saved, ChildMark, find_mark, is_saved_as, saved_names}
 use Rattle.clr_tree.specs.Soundness.{are_good_savepoints}
 use Rattle.clr_steps.proofs.FirstLemmas.{IsNone, IsFirst, IsOnly, first_at_position}
-
-pub not_true : (b : Bool) → not b ≡ true → b ≡ false
-not_true true h = absurd (false≢true h)
-not_true false h = refl
 
 none_saved : (s : Name) (marks : List Mark) → list_any (bytes_eq s) (saved_names marks) ≡ false → IsNone (is_saved_as s) marks
 none_saved s [] h = tt
@@ -23,7 +19,7 @@ only_first : (s : Name) (marks : List Mark) (i : ℕ) → are_distinct (saved_na
 only_first s [] i distinct h = absurd h
 only_first s (Saved name content ∷ marks) zero distinct h =
     let one : s ≡ name = (bytes_decides s name).0 h in
-    let other = not_true _ (and_parts (not (list_any (bytes_eq name) (saved_names marks))) (are_distinct (saved_names marks)) distinct).0 in
+    let other = not-true _ (and_parts (not (list_any (bytes_eq name) (saved_names marks))) (are_distinct (saved_names marks)) distinct).0 in
     (h, none_saved s marks (ap (λ n. list_any (bytes_eq n) (saved_names marks)) one ∙ other))
 only_first s (Saved name content ∷ marks) (suc i) distinct h = (h.0, only_first s marks i (and_parts (not (list_any (bytes_eq name) (saved_names marks))) (are_distinct (saved_names marks)) distinct).1 h.1)
 only_first s (ChildMark name ∷ marks) zero distinct h = absurd (false≢true h)

@@ -13,7 +13,7 @@ use Rattle.clr_steps.specs.Names.{is_live}
 use Rattle.clr_steps.specs.Offices.{Office, workspace, stands}
 use Rattle.clr_steps.specs.Effects.{edited_content, effect}
 use Rattle.clr_steps.specs.Refusals.{is_full, is_deep, when, first_of, bad_edit, in_conflict, edit_refusal, conflict, first_broken, broken_where, breaks, name_in, refusals_of, refusal}
-use Rattle.clr_steps.specs.Steps.{settle, step, is_lost}
+use Rattle.clr_steps.specs.Steps.{refused_or_done, step, is_lost}
 use Rattle.clr_steps.specs.Laws.{MemoryLaw}
 
 abbrev IsNoLoss : Option Reply → Type 0
@@ -95,6 +95,6 @@ pub memory_law : MemoryLaw
 unfolding step
 memory_law o c = by (refusal o c) (of_refusal o c)
   where
-    by : (r : Option Reply) → IsNoLoss r → is_lost (settle r o (effect o c)).reply ≡ false
+    by : (r : Option Reply) → IsNoLoss r → is_lost (refused_or_done r o (effect o c)).reply ≡ false
     by None h = refl
     by (Some reply) h = h

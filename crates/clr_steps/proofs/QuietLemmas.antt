@@ -1,7 +1,7 @@
 -- What quiet commands leave, and what every command leaves.
 use Rattle.std.proofs.Common.{◌≡◌, Bool, true, false, not, ◌||◌, cond, List, [], ◌∷◌, ◌++◌, refl, sym, ap, ◌∙◌, subst, Option, Some, None, is_some}
 use Rattle.std.specs.Option.{option_map, option_map_or}
-use Rattle.std.proofs.lemmas.Bool.{and_parts, true≢false}
+use Rattle.std.proofs.lemmas.Bool.{and_parts, true≢false, not-true}
 use Rattle.clr_rows.specs.declared.cells.CellId.{CellId}
 use Rattle.clr_rows.specs.Contents.{Content, no_rows}
 use Rattle.clr_change.specs.declared.edits.Edit.{Edit}
@@ -17,12 +17,11 @@ use Rattle.clr_steps.specs.Names.{same_name, is_live}
 use Rattle.clr_steps.specs.Offices.{Office, with_workspaces, find_name, workspace, content_of, set_content, modify, modify_marks, without}
 use Rattle.clr_steps.specs.Effects.{edited_content, merged_content, after_create, after_remove, after_apply, after_mark, after_unmark, after_roll_to, after_roll_all, after_refresh, after_merge, after_resolve, set_kept, effect}
 use Rattle.clr_steps.specs.Refusals.{refusal}
-use Rattle.clr_steps.specs.Steps.{settle, step}
+use Rattle.clr_steps.specs.Steps.{refused_or_done, step}
 use Rattle.clr_steps.specs.Quiet.{Site, is_root, is_member, is_other, is_under_other, is_quiet, is_of_member, root_content, IsRootKept, member_of, LeavesSite}
 use Rattle.clr_steps.specs.Laws.{QuietLaw}
 use Rattle.clr_steps.proofs.FindLemmas.{same_is, same_itself, other_way, has_apart, seen_by, seen_modify, seen_other, seen_marks, seen_without, seen_append, seen_behind, find_modify, found_name}
 use Rattle.clr_steps.proofs.KeptLemmas.{Root, root_of, content_seen, kept_seen, or_false}
-use Rattle.clr_steps.proofs.MarkLemmas.{not_true}
 use Rattle.clr_steps.proofs.ModifyLemmas.{LeavesName}
 
 -- LIVE's content where it is the root, and else what is seen of the root; and what is seen of each member
@@ -65,7 +64,7 @@ record IsOutside (site : Site) (n : Name) : Type 0 where
 
 outside : (site : Site) (n : Name) → is_other site n ≡ true → IsOutside site n
 unfolding is_other
-outside site n h = let both = and_parts (not (is_root site n)) (not (is_member site n)) h in record { root = not_true _ both.0; members = not_true _ both.1 }
+outside site n h = let both = and_parts (not (is_root site n)) (not (is_member site n)) h in record { root = not-true _ both.0; members = not-true _ both.1 }
 
 -- what each part of an effect leaves -----------------------------------------------------------------------
 
@@ -226,7 +225,7 @@ above site o n w e h = outside site w.parent (sym (ap (λ r. option_map_or (λ (
 
 leaves_effect : (site : Site) (o : Office) (c : Command) → IsRootKept o site → is_quiet o site c ≡ true → is_of_member site c ≡ false → Leaves site o (effect o c)
 unfolding effect is_quiet
-leaves_effect site o (command.Create n p) kept quiet plain = leaves_create site o n p (not_true _ quiet) kept
+leaves_effect site o (command.Create n p) kept quiet plain = leaves_create site o n p (not-true _ quiet) kept
 leaves_effect site o (command.Remove n) kept quiet plain = leaves_on site o n _ (λ w is e. leaves_remove site o w (named site n w e (outside site n quiet)))
 leaves_effect site o (command.Apply n edits) kept quiet plain = leaves_apply site o n edits (outside site n quiet)
 leaves_effect site o (command.Mark n s) kept quiet plain = leaves_on site o n _ (λ w is e. leaves_mark site o w s)
@@ -234,11 +233,11 @@ leaves_effect site o (command.Unmark n s) kept quiet plain = leaves_on site o n 
 leaves_effect site o (command.RollTo n s) kept quiet plain = leaves_on site o n _ (λ w is e. leaves_roll_to site o w (named site n w e (outside site n quiet)) s)
 leaves_effect site o (command.RollAll n) kept quiet plain = leaves_on site o n _ (λ w is e. leaves_roll_all site o w (named site n w e (outside site n quiet)))
 leaves_effect site o (command.Refresh n) kept quiet plain =
-    let out : IsOutside site n = record { root = not_true _ (or_false _ _ quiet plain); members = plain } in
+    let out : IsOutside site n = record { root = not-true _ (or_false _ _ quiet plain); members = plain } in
     leaves_on site o n _ (λ w is e. leaves_refresh site o w (named site n w e out))
 leaves_effect site o (command.Merge n gone) kept quiet plain =
     let both = and_parts (not (is_root site n)) (is_under_other o site n) (or_false _ _ quiet plain) in
-    let out : IsOutside site n = record { root = not_true _ both.0; members = plain } in
+    let out : IsOutside site n = record { root = not-true _ both.0; members = plain } in
     leaves_on site o n _ (λ w is e. leaves_either site o w gone (named site n w e out) (above site o n w is both.1))
 leaves_effect site o (command.Resolve n cell keep) kept quiet plain = leaves_on site o n _ (λ w is e. leaves_resolve site o w (named site n w e (outside site n quiet)) cell keep)
 leaves_effect site o (command.Hold n) kept quiet plain = leaves_on site o n _ (λ w is e. by w e (is_root site n) refl)
@@ -246,12 +245,12 @@ leaves_effect site o (command.Hold n) kept quiet plain = leaves_on site o n _ (�
     by : (w : Workspace) → w.name ≡ n → (b : Bool) → is_root site n ≡ b → Leaves site o (set_kept o w true)
     by w e true h = hold_root site o n w e h kept
     by w e false h = hold_other site o n w true e h
-leaves_effect site o (command.Release n) kept quiet plain = leaves_on site o n _ (λ w is e. hold_other site o n w false e (not_true _ quiet))
+leaves_effect site o (command.Release n) kept quiet plain = leaves_on site o n _ (λ w is e. hold_other site o n w false e (not-true _ quiet))
 
 pub quiet_law : QuietLaw
 unfolding step
 quiet_law site o c kept quiet plain = by (refusal o c)
   where
-    by : (r : Option Reply) → LeavesSite site o (settle r o (effect o c)).office
+    by : (r : Option Reply) → LeavesSite site o (refused_or_done r o (effect o c)).office
     by None = site_left site o (effect o c) (leaves_effect site o c kept quiet plain)
     by (Some reply) = site_left site o o (leaves_itself site o)

@@ -3,6 +3,7 @@ use Rattle.std.proofs.Common.{◌≡◌, Bool, true, false, not, ◌||◌, cond,
 use Rattle.std.specs.Option.{option_map, option_map_or}
 use Rattle.std.proofs.lemmas.Bool.{false≢true}
 use Rattle.clr_rows.specs.Contents.{Content, row_at, no_rows}
+use Rattle.clr_rows.specs.Names.{live_name}
 use Rattle.clr_rules.specs.declared.needs.Broken.{Broken}
 use Rattle.clr_rules.specs.declared.rules.Rule.{Rule}
 use Rattle.clr_rules.specs.Needs.{Holds}
@@ -12,13 +13,13 @@ use Rattle.clr_steps.specs.declared.commands.Reply.{Reply}
 use Rattle.clr_steps.specs.declared.commands.Reply.TheVariants.{LiveIsFixed, NoWorkspace, RuleBroken}
 use Rattle.clr_tree.specs.declared.rebases.Keep.TheVariants as keeps
 use Rattle.clr_layers.specs.Marks.{Name, Mark, find_mark, mark_at, saved_content}
-use Rattle.clr_layers.specs.Workspaces.{Workspace, live_name}
+use Rattle.clr_layers.specs.Workspaces.{Workspace}
 use Rattle.clr_tree.specs.Operations.{with_mark_of, new_leaf, with_current, with_kept, save, roll_to, roll_all, refresh, rebase, keep_row}
 use Rattle.clr_steps.specs.Names.{same_name, is_live}
 use Rattle.clr_steps.specs.Offices.{Office, with_workspaces, find_name, workspace, stands, content_of, is_kept, set_content, modify, modify_marks, without}
 use Rattle.clr_steps.specs.Effects.{edited_content, rolled_content, merged_content, resolved_content, after_create, after_remove, after_apply, after_mark, after_unmark, after_roll_to, after_roll_all, after_refresh, after_merge, after_resolve, set_kept, effect}
 use Rattle.clr_steps.specs.Refusals.{when, first_of, edit_refusal, first_broken, broken_where, breaks, name_in, refusals_of, refusal}
-use Rattle.clr_steps.specs.Steps.{settle, step}
+use Rattle.clr_steps.specs.Steps.{refused_or_done, step}
 use Rattle.clr_steps.specs.Invariants.{HoldsWhereKept}
 use Rattle.clr_steps.specs.Laws.{RulesLaw}
 use Rattle.clr_steps.proofs.FindLemmas.{same_is, seen_by, seen_modify, seen_other, seen_marks, seen_without, find_modify, find_without, found_name}
@@ -60,7 +61,7 @@ holds_of o g n flag = subst (λ c. Holds o.book (row_at c)) (sym (content_seen o
 
 -- where a content isn't refused ------------------------------------------------------------------------------
 
-holds_where : (kept : Bool) (book : List Rule) (content : Content) → broken_where kept book content ≡ None → kept ≡ true → Holds book (row_at content)
+pub holds_where : (kept : Bool) (book : List Rule) (content : Content) → broken_where kept book content ≡ None → kept ≡ true → Holds book (row_at content)
 holds_where false book content none is = absurd (false≢true is)
 holds_where true book content none is = holds_if_none book content (by (first_broken book content) none)
   where
@@ -288,6 +289,6 @@ pub rules_law : RulesLaw
 unfolding step
 rules_law o c h = by (refusal o c) refl
   where
-    by : (r : Option Reply) → refusal o c ≡ r → HoldsWhereKept (settle r o (effect o c)).office
+    by : (r : Option Reply) → refusal o c ≡ r → HoldsWhereKept (refused_or_done r o (effect o c)).office
     by None e = holds_of (effect o c) (good_effect o (good_of o h) c e)
     by (Some reply) e = h

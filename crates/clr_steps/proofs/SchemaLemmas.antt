@@ -12,7 +12,7 @@ use Rattle.clr_steps.specs.Names.{is_live}
 use Rattle.clr_steps.specs.Offices.{Office, workspace, set_content, modify}
 use Rattle.clr_steps.specs.Effects.{edited_content, merged_content, after_create, after_remove, after_apply, after_mark, after_unmark, after_roll_to, after_roll_all, after_refresh, after_merge, after_resolve, set_kept, effect}
 use Rattle.clr_steps.specs.Refusals.{refusal}
-use Rattle.clr_steps.specs.Steps.{settle, step}
+use Rattle.clr_steps.specs.Steps.{refused_or_done, step}
 use Rattle.clr_steps.specs.Laws.{SchemaLaw}
 
 record Same (o p : Office) : Type 0 where
@@ -75,6 +75,6 @@ pub schema_law : SchemaLaw
 unfolding step
 schema_law o c = by (refusal o c)
   where
-    by : (r : Option Reply) → ((settle r o (effect o c)).office.schema ≡ o.schema) × ((settle r o (effect o c)).office.book ≡ o.book)
+    by : (r : Option Reply) → ((refused_or_done r o (effect o c)).office.schema ≡ o.schema) × ((refused_or_done r o (effect o c)).office.book ≡ o.book)
     by None = let h = same_effect o c in (h.schema, h.book)
     by (Some reply) = (refl, refl)

@@ -17,7 +17,7 @@ use Rattle.clr_steps.specs.Offices.{Office, office_of}
 use Rattle.clr_steps.specs.Effects.{effect}
 use Rattle.clr_steps.specs.Refusals.{when, first_of}
 use Rattle.clr_steps.specs.Positions.{refusals_at, refusal_below, refusal_at, at_savepoint, merge_at, edit_at, effect_at}
-use Rattle.clr_steps.specs.Steps.{Answer, answer, settle, step, is_lost}
+use Rattle.clr_steps.specs.Steps.{Answer, answer, refused_or_done, step, is_lost}
 use Rattle.clr_steps.specs.Laws.{EffectLaw, StepLaw, AnswerLaw, without_memory, refused, done}
 use Rattle.clr_steps.proofs.SeenLemmas.{within}
 use Rattle.clr_steps.proofs.RefusalLemmas.{refused_is}
@@ -84,15 +84,15 @@ pub step_law : StepLaw
 unfolding step
 step_law schema book ws sound c = rw (refused_is schema book ws sound c) (by (refusal_at schema book ws c) refl)
   where
-    by : (r : Option Reply) → refusal_at schema book ws c ≡ r → settle r (office_of schema book ws) (effect (office_of schema book ws) c) ≡ settle r (office_of schema book ws) (office_of schema book (effect_at ws c))
-    by None e = ap (settle None (office_of schema book ws)) (sym (effect_is schema book ws sound c e))
+    by : (r : Option Reply) → refusal_at schema book ws c ≡ r → refused_or_done r (office_of schema book ws) (effect (office_of schema book ws) c) ≡ refused_or_done r (office_of schema book ws) (office_of schema book (effect_at ws c))
+    by None e = ap (refused_or_done None (office_of schema book ws)) (sym (effect_is schema book ws sound c e))
     by (Some reply) e = refl
 
 pub answer_law : AnswerLaw
 answer_law schema book ws sound c reply left (without_memory e l) = rw (e, l) refl
 answer_law schema book ws sound c reply left (refused e l) =
     let o = office_of schema book ws in
-    let is : step o c ≡ answer reply o = step_law schema book ws sound c ∙ ap (λ r. settle r o (office_of schema book (effect_at ws c))) e in
+    let is : step o c ≡ answer reply o = step_law schema book ws sound c ∙ ap (λ r. refused_or_done r o (office_of schema book (effect_at ws c))) e in
     let found : is_lost reply ≡ false = sym (ap (λ (a : Answer). is_lost a.reply) is) ∙ memory_law o c in
     rw (found, l) (sym is)
-answer_law schema book ws sound c reply left (done e d l) = rw (d, l) (sym (step_law schema book ws sound c ∙ ap (λ r. settle r (office_of schema book ws) (office_of schema book (effect_at ws c))) e))
+answer_law schema book ws sound c reply left (done e d l) = rw (d, l) (sym (step_law schema book ws sound c ∙ ap (λ r. refused_or_done r (office_of schema book ws) (office_of schema book (effect_at ws c))) e))

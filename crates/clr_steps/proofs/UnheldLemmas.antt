@@ -12,7 +12,7 @@ use Rattle.clr_tree.specs.Soundness.{IsSound}
 use Rattle.clr_steps.specs.Offices.{Office, office_of, content_of, is_kept}
 use Rattle.clr_steps.specs.Refusals.{first_broken}
 use Rattle.clr_steps.specs.Positions.{content_at, kept_at}
-use Rattle.clr_steps.specs.Invariants.{HoldsWhereKept, unheld_from, unheld}
+use Rattle.clr_steps.specs.Invariants.{HoldsWhereKept, unheld_from, first_unheld}
 use Rattle.clr_steps.specs.Laws.{UnheldLaw}
 use Rattle.clr_steps.proofs.NeedLemmas.{holds_if_none, none_if_holds}
 use Rattle.clr_steps.proofs.SeenLemmas.{seen, within, kept_is}
@@ -40,7 +40,7 @@ module _ (schema : List TableDef) (book : List Rule) (ws : List Workspace) (soun
   abbrev o : Office
   o = office_of schema book ws
 
-  holds : unheld book ws ≡ None → HoldsWhereKept o
+  holds : first_unheld book ws ≡ None → HoldsWhereKept o
   holds none n kept = by (find ws n) refl (sym (kept_is schema book ws sound n) ∙ kept)
     where
       by : (r : Option ℕ) → find ws n ≡ r → kept_at ws r ≡ true → Holds book (row_at (content_of o n))
@@ -50,7 +50,7 @@ module _ (schema : List TableDef) (book : List Rule) (ws : List Workspace) (soun
           let free : first_broken book w.current ≡ None = sym (ap (λ b. cond b (first_broken book w.current) None) k) ∙ each_none book 0 ws none at (within schema book ws sound n at e) in
           subst (λ c. Holds book (row_at c)) (sym ((seen schema book ws sound n).content ∙ ap (content_at ws) e)) (holds_if_none book w.current free)
 
-  free : HoldsWhereKept o → unheld book ws ≡ None
+  free : HoldsWhereKept o → first_unheld book ws ≡ None
   free h = none_of_each book 0 ws (λ i lt. by i lt (workspace_at ws i).kept refl)
     where
       by : (i : ℕ) → i < length ws → (b : Bool) → (workspace_at ws i).kept ≡ b → cond b (first_broken book (workspace_at ws i).current) None ≡ None

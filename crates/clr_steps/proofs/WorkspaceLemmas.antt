@@ -1,7 +1,7 @@
 -- The changes of one workspace after a merge, a refresh, rolling back or resolving.
 use Rattle.std.proofs.Common.{◌≡◌, Bool, true, false, cond, not, ◌&&◌, List, [], ◌∷◌, Option, Some, None, refl, sym, ap, ◌∙◌}
 use Rattle.std.specs.Option.{option_map, unwrap_or}
-use Rattle.std.proofs.lemmas.Bool.{false≢true}
+use Rattle.std.proofs.lemmas.Bool.{false≢true, not-false}
 use Rattle.clr_rows.specs.declared.cells.CellId.{CellId}
 use Rattle.clr_rows.specs.declared.cells.Change.{Change}
 use Rattle.clr_rows.specs.declared.rows.Row.{Row}
@@ -28,7 +28,7 @@ roll_all_law w cell = unchanged w.base cell
 
 -- conflicts ---------------------------------------------------------------------------------------------------------
 
-none_listed : (cells : List CellId) → option_map in_conflict (least_and_count cells) ≡ None → cells ≡ []
+pub none_listed : (cells : List CellId) → option_map in_conflict (least_and_count cells) ≡ None → cells ≡ []
 none_listed [] e = refl
 none_listed (c ∷ cs) e = absurd (cc)
 
@@ -48,15 +48,11 @@ no_cell above w none cell = by (is_changed w.base w.current cell) refl
 none_of_cells : (above : Content) (w : Workspace) → ((cell : CellId) → is_in_conflict_with above w cell ≡ false) → conflict_with above w ≡ None
 none_of_cells above w free = ap (λ cells. option_map in_conflict (least_and_count cells)) (none_from_untouched above (own_changes w) untouched)
   where
-    not_false : (b : Bool) → not b ≡ false → b ≡ true
-    not_false true e = refl
-    not_false false e = absurd (false≢true (sym e))
-
     by : (cell : CellId) (change : Change) (b : Bool) → (b && not (same (row_at above cell) (row_at w.base cell))) ≡ false → cond b (Some (change_of w.base w.current cell)) None ≡ Some change → row_at above cell ≡ change.before
     by cell change false h e = absurd (cc)
     by cell change true h e =
         let one : change_of w.base w.current cell ≡ change = cc in
-        same_is (row_at above cell) (row_at w.base cell) (not_false _ h) ∙ ap (λ (c : Change). c.before) one
+        same_is (row_at above cell) (row_at w.base cell) (not-false _ h) ∙ ap (λ (c : Change). c.before) one
 
     untouched : IsUntouched above (own_changes w)
     untouched cell change e = by cell change (is_changed w.base w.current cell) (free cell) (sym (get-changes w.base w.current cell) ∙ e)

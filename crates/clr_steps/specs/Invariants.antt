@@ -22,8 +22,8 @@ unheld_from book at [] = None
 unheld_from book at (w ∷ ws) = option_or (option_map (λ need. (at, need)) (if w.kept then first_broken book w.current else None)) (unheld_from book (suc at) ws)
 
 -- the first of a tree, LIVE having position 0
-abbrev pub unheld : List Rule → List Workspace → Option (ℕ × Broken)
-unheld book ws = unheld_from book 0 ws
+abbrev pub first_unheld : List Rule → List Workspace → Option (ℕ × Broken)
+first_unheld book ws = unheld_from book 0 ws
 
 -- each row of a workspace fits the schema, in its savepoints too
 pub record WorkspaceFits (schema : List TableDef) (w : Workspace) : Type 0 where

@@ -13,8 +13,8 @@ use Rattle.clr_steps.specs.Offices.{Office, office_of, workspace, stands, conten
 use Rattle.clr_steps.specs.Effects.{effect}
 use Rattle.clr_steps.specs.Refusals.{refusal, depth}
 use Rattle.clr_steps.specs.Positions.{is_top, below_top, content_at, kept_at, depth_at, refusal_at, effect_at}
-use Rattle.clr_steps.specs.Steps.{settle, step, is_lost, IsAnswer, AreAnswers, run, lost_in}
-use Rattle.clr_steps.specs.Invariants.{HoldsWhereKept, OfficeFits, unheld}
+use Rattle.clr_steps.specs.Steps.{refused_or_done, step, is_lost, IsAnswer, AreAnswers, run, lost_in}
+use Rattle.clr_steps.specs.Invariants.{HoldsWhereKept, OfficeFits, first_unheld}
 use Rattle.clr_steps.specs.Quiet.{Site, IsRootKept, LeavesSite, is_quiet, is_of_member}
 
 -- what an office says of a name, by the position at which its tree finds it
@@ -42,7 +42,7 @@ EffectLaw = (schema : List TableDef) (book : List Rule) (ws : List Workspace) �
 -- a step by name, told by position
 abbrev pub StepLaw : Type 0
 StepLaw = (schema : List TableDef) (book : List Rule) (ws : List Workspace) → IsSound ws → (c : Command)
-    → let o = office_of schema book ws in step o c ≡ settle (refusal_at schema book ws c) o (office_of schema book (effect_at ws c))
+    → let o = office_of schema book ws in step o c ≡ refused_or_done (refusal_at schema book ws c) o (office_of schema book (effect_at ws c))
 
 -- what works by position answers and leaves: it finds no memory, or the command is refused, or it is done
 pub data IsPerformed (refusal : Option Reply) (ws next : List Workspace) (reply : Reply) (left : List Workspace) : Type 0 where
@@ -79,7 +79,7 @@ RulesLaw = (o : Office) (c : Command) → HoldsWhereKept o → HoldsWhereKept (s
 
 -- every rule holds where it is to hold exactly where no workspace of the tree is unheld
 abbrev pub UnheldLaw : Type 0
-UnheldLaw = (schema : List TableDef) (book : List Rule) (ws : List Workspace) → IsSound ws → (unheld book ws ≡ None) ↔ HoldsWhereKept (office_of schema book ws)
+UnheldLaw = (schema : List TableDef) (book : List Rule) (ws : List Workspace) → IsSound ws → (first_unheld book ws ≡ None) ↔ HoldsWhereKept (office_of schema book ws)
 
 -- a step leaves rows that fit the schema
 abbrev pub FitLaw : Type 0

@@ -1,8 +1,8 @@
 -- Names of workspaces, and lists of names as sets.
 use Rattle.std.specs.Prelude.{Bool, false, ◌||◌, List, [], ◌∷◌}
 use Rattle.std.specs.Str.{bytes_eq}
+use Rattle.clr_rows.specs.Names.{live_name}
 use Rattle.clr_layers.specs.Marks.{Name}
-use Rattle.clr_layers.specs.Workspaces.{live_name}
 
 unfoldable pub same_name : Name → Name → Bool
 same_name = bytes_eq

@@ -17,12 +17,12 @@ abbrev pub answer : Reply → Office → Answer
 answer reply o = record { reply = reply; office = o }
 
 -- a refusal leaves the office
-abbrev pub settle : Option Reply → Office → Office → Answer
-settle None o next = answer Done next
-settle (Some reply) o next = answer reply o
+abbrev pub refused_or_done : Option Reply → Office → Office → Answer
+refused_or_done None o next = answer Done next
+refused_or_done (Some reply) o next = answer reply o
 
 unfoldable pub step : Office → Command → Answer
-step o c = settle (refusal o c) o (effect o c)
+step o c = refused_or_done (refusal o c) o (effect o c)
 
 -- want of memory ---------------------------------------------------------------------------------------
 

@@ -4,7 +4,7 @@ ghost use Rattle.std.specs.Str.{bytes_eq};
 ghost use Rattle.clr_rows.specs.Schemas.{Answers, schema_fault, names_of, are_distinct, has_room, is_column_name, has_good_names, has_distinct_columns};
 
 use crate::faults::SchemaFault;
-use crate::limits::{MOST_COLUMNS, MOST_TABLES};
+use crate::limits::{KEY, MOST_COLUMNS, MOST_TABLES};
 use crate::names::good_name;
 use crate::tables::{Kind, TableDef};
 use crate::texts::Words;
@@ -30,7 +30,7 @@ fn are_few(tables: &[TableDef]) -> bool
 fn is_column_name(name: &str) -> bool
     ensures { result ≡ is_column_name name.now }
 {
-    good_name(name) && name != "KEY"
+    good_name(name) && name != KEY
 }
 
 fn have_good_names(columns: &[(Words, Kind)]) -> bool

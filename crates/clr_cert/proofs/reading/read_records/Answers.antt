@@ -1,8 +1,9 @@
 use Rattle.std.proofs.Common.{◌≡◌, ◌+◌, ◌||◌, Bool, true, false, rules, refl}
+use Rattle.clr_rows.specs.Names.{live_name}
 use Rattle.clr_cert.specs.declared.certificates.Certificate.{Certificate}
 use Rattle.clr_cert.specs.declared.items.Item.{Item}
 use Rattle.clr_cert.specs.declared.items.Item.TheVariants.{Root, Member, Need}
-use Rattle.clr_cert.specs.Certificates.{is_root, live_name, with_next}
+use Rattle.clr_cert.specs.Certificates.{is_root, with_next}
 use Rattle.clr_cert.proofs.ItemTurns.{one_more, stops, whole}
 use Rattle.clr_cert.proofs.reading.read_records.Goals as goal
 

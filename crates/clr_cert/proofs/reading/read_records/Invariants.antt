@@ -1,6 +1,7 @@
 use Rattle.std.proofs.Common.{◌≡◌, ◌+◌, drop, false, map}
 use Rattle.csv.specs.Records.{fields_of}
-use Rattle.clr_cert.specs.Certificates.{certificate_from, certificate_of, live_name}
+use Rattle.clr_rows.specs.Names.{live_name}
+use Rattle.clr_cert.specs.Certificates.{certificate_from, certificate_of}
 use Rattle.clr_cert.proofs.ItemTurns.{after}
 use Rattle.clr_cert.proofs.reading.read_records.Given as goal
 

@@ -1,6 +1,6 @@
 use Rattle.std.proofs.Common.{◌≡◌, ◌++◌, ◌<◌, ℕ, map, take}
 use Rattle.std.specs.Prelude.{slice_index_or}
-use Rattle.clr_cert.specs.declared.entries.Entry.{Entry}
+use Rattle.clr_cert.specs.declared.certificates.Entry.{Entry}
 use Rattle.clr_cert.specs.Texts.{IsBetween, IsReadBackWhereNamed, entry_fields, records_text, text_of}
 use Rattle.clr_cert.proofs.writing.add_entries.Given as goal
 

@@ -2,8 +2,8 @@ use Rattle.std.proofs.Common.{◌≡◌, false, sym, ap, ◌∙◌}
 use Rattle.std.specs.Prelude.{◌||◌}
 use Rattle.std.specs.List.{list_any}
 use Rattle.std.specs.Str.{bytes_eq}
+use Rattle.clr_rows.specs.Names.{live_name}
 use Rattle.clr_layers.specs.Layers.{Layer}
-use Rattle.clr_layers.specs.Workspaces.{live_name}
 use Rattle.clr_office_text.proofs.earlier_names.stands.Goals as goal
 
 pub returns-else-is_live : goal.returns-else-is_live

@@ -4,6 +4,6 @@ use Rattle.clr_office_data.specs.WorkspaceData.{layer_data}
 use Rattle.clr_office_writer.specs.Writing.{layer_in}
 use Rattle.clr_office_writer.proofs.writing.json_of_each.Given as goal
 
--- those before the place are written
-abbrev pub invariant-loop-place : goal.invariant-loop-place
-invariant-loop-place l = map view l.list.items ≡ map (layer_data l.office.schema) (map (layer_in l.office) (take l.place l.office.workspaces))
+-- those before the position are written
+abbrev pub invariant-loop-position : goal.invariant-loop-position
+invariant-loop-position l = map view l.list.items ≡ map (layer_data l.office.schema) (map (layer_in l.office) (take l.position l.office.workspaces))

@@ -1,7 +1,7 @@
 use Rattle.std.proofs.Common.{◌≡◌, ◌∙◌, ◌++◌, ap, map, sym, subst, List}
 use Rattle.clr_rows.specs.Held.{held_of}
 use Rattle.clr_rules.proofs.Elements.{Among, among, contained}
-use Rattle.clr_audit.specs.declared.spot_maps.Entry.{Entry}
+use Rattle.clr_audit.specs.declared.spot_maps.FiledPart.{FiledPart}
 use Rattle.clr_audit.specs.RoleFiling.{partners}
 use Rattle.clr_audit.proofs.FitLaws.{fit_first, fit_again}
 use Rattle.clr_audit.proofs.NeedLaws.{part_gains}
@@ -19,8 +19,8 @@ returns c =
     let search = c.args.self.now in
     let spots = c.in_ok-spots.spots in
     let near = partners search.index.now c.args.roles spots.list spots.wide in
-    let found : c.add_partners.new.list.items ≡ near = c.in_ok-add_partners.ensures ∙ ap (λ (xs : List Entry). xs ++ near) c.new-beside.ensures.items in
-    let all = λ (e : Entry) (h : Among e near). subst (Among e) (sym c.as_slice.ensures.value)
+    let found : c.add_partners.new.list.items ≡ near = c.in_ok-add_partners.ensures ∙ ap (λ (xs : List FiledPart). xs ++ near) c.new-beside.ensures.items in
+    let all = λ (e : FiledPart) (h : Among e near). subst (Among e) (sym c.as_slice.ensures.value)
     (among e c.sort_and_dedup.new.list.items ((c.sort_and_dedup.ensures.same e).1 (contained e c.add_partners.new.list.items (subst (Among e) (sym found) h)))) in
     part_gains search spots c.args.part (held_of c.args.first) c.args.roles c.as_slice.result.now c.args.list.now.items c.add_beside_all.new.list.items
     (record { fit = c.requires.fit; filed = c.requires.filed; list = c.in_ok-spots.ensures.list; wide = c.in_ok-spots.ensures.wide }) c.requires.one c.requires.roles all c.in_ok-add_beside_all.ensures

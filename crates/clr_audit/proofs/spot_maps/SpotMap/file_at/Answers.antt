@@ -6,7 +6,7 @@ use Rattle.std.specs.Map.{lookup}
 use Rattle.std.specs.declared.option.Option.{Option}
 use Rattle.clr_spots.specs.SpotOrder.{spot_cmp}
 use Rattle.clr_spots.specs.SpotOrderLaws.{spot_cmp_total, spot_cmp_exact}
-use Rattle.clr_audit.specs.declared.spot_maps.Entry.{Entry}
+use Rattle.clr_audit.specs.declared.spot_maps.FiledPart.{FiledPart}
 use Rattle.clr_audit.specs.Filing.{Filed, EntriesBySpot, filed_at}
 use Rattle.clr_audit.proofs.MapLemmas.{one_entry, filed_more}
 use Rattle.clr_audit.proofs.spot_maps.SpotMap.file_at.Goals as goal
@@ -33,6 +33,6 @@ returns c =
     let none : lookup (is_at (spot_cmp c.args.spot)) es ≡ None = absent _ (sym c.contains_key.ensures ∙ c.if-contains_key.false) in
     with_spots c.args.self.now _ (filed_at c.args.self.now.by_spot c.args.spot c.args.entry) _ c.self.view_is
     (one_entry spot_cmp_total spot_cmp_exact es c.insert.new.self.entries c.args.spot _ c.in_ok-insert.ensures.updates.0
-    ∙ ap (λ (entries : List Entry). finite.insert (finite.from_entries es) c.args.spot entries)
-    (c.in_ok-push.ensures ∙ ap (λ (xs : List Entry). xs ++ c.args.entry ∷ []) (c.new-entries.ensures ∙ ap (λ o. unwrap_or o []) (sym none)))
+    ∙ ap (λ (entries : List FiledPart). finite.insert (finite.from_entries es) c.args.spot entries)
+    (c.in_ok-push.ensures ∙ ap (λ (xs : List FiledPart). xs ++ c.args.entry ∷ []) (c.new-entries.ensures ∙ ap (λ o. unwrap_or o []) (sym none)))
     ∙ filed_more es c.args.spot c.args.entry ∙ ap (λ (m : Filed). filed_at m.by_spot c.args.spot c.args.entry) c.self.view_is)

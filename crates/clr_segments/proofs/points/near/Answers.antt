@@ -4,7 +4,7 @@ use Rattle.clr_segments.specs.declared.limits.TheConstants.{GREATEST_DISTANCE}
 use Rattle.clr_segments.specs.Sizes.{greatest_difference}
 use Rattle.clr_segments.specs.Turns.{squared_distance}
 use Rattle.clr_segments.proofs.Words64.{word_value, plus_fits, plus_in_word, product_is, product_fits, difference_is, difference_fits, less_by}
-use Rattle.clr_segments.proofs.nearness.near.Goals as goal
+use Rattle.clr_segments.proofs.points.near.Goals as goal
 
 distance_bound : (d : ℤ) → pos 1 ≤ℤ d → d ≤ℤ GREATEST_DISTANCE → unsigned_abs d ≤ greatest_difference
 distance_bound d h k = omega (arith, ints)

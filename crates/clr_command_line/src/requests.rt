@@ -1,13 +1,12 @@
 ghost use Rattle.std.specs.Prelude.{◌≡◌};
-ghost use Rattle.clr_command_line.specs.declared.asks.AskFault.TheVariants.{OutOfMemory};
+ghost use Rattle.clr_command_line.specs.declared.requests.RequestFault.TheVariants.{OutOfMemory};
 
-use clr_rows::Words;
-use clr_scripts::Names;
+use clr_rows::{Names, Words};
 use std::alloc::{AllocError, AllocFailed};
 
 /// What is asked of an office text, and of a second text where there is one.
 #[derive(Debug, Drop)]
-pub enum Ask {
+pub enum Request {
     /// The rules that LIVE's rows break.
     Audit,
     /// What the steps of a script print; the second text is the script.
@@ -25,25 +24,25 @@ pub enum Ask {
 
 /// Why words ask for nothing.
 #[derive(Drop)]
-pub enum AskFault {
+pub enum RequestFault {
     /// The words are refused, or ask for help or the version: what is to be printed, and where.
     Refused(clap::Error),
     /// No memory was found. It may come in place of any other answer.
     OutOfMemory,
 }
 
-impl From<AllocError> for AskFault {
+impl From<AllocError> for RequestFault {
     ghost from_gives = { λ _ e. e ≡ OutOfMemory };
 
-    fn from(_e: AllocError) -> AskFault {
-        AskFault::OutOfMemory
+    fn from(_e: AllocError) -> RequestFault {
+        RequestFault::OutOfMemory
     }
 }
 
-impl<T: Drop> From<AllocFailed<T>> for AskFault {
+impl<T: Drop> From<AllocFailed<T>> for RequestFault {
     ghost from_gives = { λ _ e. e ≡ OutOfMemory };
 
-    fn from(_e: AllocFailed<T>) -> AskFault {
-        AskFault::OutOfMemory
+    fn from(_e: AllocFailed<T>) -> RequestFault {
+        RequestFault::OutOfMemory
     }
 }

@@ -6,9 +6,9 @@ use Rattle.clap.specs.declared.parser.matches.SubCommand.{SubCommand}
 use Rattle.clap.specs.Faults.{fault_of, is_simple_and_free}
 use Rattle.clap.proofs.OnLiterals.{clap_on_literals}
 use Rattle.clr_command_line.specs.Program.{program}
-use Rattle.clr_command_line.specs.Asked.{asked}
+use Rattle.clr_command_line.specs.Requests.{request_of}
 use Rattle.clr_command_line.proofs.Entering.{asks_something, free}
-use Rattle.clr_command_line.proofs.reading.ask_of.Goals as goal
+use Rattle.clr_command_line.proofs.reading.request_of.Goals as goal
 
 -- the command line is one whose matches are known from the words
 simple : is_simple program ≡ true
@@ -20,16 +20,16 @@ pair_is None n r e h = absurd cc
 pair_is (Some b) n r e h = cc
 
 pub returns-in-Err-clause-takes : goal.returns-in-Err-clause-takes
-returns-in-Err-clause-takes c = λ t. c.ask_fault.ensures (c.in-Err.ensures.passes (ap (λ a. takes a (map (λ s. s.now) c.args.words.now)) c.in_ok-command.ensures ∙ t))
+returns-in-Err-clause-takes c = λ t. c.request_fault.ensures (c.in-Err.ensures.passes (ap (λ a. takes a (map (λ s. s.now) c.args.words.now)) c.in_ok-command.ensures ∙ t))
 
-pub ask-requires : goal.ask-requires
-ask-requires c =
+pub request-requires : goal.request-requires
+request-requires c =
     let command_is = c.in_ok-command.ensures in
     let words = map (λ s. s.now) c.args.words.now in
     let sub = (c.in-Ok.ensures.matches (ap is_simple command_is ∙ simple)).1 ∙ ap (λ a. subcommand_of a words) command_is in
     let found = pair_is _ c.in-Some.name.now _ c.in-Some.ensures.name c.in-Some.ensures.rows in
     let no_fault = sym (ap (λ a. fault_of a words) command_is) ∙ c.in-Ok.ensures.kinds (ap is_simple_and_free command_is ∙ free) in
-    ap (λ o. is_some (asked o)) (sym found ∙ sub) ∙ asks_something words no_fault
+    ap (λ o. is_some (request_of o)) (sym found ∙ sub) ∙ asks_something words no_fault
 
 pub returns-clause-asks : goal.returns-clause-asks
 returns-clause-asks c =
@@ -37,4 +37,4 @@ returns-clause-asks c =
     let words = map (λ s. s.now) c.args.words.now in
     let sub = (c.in-Ok.ensures.matches (ap is_simple command_is ∙ simple)).1 ∙ ap (λ a. subcommand_of a words) command_is in
     let found = pair_is _ c.in-Some.name.now _ c.in-Some.ensures.name c.in-Some.ensures.rows in
-    ap asked (sym sub ∙ found) ∙ c.in_ok-ask.ensures
+    ap request_of (sym sub ∙ found) ∙ c.in_ok-request.ensures

@@ -2,10 +2,10 @@
 use Rattle.std.specs.Prelude.{◌≡◌, List, [], ◌∷◌, codes, Option, Some, None, if◌then◌else◌, option_and_then, unwrap_or}
 use Rattle.std.specs.Str.{bytes_eq}
 use Rattle.clap.specs.Words.{Row, Text, all_of, first_of}
-use Rattle.clr_command_line.specs.declared.asks.Ask.{Ask}
-use Rattle.clr_command_line.specs.declared.asks.Ask.TheVariants.{Audit, Run, Plan, PlanUnder, Check, Merge}
-use Rattle.clr_command_line.specs.declared.asks.AskFault.{AskFault}
-use Rattle.clr_command_line.specs.declared.asks.AskFault.TheVariants as fault
+use Rattle.clr_command_line.specs.declared.requests.Request.{Request}
+use Rattle.clr_command_line.specs.declared.requests.Request.TheVariants.{Audit, Run, Plan, PlanUnder, Check, Merge}
+use Rattle.clr_command_line.specs.declared.requests.RequestFault.{RequestFault}
+use Rattle.clr_command_line.specs.declared.requests.RequestFault.TheVariants as fault
 
 -- the value of a name, or no bytes where there is none
 abbrev pub value_of : Text → List Row → Text
@@ -23,8 +23,8 @@ abbrev pub database_and : Text → List Row → List Text
 database_and id rows = value_of (codes "DB") rows ∷ value_of id rows ∷ []
 
 -- what a subcommand asks for, and its files
-unfoldable pub asked_by : Text → List Row → Option (Ask × List Text)
-asked_by name rows =
+unfoldable pub request_by_name : Text → List Row → Option (Request × List Text)
+request_by_name name rows =
     if bytes_eq name (codes "audit") then Some (Audit, database_of rows)
     else (if bytes_eq name (codes "run") then Some (Run, database_and (codes "SCRIPT") rows)
     else (if bytes_eq name (codes "plan") then Some (Plan (names_of rows), database_of rows)
@@ -34,8 +34,8 @@ asked_by name rows =
     else None)))))
 
 -- what the subcommand that words name asks for, if they name one
-abbrev pub asked : Option (Text × List Row) → Option (Ask × List Text)
-asked found = option_and_then (λ p. asked_by p.0 p.1) found
+abbrev pub request_of : Option (Text × List Row) → Option (Request × List Text)
+request_of found = option_and_then (λ p. request_by_name p.0 p.1) found
 
-abbrev pub IsMemory : AskFault → Type 0
+abbrev pub IsMemory : RequestFault → Type 0
 IsMemory e = e ≡ fault.OutOfMemory
