@@ -1,7 +1,8 @@
 # What the program is built from, and where it is kept. To be read by other scripts, with the repository's folder in `top`.
 #
 # bin/out/stamp has the name, the size and the time of the last change of each source and of the program, as they
-# were: where they are so still, the program is current. bin/out/digests has a digest of all sources and the
+# were: where they are so still, the program is current. Sources are the code and the definitions that it is proved
+# against. A proof is none: the program was proved by the proofs that it was built with, and is the same by others. bin/out/digests has a digest of all sources and the
 # program's: where these are as they were, as in a copy of the checkout, it is stamped anew.
 out=$top/bin/out
 
@@ -23,7 +24,7 @@ if [ -n "${uses[clr_program]+known}" ]; then add_crate clr_program; fi
 
 sources=(crates.txt bin/clr_office bin/program.sh)
 for crate in "${crates[@]}"; do
-    for folder in src specs proofs; do
+    for folder in src specs; do
         if [ -d "$top/crates/$crate/$folder" ]; then sources+=("crates/$crate/$folder"); fi
     done
 done
