@@ -58,7 +58,7 @@ abbrev pub one_above : (ℕ → ℕ) → Option ℕ → ℕ
 one_above count None = 0
 one_above count (Some above) = count above + 1
 
--- how many workspaces are above the one at a position, counted for at most so many steps
+-- how many workspaces are above the one at a position, going up n steps at most
 unfoldable pub depth_within : List Workspace → ℕ → ℕ → ℕ
 depth_within ws zero at = 0
 depth_within ws (suc n) at = one_above (depth_within ws n) (parent_of ws at)
