@@ -71,4 +71,5 @@ pub data IsVerdict (o : Office) (site : Site) (entries : List Entry) (v : Verdic
       → IsSceneFault (change_sets o site) (scene.SharedCell cell i j) → v ≡ verdict.SharedCell cell i j → IsVerdict o site entries v
   of_need : (n : Need) (a : Lived ℕ) (b : Option (Lived ℕ)) → member_fault o site ≡ None → AreApart (change_sets o site)
       → IsFirstUncovered (setting_by_position o site) entries n a b → v ≡ verdict.Uncovered n → IsVerdict o site entries v
-  of_none : member_fault o site ≡ None → AreApart (change_sets o site) → AreCovered (setting_by_position o site) entries → v ≡ verdict.Clear → IsVerdict o site entries v
+  of_none : member_fault o site ≡ None → AreApart (change_sets o site)
+      → AreCovered (setting_by_position o site) entries → v ≡ verdict.Clear → IsVerdict o site entries v

@@ -62,7 +62,8 @@ fn database_with(alloc: Global, matches: &ArgMatches, id: &str) -> Result<Vec<Wo
 
 /// What `planunder` asks for.
 fn plan_under(alloc: Global, matches: &ArgMatches) -> Result<Request, AllocError>
-    ensures { IfOk result (λ request. request ≡ PlanUnder (value_of (codes "ROOT") (rows_of (found_of matches.now))) (names_of (rows_of (found_of matches.now)))) }
+    ensures { IfOk result (λ request. request
+        ≡ PlanUnder (value_of (codes "ROOT") (rows_of (found_of matches.now))) (names_of (rows_of (found_of matches.now)))) }
 {
     let root = value(alloc, matches, "ROOT")?;
     let names = names(alloc, matches)?;

@@ -79,7 +79,8 @@ RulesLaw = (o : Office) (c : Command) → HoldsWhereKept o → HoldsWhereKept (s
 
 -- every rule holds where it is to hold exactly where no workspace of the tree is unheld
 abbrev pub UnheldLaw : Type 0
-UnheldLaw = (schema : List TableDef) (book : List Rule) (ws : List Workspace) → IsSound ws → (first_unheld book ws ≡ None) ↔ HoldsWhereKept (office_of schema book ws)
+UnheldLaw = (schema : List TableDef) (book : List Rule) (ws : List Workspace)
+    → IsSound ws → (first_unheld book ws ≡ None) ↔ HoldsWhereKept (office_of schema book ws)
 
 -- a step leaves rows that fit the schema
 abbrev pub FitLaw : Type 0
