@@ -10,7 +10,7 @@ use Rattle.clr_rules.specs.declared.needs.Ask.{Ask}
 use Rattle.clr_rules.specs.declared.needs.Broken.{Broken}
 use Rattle.clr_rules.specs.declared.rules.Rule.{Rule}
 use Rattle.clr_rules.specs.Calls.{serves}
-use Rattle.clr_rules.specs.Needs.{IsBroken, IsMet, StandsBeside, ask_of, broken, broken_cmp, rows_in}
+use Rattle.clr_rules.specs.Needs.{IsBroken, IsMet, StandsBeside, ask_of, broken_needs, broken_cmp, rows_in}
 use Rattle.clr_rows.specs.Held.{Held}
 use Rattle.clr_rules.proofs.AskLemmas.{rule_there}
 use Rattle.clr_rules.proofs.BrokenOrder.{broken_total}
@@ -62,15 +62,15 @@ broken_among rules content b h = record {
 -- the rows are those of a content, and the list has gained the needs of all rules
 pub audit_is : (rules : List Rule) (content : Content) (rows : List Held) (gained list : List Broken) (count : ℕ) → rows ≡ rows_in content → length rules ≡ count
     → Gains rules rows (λ b h. b.rule < count) [] gained → IsStrictlySortedBy broken_cmp list → ((b : Broken) → (Contains list b → Contains gained b) × (Contains gained b → Contains list b))
-    → list ≡ broken rules content
+    → list ≡ broken_needs rules content
 audit_is rules content rows gained list count rows_are all gains rising same =
     let whole = lists_broken rules content in
     let gains_here : Gains rules (rows_in content) (λ b h. b.rule < count) [] gained = subst (λ (r : List Held). Gains rules r (λ b h. b.rule < count) [] gained) rows_are gains in
-    same_rising broken_total list (broken rules content) rising whole.ascending
+    same_rising broken_total list (broken_needs rules content) rising whole.ascending
     (λ b h. there b (gains_here.only b ((same b).0 (contained b list h))))
-    (λ b h. let is = broken_among rules content b ((whole.exactly b).0 (contained b (broken rules content) h)) in
+    (λ b h. let is = broken_among rules content b ((whole.exactly b).0 (contained b (broken_needs rules content) h)) in
     among b list ((same b).1 (gains_here.found b is (omega (arith, all, rule_there rules (ask_of b) is.first is.second is.they_call)))))
   where
-    there : (b : Broken) → Contains [] b ⊎ IsBrokenAmong rules (rows_in content) b → Among b (broken rules content)
+    there : (b : Broken) → Contains [] b ⊎ IsBrokenAmong rules (rows_in content) b → Among b (broken_needs rules content)
     there b (inl h) = absurd (among b [] h)
-    there b (inr h) = among b (broken rules content) (((lists_broken rules content).exactly b).1 (is_broken rules content b h))
+    there b (inr h) = among b (broken_needs rules content) (((lists_broken rules content).exactly b).1 (is_broken rules content b h))

@@ -8,13 +8,13 @@ use Rattle.clr_rows.specs.Held.{Held, held_of}
 use Rattle.clr_rules.specs.declared.rules.Rule.{Rule}
 use Rattle.clr_rules.specs.Books.{FitTogether}
 use Rattle.clr_rules.proofs.Elements.{Among, among_left, among_right}
-use Rattle.clr_rules.proofs.Fits.{IsPart, fit_part}
+use Rattle.clr_rules.proofs.Fits.{AreAmong, fit_part}
 
 -- the subjects and one of the rows
 pub fit_served : (rules : List Rule) (s r : Held) (t : Option Held) (rows : List Held) → FitTogether rules (s ∷ (option_to_list t ++ rows)) → Among r rows → FitTogether rules (s ∷ r ∷ option_to_list t)
 fit_served rules s r t rows fit h = fit_part rules (s ∷ r ∷ option_to_list t) (s ∷ (option_to_list t ++ rows)) fit each
   where
-    each : IsPart (s ∷ r ∷ option_to_list t) (s ∷ (option_to_list t ++ rows))
+    each : AreAmong (s ∷ r ∷ option_to_list t) (s ∷ (option_to_list t ++ rows))
     each x (inl e) = inl e
     each x (inr (inl e)) = inr (among_right x (option_to_list t) rows (subst (λ y. Among y rows) e h))
     each x (inr (inr k)) = inr (among_left x (option_to_list t) rows k)
@@ -23,7 +23,7 @@ fit_served rules s r t rows fit h = fit_part rules (s ∷ r ∷ option_to_list t
 pub fit_beside : (rules : List Rule) (s r : Held) (rows : List Held) → FitTogether rules (s ∷ rows) → Among r rows → FitTogether rules (s ∷ r ∷ rows)
 fit_beside rules s r rows fit h = fit_part rules (s ∷ r ∷ rows) (s ∷ rows) fit each
   where
-    each : IsPart (s ∷ r ∷ rows) (s ∷ rows)
+    each : AreAmong (s ∷ r ∷ rows) (s ∷ rows)
     each x (inl e) = inl e
     each x (inr (inl e)) = inr (subst (λ y. Among y rows) e h)
     each x (inr (inr k)) = inr k
@@ -32,7 +32,7 @@ fit_beside rules s r rows fit h = fit_part rules (s ∷ r ∷ rows) (s ∷ rows)
 pub fit_first : (rules : List Rule) (s : Held) (rows : List Held) → FitTogether rules (s ∷ rows) → FitTogether rules (s ∷ [])
 fit_first rules s rows fit = fit_part rules (s ∷ []) (s ∷ rows) fit each
   where
-    each : IsPart (s ∷ []) (s ∷ rows)
+    each : AreAmong (s ∷ []) (s ∷ rows)
     each x (inl e) = inl e
     each x (inr h) = absurd h
 
@@ -40,7 +40,7 @@ fit_first rules s rows fit = fit_part rules (s ∷ []) (s ∷ rows) fit each
 pub fit_both : (rules : List Rule) (s t : Held) (rows : List Held) → FitTogether rules (s ∷ t ∷ rows) → FitTogether rules (s ∷ t ∷ [])
 fit_both rules s t rows fit = fit_part rules (s ∷ t ∷ []) (s ∷ t ∷ rows) fit each
   where
-    each : IsPart (s ∷ t ∷ []) (s ∷ t ∷ rows)
+    each : AreAmong (s ∷ t ∷ []) (s ∷ t ∷ rows)
     each x (inl e) = inl e
     each x (inr (inl e)) = inr (inl e)
     each x (inr (inr h)) = absurd h
@@ -49,7 +49,7 @@ fit_both rules s t rows fit = fit_part rules (s ∷ t ∷ []) (s ∷ t ∷ rows)
 pub fit_again : (rules : List Rule) (s : Held) (rows : List Held) → FitTogether rules rows → Among s rows → FitTogether rules (s ∷ rows)
 fit_again rules s rows fit h = fit_part rules (s ∷ rows) rows fit each
   where
-    each : IsPart (s ∷ rows) rows
+    each : AreAmong (s ∷ rows) rows
     each x (inl e) = subst (λ y. Among y rows) e h
     each x (inr k) = k
 

@@ -2,7 +2,7 @@ ghost use Rattle.std.specs.Prelude.{◌≡◌, ◌<◌, length, map, IfOk, OnOk}
 ghost use Rattle.clr_rows.specs.Contents.{row_at};
 ghost use Rattle.clr_rows.specs.Held.{held_of};
 ghost use Rattle.clr_rules.specs.Books.{FitsContent, FitTogether};
-ghost use Rattle.clr_rules.specs.Needs.{IsAudit, broken, rows_in};
+ghost use Rattle.clr_rules.specs.Needs.{IsAudit, broken_needs, rows_in};
 ghost use Rattle.clr_audit.specs.Searches.{Gains, IsOfRule};
 
 use crate::role_index::RoleIndex;
@@ -52,7 +52,7 @@ fn add_of_rule(
 /// schema. It fails for want of memory alone.
 pub fn audit(alloc: Global, book: &RuleBook, sheet: &Sheet) -> Result<Vec<Broken>, AllocError>
     requires { FitsContent book.now sheet.now }
-    ensures list { IfOk result (λ list. list.items ≡ broken book.now sheet.now) }
+    ensures list { IfOk result (λ list. list.items ≡ broken_needs book.now sheet.now) }
     ensures lists { IfOk result (λ list. IsAudit book.now (row_at sheet.now) list.items) }
 {
     let rows = rows_of(alloc, sheet)?;

@@ -7,7 +7,7 @@ use Rattle.std.proofs.lemmas.Bool.{or_left, or_right}
 use Rattle.std.proofs.lemmas.List.{length-map}
 use Rattle.std.proofs.lemmas.Map.Made.{length-le_from_is_member}
 use Rattle.clr_layers.specs.Marks.{Name}
-use Rattle.clr_layers.specs.Workspaces.{Workspace, root}
+use Rattle.clr_layers.specs.Workspaces.{Workspace, live_workspace}
 use Rattle.clr_tree.specs.Soundness.{IsSound}
 use Rattle.clr_foot.specs.declared.limits.TheConstants.{MOST_MEMBERS}
 use Rattle.clr_steps.specs.Names.{has, is_live, same_name}
@@ -72,7 +72,7 @@ module _ (o : Office) (s : Site) (free : member_fault o s ≡ None) where
       by true w e = absurd (cc)
       by false w e = named name o.workspaces w e
 
-  pub few_members : IsSound (root o.live ∷ o.workspaces) → length s.members ≤ MOST_MEMBERS
+  pub few_members : IsSound (live_workspace o.live ∷ o.workspaces) → length s.members ≤ MOST_MEMBERS
   few_members sound =
       let fewer = length-le_from_is_member same_equiv s.members (names_of o.workspaces) (distinct s.members (faultless o s free).differ) found in
       let long = length-map o.workspaces (λ (w : Workspace). w.name) in

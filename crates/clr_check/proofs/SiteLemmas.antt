@@ -15,7 +15,7 @@ use Rattle.clr_layers.specs.Workspaces.{Workspace}
 use Rattle.clr_tree.specs.Operations.{own_changes}
 use Rattle.clr_foot.specs.declared.needs.VersionId.{VersionId}
 use Rattle.clr_foot.specs.Members.{after_in, after_of, positions}
-use Rattle.clr_foot.specs.Settings.{Lived, first_changer, held, new_version, old_version, version}
+use Rattle.clr_foot.specs.Settings.{Lived, first_changer, held_row, new_version, old_version, version}
 use Rattle.clr_foot.specs.Versions.{FitsSetting}
 use Rattle.clr_foot.proofs.Lives.{new_is, old_is}
 use Rattle.clr_steps.specs.Names.{is_live}
@@ -128,11 +128,11 @@ module _ (o : Office) (admitted : IsAdmitted o) where
     abbrev first : CellId → Option ℕ
     first cell = first_changer (after_of sets) (positions sets) cell
 
-    new_fits : (v : VersionId) (l : Lived ℕ) (n : Option ℕ) → new_version (after_of sets) v.cell n ≡ Some l → FitsCell o.schema (held v l)
+    new_fits : (v : VersionId) (l : Lived ℕ) (n : Option ℕ) → new_version (after_of sets) v.cell n ≡ Some l → FitsCell o.schema (held_row v l)
     new_fits v l None e = absurd (cc)
     new_fits v l (Some n) e = sets_fit s.members n v.cell l.row (new_is (setting_by_position o s) n (after_of sets n v.cell) l e).0
 
-    either_fits : (v : VersionId) (l : Lived ℕ) (b : Bool) → cond b (new_version (after_of sets) v.cell (first v.cell)) (old_version (first v.cell) (row_at (content_of o s.root) v.cell)) ≡ Some l → FitsCell o.schema (held v l)
+    either_fits : (v : VersionId) (l : Lived ℕ) (b : Bool) → cond b (new_version (after_of sets) v.cell (first v.cell)) (old_version (first v.cell) (row_at (content_of o s.root) v.cell)) ≡ Some l → FitsCell o.schema (held_row v l)
     either_fits v l true e = new_fits v l (first v.cell) e
     either_fits v l false e = fits_content_of o admitted.fit.rows s.root v.cell l.row (old_is (setting_by_position o s) (first v.cell) (row_at (content_of o s.root) v.cell) l e).0
 

@@ -9,7 +9,7 @@ use Rattle.clr_rules.specs.declared.needs.Broken.{Broken}
 use Rattle.clr_rules.specs.Needs.{Holds}
 use Rattle.clr_layers.specs.Marks.{Name}
 use Rattle.clr_layers.specs.Workspaces.{Workspace}
-use Rattle.clr_foot.specs.Settings.{IsPart}
+use Rattle.clr_foot.specs.Settings.{AreAmong}
 use Rattle.clr_steps.specs.declared.commands.Command.{Command}
 use Rattle.clr_steps.specs.declared.commands.Command.TheVariants as command
 use Rattle.clr_steps.specs.declared.commands.Reply.{Reply}
@@ -207,7 +207,7 @@ module _ (first : Office) (site : Site) (mergeable : AreMergeable first site) (n
   -- where every rule holds in each merge, no answer is a clash --------------------------------------------------
 
   module _ (keeps : KeepsRules first site) where
-    pub is_merge : (others : List Name) (content : Content) → IsPart (setting_of first site) others site.members → ((cell : CellId) → row_at content cell ≡ rows_with first site others cell) → IsMergeOf first site others content
+    pub is_merge : (others : List Name) (content : Content) → AreAmong (setting_of first site) others site.members → ((cell : CellId) → row_at content cell ≡ rows_with first site others cell) → IsMergeOf first site others content
     is_merge others content part rows = record { rows = rows; holds = subst (Holds first.book) (λ i cell. sym (rows cell) i) (keeps others part) }
 
     merged_is : (w : Workspace) → workspace now name ≡ Some w → IsMergeOf first site (name ∷ names) (merged_content now w)

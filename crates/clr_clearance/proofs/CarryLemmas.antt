@@ -11,7 +11,7 @@ use Rattle.clr_foot.specs.declared.needs.Need.{Need}
 use Rattle.clr_foot.specs.declared.needs.VersionId.{VersionId}
 use Rattle.clr_foot.specs.Covers.{AreCovered, CoversAlone, Entry, HasEntry, IsLifeOf, Lasts, WitnessesCover}
 use Rattle.clr_foot.specs.Needs.{AreOpposed, IsBesideToo, IsChanged, IsPossible, IsTouchedBy, Serves, ask_of, held_too, is_fresh}
-use Rattle.clr_foot.specs.Settings.{Setting, AreDisjoint, Lifetime, Always, With, Without, Lived, changer, has, held, new_row, new_version, old_version, version}
+use Rattle.clr_foot.specs.Settings.{Setting, AreDisjoint, Lifetime, Always, With, Without, Lived, changer, has, held_row, new_row, new_version, old_version, version}
 use Rattle.clr_foot.proofs.Lives.{new_is, old_is, opposed_too, version_by, version_by_changer}
 use Rattle.clr_foot.proofs.Merges.{IsChanger, changer_is}
 
@@ -270,7 +270,7 @@ module _ {A B : Type 0} (c : Setting A) (next : Setting B) (fate : A → Fate B)
     -- needs ----------------------------------------------------------------------------------------------------
 
     abbrev AsksSame : Need → Lived A → Option (Lived A) → Need → Lived B → Option (Lived B) → Type 0
-    AsksSame m a b n d e = (h : Held) → serves next.rules (ask_of n) (held n.first d) (held_too n.second e) h ≡ serves c.rules (ask_of m) (held m.first a) (held_too m.second b) h
+    AsksSame m a b n d e = (h : Held) → serves next.rules (ask_of n) (held_row n.first d) (held_too n.second e) h ≡ serves c.rules (ask_of m) (held_row m.first a) (held_too m.second b) h
 
     -- a possible need was possible: the old versions of its subjects call it
     record OldNeed (n : Need) (d : Lived B) (e : Option (Lived B)) : Type 0 where
@@ -294,7 +294,7 @@ module _ {A B : Type 0} (c : Setting A) (next : Setting B) (fate : A → Fate B)
         first_of_both true d h = refl
         first_of_both false d h = h
 
-    same_held : (v : VersionId) (l : Lived B) (it : Came v l) → held it.id it.lived ≡ held v l
+    same_held : (v : VersionId) (l : Lived B) (it : Came v l) → held_row it.id it.lived ≡ held_row v l
     same_held v l it = λ i. (same_cell v l it i, it.row i)
 
     old_need : (n : Need) (d : Lived B) (e : Option (Lived B)) → IsPossible next n d e → OldNeed n d e
@@ -303,10 +303,10 @@ module _ {A B : Type 0} (c : Setting A) (next : Setting B) (fate : A → Fate B)
         it : Came n.first d
         it = came_from n.first d possible.first_is
 
-        one : held it.id it.lived ≡ held n.first d
+        one : held_row it.id it.lived ≡ held_row n.first d
         one = same_held n.first d it
 
-        by : (w : Option VersionId) (x : Option (Lived B)) → IsBesideToo next n.first d w x → calls next.rules (ask_of n) (held n.first d) (held_too w x) ≡ true → OldNeed (record n { second = w }) d x
+        by : (w : Option VersionId) (x : Option (Lived B)) → IsBesideToo next n.first d w x → calls next.rules (ask_of n) (held_row n.first d) (held_too w x) ≡ true → OldNeed (record n { second = w }) d x
         by None None beside call = record {
           need = record n { first = it.id; second = None };
           a = it.lived;
@@ -322,7 +322,7 @@ module _ {A B : Type 0} (c : Setting A) (next : Setting B) (fate : A → Fate B)
         by (Some w) None beside call = absurd beside
         by (Some w) (Some x) beside call =
             let two_is = came_from w x beside.is in
-            let two : held two_is.id two_is.lived ≡ held w x = same_held w x two_is in
+            let two : held_row two_is.id two_is.lived ≡ held_row w x = same_held w x two_is in
             record {
               need = record n { first = it.id; second = Some two_is.id };
               a = it.lived;
@@ -356,7 +356,7 @@ module _ {A B : Type 0} (c : Setting A) (next : Setting B) (fate : A → Fate B)
       CoversNow = CoversAlone next n d e
 
       serves_on : (v : VersionId) (l : Lived A) (k : Lifetime B) → Serves c old.need old.a old.b v l → goes l.life ≡ Some k → Serves next n d e (on v) (with_life l.row k)
-      serves_on v l k s g = record { is = goes_on v l k s.is g; it_serves = old.asks (held v l) ∙ s.it_serves }
+      serves_on v l k s g = record { is = goes_on v l k s.is g; it_serves = old.asks (held_row v l) ∙ s.it_serves }
 
       lasts_on : (l : Lifetime A) → Lasts l old.a old.b → (k : Lifetime B) × (goes l ≡ Some k) × Lasts k d e
       lasts_on l (inl always) = (Always, ap goes always, inl refl)
@@ -388,7 +388,7 @@ module _ {A B : Type 0} (c : Setting A) (next : Setting B) (fate : A → Fate B)
           inr (
             it.id,
             it.lived,
-            record { is = it.is; it_serves = sym (old.asks (held it.id it.lived)) ∙ ap (serves next.rules (ask_of n) (held n.first d) (held_too n.second e)) (same_held v l it) ∙ s.it_serves },
+            record { is = it.is; it_serves = sym (old.asks (held_row it.id it.lived)) ∙ ap (serves next.rules (ask_of n) (held_row n.first d) (held_too n.second e)) (same_held v l it) ∙ s.it_serves },
             was_changed it.lived.life l.life it.life changed,
           )
 

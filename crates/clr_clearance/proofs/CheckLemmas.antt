@@ -2,7 +2,7 @@
 use Rattle.std.proofs.Common.{◌≡◌, ℕ, zero, suc, ◌+◌, ◌<◌, true, List, [], ◌∷◌, ◌++◌, inl, inr, refl, sym, ap, ◌∙◌, subst, arith, Option, Some, None, slice_get}
 use Rattle.std.specs.List.Sorted.{IsStrictlySortedBy}
 use Rattle.std.specs.declared.cmp.Ordering.TheVariants.{Less}
-use Rattle.clr_rules.specs.Needs.{broken, broken_below}
+use Rattle.clr_rules.specs.Needs.{broken_needs, broken_below}
 use Rattle.clr_rules.proofs.Elements.{Among, among, contained, each_of, not_both, not_itself}
 use Rattle.clr_foot.specs.declared.needs.Need.{Need}
 use Rattle.clr_foot.specs.declared.needs.VersionId.{VersionId}
@@ -27,7 +27,7 @@ use Rattle.clr_clearance.specs.Verdicts.{name_fault}
 use Rattle.clr_clearance.proofs.OrderLemmas.{need_total}
 
 pub fault_example : FaultExample
-unfolding name_fault refusal refusals_of effect step same_name is_live workspace stands is_kept content_of after_create set_kept breaks first_broken broken broken_below depth_within is_good_name is_root
+unfolding name_fault refusal refusals_of effect step same_name is_live workspace stands is_kept content_of after_create set_kept breaks first_broken broken_needs broken_below depth_within is_good_name is_root
 fault_example = refl
 
 -- needs ------------------------------------------------------------------------------------------------------

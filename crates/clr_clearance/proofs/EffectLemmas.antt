@@ -5,7 +5,7 @@ use Rattle.std.proofs.lemmas.Bool.{false≢true}
 use Rattle.clr_rows.specs.Contents.{Content, changes, no_rows, taken_over}
 use Rattle.clr_layers.specs.Marks.{Mark, Name, mark_last, without_mark_of}
 use Rattle.clr_layers.specs.Workspaces.{Workspace}
-use Rattle.clr_tree.specs.Operations.{rebase, refresh, with_current}
+use Rattle.clr_tree.specs.Operations.{with_base_merged, refresh, with_current}
 use Rattle.clr_steps.specs.Names.{same_name, is_live}
 use Rattle.clr_steps.specs.Offices.{Office, content_of, find_name, is_kept, modify, modify_marks, set_content, with_workspaces, without, workspace}
 use Rattle.clr_steps.specs.Effects.{after_merge, after_refresh, after_remove, merged_content}
@@ -169,18 +169,18 @@ module _ (site : Site) (o : Office) (w : Workspace) (kept : IsRootKept o site) (
   above : Office
   above = set_content o site.root (merged_content o w)
 
-  merge_is : after_merge o w ≡ with_workspaces above (modify w.name rebase above.workspaces)
+  merge_is : after_merge o w ≡ with_workspaces above (modify w.name with_base_merged above.workspaces)
   unfolding after_merge above
-  merge_is = ap (λ p. let next = set_content o p (merged_content o w) in with_workspaces next (modify w.name rebase next.workspaces)) parent_is
+  merge_is = ap (λ p. let next = set_content o p (merged_content o w) in with_workspaces next (modify w.name with_base_merged next.workspaces)) parent_is
 
   pub merge_steps : StepsTo site o (after_merge o w) w.name (merged_content o w) (Some (member_rebased (member_of w)))
   unfolding above root_content
   merge_steps =
-      let left = others_modified site w.name out above rebase (λ v. refl) in
+      let left = others_modified site w.name out above with_base_merged (λ v. refl) in
       subst (λ next. StepsTo site o next w.name (merged_content o w) (Some (member_rebased (member_of w)))) (sym merge_is) (record {
         root = left.root ∙ written_content o site.root (merged_content o w) kept;
         kept = left.kept ∙ written_kept o site.root (merged_content o w) ∙ kept;
-        here = shown_modified above w.name rebase member_rebased (λ v. refl) (λ v. refl)
+        here = shown_modified above w.name with_base_merged member_rebased (λ v. refl) (λ v. refl)
             ∙ ap (option_map member_rebased) (written_shown o site.root (merged_content o w) w.name (apart_from_root w.name out) ∙ is_there);
         others = λ name apart_too apart. left.others name apart ∙ written_shown o site.root (merged_content o w) name (apart_from_root name apart_too);
       })

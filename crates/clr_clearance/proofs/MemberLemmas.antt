@@ -9,7 +9,7 @@ use Rattle.clr_rows.proofs.ChangeLemmas.{row-merged}
 use Rattle.clr_layers.specs.Marks.{Name}
 use Rattle.clr_layers.specs.Workspaces.{Workspace}
 use Rattle.clr_tree.specs.Operations.{own_changes}
-use Rattle.clr_foot.specs.Settings.{IsPart, has as has_by}
+use Rattle.clr_foot.specs.Settings.{AreAmong, has as has_by}
 use Rattle.clr_foot.proofs.Merges.{taken_over as taken_cons}
 use Rattle.clr_steps.specs.Names.{same_name, has}
 use Rattle.clr_steps.specs.Offices.{Office, content_of, workspace}
@@ -31,7 +31,7 @@ module _ (first : Office) (site : Site) (mergeable : AreMergeable first site) (n
     pub not_root : is_root site name ≡ false
     not_root = child_apart first site name (mergeable.children name member)
 
-    pub part_with : IsPart (setting_of first site) (name ∷ names) site.members
+    pub part_with : AreAmong (setting_of first site) (name ∷ names) site.members
     part_with k h = elim (or_cases (same_name name k) (has_by same_name names k) h) [
       | inl same ↦ ap (has_by same_name site.members) (sym (same_is name k same)) ∙ has_is site.members name ∙ member
       | inr other ↦ inv.part k other
@@ -48,7 +48,7 @@ module _ (first : Office) (site : Site) (mergeable : AreMergeable first site) (n
     pub rows_last : (cell : CellId) → rows_with first site (name ∷ names) cell ≡ rows_with first site (names ++ name ∷ []) cell
     rows_last = order_law first site (name ∷ names) (names ++ name ∷ []) mergeable part_with (has_moved names name)
 
-    pub part_last : IsPart (setting_of first site) (names ++ name ∷ []) site.members
+    pub part_last : AreAmong (setting_of first site) (names ++ name ∷ []) site.members
     part_last k h = part_with k (has_is (name ∷ names) k ∙ has_moved names name k ∙ sym (has_is (names ++ name ∷ []) k) ∙ h)
 
     module _ (w : Workspace) (is : workspace now name ≡ Some w) where
@@ -98,7 +98,7 @@ module _ (first : Office) (site : Site) (mergeable : AreMergeable first site) (n
   record IsMemberStep (name : Name) (more : List Name) (next : Office) (content : Content) (left : Option Member) : Type 0 where
     steps : StepsTo site now next name content left
     book : next.book ≡ now.book
-    part : IsPart (setting_of first site) more site.members
+    part : AreAmong (setting_of first site) more site.members
     rows : (cell : CellId) → row_at content cell ≡ rows_with first site more cell
     here : (m : Member) → left ≡ Some m → IsMemberNow first site more next name m
     grown : (other : Name) → same_name name other ≡ false → has more other ≡ has names other

@@ -4,7 +4,7 @@ use Rattle.std.specs.Option.{option_map}
 use Rattle.std.proofs.lemmas.Bool.{false≢true, true≢false, or_cases, or_left, or_right}
 use Rattle.std.proofs.lemmas.Option.{slice_get-map}
 use Rattle.clr_layers.specs.Marks.{Name}
-use Rattle.clr_foot.specs.Settings.{IsPart, has as has_by}
+use Rattle.clr_foot.specs.Settings.{AreAmong, has as has_by}
 use Rattle.clr_steps.specs.Names.{same_name, has}
 use Rattle.clr_steps.specs.Offices.{Office}
 use Rattle.clr_steps.specs.Quiet.{Site, is_member, is_quiet}
@@ -48,10 +48,10 @@ one_more : (o : Office) (names : List Name) (n : Name) → after_merges o (names
 one_more o [] n = refl
 one_more o (m ∷ ms) n = one_more (step o (merge_of m)).office ms n
 
-head_member : (site : Site) (o : Office) (n : Name) (ns : List Name) → IsPart (setting_of o site) (n ∷ ns) site.members → is_member site n ≡ true
+head_member : (site : Site) (o : Office) (n : Name) (ns : List Name) → AreAmong (setting_of o site) (n ∷ ns) site.members → is_member site n ≡ true
 head_member site o n ns part = sym (has_is site.members n) ∙ part n (or_left (same_name n n) (has_by same_name ns n) (same_itself n))
 
-tail_part : (site : Site) (o : Office) (n : Name) (ns : List Name) → IsPart (setting_of o site) (n ∷ ns) site.members → IsPart (setting_of o site) ns site.members
+tail_part : (site : Site) (o : Office) (n : Name) (ns : List Name) → AreAmong (setting_of o site) (n ∷ ns) site.members → AreAmong (setting_of o site) ns site.members
 tail_part site o n ns part k h = part k (or_right (same_name n k) (has_by same_name ns k) h)
 
 AreMembers : Site → List Name → Type 0

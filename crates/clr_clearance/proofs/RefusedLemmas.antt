@@ -18,7 +18,7 @@ use Rattle.clr_foot.specs.Picks.{Blocks}
 use Rattle.clr_foot.proofs.BrokenLaws.{uncovered_breaks}
 use Rattle.clr_steps.specs.Readings.{conflicts_in}
 use Rattle.clr_foot.specs.Positions.{after_member, by_position}
-use Rattle.clr_foot.specs.Settings.{IsPart, taken, has as has_by}
+use Rattle.clr_foot.specs.Settings.{AreAmong, view_with, has as has_by}
 use Rattle.clr_foot.proofs.Merges.{root_is, taken_over as taken_cons}
 use Rattle.clr_steps.specs.declared.commands.Command.{Command}
 use Rattle.clr_steps.specs.declared.commands.Command.TheVariants as command
@@ -143,7 +143,7 @@ module _ (first : Office) (site : Site) (mergeable : AreMergeable first site) wh
             }
 
   -- where none clashes, every rule holds with the changes of all of them
-  all_done : (ns names : List Name) (now : Office) → Invariant first site names now → AllStand now → IsPart (setting_of first site) ns site.members → is_refused now ns ≡ false
+  all_done : (ns names : List Name) (now : Office) → Invariant first site names now → AllStand now → AreAmong (setting_of first site) ns site.members → is_refused now ns ≡ false
       → Holds first.book (rows_with first site names) → Holds first.book (rows_with first site (names ++ ns))
   all_done [] names now inv stand part calm holds = subst (λ ms. Holds first.book (rows_with first site ms)) (sym (append-nil names)) holds
   all_done (n ∷ ns) names now inv stand part calm holds =
@@ -155,7 +155,7 @@ module _ (first : Office) (site : Site) (mergeable : AreMergeable first site) wh
       (all_done ns (names ++ n ∷ []) (step now (merge_of n)).office next.lasts (next.stand stand) (λ k h. part k (or_right (same_name n k) (has_by same_name ns k) h)) both.1 next.holds)
 
   -- so an order of merges that break a rule is refused
-  pub breaking_is_refused : (names : List Name) → IsPart (setting_of first site) names site.members → RootHolds first site → ¬ (Holds first.book (rows_with first site names)) → is_refused first names ≡ true
+  pub breaking_is_refused : (names : List Name) → AreAmong (setting_of first site) names site.members → RootHolds first site → ¬ (Holds first.book (rows_with first site names)) → is_refused first names ≡ true
   breaking_is_refused names part holds breaking = elim (cases_Bool (is_refused first names)) [
     | inl refused ↦ refused
     | inr calm ↦ absurd (breaking (all_done names [] first (at_first first site mergeable) all_stand part calm (subst (Holds first.book) (λ i cell. sym (root_is (setting_of first site) cell) i) holds)))
@@ -167,7 +167,7 @@ module _ (first : Office) (site : Site) (mergeable : AreMergeable first site) wh
 -- members by position ----------------------------------------------------------------------------------------
 
 module _ (o : Office) (site : Site) where
-  pub names_part : (order : List ℕ) → IsPart (setting_of o site) (names_at site order) site.members
+  pub names_part : (order : List ℕ) → AreAmong (setting_of o site) (names_at site order) site.members
   names_part [] name h = absurd (false≢true h)
   names_part (k ∷ ks) name h = by (slice_get site.members k) refl h (names_part ks name)
     where
@@ -178,12 +178,12 @@ module _ (o : Office) (site : Site) where
         | inr other ↦ more other
       ]
 
-  pub rows_at : (order : List ℕ) (cell : CellId) → taken (by_position (setting_of o site)) order cell ≡ rows_with o site (names_at site order) cell
+  pub rows_at : (order : List ℕ) (cell : CellId) → view_with (by_position (setting_of o site)) order cell ≡ rows_with o site (names_at site order) cell
   rows_at [] cell = root_is (by_position (setting_of o site)) cell ∙ sym (root_is (setting_of o site) cell)
   rows_at (k ∷ ks) cell = taken_cons (by_position (setting_of o site)) k ks cell ∙ by (slice_get site.members k) (rows_at ks cell)
     where
-      by : (r : Option Name) → taken (by_position (setting_of o site)) ks cell ≡ rows_with o site (names_at site ks) cell
-          → unwrap_or (after_member (setting_of o site) r cell) (taken (by_position (setting_of o site)) ks cell) ≡ rows_with o site (cons_option r (names_at site ks)) cell
+      by : (r : Option Name) → view_with (by_position (setting_of o site)) ks cell ≡ rows_with o site (names_at site ks) cell
+          → unwrap_or (after_member (setting_of o site) r cell) (view_with (by_position (setting_of o site)) ks cell) ≡ rows_with o site (cons_option r (names_at site ks)) cell
       by None more = more
       by (Some n) more = ap (unwrap_or ((setting_of o site).after n cell)) more ∙ sym (taken_cons (setting_of o site) n (names_at site ks) cell)
 

@@ -13,7 +13,7 @@ use Rattle.clr_layers.specs.Marks.{Name}
 use Rattle.clr_layers.specs.Workspaces.{Workspace}
 use Rattle.clr_tree.specs.Operations.{own_changes}
 use Rattle.clr_foot.specs.Members.{after_in}
-use Rattle.clr_foot.specs.Settings.{Setting, AreDisjoint, IsPart, changer, taken, has as has_by}
+use Rattle.clr_foot.specs.Settings.{Setting, AreDisjoint, AreAmong, changer, view_with, has as has_by}
 use Rattle.clr_foot.proofs.Merges.{IsMerge, taken_is, standing_row, root_is, taken_over as taken_cons}
 use Rattle.clr_steps.specs.Names.{same_name, has}
 use Rattle.clr_steps.specs.Offices.{Office, workspace, content_of}
@@ -71,7 +71,7 @@ content_above o site w e = ap (content_of o) (root_of_child site w e)
 -- rows with changes -----------------------------------------------------------------------------------
 
 module _ {A : Type 0} (c : Setting A) (ts us : List A) (merge : IsMerge c ts) (merge_too : IsMerge c us) (alike : (n : A) → has_by c.same ts n ≡ has_by c.same us n) where
-  pub taken_alike : (cell : CellId) → taken c ts cell ≡ taken c us cell
+  pub taken_alike : (cell : CellId) → view_with c ts cell ≡ view_with c us cell
   taken_alike cell = taken_is c ts merge cell ∙ by (changer c cell) ∙ sym (taken_is c us merge_too cell)
     where
       by : (n : Option A) → standing_row c ts cell n ≡ standing_row c us cell n
@@ -90,7 +90,7 @@ order_law o site names others mergeable part alike =
 
 -- a cell that one member changes has the root's row where only others are over it
 pub untaken : (o : Office) (site : Site) (names : List Name) (name : Name) (cell : CellId)
-    → AreDisjoint (setting_of o site) → IsPart (setting_of o site) names site.members → is_member site name ≡ true → has names name ≡ false → is_some (changed_by o name cell) ≡ true
+    → AreDisjoint (setting_of o site) → AreAmong (setting_of o site) names site.members → is_member site name ≡ true → has names name ≡ false → is_some (changed_by o name cell) ≡ true
     → rows_with o site names cell ≡ row_at (root_content o site) cell
 untaken o site [] name cell apart part member out changes = root_is (setting_of o site) cell
 untaken o site (n ∷ ns) name cell apart part member out changes =

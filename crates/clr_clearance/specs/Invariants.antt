@@ -4,7 +4,7 @@ use Rattle.std.specs.Option.{option_map}
 use Rattle.clr_rows.specs.declared.cells.CellId.{CellId}
 use Rattle.clr_rows.specs.Contents.{change_at, row_at}
 use Rattle.clr_layers.specs.Marks.{Name}
-use Rattle.clr_foot.specs.Settings.{IsPart}
+use Rattle.clr_foot.specs.Settings.{AreAmong}
 use Rattle.clr_steps.specs.Names.{has}
 use Rattle.clr_steps.specs.Offices.{Office, workspace}
 use Rattle.clr_steps.specs.Quiet.{IsRootKept, Member, Site, is_member, is_root, member_of, root_content}
@@ -21,7 +21,7 @@ pub record IsMemberNow (first : Office) (site : Site) (names : List Name) (now :
 pub record Invariant (first : Office) (site : Site) (names : List Name) (now : Office) : Type 0 where
   pub book : now.book ≡ first.book
   pub kept : IsRootKept now site
-  pub part : IsPart (setting_of first site) names site.members
+  pub part : AreAmong (setting_of first site) names site.members
   pub rows : (cell : CellId) → row_at (root_content now site) cell ≡ rows_with first site names cell
   pub members : (name : Name) (m : Member) → is_member site name ≡ true → option_map member_of (workspace now name) ≡ Some m
       → IsMemberNow first site names now name m

@@ -5,7 +5,7 @@ use Rattle.clr_layers.specs.Marks.{Name}
 use Rattle.clr_layers.specs.Workspaces.{Workspace}
 use Rattle.clr_foot.specs.Covers.{Entry}
 use Rattle.clr_foot.specs.Laws.{SayTheSame}
-use Rattle.clr_foot.specs.Settings.{IsPart}
+use Rattle.clr_foot.specs.Settings.{AreAmong}
 use Rattle.clr_steps.specs.declared.commands.Command.{Command}
 use Rattle.clr_steps.specs.declared.commands.Command.TheVariants as command
 use Rattle.clr_steps.specs.declared.commands.Reply.{Reply}
@@ -34,7 +34,7 @@ NumberLaw = (o : Office) (site : Site) → SayTheSame (setting_of o site) (setti
 abbrev pub OrderLaw : Type 0
 OrderLaw = (o : Office) (site : Site) (names others : List Name)
     → AreMergeable o site
-    → IsPart (setting_of o site) names site.members
+    → AreAmong (setting_of o site) names site.members
     → ((name : Name) → has names name ≡ has others name)
     → (cell : CellId) → rows_with o site names cell ≡ rows_with o site others cell
 
@@ -42,7 +42,7 @@ OrderLaw = (o : Office) (site : Site) (names others : List Name)
 pub record StaysFree (o : Office) (site : Site) : Type 0 where
   pub keeps : KeepsRules o site
   pub free : (names : List Name) (name : Name) (w : Workspace)
-      → IsPart (setting_of o site) names site.members
+      → AreAmong (setting_of o site) names site.members
       → is_member site name ≡ true
       → has names name ≡ false
       → workspace o name ≡ Some w

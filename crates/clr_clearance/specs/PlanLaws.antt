@@ -2,7 +2,7 @@
 use Rattle.std.specs.Prelude.{◌≡◌, ℕ, Bool, true, false, List, None}
 use Rattle.clr_layers.specs.Marks.{Name}
 use Rattle.clr_foot.specs.Covers.{Entry}
-use Rattle.clr_foot.specs.Settings.{IsPart}
+use Rattle.clr_foot.specs.Settings.{AreAmong}
 use Rattle.clr_steps.specs.declared.commands.Command.{Command}
 use Rattle.clr_steps.specs.Offices.{Office}
 use Rattle.clr_steps.specs.Quiet.{Site}
@@ -31,7 +31,7 @@ BlockedPlanLaw = (o : Office) (site : Site) (order : List ℕ) (cause : Verdict)
 
 -- and no order of merges of members of a safe site is, so that no safe site is blocked
 abbrev pub SafeOrderLaw : Type 0
-SafeOrderLaw = (o : Office) (site : Site) (names : List Name) → Safe o site → IsPart (setting_of o site) names site.members → is_refused o names ≡ false
+SafeOrderLaw = (o : Office) (site : Site) (names : List Name) → Safe o site → AreAmong (setting_of o site) names site.members → is_refused o names ≡ false
 
 abbrev pub SafePlanLaw : Type 0
 SafePlanLaw = (o : Office) (site : Site) (order : List ℕ) (cause : Verdict) → Safe o site → RootHolds o site → ¬ (IsBlocked o site order cause)

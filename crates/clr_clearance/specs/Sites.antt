@@ -10,7 +10,7 @@ use Rattle.clr_layers.specs.Marks.{Name}
 use Rattle.clr_foot.specs.Covers.{AreCovered, Entry}
 use Rattle.clr_foot.specs.Members.{after_in, setting}
 use Rattle.clr_foot.specs.Positions.{AreDistinct}
-use Rattle.clr_foot.specs.Settings.{Setting, AreDisjoint, IsPart, taken}
+use Rattle.clr_foot.specs.Settings.{Setting, AreDisjoint, AreAmong, view_with}
 use Rattle.clr_steps.specs.Names.{same_name}
 use Rattle.clr_steps.specs.Offices.{Office, workspace}
 use Rattle.clr_steps.specs.Quiet.{Site, IsRootKept, is_member, is_root, root_content}
@@ -37,7 +37,7 @@ setting_of o site = record {
 
 -- the root's rows taken over by the changes of each of some members
 abbrev pub rows_with : Office → Site → List Name → View
-rows_with o site names = taken (setting_of o site) names
+rows_with o site names = view_with (setting_of o site) names
 
 -- what each member changed, in the order of the list
 abbrev pub change_sets : Office → Site → List Changes
@@ -70,7 +70,7 @@ RootHolds o site = Holds o.book (row_at (root_content o site))
 
 -- every rule holds whichever members' changes are over the root
 abbrev pub KeepsRules : Office → Site → Type 0
-KeepsRules o site = (names : List Name) → IsPart (setting_of o site) names site.members → Holds o.book (rows_with o site names)
+KeepsRules o site = (names : List Name) → AreAmong (setting_of o site) names site.members → Holds o.book (rows_with o site names)
 
 -- at each cell where a content differs from its base, these rows have the row of the base
 abbrev pub AgreesWith : View → Content → Content → Type 0

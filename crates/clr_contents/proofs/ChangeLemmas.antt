@@ -16,7 +16,7 @@ use Rattle.clr_change.specs.ChangeSets.{set_change, change_from}
 use Rattle.clr_change.proofs.SetLemmas.{get-set_change}
 use Rattle.clr_differences.specs.Differences.{Differences, Rows, seen_over}
 use Rattle.clr_differences.proofs.DifferenceLemmas.{row-seen_over}
-use Rattle.clr_contents.specs.Holding.{set_each}
+use Rattle.clr_contents.specs.Pinning.{set_each}
 
 -- the change at a cell where there is an entry, over what stood there
 abbrev at_entry : Content → CellId → Option Change → Option (Option Row) → Option Change

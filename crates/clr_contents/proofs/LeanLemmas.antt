@@ -7,7 +7,7 @@ use Rattle.clr_rows.specs.declared.cells.CellId.{CellId}
 use Rattle.clr_rows.specs.declared.rows.Row.{Row}
 use Rattle.clr_rows.specs.Cells.{cell_cmp}
 use Rattle.clr_rows.specs.Contents.{Content, row_at}
-use Rattle.clr_differences.specs.Differences.{Differences, no_differences, seen_over, swept, swept_at, is_among, IsOwnOver}
+use Rattle.clr_differences.specs.Differences.{Differences, no_differences, seen_over, without_neutral, swept_at, is_among, IsOwnOver}
 use Rattle.clr_differences.proofs.DifferenceLemmas.{row-seen_over}
 use Rattle.clr_differences.proofs.SweepLemmas.{seen-swept, seen-swept_at, own_swept, own_made, own_stays}
 use Rattle.clr_layers.specs.Marks.{Saved, ChildMark}
@@ -76,12 +76,12 @@ module _ (live : Content) (ls : List Layer) (k : ℕ) (r : IsRooted (wholes live
       → row_at (workspace_at (wholes live ls) k).base q ≡ unwrap_or (finite.get d q) (row_above (wholes live ls) k q)
   base_row d same q = ap (λ (m : Content). row_at m q) (base_is live ls k r some lt ∙ sym same) ∙ row-seen_over above d q
 
-  pub lean_swept : IsLeanOver (wholes live ls) k (record (layer_at ls k) { base = swept (content_of_parent (wholes live ls) k) (layer_at ls k).base; current = swept (workspace_at (wholes live ls) k).base (layer_at ls k).current; marks = swept_marks (workspace_at (wholes live ls) k).base (layer_at ls k).marks })
+  pub lean_swept : IsLeanOver (wholes live ls) k (record (layer_at ls k) { base = without_neutral (content_of_parent (wholes live ls) k) (layer_at ls k).base; current = without_neutral (workspace_at (wholes live ls) k).base (layer_at ls k).current; marks = swept_marks (workspace_at (wholes live ls) k).base (layer_at ls k).marks })
   lean_swept q =
-      let row = base_row (swept above l.base) (seen-swept above l.base) q in
+      let row = base_row (without_neutral above l.base) (seen-swept above l.base) q in
       record {
         base = own_swept above l.base q;
-        current = subst (λ (v : Option Row). IsOwnOver v (finite.get (swept base l.current) q)) row (own_swept base l.current q);
+        current = subst (λ (v : Option Row). IsOwnOver v (finite.get (without_neutral base l.current) q)) row (own_swept base l.current q);
         saved = subst (λ (v : Option Row). AreOwnOver v q (swept_marks base l.marks)) row (marks_swept base l.marks q);
       }
 

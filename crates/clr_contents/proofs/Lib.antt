@@ -1,6 +1,6 @@
 pub mod ChangeLemmas
 pub mod DepthLemmas
-pub mod HoldLemmas
+pub mod PinLemmas
 pub mod LeanLemmas
 pub mod MarkLemmas
 pub mod MoveLemmas

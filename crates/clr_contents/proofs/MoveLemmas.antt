@@ -3,7 +3,7 @@ use Rattle.std.proofs.Common.{◌≡◌, ℕ, ◌<◌, List, length, refl, ap, s
 use Rattle.std.proofs.lemmas.List.{set-get_or}
 use Rattle.clr_rows.specs.Contents.{Content, row_at}
 use Rattle.clr_layers.specs.Workspaces.{Workspace, no_workspace, workspace_at, find}
-use Rattle.clr_layers.specs.Layers.{Layer, layer_at, whole_of, wholes, named, above_at}
+use Rattle.clr_layers.specs.Layers.{Layer, layer_at, whole_of, wholes, content_by_name, above_at}
 use Rattle.clr_layers.proofs.FindLemmas.{first_is}
 use Rattle.clr_layers.proofs.Meaning.{name-wholes, wholes-at, named_later}
 use Rattle.clr_layers.proofs.Places.{moved, LaterAgree}
@@ -11,7 +11,7 @@ use Rattle.clr_contents.specs.Roots.{IsRooted}
 use Rattle.clr_contents.proofs.ReadLemmas.{within_wholes}
 
 -- no earlier workspace has the name
-pub is_new : (live : Content) (ls : List Layer) (at : ℕ) → IsRooted (wholes live ls) → at < length ls → named (take at (wholes live ls)) (layer_at ls at).name ≡ None
+pub is_new : (live : Content) (ls : List Layer) (at : ℕ) → IsRooted (wholes live ls) → at < length ls → content_by_name (take at (wholes live ls)) (layer_at ls at).name ≡ None
 is_new live ls at r lt =
     let ws = wholes live ls in
     let name = (layer_at ls at).name in

@@ -11,13 +11,13 @@ use Rattle.clr_differences.specs.Differences.{Differences, seen_over}
 use Rattle.clr_differences.proofs.SweepLemmas.{seen-swept}
 use Rattle.clr_layers.specs.Marks.{Name, Saved, ChildMark}
 use Rattle.clr_layers.specs.Workspaces.{Workspace, workspace_at, find, parent_of}
-use Rattle.clr_layers.specs.Layers.{Layer, no_layer, layer_at, layer_changed, find_layer, whole_of, whole_mark, top, named, above_in, grow, wholes, above_at}
+use Rattle.clr_layers.specs.Layers.{Layer, no_layer, layer_at, layer_changed, find_layer, whole_of, whole_mark, top, content_by_name, above_in, grow, wholes, above_at}
 use Rattle.clr_layers.specs.declared.stored_marks.StoredMark.{StoredMark}
 use Rattle.clr_layers.specs.declared.stored_marks.StoredMark.TheVariants as kinds
 use Rattle.clr_layers.proofs.Meaning.{length-wholes, name-wholes, parent-wholes, find-wholes, wholes-at}
 use Rattle.clr_contents.specs.Roots.{IsRooted}
 use Rattle.clr_contents.specs.Lean.{content_above, content_of_parent, swept_marks}
-use Rattle.clr_contents.proofs.HoldLemmas.{whole_base, whole_current, whole_marks}
+use Rattle.clr_contents.proofs.PinLemmas.{whole_base, whole_current, whole_marks}
 use Rattle.clr_contents.proofs.MoveLemmas.{stays}
 use Rattle.clr_contents.proofs.ReadLemmas.{within_wholes, above_parent, base_of_whole}
 
@@ -137,7 +137,7 @@ module _ (live : Content) (ls : List Layer) (at : ℕ) (r : IsRooted (wholes liv
       ∙ ap (λ (l : Layer). (whole_of (above_in (take at (wholes live (slice_set ls at m))) l) l).base) (get_or-set_same ls at m no_layer lt)
       ∙ ap (λ (vs : List Workspace). (whole_of (above_in vs m) m).base) (before_stays live ls at m)
       ∙ base_of_whole (above_in (take at (wholes live ls)) m) m
-      ∙ (λ i. seen_over (unwrap_or (named (take at (wholes live ls)) (parent i)) no_rows) (base i))
+      ∙ (λ i. seen_over (unwrap_or (content_by_name (take at (wholes live ls)) (parent i)) no_rows) (base i))
       ∙ sym (base_of_whole (above_at live ls at) stored)
       ∙ sym (ap (λ (w : Workspace). w.base) (wholes-at live ls at some lt))
 

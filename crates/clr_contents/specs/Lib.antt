@@ -1,3 +1,3 @@
-pub mod Holding
+pub mod Pinning
 pub mod Lean
 pub mod Roots

@@ -2,13 +2,13 @@
 //! before another content changes, and the neutral entries that go after it.
 #![tactic(auto)]
 
-mod holds;
+mod pins;
 mod reads;
 mod sweeps;
 mod views;
 mod wholes;
 
-pub use holds::{hold_children, hold_current, hold_own, hold_saved};
+pub use pins::{pin_children, pin_current, pin_own, pin_saved};
 pub use reads::{base_row_of, depth_at, parent_of, row_of};
 pub use sweeps::{sweep, sweep_at};
 pub use views::{BaseView, View};

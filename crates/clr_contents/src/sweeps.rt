@@ -2,7 +2,7 @@ ghost use Rattle.std.specs.Prelude.{◌≡◌, ◌<◌, ◌||◌, length, nat_eq
 ghost use Rattle.std.specs.Str.{bytes_eq};
 ghost use Rattle.clr_layers.specs.Layers.{layer_at, layer_changed, wholes};
 ghost use Rattle.clr_layers.specs.Workspaces.{workspace_at};
-ghost use Rattle.clr_differences.specs.Differences.{swept, swept_at};
+ghost use Rattle.clr_differences.specs.Differences.{without_neutral, swept_at};
 ghost use Rattle.clr_contents.specs.Roots.{IsRooted};
 ghost use Rattle.clr_contents.specs.Lean.{content_of_parent, swept_marks, swept_marks_at, IsLean, IsLeanBeside, IsLeanBut, IsLeanOver};
 
@@ -20,7 +20,7 @@ fn sweep_base(live: &Sheet, map: &mut WorkspaceMap, at: usize)
     requires child { 0 < at }
     requires within { at < length map.old }
     requires rooted { IsRooted (wholes live.now map.old) }
-    ensures { map.new ≡ layer_changed map.old at (λ l. record l { base = swept (content_of_parent (wholes live.now map.old) at) l.base }) }
+    ensures { map.new ≡ layer_changed map.old at (λ l. record l { base = without_neutral (content_of_parent (wholes live.now map.old) at) l.base }) }
 {
     let above = parent_of(live, map, at);
     let none = Differences::new(map.allocator());
@@ -35,7 +35,7 @@ fn sweep_current(live: &Sheet, map: &mut WorkspaceMap, at: usize)
     requires child { 0 < at }
     requires within { at < length map.old }
     requires rooted { IsRooted (wholes live.now map.old) }
-    ensures { map.new ≡ layer_changed map.old at (λ l. record l { current = swept (workspace_at (wholes live.now map.old) at).base l.current }) }
+    ensures { map.new ≡ layer_changed map.old at (λ l. record l { current = without_neutral (workspace_at (wholes live.now map.old) at).base l.current }) }
 {
     let none = Differences::new(map.allocator());
     let mut current = map.replace_current(at, none);

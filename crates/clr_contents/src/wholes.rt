@@ -4,7 +4,7 @@ ghost use Rattle.clr_differences.specs.Differences.{cells_in};
 ghost use Rattle.clr_layers.specs.Layers.{layer_at, stored_at, saved_differences, wholes};
 ghost use Rattle.clr_layers.specs.Marks.{is_saved, mark_at, saved_content};
 ghost use Rattle.clr_layers.specs.Workspaces.{workspace_at};
-ghost use Rattle.clr_contents.specs.Holding.{set_each};
+ghost use Rattle.clr_contents.specs.Pinning.{set_each};
 ghost use Rattle.clr_contents.specs.Roots.{IsRooted};
 
 use crate::reads::{base_row_of, parent_of};
@@ -43,7 +43,7 @@ pub fn base_rows(live: &Sheet, map: &WorkspaceMap, at: usize) -> Result<Sheet, A
     Ok(content)
 }
 
-#[tactic(auto, unfolding(crate::specs::Holding::set_each))]
+#[tactic(auto, unfolding(crate::specs::Pinning::set_each))]
 fn changes_to(
     live: &Sheet,
     map: &WorkspaceMap,

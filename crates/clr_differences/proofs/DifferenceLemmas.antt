@@ -93,27 +93,27 @@ hidden m n d agree = same_content _ _ (λ q. row-seen_over n d q ∙ by (finite.
 
 -- a cell set where there is an entry
 pub set_outside : (d : Differences) (m : Content) (k : CellId) (v : Option Row) → HasEntry d k → AgreeOutside d m (set_cell m k v)
-set_outside d m k v held q none = row-set_cell m k v q ∙ by (eq_by_cmp cell_cmp q k) refl
+set_outside d m k v pinned q none = row-set_cell m k v q ∙ by (eq_by_cmp cell_cmp q k) refl
   where
     by : (b : Bool) → eq_by_cmp cell_cmp q k ≡ b → cond b v (row_at m q) ≡ row_at m q
-    by true h = absurd (false≢true (sym (ap is_some none) ∙ subst (HasEntry d) (sym (tied_cells q k h)) held))
+    by true h = absurd (false≢true (sym (ap is_some none) ∙ subst (HasEntry d) (sym (tied_cells q k h)) pinned))
     by false h = refl
 
 -- rows put where there are entries
 pub over_outside : (d : Differences) (es : Rows) (m : Content) → HasEntries d (cells_in es) → AgreeOutside d m (over m es)
 unfolding over
-over_outside d [] m held q none = refl
-over_outside d (e ∷ es) m held q none = over_outside d es (set_cell m e.0 e.1) held.1 q none ∙ set_outside d m e.0 e.1 held.0 q none
+over_outside d [] m pinned q none = refl
+over_outside d (e ∷ es) m pinned q none = over_outside d es (set_cell m e.0 e.1) pinned.1 q none ∙ set_outside d m e.0 e.1 pinned.0 q none
 
 -- differences that lie over a content, with entries at each of their cells
 pub seen_outside : (d : Differences) (m : Content) (e : Differences) → HasEntries d (finite.keys e) → AgreeOutside d m (seen_over m e)
 unfolding seen_over
-seen_outside d m e held = over_outside d (finite.entries e) m held
+seen_outside d m e pinned = over_outside d (finite.entries e) m pinned
 
 -- entries --------------------------------------------------------------------------------------
 
 pub entry_stays : (d : Differences) (k q : CellId) (v : Option Row) → HasEntry d q → HasEntry (finite.insert d k v) q
-entry_stays d k q v held = ap is_some (finite.get-insert cell_cmp_total d k v q) ∙ by (eq_by_cmp cell_cmp q k) (finite.get d q) held
+entry_stays d k q v pinned = ap is_some (finite.get-insert cell_cmp_total d k v q) ∙ by (eq_by_cmp cell_cmp q k) (finite.get d q) pinned
   where
     by : (b : Bool) (o : Option (Option Row)) → is_some o ≡ true → is_some (cond b (Some v) o) ≡ true
     by true o h = refl
@@ -123,24 +123,24 @@ pub entry_made : (d : Differences) (k : CellId) (v : Option Row) → HasEntry (f
 entry_made d k v = ap is_some (finite.get-insert cell_cmp_total d k v k ∙ ap (λ b. cond b (Some v) (finite.get d k)) (tied_self k))
 
 pub entries_keep : (d e : Differences) (cells : List CellId) → ((q : CellId) → HasEntry d q → HasEntry e q) → HasEntries d cells → HasEntries e cells
-entries_keep d e [] more held = tt
-entries_keep d e (cell ∷ cells) more held = (more cell held.0, entries_keep d e cells more held.1)
+entries_keep d e [] more pinned = tt
+entries_keep d e (cell ∷ cells) more pinned = (more cell pinned.0, entries_keep d e cells more pinned.1)
 
 pub entries_stay : (cells : List CellId) (d : Differences) (k : CellId) (v : Option Row) → HasEntries d cells → HasEntries (finite.insert d k v) cells
-entries_stay cells d k v held = entries_keep d (finite.insert d k v) cells (λ q. entry_stays d k q v) held
+entries_stay cells d k v pinned = entries_keep d (finite.insert d k v) cells (λ q. entry_stays d k q v) pinned
 
 pub put_each_keeps : (es : Rows) (d : Differences) (q : CellId) → HasEntry d q → HasEntry (put_each d es) q
 unfolding put_each
-put_each_keeps [] d q held = held
-put_each_keeps (e ∷ es) d q held = put_each_keeps es (finite.insert d e.0 e.1) q (entry_stays d e.0 q e.1 held)
+put_each_keeps [] d q pinned = pinned
+put_each_keeps (e ∷ es) d q pinned = put_each_keeps es (finite.insert d e.0 e.1) q (entry_stays d e.0 q e.1 pinned)
 
 entries_push : (d : Differences) (cells : List CellId) (cell : CellId) → HasEntries d cells → HasEntry d cell → HasEntries d (cells ++ cell ∷ [])
-entries_push d [] cell held one = (one, tt)
-entries_push d (c ∷ cells) cell held one = (held.0, entries_push d cells cell held.1 one)
+entries_push d [] cell pinned one = (one, tt)
+entries_push d (c ∷ cells) cell pinned one = (pinned.0, entries_push d cells cell pinned.1 one)
 
 -- entries at one more of some cells
 pub entries_next : (d : Differences) (cells : List CellId) (i : ℕ) (c : CellId) → i < length cells → HasEntries d (take i cells) → HasEntry d (get_or cells i c) → HasEntries d (take (i + 1) cells)
-entries_next d cells i c lt held one = subst (HasEntries d) (sym (take_at_read cells i c lt).1) (entries_push d (take i cells) (get_or cells i c) held one)
+entries_next d cells i c lt pinned one = subst (HasEntries d) (sym (take_at_read cells i c lt).1) (entries_push d (take i cells) (get_or cells i c) pinned one)
 
 -- other cells -------------------------------------------------------------------------------------
 

@@ -20,7 +20,7 @@ use Rattle.clr_rows.proofs.Entries.{keys-from_sorted}
 use Rattle.clr_rows.proofs.RowLemmas.{tied_cells}
 use Rattle.clr_rows.proofs.SameLemmas.{same_is, same_itself}
 use Rattle.clr_rows.proofs.Tests.{first, second}
-use Rattle.clr_differences.specs.Differences.{Differences, Rows, seen_over, is_own, swept, is_among, is_neutral_over, swept_cell, swept_at, IsOwnOver}
+use Rattle.clr_differences.specs.Differences.{Differences, Rows, seen_over, is_own, without_neutral, is_among, is_neutral_over, swept_cell, swept_at, IsOwnOver}
 use Rattle.clr_differences.proofs.DifferenceLemmas.{row-seen_over, neutral_taken}
 
 -- what `retain` leaves, where the test keeps no state and changes no value
@@ -32,8 +32,8 @@ filtered_from_retain T p f says (e ∷ es) kept h =
     let rest = filtered_from_retain T p f says es h.3 (subst (λ u. RetainsPairs T u es h.3) s.2 h.5) in
     h.6 ∙ (λ j. cond (s.0 j) ((e.0, s.1 j) ∷ rest j) (rest j))
 
-pub swept_entries : (below : Content) (es kept : Rows) → T (is_sorted cell_cmp es) → kept ≡ filter (is_own below) es → finite.from_sorted kept ≡ swept below (finite.from_sorted es)
-unfolding swept
+pub swept_entries : (below : Content) (es kept : Rows) → T (is_sorted cell_cmp es) → kept ≡ filter (is_own below) es → finite.from_sorted kept ≡ without_neutral below (finite.from_sorted es)
+unfolding without_neutral
 swept_entries below es kept sorted e = ap (λ (es : Rows). finite.from_sorted es) (e ∙ ap (filter (is_own below)) (sym (finite.entries-from_sorted cell_cmp es sorted)))
 
 -- what a filter leaves of a cell
@@ -60,8 +60,8 @@ find_own below (e ∷ es) q sorted =
     ] refl
 
 -- an entry is left at just the changed cells
-pub get-swept : (below : Content) (d : Differences) (q : CellId) → finite.get (swept below d) q ≡ change_at below (seen_over below d) q
-unfolding swept
+pub get-swept : (below : Content) (d : Differences) (q : CellId) → finite.get (without_neutral below d) q ≡ change_at below (seen_over below d) q
+unfolding without_neutral
 get-swept below d q =
     finite.get-from_sorted cell_cmp _ q (sorted-filter (is_own below) (finite.entries d) (finite.entries_sorted d))
     ∙ find_own below (finite.entries d) q (finite.entries_sorted d)
@@ -76,9 +76,9 @@ get-swept below d q =
     by None = none (row_at below q)
     by (Some row) = refl
 
-pub seen-swept : (below : Content) (d : Differences) → seen_over below (swept below d) ≡ seen_over below d
+pub seen-swept : (below : Content) (d : Differences) → seen_over below (without_neutral below d) ≡ seen_over below d
 seen-swept below d = same_content _ _ (λ q.
-    row-seen_over below (swept below d) q ∙ ap (λ o. unwrap_or o (row_at below q)) (get-swept below d q)
+    row-seen_over below (without_neutral below d) q ∙ ap (λ o. unwrap_or o (row_at below q)) (get-swept below d q)
     ∙ by (row_at below q) (row_at (seen_over below d) q) (same (row_at below q) (row_at (seen_over below d) q)) refl)
   where
     by : (a b : Option Row) (t : Bool) → same a b ≡ t → unwrap_or (cond (not t) (Some b) None) a ≡ b
@@ -92,13 +92,13 @@ cells_after : (es : List (CellId × Change)) → length (map (λ (e : CellId × 
 cells_after [] = refl
 cells_after (e ∷ es) = ap suc (cells_after es)
 
-pub count-swept : (below : Content) (d : Differences) → length (finite.keys (swept below d)) ≡ length (finite.keys (changes below (seen_over below d)))
+pub count-swept : (below : Content) (d : Differences) → length (finite.keys (without_neutral below d)) ≡ length (finite.keys (changes below (seen_over below d)))
 count-swept below d =
     let changed = changes below (seen_over below d) in
-    let alike : finite.from_sorted (rows_after changed) ≡ swept below d = finite.same_map cell_cmp_total cell_cmp_exact _ _ (λ q.
+    let alike : finite.from_sorted (rows_after changed) ≡ without_neutral below d = finite.same_map cell_cmp_total cell_cmp_exact _ _ (λ q.
     finite.get-from_sorted cell_cmp _ q (after_sorted changed) ∙ find-map after_of (finite.entries changed) q ∙ ap (option_map after_of) (sym (finite.get-entries changed q) ∙ get-changes below (seen_over below d) q)
     ∙ by q (is_changed below (seen_over below d) q) ∙ sym (get-swept below d q)) in
-    sym (ap length (keys-from_sorted (rows_after changed) (swept below d) (after_sorted changed) alike)) ∙ cells_after (finite.entries changed) ∙ keys_are changed
+    sym (ap length (keys-from_sorted (rows_after changed) (without_neutral below d) (after_sorted changed) alike)) ∙ cells_after (finite.entries changed) ∙ keys_are changed
   where
     by : (q : CellId) (b : Bool) → option_map after_of (cond b (Some (change_of below (seen_over below d) q)) None) ≡ cond b (Some (row_at (seen_over below d) q)) None
     by q true = refl
@@ -182,14 +182,14 @@ swept_at-next below cells i c d e f lt so_far is =
 
 -- where nothing is neutral a sweep takes nothing away, and a sweep leaves nothing neutral -----------------
 
-pub own_swept : (below : Content) (d : Differences) (q : CellId) → IsOwnOver (row_at below q) (finite.get (swept below d) q)
+pub own_swept : (below : Content) (d : Differences) (q : CellId) → IsOwnOver (row_at below q) (finite.get (without_neutral below d) q)
 own_swept below d q = subst (IsOwnOver (row_at below q)) (sym (get-swept below d q)) (by (same (row_at below q) (row_at (seen_over below d) q)) refl)
   where
     by : (b : Bool) → same (row_at below q) (row_at (seen_over below d) q) ≡ b → IsOwnOver (row_at below q) (cond (not b) (Some (row_at (seen_over below d) q)) None)
     by true e = refl
     by false e = e
 
-pub swept_own : (below : Content) (d : Differences) → ((q : CellId) → IsOwnOver (row_at below q) (finite.get d q)) → swept below d ≡ d
+pub swept_own : (below : Content) (d : Differences) → ((q : CellId) → IsOwnOver (row_at below q) (finite.get d q)) → without_neutral below d ≡ d
 swept_own below d own = finite.same_map cell_cmp_total cell_cmp_exact _ _ (λ q.
     get-swept below d q ∙ ap (λ (r : Option Row). cond (not (same (row_at below q) r)) (Some r) None) (row-seen_over below d q) ∙ by q (finite.get d q) (own q))
   where

@@ -41,8 +41,8 @@ abbrev pub is_own : Content → CellId × Option Row → Bool
 is_own below e = not (same (row_at below e.0) e.1)
 
 -- the entries that haven't the row of the content below
-unfoldable pub swept : Content → Differences → Differences
-swept below d = finite.from_sorted (filter (is_own below) (finite.entries d))
+unfoldable pub without_neutral : Content → Differences → Differences
+without_neutral below d = finite.from_sorted (filter (is_own below) (finite.entries d))
 
 -- an entry, if there is one, has the row of the content below
 abbrev pub is_neutral_over : Option Row → Option (Option Row) → Bool

@@ -3,7 +3,7 @@ ghost use Rattle.std.specs.FinMap as finite;
 ghost use Rattle.std.specs.Option.{option_copied};
 ghost use Rattle.clr_rows.specs.Contents.{Content, row_at};
 ghost use Rattle.clr_rows.specs.Same.{same};
-ghost use Rattle.clr_differences.specs.Differences.{no_differences, put_each, seen_over, swept, swept_at, swept_cell, cells_in};
+ghost use Rattle.clr_differences.specs.Differences.{no_differences, put_each, seen_over, without_neutral, swept_at, swept_cell, cells_in};
 ghost use Rattle.clr_differences.specs.Differences.{is_among, is_neutral_over, HasEntry, HasEntries};
 
 use clr_change::{are_same, copy_row};
@@ -67,7 +67,7 @@ impl Differences {
     /// Takes away each entry with the row of the content below, so that what is seen stays. It
     /// takes no memory.
     pub fn sweep<V: RowView>(&mut self, below: &V)
-        ensures { self.new ≡ swept (V.content below.now) self.old }
+        ensures { self.new ≡ without_neutral (V.content below.now) self.old }
     {
         self.rows.retain(|cell, row| !is_neutral(below, *cell, row));
     }
@@ -106,7 +106,7 @@ impl Differences {
     pub fn put(&mut self, cell: CellId, row: Option<Row>) -> Result<(), AllocError>
         ensures ok { OnOk result (self.new ≡ finite.insert self.old cell row) }
         ensures err { OnErr result (self.new ≡ self.old) }
-        ensures held { HasEntry self.old cell → IsOk result }
+        ensures pinned { HasEntry self.old cell → IsOk result }
     {
         self.rows.insert(cell, row)?;
         Ok(())
@@ -141,9 +141,9 @@ impl Differences {
 
     /// Makes an entry at a cell that has none, with the row of the content below, so that what is
     /// seen stays. It fails for want of memory alone, and what is seen stays then too.
-    pub fn hold(&mut self, cell: CellId, row: Option<&Row>) -> Result<(), AllocError>
+    pub fn pin(&mut self, cell: CellId, row: Option<&Row>) -> Result<(), AllocError>
         ensures seen { (below : Content) → row_at below cell ≡ option_copied row.entry → seen_over below self.new ≡ seen_over below self.old }
-        ensures held { OnOk result (HasEntry self.new cell) }
+        ensures pinned { OnOk result (HasEntry self.new cell) }
         ensures others { (q : CellId) → is_among (cell ∷ []) q ≡ false → finite.get self.new q ≡ finite.get self.old q }
     {
         if self.get(cell).is_some() {

@@ -5,7 +5,7 @@ use Rattle.std.proofs.lemmas.List.{length-take-le}
 use Rattle.std.proofs.lemmas.Option.{none-some}
 use Rattle.clr_rows.specs.Contents.{Content}
 use Rattle.clr_layers.specs.Layers.{Layer, grow, above_in, whole_of, workspaces_over}
-use Rattle.clr_layers.specs.Workspaces.{Workspace, root, workspace_at}
+use Rattle.clr_layers.specs.Workspaces.{Workspace, live_workspace, workspace_at}
 use Rattle.clr_layers.proofs.Meaning.{length-grow}
 use Rattle.clr_tree.specs.Parts.{IsRefused, first_below, name_fault_at, workspaces_fault}
 use Rattle.clr_tree.specs.declared.limits.TheConstants.{MOST_WORKSPACES}
@@ -41,10 +41,10 @@ no_first (Some x) second e = absurd (none-some _ (sym e))
 
 not_many : (live : Content) (ws : List Workspace) → MOST_WORKSPACES ≤ length ws → workspaces_fault live ws ≡ None → ⊥
 not_many live ws many e =
-    let names : first_below (name_fault_at (root live ∷ ws)) (length ws) ≡ None = no_first _ _ e in
-    let here = none_at (name_fault_at (root live ∷ ws)) (length ws) 255 names (omega (arith, many)) in
-    let before : length (take 256 (root live ∷ ws)) ≡ 256 = length-take-le 256 (root live ∷ ws) (omega (arith, many)) in
-    let few = (placed_from (take 256 (root live ∷ ws)) (workspace_at (root live ∷ ws) 256) here).few in
+    let names : first_below (name_fault_at (live_workspace live ∷ ws)) (length ws) ≡ None = no_first _ _ e in
+    let here = none_at (name_fault_at (live_workspace live ∷ ws)) (length ws) 255 names (omega (arith, many)) in
+    let before : length (take 256 (live_workspace live ∷ ws)) ≡ 256 = length-take-le 256 (live_workspace live ∷ ws) (omega (arith, many)) in
+    let few = (placed_from (take 256 (live_workspace live ∷ ws)) (workspace_at (live_workspace live ∷ ws) 256) here).few in
     omega (arith, before, few)
 
 -- workspaces that are as many as there can be with LIVE
@@ -54,5 +54,5 @@ too_many o live ls is over many = by (workspaces_fault o.live o.workspaces) refl
     by : (found : Option (ℕ × PartFault)) → workspaces_fault o.live o.workspaces ≡ found → if_standing o ≡ Err text.BadPart
     by (Some e) found = falls o e found
     by None found =
-        let count : length o.workspaces ≡ length ls = ap length over ∙ length-grow (root live ∷ []) ls in
+        let count : length o.workspaces ≡ length ls = ap length over ∙ length-grow (live_workspace live ∷ []) ls in
         absurd (not_many o.live o.workspaces (omega (arith, count, many)) found)

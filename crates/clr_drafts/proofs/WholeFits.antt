@@ -12,9 +12,9 @@ use Rattle.clr_rows.specs.Schemas.{FitsSchema, row_fault}
 use Rattle.clr_rows.proofs.FitLemmas.{none_fit}
 use Rattle.clr_differences.specs.Differences.{Differences, seen_over}
 use Rattle.clr_differences.proofs.DifferenceLemmas.{row-seen_over}
-use Rattle.clr_layers.specs.Layers.{Layer, grow, named, whole_mark, whole_of, workspaces_over}
+use Rattle.clr_layers.specs.Layers.{Layer, grow, content_by_name, whole_mark, whole_of, workspaces_over}
 use Rattle.clr_layers.specs.Marks.{Name, mark_at, saved_content}
-use Rattle.clr_layers.specs.Workspaces.{Workspace, root, workspace_at}
+use Rattle.clr_layers.specs.Workspaces.{Workspace, live_workspace, workspace_at}
 use Rattle.clr_layers.specs.declared.stored_marks.StoredMark.{StoredMark}
 use Rattle.clr_layers.specs.declared.stored_marks.StoredMark.TheVariants as stored
 use Rattle.clr_steps.specs.Invariants.{WorkspaceFits}
@@ -50,12 +50,12 @@ module _ (tables : List TableDef) where
   abbrev CurrentsFit : List Workspace → Type 0
   CurrentsFit ws = AllByRecursion (λ (w : Workspace). FitsSchema tables w.current) ws
 
-  named_fits : (ws : List Workspace) (name : Name) → CurrentsFit ws → FitsSchema tables (unwrap_or (named ws name) no_rows)
-  unfolding named
+  named_fits : (ws : List Workspace) (name : Name) → CurrentsFit ws → FitsSchema tables (unwrap_or (content_by_name ws name) no_rows)
+  unfolding content_by_name
   named_fits [] name all = none_fit tables
   named_fits (w ∷ ws) name all = by (bytes_eq name w.name) (named_fits ws name all.1)
     where
-      by : (is : Bool) → FitsSchema tables (unwrap_or (named ws name) no_rows) → FitsSchema tables (unwrap_or (cond is (Some w.current) (named ws name)) no_rows)
+      by : (is : Bool) → FitsSchema tables (unwrap_or (content_by_name ws name) no_rows) → FitsSchema tables (unwrap_or (cond is (Some w.current) (content_by_name ws name)) no_rows)
       by true others = all.0
       by false others = others
 
@@ -75,9 +75,9 @@ module _ (tables : List TableDef) where
   unfolding grow
   grow_fits ws [] currents all = none_fits
   grow_fits ws (l ∷ ls) currents all =
-      let w : Workspace = whole_of (unwrap_or (named ws l.parent) no_rows) l in
-      let one = whole_fits (unwrap_or (named ws l.parent) no_rows) l (named_fits ws l.parent currents) all.0 in
+      let w : Workspace = whole_of (unwrap_or (content_by_name ws l.parent) no_rows) l in
+      let one = whole_fits (unwrap_or (content_by_name ws l.parent) no_rows) l (named_fits ws l.parent currents) all.0 in
       first_fits w (grow (ws ++ w ∷ []) ls) one (grow_fits (ws ++ w ∷ []) ls (one_more ws w currents one.current) all.1)
 
   pub all_fit : (live : Content) (ls : List Layer) → FitsSchema tables live → AllByRecursion (FitsLayer tables) ls → (i : ℕ) → WorkspaceFits tables (workspace_at (workspaces_over live ls) i)
-  all_fit live ls rows all = grow_fits (root live ∷ []) ls (rows, tt) all
+  all_fit live ls rows all = grow_fits (live_workspace live ∷ []) ls (rows, tt) all

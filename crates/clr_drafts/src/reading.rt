@@ -1,5 +1,5 @@
 ghost use Rattle.std.specs.Prelude.{◌≡◌, ◌∷◌, IfOk};
-ghost use Rattle.clr_layers.specs.Workspaces.{root};
+ghost use Rattle.clr_layers.specs.Workspaces.{live_workspace};
 ghost use Rattle.clr_tree.specs.Parts.{spaces_of};
 ghost use Rattle.clr_steps.specs.Offices.{office_of};
 ghost use Rattle.clr_engine.specs.Drafts.{IsFitting};
@@ -32,8 +32,8 @@ fn draft_of_layers(
     live: Sheet,
     parts: Vec<StoredPart>,
 ) -> Result<Draft, TextFault>
-    requires { IsFitting (office_of schema book (root live ∷ spaces_of live parts.items)) }
-    ensures { Gives (λ draft. draft) result (if_standing (office_of schema book (root live ∷ spaces_of live parts.items))) }
+    requires { IsFitting (office_of schema book (live_workspace live ∷ spaces_of live parts.items)) }
+    ensures { Gives (λ draft. draft) result (if_standing (office_of schema book (live_workspace live ∷ spaces_of live parts.items))) }
 {
     match Tree::of_layers(alloc, live, parts) {
         Ok(tree) => Ok(Draft::of_tree(alloc, schema, book, tree)),

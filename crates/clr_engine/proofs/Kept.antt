@@ -9,7 +9,7 @@ use Rattle.clr_rows.specs.Contents.{Content, Changes, taken_over}
 use Rattle.clr_layers.specs.Marks.{Mark, Name, mark_last, without_mark_of}
 use Rattle.clr_layers.specs.Workspaces.{Workspace, no_workspace, parent_of, workspace_at}
 use Rattle.clr_tree.proofs.RootLemmas.{later_stays}
-use Rattle.clr_tree.specs.Operations.{after_create, after_refresh, after_remove, after_remove_under, after_rebase, after_rebase_under, after_resolve, after_write, at_position, change_at, change_marks, keep_row, new_leaf, own_changes, rebase, refresh, with_current, with_mark_of, with_marks}
+use Rattle.clr_tree.specs.Operations.{after_create, after_refresh, after_remove, after_remove_under, after_rebase, after_rebase_under, after_resolve, after_write, at_position, change_at, change_marks, keep_row, new_leaf, own_changes, with_base_merged, refresh, with_current, with_mark_of, with_marks}
 use Rattle.clr_tree.specs.declared.rebases.Keep.{Keep}
 use Rattle.clr_tree.specs.declared.rebases.Keep.TheVariants as keeps
 use Rattle.clr_tree.specs.declared.rebases.Rebase.{Rebase}
@@ -88,7 +88,7 @@ pub after_merging : (ws : List Workspace) (at above : ℕ) → parent_of ws at �
 after_merging ws at above e =
     let changed = own_changes (workspace_at ws at) in
     ap (λ r. kept_contents (at_position ws r (after_rebase_under ws at ways.Merge))) e
-    ∙ same_content (after_write ws above changed) at rebase refl
+    ∙ same_content (after_write ws above changed) at with_base_merged refl
     ∙ other_content ws above (λ w. with_current (taken_over w.current changed) w) (taken_over (workspace_at ws above).current changed) refl refl
 
 pub after_resolving : (ws : List Workspace) (at above : ℕ) (cell : CellId) (keep : Keep) → parent_of ws at ≡ Some above

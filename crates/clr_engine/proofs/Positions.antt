@@ -4,7 +4,7 @@ use Rattle.std.specs.Str.{bytes_eq}
 use Rattle.clr_layers.specs.Marks.{Name, Mark, Saved, ChildMark, is_saved, is_saved_as, find_mark, mark_at}
 use Rattle.clr_layers.specs.Workspaces.{Workspace, children_of, no_workspace, parent_of, workspace_at}
 use Rattle.clr_rows.specs.Contents.{taken_over}
-use Rattle.clr_tree.specs.Operations.{after_rebase, after_rebase_under, at_position, change_at, own_changes, rebase, with_current}
+use Rattle.clr_tree.specs.Operations.{after_rebase, after_rebase_under, at_position, change_at, own_changes, with_base_merged, with_current}
 use Rattle.clr_tree.specs.declared.rebases.Rebase.TheVariants as ways
 use Rattle.clr_tree.proofs.CountLemmas.{count-set}
 use Rattle.clr_tree.proofs.RootLemmas.{stays_at}
@@ -42,4 +42,4 @@ leaf_after_merge ws at = by (parent_of ws at)
     by None = refl
     by (Some above) =
         let write = λ (w : Workspace). with_current (taken_over w.current (own_changes (workspace_at ws at))) w in
-        changed_leaf rebase (λ w. refl) (λ w. refl) (change_at ws above write) at at ∙ changed_leaf write (λ w. refl) (λ w. refl) ws above at
+        changed_leaf with_base_merged (λ w. refl) (λ w. refl) (change_at ws above write) at at ∙ changed_leaf write (λ w. refl) (λ w. refl) ws above at

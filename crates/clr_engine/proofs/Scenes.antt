@@ -13,14 +13,14 @@ use Rattle.clr_rules.specs.Needs.{IsFirstBroken}
 use Rattle.clr_rules.specs.declared.needs.Broken.{Broken}
 use Rattle.clr_grid.specs.Sharing.{IsSettledFor}
 use Rattle.clr_foot.proofs.AuditLaws.{first_listed}
-use Rattle.clr_foot.specs.Broken.{merged}
+use Rattle.clr_foot.specs.Broken.{view_after_merge}
 use Rattle.clr_foot.specs.Scenes.{IsReady, SceneModel, setting_of}
 use Rattle.clr_steps.specs.Refusals.{first_broken}
 use Rattle.clr_rules.specs.declared.rules.Rule.{Rule}
 use Rattle.clr_grid.specs.RowMaps.{Rows}
 use Rattle.clr_foot.specs.declared.needs.VersionId.{VersionId}
 use Rattle.clr_foot.specs.Members.{after_in, after_of, setting}
-use Rattle.clr_foot.specs.Settings.{Lived, changer, held, new_row, new_version, old_version, version}
+use Rattle.clr_foot.specs.Settings.{Lived, changer, held_row, new_row, new_version, old_version, version}
 use Rattle.clr_foot.specs.Versions.{FitsSetting}
 use Rattle.clr_layers.specs.Workspaces.{Workspace}
 use Rattle.clr_engine.specs.Finders.{IsFinderAt, IsFinderOf, kept_content}
@@ -56,7 +56,7 @@ module _ (book : List Rule) (content : Content) (changed : Changes) (fit : FitBo
   unfolding version
   fits_setting = record { tables = fit.tables; book = fit.book; each = λ v l e. by v l v.fresh refl e }
     where
-      by : (v : VersionId) (l : Lived ℕ) (fresh : Bool) → v.fresh ≡ fresh → version (setting book content (changed ∷ [])) v ≡ Some l → FitsCell fit.tables (held v l)
+      by : (v : VersionId) (l : Lived ℕ) (fresh : Bool) → v.fresh ≡ fresh → version (setting book content (changed ∷ [])) v ≡ Some l → FitsCell fit.tables (held_row v l)
       by v l true is e = let c = setting book content (changed ∷ []) in
           new_fits v.cell (changer c v.cell) l (sym (ap (λ b. cond b (new_version c.after v.cell (changer c v.cell)) (old_version (changer c v.cell) (c.root v.cell))) is) ∙ e)
       by v l false is e = let c = setting book content (changed ∷ []) in
@@ -75,12 +75,12 @@ module _ (book rules : List Rule) (content root : Content) (changed : Changes) (
   }
 
   pub listed : (m : SceneModel Rows) (finder : Rows) → m ≡ record { rules = rules; root = root; sets = sets; finder = finder } → (r : Result (Option Broken) AllocError)
-      → IfOk r (IsFirstBroken m.rules (merged (setting_of m))) → IfOk r (λ need. need ≡ first_broken book (taken_over content changed))
+      → IfOk r (IsFirstBroken m.rules (view_after_merge (setting_of m))) → IfOk r (λ need. need ≡ first_broken book (taken_over content changed))
   unfolding first_broken
-  listed m finder e (Ok need) h = first_listed book content changed need (subst (λ r. IsFirstBroken r (merged (setting r content (changed ∷ []))) need) is
-      (subst (λ c. IsFirstBroken rules (merged (setting rules c (changed ∷ []))) need) same
-      (subst (λ ss. IsFirstBroken rules (merged (setting rules root ss)) need) one
-      (subst (λ (m : SceneModel Rows). IsFirstBroken m.rules (merged (setting_of m)) need) e h))))
+  listed m finder e (Ok need) h = first_listed book content changed need (subst (λ r. IsFirstBroken r (view_after_merge (setting r content (changed ∷ []))) need) is
+      (subst (λ c. IsFirstBroken rules (view_after_merge (setting rules c (changed ∷ []))) need) same
+      (subst (λ ss. IsFirstBroken rules (view_after_merge (setting rules root ss)) need) one
+      (subst (λ (m : SceneModel Rows). IsFirstBroken m.rules (view_after_merge (setting_of m)) need) e h))))
   listed m finder e (Err x) h = h
 
 -- ---- a workspace with a finder

@@ -1,7 +1,7 @@
 ghost use Rattle.std.specs.Prelude.{◌≡◌, ◌+◌, ◌∷◌, false, length, is_some, option_map, IfOk, IfSome, OnErr};
 ghost use Rattle.std.specs.Option.{option_copied};
 ghost use Rattle.clr_rows.specs.Contents.{row_at};
-ghost use Rattle.clr_layers.specs.Workspaces.{root};
+ghost use Rattle.clr_layers.specs.Workspaces.{live_workspace};
 ghost use Rattle.clr_tree.specs.Parts.{workspace_of};
 ghost use Rattle.clr_tree.specs.Soundness.{IsSound};
 ghost use Rattle.clr_steps.specs.Offices.{content_of, is_kept, office_of, stands};
@@ -92,7 +92,7 @@ impl Office {
     /// How many workspaces there are, LIVE counted.
     pub fn len(&self) -> usize
         ensures count { result ≡ length self.now.workspaces + 1 }
-        ensures sound { IsSound (root self.now.live ∷ self.now.workspaces) }
+        ensures sound { IsSound (live_workspace self.now.live ∷ self.now.workspaces) }
     {
         self.tree.len()
     }

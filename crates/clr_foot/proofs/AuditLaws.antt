@@ -7,7 +7,7 @@ use Rattle.clr_rows.specs.Contents.{row_at, taken_over}
 use Rattle.clr_rows.proofs.ChangeLemmas.{row-taken_over}
 use Rattle.clr_rules.specs.declared.needs.Broken.{Broken}
 use Rattle.clr_rules.specs.declared.rules.Rule.{Rule}
-use Rattle.clr_rules.specs.Needs.{IsFirstBroken, View, broken, broken_cmp}
+use Rattle.clr_rules.specs.Needs.{IsFirstBroken, View, broken_needs, broken_cmp}
 use Rattle.clr_rules.proofs.BrokenLemmas.{lists_broken}
 use Rattle.clr_rules.proofs.BrokenOrder.{broken_exact, broken_total}
 use Rattle.clr_foot.specs.Laws.{FirstBrokenAfter, FirstBrokenIsListed}
@@ -30,5 +30,5 @@ first_after rules content changes first h = subst (λ view. IsFirstBroken rules 
 
 pub first_listed : FirstBrokenIsListed
 first_listed rules content changes first h =
-    first_once rules (row_at (taken_over content changes)) first (slice_get (broken rules (taken_over content changes)) 0) (first_after rules content changes first h)
+    first_once rules (row_at (taken_over content changes)) first (slice_get (broken_needs rules (taken_over content changes)) 0) (first_after rules content changes first h)
     (lists_broken rules (taken_over content changes)).first

@@ -23,13 +23,13 @@ use Rattle.clr_rules.specs.Needs.{Holds, IsBroken, IsMet, IsNeed, IsLeastBroken,
 use Rattle.clr_rules.specs.Needs as audit
 use Rattle.clr_foot.specs.declared.needs.Need.{Need}
 use Rattle.clr_foot.specs.declared.needs.VersionId.{VersionId}
-use Rattle.clr_foot.specs.Broken.{HasLivingServer, IsJudged, IsKept, IsLost, are_living, broken_of, is_living, is_living_at, merged}
+use Rattle.clr_foot.specs.Broken.{HasLivingServer, IsJudged, IsServedAfterMerge, IsUnservedAfterMerge, are_living, broken_of, is_living, is_living_at, view_after_merge}
 use Rattle.clr_foot.specs.Covers.{IsLifeOf}
 use Rattle.clr_foot.specs.Independence.{Names}
 use Rattle.clr_foot.specs.Members.{setting}
 use Rattle.clr_foot.specs.Needs.{AreServers, AreTouchedNeeds, IsPossibleNeed, IsBesideToo, IsPossible, IsTouched, IsTouchedBy, ask_of, held_too, is_fresh, need_of}
 use Rattle.clr_foot.specs.Orders.{need_cmp, version_cmp}
-use Rattle.clr_foot.specs.Settings.{Setting, AreDisjoint, Lifetime, Always, With, Without, Lived, changer, has, held, new_version, old_version, taken, version}
+use Rattle.clr_foot.specs.Settings.{Setting, AreDisjoint, Lifetime, Always, With, Without, Lived, changer, has, held_row, new_version, old_version, view_with, version}
 use Rattle.clr_foot.proofs.CoverLaws.{root_server}
 use Rattle.clr_foot.proofs.Lives.{has_version, lives, names_member, never_both, old_is}
 use Rattle.clr_foot.proofs.Meetings.{HasServer, IsStandingNeed, IsSubjectLife, holds_where_met, is_need, met_by, server_of}
@@ -61,10 +61,10 @@ module _ (rules : List Rule) (root : Content) (sets : List Changes) (one : lengt
   merge : IsMerge s ts
   merge = record { apart = apart; part = λ n h. subst (λ ms. has s.same ms n ≡ true) (sym members_are) h }
 
-  merged_is : (q : CellId) → taken s ts q ≡ merged s q
+  merged_is : (q : CellId) → view_with s ts q ≡ view_after_merge s q
   merged_is q = taken_over s 0 [] q ∙ ap (unwrap_or (s.after 0 q)) (root_is s q)
 
-  views : taken s ts ≡ merged s
+  views : view_with s ts ≡ view_after_merge s
   views = λ i q. merged_is q i
 
   -- ---- lives
@@ -131,7 +131,7 @@ module _ (rules : List Rule) (root : Content) (sets : List Changes) (one : lengt
 
   -- ---- every rule holds where each touched need is kept
 
-  pub holds_after : Holds rules s.root → ((n : Need) → IsTouched s n → IsKept s n) → Holds rules (merged s)
+  pub holds_after : Holds rules s.root → ((n : Need) → IsTouched s n → IsServedAfterMerge s n) → Holds rules (view_after_merge s)
   holds_after holds kept = subst (Holds rules) views (holds_where_met s ts merge (λ n a b need. met_by s ts n a b merge (by n a b need (touched_or_served holds n a b need.possible))))
     where
       by : (n : Need) (a : Lived ℕ) (b : Option (Lived ℕ)) → IsStandingNeed s ts n a b → IsTouchedBy s n a b ⊎ HasServer s ts n a b → HasServer s ts n a b
@@ -140,9 +140,9 @@ module _ (rules : List Rule) (root : Content) (sets : List Changes) (one : lengt
 
   -- ---- broken needs
 
-  pub lost_is_broken : (n : Need) → IsLost s n → IsBroken rules (merged s) (broken_of n)
+  pub lost_is_broken : (n : Need) → IsUnservedAfterMerge s n → IsBroken rules (view_after_merge s) (broken_of n)
   lost_is_broken n (a, b, p, living, unserved) = subst (λ view. IsBroken rules view (broken_of n)) views (record {
-    first = held n.first a;
+    first = held_row n.first a;
     second = held_too n.second b;
     need = is_need s ts n a b merge (it_stands n a b p living);
     unmet = λ met. unserved (server_lives n a b (server_of s ts n a b merge met));
@@ -150,7 +150,7 @@ module _ (rules : List Rule) (root : Content) (sets : List Changes) (one : lengt
   })
     where
       same_names : (w : Option VersionId) (b : Option (Lived ℕ)) → IsBesideToo s n.first a w b
-          → broken_of (need_of (ask_of n) n.first w) ≡ broken_at (ask_of n) (held n.first a) (held_too w b)
+          → broken_of (need_of (ask_of n) n.first w) ≡ broken_at (ask_of n) (held_row n.first a) (held_too w b)
       same_names None None is = refl
       same_names None (Some b) is = absurd is
       same_names (Some w) None is = absurd is
@@ -158,11 +158,11 @@ module _ (rules : List Rule) (root : Content) (sets : List Changes) (one : lengt
 
   -- a broken need is that of a touched one that nothing serves
   pub record IsBrokenBy (b : Broken) (n : Need) : Type 0 where
-    pub lost : IsLost s n
+    pub lost : IsUnservedAfterMerge s n
     pub touched : IsTouched s n
     pub named : b ≡ broken_of n
 
-  pub broken_by : Holds rules s.root → (b : Broken) → IsBroken rules (merged s) b → (n : Need) × IsBrokenBy b n
+  pub broken_by : Holds rules s.root → (b : Broken) → IsBroken rules (view_after_merge s) b → (n : Need) × IsBrokenBy b n
   broken_by holds b broken = by b (subst (λ view. IsBroken rules view b) (sym views) broken)
     where
       break_of : (b : Broken) (n : Need) (x : Lived ℕ) (y : Option (Lived ℕ)) → IsStandingNeed s ts n x y → b ≡ broken_of n → (HasServer s ts n x y → ⊥) → (n : Need) × IsBrokenBy b n
@@ -179,10 +179,10 @@ module _ (rules : List Rule) (root : Content) (sets : List Changes) (one : lengt
           )
           go (inr h) = absurd (unserved h)
 
-      by : (b : Broken) → IsBroken rules (taken s ts) b → (n : Need) × IsBrokenBy b n
+      by : (b : Broken) → IsBroken rules (view_with s ts) b → (n : Need) × IsBrokenBy b n
       by b broken = go broken.first broken.second broken.need broken.unmet broken.named
         where
-          go : (first : Held) (second : Option Held) → IsNeed rules (taken s ts) (audit.ask_of b) first second → (IsMet rules (taken s ts) (audit.ask_of b) first second → ⊥)
+          go : (first : Held) (second : Option Held) → IsNeed rules (view_with s ts) (audit.ask_of b) first second → (IsMet rules (view_with s ts) (audit.ask_of b) first second → ⊥)
               → b ≡ broken_at (audit.ask_of b) first second → (n : Need) × IsBrokenBy b n
           go first None need unmet named =
               let v = has_version s ts merge first.0 first.1 need.stands in
@@ -256,7 +256,7 @@ module _ (rules : List Rule) (root : Content) (sets : List Changes) (one : lengt
   second_order (Some v) None first second = refl
   second_order (Some v) (Some w) first second = version_order v w first second
 
-  subjects_live : (n : Need) → IsLost s n → LivesAt n.first × LivesAtToo n.second
+  subjects_live : (n : Need) → IsUnservedAfterMerge s n → LivesAt n.first × LivesAtToo n.second
   subjects_live n (a, b, p, living, unserved) = by n.second b p.second_is living
     where
       by : (w : Option VersionId) (b : Option (Lived ℕ)) → IsBesideToo s n.first a w b → are_living a b ≡ true → LivesAt n.first × LivesAtToo w
@@ -265,7 +265,7 @@ module _ (rules : List Rule) (root : Content) (sets : List Changes) (one : lengt
       by (Some w) None is e = absurd is
       by (Some w) (Some b) is e = let both = and_parts (is_living a.life) (is_living b.life) e in ((a, p.first_is, both.0), (b, is.is, both.1))
 
-  need_order : (m n : Need) → IsLost s m → IsLost s n → need_cmp m n ≡ broken_cmp (broken_of m) (broken_of n)
+  need_order : (m n : Need) → IsUnservedAfterMerge s m → IsUnservedAfterMerge s n → need_cmp m n ≡ broken_cmp (broken_of m) (broken_of n)
   unfolding broken_cmp
   need_order m n lost lost_too =
       let first = subjects_live m lost in
@@ -286,34 +286,34 @@ module _ (rules : List Rule) (root : Content) (sets : List Changes) (one : lengt
   pub least_lost : Holds rules s.root → (needs : List Need) (k : ℕ) (n d : Need) → k < length needs → n ≡ get_or needs k d
       → IsStrictlySortedBy need_cmp needs
       → ((m : Need) → IsTouched s m → Contains needs m)
-      → ((m : Need) → Contains (take k needs) m → IsKept s m)
-      → IsLost s n
-      → IsLeastBroken rules (merged s) (broken_of n)
+      → ((m : Need) → Contains (take k needs) m → IsServedAfterMerge s m)
+      → IsUnservedAfterMerge s n
+      → IsLeastBroken rules (view_after_merge s) (broken_of n)
   least_lost holds needs k n d less is ascending every kept lost = record { broken = lost_is_broken n lost; least = least }
     where
-      later : (m : Need) → IsLost s m → PlaceOf need_cmp needs m k n → is_gt (broken_cmp (broken_of n) (broken_of m)) ≡ false
+      later : (m : Need) → IsUnservedAfterMerge s m → PlaceOf need_cmp needs m k n → is_gt (broken_cmp (broken_of n) (broken_of m)) ≡ false
       later m lost_too (before h) = let (a, b, p, living, unserved) = lost_too in absurd (unserved (kept m h a b p living))
       later m lost_too (here e) = subst (λ j. is_gt (broken_cmp (broken_of n) (broken_of j)) ≡ false) e (tie_not_gt (broken_of n))
       later m lost_too (after e) = less_not_gt _ (sym (need_order n m lost lost_too) ∙ e)
 
-      least : (b : Broken) → IsBroken rules (merged s) b → is_gt (broken_cmp (broken_of n) b) ≡ false
+      least : (b : Broken) → IsBroken rules (view_after_merge s) b → is_gt (broken_cmp (broken_of n) b) ≡ false
       least b broken =
           let (m, h) = broken_by holds b broken in
           subst (λ x. is_gt (broken_cmp (broken_of n) x) ≡ false) (sym h.named) (later m h.lost (place_of need_cmp needs k n d m less is ascending (every m h.touched)))
 
   -- read from a list that is theirs
   pub first_is_least : Holds rules s.root → (needs read : List Need) (k : ℕ) (n d : Need) (lost : Bool) (b : Broken) → AreTouchedNeeds s needs → read ≡ needs → k < length read → n ≡ get_or read k d
-      → ((m : Need) → Contains (take k read) m → IsKept s m)
+      → ((m : Need) → Contains (take k read) m → IsServedAfterMerge s m)
       → IsJudged s n lost
       → lost ≡ true
       → b ≡ broken_of n
-      → IsLeastBroken rules (merged s) b
+      → IsLeastBroken rules (view_after_merge s) b
   first_is_least holds needs read k n d lost b touched same less is kept judged told named =
-      subst (IsLeastBroken rules (merged s)) (sym named)
+      subst (IsLeastBroken rules (view_after_merge s)) (sym named)
       (least_lost holds read k n d less is (subst (IsStrictlySortedBy need_cmp) (sym same) touched.ascending) (λ m t. subst (λ ms. Contains ms m) (sym same) ((touched.exactly m).1 t)) kept
       (subst (IsJudged s n) told judged))
 
-  pub none_is_lost : Holds rules s.root → (needs read : List Need) (k : ℕ) → AreTouchedNeeds s needs → read ≡ needs → length read ≤ k → ((m : Need) → Contains (take k read) m → IsKept s m) → Holds rules (merged s)
+  pub none_is_lost : Holds rules s.root → (needs read : List Need) (k : ℕ) → AreTouchedNeeds s needs → read ≡ needs → length read ≤ k → ((m : Need) → Contains (take k read) m → IsServedAfterMerge s m) → Holds rules (view_after_merge s)
   none_is_lost holds needs read k touched same past kept = holds_after holds (λ m t. kept m (all_taken read k m past (subst (λ ms. Contains ms m) (sym same) ((touched.exactly m).1 t))))
 
 -- ---- one need
@@ -332,7 +332,7 @@ module _ (c : Setting ℕ) (n : Need) where
 
   module _ (servers read : List VersionId) (are : AreServers c n servers) (same : read ≡ servers) where
     pub none_living : (told : Bool) → IsPossibleNeed c n → ((a : Lived ℕ) (b : Option (Lived ℕ)) → IsPossible c n a b → told ≡ are_living a b) → told ≡ true
-        → ((v : VersionId) → Contains read v → is_living_at (version c v) ≡ true → ⊥) → IsLost c n
+        → ((v : VersionId) → Contains read v → is_living_at (version c v) ≡ true → ⊥) → IsUnservedAfterMerge c n
     none_living told (a, b, p) tells stand none = (
       a,
       b,
@@ -341,13 +341,13 @@ module _ (c : Setting ℕ) (n : Need) where
       λ h. none h.0 (subst (λ vs. Contains vs h.0) (sym same) ((are.exactly h.0).1 (a, b, h.1, p, h.2))) (ap is_living_at h.2.is ∙ h.3),
     )
 
-    pub some_living : (v : VersionId) → Contains read v → is_living_at (version c v) ≡ true → IsKept c n
+    pub some_living : (v : VersionId) → Contains read v → is_living_at (version c v) ≡ true → IsServedAfterMerge c n
     some_living v h living a b p stand =
         let (x, y, l, q, serve) = (are.exactly v).0 (subst (λ vs. Contains vs v) same h) in
         let once = subjects_once a x b y p q in (
           v,
           l,
-          record { is = serve.is; it_serves = sym (λ i. serves c.rules (ask_of n) (held n.first (once.0 i)) (held_too n.second (once.1 i)) (held v l)) ∙ serve.it_serves },
+          record { is = serve.is; it_serves = sym (λ i. serves c.rules (ask_of n) (held_row n.first (once.0 i)) (held_too n.second (once.1 i)) (held_row v l)) ∙ serve.it_serves },
           sym (ap is_living_at serve.is) ∙ living,
         )
 
@@ -356,10 +356,10 @@ module _ (c : Setting ℕ) (n : Need) where
   touched_possible needs are h = let (a, b, p, touched) = (are.exactly n).0 h in (a, b, p)
 
 -- the judgement of one more need
-pub kept_more : (c : Setting ℕ) (needs : List Need) (k : ℕ) (n : Need) (d : Need) (lost : Bool) → k < length needs → n ≡ get_or needs k d → ((m : Need) → Contains (take k needs) m → IsKept c m) → IsJudged c n lost → lost ≡ false
-    → (m : Need) → Contains (take (k + 1) needs) m → IsKept c m
+pub kept_more : (c : Setting ℕ) (needs : List Need) (k : ℕ) (n : Need) (d : Need) (lost : Bool) → k < length needs → n ≡ get_or needs k d → ((m : Need) → Contains (take k needs) m → IsServedAfterMerge c m) → IsJudged c n lost → lost ≡ false
+    → (m : Need) → Contains (take (k + 1) needs) m → IsServedAfterMerge c m
 kept_more c needs k n d lost less is kept judged fails m h = by (one_more needs k d m less h)
   where
-    by : Contains (take k needs) m ⊎ (m ≡ get_or needs k d) → IsKept c m
+    by : Contains (take k needs) m ⊎ (m ≡ get_or needs k d) → IsServedAfterMerge c m
     by (inl earlier) = kept m earlier
-    by (inr last) = subst (IsKept c) (is ∙ sym last) (subst (IsJudged c n) fails judged)
+    by (inr last) = subst (IsServedAfterMerge c) (is ∙ sym last) (subst (IsJudged c n) fails judged)

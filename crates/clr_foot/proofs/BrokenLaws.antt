@@ -7,7 +7,7 @@ use Rattle.clr_foot.specs.declared.needs.VersionId.{VersionId}
 use Rattle.clr_foot.specs.Covers.{AreBlockers, IsBlocker, IsLifeOf, IsUncovered}
 use Rattle.clr_foot.specs.Independence.{Names}
 use Rattle.clr_foot.specs.Needs.{AreOpposed, IsBesideToo, IsPossible, Serves}
-use Rattle.clr_foot.specs.Settings.{Setting, AreDisjoint, Lifetime, Always, With, Without, Lived, has, taken}
+use Rattle.clr_foot.specs.Settings.{Setting, AreDisjoint, Lifetime, Always, With, Without, Lived, has, view_with}
 use Rattle.clr_foot.proofs.Merges.{IsMerge}
 use Rattle.clr_foot.proofs.Lives.{lives, names_member, opposed_too}
 use Rattle.clr_foot.proofs.Meetings.{HasServer, IsStandingNeed, IsSubjectLife, is_need, server_of}
@@ -95,7 +95,7 @@ module _ {A : Type 0} (c : Setting A) where
             let merged = blockers.every x member (inr (inr (s.id, s.lived, s.serves, e))) in
             false≢true (sym (ap not merged) ∙ sym (ap (lives c ts) e) ∙ s.lives)
 
-    pub uncovered_breaks : AreDisjoint c → Holds c.rules (taken c ts) → ⊥
+    pub uncovered_breaks : AreDisjoint c → Holds c.rules (view_with c ts) → ⊥
     uncovered_breaks apart holds =
         let merge : IsMerge c ts = record { apart = apart; part = blockers.part } in
         let need : IsStandingNeed c ts n a b = record { possible = uncovered.possible; live = subjects_live } in

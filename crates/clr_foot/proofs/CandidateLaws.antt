@@ -20,7 +20,7 @@ use Rattle.clr_foot.specs.Candidates.{IsNeedAmong, IsServerAmong, IsNeedOf, IsNe
 use Rattle.clr_foot.specs.Gains.{Gains}
 use Rattle.clr_foot.specs.Needs.{AreOpposed, ask_of, need_of}
 use Rattle.clr_foot.specs.Settings.{Lifetime, With, Without}
-use Rattle.clr_foot.specs.Versions.{lived, row_of}
+use Rattle.clr_foot.specs.Versions.{row_and_life, row_of}
 use Rattle.clr_foot.proofs.SharingLaws.{two_asked}
 use Rattle.clr_foot.proofs.Gaining.{all_taken, gains_as, gains_both, gains_none, gains_one, item_in, none_taken, one_more}
 
@@ -173,12 +173,12 @@ module _ (rules : List Rule) (number : ℕ) (r : Option Version) (s t : Version)
   Pair = IsNeedOfPair rules number r s t
 
   -- never both
-  pub opposed_pair : (needs : List Need) → are_opposed (lived s).life (lived t).life ≡ true → Gains Pair Pair needs needs
+  pub opposed_pair : (needs : List Need) → are_opposed (row_and_life s).life (row_and_life t).life ≡ true → Gains Pair Pair needs needs
   opposed_pair needs opposed = gains_none Pair Pair needs none
     where
       none : (n : Need) → Pair n → ⊥
-      none n (inl w) = w.not_opposed (told_opposed (lived s).life (lived t).life opposed)
-      none n (inr w) = w.not_opposed (opposed_back (lived s).life (lived t).life (told_opposed (lived s).life (lived t).life opposed))
+      none n (inl w) = w.not_opposed (told_opposed (row_and_life s).life (row_and_life t).life opposed)
+      none n (inr w) = w.not_opposed (opposed_back (row_and_life s).life (row_and_life t).life (told_opposed (row_and_life s).life (row_and_life t).life opposed))
         where
           opposed_back : (l m : Lifetime ℕ) → AreOpposed l m → AreOpposed m l
           opposed_back (With m) (Without n) e = sym e
@@ -200,10 +200,10 @@ module _ (rules : List Rule) (number : ℕ) (r : Option Version) (s t : Version)
       none n (inl w) = differ (cell_cmp s.id.cell t.id.cell) tie w.ascending
       none n (inr w) = differ (cell_cmp t.id.cell s.id.cell) back w.ascending
 
-  not_told : are_opposed (lived s).life (lived t).life ≡ false → ¬ (AreOpposed (lived s).life (lived t).life)
-  not_told fails opposed = false≢true (sym fails ∙ opposed_told (lived s).life (lived t).life opposed)
+  not_told : are_opposed (row_and_life s).life (row_and_life t).life ≡ false → ¬ (AreOpposed (row_and_life s).life (row_and_life t).life)
+  not_told fails opposed = false≢true (sym fails ∙ opposed_told (row_and_life s).life (row_and_life t).life opposed)
 
-  pub in_order : (old new : List Need) → are_opposed (lived s).life (lived t).life ≡ false → cell_cmp s.id.cell t.id.cell ≡ Less
+  pub in_order : (old new : List Need) → are_opposed (row_and_life s).life (row_and_life t).life ≡ false → cell_cmp s.id.cell t.id.cell ≡ Less
       → Gains (IsNeedOf rules number r s (Some t)) (IsNeedOf rules number r s (Some t)) old new → Gains Pair Pair old new
   in_order old new fails less g = gains_as (IsNeedOf rules number r s (Some t)) (IsNeedOf rules number r s (Some t)) Pair Pair old new
       (λ n w. inl (record { ascending = less; not_opposed = not_told fails; need = w })) back g
@@ -232,13 +232,13 @@ module _ (rules : List Rule) (number : ℕ) (r : Option Version) (s t : Version)
       by false e = e
       by true e = absurd (false≢true (sym fails ∙ opposed_told l m (back (told_opposed m l e))))
 
-  pub in_turned_order : (old new : List Need) → are_opposed (lived s).life (lived t).life ≡ false → cell_cmp s.id.cell t.id.cell ≡ Greater
+  pub in_turned_order : (old new : List Need) → are_opposed (row_and_life s).life (row_and_life t).life ≡ false → cell_cmp s.id.cell t.id.cell ≡ Greater
       → Gains (IsNeedOf rules number r t (Some s)) (IsNeedOf rules number r t (Some s)) old new → Gains (IsNeedOfPair rules number r s t) (IsNeedOfPair rules number r s t) old new
   in_turned_order old new fails more g =
       let less : cell_cmp t.id.cell s.id.cell ≡ Less = cell_cmp_total.antisymm t.id.cell s.id.cell ∙ ap ordering_reverse more in
       gains_as (IsNeedOfPair rules number r t s) (IsNeedOfPair rules number r t s) (IsNeedOfPair rules number r s t) (IsNeedOfPair rules number r s t) old new
       (λ n w. by n w) turned_pair
-      (in_order rules number r t s old new (turned_told (lived s).life (lived t).life fails) less g)
+      (in_order rules number r t s old new (turned_told (row_and_life s).life (row_and_life t).life fails) less g)
     where
       by : (n : Need) → IsNeedOfPair rules number r t s n → IsNeedOfPair rules number r s t n
       by n (inl w) = inr w

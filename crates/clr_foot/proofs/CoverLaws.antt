@@ -7,7 +7,7 @@ use Rattle.clr_foot.specs.declared.needs.Need.{Need}
 use Rattle.clr_foot.specs.declared.needs.VersionId.{VersionId}
 use Rattle.clr_foot.specs.Covers.{AreCovered, Entry, IsLifeOf}
 use Rattle.clr_foot.specs.Needs.{IsBesideToo, IsPossible, IsTouchedBy, is_fresh}
-use Rattle.clr_foot.specs.Settings.{Setting, AreDisjoint, IsPart, Lifetime, Always, With, Without, Lived, taken}
+use Rattle.clr_foot.specs.Settings.{Setting, AreDisjoint, AreAmong, Lifetime, Always, With, Without, Lived, view_with}
 use Rattle.clr_foot.proofs.Merges.{IsMerge, none_merged, root_is}
 use Rattle.clr_foot.proofs.Lives.{lives, old_lives}
 use Rattle.clr_foot.proofs.Meetings.{HasServer, IsStandingNeed, IsSubjectLife, entry_serves, holds_where_met, is_need, met_by, server_of}
@@ -36,7 +36,7 @@ module _ {A : Type 0} (c : Setting A) where
     root_server apart keeps first second =
         let need : IsStandingNeed c [] n a b = record { possible = possible; live = old_subjects_live first second } in
         let merge = none_merged c apart in
-        let holds : Holds c.rules (taken c []) = subst (Holds c.rules) (λ i q. sym (root_is c q) i) keeps in
+        let holds : Holds c.rules (view_with c []) = subst (Holds c.rules) (λ i q. sym (root_is c q) i) keeps in
         server_of c [] n a b merge (holds _ _ _ (is_need c [] n a b merge need))
 
     module _ (ts : List A) (es : List Entry) (setting : IsCoveredSetting es) (need : IsStandingNeed c ts n a b) where
@@ -61,7 +61,7 @@ module _ {A : Type 0} (c : Setting A) where
         ]
       ]
 
-  pub covered_holds : (es : List Entry) → IsCoveredSetting es → (ts : List A) → IsPart c ts c.members → Holds c.rules (taken c ts)
+  pub covered_holds : (es : List Entry) → IsCoveredSetting es → (ts : List A) → AreAmong c ts c.members → Holds c.rules (view_with c ts)
   covered_holds es setting ts part =
       let merge : IsMerge c ts = record { apart = setting.apart; part = part } in
       holds_where_met c ts merge (λ n a b need. met_by c ts n a b merge (standing_is_served n a b need.possible ts es setting need))

@@ -19,8 +19,8 @@ use Rattle.clr_foot.specs.Involvement.{IsInvolvedAt, IsInvolvedBy, IsInvolving, 
 use Rattle.clr_foot.specs.Members.{after_at, setting}
 use Rattle.clr_foot.specs.Needs.{AreServers, IsBesideToo, IsPossible, IsPossibleNeed, Lists, Serves, ask_of, held_too}
 use Rattle.clr_foot.specs.Orders.{need_cmp}
-use Rattle.clr_foot.specs.Settings.{Setting, Lifetime, Always, With, Without, Lived, changer, held, version}
-use Rattle.clr_foot.specs.Versions.{IsAt, lived, version_of}
+use Rattle.clr_foot.specs.Settings.{Setting, Lifetime, Always, With, Without, Lived, changer, held_row, version}
+use Rattle.clr_foot.specs.Versions.{IsAt, row_and_life, version_of}
 use Rattle.clr_foot.proofs.BreakLaws.{subjects_once}
 use Rattle.clr_foot.proofs.Gaining.{all_taken, gains_as, gains_both, gains_none, one_more, read_of}
 use Rattle.clr_foot.proofs.Lives.{named_by_old, new_is, old_is, version_by, version_by_changer}
@@ -43,7 +43,7 @@ names_told (Without n) x h = (Decides-eqb n x).1 h
 module _ (c : Setting ℕ) where
   -- ---- one version
 
-  module _ (number x : ℕ) (v : Version) (at : IsAt c v) (names : Names (lived v).life x) where
+  module _ (number x : ℕ) (v : Version) (at : IsAt c v) (names : Names (row_and_life v).life x) where
     with_involves : (n : Need) → IsNeedWith c number v.id n → IsInvolving c x n
     with_involves n (rule, inl e, a, b, p) =
         let row = lived_is c v n.first a (sym e) at p.first_is in (a, b, p, inl (subst (λ l. Names l.life x) row names))
@@ -244,4 +244,4 @@ module _ (rules : List Rule) (root : Content) (sets : List Changes) where
       only (inr t) = t
 
       below : IsInvolving c x n → n.rule < number
-      below (a, b, p, h) = let less = rule_there rules (ask_of n) (held n.first a) (held_too n.second b) p.they_call in omega (arith, less, past)
+      below (a, b, p, h) = let less = rule_there rules (ask_of n) (held_row n.first a) (held_too n.second b) p.they_call in omega (arith, less, past)

@@ -6,7 +6,7 @@ use Rattle.clr_rows.specs.declared.rows.Row.{Row}
 use Rattle.clr_foot.specs.declared.needs.VersionId.{VersionId}
 use Rattle.clr_foot.specs.Independence.{Names}
 use Rattle.clr_foot.specs.Needs.{AreOpposed}
-use Rattle.clr_foot.specs.Settings.{Setting, Lifetime, Always, With, Without, Lived, changer, has, new_row, new_version, old_life, old_version, taken, version}
+use Rattle.clr_foot.specs.Settings.{Setting, Lifetime, Always, With, Without, Lived, changer, has, new_row, new_version, old_life, old_version, view_with, version}
 use Rattle.clr_foot.proofs.Merges.{IsChanger, IsMerge, changer_is, merged_row, standing_row, taken_is, unmerged_row}
 
 module _ {A : Type 0} (c : Setting A) where
@@ -75,7 +75,7 @@ module _ {A : Type 0} (c : Setting A) where
       merged_row c ts q n (Some l.row) (ap (lives ts) (sym is.1) ∙ h) is.0
 
   -- a version whose life goes on stands
-  pub living_stands : (ts : List A) → IsMerge c ts → (v : VersionId) (l : Lived A) → version c v ≡ Some l → lives ts l.life ≡ true → taken c ts v.cell ≡ Some l.row
+  pub living_stands : (ts : List A) → IsMerge c ts → (v : VersionId) (l : Lived A) → version c v ≡ Some l → lives ts l.life ≡ true → view_with c ts v.cell ≡ Some l.row
   living_stands ts merge v l e h = taken_is c ts merge v.cell ∙ row_stands ts v.fresh v.cell (changer c v.cell) l (sym (version_by_changer v) ∙ e) h
 
   -- a row that stands at a cell is that of a version whose life goes on
@@ -85,7 +85,7 @@ module _ {A : Type 0} (c : Setting A) where
     pub is : version c (record { cell = q; fresh = fresh }) ≡ Some (record { row = r; life = life })
     pub lives : lives ts life ≡ true
 
-  pub has_version : (ts : List A) → IsMerge c ts → (q : CellId) (r : Row) → taken c ts q ≡ Some r → HasVersion ts q r
+  pub has_version : (ts : List A) → IsMerge c ts → (q : CellId) (r : Row) → view_with c ts q ≡ Some r → HasVersion ts q r
   has_version ts merge q r e = by (changer c q) refl (changer_is c q) (sym (taken_is c ts merge q) ∙ e)
     where
       with_life : (fresh : Bool) (life : Lifetime A) (x : Option A) → changer c q ≡ x → version_by fresh q x ≡ Some (record { row = r; life = life }) → lives ts life ≡ true → HasVersion ts q r

@@ -6,7 +6,7 @@ use Rattle.clr_foot.specs.declared.needs.Need.{Need}
 use Rattle.clr_foot.specs.declared.needs.VersionId.{VersionId}
 use Rattle.clr_foot.specs.Covers.{CoversAlone, CoverTogether, Entry, HasEntry, IsLifeOf, Lasts, WitnessesCover}
 use Rattle.clr_foot.specs.Needs.{IsBesideToo, IsPossible, Serves, ask_of, held_too, need_of}
-use Rattle.clr_foot.specs.Settings.{Setting, Lifetime, Lived, held, taken}
+use Rattle.clr_foot.specs.Settings.{Setting, Lifetime, Lived, held_row, view_with}
 use Rattle.clr_foot.proofs.Merges.{IsMerge}
 use Rattle.clr_foot.proofs.Lives.{has_version, lives, never_both, one_of_both, living_stands}
 
@@ -22,18 +22,18 @@ module _ {A : Type 0} (c : Setting A) where
 
   -- a row that stands there serves the need
   abbrev pub IsMetIn : List A → Need → Lived A → Option (Lived A) → Type 0
-  IsMetIn ts n a b = IsMet c.rules (taken c ts) (ask_of n) (held n.first a) (held_too n.second b)
+  IsMetIn ts n a b = IsMet c.rules (view_with c ts) (ask_of n) (held_row n.first a) (held_too n.second b)
 
   -- ---- standing needs are the needs of the merged rows
 
-  pub is_need : (ts : List A) (n : Need) (a : Lived A) (b : Option (Lived A)) → IsMerge c ts → IsStandingNeed ts n a b → IsNeed c.rules (taken c ts) (ask_of n) (held n.first a) (held_too n.second b)
+  pub is_need : (ts : List A) (n : Need) (a : Lived A) (b : Option (Lived A)) → IsMerge c ts → IsStandingNeed ts n a b → IsNeed c.rules (view_with c ts) (ask_of n) (held_row n.first a) (held_too n.second b)
   is_need ts n a b merge need = record {
     stands = living_stands c ts merge n.first a need.possible.first_is (need.live a.life (inl refl));
     beside = beside n.second b need.possible.second_is (λ l h. need.live l (inr h));
     they_call = need.possible.they_call;
   }
     where
-      beside : (w : Option VersionId) (m : Option (Lived A)) → IsBesideToo c n.first a w m → ((l : Lifetime A) → IsLifeOf l m → lives c ts l ≡ true) → StandsBeside (taken c ts) (held n.first a) (held_too w m)
+      beside : (w : Option VersionId) (m : Option (Lived A)) → IsBesideToo c n.first a w m → ((l : Lifetime A) → IsLifeOf l m → lives c ts l ≡ true) → StandsBeside (view_with c ts) (held_row n.first a) (held_too w m)
       beside None None is live = tt
       beside None (Some m) is live = absurd is
       beside (Some w) None is live = absurd is
@@ -44,7 +44,7 @@ module _ {A : Type 0} (c : Setting A) where
   subject_lives ts a b first second l (inr h) = second l h
 
   -- every rule holds there where each standing need is met
-  pub holds_where_met : (ts : List A) → IsMerge c ts → ((n : Need) (a : Lived A) (b : Option (Lived A)) → IsStandingNeed ts n a b → IsMetIn ts n a b) → Holds c.rules (taken c ts)
+  pub holds_where_met : (ts : List A) → IsMerge c ts → ((n : Need) (a : Lived A) (b : Option (Lived A)) → IsStandingNeed ts n a b → IsMetIn ts n a b) → Holds c.rules (view_with c ts)
   holds_where_met ts merge met ask first None need =
       let v = has_version c ts merge first.0 first.1 need.stands in
       let a : Lived A = record { row = first.1; life = v.life } in
@@ -71,7 +71,7 @@ module _ {A : Type 0} (c : Setting A) where
     pub lives : lives c ts lived.life ≡ true
 
   pub met_by : (ts : List A) (n : Need) (a : Lived A) (b : Option (Lived A)) → IsMerge c ts → HasServer ts n a b → IsMetIn ts n a b
-  met_by ts n a b merge s = (held s.id s.lived, living_stands c ts merge s.id s.lived s.serves.is s.lives, s.serves.it_serves)
+  met_by ts n a b merge s = (held_row s.id s.lived, living_stands c ts merge s.id s.lived s.serves.is s.lives, s.serves.it_serves)
 
   pub server_of : (ts : List A) (n : Need) (a : Lived A) (b : Option (Lived A)) → IsMerge c ts → IsMetIn ts n a b → HasServer ts n a b
   server_of ts n a b merge (server, stands, serve) =

@@ -3,13 +3,13 @@ use Rattle.std.proofs.Common.{◌≡◌, ◌∙◌, Bool, true, false, ◌||◌,
 use Rattle.std.proofs.lemmas.Bool.{cases_Bool, false≢true, or_left, or_right, or_cases}
 use Rattle.clr_rows.specs.declared.cells.CellId.{CellId}
 use Rattle.clr_rows.specs.declared.rows.Row.{Row}
-use Rattle.clr_foot.specs.Settings.{Setting, AreDisjoint, IsPart, changer, first_changer, has, taken}
+use Rattle.clr_foot.specs.Settings.{Setting, AreDisjoint, AreAmong, changer, first_changer, has, view_with}
 
 module _ {A : Type 0} (c : Setting A) where
   -- members whose changes are over the root, where no cell is changed by two members
   pub record IsMerge (ts : List A) : Type 0 where
     pub apart : AreDisjoint c
-    pub part : IsPart c ts c.members
+    pub part : AreAmong c ts c.members
 
   pub head_is_in : (n : A) (ns : List A) → has c.same (n ∷ ns) n ≡ true
   head_is_in n ns = or_left (c.same n n) (has c.same ns n) ((c.decides n n).1 refl)
@@ -78,8 +78,8 @@ module _ {A : Type 0} (c : Setting A) where
     | inr s ↦ ap (λ b. cond (b || has c.same ns m) (unwrap_or (c.after m q) (c.root q)) (c.root q)) (sym s)
   ]
 
-  pub taken_is : (ts : List A) → IsMerge ts → (q : CellId) → taken c ts q ≡ standing_row ts q (changer c q)
-  unfolding taken
+  pub taken_is : (ts : List A) → IsMerge ts → (q : CellId) → view_with c ts q ≡ standing_row ts q (changer c q)
+  unfolding view_with
   taken_is [] merge q = of_root (changer c q)
     where
       of_root : (x : Option A) → c.root q ≡ standing_row [] q x
@@ -87,20 +87,20 @@ module _ {A : Type 0} (c : Setting A) where
       of_root (Some n) = refl
   taken_is (n ∷ ns) merge q = by (c.after n q) refl (taken_is ns (record { apart = merge.apart; part = λ m h. merge.part m (or_right (c.same n m) (has c.same ns m) h) }) q)
     where
-      by : (after : Option (Option Row)) → c.after n q ≡ after → taken c ns q ≡ standing_row ns q (changer c q)
-          → unwrap_or after (taken c ns q) ≡ standing_row (n ∷ ns) q (changer c q)
+      by : (after : Option (Option Row)) → c.after n q ≡ after → view_with c ns q ≡ standing_row ns q (changer c q)
+          → unwrap_or after (view_with c ns q) ≡ standing_row (n ∷ ns) q (changer c q)
       by None e more = more ∙ no_difference n ns q (changer c q) e
       by (Some row) e more =
           let found = changes_as_changer merge.apart n q (merge.part n (head_is_in n ns)) (ap is_some e) in
           sym (merged_row (n ∷ ns) q n row (head_is_in n ns) e) ∙ ap (standing_row (n ∷ ns) q) (sym found)
 
   -- ---- one member over others, and the root alone
-  pub taken_over : (n : A) (ns : List A) (q : CellId) → taken c (n ∷ ns) q ≡ unwrap_or (c.after n q) (taken c ns q)
-  unfolding taken
+  pub taken_over : (n : A) (ns : List A) (q : CellId) → view_with c (n ∷ ns) q ≡ unwrap_or (c.after n q) (view_with c ns q)
+  unfolding view_with
   taken_over n ns q = refl
 
-  pub root_is : (q : CellId) → taken c [] q ≡ c.root q
-  unfolding taken
+  pub root_is : (q : CellId) → view_with c [] q ≡ c.root q
+  unfolding view_with
   root_is q = refl
 
   -- where no cell is changed by two, the root is the merge of no members

@@ -6,7 +6,7 @@ use Rattle.clr_foot.specs.declared.needs.VersionId.{VersionId}
 use Rattle.clr_foot.specs.Covers.{AreCovered, CoversAlone, CoverTogether, Entry, HasEntry, IsBlocker, IsLifeOf, IsUncovered, Lasts, WitnessesCover}
 use Rattle.clr_foot.specs.Needs.{AreOpposed, IsBesideToo, IsChanged, IsPossible, IsTouchedBy, Serves, ask_of, held_too}
 use Rattle.clr_foot.specs.Renamings.{IsSameLife, IsSameVersion, IsSameVersionToo}
-use Rattle.clr_foot.specs.Settings.{Setting, Lifetime, Always, With, Without, Lived, held, version}
+use Rattle.clr_foot.specs.Settings.{Setting, Lifetime, Always, With, Without, Lived, held_row, version}
 
 -- each member and the one that stands for it, and their versions
 pub record IsRenamed {A B : Type 0} (c : Setting A) (d : Setting B) (stands : A → B → Type 0) : Type 0 where
@@ -106,7 +106,7 @@ module _ {A B : Type 0} (c : Setting A) (d : Setting B) (stands : A → B → Ty
       by None e same = absurd same
       by (Some m) e same = (m, e, same)
 
-  same_held : (v : VersionId) (l : Lived A) (m : Lived B) → IsSameVersion stands l m → held v l ≡ held v m
+  same_held : (v : VersionId) (l : Lived A) (m : Lived B) → IsSameVersion stands l m → held_row v l ≡ held_row v m
   same_held v l m same = λ i. (v.cell, same.row i)
 
   same_held_too : (w : Option VersionId) (b : Option (Lived A)) (e : Option (Lived B)) → IsSameVersionToo stands b e → held_too w b ≡ held_too w e
@@ -164,10 +164,10 @@ module _ {A B : Type 0} (c : Setting A) (d : Setting B) (stands : A → B → Ty
 
   -- what serves and covers a need, its subjects being the same
   module _ (n : Need) (a : Lived A) (b : Option (Lived A)) (p : Lived B) (q : Option (Lived B)) (same : IsSameVersion stands a p) (too : IsSameVersionToo stands b q) where
-    abbrev IsServed : VersionId → Lived A → Type 0
-    IsServed v l = (m : Lived B) × Serves d n p q v m × IsSameVersion stands l m
+    abbrev IsServedAfterMerge : VersionId → Lived A → Type 0
+    IsServedAfterMerge v l = (m : Lived B) × Serves d n p q v m × IsSameVersion stands l m
 
-    pub serves_to : (v : VersionId) (l : Lived A) → Serves c n a b v l → IsServed v l
+    pub serves_to : (v : VersionId) (l : Lived A) → Serves c n a b v l → IsServedAfterMerge v l
     serves_to v l serve =
         let (m, is, alike) = version_to c d stands renamed v l serve.is in (
           m,

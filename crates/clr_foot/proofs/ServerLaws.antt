@@ -12,9 +12,9 @@ use Rattle.clr_foot.specs.declared.versions.Version.{Version}
 use Rattle.clr_foot.specs.Candidates.{IsServerAmong}
 use Rattle.clr_foot.specs.Gains.{Gains}
 use Rattle.clr_foot.specs.Needs.{IsBesideToo, IsPossible, IsPossibleNeed, IsServing, ask_of, held_too}
-use Rattle.clr_foot.specs.Settings.{Setting, Lived, held, version}
+use Rattle.clr_foot.specs.Settings.{Setting, Lived, held_row, version}
 use Rattle.clr_foot.specs.Touches.{IsNear, IsServerOf}
-use Rattle.clr_foot.specs.Versions.{AreAt, Finds, HasVersion, IsAtToo, IsNamed, IsNamedToo, lived, row_of, version_of}
+use Rattle.clr_foot.specs.Versions.{AreAt, Finds, HasVersion, IsAtToo, IsNamed, IsNamedToo, row_and_life, row_of, version_of}
 use Rattle.clr_foot.proofs.SharingLaws.{may_serve_there, near_server, server_near}
 use Rattle.clr_foot.proofs.TouchLaws.{lived_is}
 
@@ -27,9 +27,9 @@ module _ (c : Setting ℕ) where
 
     serving_is : (rs : List Version) (v : VersionId) → AreAt c rs → Serving rs v → IsServerOf c ask s t v
     serving_is rs v are (r, h, same, serve) =
-        (lived r, ap (version c) (sym same) ∙ are r h, (λ i. serves c.rules ask (row_of s) (option_map row_of t) ((sym same i).cell, r.row.now)) ∙ serve)
+        (row_and_life r, ap (version c) (sym same) ∙ are r h, (λ i. serves c.rules ask (row_of s) (option_map row_of t) ((sym same i).cell, r.row.now)) ∙ serve)
 
-    server_is_listed : (rs : List Version) (v : VersionId) (l : Lived ℕ) → AreAt c rs → version c v ≡ Some l → serves c.rules ask (row_of s) (option_map row_of t) (held v l) ≡ true → HasVersion rs v → Serving rs v
+    server_is_listed : (rs : List Version) (v : VersionId) (l : Lived ℕ) → AreAt c rs → version c v ≡ Some l → serves c.rules ask (row_of s) (option_map row_of t) (held_row v l) ≡ true → HasVersion rs v → Serving rs v
     server_is_listed rs v l are is serve (r, h, same) =
         let row = lived_is c r v l same (are r h) is in
         (r, h, same, (λ i. serves c.rules ask (row_of s) (option_map row_of t) ((same i).cell, (row i).row)) ∙ serve)
@@ -54,9 +54,9 @@ module _ (c : Setting ℕ) where
         every : IsServerOf c ask s t v → Contains names v
         every (l, is, serve) = by v.fresh refl
           where
-            near : IsNear true c.rules ask.rule (row_of s) (held v l)
-            near = near_server c.rules ask.rule (row_of s) (held v l) (server_near c.rules ask (row_of s) (option_map row_of t) (held v l) called serve).0
-                (may_serve_there c.rules ask (row_of s) (option_map row_of t) (held v l) called serve)
+            near : IsNear true c.rules ask.rule (row_of s) (held_row v l)
+            near = near_server c.rules ask.rule (row_of s) (held_row v l) (server_near c.rules ask (row_of s) (option_map row_of t) (held_row v l) called serve).0
+                (may_serve_there c.rules ask (row_of s) (option_map row_of t) (held_row v l) called serve)
 
             by : (b : Bool) → v.fresh ≡ b → Contains names v
             by false e =
@@ -74,7 +74,7 @@ module _ (c : Setting ℕ) where
   at_too (Some id) None h = tt
   at_too (Some id) (Some v) h = h.1
 
-  first_row : (id : VersionId) (v : Version) (l : Lived ℕ) → IsNamed c id v → version c id ≡ Some l → row_of v ≡ held id l
+  first_row : (id : VersionId) (v : Version) (l : Lived ℕ) → IsNamed c id v → version c id ≡ Some l → row_of v ≡ held_row id l
   first_row id v l h is = let row = lived_is c v id l h.0 h.1 is in λ i. ((h.0 i).cell, (row i).row)
 
   second_row : (first : VersionId) (a : Lived ℕ) (id : Option VersionId) (v : Option Version) (b : Option (Lived ℕ)) → IsNamedToo c id v → IsBesideToo c first a id b → option_map row_of v ≡ held_too id b
@@ -85,7 +85,7 @@ module _ (c : Setting ℕ) where
   second_row first a (Some id) (Some v) (Some b) h is = ap Some (first_row id v b h is.is)
 
   module _ (n : Need) (s : Version) (t : Option Version) (named : IsNamed c n.first s) (named_too : IsNamedToo c n.second t) where
-    rows_are : (a : Lived ℕ) (b : Option (Lived ℕ)) → IsPossible c n a b → (row_of s ≡ held n.first a) × (option_map row_of t ≡ held_too n.second b)
+    rows_are : (a : Lived ℕ) (b : Option (Lived ℕ)) → IsPossible c n a b → (row_of s ≡ held_row n.first a) × (option_map row_of t ≡ held_too n.second b)
     rows_are a b p = (first_row n.first s a named p.first_is, second_row n.first a n.second t b named_too p.second_is)
 
     pub subjects_call : IsPossibleNeed c n → calls c.rules (ask_of n) (row_of s) (option_map row_of t) ≡ true
@@ -98,13 +98,13 @@ module _ (c : Setting ℕ) where
         there : IsServerOf c (ask_of n) s t v → IsServing c n v
         there (l, is, serve) =
             let rows = rows_are a b p in
-            (a, b, l, p, record { is = is; it_serves = sym (λ i. serves c.rules (ask_of n) (rows.0 i) (rows.1 i) (held v l)) ∙ serve })
+            (a, b, l, p, record { is = is; it_serves = sym (λ i. serves c.rules (ask_of n) (rows.0 i) (rows.1 i) (held_row v l)) ∙ serve })
 
         back : IsServing c n v → IsServerOf c (ask_of n) s t v
-        back (x, y, l, q, serve) = let rows = rows_are x y q in (l, serve.is, (λ i. serves c.rules (ask_of n) (rows.0 i) (rows.1 i) (held v l)) ∙ serve.it_serves)
+        back (x, y, l, q, serve) = let rows = rows_are x y q in (l, serve.is, (λ i. serves c.rules (ask_of n) (rows.0 i) (rows.1 i) (held_row v l)) ∙ serve.it_serves)
 
   pub possible_number : (n : Need) → IsPossibleNeed c n → n.rule < length c.rules
-  possible_number n (a, b, p) = rule_there c.rules (ask_of n) (held n.first a) (held_too n.second b) p.they_call
+  possible_number n (a, b, p) = rule_there c.rules (ask_of n) (held_row n.first a) (held_too n.second b) p.they_call
 
   pub possible_there : (n : Need) → IsPossibleNeed c n → version c n.first ≡ None → ⊥
   possible_there n (a, b, p) none = let clash : None ≡ Some a = sym none ∙ p.first_is in cc

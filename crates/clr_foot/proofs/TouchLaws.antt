@@ -12,16 +12,16 @@ use Rattle.clr_foot.specs.declared.needs.VersionId.{VersionId}
 use Rattle.clr_foot.specs.declared.versions.Version.{Version}
 use Rattle.clr_foot.specs.Candidates.{IsNeedAmong, IsNeedBetween, IsNeedOf, IsNeedOfPair, IsNeedServedBy, IsNeedWith, id_of, is_of_two_under, serves_too}
 use Rattle.clr_foot.specs.Needs.{AreOpposed, IsBeside, IsBesideToo, IsPossible, Serves, ask_of, held_too}
-use Rattle.clr_foot.specs.Settings.{Setting, Lived, held, version}
+use Rattle.clr_foot.specs.Settings.{Setting, Lived, held_row, version}
 use Rattle.clr_foot.specs.Touches.{IsNear, IsNeedServedAmong}
-use Rattle.clr_foot.specs.Versions.{AreAt, FindsAll, FitsSetting, HasVersion, IsAt, lived, row_of}
+use Rattle.clr_foot.specs.Versions.{AreAt, FindsAll, FitsSetting, HasVersion, IsAt, row_and_life, row_of}
 use Rattle.clr_foot.proofs.CandidateLaws.{they_call}
 use Rattle.clr_foot.proofs.SharingLaws.{may_serve_there, near_all, server_near, server_near_second, subjects_near, two_asked}
 
 lived_too : Option Version → Option (Lived ℕ)
-lived_too t = option_map lived t
+lived_too t = option_map row_and_life t
 
-held_named : (t : Option Version) → held_too (option_map id_of t) (option_map lived t) ≡ option_map row_of t
+held_named : (t : Option Version) → held_too (option_map id_of t) (option_map row_and_life t) ≡ option_map row_of t
 held_named None = refl
 held_named (Some t) = refl
 
@@ -29,39 +29,39 @@ served_then : (x y : Bool) → x ≡ true → y ≡ true → (x && y) ≡ true
 served_then x y e f = λ i. e i && f i
 
 module _ (c : Setting ℕ) where
-  pub lived_is : (v : Version) (id : VersionId) (l : Lived ℕ) → v.id ≡ id → IsAt c v → version c id ≡ Some l → lived v ≡ l
-  lived_is v id l same at is = let e : Some (lived v) ≡ Some l = sym at ∙ ap (version c) same ∙ is in cc
+  pub lived_is : (v : Version) (id : VersionId) (l : Lived ℕ) → v.id ≡ id → IsAt c v → version c id ≡ Some l → row_and_life v ≡ l
+  lived_is v id l same at is = let e : Some (row_and_life v) ≡ Some l = sym at ∙ ap (version c) same ∙ is in cc
 
   -- ---- the needs of versions are possible
 
   module _ (number : ℕ) (r : Option Version) (s : Version) (at : IsAt c s) where
-    rows_call : (t : Option Version) (n : Need) → IsNeedOf c.rules number r s t n → calls c.rules (ask_of n) (held n.first (lived s)) (held_too n.second (option_map lived t)) ≡ true
+    rows_call : (t : Option Version) (n : Need) → IsNeedOf c.rules number r s t n → calls c.rules (ask_of n) (held_row n.first (row_and_life s)) (held_too n.second (option_map row_and_life t)) ≡ true
     rows_call t n w =
-        (λ i. calls c.rules (ask_of n) ((w.first i).cell, s.row.now) (held_too (w.second i) (option_map lived t)))
+        (λ i. calls c.rules (ask_of n) ((w.first i).cell, s.row.now) (held_too (w.second i) (option_map row_and_life t)))
         ∙ ap (calls c.rules (ask_of n) (row_of s)) (held_named t) ∙ they_call c.rules number r s t n w
 
-    pub alone_possible : (n : Need) → IsNeedOf c.rules number r s None n → IsPossible c n (lived s) None
+    pub alone_possible : (n : Need) → IsNeedOf c.rules number r s None n → IsPossible c n (row_and_life s) None
     alone_possible n w = record {
       first_is = ap (version c) w.first ∙ at;
-      second_is = subst (λ x. IsBesideToo c n.first (lived s) x None) (sym w.second) tt;
+      second_is = subst (λ x. IsBesideToo c n.first (row_and_life s) x None) (sym w.second) tt;
       they_call = rows_call None n w;
     }
 
-    pub pair_possible : (t : Version) (n : Need) → IsAt c t → IsNeedBetween c.rules number r s t n → IsPossible c n (lived s) (Some (lived t))
+    pub pair_possible : (t : Version) (n : Need) → IsAt c t → IsNeedBetween c.rules number r s t n → IsPossible c n (row_and_life s) (Some (row_and_life t))
     pair_possible t n at_too w = record {
       first_is = ap (version c) w.need.first ∙ at;
-      second_is = subst (λ x. IsBesideToo c n.first (lived s) x (Some (lived t))) (sym w.need.second) beside;
+      second_is = subst (λ x. IsBesideToo c n.first (row_and_life s) x (Some (row_and_life t))) (sym w.need.second) beside;
       they_call = rows_call (Some t) n w.need;
     }
       where
-        beside : IsBeside c n.first (lived s) t.id (lived t)
+        beside : IsBeside c n.first (row_and_life s) t.id (row_and_life t)
         beside = record { is = at_too; ascending = ap (λ v. cell_cmp v.cell t.id.cell) w.need.first ∙ w.ascending; not_opposed = w.not_opposed }
 
   -- the server serves them
-  server_serves : (number : ℕ) (r s : Version) (t : Option Version) (n : Need) → IsAt c r → IsNeedOf c.rules number (Some r) s t n → Serves c n (lived s) (option_map lived t) r.id (lived r)
+  server_serves : (number : ℕ) (r s : Version) (t : Option Version) (n : Need) → IsAt c r → IsNeedOf c.rules number (Some r) s t n → Serves c n (row_and_life s) (option_map row_and_life t) r.id (row_and_life r)
   server_serves number r s t n at w = record {
     is = at;
-    it_serves = (λ i. serves c.rules (ask_of n) ((w.first i).cell, s.row.now) (held_too (w.second i) (option_map lived t)) (row_of r))
+    it_serves = (λ i. serves c.rules (ask_of n) ((w.first i).cell, s.row.now) (held_too (w.second i) (option_map row_and_life t)) (row_of r))
         ∙ ap (λ h. serves c.rules (ask_of n) (row_of s) h (row_of r)) (held_named t)
         ∙ (and_parts (serves_too c.rules (ask_of n) s t (Some r)) _ w.asked).0;
   }
@@ -70,19 +70,19 @@ module _ (c : Setting ℕ) where
 
   module _ (number : ℕ) (v : Version) (at : IsAt c v) where
     pub alone_with : (n : Need) → IsNeedOf c.rules number None v None n → IsNeedWith c number v.id n
-    alone_with n w = (w.rule, inl w.first, lived v, None, alone_possible number None v at n w)
+    alone_with n w = (w.rule, inl w.first, row_and_life v, None, alone_possible number None v at n w)
 
     pub among_with : (others : List Version) (n : Need) → AreAt c others → IsNeedAmong c.rules number None v others n → IsNeedWith c number v.id n
-    among_with others n are (t, h, inl w) = (w.need.rule, inl w.need.first, lived v, Some (lived t), pair_possible number None v at t n (are t h) w)
-    among_with others n are (t, h, inr w) = (w.need.rule, inr w.need.second, lived t, Some (lived v), pair_possible number None t (are t h) v n at w)
+    among_with others n are (t, h, inl w) = (w.need.rule, inl w.need.first, row_and_life v, Some (row_and_life t), pair_possible number None v at t n (are t h) w)
+    among_with others n are (t, h, inr w) = (w.need.rule, inr w.need.second, row_and_life t, Some (row_and_life v), pair_possible number None t (are t h) v n at w)
 
     pub among_served : (near : List Version) (n : Need) → AreAt c near → IsNeedServedAmong c.rules number v near near n → IsNeedServedBy c number v.id n
     among_served near n are (s, h, inl w) =
-        (w.rule, lived s, None, lived v, alone_possible number (Some v) s (are s h) n w, server_serves number v s None n at w)
+        (w.rule, row_and_life s, None, row_and_life v, alone_possible number (Some v) s (are s h) n w, server_serves number v s None n at w)
     among_served near n are (s, h, inr (t, k, inl w)) =
-        (w.need.rule, lived s, Some (lived t), lived v, pair_possible number (Some v) s (are s h) t n (are t k) w, server_serves number v s (Some t) n at w.need)
+        (w.need.rule, row_and_life s, Some (row_and_life t), row_and_life v, pair_possible number (Some v) s (are s h) t n (are t k) w, server_serves number v s (Some t) n at w.need)
     among_served near n are (s, h, inr (t, k, inr w)) =
-        (w.need.rule, lived t, Some (lived s), lived v, pair_possible number (Some v) t (are t k) s n (are s h) w, server_serves number v t (Some s) n at w.need)
+        (w.need.rule, row_and_life t, Some (row_and_life s), row_and_life v, pair_possible number (Some v) t (are t k) s n (are s h) w, server_serves number v t (Some s) n at w.need)
 
   -- ---- possible needs are those of their versions
 
@@ -91,9 +91,9 @@ module _ (c : Setting ℕ) where
       → n.rule ≡ number
       → s.id ≡ n.first
       → option_map id_of t ≡ n.second
-      → lived s ≡ a
-      → option_map lived t ≡ b
-      → calls c.rules (ask_of n) (held n.first a) (held_too n.second b) ≡ true
+      → row_and_life s ≡ a
+      → option_map row_and_life t ≡ b
+      → calls c.rules (ask_of n) (held_row n.first a) (held_too n.second b) ≡ true
       → serves_too c.rules (ask_of n) s t r ≡ true
       → IsNeedOf c.rules number r s t n
   need_of_versions number r s t n a b rule first second row rows called serve = record {
@@ -108,10 +108,10 @@ module _ (c : Setting ℕ) where
   serves_versions : (r s : Version) (t : Option Version) (n : Need) (a : Lived ℕ) (b : Option (Lived ℕ)) (l : Lived ℕ)
       → s.id ≡ n.first
       → option_map id_of t ≡ n.second
-      → lived s ≡ a
-      → option_map lived t ≡ b
-      → lived r ≡ l
-      → serves c.rules (ask_of n) (held n.first a) (held_too n.second b) (held r.id l) ≡ true
+      → row_and_life s ≡ a
+      → option_map row_and_life t ≡ b
+      → row_and_life r ≡ l
+      → serves c.rules (ask_of n) (held_row n.first a) (held_too n.second b) (held_row r.id l) ≡ true
       → serves_too c.rules (ask_of n) s t (Some r) ≡ true
   serves_versions r s t n a b l first second row rows server serve =
       sym (ap (λ h. serves c.rules (ask_of n) (row_of s) h (row_of r)) (held_named t))
@@ -127,44 +127,44 @@ module _ (c : Setting ℕ) where
       → IsAt c t
       → version c n.first ≡ Some a
       → IsBeside c n.first a w b
-      → calls c.rules (ask_of n) (held n.first a) (Some (held w b)) ≡ true
-      → (lived s ≡ a → lived t ≡ b → serves_too c.rules (ask_of n) s (Some t) r ≡ true)
+      → calls c.rules (ask_of n) (held_row n.first a) (Some (held_row w b)) ≡ true
+      → (row_and_life s ≡ a → row_and_life t ≡ b → serves_too c.rules (ask_of n) s (Some t) r ≡ true)
       → IsNeedBetween c.rules number r s t n
   need_between number r s t n a w b rule first same second at at_too is beside called serve =
       let row = lived_is s n.first a first at is in
       let rows = lived_is t w b same at_too beside.is in
       record {
         ascending = (λ i. cell_cmp (first i).cell (same i).cell) ∙ beside.ascending;
-        not_opposed = subst (λ l. ¬ (AreOpposed l.life (lived t).life)) (sym row) (subst (λ l. ¬ (AreOpposed a.life l.life)) (sym rows) beside.not_opposed);
+        not_opposed = subst (λ l. ¬ (AreOpposed l.life (row_and_life t).life)) (sym row) (subst (λ l. ¬ (AreOpposed a.life l.life)) (sym rows) beside.not_opposed);
         need = need_of_versions number r s (Some t) n a (Some b) rule first (ap Some same ∙ sym second) row (ap Some rows)
-            (ap (λ x. calls c.rules (ask_of n) (held n.first a) (held_too x (Some b))) second ∙ called) (serve row rows);
+            (ap (λ x. calls c.rules (ask_of n) (held_row n.first a) (held_too x (Some b))) second ∙ called) (serve row rows);
       }
 
   -- what is near a version's row is near the version
-  near_of : (v : Version) (id : VersionId) (l : Lived ℕ) (s : Held) (number rule : ℕ) → rule ≡ number → v.id ≡ id → lived v ≡ l → IsNear false c.rules rule (held id l) s → IsNear false c.rules number (row_of v) s
+  near_of : (v : Version) (id : VersionId) (l : Lived ℕ) (s : Held) (number rule : ℕ) → rule ≡ number → v.id ≡ id → row_and_life v ≡ l → IsNear false c.rules rule (held_row id l) s → IsNear false c.rules number (row_of v) s
   near_of v id l s number rule is same row near =
-      subst (λ h. IsNear false c.rules number h s) (λ i. ((sym same i).cell, (sym row i).row)) (subst (λ k. IsNear false c.rules k (held id l) s) is near)
+      subst (λ h. IsNear false c.rules number h s) (λ i. ((sym same i).cell, (sym row i).row)) (subst (λ k. IsNear false c.rules k (held_row id l) s) is near)
 
   -- a need with a version alone
   alone_found : (number : ℕ) (v : Version) (at : IsAt c v) (n : Need) (a : Lived ℕ) → n.rule ≡ number → n.first ≡ v.id → n.second ≡ None → version c n.first ≡ Some a
-      → calls c.rules (ask_of n) (held n.first a) None ≡ true → IsNeedOf c.rules number None v None n
+      → calls c.rules (ask_of n) (held_row n.first a) None ≡ true → IsNeedOf c.rules number None v None n
   alone_found number v at n a rule first second is called =
       need_of_versions number None v None n a None rule (sym first) (sym second) (lived_is v n.first a (sym first) at is) refl
-      (ap (λ w. calls c.rules (ask_of n) (held n.first a) (held_too {A = ℕ} w None)) second ∙ called) refl
+      (ap (λ w. calls c.rules (ask_of n) (held_row n.first a) (held_too {A = ℕ} w None)) second ∙ called) refl
 
   -- where a rule is asked of one, a need is that of a version alone
   pub alone_of_one : (number : ℕ) (v : Version) (at : IsAt c v) (told : Bool) → told ≡ is_of_two_under c.rules number → told ≡ false → (n : Need) → IsNeedWith c number v.id n
       → IsNeedOf c.rules number None v None n
   alone_of_one number v at told is fails n (rule, subject, a, b, p) = by n.second b refl p.second_is p.they_call subject
     where
-      by : (w : Option VersionId) (b : Option (Lived ℕ)) → n.second ≡ w → IsBesideToo c n.first a w b → calls c.rules (ask_of n) (held n.first a) (held_too {A = ℕ} w b) ≡ true
+      by : (w : Option VersionId) (b : Option (Lived ℕ)) → n.second ≡ w → IsBesideToo c n.first a w b → calls c.rules (ask_of n) (held_row n.first a) (held_too {A = ℕ} w b) ≡ true
           → (n.first ≡ v.id) ⊎ (n.second ≡ Some v.id) → IsNeedOf c.rules number None v None n
       by None None second beside called (inl e) = alone_found number v at n a rule e second p.first_is called
       by None None second beside called (inr e) = let clash : None ≡ Some v.id = sym second ∙ e in cc
       by None (Some b) second beside called subject = absurd beside
       by (Some w) None second beside called subject = absurd beside
       by (Some w) (Some b) second beside called subject =
-          absurd (false≢true (sym fails ∙ is ∙ ap (is_of_two_under c.rules) (sym rule) ∙ two_asked c.rules (ask_of n) (held n.first a) (held w b) called))
+          absurd (false≢true (sym fails ∙ is ∙ ap (is_of_two_under c.rules) (sym rule) ∙ two_asked c.rules (ask_of n) (held_row n.first a) (held_row w b) called))
 
   module _ (fits : FitsSetting c) (number : ℕ) (v : Version) (at : IsAt c v) (near : List Version) (found : FindsAll c (IsNear false c.rules number (row_of v)) near) where
     -- a need with a version is found: it stands alone, or beside one that is near
@@ -178,7 +178,7 @@ module _ (c : Setting ℕ) where
     pub with_found : (n : Need) → IsNeedWith c number v.id n → IsFound n
     with_found n (rule, subject, a, b, p) = by n.second b refl p.second_is p.they_call subject
       where
-        by : (w : Option VersionId) (b : Option (Lived ℕ)) → n.second ≡ w → IsBesideToo c n.first a w b → calls c.rules (ask_of n) (held n.first a) (held_too {A = ℕ} w b) ≡ true
+        by : (w : Option VersionId) (b : Option (Lived ℕ)) → n.second ≡ w → IsBesideToo c n.first a w b → calls c.rules (ask_of n) (held_row n.first a) (held_too {A = ℕ} w b) ≡ true
             → (n.first ≡ v.id) ⊎ (n.second ≡ Some v.id) → IsFound n
         by None None second beside called (inl e) = inl (alone_found number v at n a rule e second p.first_is called)
         by None None second beside called (inr e) = let clash : None ≡ Some v.id = sym second ∙ e in cc
@@ -186,15 +186,15 @@ module _ (c : Setting ℕ) where
         by (Some w) None second beside called subject = absurd beside
         by (Some w) (Some b) second beside called (inl e) =
             let row = lived_is v n.first a (sym e) at p.first_is in
-            let shared = (subjects_near c fits (ask_of n) (held n.first a) (held w b) called).0 in
-            let near = near_of v n.first a (held w b) number n.rule rule (sym e) row (near_all c.rules n.rule (held n.first a) (held w b) shared) in
+            let shared = (subjects_near c fits (ask_of n) (held_row n.first a) (held_row w b) called).0 in
+            let near = near_of v n.first a (held_row w b) number n.rule rule (sym e) row (near_all c.rules n.rule (held_row n.first a) (held_row w b) shared) in
             need_is_found n w (λ t same t_at. inl (need_between number None v t n a w b rule (sym e) same second at t_at p.first_is beside called (λ row rows. refl)))
             (found.every w b beside.is near)
         by (Some w) (Some b) second beside called (inr e) =
             let same : w ≡ v.id = let both : Some w ≡ Some v.id = sym second ∙ e in cc in
             let row = lived_is v w b (sym same) at beside.is in
-            let shared = (subjects_near c fits (ask_of n) (held n.first a) (held w b) called).1 in
-            let near = near_of v w b (held n.first a) number n.rule rule (sym same) row (near_all c.rules n.rule (held w b) (held n.first a) shared) in
+            let shared = (subjects_near c fits (ask_of n) (held_row n.first a) (held_row w b) called).1 in
+            let near = near_of v w b (held_row n.first a) number n.rule rule (sym same) row (near_all c.rules n.rule (held_row w b) (held_row n.first a) shared) in
             need_is_found n n.first (λ t is t_at. inr (need_between number None t v n a w b rule is (sym same) second t_at at p.first_is beside called (λ row rows. refl)))
             (found.every n.first a p.first_is near)
 
@@ -203,30 +203,30 @@ module _ (c : Setting ℕ) where
     pub served_found : (n : Need) → IsNeedServedBy c number r.id n → IsNeedServedAmong c.rules number r near near n
     served_found n (rule, a, b, l, p, v) = by n.second b refl p.second_is p.they_call v.it_serves
       where
-        server : lived r ≡ l
+        server : row_and_life r ≡ l
         server = lived_is r r.id l refl at v.is
 
-        close : (id : VersionId) (m : Lived ℕ) → are_sharing c.rules n.rule (held r.id l) (held id m) ≡ true → IsNear false c.rules number (row_of r) (held id m)
-        close id m shared = near_of r r.id l (held id m) number n.rule rule refl server (near_all c.rules n.rule (held r.id l) (held id m) shared)
+        close : (id : VersionId) (m : Lived ℕ) → are_sharing c.rules n.rule (held_row r.id l) (held_row id m) ≡ true → IsNear false c.rules number (row_of r) (held_row id m)
+        close id m shared = near_of r r.id l (held_row id m) number n.rule rule refl server (near_all c.rules n.rule (held_row r.id l) (held_row id m) shared)
 
-        by : (w : Option VersionId) (b : Option (Lived ℕ)) → n.second ≡ w → IsBesideToo c n.first a w b → calls c.rules (ask_of n) (held n.first a) (held_too {A = ℕ} w b) ≡ true
-            → serves c.rules (ask_of n) (held n.first a) (held_too {A = ℕ} w b) (held r.id l) ≡ true → IsNeedServedAmong c.rules number r near near n
+        by : (w : Option VersionId) (b : Option (Lived ℕ)) → n.second ≡ w → IsBesideToo c n.first a w b → calls c.rules (ask_of n) (held_row n.first a) (held_too {A = ℕ} w b) ≡ true
+            → serves c.rules (ask_of n) (held_row n.first a) (held_too {A = ℕ} w b) (held_row r.id l) ≡ true → IsNeedServedAmong c.rules number r near near n
         by None (Some b) second beside called serve = absurd beside
         by (Some w) None second beside called serve = absurd beside
         by None None second beside called serve =
-            let (s, h, same) = found.every n.first a p.first_is (close n.first a (server_near c.rules (ask_of n) (held n.first a) None (held r.id l) called serve).1) in
+            let (s, h, same) = found.every n.first a p.first_is (close n.first a (server_near c.rules (ask_of n) (held_row n.first a) None (held_row r.id l) called serve).1) in
             let row = lived_is s n.first a same (found.are s h) p.first_is in
-            let called_too = ap (λ w. calls c.rules (ask_of n) (held n.first a) (held_too {A = ℕ} w None)) second ∙ called in
-            let serve_too = ap (λ w. serves c.rules (ask_of n) (held n.first a) (held_too {A = ℕ} w None) (held r.id l)) second ∙ serve in (
+            let called_too = ap (λ w. calls c.rules (ask_of n) (held_row n.first a) (held_too {A = ℕ} w None)) second ∙ called in
+            let serve_too = ap (λ w. serves c.rules (ask_of n) (held_row n.first a) (held_too {A = ℕ} w None) (held_row r.id l)) second ∙ serve in (
               s,
               h,
               inl (need_of_versions number (Some r) s None n a None rule same (sym second) row refl called_too
                   (serves_versions r s None n a None l same (sym second) row refl server serve_too)),
             )
         by (Some w) (Some b) second beside called serve =
-            let (s, h, same) = found.every n.first a p.first_is (close n.first a (server_near c.rules (ask_of n) (held n.first a) (Some (held w b)) (held r.id l) called serve).1) in
-            let (t, k, same_too) = found.every w b beside.is (close w b (server_near_second c.rules (ask_of n) (held n.first a) (held w b) (held r.id l) called serve)) in
-            let serve_too = ap (λ w. serves c.rules (ask_of n) (held n.first a) (held_too {A = ℕ} w (Some b)) (held r.id l)) second ∙ serve in (
+            let (s, h, same) = found.every n.first a p.first_is (close n.first a (server_near c.rules (ask_of n) (held_row n.first a) (Some (held_row w b)) (held_row r.id l) called serve).1) in
+            let (t, k, same_too) = found.every w b beside.is (close w b (server_near_second c.rules (ask_of n) (held_row n.first a) (held_row w b) (held_row r.id l) called serve)) in
+            let serve_too = ap (λ w. serves c.rules (ask_of n) (held_row n.first a) (held_too {A = ℕ} w (Some b)) (held_row r.id l)) second ∙ serve in (
               s,
               h,
               inr (
@@ -242,4 +242,4 @@ module _ (c : Setting ℕ) where
   not_served number r at told is fails n (rule, a, b, l, p, v) =
       let row = lived_is r r.id l refl at v.is in
       false≢true (sym fails ∙ is ∙ (λ i. may_serve_under c.rules (sym rule i) (r.id.cell, (row i).row))
-      ∙ may_serve_there c.rules (ask_of n) (held n.first a) (held_too n.second b) (held r.id l) p.they_call v.it_serves)
+      ∙ may_serve_there c.rules (ask_of n) (held_row n.first a) (held_too n.second b) (held_row r.id l) p.they_call v.it_serves)

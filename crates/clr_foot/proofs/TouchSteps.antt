@@ -24,7 +24,7 @@ use Rattle.clr_foot.specs.Candidates.{IsNeedAmong, IsNeedAt, IsNeedOf, IsNeedSer
 use Rattle.clr_foot.specs.Gains.{Gains}
 use Rattle.clr_foot.specs.Members.{ChangesCell, after_in, changed_cells, setting}
 use Rattle.clr_foot.specs.Needs.{IsBesideToo, IsChanged, IsTouched, IsTouchedBy, ask_of, held_too, is_fresh}
-use Rattle.clr_foot.specs.Settings.{Setting, Lived, changer, held, new_version, old_life, old_version, version}
+use Rattle.clr_foot.specs.Settings.{Setting, Lived, changer, held_row, new_version, old_life, old_version, version}
 use Rattle.clr_foot.specs.Touches.{IsNear, IsNeedAtCells, IsNeedServedAmong, IsTouchedOf}
 use Rattle.clr_foot.specs.Versions.{FindsAll, FitsSetting, IsAt, row_of, version_of}
 use Rattle.clr_foot.proofs.ChangerSteps.{changed_key}
@@ -254,4 +254,4 @@ module _ (rules : List Rule) (root : Content) (sets : List Changes) where
       only (inr t) = t
 
       below : IsTouched s n → n.rule < number
-      below (a, b, p, touched) = let less = rule_there rules (ask_of n) (held n.first a) (held_too n.second b) p.they_call in omega (arith, less, past)
+      below (a, b, p, touched) = let less = rule_there rules (ask_of n) (held_row n.first a) (held_too n.second b) p.they_call in omega (arith, less, past)

@@ -9,14 +9,14 @@ use Rattle.clr_rules.specs.Books.{FitTogether, FitsCell}
 use Rattle.clr_foot.specs.declared.versions.Version.{Version}
 use Rattle.clr_foot.specs.Members.{setting}
 use Rattle.clr_foot.specs.Settings.{Setting, version}
-use Rattle.clr_foot.specs.Versions.{FitNewRows, FitsSetting, IsAt, IsAtToo, lived, row_of, version_of}
+use Rattle.clr_foot.specs.Versions.{FitNewRows, FitsSetting, IsAt, IsAtToo, row_and_life, row_of, version_of}
 
 module _ (c : Setting ℕ) (fits : FitsSetting c) where
   abbrev Fits : Held → Type 0
   Fits x = FitsCell fits.tables x
 
   fits_cell : (v : Version) (x : Held) → IsAt c v → x ≡ row_of v → Fits x
-  fits_cell v x at is = subst Fits (sym is) (fits.each v.id (lived v) at)
+  fits_cell v x at is = subst Fits (sym is) (fits.each v.id (row_and_life v) at)
 
   fits_too : (v : Option Version) (x : Option Held) → IsAtToo c v → x ≡ option_map row_of v → All Fits (option_to_list x)
   fits_too v None at is = All-nil Fits

@@ -11,7 +11,7 @@ use Rattle.clr_grid.specs.Sharing.{IsSettledFor, Settled, found_cells, row_spots
 use Rattle.clr_foot.specs.declared.versions.Version.{Version}
 use Rattle.clr_foot.specs.declared.needs.VersionId.{VersionId}
 use Rattle.clr_foot.specs.Members.{setting}
-use Rattle.clr_foot.specs.Settings.{Setting, Lived, changer, held, version}
+use Rattle.clr_foot.specs.Settings.{Setting, Lived, changer, held_row, version}
 use Rattle.clr_foot.specs.Touches.{IsInCells, IsNear}
 use Rattle.clr_foot.specs.Versions.{AreAt, AreNewRowsFiled, Finds, FindsAll, HasVersion, IsAt, IsNamed, version_of}
 use Rattle.clr_foot.proofs.Gaining.{all_taken, none_taken, one_more}
@@ -106,7 +106,7 @@ finds_all c P old new all put found found_too = record { are = are; every = ever
     new_in : (id : VersionId) → HasVersion new id → HasVersion all id
     new_in id (w, h, e) = (w, subst (λ vs. Contains vs w) (sym put) (Contains-append_right old new w h), e)
 
-    every : (v : VersionId) (l : Lived ℕ) → version c v ≡ Some l → P (held v l) → HasVersion all v
+    every : (v : VersionId) (l : Lived ℕ) → version c v ≡ Some l → P (held_row v l) → HasVersion all v
     every v l is near = by v.fresh refl
       where
         by : (b : Bool) → v.fresh ≡ b → HasVersion all v

@@ -9,8 +9,8 @@ use Rattle.clr_foot.specs.Needs.{IsPossible, Serves, ask_of}
 use Rattle.clr_foot.specs.Settings.{Setting, Lifetime, Always, With, Without, Lived}
 
 -- the root's rows taken over by the changes of the one member
-abbrev pub merged : Setting ℕ → View
-merged c q = unwrap_or (c.after 0 q) (c.root q)
+abbrev pub view_after_merge : Setting ℕ → View
+view_after_merge c q = unwrap_or (c.after 0 q) (c.root q)
 
 -- the one member doesn't take it away
 abbrev pub is_living : Lifetime ℕ → Bool
@@ -32,16 +32,16 @@ abbrev pub HasLivingServer : Setting ℕ → Need → Lived ℕ → Option (Live
 HasLivingServer c n a b = (v : VersionId) × (l : Lived ℕ) × Serves c n a b v l × (is_living l.life ≡ true)
 
 -- the subjects stand, and no version that serves does
-abbrev pub IsLost : Setting ℕ → Need → Type 0
-IsLost c n = (a : Lived ℕ) × (b : Option (Lived ℕ)) × IsPossible c n a b × (are_living a b ≡ true) × ¬ (HasLivingServer c n a b)
+abbrev pub IsUnservedAfterMerge : Setting ℕ → Need → Type 0
+IsUnservedAfterMerge c n = (a : Lived ℕ) × (b : Option (Lived ℕ)) × IsPossible c n a b × (are_living a b ≡ true) × ¬ (HasLivingServer c n a b)
 
 -- where the subjects stand, some version that serves does
-abbrev pub IsKept : Setting ℕ → Need → Type 0
-IsKept c n = (a : Lived ℕ) (b : Option (Lived ℕ)) → IsPossible c n a b → are_living a b ≡ true → HasLivingServer c n a b
+abbrev pub IsServedAfterMerge : Setting ℕ → Need → Type 0
+IsServedAfterMerge c n = (a : Lived ℕ) (b : Option (Lived ℕ)) → IsPossible c n a b → are_living a b ≡ true → HasLivingServer c n a b
 
 abbrev pub IsJudged : Setting ℕ → Need → Bool → Type 0
-IsJudged c n true = IsLost c n
-IsJudged c n false = IsKept c n
+IsJudged c n true = IsUnservedAfterMerge c n
+IsJudged c n false = IsServedAfterMerge c n
 
 -- the need by its cells
 abbrev pub broken_of : Need → Broken

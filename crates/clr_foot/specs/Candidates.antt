@@ -13,7 +13,7 @@ use Rattle.clr_foot.specs.declared.needs.VersionId.{VersionId}
 use Rattle.clr_foot.specs.declared.versions.Version.{Version}
 use Rattle.clr_foot.specs.Needs.{AreOpposed, IsPossible, Serves, ask_of}
 use Rattle.clr_foot.specs.Settings.{Setting, Lifetime, With, Without, Lived}
-use Rattle.clr_foot.specs.Versions.{lived, row_of, version_of}
+use Rattle.clr_foot.specs.Versions.{row_and_life, row_of, version_of}
 
 abbrev pub are_opposed : Lifetime ℕ → Lifetime ℕ → Bool
 are_opposed (With m) (Without n) = m == n
@@ -64,7 +64,7 @@ pub record IsNeedOfAsk (rules : List Rule) (ask : Ask) (r : Option Version) (s t
 -- one version before another
 pub record IsNeedBetween (rules : List Rule) (number : ℕ) (r : Option Version) (s t : Version) (n : Need) : Type 0 where
   pub ascending : cell_cmp s.id.cell t.id.cell ≡ Less
-  pub not_opposed : ¬ (AreOpposed (lived s).life (lived t).life)
+  pub not_opposed : ¬ (AreOpposed (row_and_life s).life (row_and_life t).life)
   pub need : IsNeedOf rules number r s (Some t) n
 
 abbrev pub IsNeedOfPair : List Rule → ℕ → Option Version → Version → Version → Need → Type 0

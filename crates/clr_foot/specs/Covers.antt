@@ -3,7 +3,7 @@ use Rattle.std.specs.Prelude.{◌≡◌, true, List, [], ◌∷◌, Option, Some
 use Rattle.clr_foot.specs.declared.needs.Need.{Need}
 use Rattle.clr_foot.specs.declared.needs.VersionId.{VersionId}
 use Rattle.clr_foot.specs.Needs.{AreOpposed, IsPossible, IsTouchedBy, Serves}
-use Rattle.clr_foot.specs.Settings.{Setting, Lifetime, Always, With, Without, Lived, IsPart, has}
+use Rattle.clr_foot.specs.Settings.{Setting, Lifetime, Always, With, Without, Lived, AreAmong, has}
 
 abbrev pub IsLifeOf : {A : Type 0} → Lifetime A → Option (Lived A) → Type 0
 IsLifeOf l None = ⊥
@@ -55,6 +55,6 @@ IsBlocker {A} c n a b x = (a.life ≡ With x) ⊎ (IsLifeOf (With x) b ⊎ ((v :
 
 -- the members are exactly these
 pub record AreBlockers {A : Type 0} (c : Setting A) (n : Need) (a : Lived A) (b : Option (Lived A)) (ts : List A) : Type 0 where
-  pub part : IsPart c ts c.members
+  pub part : AreAmong c ts c.members
   pub only : (x : A) → has c.same ts x ≡ true → IsBlocker c n a b x
   pub every : (x : A) → has c.same c.members x ≡ true → IsBlocker c n a b x → has c.same ts x ≡ true

@@ -3,17 +3,17 @@ use Rattle.std.specs.Prelude.{◌≡◌, ◌↔◌, ℕ, List, [], ◌∷◌, Op
 use Rattle.clr_rows.specs.Contents.{Changes, Content, row_at, taken_over}
 use Rattle.clr_rules.specs.declared.needs.Broken.{Broken}
 use Rattle.clr_rules.specs.declared.rules.Rule.{Rule}
-use Rattle.clr_rules.specs.Needs.{Holds, IsFirstBroken, broken}
+use Rattle.clr_rules.specs.Needs.{Holds, IsFirstBroken, broken_needs}
 use Rattle.clr_foot.specs.declared.needs.Need.{Need}
 use Rattle.clr_foot.specs.declared.needs.VersionId.{VersionId}
 use Rattle.clr_foot.specs.Blocking.{IsBlockerOf}
 use Rattle.clr_foot.specs.Covers.{AreBlockers, AreCovered, Entry, IsUncovered, IsUncoveredNeed}
-use Rattle.clr_foot.specs.Broken.{merged}
+use Rattle.clr_foot.specs.Broken.{view_after_merge}
 use Rattle.clr_foot.specs.Members.{setting}
 use Rattle.clr_foot.specs.Needs.{IsPossibleNeed, IsServing, IsTouched}
 use Rattle.clr_foot.specs.Positions.{StandsAt, by_position}
 use Rattle.clr_foot.specs.Renamings.{IsSameVersionToo}
-use Rattle.clr_foot.specs.Settings.{Setting, Lived, AreDisjoint, IsPart, taken, version}
+use Rattle.clr_foot.specs.Settings.{Setting, Lived, AreDisjoint, AreAmong, view_with, version}
 
 -- where each touched need is covered and every rule holds in the root, every rule holds in the root with the changes of any of the members over it
 abbrev pub CoveredHolds : {A : Type 0} → Setting A → Type 0
@@ -22,8 +22,8 @@ CoveredHolds {A} c = (es : List Entry)
     → AreCovered c es
     → Holds c.rules c.root
     → (ts : List A)
-    → IsPart c ts c.members
-    → Holds c.rules (taken c ts)
+    → AreAmong c ts c.members
+    → Holds c.rules (view_with c ts)
 
 -- a need that nothing covers is broken where its blockers' changes are over the root
 abbrev pub UncoveredBreaks : {A : Type 0} → Setting A → Type 0
@@ -31,7 +31,7 @@ UncoveredBreaks {A} c = (ts : List A) (n : Need) (a : Lived A) (b : Option (Live
     → AreDisjoint c
     → IsUncovered c n a b
     → AreBlockers c n a b ts
-    → ¬ (Holds c.rules (taken c ts))
+    → ¬ (Holds c.rules (view_with c ts))
 
 -- members by position, and by name
 abbrev pub CoveredByPosition : Type 0
@@ -63,11 +63,11 @@ NamesByPosition = (c : Setting (List ℕ)) → SayTheSame c (by_position c)
 -- what is told of the merge of one change set is told of the content with the changes over it
 abbrev pub FirstBrokenAfter : Type 0
 FirstBrokenAfter = (rules : List Rule) (content : Content) (changes : Changes) (first : Option Broken)
-    → IsFirstBroken rules (merged (setting rules content (changes ∷ []))) first
+    → IsFirstBroken rules (view_after_merge (setting rules content (changes ∷ []))) first
     → IsFirstBroken rules (row_at (taken_over content changes)) first
 
 -- and an audit of it lists that need first
 abbrev pub FirstBrokenIsListed : Type 0
 FirstBrokenIsListed = (rules : List Rule) (content : Content) (changes : Changes) (first : Option Broken)
-    → IsFirstBroken rules (merged (setting rules content (changes ∷ []))) first
-    → first ≡ slice_get (broken rules (taken_over content changes)) 0
+    → IsFirstBroken rules (view_after_merge (setting rules content (changes ∷ []))) first
+    → first ≡ slice_get (broken_needs rules (taken_over content changes)) 0

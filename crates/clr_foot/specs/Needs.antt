@@ -10,7 +10,7 @@ use Rattle.clr_rules.specs.Calls.{ask_of_parts, calls, serves}
 use Rattle.clr_foot.specs.declared.needs.Need.{Need}
 use Rattle.clr_foot.specs.declared.needs.VersionId.{VersionId}
 use Rattle.clr_foot.specs.Orders.{need_cmp, version_cmp}
-use Rattle.clr_foot.specs.Settings.{Setting, Lifetime, Always, With, Without, Lived, version, held}
+use Rattle.clr_foot.specs.Settings.{Setting, Lifetime, Always, With, Without, Lived, version, held_row}
 
 -- what a need asks
 abbrev pub ask_of : Need → Ask
@@ -48,13 +48,13 @@ IsBesideToo c first a (Some v) (Some b) = IsBeside c first a v b
 abbrev pub held_too : {A : Type 0} → Option VersionId → Option (Lived A) → Option Held
 held_too None _ = None
 held_too (Some v) None = None
-held_too (Some v) (Some b) = Some (held v b)
+held_too (Some v) (Some b) = Some (held_row v b)
 
 -- a possible need, whose subjects have these rows and lives
 pub record IsPossible {A : Type 0} (c : Setting A) (n : Need) (a : Lived A) (b : Option (Lived A)) : Type 0 where
   pub first_is : version c n.first ≡ Some a
   pub second_is : IsBesideToo c n.first a n.second b
-  pub they_call : calls c.rules (ask_of n) (held n.first a) (held_too n.second b) ≡ true
+  pub they_call : calls c.rules (ask_of n) (held_row n.first a) (held_too n.second b) ≡ true
 
 abbrev pub IsPossibleNeed : {A : Type 0} → Setting A → Need → Type 0
 IsPossibleNeed {A} c n = (a : Lived A) × (b : Option (Lived A)) × IsPossible c n a b
@@ -62,7 +62,7 @@ IsPossibleNeed {A} c n = (a : Lived A) × (b : Option (Lived A)) × IsPossible c
 -- a version serves the need
 pub record Serves {A : Type 0} (c : Setting A) (n : Need) (a : Lived A) (b : Option (Lived A)) (v : VersionId) (l : Lived A) : Type 0 where
   pub is : version c v ≡ Some l
-  pub it_serves : serves c.rules (ask_of n) (held n.first a) (held_too n.second b) (held v l) ≡ true
+  pub it_serves : serves c.rules (ask_of n) (held_row n.first a) (held_too n.second b) (held_row v l) ≡ true
 
 -- touched needs ------------------------------------------------------------------------------
 

@@ -22,13 +22,13 @@ abbrev pub has : {A : Type 0} → (A → A → Bool) → List A → A → Bool
 has same [] n = false
 has same (m ∷ ms) n = same m n || has same ms n
 
-abbrev pub IsPart : {A : Type 0} → Setting A → List A → List A → Type 0
-IsPart {A} c ts ss = (n : A) → has c.same ts n ≡ true → has c.same ss n ≡ true
+abbrev pub AreAmong : {A : Type 0} → Setting A → List A → List A → Type 0
+AreAmong {A} c ts ss = (n : A) → has c.same ts n ≡ true → has c.same ss n ≡ true
 
 -- the root's rows taken over by the changes of each of some members
-unfoldable pub taken : {A : Type 0} → Setting A → List A → View
-taken c [] q = c.root q
-taken c (n ∷ ns) q = unwrap_or (c.after n q) (taken c ns q)
+unfoldable pub view_with : {A : Type 0} → Setting A → List A → View
+view_with c [] q = c.root q
+view_with c (n ∷ ns) q = unwrap_or (c.after n q) (view_with c ns q)
 
 -- no cell is changed by two members
 abbrev pub AreDisjoint : {A : Type 0} → Setting A → Type 0
@@ -80,5 +80,5 @@ new_version after q (Some n) = new_row n (after n q)
 unfoldable pub version : {A : Type 0} → Setting A → VersionId → Option (Lived A)
 version c v = if v.fresh then new_version c.after v.cell (changer c v.cell) else old_version (changer c v.cell) (c.root v.cell)
 
-abbrev pub held : {A : Type 0} → VersionId → Lived A → Held
-held v l = (v.cell, l.row)
+abbrev pub held_row : {A : Type 0} → VersionId → Lived A → Held
+held_row v l = (v.cell, l.row)

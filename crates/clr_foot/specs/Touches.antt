@@ -13,7 +13,7 @@ use Rattle.clr_foot.specs.declared.needs.VersionId.{VersionId}
 use Rattle.clr_foot.specs.declared.versions.Version.{Version}
 use Rattle.clr_foot.specs.Candidates.{IsNeedAmong, IsNeedAt, IsNeedOf}
 use Rattle.clr_foot.specs.Needs.{IsTouched}
-use Rattle.clr_foot.specs.Settings.{Setting, Lived, held, version}
+use Rattle.clr_foot.specs.Settings.{Setting, Lived, held_row, version}
 use Rattle.clr_foot.specs.Versions.{row_of}
 
 abbrev pub IsInCells : List CellId → Held → Type 0
@@ -38,4 +38,4 @@ IsTouchedOf c number n = IsTouched c n × (n.rule ≡ number)
 
 -- a version that serves what is asked of two others
 abbrev pub IsServerOf : Setting ℕ → Ask → Version → Option Version → VersionId → Type 0
-IsServerOf c ask s t v = (l : Lived ℕ) × (version c v ≡ Some l) × (serves c.rules ask (row_of s) (option_map row_of t) (held v l) ≡ true)
+IsServerOf c ask s t v = (l : Lived ℕ) × (version c v ≡ Some l) × (serves c.rules ask (row_of s) (option_map row_of t) (held_row v l) ≡ true)

@@ -12,20 +12,20 @@ use Rattle.clr_grid.specs.Sharing.{Settled, row_spots}
 use Rattle.clr_foot.specs.declared.needs.VersionId.{VersionId}
 use Rattle.clr_foot.specs.declared.versions.Version.{Version}
 use Rattle.clr_foot.specs.Members.{after_of, lifetime, positions}
-use Rattle.clr_foot.specs.Settings.{Setting, Lived, first_changer, held, new_version, version}
+use Rattle.clr_foot.specs.Settings.{Setting, Lived, first_changer, held_row, new_version, version}
 
 abbrev pub version_of : Bool → CellId → VersionId
 version_of fresh q = record { cell = q; fresh = fresh }
 
-abbrev pub lived : Version → Lived ℕ
-lived v = record { row = v.row.now; life = lifetime v.life }
+abbrev pub row_and_life : Version → Lived ℕ
+row_and_life v = record { row = v.row.now; life = lifetime v.life }
 
 abbrev pub row_of : Version → Held
 row_of v = (v.id.cell, v.row.now)
 
 -- a setting has the version
 abbrev pub IsAt : Setting ℕ → Version → Type 0
-IsAt c v = version c v.id ≡ Some (lived v)
+IsAt c v = version c v.id ≡ Some (row_and_life v)
 
 abbrev pub IsAtToo : Setting ℕ → Option Version → Type 0
 IsAtToo c None = ⊤
@@ -57,7 +57,7 @@ pub record Finds (c : Setting ℕ) (fresh : Bool) (wanted : Held → Type 0) (vs
 -- versions of a setting, old and new, among them each whose row is wanted
 pub record FindsAll (c : Setting ℕ) (wanted : Held → Type 0) (vs : List Version) : Type 0 where
   pub are : AreAt c vs
-  pub every : (v : VersionId) (l : Lived ℕ) → version c v ≡ Some l → wanted (held v l) → HasVersion vs v
+  pub every : (v : VersionId) (l : Lived ℕ) → version c v ≡ Some l → wanted (held_row v l) → HasVersion vs v
 
 -- the new version of a cell, if members bring one
 abbrev pub new_version_at : List Changes → CellId → Option (Lived ℕ)
@@ -73,7 +73,7 @@ AreNewRowsFiled settled rules sets = (q : CellId) → finite.get settled q ≡ o
 pub record FitsSetting {A : Type 0} (c : Setting A) : Type 0 where
   pub tables : List TableDef
   pub book : FitsBook tables c.rules
-  pub each : (v : VersionId) (l : Lived A) → version c v ≡ Some l → FitsCell tables (held v l)
+  pub each : (v : VersionId) (l : Lived A) → version c v ≡ Some l → FitsCell tables (held_row v l)
 
 -- so do the rows that members bring
 abbrev pub FitNewRows : List Rule → List Changes → Type 0

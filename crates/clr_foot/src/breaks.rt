@@ -3,7 +3,7 @@
 ghost use Rattle.std.specs.Prelude.{◌≡◌, ℕ, length, true, Contains, IfOk, MatchOption, Option};
 ghost use Rattle.clr_rows.specs.Contents.{row_at};
 ghost use Rattle.clr_rules.specs.Needs.{Holds, IsFirstBroken};
-ghost use Rattle.clr_foot.specs.Broken.{IsJudged, are_living, broken_of, is_living, is_living_at, merged};
+ghost use Rattle.clr_foot.specs.Broken.{IsJudged, are_living, broken_of, is_living, is_living_at, view_after_merge};
 ghost use Rattle.clr_foot.specs.Members.{lifetime};
 ghost use Rattle.clr_foot.specs.Needs.{IsPossible, IsPossibleNeed};
 ghost use Rattle.clr_foot.specs.Scenes.{IsReady, model_of, setting_in, setting_of};
@@ -95,7 +95,7 @@ impl<V: RowView, F: RowFinder> Scene<'_, V, F> {
         requires ready { IsReady F.settled (model_of V.content self.now) }
         requires one { length (model_of V.content self.now).sets ≡ 1 }
         requires holds { Holds (model_of V.content self.now).rules (row_at (model_of V.content self.now).root) }
-        ensures { IfOk result (IsFirstBroken (model_of V.content self.now).rules (merged (setting_of (model_of V.content self.now)))) }
+        ensures { IfOk result (IsFirstBroken (model_of V.content self.now).rules (view_after_merge (setting_of (model_of V.content self.now)))) }
     {
         let needs = self.touched_needs()?;
         for need in &needs {

@@ -9,7 +9,7 @@ ghost use Rattle.clr_foot.specs.Members.{lifetime};
 ghost use Rattle.clr_foot.specs.Needs.{Lists};
 ghost use Rattle.clr_foot.specs.Orders.{need_cmp};
 ghost use Rattle.clr_foot.specs.Scenes.{IsReady, model_of, setting_in};
-ghost use Rattle.clr_foot.specs.Versions.{IsAt, lived};
+ghost use Rattle.clr_foot.specs.Versions.{IsAt, row_and_life};
 
 use crate::lists::put_in_order;
 use crate::members::add_cells;
@@ -43,7 +43,7 @@ impl<V: RowView, F: RowFinder> Scene<'_, V, F> {
         requires number { rule < length self.now.book.now }
         requires ready { IsReady F.settled (model_of V.content self.now) }
         requires at { IsAt (setting_in V.content self.now) version }
-        requires names { Names (lived version).life position }
+        requires names { Names (row_and_life version).life position }
         ensures { OnOk result (Gains (IsInvolving (setting_in V.content self.now) position)
             (IsInvolvedBy (setting_in V.content self.now) rule position version.entry.id) needs.old.items needs.new.items) }
     {

@@ -8,7 +8,7 @@ ghost use Rattle.clr_rows.specs.declared.cells.CellId.{CellId as Cell};
 ghost use Rattle.clr_foot.specs.declared.limits.TheConstants.{MOST_MEMBERS};
 ghost use Rattle.clr_foot.specs.Members.{AreApart, AreFirstTwo, IsApart, IsLeastShared, after_of, changed_cells, changers_at, lesser, positions};
 ghost use Rattle.clr_foot.specs.Settings.{first_changer};
-ghost use Rattle.clr_foot.specs.Versions.{AreNewRowsFiled, FitNewRows, new_version_at, lived, version_of};
+ghost use Rattle.clr_foot.specs.Versions.{AreNewRowsFiled, FitNewRows, new_version_at, row_and_life, version_of};
 
 use crate::changers::{Changers, changers_of};
 use crate::needs::{Life, VersionId};
@@ -97,7 +97,7 @@ impl<'a> Members<'a> {
     /// The new version of a cell, if its changer brings a row there.
     pub(crate) fn new_version(&self, cell: CellId) -> Option<Version<'_>>
         ensures { MatchOption result (new_version_at (map (λ s. s.now) self.now.sets.items) cell ≡ None)
-            (λ v. (v.id ≡ version_of true cell) × (new_version_at (map (λ s. s.now) self.now.sets.items) cell ≡ Some (lived v))) }
+            (λ v. (v.id ≡ version_of true cell) × (new_version_at (map (λ s. s.now) self.now.sets.items) cell ≡ Some (row_and_life v))) }
     {
         let position = self.changer(cell)?;
         let change = self.sets[position as usize].get(cell)?;

@@ -6,7 +6,7 @@ ghost use Rattle.clr_foot.specs.declared.limits.TheConstants.{MOST_MEMBERS};
 ghost use Rattle.clr_foot.specs.Members.{AreApart, IsSceneFault, lifetime, setting};
 ghost use Rattle.clr_foot.specs.Scenes.{model_of, setting_in, setting_of};
 ghost use Rattle.clr_foot.specs.Settings.{old_version, version};
-ghost use Rattle.clr_foot.specs.Versions.{FitsSetting, IsNamed, lived, version_of};
+ghost use Rattle.clr_foot.specs.Versions.{FitsSetting, IsNamed, row_and_life, version_of};
 
 use crate::faults::SceneFault;
 use crate::members::Members;
@@ -22,7 +22,7 @@ use std::alloc::Global;
 /// The old version of a cell, if the root has the row.
 fn old_version(cell: CellId, row: Option<&Row>, changer: Option<u16>) -> Option<Version<'_>>
     ensures { MatchOption result (option_copied row.entry ≡ None)
-        (λ v. (v.id ≡ version_of false cell) × (old_version changer (option_copied row.entry) ≡ Some (lived v))) }
+        (λ v. (v.id ≡ version_of false cell) × (old_version changer (option_copied row.entry) ≡ Some (row_and_life v))) }
 {
     let row = row?;
     let life = match changer {

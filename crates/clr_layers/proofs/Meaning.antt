@@ -12,7 +12,7 @@ use Rattle.clr_rows.specs.Contents.{Content}
 use Rattle.std.proofs.lemmas.Option.{same_Some}
 use Rattle.clr_layers.specs.Marks.{Name}
 use Rattle.clr_layers.specs.Workspaces.{Workspace, no_workspace, workspace_at, find}
-use Rattle.clr_layers.specs.Layers.{Layer, no_layer, layer_at, find_layer, whole_of, top, named, above_in, grow, wholes, above_at}
+use Rattle.clr_layers.specs.Layers.{Layer, no_layer, layer_at, find_layer, whole_of, top, content_by_name, above_in, grow, wholes, above_at}
 
 -- lengths, names and parents -------------------------------------------------------------------
 
@@ -127,47 +127,47 @@ pub live-wholes : (live : Content) (ls : List Layer) → 0 < length ls → (work
 live-wholes live ls lt = ap (λ (w : Workspace). w.current) (wholes-live live ls lt) ∙ current-top live (layer_at ls 0)
 
 -- the content that a layer lies over is its parent's
-named_first : (ws : List Workspace) (name : Name) (p n : ℕ) → position_or_len (λ (w : Workspace). bytes_eq name w.name) ws ≡ p → p < length ws → p < n → named (take n ws) name ≡ Some (workspace_at ws p).current
-unfolding named
+named_first : (ws : List Workspace) (name : Name) (p n : ℕ) → position_or_len (λ (w : Workspace). bytes_eq name w.name) ws ≡ p → p < length ws → p < n → content_by_name (take n ws) name ≡ Some (workspace_at ws p).current
+unfolding content_by_name
 named_first [] name p n e within lt = absurd (omega arith)
 named_first (w ∷ ws) name p zero e within lt = absurd (omega arith)
 named_first (w ∷ ws) name zero (suc n) e within lt = by (bytes_eq name w.name) e
   where
-    by : (b : Bool) → cond (not b) (1 + position_or_len (λ (w : Workspace). bytes_eq name w.name) ws) 0 ≡ 0 → cond b (Some w.current) (named (take n ws) name) ≡ Some w.current
+    by : (b : Bool) → cond (not b) (1 + position_or_len (λ (w : Workspace). bytes_eq name w.name) ws) 0 ≡ 0 → cond b (Some w.current) (content_by_name (take n ws) name) ≡ Some w.current
     by true e = refl
     by false e = absurd (omega (arith, e))
 named_first (w ∷ ws) name (suc p) (suc n) e within lt = by (bytes_eq name w.name) e (λ same. named_first ws name p n same (omega arith) (omega arith))
   where
     by : (b : Bool) → cond (not b) (1 + position_or_len (λ (w : Workspace). bytes_eq name w.name) ws) 0 ≡ suc p
-        → (position_or_len (λ (w : Workspace). bytes_eq name w.name) ws ≡ p → named (take n ws) name ≡ Some (workspace_at ws p).current) → cond b (Some w.current) (named (take n ws) name) ≡ Some (workspace_at ws p).current
+        → (position_or_len (λ (w : Workspace). bytes_eq name w.name) ws ≡ p → content_by_name (take n ws) name ≡ Some (workspace_at ws p).current) → cond b (Some w.current) (content_by_name (take n ws) name) ≡ Some (workspace_at ws p).current
     by true e rest = absurd (omega (arith, e))
     by false e rest = rest (omega (arith, e))
 
-pub named_found : (ws : List Workspace) (name : Name) (p n : ℕ) → find ws name ≡ Some p → p < n → named (take n ws) name ≡ Some (workspace_at ws p).current
+pub named_found : (ws : List Workspace) (name : Name) (p n : ℕ) → find ws name ≡ Some p → p < n → content_by_name (take n ws) name ≡ Some (workspace_at ws p).current
 named_found ws name p n e lt = by (nat_lt (position_or_len (λ (w : Workspace). bytes_eq name w.name) ws) (length ws)) refl e
   where
-    by : (b : Bool) → nat_lt (position_or_len (λ (w : Workspace). bytes_eq name w.name) ws) (length ws) ≡ b → cond b (Some (position_or_len (λ (w : Workspace). bytes_eq name w.name) ws)) None ≡ Some p → named (take n ws) name ≡ Some (workspace_at ws p).current
+    by : (b : Bool) → nat_lt (position_or_len (λ (w : Workspace). bytes_eq name w.name) ws) (length ws) ≡ b → cond b (Some (position_or_len (λ (w : Workspace). bytes_eq name w.name) ws)) None ≡ Some p → content_by_name (take n ws) name ≡ Some (workspace_at ws p).current
     by true within e = let same = same_Some _ p e in named_first ws name p n same (subst (λ k. k < length ws) same (ltb-true _ _ within)) lt
     by false within e = absurd (none-some p e)
 
 -- a name whose first position isn't among the first few isn't named there
-pub named_later : (ws : List Workspace) (name : Name) (n : ℕ) → n ≤ position_or_len (λ (w : Workspace). bytes_eq name w.name) ws → named (take n ws) name ≡ None
-unfolding named
+pub named_later : (ws : List Workspace) (name : Name) (n : ℕ) → n ≤ position_or_len (λ (w : Workspace). bytes_eq name w.name) ws → content_by_name (take n ws) name ≡ None
+unfolding content_by_name
 named_later ws name zero le = refl
 named_later [] name (suc n) le = refl
 named_later (w ∷ ws) name (suc n) le = by (bytes_eq name w.name) le (λ less. named_later ws name n less)
   where
     by : (b : Bool) → suc n ≤ cond (not b) (1 + position_or_len (λ (w : Workspace). bytes_eq name w.name) ws) 0
-        → (n ≤ position_or_len (λ (w : Workspace). bytes_eq name w.name) ws → named (take n ws) name ≡ None) → cond b (Some w.current) (named (take n ws) name) ≡ None
+        → (n ≤ position_or_len (λ (w : Workspace). bytes_eq name w.name) ws → content_by_name (take n ws) name ≡ None) → cond b (Some w.current) (content_by_name (take n ws) name) ≡ None
     by true le rest = absurd (omega arith)
     by false le rest = rest (omega arith)
 
-pub named-append : (vs : List Workspace) (w : Workspace) (n : Name) → named (vs ++ w ∷ []) n ≡ option_or (named vs n) (cond (bytes_eq n w.name) (Some w.current) None)
-unfolding named
+pub named-append : (vs : List Workspace) (w : Workspace) (n : Name) → content_by_name (vs ++ w ∷ []) n ≡ option_or (content_by_name vs n) (cond (bytes_eq n w.name) (Some w.current) None)
+unfolding content_by_name
 named-append [] w n = refl
 named-append (v ∷ vs) w n = ap (cond (bytes_eq n v.name) (Some v.current)) (named-append vs w n) ∙ by (bytes_eq n v.name)
   where
-    by : (b : Bool) → cond b (Some v.current) (option_or (named vs n) (cond (bytes_eq n w.name) (Some w.current) None)) ≡ option_or (cond b (Some v.current) (named vs n)) (cond (bytes_eq n w.name) (Some w.current) None)
+    by : (b : Bool) → cond b (Some v.current) (option_or (content_by_name vs n) (cond (bytes_eq n w.name) (Some w.current) None)) ≡ option_or (cond b (Some v.current) (content_by_name vs n)) (cond (bytes_eq n w.name) (Some w.current) None)
     by true = refl
     by false = refl
 

@@ -10,14 +10,14 @@ use Rattle.clr_differences.specs.Differences.{seen_over}
 use Rattle.clr_differences.proofs.DifferenceLemmas.{AgreeOutside, hidden}
 use Rattle.clr_layers.specs.Marks.{Name}
 use Rattle.clr_layers.specs.Workspaces.{Workspace}
-use Rattle.clr_layers.specs.Layers.{Layer, layer_at, whole_of, top, named, above_in, grow, wholes, whole_mark, above_at, IsUnder}
+use Rattle.clr_layers.specs.Layers.{Layer, layer_at, whole_of, top, content_by_name, above_in, grow, wholes, whole_mark, above_at, IsUnder}
 use Rattle.clr_layers.proofs.Meaning.{name-whole, named-append, differ_back, not_from}
 
 -- two lists of workspaces that differ at most in the content of one name
 record AreAlike (name : Name) (x y : Content) (vs ws : List Workspace) : Type 0 where
-  pub others : (n : Name) → bytes_eq name n ≡ false → named ws n ≡ named vs n
-  pub old : named vs name ≡ Some x
-  pub new : named ws name ≡ Some y
+  pub others : (n : Name) → bytes_eq name n ≡ false → content_by_name ws n ≡ content_by_name vs n
+  pub old : content_by_name vs name ≡ Some x
+  pub new : content_by_name ws name ≡ Some y
 
 alike_more : (name : Name) (x y : Content) (vs ws : List Workspace) (w : Workspace) → AreAlike name x y vs ws → AreAlike name x y (vs ++ w ∷ []) (ws ++ w ∷ [])
 alike_more name x y vs ws w a = record {
@@ -37,9 +37,9 @@ alike_whole name x y vs ws l a agree = by (bytes_eq name l.parent) refl
     by : (b : Bool) → bytes_eq name l.parent ≡ b → whole_of (above_in ws l) l ≡ whole_of (above_in vs l) l
     by true e =
         let same : l.parent ≡ name = sym ((bytes_decides name l.parent).0 e) in
-        ap (λ n. whole_of (unwrap_or (named ws n) no_rows) l) same ∙ ap (λ o. whole_of (unwrap_or o no_rows) l) a.new
+        ap (λ n. whole_of (unwrap_or (content_by_name ws n) no_rows) l) same ∙ ap (λ o. whole_of (unwrap_or o no_rows) l) a.new
         ∙ whole_hidden x y l (agree e)
-        ∙ sym (ap (λ n. whole_of (unwrap_or (named vs n) no_rows) l) same ∙ ap (λ o. whole_of (unwrap_or o no_rows) l) a.old)
+        ∙ sym (ap (λ n. whole_of (unwrap_or (content_by_name vs n) no_rows) l) same ∙ ap (λ o. whole_of (unwrap_or o no_rows) l) a.old)
     by false e = ap (λ o. whole_of (unwrap_or o no_rows) l) (a.others l.parent e)
 
 -- each child among the layers has entries where two contents differ
@@ -55,10 +55,10 @@ after name x y vs ws (l ∷ ls) a agree =
     (λ i. same i ∷ grow (ws ++ same i ∷ []) ls)
     ∙ ap (λ rest. v ∷ rest) (after name x y (vs ++ v ∷ []) (ws ++ v ∷ []) ls (alike_more name x y vs ws v a) (λ k lt. agree (suc k) (omega arith)))
 
-alike_here : (vs : List Workspace) (v w : Workspace) → named vs v.name ≡ None → w.name ≡ v.name → AreAlike v.name v.current w.current (vs ++ v ∷ []) (vs ++ w ∷ [])
+alike_here : (vs : List Workspace) (v w : Workspace) → content_by_name vs v.name ≡ None → w.name ≡ v.name → AreAlike v.name v.current w.current (vs ++ v ∷ []) (vs ++ w ∷ [])
 alike_here vs v w new same = record {
-  others = λ n differs. named-append vs w n ∙ ap (λ (b : Bool). option_or (named vs n) (cond b (Some w.current) None)) (ap (bytes_eq n) same ∙ differ_back v.name n differs)
-      ∙ sym (named-append vs v n ∙ ap (λ (b : Bool). option_or (named vs n) (cond b (Some v.current) None)) (differ_back v.name n differs));
+  others = λ n differs. named-append vs w n ∙ ap (λ (b : Bool). option_or (content_by_name vs n) (cond b (Some w.current) None)) (ap (bytes_eq n) same ∙ differ_back v.name n differs)
+      ∙ sym (named-append vs v n ∙ ap (λ (b : Bool). option_or (content_by_name vs n) (cond b (Some v.current) None)) (differ_back v.name n differs));
   old = named-append vs v v.name ∙ (λ i. option_or (new i) (cond (itself i) (Some v.current) None));
   new = named-append vs w v.name ∙ (λ i. option_or (new i) (cond ((ap (bytes_eq v.name) same ∙ itself) i) (Some w.current) None));
 }
@@ -69,7 +69,7 @@ alike_here vs v w new same = record {
 moved_grow : (ws : List Workspace) (ls : List Layer) (at : ℕ) (m : Layer) → at < length ls
     → (let above = above_in (ws ++ take at (grow ws ls)) (layer_at ls at) in
     let l = layer_at ls at in
-    m.name ≡ l.name → m.parent ≡ l.parent → named (ws ++ take at (grow ws ls)) l.name ≡ None
+    m.name ≡ l.name → m.parent ≡ l.parent → content_by_name (ws ++ take at (grow ws ls)) l.name ≡ None
     → ChildrenAgree l.name (whole_of above l).current (whole_of above m).current ls
     → grow ws (slice_set ls at m) ≡ slice_set (grow ws ls) at (whole_of above m))
 unfolding grow
@@ -78,8 +78,8 @@ moved_grow ws (l ∷ ls) zero m lt name parent new agree =
     let start : ws ++ [] ≡ ws = append-nil ws in
     let v = whole_of (above_in ws l) l in
     let w = whole_of (above_in ws m) m in
-    let above : above_in ws m ≡ above_in (ws ++ []) l = ap (λ n. unwrap_or (named ws n) no_rows) parent ∙ ap (λ (vs : List Workspace). above_in vs l) (sym start) in
-    let a = alike_here ws v w (ap (named ws) (name-whole (above_in ws l) l) ∙ ap (λ (vs : List Workspace). named vs l.name) (sym start) ∙ new) (name-whole (above_in ws m) m ∙ name ∙ sym (name-whole (above_in ws l) l)) in
+    let above : above_in ws m ≡ above_in (ws ++ []) l = ap (λ n. unwrap_or (content_by_name ws n) no_rows) parent ∙ ap (λ (vs : List Workspace). above_in vs l) (sym start) in
+    let a = alike_here ws v w (ap (content_by_name ws) (name-whole (above_in ws l) l) ∙ ap (λ (vs : List Workspace). content_by_name vs l.name) (sym start) ∙ new) (name-whole (above_in ws m) m ∙ name ∙ sym (name-whole (above_in ws l) l)) in
     let later : ChildrenAgree v.name v.current w.current ls =
     λ k k_lt under q none.
     ap (λ (c : Content). row_at (whole_of c m).current q) above
@@ -92,7 +92,7 @@ moved_grow ws (l ∷ ls) (suc at) m lt name parent new agree =
     let start : (ws ++ w ∷ []) ++ take at (grow (ws ++ w ∷ []) ls) ≡ ws ++ w ∷ take at (grow (ws ++ w ∷ []) ls) = append_assoc ws (w ∷ []) _ in
     let l_at = layer_at ls at in
     let same : above_in ((ws ++ w ∷ []) ++ take at (grow (ws ++ w ∷ []) ls)) l_at ≡ above_in (ws ++ w ∷ take at (grow (ws ++ w ∷ []) ls)) l_at = ap (λ (vs : List Workspace). above_in vs l_at) start in
-    ap (λ rest. w ∷ rest) (moved_grow (ws ++ w ∷ []) ls at m (omega arith) name parent (ap (λ (vs : List Workspace). named vs l_at.name) start ∙ new)
+    ap (λ rest. w ∷ rest) (moved_grow (ws ++ w ∷ []) ls at m (omega arith) name parent (ap (λ (vs : List Workspace). content_by_name vs l_at.name) start ∙ new)
     (λ k k_lt under q none. ap (λ (c : Content). row_at (whole_of c m).current q) same ∙ agree (suc k) (omega arith) under q none ∙ sym (ap (λ (c : Content). row_at (whole_of c l_at).current q) same))
     ∙ ap (λ (c : Content). slice_set (grow (ws ++ w ∷ []) ls) at (whole_of c m)) same)
 
@@ -102,7 +102,7 @@ LaterAgree name x y ls = (k : ℕ) → 0 < k → k < length ls → IsUnder name 
 
 -- a layer changes, and its children have entries where its content does
 pub moved : (live : Content) (ls : List Layer) (at : ℕ) (m : Layer) → 0 < at → at < length ls
-    → m.name ≡ (layer_at ls at).name → m.parent ≡ (layer_at ls at).parent → named (take at (wholes live ls)) (layer_at ls at).name ≡ None
+    → m.name ≡ (layer_at ls at).name → m.parent ≡ (layer_at ls at).parent → content_by_name (take at (wholes live ls)) (layer_at ls at).name ≡ None
     → LaterAgree (layer_at ls at).name (whole_of (above_at live ls at) (layer_at ls at)).current (whole_of (above_at live ls at) m).current ls
     → wholes live (slice_set ls at m) ≡ slice_set (wholes live ls) at (whole_of (above_at live ls at) m)
 unfolding wholes
@@ -115,7 +115,7 @@ moved live (l ∷ ls) (suc at) m some lt name parent new agree =
 -- LIVE's content changes, and its children have entries where it does
 pub moved_live : (live next : Content) (ls : List Layer) → 0 < length ls → LaterAgree (layer_at ls 0).name live next ls
     → wholes next ls ≡ slice_set (wholes live ls) 0 (top next (layer_at ls 0))
-unfolding wholes named top
+unfolding wholes content_by_name top
 moved_live live next [] lt agree = absurd (omega arith)
 moved_live live next (l ∷ ls) lt agree =
     let a = alike_here [] (top live l) (top next l) refl refl in
@@ -138,7 +138,7 @@ wholes-push live (x ∷ ls) l lt = ap (λ rest. top live x ∷ rest) (grow-push 
 abbrev IsFree : Name → List Layer → Type 0
 IsFree name ls = (k : ℕ) → k < length ls → IsUnder name (layer_at ls k) → ⊥
 
-after_gone : (name : Name) (vs ws : List Workspace) (ls : List Layer) → ((n : Name) → bytes_eq name n ≡ false → named ws n ≡ named vs n) → IsFree name ls → grow ws ls ≡ grow vs ls
+after_gone : (name : Name) (vs ws : List Workspace) (ls : List Layer) → ((n : Name) → bytes_eq name n ≡ false → content_by_name ws n ≡ content_by_name vs n) → IsFree name ls → grow ws ls ≡ grow vs ls
 unfolding grow
 after_gone name vs ws [] a free = refl
 after_gone name vs ws (l ∷ ls) a free =
@@ -159,7 +159,7 @@ removed_grow ws [] at lt free = absurd (omega arith)
 removed_grow ws (l ∷ ls) zero lt free =
     let w = whole_of (above_in ws l) l in
     after_gone l.name (ws ++ w ∷ []) ws ls
-    (λ n differs. sym (named-append ws w n ∙ ap (λ (b : Bool). option_or (named ws n) (cond b (Some w.current) None)) (ap (bytes_eq n) (name-whole (above_in ws l) l) ∙ differ_back l.name n differs) ∙ or_none (named ws n)))
+    (λ n differs. sym (named-append ws w n ∙ ap (λ (b : Bool). option_or (content_by_name ws n) (cond b (Some w.current) None)) (ap (bytes_eq n) (name-whole (above_in ws l) l) ∙ differ_back l.name n differs) ∙ or_none (content_by_name ws n)))
     (λ k k_lt. free (suc k) (omega arith))
 removed_grow ws (l ∷ ls) (suc at) lt free =
     let w = whole_of (above_in ws l) l in

@@ -9,9 +9,9 @@ use Rattle.clr_rows.specs.declared.cells.CellId.{CellId}
 use Rattle.clr_rows.specs.declared.rows.Row.{Row}
 use Rattle.clr_rows.specs.Contents.{Content, no_rows}
 use Rattle.clr_differences.specs.Differences.{Differences, Rows, HasEntry, IsOwnOver, coded_differences, is_among, no_differences, put_each, seen_over}
-use Rattle.clr_differences.specs.Differences.{swept, swept_at}
+use Rattle.clr_differences.specs.Differences.{without_neutral, swept_at}
 use Rattle.clr_layers.specs.Marks.{Name, Mark, Saved, ChildMark, coded_name}
-use Rattle.clr_layers.specs.Workspaces.{Workspace, root}
+use Rattle.clr_layers.specs.Workspaces.{Workspace, live_workspace}
 use Rattle.clr_layers.specs.declared.stored_marks.StoredMark.{StoredMark}
 use Rattle.clr_layers.specs.declared.stored_marks.StoredMark.TheVariants as stored
 
@@ -108,7 +108,7 @@ saved_differences (stored.Child name) = no_differences
 
 -- a mark without the entries that have the row of the base
 abbrev pub swept_mark : Content → StoredMark → StoredMark
-swept_mark base (stored.Saved name d) = stored.Saved name (swept base d)
+swept_mark base (stored.Saved name d) = stored.Saved name (without_neutral base d)
 swept_mark base (stored.Child name) = stored.Child name
 
 -- so where only the entries at some cells are looked at
@@ -129,14 +129,14 @@ StayOwnBeside cells old new = (q : CellId) → is_among cells q ≡ false → (b
 abbrev pub entries_of_mark : StoredMark → ℕ
 entries_of_mark mark = length (finite.keys (saved_differences mark))
 
-abbrev pub MarkHolds : CellId → StoredMark → Type 0
-MarkHolds cell (stored.Saved name d) = HasEntry d cell
-MarkHolds cell (stored.Child name) = Unit {0}
+abbrev pub MarkPins : CellId → StoredMark → Type 0
+MarkPins cell (stored.Saved name d) = HasEntry d cell
+MarkPins cell (stored.Child name) = Unit {0}
 
 -- each savepoint has an entry at a cell
-abbrev pub EachMarkHolds : List StoredMark → CellId → Type 0
-EachMarkHolds [] cell = Unit {0}
-EachMarkHolds (m ∷ ms) cell = MarkHolds cell m × EachMarkHolds ms cell
+abbrev pub EachMarkPins : List StoredMark → CellId → Type 0
+EachMarkPins [] cell = Unit {0}
+EachMarkPins (m ∷ ms) cell = MarkPins cell m × EachMarkPins ms cell
 
 -- a layer whose base takes rows over, and whose current content is the base; the savepoints go
 abbrev pub rows_taken_over : Rows → Layer → Layer
@@ -163,13 +163,13 @@ unfoldable pub top : Content → Layer → Workspace
 top live l = record { name = l.name; parent = l.parent; base = no_rows; current = live; marks = []; kept = true }
 
 -- the current content of the first of some workspaces that has the name
-unfoldable pub named : List Workspace → Name → Option Content
-named [] name = None
-named (w ∷ ws) name = if bytes_eq name w.name then Some w.current else named ws name
+unfoldable pub content_by_name : List Workspace → Name → Option Content
+content_by_name [] name = None
+content_by_name (w ∷ ws) name = if bytes_eq name w.name then Some w.current else content_by_name ws name
 
 -- the content of the parent of a layer, from the workspaces before it
 abbrev pub above_in : List Workspace → Layer → Content
-above_in ws l = unwrap_or (named ws l.parent) no_rows
+above_in ws l = unwrap_or (content_by_name ws l.parent) no_rows
 
 -- the workspaces that layers mean, after those before them
 unfoldable pub grow : List Workspace → List Layer → List Workspace
@@ -178,7 +178,7 @@ grow ws (l ∷ ls) = let w = whole_of (above_in ws l) l in w ∷ grow (ws ++ w �
 
 -- the workspaces under LIVE: each base over the content of its parent, and each current content and savepoint over its base
 abbrev pub workspaces_over : Content → List Layer → List Workspace
-workspaces_over live layers = grow (root live ∷ []) layers
+workspaces_over live layers = grow (live_workspace live ∷ []) layers
 
 -- the whole workspaces, LIVE first
 unfoldable pub wholes : Content → List Layer → List Workspace

@@ -27,8 +27,8 @@ abbrev pub no_workspace : Workspace
 no_workspace = record { name = []; parent = []; base = no_rows; current = no_rows; marks = []; kept = false }
 
 -- LIVE with this content: it has no parent, no base and no marks, and every rule is to hold in it
-abbrev pub root : Content → Workspace
-root live = record { name = live_name; parent = []; base = no_rows; current = live; marks = []; kept = true }
+abbrev pub live_workspace : Content → Workspace
+live_workspace live = record { name = live_name; parent = []; base = no_rows; current = live; marks = []; kept = true }
 
 -- the workspace at a position
 abbrev pub workspace_at : List Workspace → ℕ → Workspace

@@ -3,7 +3,7 @@ ghost use Rattle.std.specs.List.{list_any};
 ghost use Rattle.std.specs.Option.{option_copied};
 ghost use Rattle.clr_rows.specs.Contents.{Content, row_at};
 ghost use Rattle.clr_layers.specs.Layers.{whole_mark, is_stored_child, is_stored_saved, is_stored_saved_as, is_stored_mark_of};
-ghost use Rattle.clr_layers.specs.Layers.{stored_without_mark_of, swept_mark, swept_mark_at, MarkHolds, EachMarkHolds, StayOwnBeside};
+ghost use Rattle.clr_layers.specs.Layers.{stored_without_mark_of, swept_mark, swept_mark_at, MarkPins, EachMarkPins, StayOwnBeside};
 ghost use Rattle.clr_layers.specs.declared.stored_marks.StoredMark.TheVariants.{Child};
 
 use clr_differences::Differences;
@@ -18,30 +18,30 @@ pub enum StoredMark {
     Child(Words),
 }
 
-fn hold(mark: &mut StoredMark, cell: CellId, row: Option<&Row>) -> Result<(), AllocError>
+fn pin(mark: &mut StoredMark, cell: CellId, row: Option<&Row>) -> Result<(), AllocError>
     ensures seen { (base : Content) → row_at base cell ≡ option_copied row.entry → whole_mark base mark.new ≡ whole_mark base mark.old }
-    ensures held { OnOk result (MarkHolds cell mark.new) }
+    ensures pinned { OnOk result (MarkPins cell mark.new) }
     ensures others { StayOwnBeside (cell ∷ []) (mark.old ∷ []) (mark.new ∷ []) }
 {
     match mark {
-        StoredMark::Saved(_, differences) => differences.hold(cell, row),
+        StoredMark::Saved(_, differences) => differences.pin(cell, row),
         StoredMark::Child(_) => Ok(()),
     }
 }
 
 /// Makes an entry at a cell in each savepoint that has none there, with the row of the base, so
 /// that no savepoint's content changes. It fails for want of memory alone.
-pub(crate) fn hold_each(
+pub(crate) fn pin_each(
     marks: &mut Vec<StoredMark>,
     cell: CellId,
     row: Option<&Row>,
 ) -> Result<(), AllocError>
     ensures seen { (b : Content) → row_at b cell ≡ option_copied row.entry → map (whole_mark b) marks.new.items ≡ map (whole_mark b) marks.old.items }
-    ensures held { OnOk result (EachMarkHolds marks.new.items cell) }
+    ensures pinned { OnOk result (EachMarkPins marks.new.items cell) }
     ensures others { StayOwnBeside (cell ∷ []) marks.old.items marks.new.items }
 {
     for i in 0..marks.len() {
-        hold(&mut marks[i], cell, row)?;
+        pin(&mut marks[i], cell, row)?;
     }
     Ok(())
 }

@@ -6,12 +6,12 @@ ghost use Rattle.indexmap.specs.IndexMap.{values};
 ghost use Rattle.clr_rows.specs.Contents.{Content, row_at};
 ghost use Rattle.clr_differences.specs.Differences.{no_differences, put_each, cells_in, HasEntry, HasEntries};
 ghost use Rattle.clr_layers.specs.Layers.{layer_at, layer_changed, find_layer, stored_in, whole_mark, is_stored_child};
-ghost use Rattle.clr_layers.specs.Layers.{stored_without_mark_of, EachMarkHolds, StayOwnBeside, rows_taken_over, restarted_with};
+ghost use Rattle.clr_layers.specs.Layers.{stored_without_mark_of, EachMarkPins, StayOwnBeside, rows_taken_over, restarted_with};
 ghost use Rattle.clr_layers.specs.Entries.{layer_of};
 ghost use Rattle.clr_layers.specs.declared.stored_marks.StoredMark.TheVariants.{Child};
 
 use crate::stored_marks::{
-    StoredMark, cut_after, drop_mark, drop_mark_of, drop_saved, hold_each, move_last, push_mark,
+    StoredMark, cut_after, drop_mark, drop_mark_of, drop_saved, pin_each, move_last, push_mark,
 };
 use clr_differences::Differences;
 use clr_rows::{CellId, Row, Words};
@@ -199,7 +199,7 @@ impl WorkspaceMap {
 
     /// Makes an entry at a cell in each savepoint that has none there, with the row of the base,
     /// so that no savepoint's content changes. It fails for want of memory alone.
-    pub fn hold_saved(
+    pub fn pin_saved(
         &mut self,
         at: usize,
         cell: CellId,
@@ -209,17 +209,17 @@ impl WorkspaceMap {
         ensures others { self.new ≡ layer_changed self.old at (λ l. record l { marks = (layer_at self.new at).marks }) }
         ensures seen { (base : Content) → row_at base cell ≡ option_copied row.entry
             → map (whole_mark base) (layer_at self.new at).marks ≡ map (whole_mark base) (layer_at self.old at).marks }
-        ensures held { OnOk result (EachMarkHolds (layer_at self.new at).marks cell) }
+        ensures pinned { OnOk result (EachMarkPins (layer_at self.new at).marks cell) }
         ensures elsewhere { StayOwnBeside (cell ∷ []) (layer_at self.old at).marks (layer_at self.new at).marks }
     {
         let (_, layer) = self.map.pair_mut(at);
-        hold_each(&mut layer.marks, cell, row)
+        pin_each(&mut layer.marks, cell, row)
     }
 
     /// Sets entries that a current content has.
     pub fn set_current(&mut self, at: usize, rows: Vec<(CellId, Option<Row>)>)
         requires there { at < length self.old }
-        requires held { HasEntries (layer_at self.old at).current (cells_in rows.items) }
+        requires pinned { HasEntries (layer_at self.old at).current (cells_in rows.items) }
         ensures { self.new ≡ layer_changed self.old at (λ l. record l { current = put_each l.current rows.items }) }
     {
         let (_, layer) = self.map.pair_mut(at);
@@ -229,7 +229,7 @@ impl WorkspaceMap {
     /// Sets entries that a base has; the current content becomes the base, and the savepoints go.
     pub fn take_over(&mut self, at: usize, rows: Vec<(CellId, Option<Row>)>)
         requires there { at < length self.old }
-        requires held { HasEntries (layer_at self.old at).base (cells_in rows.items) }
+        requires pinned { HasEntries (layer_at self.old at).base (cells_in rows.items) }
         ensures { self.new ≡ layer_changed self.old at (rows_taken_over rows.items) }
     {
         let alloc = self.allocator();
@@ -286,7 +286,7 @@ impl WorkspaceMap {
     /// Takes the entry at a cell out of a base, and sets the one that the current content has.
     pub fn move_row(&mut self, at: usize, cell: CellId, row: Option<Row>)
         requires there { at < length self.old }
-        requires held { HasEntry (layer_at self.old at).current cell }
+        requires pinned { HasEntry (layer_at self.old at).current cell }
         ensures { self.new ≡ layer_changed self.old at (λ l. record l { base = finite.remove l.base cell; current = finite.insert l.current cell row }) }
     {
         let (_, layer) = self.map.pair_mut(at);

@@ -2,7 +2,7 @@
 use Rattle.std.specs.Prelude.{◌≡◌, ◌≢◌, ℕ, Bool, true, false, ◌||◌, List, Option, Result, Ok, Err, length, nat_lt}
 use Rattle.std.specs.Io.KnownBytes.{Appends}
 use Rattle.clr_rows.specs.Names.{live_name}
-use Rattle.clr_rules.specs.Needs.{broken}
+use Rattle.clr_rules.specs.Needs.{broken_needs}
 use Rattle.clr_steps.specs.Offices.{Office}
 use Rattle.clr_steps.specs.Quiet.{Site}
 use Rattle.clr_check.specs.SiteNames.{site}
@@ -20,7 +20,7 @@ use Rattle.clr_office.specs.declared.reading.TheConstants.{MOST_INPUT_BYTES}
 
 -- the needs of LIVE that no row serves, and whether there are any, also where a rule doesn't hold
 abbrev pub audit_print : Office → Printed
-audit_print o = let needs = broken o.book o.live in print_of (audit_text o.schema needs) (nat_lt 0 (length needs))
+audit_print o = let needs = broken_needs o.book o.live in print_of (audit_text o.schema needs) (nat_lt 0 (length needs))
 
 unfoldable pub audit_of : Result Office TextFault → Printed
 audit_of (Err fault) = Err (run_fault.BadOffice fault)

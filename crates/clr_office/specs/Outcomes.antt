@@ -4,7 +4,7 @@ use Rattle.std.specs.Prelude.{⊤, codes, drop, if◌then◌else◌, length, map
 use Rattle.std.specs.FinMap as finite
 use Rattle.std.specs.List.{flat_map}
 use Rattle.clr_rows.specs.Names.{live_name}
-use Rattle.clr_rules.specs.Needs.{broken}
+use Rattle.clr_rules.specs.Needs.{broken_needs}
 use Rattle.clr_layers.specs.Marks.{Name}
 use Rattle.clr_steps.specs.declared.commands.Command.{Command}
 use Rattle.clr_steps.specs.declared.commands.Reply.{Reply}
@@ -66,7 +66,7 @@ conflicts_outcome o name = report_outcome o name (conflicts_text o.schema (confl
 
 -- the needs of its rows that no row serves; one such need counts as a refusal
 unfoldable pub audit_outcome : Office → Name → Outcome
-audit_outcome o name = let needs = broken o.book (content_of o name) in report_outcome o name (audit_text o.schema needs) (nat_lt 0 (length needs))
+audit_outcome o name = let needs = broken_needs o.book (content_of o name) in report_outcome o name (audit_text o.schema needs) (nat_lt 0 (length needs))
 
 -- a workspace: how many changes it has, and how many cells are in conflict with its parent
 abbrev pub workspace_line : Office → Name → List ℕ

@@ -8,9 +8,9 @@ use Rattle.std.proofs.lemmas.Option.{none-some}
 use Rattle.clr_rows.specs.Contents.{Content, no_rows}
 use Rattle.clr_rows.specs.Names.{live_name}
 use Rattle.clr_rows.proofs.SchemaLemmas.{list_any-map}
-use Rattle.clr_layers.specs.Layers.{above_in, grow, named, whole_of, workspaces_over}
+use Rattle.clr_layers.specs.Layers.{above_in, grow, content_by_name, whole_of, workspaces_over}
 use Rattle.clr_layers.specs.Marks.{Name}
-use Rattle.clr_layers.specs.Workspaces.{Workspace, no_workspace, root, workspace_at}
+use Rattle.clr_layers.specs.Workspaces.{Workspace, no_workspace, live_workspace, workspace_at}
 use Rattle.clr_layers.proofs.Meaning.{named_found}
 use Rattle.clr_tree.specs.Soundness.{IsSound}
 use Rattle.clr_tree.proofs.FaultLemmas.{take_next}
@@ -27,18 +27,18 @@ use Rattle.clr_office_writer.specs.Writing.{layer_in}
 use Rattle.clr_office_writer.proofs.Differences.{layer_fits, layer_made}
 
 -- a name that is found stands there
-stands_from : (ws : List Workspace) (name : Name) (content : Content) → named ws name ≡ Some content → list_any (λ w. bytes_eq name w.name) ws ≡ true
-unfolding named
+stands_from : (ws : List Workspace) (name : Name) (content : Content) → content_by_name ws name ≡ Some content → list_any (λ w. bytes_eq name w.name) ws ≡ true
+unfolding content_by_name
 stands_from [] name content e = absurd (none-some content e)
 stands_from (w ∷ ws) name content e = by (bytes_eq name w.name) e (stands_from ws name content)
   where
-    by : (b : Bool) → cond b (Some w.current) (named ws name) ≡ Some content → (named ws name ≡ Some content → list_any (λ w. bytes_eq name w.name) ws ≡ true) → b || list_any (λ w. bytes_eq name w.name) ws ≡ true
+    by : (b : Bool) → cond b (Some w.current) (content_by_name ws name) ≡ Some content → (content_by_name ws name ≡ Some content → list_any (λ w. bytes_eq name w.name) ws ≡ true) → b || list_any (λ w. bytes_eq name w.name) ws ≡ true
     by true e rest = refl
     by false e rest = rest e
 
 module _ (o : Office) where
   abbrev all : List Workspace
-  all = root o.live ∷ o.workspaces
+  all = live_workspace o.live ∷ o.workspaces
 
   layers_fit : OfficeFits o → (ws : List Workspace) → ((i : ℕ) → WorkspaceFits o.schema (workspace_at ws i)) → AllByRecursion (FitsLayer o.schema) (map (layer_in o) ws)
   layers_fit fits [] each = tt
@@ -47,9 +47,9 @@ module _ (o : Office) where
   pub text_fits : OfficeFits o → AllByRecursion (FitsLayer o.schema) (map (layer_in o) o.workspaces)
   text_fits fits = layers_fit fits o.workspaces fits.workspaces
 
-  module _ (sound : IsSound (root o.live ∷ o.workspaces)) where
+  module _ (sound : IsSound (live_workspace o.live ∷ o.workspaces)) where
     -- the parent of each workspace is found among those before it, with the content that the office has by its name
-    above_is : (n : ℕ) → 0 < n → n < length all → named (take n all) (workspace_at all n).parent ≡ Some (content_of o (workspace_at all n).parent)
+    above_is : (n : ℕ) → 0 < n → n < length all → content_by_name (take n all) (workspace_at all n).parent ≡ Some (content_of o (workspace_at all n).parent)
     above_is n some lt =
         let p = sound.rooted.under n some lt in
         let name = (workspace_at all n).parent in

@@ -10,7 +10,7 @@ use Rattle.std.proofs.lemmas.List.{length-take-le}
 use Rattle.clr_rows.specs.Contents.{Content}
 use Rattle.clr_rows.specs.Names.{is_good_name}
 use Rattle.clr_layers.specs.Marks.{Name, Mark, Saved, ChildMark, is_mark_of, mark_count}
-use Rattle.clr_layers.specs.Workspaces.{Workspace, depth_of, depth_within, find, is_child_named, no_workspace, one_above, parent_of, root, workspace_at}
+use Rattle.clr_layers.specs.Workspaces.{Workspace, depth_of, depth_within, find, is_child_named, no_workspace, one_above, parent_of, live_workspace, workspace_at}
 use Rattle.clr_layers.proofs.FindLemmas.{first_is, first_of, has_name}
 use Rattle.clr_tree.specs.Parts.{first_below, has_good_marks, is_childs, is_marked_once, is_under, marks_fault_at, name_fault_at, workspaces_fault}
 use Rattle.clr_contents.specs.Roots.{IsRooted}
@@ -133,9 +133,9 @@ none_below wrong (suc n) each =
     let next : n + 1 ≡ suc n = omega arith in
     subst (λ k. first_below wrong k ≡ None) next (below_next wrong n (none_below wrong n (λ k lt. each k (omega (arith, lt)))) (each n (omega arith)))
 
-module _ (live : Content) (rest : List Workspace) (sound : IsSound (root live ∷ rest)) where
+module _ (live : Content) (rest : List Workspace) (sound : IsSound (live_workspace live ∷ rest)) where
   abbrev ws : List Workspace
-  ws = root live ∷ rest
+  ws = live_workspace live ∷ rest
 
   name_clear : (i : ℕ) → i < length rest → name_fault_at ws i ≡ None
   name_clear i lt =

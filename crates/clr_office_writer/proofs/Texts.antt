@@ -5,7 +5,7 @@ use Rattle.std.proofs.lemmas.Str.{is_utf8-from_IsUtf8}
 use Rattle.serde_json.specs.Data.{Data}
 use Rattle.serde_json.specs.Read.{read}
 use Rattle.clr_rows.specs.Schemas.{schema_fault}
-use Rattle.clr_layers.specs.Workspaces.{root}
+use Rattle.clr_layers.specs.Workspaces.{live_workspace}
 use Rattle.clr_tree.specs.Soundness.{IsSound}
 use Rattle.clr_steps.specs.Offices.{Office}
 use Rattle.clr_engine.specs.Drafts.{IsFitting}
@@ -23,14 +23,14 @@ module _ (o : Office) where
   text_stands : schema_fault o.schema ≡ None → IsFitting o → FitsOffice (text_of o)
   text_stands schema fit = record { schema = schema; book = fit.book; live = fit.rows.live; layers = text_fits o fit.rows }
 
-  read_again : (bytes : List ℕ) (d : Data) → IsUtf8 bytes → read bytes ≡ Some d → d ≡ office_data (text_of o) → schema_fault o.schema ≡ None → IsFitting o → IsSound (root o.live ∷ o.workspaces) → office_in bytes ≡ Ok (text_of o)
+  read_again : (bytes : List ℕ) (d : Data) → IsUtf8 bytes → read bytes ≡ Some d → d ≡ office_data (text_of o) → schema_fault o.schema ≡ None → IsFitting o → IsSound (live_workspace o.live ∷ o.workspaces) → office_in bytes ≡ Ok (text_of o)
   unfolding office_in
   read_again bytes d utf8 is is_data schema fit sound = rw (is_utf8-from_IsUtf8 bytes utf8, is, is_data) (offices_read (text_of o) (text_stands schema fit) (have_parents o sound))
 
-  whole_again : IsSound (root o.live ∷ o.workspaces) → whole_office (text_of o) ≡ o
+  whole_again : IsSound (live_workspace o.live ∷ o.workspaces) → whole_office (text_of o) ≡ o
   whole_again sound = ap (λ ws. record o { workspaces = ws }) (workspaces_again o sound)
 
-  pub drafted_again : (bytes : List ℕ) (d : Data) → IsUtf8 bytes → read bytes ≡ Some d → d ≡ office_data (text_of o) → schema_fault o.schema ≡ None → IsFitting o → IsSound (root o.live ∷ o.workspaces) → draft_in bytes ≡ Ok o
+  pub drafted_again : (bytes : List ℕ) (d : Data) → IsUtf8 bytes → read bytes ≡ Some d → d ≡ office_data (text_of o) → schema_fault o.schema ≡ None → IsFitting o → IsSound (live_workspace o.live ∷ o.workspaces) → draft_in bytes ≡ Ok o
   unfolding draft_in
   drafted_again bytes d utf8 is is_data schema fit sound =
       rw (read_again bytes d utf8 is is_data schema fit sound) (ap if_standing (whole_again sound) ∙ stands o (no_fault o.live o.workspaces sound))

@@ -27,7 +27,7 @@ use Rattle.clr_rules.specs.declared.needs.Ask.{Ask}
 use Rattle.clr_rules.specs.Calls.{asks, calls, serves}
 use Rattle.clr_rules.specs.Books.{FitsCell, FitTogether, FitsContent}
 use Rattle.clr_rules.specs.Laws.{BrokenLaw}
-use Rattle.clr_rules.specs.Needs.{ask_of, broken_between, Stands, StandsBeside, IsNeed, IsMet, broken_cmp, broken_at, is_after, choices, is_broken, broken_from, broken_of, broken_below, rows_in, broken, IsBroken, IsFirstBroken}
+use Rattle.clr_rules.specs.Needs.{ask_of, broken_between, Stands, StandsBeside, IsNeed, IsMet, broken_cmp, broken_at, is_after, choices, is_broken, broken_from, broken_of, broken_below, rows_in, broken_needs, IsBroken, IsFirstBroken}
 use Rattle.clr_rules.proofs.AskLemmas.{ask_cmp, less_number, asks_rise, asked, asked_rule, rule_there}
 use Rattle.clr_rules.proofs.BrokenOrder.{broken_total}
 use Rattle.clr_rules.proofs.Elements.{clash, Among, among_left, among_right, among_either, kept_among, among_kept, any_by, some_of, contained, among, each_of, all_by, mapped_among, among_mapped, flat_among, among_flat, AllBelow, rising_joined, rising_flat, rising_mapped}
@@ -189,8 +189,8 @@ is_broken_there rules content b o =
 
 -- a need that no row serves is listed
 unmet_listed : (rules : List Rule) (content : Content) (ask : Ask) (s : Held) (t : Option Held) → IsNeed rules (row_at content) ask s t
-    → IsMet rules (row_at content) ask s t ⊎ Among (broken_at ask s t) (broken rules content)
-unfolding broken
+    → IsMet rules (row_at content) ask s t ⊎ Among (broken_at ask s t) (broken_needs rules content)
+unfolding broken_needs
 unmet_listed rules content ask s t need = go (list_any (serves rules ask s t) (rows_in content)) refl
   where
     go : (b : Bool) → list_any (serves rules ask s t) (rows_in content) ≡ b
@@ -201,14 +201,14 @@ unmet_listed rules content ask s t need = go (list_any (serves rules ask s t) (r
     go false e = inr (below_listed rules ask.rule (length rules) (rows_in content) (broken_at ask s t) (rule_there rules ask s t need.they_call)
         (listed_from rules ask (rows_in content) s t (held_listed content s need.stands) (chosen content s t need.beside) (rw (need.they_call, e) refl) need.they_call))
 
-pub broken_listed : (rules : List Rule) (content : Content) (b : Broken) → IsBroken rules (row_at content) b → Among b (broken rules content)
+pub broken_listed : (rules : List Rule) (content : Content) (b : Broken) → IsBroken rules (row_at content) b → Among b (broken_needs rules content)
 broken_listed rules content b h = elim (unmet_listed rules content (ask_of b) h.first h.second h.need) [
   | inl m ↦ absurd (h.unmet m)
-  | inr a ↦ subst (λ (c : Broken). Among c (broken rules content)) (sym h.named) a
+  | inr a ↦ subst (λ (c : Broken). Among c (broken_needs rules content)) (sym h.named) a
 ]
 
-pub listed_broken : (rules : List Rule) (content : Content) (b : Broken) → Among b (broken rules content) → IsBroken rules (row_at content) b
-unfolding broken
+pub listed_broken : (rules : List Rule) (content : Content) (b : Broken) → Among b (broken_needs rules content) → IsBroken rules (row_at content) b
+unfolding broken_needs
 listed_broken rules content b h = is_broken_there rules content b (origin rules (length rules) (rows_in content) b h)
 
 -- the order ------------------------------------------------------------------------------------
@@ -286,8 +286,8 @@ below_rises rules zero rows p = tt
 below_rises rules (suc n) rows p = rising_joined broken_cmp (broken_below rules n rows) (broken_of rules n rows) (below_rises rules n rows p) (of_rises rules n rows p)
     (λ x y h k. by_rule x y (omega (arith, rule_from rules n rows y k, (origin rules n rows x h).below)))
 
-pub broken_rises : (rules : List Rule) (content : Content) → IsStrictlySortedBy broken_cmp (broken rules content)
-unfolding broken
+pub broken_rises : (rules : List Rule) (content : Content) → IsStrictlySortedBy broken_cmp (broken_needs rules content)
+unfolding broken_needs
 broken_rises rules content = below_rises rules (length rules) (rows_in content) (rows_rise content)
 
 -- the first --------------------------------------------------------------------------------------
@@ -299,7 +299,7 @@ not_greater Greater e = absurd (cc)
 not_before_itself : (b : Broken) → is_gt (broken_cmp b b) ≡ false
 not_before_itself b = ap is_gt (tied_itself broken_total b)
 
-first_is : (rules : List Rule) (content : Content) (bs : List Broken) → broken rules content ≡ bs → IsFirstBroken rules (row_at content) (slice_get bs 0)
+first_is : (rules : List Rule) (content : Content) (bs : List Broken) → broken_needs rules content ≡ bs → IsFirstBroken rules (row_at content) (slice_get bs 0)
 unfolding IsStrictlySortedBy
 first_is rules content [] e = λ ask s t need. elim (unmet_listed rules content ask s t need) [
   | inl m ↦ m
@@ -317,8 +317,8 @@ first_is rules content (b ∷ bs) e = record {
 pub lists_broken : BrokenLaw
 lists_broken rules content = record {
   ascending = broken_rises rules content;
-  exactly = λ b. (λ h. listed_broken rules content b (among b (broken rules content) h), λ h. contained b (broken rules content) (broken_listed rules content b h));
-  first = first_is rules content (broken rules content) refl;
+  exactly = λ b. (λ h. listed_broken rules content b (among b (broken_needs rules content) h), λ h. contained b (broken_needs rules content) (broken_listed rules content b h));
+  first = first_is rules content (broken_needs rules content) refl;
 }
 
 -- rows that fit ------------------------------------------------------------------------------------

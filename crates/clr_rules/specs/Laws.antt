@@ -12,12 +12,12 @@ use Rattle.clr_rules.specs.declared.rules.Rule.TheVariants.{Crossing}
 use Rattle.clr_rules.specs.declared.sides.Side.{Side}
 use Rattle.clr_rules.specs.Books.{FitsCell}
 use Rattle.clr_rules.specs.Calls.{are_subjects, is_server}
-use Rattle.clr_rules.specs.Needs.{IsAudit, broken}
+use Rattle.clr_rules.specs.Needs.{IsAudit, broken_needs}
 use Rattle.clr_rules.specs.Sides.{Segment, is_of_side, are_of_sides, has_role_in, point_of}
 
 -- a content's broken needs are listed exactly, ascending, each once
 abbrev pub BrokenLaw : Type 0
-BrokenLaw = (rules : List Rule) (content : Content) → IsAudit rules (row_at content) (broken rules content)
+BrokenLaw = (rules : List Rule) (content : Content) → IsAudit rules (row_at content) (broken_needs rules content)
 
 -- crossings ----------------------------------------------------------------------------------
 

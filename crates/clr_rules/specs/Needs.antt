@@ -130,5 +130,5 @@ abbrev pub rows_in : Content → List Held
 rows_in content = finite.entries content
 
 -- all broken needs of a content
-unfoldable pub broken : List Rule → Content → List Broken
-broken rules content = broken_below rules (length rules) (rows_in content)
+unfoldable pub broken_needs : List Rule → Content → List Broken
+broken_needs rules content = broken_below rules (length rules) (rows_in content)

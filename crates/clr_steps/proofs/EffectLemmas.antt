@@ -18,7 +18,7 @@ use Rattle.clr_layers.specs.Workspaces.{Workspace, workspace_at, find, parent_of
 use Rattle.clr_tree.specs.Operations as tree
 use Rattle.clr_tree.specs.declared.rebases.Rebase.TheVariants as rebase_as
 use Rattle.clr_tree.specs.Soundness.{IsSound}
-use Rattle.clr_tree.specs.Operations.{change_at, without_at, with_marks, with_current, with_kept, with_mark_of, new_leaf, save, roll_to, roll_all, refresh, rebase, keep_row, own_changes, at_position, under_parent}
+use Rattle.clr_tree.specs.Operations.{change_at, without_at, with_marks, with_current, with_kept, with_mark_of, new_leaf, save, roll_to, roll_all, refresh, with_base_merged, keep_row, own_changes, at_position, under_parent}
 use Rattle.clr_steps.specs.Names.{same_name, is_live}
 use Rattle.clr_steps.specs.Offices.{Office, with_workspaces, office_of, workspace, content_of, set_content, modify, modify_marks, below_live}
 use Rattle.clr_steps.specs.Effects.{edited_content, merged_content, after_create, after_remove, after_apply, after_mark, after_unmark, after_roll_to, after_roll_all, after_refresh, after_merge, after_resolve, set_kept, effect}
@@ -198,12 +198,12 @@ module _ (schema : List TableDef) (book : List Rule) (ws : List Workspace) (soun
 
   -- a merge, as two modifications by name
   merged_by_name : (k above : ℕ) → find ws (workspace_at ws (suc k)).name ≡ Some (suc k) → parent_of ws (suc k) ≡ Some above
-      → let w = workspace_at ws (suc k) in tree.after_merge ws (suc k) above ≡ modify w.name rebase (modify w.parent (with_current (taken_over (workspace_at ws above).current (own_changes w))) ws)
+      → let w = workspace_at ws (suc k) in tree.after_merge ws (suc k) above ≡ modify w.name with_base_merged (modify w.parent (with_current (taken_over (workspace_at ws above).current (own_changes w))) ws)
   merged_by_name k above mine under =
       let w = workspace_at ws (suc k) in
       let f = with_current (taken_over (workspace_at ws above).current (own_changes w)) in
-      ap (λ (xs : List Workspace). change_at xs (suc k) rebase) (changed_is w.parent f ws above (only w.parent above under))
-      ∙ changed_is w.name rebase (modify w.parent f ws) (suc k) (only_modify w.name w.parent f (λ v. refl) ws (suc k) (only w.name (suc k) mine))
+      ap (λ (xs : List Workspace). change_at xs (suc k) with_base_merged) (changed_is w.parent f ws above (only w.parent above under))
+      ∙ changed_is w.name with_base_merged (modify w.parent f ws) (suc k) (only_modify w.name w.parent f (λ v. refl) ws (suc k) (only w.name (suc k) mine))
 
   merged_is : (k above : ℕ) → find ws (workspace_at ws (suc k)).name ≡ Some (suc k) → parent_of ws (suc k) ≡ Some above → office_of schema book (tree.after_merge ws (suc k) above) ≡ after_merge o (workspace_at ws (suc k))
   unfolding after_merge merged_content
@@ -212,8 +212,8 @@ module _ (schema : List TableDef) (book : List Rule) (ws : List Workspace) (soun
       let c = taken_over (workspace_at ws above).current (own_changes w) in
       let f = with_current c in
       ap (office_of schema book) (merged_by_name k above mine under)
-      ∙ modified_below schema book w.name rebase (modify w.parent f ws) (part_modify (λ v. v.name) w.parent f (λ v. refl) ws 0 ∙ sound.rooted.live) (not_live w.name k mine)
-      ∙ ap (λ (x : Office). with_workspaces x (modify w.name rebase x.workspaces))
+      ∙ modified_below schema book w.name with_base_merged (modify w.parent f ws) (part_modify (λ v. v.name) w.parent f (λ v. refl) ws 0 ∙ sound.rooted.live) (not_live w.name k mine)
+      ∙ ap (λ (x : Office). with_workspaces x (modify w.name with_base_merged x.workspaces))
       (modified_content schema book w.parent c ws above sound.rooted.live (only w.parent above under) ∙ ap (λ d. set_content o w.parent (taken_over d (own_changes w))) (sym (content_is w.parent above under)))
 
   merged_removed : (k above : ℕ) → find ws (workspace_at ws (suc k)).name ≡ Some (suc k) → parent_of ws (suc k) ≡ Some above → above < suc k
@@ -223,10 +223,10 @@ module _ (schema : List TableDef) (book : List Rule) (ws : List Workspace) (soun
       let w = workspace_at ws (suc k) in
       let f = with_current (taken_over (workspace_at ws above).current (own_changes w)) in
       let us = modify w.parent f ws in
-      let vs = modify w.name rebase us in
+      let vs = modify w.name with_base_merged us in
       let is = merged_by_name k above mine under in
-      let stays : (m : Name) (at : ℕ) → IsOnly (has_name m) ws at → IsOnly (has_name m) vs at = λ m at h. only_modify m w.name rebase (λ v. refl) us at (only_modify m w.parent f (λ v. refl) ws at h) in
-      let part : (p : Workspace → Name) → ((v : Workspace) → p (rebase v) ≡ p v) → ((v : Workspace) → p (f v) ≡ p v) → (i : ℕ) → p (workspace_at vs i) ≡ p (workspace_at ws i) = λ p a b i. part_modify p w.name rebase a us i ∙ part_modify p w.parent f b ws i in
+      let stays : (m : Name) (at : ℕ) → IsOnly (has_name m) ws at → IsOnly (has_name m) vs at = λ m at h. only_modify m w.name with_base_merged (λ v. refl) us at (only_modify m w.parent f (λ v. refl) ws at h) in
+      let part : (p : Workspace → Name) → ((v : Workspace) → p (with_base_merged v) ≡ p v) → ((v : Workspace) → p (f v) ≡ p v) → (i : ℕ) → p (workspace_at vs i) ≡ p (workspace_at ws i) = λ p a b i. part_modify p w.name with_base_merged a us i ∙ part_modify p w.parent f b ws i in
       let name : (workspace_at vs (suc k)).name ≡ w.name = part (λ v. v.name) (λ v. refl) (λ v. refl) (suc k) in
       let parent : (workspace_at vs (suc k)).parent ≡ w.parent = part (λ v. v.parent) (λ v. refl) (λ v. refl) (suc k) in
       let up : parent_of vs (suc k) ≡ Some above = ap (find vs) parent ∙ position_of_only (has_name w.parent) vs above (stays w.parent above (only w.parent above under)) in

@@ -24,7 +24,7 @@ use Rattle.clr_steps.specs.declared.commands.Reply.{Reply}
 use Rattle.clr_steps.specs.declared.commands.Reply.TheVariants.{NoWorkspace}
 use Rattle.clr_layers.specs.Marks.{Name, Mark, Saved, ChildMark, find_mark, mark_at, saved_content, is_child_mark, is_mark_of, is_saved_as, without_mark_of, mark_last}
 use Rattle.clr_layers.specs.Workspaces.{Workspace, no_workspace, workspace_at}
-use Rattle.clr_tree.specs.Operations.{with_mark_of, new_leaf, with_marks, with_current, with_kept, save, roll_to, roll_all, refresh, rebase, keep_row}
+use Rattle.clr_tree.specs.Operations.{with_mark_of, new_leaf, with_marks, with_current, with_kept, save, roll_to, roll_all, refresh, with_base_merged, keep_row}
 use Rattle.clr_steps.specs.Names.{same_name, is_live}
 use Rattle.clr_steps.specs.Offices.{Office, with_workspaces, find_name, workspace, stands, content_of, current_of, set_content, modify, modify_marks, without}
 use Rattle.clr_steps.specs.Effects.{edited_content, merged_content, after_create, after_remove, after_apply, after_mark, after_unmark, after_roll_to, after_roll_all, after_refresh, after_merge, after_resolve, set_kept, effect}
@@ -163,7 +163,7 @@ module _ (schema : List TableDef) where
   refresh_fits : (above : Content) → FitsSchema schema above → (w : Workspace) → Fits w → Fits (refresh above w)
   refresh_fits above fits w h = record { base = fits; current = taken_fits schema above w.base w.current fits h.current; saved = saved_filter is_child_mark w.marks h.saved }
 
-  rebase_fits : (w : Workspace) → Fits w → Fits (rebase w)
+  rebase_fits : (w : Workspace) → Fits w → Fits (with_base_merged w)
   rebase_fits w h = record { base = subst (FitsSchema schema) (sym (taken_over-own w.base w.current)) h.current; current = h.current; saved = saved_filter is_child_mark w.marks h.saved }
 
   pub keep_row_fits : (cell : CellId) (keep : Keep) (above : Content) → FitsSchema schema above → (w : Workspace) → Fits w → Fits (keep_row cell keep above w)
@@ -265,7 +265,7 @@ fits_merge : (o : Office) → OfficeFits o → (w : Workspace) → WorkspaceFits
 unfolding after_merge
 fits_merge o g w h =
     let above = set_content o w.parent (merged_content o w) in
-    fits_modify above (fits_content o g w.parent (merged_content o w) (fits_merged o g w h)) w.name rebase (rebase_fits above.schema)
+    fits_modify above (fits_content o g w.parent (merged_content o w) (fits_merged o g w h)) w.name with_base_merged (rebase_fits above.schema)
 
 fits_either : (o : Office) → OfficeFits o → (w : Workspace) (gone : Bool) → WorkspaceFits o.schema w → OfficeFits (cond gone (after_remove (after_merge o w) w) (after_merge o w))
 fits_either o g w true h = fits_remove (after_merge o w) (fits_merge o g w h) w

@@ -12,7 +12,7 @@ use Rattle.clr_tree.specs.declared.rebases.Keep.{Keep}
 use Rattle.clr_tree.specs.declared.rebases.Keep.TheVariants as keeps
 use Rattle.clr_layers.specs.Marks.{Name, Mark, find_mark}
 use Rattle.clr_layers.specs.Workspaces.{Workspace}
-use Rattle.clr_tree.specs.Operations.{with_mark_of, new_leaf, with_current, with_kept, save, roll_to, roll_all, refresh, rebase, keep_row}
+use Rattle.clr_tree.specs.Operations.{with_mark_of, new_leaf, with_current, with_kept, save, roll_to, roll_all, refresh, with_base_merged, keep_row}
 use Rattle.clr_steps.specs.Names.{same_name, is_live}
 use Rattle.clr_steps.specs.Offices.{Office, with_workspaces, find_name, workspace, content_of, set_content, modify, modify_marks, without}
 use Rattle.clr_steps.specs.Effects.{edited_content, merged_content, after_create, after_remove, after_apply, after_mark, after_unmark, after_roll_to, after_roll_all, after_refresh, after_merge, after_resolve, set_kept, effect}
@@ -201,7 +201,7 @@ module _ (site : Site) where
       unfolding after_merge
       leaves_merge above =
           let next = set_content o w.parent (merged_content o w) in
-          leaves_then site o next _ (leaves_content o w.parent (merged_content o w) above) (leaves_modified next w.name rebase (λ v. refl) out)
+          leaves_then site o next _ (leaves_content o w.parent (merged_content o w) above) (leaves_modified next w.name with_base_merged (λ v. refl) out)
 
   leaves_either : (o : Office) (w : Workspace) (gone : Bool) → IsOutside site w.name → IsOutside site w.parent → Leaves site o (cond gone (after_remove (after_merge o w) w) (after_merge o w))
   leaves_either o w true out above = leaves_then site o (after_merge o w) _ (leaves_merge o w out above) (leaves_remove (after_merge o w) w out)

@@ -14,7 +14,7 @@ use Rattle.clr_steps.specs.declared.commands.Reply.TheVariants.{LiveIsFixed, NoW
 use Rattle.clr_tree.specs.declared.rebases.Keep.TheVariants as keeps
 use Rattle.clr_layers.specs.Marks.{Name, Mark, find_mark, mark_at, saved_content}
 use Rattle.clr_layers.specs.Workspaces.{Workspace}
-use Rattle.clr_tree.specs.Operations.{with_mark_of, new_leaf, with_current, with_kept, save, roll_to, roll_all, refresh, rebase, keep_row}
+use Rattle.clr_tree.specs.Operations.{with_mark_of, new_leaf, with_current, with_kept, save, roll_to, roll_all, refresh, with_base_merged, keep_row}
 use Rattle.clr_steps.specs.Names.{same_name, is_live}
 use Rattle.clr_steps.specs.Offices.{Office, with_workspaces, find_name, workspace, stands, content_of, is_kept, set_content, modify, modify_marks, without}
 use Rattle.clr_steps.specs.Effects.{edited_content, rolled_content, merged_content, resolved_content, after_create, after_remove, after_apply, after_mark, after_unmark, after_roll_to, after_roll_all, after_refresh, after_merge, after_resolve, set_kept, effect}
@@ -196,7 +196,7 @@ good_merge : (o : Office) → Good o → (w : Workspace) → breaks o w.parent (
 unfolding after_merge
 good_merge o g w none =
     let above = set_content o w.parent (merged_content o w) in
-    same_seen above (good_content o g w.parent (merged_content o w) none) (modify w.name rebase above.workspaces) (λ n. seen_modify root_of n w.name rebase (λ v. refl) (λ v p q. refl) above.workspaces)
+    same_seen above (good_content o g w.parent (merged_content o w) none) (modify w.name with_base_merged above.workspaces) (λ n. seen_modify root_of n w.name with_base_merged (λ v. refl) (λ v p q. refl) above.workspaces)
 
 good_either : (o : Office) → Good o → (w : Workspace) (gone : Bool) → breaks o w.parent (merged_content o w) ≡ None → Good (cond gone (after_remove (after_merge o w) w) (after_merge o w))
 good_either o g w true none = good_remove (after_merge o w) (good_merge o g w none) w

@@ -7,7 +7,7 @@ use Rattle.clr_change.specs.declared.edits.Edit.{Edit}
 use Rattle.clr_change.specs.Edits.{after_edits}
 use Rattle.clr_layers.specs.Marks.{saved_content, mark_at, find_mark, is_saved_as, without_mark_of, mark_last, Name}
 use Rattle.clr_layers.specs.Workspaces.{Workspace}
-use Rattle.clr_tree.specs.Operations.{with_mark_of, new_leaf, with_kept, save, roll_to, roll_all, own_changes, refresh, rebase, keep_row}
+use Rattle.clr_tree.specs.Operations.{with_mark_of, new_leaf, with_kept, save, roll_to, roll_all, own_changes, refresh, with_base_merged, keep_row}
 use Rattle.clr_steps.specs.declared.commands.Command.{Command}
 use Rattle.clr_steps.specs.declared.commands.Command.TheVariants as command
 use Rattle.clr_tree.specs.declared.rebases.Keep.{Keep}
@@ -68,7 +68,7 @@ after_refresh o w = with_workspaces o (modify_marks w.parent (mark_last w.name) 
 unfoldable pub after_merge : Office → Workspace → Office
 after_merge o w =
     let above = set_content o w.parent (merged_content o w) in
-    with_workspaces above (modify w.name rebase above.workspaces)
+    with_workspaces above (modify w.name with_base_merged above.workspaces)
 
 -- the base has the parent's row at the cell, and the current content the row that is kept
 unfoldable pub after_resolve : Office → Workspace → CellId → Keep → Office

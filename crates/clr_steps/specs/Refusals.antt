@@ -11,7 +11,7 @@ use Rattle.clr_change.specs.declared.edits.EditFault.{EditFault}
 use Rattle.clr_change.specs.Edits.{first_bad_edit}
 use Rattle.clr_rules.specs.declared.needs.Broken.{Broken}
 use Rattle.clr_rules.specs.declared.rules.Rule.{Rule}
-use Rattle.clr_rules.specs.Needs.{broken}
+use Rattle.clr_rules.specs.Needs.{broken_needs}
 use Rattle.clr_layers.specs.Marks.{find_mark, is_held, saved_count, Name}
 use Rattle.clr_layers.specs.Workspaces.{Workspace}
 use Rattle.clr_tree.specs.Operations.{own_changes}
@@ -82,7 +82,7 @@ is_in_conflict o w cell = is_in_conflict_with (content_of o w.parent) w cell
 
 -- the least broken need of a content
 unfoldable pub first_broken : List Rule → Content → Option Broken
-first_broken book content = slice_get (broken book content) 0
+first_broken book content = slice_get (broken_needs book content) 0
 
 -- where every rule is to hold, the least need that the content breaks
 abbrev pub broken_where : Bool → List Rule → Content → Option Reply

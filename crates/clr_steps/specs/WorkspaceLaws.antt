@@ -5,7 +5,7 @@ use Rattle.clr_rows.specs.declared.rows.Row.{Row}
 use Rattle.clr_rows.specs.Contents.{Content, change_at}
 use Rattle.clr_layers.specs.Workspaces.{Workspace}
 use Rattle.clr_tree.specs.declared.rebases.Keep.{Keep}
-use Rattle.clr_tree.specs.Operations.{rebase, roll_all, refresh, keep_row}
+use Rattle.clr_tree.specs.Operations.{with_base_merged, roll_all, refresh, keep_row}
 use Rattle.clr_steps.specs.Refusals.{conflict_with, is_in_conflict_with}
 
 -- what a workspace has at a cell that it changed
@@ -18,7 +18,7 @@ ConflictLaw = (above : Content) (w : Workspace) → (conflict_with above w ≡ N
 
 -- a merge, and rolling all back, leave no changes
 abbrev pub MergeLaw : Type 0
-MergeLaw = (w : Workspace) (cell : CellId) → own_change (rebase w) cell ≡ None
+MergeLaw = (w : Workspace) (cell : CellId) → own_change (with_base_merged w) cell ≡ None
 
 abbrev pub RollAllLaw : Type 0
 RollAllLaw = (w : Workspace) (cell : CellId) → own_change (roll_all w) cell ≡ None

@@ -7,8 +7,8 @@ use Rattle.clr_rows.specs.Contents.{Content, no_rows, over, rows_after, changes}
 use Rattle.clr_rows.proofs.ChangeLemmas.{taken_over-own}
 use Rattle.clr_differences.specs.Differences.{Differences, Rows, no_differences, seen_over, put_each}
 use Rattle.clr_differences.proofs.DifferenceLemmas.{seen_over-fresh}
-use Rattle.clr_layers.specs.Layers.{Layer, find_layer, whole_of, whole_mark, wholes, named}
-use Rattle.clr_layers.specs.Workspaces.{Workspace, root, workspace_at, find}
+use Rattle.clr_layers.specs.Layers.{Layer, find_layer, whole_of, whole_mark, wholes, content_by_name}
+use Rattle.clr_layers.specs.Workspaces.{Workspace, live_workspace, workspace_at, find}
 use Rattle.clr_layers.proofs.FindLemmas.{find_within}
 use Rattle.clr_layers.proofs.Meaning.{length-wholes, name-whole, find-wholes, named_found}
 use Rattle.clr_layers.proofs.Places.{wholes-push}
@@ -42,8 +42,8 @@ module _ (live : Content) (ls : List Layer) (above : Content) (l : Layer) (p : P
   part_pushed at filled found above_is =
       let ws = wholes live ls in
       let parent : l.parent ≡ p.parent = sym (parent-whole above l) ∙ ap (λ (w : Workspace). w.parent) is in
-      let seen : named ws l.parent ≡ Some (workspace_at ws at).current =
-      ap (named ws) parent ∙ ap (λ (vs : List Workspace). named vs p.parent) (sym (take-length ws)) ∙ named_found ws p.parent at (length ws) found (find_within ws p.parent at found) in
+      let seen : content_by_name ws l.parent ≡ Some (workspace_at ws at).current =
+      ap (content_by_name ws) parent ∙ ap (λ (vs : List Workspace). content_by_name vs p.parent) (sym (take-length ws)) ∙ named_found ws p.parent at (length ws) found (find_within ws p.parent at found) in
       wholes-push live ls l filled ∙ ap (λ o. ws ++ whole_of (unwrap_or o no_rows) l ∷ []) seen
       ∙ ap (λ (w : Workspace). ws ++ w ∷ []) (ap (λ (m : Content). whole_of m l) (sym above_is) ∙ is)
 
@@ -71,7 +71,7 @@ refused_at wrong at n fault.TooMany lt before e = below_found wrong at n fault.T
 refused_at wrong at n fault.BadMarks lt before e = below_found wrong at n fault.BadMarks lt before e
 
 -- both passes over the workspaces that layers mean
-module _ (live : Content) (ls : List Layer) (rest : List Workspace) (is : wholes live ls ≡ root live ∷ rest) where
+module _ (live : Content) (ls : List Layer) (rest : List Workspace) (is : wholes live ls ≡ live_workspace live ∷ rest) where
   long : length ls ≡ suc (length rest)
   long = sym (length-wholes live ls) ∙ ap length is
 

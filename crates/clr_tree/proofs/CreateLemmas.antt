@@ -11,18 +11,18 @@ use Rattle.clr_differences.specs.Differences.{Rows, no_differences, seen_over, p
 use Rattle.clr_differences.proofs.DifferenceLemmas.{seen_over-none}
 use Rattle.clr_layers.specs.Marks.{Name, Mark, without_saved, mark_last}
 use Rattle.clr_layers.specs.Workspaces.{Workspace, no_workspace, workspace_at, find, parent_of}
-use Rattle.clr_layers.specs.Layers.{Layer, layer_at, layer_changed, leaf, whole_of, named, wholes, is_stored_child}
+use Rattle.clr_layers.specs.Layers.{Layer, layer_at, layer_changed, leaf, whole_of, content_by_name, wholes, is_stored_child}
 use Rattle.clr_layers.specs.declared.stored_marks.StoredMark.TheVariants as stored
 use Rattle.clr_layers.proofs.Meaning.{name-wholes, named_found}
 use Rattle.clr_layers.proofs.Places.{wholes-push}
-use Rattle.clr_contents.specs.Holding.{Extends, ChildrenHold}
+use Rattle.clr_contents.specs.Pinning.{Extends, ChildrenPin}
 use Rattle.clr_tree.specs.Moves.{mark_moved}
 use Rattle.clr_tree.specs.Operations.{change_at, with_marks, with_mark_of, change_marks, new_leaf, own_changes, refresh, after_create, after_refresh}
 use Rattle.clr_contents.specs.Roots.{IsRooted}
 use Rattle.clr_tree.proofs.RootLemmas.{later_stays, rooted_set, rooted_more, parent_set}
 use Rattle.clr_contents.proofs.ReadLemmas.{base-wholes, current-wholes, within_wholes}
 use Rattle.clr_tree.proofs.OperationLemmas.{mark_pushed, mark_lasts, restarted}
-use Rattle.clr_contents.proofs.HoldLemmas.{extends_itself, extends_marks}
+use Rattle.clr_contents.proofs.PinLemmas.{extends_itself, extends_marks}
 
 -- a leaf at the end --------------------------------------------------------------------------------
 
@@ -47,7 +47,7 @@ module _ (live : Content) (ls : List Layer) (name : Name) (p : ℕ) (r : IsRoote
   leaf_made =
       let parent = (layer_at ls p).name in
       let found : find ws parent ≡ Some p = ap (find ws) (sym (name-wholes live ls p)) ∙ r.own p p_in in
-      let above : named ws parent ≡ Some (workspace_at ws p).current = ap (λ (vs : List Workspace). named vs parent) (sym (take-length ws)) ∙ named_found ws parent p (length ws) found p_in in
+      let above : content_by_name ws parent ≡ Some (workspace_at ws p).current = ap (λ (vs : List Workspace). content_by_name vs parent) (sym (take-length ws)) ∙ named_found ws parent p (length ws) found p_in in
       wholes-push live ls (leaf name parent) (omega (arith, lt))
       ∙ ap (λ o. ws ++ whole_of (unwrap_or o no_rows) (leaf name parent) ∷ []) above
       ∙ ap (λ w. ws ++ w ∷ []) (whole_leaf (workspace_at ws p).current name parent ∙ ap (λ n. new_leaf name n (workspace_at ws p).current) (sym (name-wholes live ls p)))
@@ -115,10 +115,10 @@ moved_extends ls (suc q) child lt = extends_marks ls (suc q) _ lt
 -- REFRESH: the children hold, and the mark was moved
 pub refreshed_is : (live : Content) (ls gs : List Layer) (at p : ℕ) (rows : Rows) (changed : Changes) → IsRooted (wholes live ls) → 0 < at → at < length ls → at < length gs → parent_of (wholes live ls) at ≡ Some p → p < at
     → wholes live gs ≡ change_marks (wholes live ls) p (mark_last (workspace_at (wholes live ls) at).name)
-    → ChildrenHold gs (layer_at gs at).name (cells_in rows) → ChildrenHold gs (layer_at gs at).name (finite.keys (layer_at ls at).base) → ChildrenHold gs (layer_at gs at).name (finite.keys (layer_at ls at).current)
+    → ChildrenPin gs (layer_at gs at).name (cells_in rows) → ChildrenPin gs (layer_at gs at).name (finite.keys (layer_at ls at).base) → ChildrenPin gs (layer_at gs at).name (finite.keys (layer_at ls at).current)
     → rows ≡ rows_after changed → changed ≡ own_changes (workspace_at (wholes live ls) at)
     → wholes live (layer_changed gs at (λ l. record l { base = no_differences; current = put_each no_differences rows; marks = filter is_stored_child l.marks })) ≡ after_refresh (wholes live ls) at p
-refreshed_is live ls gs at p rows changed r some lt lt_new parent up end held_rows held_base held_old after is =
+refreshed_is live ls gs at p rows changed r some lt lt_new parent up end held_rows pinned_base held_old after is =
     let ws = wholes live ls in
     let w = workspace_at ws at in
     let vs = wholes live gs in
@@ -131,6 +131,6 @@ refreshed_is live ls gs at p rows changed r some lt lt_new parent up end held_ro
     restarted live gs at rooted some lt_new p parent_new up rows (layer_at ls at).base (layer_at ls at).current
     (ap (λ (v : Workspace). v.base) same ∙ base-wholes live ls at some lt p parent up ∙ ap (λ m. seen_over m (layer_at ls at).base) (sym content))
     (ap (λ (v : Workspace). v.current) same ∙ current-wholes live ls at some lt ∙ ap (λ (v : Workspace). seen_over v.base (layer_at ls at).current) (sym same))
-    held_rows held_base held_old
+    held_rows pinned_base held_old
     ∙ (λ i. slice_set (end i) at (let v = same i in record v { base = content i; current = over (content i) ((after ∙ ap rows_after is) i); marks = without_saved v.marks }))
     ∙ ap (λ (v : Workspace). slice_set (change_marks ws p move) at (refresh (workspace_at ws p).current v)) (sym (below_stays ws at p move up))

@@ -12,7 +12,7 @@ use Rattle.std.proofs.lemmas.List.{length-append}
 use Rattle.clr_rows.specs.Contents.{Content}
 use Rattle.clr_rows.specs.Names.{is_good_name}
 use Rattle.clr_layers.specs.Marks.{Name, Mark, Saved, ChildMark, is_mark_of, mark_count, saved_names}
-use Rattle.clr_layers.specs.Workspaces.{Workspace, no_workspace, root, workspace_at, find, parent_of, is_child_named, child_count, depth_of}
+use Rattle.clr_layers.specs.Workspaces.{Workspace, no_workspace, live_workspace, workspace_at, find, parent_of, is_child_named, child_count, depth_of}
 use Rattle.clr_layers.proofs.FindLemmas.{find_more, find_named, find_within}
 use Rattle.clr_layers.proofs.Meaning.{not_from}
 use Rattle.clr_tree.specs.Parts.{workspace_of, list_of, name_fault, parent_fault, is_under, is_childs, is_marked_once, has_child_marks, has_good_marks, name_fault_at, marks_fault_at, first_below, first_name_fault, first_marks_fault}
@@ -120,7 +120,7 @@ pub record IsShaped (ws : List Workspace) : Type 0 where
   pub few : length ws ≤ MOST_WORKSPACES
   pub shallow : (i : ℕ) → i < length ws → depth_of ws i ≤ MOST_LEVELS
 
-pub shaped_root : (live : Content) → IsShaped (root live ∷ [])
+pub shaped_root : (live : Content) → IsShaped (live_workspace live ∷ [])
 shaped_root live = let s = root_sound live in record { rooted = s.rooted; few = s.few; shallow = s.shallow }
 
 pub shaped_more : (ws : List Workspace) (w : Workspace) → IsShaped ws → name_fault ws w ≡ None → IsShaped (ws ++ w ∷ [])
@@ -145,10 +145,10 @@ take_next [] i lt = absurd (omega arith)
 take_next (w ∷ ws) zero lt = refl
 take_next (w ∷ ws) (suc i) lt = ap (λ vs. w ∷ vs) (take_next ws i (omega arith))
 
-pub shaped_take : (live : Content) (rest : List Workspace) (i : ℕ) → i ≤ length rest → first_below (name_fault_at (root live ∷ rest)) i ≡ None → IsShaped (take (suc i) (root live ∷ rest))
+pub shaped_take : (live : Content) (rest : List Workspace) (i : ℕ) → i ≤ length rest → first_below (name_fault_at (live_workspace live ∷ rest)) i ≡ None → IsShaped (take (suc i) (live_workspace live ∷ rest))
 shaped_take live rest zero le clear = shaped_root live
 shaped_take live rest (suc i) le clear =
-    let ws = root live ∷ rest in
+    let ws = live_workspace live ∷ rest in
     let less = one_less (name_fault_at ws) i clear in
     subst IsShaped (sym (take_next ws (suc i) (omega arith))) (shaped_more (take (suc i) ws) (workspace_at ws (suc i)) (shaped_take live rest i (omega arith) less.0) less.1)
 
@@ -226,12 +226,12 @@ whole_take xs n e = take_all xs n (omega (arith, e))
 
 module _ (live : Content) (rest : List Workspace) (names : first_name_fault live rest ≡ None) where
   abbrev ws : List Workspace
-  ws = root live ∷ rest
+  ws = live_workspace live ∷ rest
 
-  shaped_spaces : IsShaped (root live ∷ rest)
+  shaped_spaces : IsShaped (live_workspace live ∷ rest)
   shaped_spaces = subst IsShaped (whole_take ws (suc (length rest)) refl) (shaped_take live rest (length rest) (omega arith) names)
 
-  pub sound_spaces : first_marks_fault live rest ≡ None → IsSound (root live ∷ rest)
+  pub sound_spaces : first_marks_fault live rest ≡ None → IsSound (live_workspace live ∷ rest)
   sound_spaces marks =
       let s = shaped_spaces in
       let good : (k : ℕ) → suc k < length ws → has_good_marks ws (workspace_at ws (suc k)) ≡ true = λ k lt. clear_marks ws k (none_at (marks_fault_at ws) (length rest) k marks (omega (arith, lt))) in

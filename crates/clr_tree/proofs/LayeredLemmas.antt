@@ -5,7 +5,7 @@ use Rattle.std.proofs.lemmas.List.{append-nil, length-append}
 use Rattle.clr_rows.specs.Contents.{Content}
 use Rattle.clr_rows.specs.Names.{live_name}
 use Rattle.clr_layers.specs.Layers.{Layer, above_in, grow, leaf, whole_of, wholes, workspaces_over}
-use Rattle.clr_layers.specs.Workspaces.{Workspace, root, workspace_at}
+use Rattle.clr_layers.specs.Workspaces.{Workspace, live_workspace, workspace_at}
 use Rattle.clr_layers.proofs.Meaning.{length-wholes, name-whole}
 use Rattle.clr_contents.specs.Roots.{IsRooted}
 use Rattle.clr_tree.specs.Parts.{place_fault, name_fault_at, first_below, first_name_fault, number_of, IsFault, IsRefused}
@@ -36,13 +36,13 @@ grow-none ws = refl
 
 -- some layers stand, none of them has a fault of its name or place, and with the others after them they mean all workspaces
 pub record ArePushed (live : Content) (rest : List Workspace) (ls others : List Layer) : Type 0 where
-  pub made : wholes live ls ++ grow (wholes live ls) others ≡ root live ∷ rest
+  pub made : wholes live ls ++ grow (wholes live ls) others ≡ live_workspace live ∷ rest
   pub filled : 0 < length ls
-  pub clear : first_below (name_fault_at (root live ∷ rest)) (length ls - 1) ≡ None
+  pub clear : first_below (name_fault_at (live_workspace live ∷ rest)) (length ls - 1) ≡ None
 
 pub pushed_first : (live : Content) (ls others : List Layer) → ls ≡ leaf live_name [] ∷ [] → ArePushed live (workspaces_over live others) ls others
 pushed_first live ls others is =
-    let wrong = name_fault_at (root live ∷ workspaces_over live others) in
+    let wrong = name_fault_at (live_workspace live ∷ workspaces_over live others) in
     record {
       made = ap (λ (ks : List Layer). wholes live ks ++ grow (wholes live ks) others) is ∙ ap (λ (vs : List Workspace). vs ++ grow vs others) (root_made live);
       filled = subst (λ (ks : List Layer). 0 < length ks) (sym is) (omega arith);
@@ -54,7 +54,7 @@ module _ (live : Content) (rest : List Workspace) (ls : List Layer) where
   ws = wholes live ls
 
   abbrev wrong : ℕ → Option PartFault
-  wrong = name_fault_at (root live ∷ rest)
+  wrong = name_fault_at (live_workspace live ∷ rest)
 
   module _ (others : List Layer) (p : ArePushed live rest ls others) where
     position : suc (length ls - 1) ≡ length ws
@@ -63,25 +63,25 @@ module _ (live : Content) (rest : List Workspace) (ls : List Layer) where
     room : length ws + length (grow ws others) ≡ suc (length rest)
     room = sym (length-append ws (grow ws others)) ∙ ap length p.made
 
-    so_far : take (suc (length ls - 1)) (root live ∷ rest) ≡ ws
+    so_far : take (suc (length ls - 1)) (live_workspace live ∷ rest) ≡ ws
     so_far = (λ i. take (position i) (sym p.made i)) ∙ take_front ws (grow ws others)
 
     pub pushed_rooted : IsRooted (wholes live ls)
     pushed_rooted = let all = room in let here = position in subst IsRooted so_far (shaped_take live rest (length ls - 1) (omega (arith, all, here)) p.clear).rooted
 
   -- all of them stand
-  pub pushed_all : ArePushed live rest ls [] → (wholes live ls ≡ root live ∷ rest) × (first_name_fault live rest ≡ None)
+  pub pushed_all : ArePushed live rest ls [] → (wholes live ls ≡ live_workspace live ∷ rest) × (first_name_fault live rest ≡ None)
   pushed_all p =
-      let made : ws ≡ root live ∷ rest = sym (append-nil ws) ∙ ap (λ (vs : List Workspace). ws ++ vs) (sym (grow-none ws)) ∙ p.made in
+      let made : ws ≡ live_workspace live ∷ rest = sym (append-nil ws) ∙ ap (λ (vs : List Workspace). ws ++ vs) (sym (grow-none ws)) ∙ p.made in
       let here = position [] p in
       let count : length ws ≡ suc (length rest) = ap length made in
       (made, below_all wrong (length ls - 1) (length rest) (omega (arith, here, count)) p.clear)
 
   module _ (l : Layer) (others : List Layer) (p : ArePushed live rest ls (l ∷ others)) where
-    next_made : ws ++ next_whole ws l ∷ grow (ws ++ next_whole ws l ∷ []) others ≡ root live ∷ rest
+    next_made : ws ++ next_whole ws l ∷ grow (ws ++ next_whole ws l ∷ []) others ≡ live_workspace live ∷ rest
     next_made = ap (λ (vs : List Workspace). ws ++ vs) (sym (grow-next ws l others)) ∙ p.made
 
-    next_is : workspace_at (root live ∷ rest) (suc (length ls - 1)) ≡ next_whole ws l
+    next_is : workspace_at (live_workspace live ∷ rest) (suc (length ls - 1)) ≡ next_whole ws l
     next_is = (λ i. workspace_at (sym next_made i) (position (l ∷ others) p i)) ∙ at_front ws (next_whole ws l) (grow (ws ++ next_whole ws l ∷ []) others)
 
     next_wrong : wrong (length ls - 1) ≡ place_fault ws l.name l.parent

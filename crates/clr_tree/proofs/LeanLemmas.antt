@@ -22,11 +22,11 @@ use Rattle.clr_layers.specs.Layers.{Layer, no_layer, leaf, layer_at, layer_chang
 use Rattle.clr_layers.specs.declared.stored_marks.StoredMark.{StoredMark}
 use Rattle.clr_layers.specs.declared.stored_marks.StoredMark.TheVariants as kinds
 use Rattle.clr_layers.proofs.Meaning.{length-wholes, name-wholes, parent-wholes}
-use Rattle.clr_contents.specs.Holding.{StaysOwnAt, StayOwnBut, StayOwnButChildren}
-use Rattle.clr_contents.proofs.HoldLemmas.{but_itself, but_marks, but_set, own_both}
+use Rattle.clr_contents.specs.Pinning.{StaysOwnAt, StayOwnBut, StayOwnButChildren}
+use Rattle.clr_contents.proofs.PinLemmas.{but_itself, but_marks, but_set, own_both}
 use Rattle.std.proofs.Math.ListN.{get_or, get_or-map, get_or-append}
 use Rattle.std.proofs.Math.Seq.{map-set_same, get_or-append_seam}
-use Rattle.clr_tree.specs.Operations.{own_changes, rebase, after_merge, after_write, with_kept, with_marks, roll_all, new_leaf, keep_row, refresh, roll_to, change_marks, after_refresh, after_resolve, after_roll_to}
+use Rattle.clr_tree.specs.Operations.{own_changes, with_base_merged, after_merge, after_write, with_kept, with_marks, roll_all, new_leaf, keep_row, refresh, roll_to, change_marks, after_refresh, after_resolve, after_roll_to}
 use Rattle.clr_tree.specs.declared.rebases.Keep.{Keep}
 use Rattle.clr_tree.specs.declared.rebases.Keep.TheVariants as keeps
 use Rattle.clr_tree.proofs.OperationLemmas.{kept_set, mark_removed, mark_pushed, all_rolled}
@@ -189,7 +189,7 @@ current_stays ws at w e p =
 pub rows_merged : (ws : List Workspace) (at p : ℕ) → p < length ws → RowsStay p (cells_in (rows_after (own_changes (workspace_at ws at)))) ws (after_merge ws at p)
 rows_merged ws at p lt i q apart =
     let vs = after_write ws p (own_changes (workspace_at ws at)) in
-    ap (λ (m : Content). row_at m q) (current_stays vs at (rebase (workspace_at vs at)) refl i) ∙ rows_put ws p (rows_after (own_changes (workspace_at ws at))) lt i q apart
+    ap (λ (m : Content). row_at m q) (current_stays vs at (with_base_merged (workspace_at vs at)) refl i) ∙ rows_put ws p (rows_after (own_changes (workspace_at ws at))) lt i q apart
 
 pub lean_merged : (live next : Content) (ls ms : List Layer) (at p : ℕ) → IsRooted (wholes live ls) → p < length ls → length ms ≡ length ls → wholes next ms ≡ after_merge (wholes live ls) at p
     → StayOwnButNear p (cells_in (rows_after (own_changes (workspace_at (wholes live ls) at)))) ls ms → IsLean live ls → IsLeanBut p (cells_in (rows_after (own_changes (workspace_at (wholes live ls) at)))) next ms

@@ -15,22 +15,22 @@ use Rattle.clr_tree.proofs.CountLemmas.{tally, count-tally}
 use Rattle.clr_tree.specs.declared.limits.TheConstants.{MOST_SAVEPOINTS}
 
 -- some of the names, in their order
-abbrev IsPart : List Name → List Name → Type 0
-IsPart [] ys = Unit {0}
-IsPart (x ∷ xs) [] = ⊥
-IsPart (x ∷ xs) (y ∷ ys) = ((x ≡ y) × IsPart xs ys) ⊎ IsPart (x ∷ xs) ys
+abbrev IsSubsequence : List Name → List Name → Type 0
+IsSubsequence [] ys = Unit {0}
+IsSubsequence (x ∷ xs) [] = ⊥
+IsSubsequence (x ∷ xs) (y ∷ ys) = ((x ≡ y) × IsSubsequence xs ys) ⊎ IsSubsequence (x ∷ xs) ys
 
-part_skip : (xs : List Name) (y : Name) (ys : List Name) → IsPart xs ys → IsPart xs (y ∷ ys)
+part_skip : (xs : List Name) (y : Name) (ys : List Name) → IsSubsequence xs ys → IsSubsequence xs (y ∷ ys)
 part_skip [] y ys part = tt
 part_skip (x ∷ xs) y ys part = inr part
 
-any_part : (p : Name → Bool) (xs ys : List Name) → IsPart xs ys → list_any p ys ≡ false → list_any p xs ≡ false
+any_part : (p : Name → Bool) (xs ys : List Name) → IsSubsequence xs ys → list_any p ys ≡ false → list_any p xs ≡ false
 any_part p [] ys part e = refl
 any_part p (x ∷ xs) [] part e = absurd part
 any_part p (x ∷ xs) (y ∷ ys) (inl kept) e = let parts = or_parts (p y) (list_any p ys) e in rw (kept.0, parts.0, any_part p xs ys kept.1 parts.1) refl
 any_part p (x ∷ xs) (y ∷ ys) (inr part) e = any_part p (x ∷ xs) ys part (or_parts (p y) (list_any p ys) e).1
 
-all_part : (p : Name → Bool) (xs ys : List Name) → IsPart xs ys → list_all p ys ≡ true → list_all p xs ≡ true
+all_part : (p : Name → Bool) (xs ys : List Name) → IsSubsequence xs ys → list_all p ys ≡ true → list_all p xs ≡ true
 all_part p [] ys part e = refl
 all_part p (x ∷ xs) [] part e = absurd part
 all_part p (x ∷ xs) (y ∷ ys) (inl kept) e = let parts = and_parts (p y) (list_all p ys) e in rw (kept.0, parts.0, all_part p xs ys kept.1 parts.1) refl
@@ -40,7 +40,7 @@ turned : (b : Bool) → not b ≡ true → b ≡ false
 turned true e = absurd (false≢true e)
 turned false e = refl
 
-distinct_part : (xs ys : List Name) → IsPart xs ys → are_distinct ys ≡ true → are_distinct xs ≡ true
+distinct_part : (xs ys : List Name) → IsSubsequence xs ys → are_distinct ys ≡ true → are_distinct xs ≡ true
 distinct_part [] ys part e = refl
 distinct_part (x ∷ xs) [] part e = absurd part
 distinct_part (x ∷ xs) (y ∷ ys) (inl kept) e =
@@ -48,7 +48,7 @@ distinct_part (x ∷ xs) (y ∷ ys) (inl kept) e =
     rw (kept.0, any_part (bytes_eq y) xs ys kept.1 (turned (list_any (bytes_eq y) ys) parts.0), distinct_part xs ys kept.1 parts.1) refl
 distinct_part (x ∷ xs) (y ∷ ys) (inr part) e = distinct_part (x ∷ xs) ys part (and_parts (not (list_any (bytes_eq y) ys)) (are_distinct ys) e).1
 
-length_part : (xs ys : List Name) → IsPart xs ys → length xs ≤ length ys
+length_part : (xs ys : List Name) → IsSubsequence xs ys → length xs ≤ length ys
 length_part [] ys part = omega arith
 length_part (x ∷ xs) [] part = absurd part
 length_part (x ∷ xs) (y ∷ ys) (inl kept) = let less = length_part xs ys kept.1 in omega (arith, less)
@@ -78,7 +78,7 @@ split_good names e = by (list_all is_good_name names) (are_distinct names) (nat_
 join_good : (names : List Name) → AreGood names → are_good_savepoints names ≡ true
 join_good names g = rw (g.good, g.distinct, at_most_is (length names) MOST_SAVEPOINTS g.few) refl
 
-good_part : (xs ys : List Name) → IsPart xs ys → are_good_savepoints ys ≡ true → are_good_savepoints xs ≡ true
+good_part : (xs ys : List Name) → IsSubsequence xs ys → are_good_savepoints ys ≡ true → are_good_savepoints xs ≡ true
 good_part xs ys part e =
     let g = split_good ys e in
     let less = length_part xs ys part in
@@ -86,23 +86,23 @@ good_part xs ys part e =
 
 -- marks that stay ------------------------------------------------------------------------------------
 
-part_remove : (ms : List Mark) (i : ℕ) → IsPart (saved_names (remove ms i)) (saved_names ms)
+part_remove : (ms : List Mark) (i : ℕ) → IsSubsequence (saved_names (remove ms i)) (saved_names ms)
 part_remove [] zero = tt
 part_remove [] (suc i) = tt
 part_remove (Saved name content ∷ ms) zero = part_skip (saved_names ms) name (saved_names ms) (part_all (saved_names ms))
   where
-    part_all : (xs : List Name) → IsPart xs xs
+    part_all : (xs : List Name) → IsSubsequence xs xs
     part_all [] = tt
     part_all (x ∷ xs) = inl (refl, part_all xs)
 part_remove (ChildMark name ∷ ms) zero = part_all (saved_names ms)
   where
-    part_all : (xs : List Name) → IsPart xs xs
+    part_all : (xs : List Name) → IsSubsequence xs xs
     part_all [] = tt
     part_all (x ∷ xs) = inl (refl, part_all xs)
 part_remove (Saved name content ∷ ms) (suc i) = inl (refl, part_remove ms i)
 part_remove (ChildMark name ∷ ms) (suc i) = part_remove ms i
 
-part_take : (ms : List Mark) (i : ℕ) → IsPart (saved_names (take i ms)) (saved_names ms)
+part_take : (ms : List Mark) (i : ℕ) → IsSubsequence (saved_names (take i ms)) (saved_names ms)
 part_take ms zero = tt
 part_take [] (suc i) = tt
 part_take (Saved name content ∷ ms) (suc i) = inl (refl, part_take ms i)

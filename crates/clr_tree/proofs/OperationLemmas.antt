@@ -15,21 +15,21 @@ use Rattle.clr_differences.specs.Differences.{Differences, Rows, no_differences,
 use Rattle.clr_differences.proofs.DifferenceLemmas.{seen_over-none, seen_over-fresh, seen_over-insert, seen_over-put_each, seen_over-remove, seen_outside, over_outside, hidden, set_outside}
 use Rattle.clr_layers.specs.Marks.{Name, Mark, Saved, ChildMark, mark_at, is_child_mark, is_saved, is_saved_as, is_mark_of, saved_content, saved_count, mark_count, find_mark, is_held, without_saved, without_mark_of, mark_last}
 use Rattle.clr_layers.specs.Workspaces.{Workspace, workspace_at, parent_of}
-use Rattle.clr_layers.specs.Layers.{Layer, layer_at, layer_changed, whole_of, whole_mark, wholes, top, above_at, IsUnder, stored_at, saved_differences, is_stored_child, is_stored_saved, is_stored_saved_as, is_stored_mark_of, stored_without_mark_of, EachMarkHolds}
+use Rattle.clr_layers.specs.Layers.{Layer, layer_at, layer_changed, whole_of, whole_mark, wholes, top, above_at, IsUnder, stored_at, saved_differences, is_stored_child, is_stored_saved, is_stored_saved_as, is_stored_mark_of, stored_without_mark_of, EachMarkPins}
 use Rattle.clr_layers.specs.declared.stored_marks.StoredMark.{StoredMark}
 use Rattle.clr_layers.specs.declared.stored_marks.StoredMark.TheVariants as stored
 use Rattle.clr_layers.proofs.Meaning.{wholes-live}
 use Rattle.clr_layers.proofs.Places.{moved_live}
-use Rattle.clr_contents.specs.Holding.{ChildrenHold}
+use Rattle.clr_contents.specs.Pinning.{ChildrenPin}
 use Rattle.clr_tree.specs.Moves.{put_into, row_moved}
-use Rattle.clr_tree.specs.Operations.{change_at, with_marks, with_current, with_kept, roll_all, own_changes, rebase, after_mark, after_unmark, after_roll_to, after_roll_all, set_kept, after_write, after_merge, after_resolve}
+use Rattle.clr_tree.specs.Operations.{change_at, with_marks, with_current, with_kept, roll_all, own_changes, with_base_merged, after_mark, after_unmark, after_roll_to, after_roll_all, set_kept, after_write, after_merge, after_resolve}
 use Rattle.clr_contents.specs.Roots.{IsRooted}
 use Rattle.clr_tree.specs.declared.rebases.Keep.TheVariants as keeps
 use Rattle.clr_tree.proofs.RootLemmas.{later_stays}
 use Rattle.clr_contents.proofs.ReadLemmas.{above_parent, current-wholes}
 use Rattle.clr_contents.proofs.MarkLemmas.{saved_there}
 use Rattle.clr_contents.proofs.MoveLemmas.{becomes, becomes_still}
-use Rattle.clr_contents.proofs.HoldLemmas.{rows_agree}
+use Rattle.clr_contents.proofs.PinLemmas.{rows_agree}
 
 -- marks ------------------------------------------------------------------------------------------
 
@@ -73,7 +73,7 @@ cut_marks : (ms : List Mark) (i : ℕ) → is_held ms i ≡ false → take (suc 
 cut_marks ms i e = sym (append-nil (take (suc i) ms)) ∙ ap (λ (ns : List Mark). take (suc i) ms ++ ns) (sym (no_children (drop (suc i) ms) e))
 
 -- savepoints with an entry don't see the base change there
-marks_hidden : (b : Content) (k : CellId) (v : Option Row) (ms : List StoredMark) → EachMarkHolds ms k → map (whole_mark (set_cell b k v)) ms ≡ map (whole_mark b) ms
+marks_hidden : (b : Content) (k : CellId) (v : Option Row) (ms : List StoredMark) → EachMarkPins ms k → map (whole_mark (set_cell b k v)) ms ≡ map (whole_mark b) ms
 marks_hidden b k v [] held = refl
 marks_hidden b k v (stored.Saved name d ∷ ms) held = λ i. Saved name (hidden b (set_cell b k v) d (set_outside d b k v held.0) i) ∷ marks_hidden b k v ms held.1 i
 marks_hidden b k v (stored.Child name ∷ ms) held = ap (λ ns. ChildMark name ∷ ns) (marks_hidden b k v ms held.1)
@@ -167,7 +167,7 @@ module _ (above : Content) (l : Layer) where
       let current = seen_over-fresh a rows ∙ ap (λ m. over m rows) base in
       λ i. record { name = l.name; parent = l.parent; base = base i; current = current i; marks = children_kept a b l.marks i; kept = l.kept }
 
-  whole_base_taken : (k : CellId) → HasEntry l.current k → EachMarkHolds l.marks k → whole_of above (record l { base = finite.remove l.base k }) ≡ (let w = whole_of above l in record w { base = set_cell w.base k (row_at above k) })
+  whole_base_taken : (k : CellId) → HasEntry l.current k → EachMarkPins l.marks k → whole_of above (record l { base = finite.remove l.base k }) ≡ (let w = whole_of above l in record w { base = set_cell w.base k (row_at above k) })
   unfolding whole_of
   whole_base_taken k entry held =
       let v = row_at above k in
@@ -176,7 +176,7 @@ module _ (above : Content) (l : Layer) where
       let marks = ap (λ (m : Content). map (whole_mark m) l.marks) base ∙ marks_hidden b k v l.marks held in
       λ i. record { name = l.name; parent = l.parent; base = base i; current = current i; marks = marks i; kept = l.kept }
 
-  whole_row_moved : (k : CellId) (v : Option Row) → HasEntry l.current k → EachMarkHolds l.marks k
+  whole_row_moved : (k : CellId) (v : Option Row) → HasEntry l.current k → EachMarkPins l.marks k
       → whole_of above (record l { base = finite.remove l.base k; current = finite.insert l.current k v }) ≡ (let w = whole_of above l in record w { base = set_cell w.base k (row_at above k); current = set_cell w.current k v })
   unfolding whole_of
   whole_row_moved k v entry held =
@@ -228,7 +228,7 @@ module _ (live : Content) (ls : List Layer) (at : ℕ) (r : IsRooted (wholes liv
 
   -- other differences over the base, and fewer marks
   pub rolled : (d old : Differences) (n : ℕ) → (workspace_at (wholes live ls) at).current ≡ seen_over (workspace_at (wholes live ls) at).base old
-      → ChildrenHold ls (layer_at ls at).name (finite.keys d) → ChildrenHold ls (layer_at ls at).name (finite.keys old)
+      → ChildrenPin ls (layer_at ls at).name (finite.keys d) → ChildrenPin ls (layer_at ls at).name (finite.keys old)
       → wholes live (layer_changed ls at (λ l. record l { current = d; marks = take n l.marks })) ≡ change_at (wholes live ls) at (λ w. record w { current = seen_over w.base d; marks = take n w.marks })
   rolled d old n was held_new held_old =
       becomes live ls at r some lt _ (λ w. record w { current = seen_over w.base d; marks = take n w.marks }) refl refl (whole_rolled_to above l_at d n)
@@ -236,7 +236,7 @@ module _ (live : Content) (ls : List Layer) (at : ℕ) (r : IsRooted (wholes liv
       seen_outside (layer_at ls k).base here.base d (held_new k k_some k_lt under) q none
       ∙ sym (ap (λ (c : Content). row_at c q) was ∙ seen_outside (layer_at ls k).base here.base old (held_old k k_some k_lt under) q none))
 
-  pub put : (rows : Rows) → ChildrenHold ls (layer_at ls at).name (cells_in rows) → wholes live (layer_changed ls at (λ l. record l { current = put_each l.current rows })) ≡ put_into (wholes live ls) at rows
+  pub put : (rows : Rows) → ChildrenPin ls (layer_at ls at).name (cells_in rows) → wholes live (layer_changed ls at (λ l. record l { current = put_each l.current rows })) ≡ put_into (wholes live ls) at rows
   put rows held = becomes live ls at r some lt _ (λ w. with_current (over w.current rows) w) refl refl (whole_put above l_at rows) (rows_agree ls l_at.name here.current rows held)
 
   -- the base takes rows over that make it the current content
@@ -254,24 +254,24 @@ module _ (live : Content) (ls : List Layer) (at : ℕ) (r : IsRooted (wholes liv
     -- a base that starts anew from the parent's content
     pub restarted : (rows : Rows) (base old : Differences)
         → (workspace_at (wholes live ls) at).base ≡ seen_over (workspace_at (wholes live ls) p).current base → (workspace_at (wholes live ls) at).current ≡ seen_over (workspace_at (wholes live ls) at).base old
-        → ChildrenHold ls (layer_at ls at).name (cells_in rows) → ChildrenHold ls (layer_at ls at).name (finite.keys base) → ChildrenHold ls (layer_at ls at).name (finite.keys old)
+        → ChildrenPin ls (layer_at ls at).name (cells_in rows) → ChildrenPin ls (layer_at ls at).name (finite.keys base) → ChildrenPin ls (layer_at ls at).name (finite.keys old)
         → wholes live (layer_changed ls at (λ l. record l { base = no_differences; current = put_each no_differences rows; marks = filter is_stored_child l.marks }))
         ≡ change_at (wholes live ls) at (λ w. let c = (workspace_at (wholes live ls) p).current in record w { base = c; current = over c rows; marks = without_saved w.marks })
-    restarted rows base old was_base was_current held_rows held_base held_old =
+    restarted rows base old was_base was_current held_rows pinned_base held_old =
         becomes live ls at r some lt _ (λ w. record w { base = over_it; current = over over_it rows; marks = without_saved w.marks }) refl refl
         (whole_restarted above l_at rows ∙ ap (λ (m : Content). let w = whole_of above l_at in record w { base = m; current = over m rows; marks = without_saved w.marks }) (above_parent live ls at p parent up))
         (λ k k_some k_lt under q none.
         over_outside (layer_at ls k).base rows over_it (held_rows k k_some k_lt under) q none
         ∙ sym (ap (λ (m : Content). row_at m q) was_current ∙ seen_outside (layer_at ls k).base here.base old (held_old k k_some k_lt under) q none
-        ∙ ap (λ (m : Content). row_at m q) was_base ∙ seen_outside (layer_at ls k).base over_it base (held_base k k_some k_lt under) q none))
+        ∙ ap (λ (m : Content). row_at m q) was_base ∙ seen_outside (layer_at ls k).base over_it base (pinned_base k k_some k_lt under) q none))
 
-    pub base_taken : (k : CellId) → HasEntry (layer_at ls at).current k → EachMarkHolds (layer_at ls at).marks k
+    pub base_taken : (k : CellId) → HasEntry (layer_at ls at).current k → EachMarkPins (layer_at ls at).marks k
         → wholes live (layer_changed ls at (λ l. record l { base = finite.remove l.base k })) ≡ after_resolve (wholes live ls) at p k keeps.Child
     base_taken k entry held =
         becomes_still live ls at r some lt _ (λ w. record w { base = set_cell w.base k (row_at over_it k) }) refl refl
         (whole_base_taken above l_at k entry held ∙ ap (λ (m : Content). let w = whole_of above l_at in record w { base = set_cell w.base k (row_at m k) }) (above_parent live ls at p parent up)) refl
 
-    pub row_set : (k : CellId) (v : Option Row) → ChildrenHold ls (layer_at ls at).name (k ∷ []) → HasEntry (layer_at ls at).current k → EachMarkHolds (layer_at ls at).marks k
+    pub row_set : (k : CellId) (v : Option Row) → ChildrenPin ls (layer_at ls at).name (k ∷ []) → HasEntry (layer_at ls at).current k → EachMarkPins (layer_at ls at).marks k
         → wholes live (layer_changed ls at (λ l. record l { base = finite.remove l.base k; current = finite.insert l.current k v })) ≡ row_moved (wholes live ls) at p k v
     row_set k v children entry held =
         becomes live ls at r some lt _ (λ w. record w { base = set_cell w.base k (row_at over_it k); current = set_cell w.current k v }) refl refl
@@ -283,7 +283,7 @@ entries_both : (d : Differences) (first others : List CellId) → HasEntries d (
 entries_both d [] others held = (tt, held)
 entries_both d (cell ∷ first) others held = let rest = entries_both d first others held.1 in ((held.0, rest.0), rest.1)
 
-pub children_both : (ls : List Layer) (name : Name) (first others : List CellId) → ChildrenHold ls name (first ++ others) → ChildrenHold ls name first × ChildrenHold ls name others
+pub children_both : (ls : List Layer) (name : Name) (first others : List CellId) → ChildrenPin ls name (first ++ others) → ChildrenPin ls name first × ChildrenPin ls name others
 children_both ls name first others held =
     (λ k some lt under. (entries_both (layer_at ls k).base first others (held k some lt under)).0, λ k some lt under. (entries_both (layer_at ls k).base first others (held k some lt under)).1)
 
@@ -292,7 +292,7 @@ top_put : (live : Content) (l : Layer) (rows : Rows) → top (over live rows) l 
 unfolding top
 top_put live l rows = refl
 
-pub live_put : (live : Content) (ls : List Layer) (rows : Rows) → 0 < length ls → ChildrenHold ls (layer_at ls 0).name (cells_in rows) → wholes (over live rows) ls ≡ put_into (wholes live ls) 0 rows
+pub live_put : (live : Content) (ls : List Layer) (rows : Rows) → 0 < length ls → ChildrenPin ls (layer_at ls 0).name (cells_in rows) → wholes (over live rows) ls ≡ put_into (wholes live ls) 0 rows
 live_put live ls rows lt held =
     moved_live live (over live rows) ls lt (rows_agree ls (layer_at ls 0).name live rows held)
     ∙ ap (slice_set (wholes live ls) 0) (top_put live (layer_at ls 0) rows ∙ ap (λ (w : Workspace). record w { current = over w.current rows }) (sym (wholes-live live ls lt)))
@@ -309,7 +309,7 @@ merged_is live ls ws at p changed r some lt up put is =
     based live ls at r some lt rows (subst (λ (v : Workspace). over v.base rows ≡ v.current) (sym same) own)
     ∙ (λ i. slice_set (put i) at (let v = same i in record v { base = over v.base rows; marks = without_saved v.marks }))
     ∙ ap (λ (c : Changes). slice_set (put_into ws p (rows_after c)) at (record w { base = over w.base (rows_after c); marks = without_saved w.marks })) is
-    ∙ ap (λ (v : Workspace). slice_set (after_write ws p (own_changes w)) at (rebase v)) (sym (later_stays ws at p _ up))
+    ∙ ap (λ (v : Workspace). slice_set (after_write ws p (own_changes w)) at (with_base_merged v)) (sym (later_stays ws at p _ up))
 
 -- ROLLTO: the savepoint's content, and no later savepoints
 pub rolled_is : (ws : List Workspace) (at i : ℕ) (ms : List StoredMark) → (workspace_at ws at).marks ≡ map (whole_mark (workspace_at ws at).base) ms → is_saved (mark_at (workspace_at ws at).marks i) ≡ true → is_held (workspace_at ws at).marks i ≡ false

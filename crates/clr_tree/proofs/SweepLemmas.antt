@@ -6,7 +6,7 @@ use Rattle.clr_rows.specs.Cells.{cell_cmp}
 use Rattle.clr_rows.specs.Contents.{Content}
 use Rattle.clr_rows.proofs.CellOrder.{cell_cmp_total, cell_cmp_exact}
 use Rattle.clr_rows.proofs.Entries.{from_no_entries}
-use Rattle.clr_differences.specs.Differences.{Differences, Rows, no_differences, swept}
+use Rattle.clr_differences.specs.Differences.{Differences, Rows, no_differences, without_neutral}
 use Rattle.clr_differences.proofs.SweepLemmas.{count-swept}
 use Rattle.clr_layers.specs.Marks.{Mark}
 use Rattle.clr_layers.specs.Workspaces.{Workspace, workspace_at}
@@ -39,7 +39,7 @@ module _ (live : Content) (ls : List Layer) (at : ℕ) (r : IsRooted (wholes liv
   abbrev above : Content
   above = content_of_parent ws at
 
-  pub count_swept : length (finite.keys (swept (content_of_parent (wholes live ls) at) (layer_at ls at).base)) + length (finite.keys (swept (workspace_at (wholes live ls) at).base (layer_at ls at).current)) ≡ needed (wholes live ls) at
+  pub count_swept : length (finite.keys (without_neutral (content_of_parent (wholes live ls) at) (layer_at ls at).base)) + length (finite.keys (without_neutral (workspace_at (wholes live ls) at).base (layer_at ls at).current)) ≡ needed (wholes live ls) at
   count_swept =
       let w = workspace_at ws at in
       let base = count-swept above stored.base ∙ ap (change_count above) (sym (base_is live ls at r some lt)) in

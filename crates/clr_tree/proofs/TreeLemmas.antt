@@ -11,7 +11,7 @@ use Rattle.clr_rows.specs.Contents.{Content}
 use Rattle.clr_rows.specs.Names.{is_good_name, live_name}
 use Rattle.clr_layers.specs.Marks.{Name, Mark, ChildMark, Saved, is_mark_of, is_saved, mark_at, mark_count, saved_names, without_saved, without_mark_of, mark_last}
 use Rattle.clr_layers.specs.Layers.{leaf as stored_leaf, wholes, top, grow}
-use Rattle.clr_layers.specs.Workspaces.{Workspace, no_workspace, root, workspace_at, find, parent_of, is_child_named, child_count, depth_within, depth_of}
+use Rattle.clr_layers.specs.Workspaces.{Workspace, no_workspace, live_workspace, workspace_at, find, parent_of, is_child_named, child_count, depth_within, depth_of}
 use Rattle.clr_layers.proofs.FindLemmas.{find_set, find_more, find_named}
 use Rattle.clr_layers.proofs.Meaning.{not_from}
 use Rattle.clr_tree.specs.Operations.{change_at, with_marks, with_mark_of, with_kept, with_current, change_marks, new_leaf, save, roll_to, own_changes, at_position, after_create, after_write, after_resolve, after_rebase, after_rebase_under, after_remove_under}
@@ -433,11 +433,11 @@ module _ (ws : List Workspace) (at p : ℕ) (s : IsSound ws) (some : 0 < at) (lt
 
 -- LIVE alone -----------------------------------------------------------------------------------------
 
-pub root_made : (live : Content) → wholes live (stored_leaf live_name [] ∷ []) ≡ root live ∷ []
+pub root_made : (live : Content) → wholes live (stored_leaf live_name [] ∷ []) ≡ live_workspace live ∷ []
 unfolding wholes top grow
 root_made live = refl
 
-pub root_sound : (live : Content) → IsSound (root live ∷ [])
+pub root_sound : (live : Content) → IsSound (live_workspace live ∷ [])
 unfolding is_good_name depth_within
 root_sound live = record {
   rooted = record {

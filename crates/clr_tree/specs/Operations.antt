@@ -49,8 +49,8 @@ abbrev pub refresh : Content → Workspace → Workspace
 refresh above w = record w { base = above; current = taken_over above (own_changes w); marks = without_saved w.marks }
 
 -- the base takes the own changes over; the savepoints go
-abbrev pub rebase : Workspace → Workspace
-rebase w = record w { base = taken_over w.base (own_changes w); marks = without_saved w.marks }
+abbrev pub with_base_merged : Workspace → Workspace
+with_base_merged w = record w { base = taken_over w.base (own_changes w); marks = without_saved w.marks }
 
 -- the base takes its parent's row over at a cell, and the current content keeps its own, or takes the parent's, or that of the old base
 abbrev pub keep_row : CellId → Keep → Content → Workspace → Workspace
@@ -120,7 +120,7 @@ after_refresh ws at above =
 
 -- the own changes are taken over by the parent's content
 abbrev pub after_merge : List Workspace → ℕ → ℕ → List Workspace
-after_merge ws at above = let w = workspace_at ws at in change_at (after_write ws above (own_changes w)) at rebase
+after_merge ws at above = let w = workspace_at ws at in change_at (after_write ws above (own_changes w)) at with_base_merged
 
 abbrev pub after_resolve : List Workspace → ℕ → ℕ → CellId → Keep → List Workspace
 after_resolve ws at above cell keep = change_at ws at (keep_row cell keep (workspace_at ws above).current)

@@ -9,7 +9,7 @@ use Rattle.clr_rows.specs.Names.{is_good_name}
 use Rattle.clr_layers.specs.Entries.{stored_layer}
 use Rattle.clr_layers.specs.Layers.{whole_mark, workspaces_over}
 use Rattle.clr_layers.specs.Marks.{Name, Mark, Saved, ChildMark, mark_count, saved_names}
-use Rattle.clr_layers.specs.Workspaces.{Workspace, workspace_at, find, root, depth_of}
+use Rattle.clr_layers.specs.Workspaces.{Workspace, workspace_at, find, live_workspace, depth_of}
 use Rattle.clr_layers.specs.declared.stored_marks.StoredMark.{StoredMark}
 use Rattle.clr_layers.specs.declared.stored_parts.StoredPart.{StoredPart}
 use Rattle.clr_tree.specs.declared.limits.TheConstants.{MOST_WORKSPACES, MOST_LEVELS}
@@ -34,7 +34,7 @@ workspace_of p = record { name = p.name; parent = p.parent; base = p.base; curre
 
 -- the workspaces that parts give, LIVE first
 abbrev pub list_of : Content → List Part → List Workspace
-list_of live parts = root live ∷ map workspace_of parts
+list_of live parts = live_workspace live ∷ map workspace_of parts
 
 -- the workspaces under LIVE that parts by their differences give
 abbrev pub spaces_of : Content → List StoredPart → List Workspace
@@ -99,10 +99,10 @@ marks_fault_at ws i = marks_fault ws (workspace_at ws (suc i))
 
 -- the first of some workspaces under LIVE whose name or place has a fault, and the first whose marks have one
 abbrev pub first_name_fault : Content → List Workspace → Option (ℕ × PartFault)
-first_name_fault live ws = first_below (name_fault_at (root live ∷ ws)) (length ws)
+first_name_fault live ws = first_below (name_fault_at (live_workspace live ∷ ws)) (length ws)
 
 abbrev pub first_marks_fault : Content → List Workspace → Option (ℕ × PartFault)
-first_marks_fault live ws = first_below (marks_fault_at (root live ∷ ws)) (length ws)
+first_marks_fault live ws = first_below (marks_fault_at (live_workspace live ∷ ws)) (length ws)
 
 -- the first of some workspaces that can't stand under LIVE, and why: names and places of all come before the marks of any
 abbrev pub workspaces_fault : Content → List Workspace → Option (ℕ × PartFault)

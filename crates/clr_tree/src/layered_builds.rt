@@ -1,7 +1,7 @@
 ghost use Rattle.std.specs.Prelude.{◌≡◌, ◌++◌, [], ◌∷◌, None, OnOk, IfOk, IfErr};
 ghost use Rattle.clr_layers.specs.Entries.{stored_layer};
 ghost use Rattle.clr_layers.specs.Layers.{above_in, whole_of, wholes};
-ghost use Rattle.clr_layers.specs.Workspaces.{root};
+ghost use Rattle.clr_layers.specs.Workspaces.{live_workspace};
 ghost use Rattle.clr_tree.specs.Parts.{spaces_of, place_fault, first_name_fault, IsFault, IsRefused};
 ghost use Rattle.clr_contents.specs.Roots.{IsRooted};
 
@@ -37,7 +37,7 @@ pub fn push_layers(
     live: &Sheet,
     parts: Vec<StoredPart>,
 ) -> Result<WorkspaceMap, (usize, PartFault)>
-    ensures made { IfOk result (λ made. wholes live.now made ≡ root live.now ∷ spaces_of live.now parts.items) }
+    ensures made { IfOk result (λ made. wholes live.now made ≡ live_workspace live.now ∷ spaces_of live.now parts.items) }
     ensures passed { OnOk result (first_name_fault live.now (spaces_of live.now parts.items) ≡ None) }
     ensures refused { IfErr result (IsRefused (first_name_fault live.now (spaces_of live.now parts.items))) }
 {

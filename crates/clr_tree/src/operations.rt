@@ -5,7 +5,7 @@ ghost use Rattle.std.specs.FinMap as finite;
 ghost use Rattle.clr_layers.specs.Layers.{layer_at, find_layer, leaf, saved_differences, stored_at, wholes};
 ghost use Rattle.clr_layers.specs.Marks.{is_saved, is_held, mark_at};
 ghost use Rattle.clr_layers.specs.Workspaces.{workspace_at, find, parent_of as position_of_parent, children_of};
-ghost use Rattle.clr_contents.specs.Holding.{Extends, ChildrenHold, StayOwnButChildren};
+ghost use Rattle.clr_contents.specs.Pinning.{Extends, ChildrenPin, StayOwnButChildren};
 ghost use Rattle.clr_tree.specs.Moves.{put_into, row_moved, mark_moved};
 ghost use Rattle.clr_tree.specs.Operations.{after_create, after_remove, after_mark, after_roll_to, after_roll_all};
 ghost use Rattle.clr_tree.specs.Operations.{after_refresh, after_merge, after_resolve, after_rebase};
@@ -19,7 +19,7 @@ ghost use Rattle.clr_tree.specs.declared.rebases.Rebase.TheVariants.{Merge, Refr
 use crate::rebases::{Keep, Rebase};
 use clr_change::{ChangeSet, copy_row};
 use clr_contents::{
-    base_row_of, cells_of, changes_of, hold_children, hold_current, hold_own, hold_saved,
+    base_row_of, cells_of, changes_of, pin_children, pin_current, pin_own, pin_saved,
     parent_of, row_of, saved_at, sweep_at,
 };
 use clr_differences::Differences;
@@ -43,15 +43,15 @@ fn put_rows(
     ensures err { OnErr result (wholes live.new map.new ≡ wholes live.old map.old) }
     ensures extends { Extends map.old map.new }
     ensures elsewhere { StayOwnButNear at (cells_in rows.items) map.old map.new }
-    ensures children { OnOk result (ChildrenHold map.new (layer_at map.old at).name (cells_in rows.items)) }
+    ensures children { OnOk result (ChildrenPin map.new (layer_at map.old at).name (cells_in rows.items)) }
 {
     let cells = cells_of(map.allocator(), rows.as_slice())?;
-    hold_children(live, map, at, cells.as_slice())?;
+    pin_children(live, map, at, cells.as_slice())?;
     if at == 0 {
         live.put_all(rows)?;
         return Ok(());
     }
-    hold_own(live, map, at, cells.as_slice())?;
+    pin_own(live, map, at, cells.as_slice())?;
     map.set_current(at, rows);
     Ok(())
 }
@@ -122,7 +122,7 @@ fn roll_back(
     ensures long { length map.new ≡ length map.old }
     ensures elsewhere { StayOwnButNear at cells.now map.old map.new }
 {
-    hold_children(live, map, at, cells)?;
+    pin_children(live, map, at, cells)?;
     map.roll_to(at, differences, mark);
     Ok(())
 }
@@ -255,7 +255,7 @@ fn refresh_base(
 {
     let alloc = map.allocator();
     let name = Words::new(String::from_str(alloc, map.name_at(at))?);
-    hold_children(live, map, at, cells)?;
+    pin_children(live, map, at, cells)?;
     let differences = Differences::of_rows(alloc, rows)?;
     move_mark(map, above, name)?;
     map.restart(at, differences);
@@ -310,13 +310,13 @@ fn keep_own(
     ensures long { length map.new ≡ length map.old }
     ensures elsewhere { StayOwnButNear at (cell ∷ []) map.old map.new }
 {
-    hold_current(live, map, at, cell)?;
-    hold_saved(live, map, at, cell)?;
+    pin_current(live, map, at, cell)?;
+    pin_saved(live, map, at, cell)?;
     map.take_base(at, cell);
     Ok(())
 }
 
-fn hold_cell(
+fn pin_cell(
     live: &Sheet,
     map: &mut WorkspaceMap,
     at: usize,
@@ -327,9 +327,9 @@ fn hold_cell(
     ensures seen { wholes live.now map.new ≡ wholes live.now map.old }
     ensures extends { Extends map.old map.new }
     ensures elsewhere { StayOwnButChildren (layer_at map.old at).name (cell ∷ []) map.old map.new }
-    ensures children { OnOk result (ChildrenHold map.new (layer_at map.old at).name (cell ∷ [])) }
+    ensures children { OnOk result (ChildrenPin map.new (layer_at map.old at).name (cell ∷ [])) }
 {
-    hold_children(live, map, at, &[cell])
+    pin_children(live, map, at, &[cell])
 }
 
 /// Makes the base of a workspace take its parent's row over at one cell, and its current content
@@ -352,9 +352,9 @@ fn move_row(
     ensures long { length map.new ≡ length map.old }
     ensures elsewhere { StayOwnButNear at (cell ∷ []) map.old map.new }
 {
-    hold_cell(live, map, at, cell)?;
-    hold_current(live, map, at, cell)?;
-    hold_saved(live, map, at, cell)?;
+    pin_cell(live, map, at, cell)?;
+    pin_current(live, map, at, cell)?;
+    pin_saved(live, map, at, cell)?;
     map.move_row(at, cell, row);
     Ok(())
 }

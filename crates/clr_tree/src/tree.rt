@@ -4,7 +4,7 @@ ghost use Rattle.clr_rows.specs.Contents.{row_at, changes};
 ghost use Rattle.clr_rows.specs.Names.{is_good_name};
 ghost use Rattle.clr_layers.specs.Layers.{wholes};
 ghost use Rattle.clr_layers.specs.Marks.{find_mark, is_held, is_saved, mark_at, saved_content, saved_count};
-ghost use Rattle.clr_layers.specs.Workspaces.{workspace_at, find, parent_of as position_of_parent, children_of, depth_of, root};
+ghost use Rattle.clr_layers.specs.Workspaces.{workspace_at, find, parent_of as position_of_parent, children_of, depth_of, live_workspace};
 ghost use Rattle.clr_tree.specs.Operations.{after_create, after_remove, after_write, after_mark, after_unmark};
 ghost use Rattle.clr_tree.specs.Operations.{after_roll_to, after_roll_all, after_rebase, own_changes, set_kept};
 ghost use Rattle.clr_tree.specs.Parts.{workspace_of, list_of, spaces_of, first_fault, workspaces_fault, IsRefused};
@@ -75,7 +75,7 @@ impl Tree {
 
     /// A tree of LIVE alone, with this content. It fails for want of memory alone.
     pub fn new(alloc: Global, live: Sheet) -> Result<Tree, AllocError>
-        ensures { IfOk result (λ tree. tree.list ≡ root live ∷ []) }
+        ensures { IfOk result (λ tree. tree.list ≡ live_workspace live ∷ []) }
     {
         let map = live_alone(alloc)?;
         Ok(Tree::of_map(live, map))
@@ -104,7 +104,7 @@ impl Tree {
         live: Sheet,
         parts: Vec<StoredPart>,
     ) -> Result<Tree, (usize, PartFault)>
-        ensures made { IfOk result (λ tree. tree.list ≡ root live ∷ spaces_of live parts.items) }
+        ensures made { IfOk result (λ tree. tree.list ≡ live_workspace live ∷ spaces_of live parts.items) }
         ensures passed { OnOk result (workspaces_fault live (spaces_of live parts.items) ≡ None) }
         ensures refused { IfErr result (IsRefused (workspaces_fault live (spaces_of live parts.items))) }
     {

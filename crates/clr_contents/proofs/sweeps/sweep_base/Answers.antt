@@ -1,5 +1,5 @@
 use Rattle.std.proofs.Common.{◌≡◌, List, refl, ap, sym, subst, ◌∙◌, slice_set}
-use Rattle.clr_differences.specs.Differences.{Differences, swept}
+use Rattle.clr_differences.specs.Differences.{Differences, without_neutral}
 use Rattle.clr_layers.specs.Layers.{Layer, layer_at, layer_changed, wholes}
 use Rattle.clr_layers.specs.Workspaces.{workspace_at}
 use Rattle.clr_contents.specs.Roots.{IsRooted}
@@ -25,7 +25,7 @@ returns c =
     let seen : c.new.result ≡ above =
     c.new.ensures ∙ ap (λ (ms : List Layer). (workspace_at (wholes live ms) c.parent_of-above.result).current) c.replace_base-base.ensures.new
     ∙ parent_stays live ls at c.requires.rooted c.requires.child c.requires.within c.new-none.result c.parent_of-above.result c.parent_of-above.ensures.found c.parent_of-above.ensures.earlier in
-    let is : c.sweep.new.self ≡ swept above stored.base = c.sweep.ensures ∙ (λ i. swept (seen i) (c.replace_base-base.ensures.before i)) in
+    let is : c.sweep.new.self ≡ without_neutral above stored.base = c.sweep.ensures ∙ (λ i. without_neutral (seen i) (c.replace_base-base.ensures.before i)) in
     c.replace_base-none.ensures.new
     ∙ ap (λ (ms : List Layer). layer_changed ms at (λ l. record l { base = c.sweep.new.self })) c.replace_base-base.ensures.new
     ∙ set_again ls at out c.requires.within (λ l. record l { base = c.sweep.new.self })

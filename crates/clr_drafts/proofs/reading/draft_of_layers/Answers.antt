@@ -1,5 +1,5 @@
 use Rattle.std.proofs.Common.{Ok, ◌∷◌, List, subst, sym, ap, ◌∙◌}
-use Rattle.clr_layers.specs.Workspaces.{Workspace, root}
+use Rattle.clr_layers.specs.Workspaces.{Workspace, live_workspace}
 use Rattle.clr_tree.specs.Parts.{spaces_of}
 use Rattle.clr_steps.specs.Offices.{office_of}
 use Rattle.clr_engine.specs.Drafts.{IsFitting}
@@ -13,10 +13,10 @@ of_tree-requires c = subst (λ (ws : List Workspace). IsFitting (office_of c.arg
 
 pub returns-in-Ok : goal.returns-in-Ok
 returns-in-Ok c =
-    let o = office_of c.args.schema c.args.book (root c.args.live ∷ spaces_of c.args.live c.args.parts.items) in
+    let o = office_of c.args.schema c.args.book (live_workspace c.args.live ∷ spaces_of c.args.live c.args.parts.items) in
     stands o c.in-Ok.ensures.passed ∙ ap (λ d. Ok d) (sym (c.of_tree.ensures ∙ ap (office_of c.args.schema c.args.book) c.in-Ok.ensures.made))
 
 pub returns-in-Err : goal.returns-in-Err
 returns-in-Err c =
-    let o = office_of c.args.schema c.args.book (root c.args.live ∷ spaces_of c.args.live c.args.parts.items) in
+    let o = office_of c.args.schema c.args.book (live_workspace c.args.live ∷ spaces_of c.args.live c.args.parts.items) in
     subst (λ f. Fails f (if_standing o)) (sym c.text_fault.ensures) (refused o c.in-Err.refused c.in-Err.ensures.refused)

@@ -7,7 +7,7 @@ use Rattle.clr_layers.specs.Workspaces.{workspace_at}
 use Rattle.clr_layers.proofs.Answered.{on_ok, on_err}
 use Rattle.clr_contents.specs.Roots.{IsRooted}
 use Rattle.clr_contents.specs.Lean.{IsLeanBut, StayOwnButNear}
-use Rattle.clr_tree.specs.Operations.{own_changes, rebase, after_write}
+use Rattle.clr_tree.specs.Operations.{own_changes, with_base_merged, after_write}
 use Rattle.clr_tree.proofs.LeanLemmas.{lean_merged, lean_still}
 use Rattle.clr_tree.proofs.ModelLemmas.{either}
 use Rattle.clr_tree.proofs.RootLemmas.{rooted_set}
@@ -27,7 +27,7 @@ sweep_at-requires-clause-rooted c =
     let ws = wholes c.args.live.now c.args.map.now in
     let p = c.args.above in
     let vs = after_write ws p (own_changes (workspace_at ws c.args.at)) in
-    either c.merge_rows-done.result _ _ _ (λ is. subst IsRooted (sym is) (rooted_set vs c.args.at (rebase (workspace_at vs c.args.at)) refl refl (rooted_set ws p _ refl refl c.requires.rooted))) (λ is. subst IsRooted (sym is) c.requires.rooted)
+    either c.merge_rows-done.result _ _ _ (λ is. subst IsRooted (sym is) (rooted_set vs c.args.at (with_base_merged (workspace_at vs c.args.at)) refl refl (rooted_set ws p _ refl refl c.requires.rooted))) (λ is. subst IsRooted (sym is) c.requires.rooted)
     c.merge_rows-done.ensures.ok c.merge_rows-done.ensures.err
 
 pub returns-clause-ok : goal.returns-clause-ok

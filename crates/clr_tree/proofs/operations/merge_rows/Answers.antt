@@ -4,7 +4,7 @@ use Rattle.clr_rows.specs.Contents.{over, rows_after}
 use Rattle.clr_differences.specs.Differences.{Rows, no_differences, put_each, cells_in, HasEntries}
 use Rattle.clr_layers.specs.Layers.{Layer, wholes, layer_at, layer_changed, is_stored_child, IsUnder}
 use Rattle.clr_layers.specs.Workspaces.{workspace_at}
-use Rattle.clr_contents.specs.Holding.{StayOwnBut}
+use Rattle.clr_contents.specs.Pinning.{StayOwnBut}
 use Rattle.clr_contents.specs.Roots.{IsRooted}
 use Rattle.clr_contents.proofs.ReadLemmas.{under_its_parent}
 use Rattle.clr_contents.specs.Lean.{StayOwnButNear}
@@ -15,8 +15,8 @@ use Rattle.clr_tree.proofs.OperationLemmas.{merged_is}
 use Rattle.clr_tree.proofs.RootLemmas.{rooted_set}
 use Rattle.clr_tree.proofs.operations.merge_rows.Goals as goal
 
-pub take_over-requires-clause-held : goal.take_over-requires-clause-held
-take_over-requires-clause-held c =
+pub take_over-requires-clause-pinned : goal.take_over-requires-clause-pinned
+take_over-requires-clause-pinned c =
     let ls = c.args.map.now in
     let hs = c.put_rows.new.map in
     let at = c.args.at in

@@ -1,7 +1,7 @@
 use Rattle.std.proofs.Common.{rules, ap, ◌∙◌}
 use Rattle.clr_rows.specs.Cells.{cell_cmp}
 use Rattle.clr_rows.proofs.Entries.{sorted_from_ordered}
-use Rattle.clr_differences.specs.Differences.{Differences, is_own, swept}
+use Rattle.clr_differences.specs.Differences.{Differences, is_own, without_neutral}
 use Rattle.clr_differences.proofs.SweepLemmas.{filtered_from_retain, swept_entries}
 use Rattle.clr_differences.proofs.differences.Differences.sweep.Goals as goal
 
@@ -13,4 +13,4 @@ returns g c =
     let below = g.V.RowView.content c.args.below.now in
     swept_entries below c.self.inside.rows.entries c.retain.new.self.entries c.self.invariant
     (filtered_from_retain _ (is_own below) _ (λ k v b w f call. search rules) _ _ c.retain.ensures.filtered)
-    ∙ ap (λ (d : Differences). swept below d) c.self.view_is
+    ∙ ap (λ (d : Differences). without_neutral below d) c.self.view_is

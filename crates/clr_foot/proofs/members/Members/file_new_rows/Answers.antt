@@ -1,5 +1,5 @@
 use Rattle.std.proofs.Common.{◌∙◌, ◌+◌, ap, sym, subst, take}
-use Rattle.clr_foot.specs.Versions.{lived}
+use Rattle.clr_foot.specs.Versions.{row_and_life}
 use Rattle.clr_foot.proofs.NewRows.{AreFiledAt, all_filed, none_filed, none_pending, not_filed, one_filed, one_pending, settled_too}
 use Rattle.clr_foot.proofs.Searches.{sets_of}
 use Rattle.clr_foot.proofs.members.Members.file_new_rows.Goals as goal
@@ -24,7 +24,7 @@ loop-cell-preserved c =
       | in-Some+in_ok-note w ↦ (
         ap (λ r. r.pending) w.index-is ∙ w.settle.ensures.pending,
         subst (λ r. AreFiledAt rules sets (take (k + 1) cells) r.settled) (sym w.index-is)
-            (one_filed rules sets cells k _ (lived w.in-Some.version) c.loop-cell.index.settled w.settle.new.self.settled w.note.new.self.pending c.loop-cell-test.true w.in-Some.ensures.1
+            (one_filed rules sets cells k _ (row_and_life w.in-Some.version) c.loop-cell.index.settled w.settle.new.self.settled w.note.new.self.pending c.loop-cell-test.true w.in-Some.ensures.1
             (one_pending c.loop-cell.index.pending w.note.new.self.pending _ _ c.loop-cell.invariant.0 w.in_ok-note.ensures.ok)
             (settled_too c.loop-cell.index.settled w.note.new.self.settled w.settle.new.self.settled w.note.new.self.pending w.in_ok-note.ensures.settled w.settle.ensures.settled) c.loop-cell.invariant.1),
       )

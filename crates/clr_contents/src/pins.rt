@@ -1,8 +1,8 @@
 ghost use Rattle.std.specs.Prelude.{◌≡◌, ◌<◌, ◌∷◌, [], length, OnOk};
 ghost use Rattle.std.specs.Str.{bytes_eq};
 ghost use Rattle.clr_differences.specs.Differences.{HasEntry, HasEntries};
-ghost use Rattle.clr_layers.specs.Layers.{layer_at, wholes, IsUnder, EachMarkHolds};
-ghost use Rattle.clr_contents.specs.Holding.{Extends, ChildrenHold, StayOwnBut, StayOwnButChildren};
+ghost use Rattle.clr_layers.specs.Layers.{layer_at, wholes, IsUnder, EachMarkPins};
+ghost use Rattle.clr_contents.specs.Pinning.{Extends, ChildrenPin, StayOwnBut, StayOwnButChildren};
 ghost use Rattle.clr_contents.specs.Roots.{IsRooted};
 
 use crate::reads::{base_row_of, parent_of, row_of};
@@ -15,7 +15,7 @@ use std::alloc::AllocError;
 // for want of memory alone.
 
 /// Makes an entry at a cell of a base that has none there.
-fn hold_base(
+fn pin_base(
     live: &Sheet,
     map: &mut WorkspaceMap,
     at: usize,
@@ -27,7 +27,7 @@ fn hold_base(
     ensures seen { wholes live.now map.new ≡ wholes live.now map.old }
     ensures extends { Extends map.old map.new }
     ensures elsewhere { StayOwnBut at (cell ∷ []) map.old map.new }
-    ensures held { OnOk result (HasEntry (layer_at map.new at).base cell) }
+    ensures pinned { OnOk result (HasEntry (layer_at map.new at).base cell) }
 {
     if map.base(at).get(cell).is_some() {
         return Ok(());
@@ -39,7 +39,7 @@ fn hold_base(
 }
 
 /// Makes an entry at each of some cells of a base that has none there.
-fn hold_bases(
+fn pin_bases(
     live: &Sheet,
     map: &mut WorkspaceMap,
     at: usize,
@@ -51,10 +51,10 @@ fn hold_bases(
     ensures seen { wholes live.now map.new ≡ wholes live.now map.old }
     ensures extends { Extends map.old map.new }
     ensures elsewhere { StayOwnBut at cells.now map.old map.new }
-    ensures held { OnOk result (HasEntries (layer_at map.new at).base cells.now) }
+    ensures pinned { OnOk result (HasEntries (layer_at map.new at).base cells.now) }
 {
     for cell in cells {
-        hold_base(live, map, at, *cell)?;
+        pin_base(live, map, at, *cell)?;
     }
     Ok(())
 }
@@ -69,7 +69,7 @@ fn is_child_of(map: &WorkspaceMap, child: usize, parent: usize) -> bool
 }
 
 /// Makes an entry at each of some cells of the base of a workspace that is a child of another.
-fn hold_child(
+fn pin_child(
     live: &Sheet,
     map: &mut WorkspaceMap,
     child: usize,
@@ -83,18 +83,18 @@ fn hold_child(
     ensures seen { wholes live.now map.new ≡ wholes live.now map.old }
     ensures extends { Extends map.old map.new }
     ensures elsewhere { StayOwnButChildren (layer_at map.old parent).name cells.now map.old map.new }
-    ensures held { OnOk result (IsUnder (layer_at map.old parent).name (layer_at map.new child) → HasEntries (layer_at map.new child).base cells.now) }
+    ensures pinned { OnOk result (IsUnder (layer_at map.old parent).name (layer_at map.new child) → HasEntries (layer_at map.new child).base cells.now) }
 {
     if !is_child_of(map, child, parent) {
         return Ok(());
     }
-    hold_bases(live, map, child, cells)?;
+    pin_bases(live, map, child, cells)?;
     Ok(())
 }
 
 /// Makes the entries that the bases of the children of a workspace need before its content
 /// changes at some cells.
-pub fn hold_children(
+pub fn pin_children(
     live: &Sheet,
     map: &mut WorkspaceMap,
     at: usize,
@@ -105,16 +105,16 @@ pub fn hold_children(
     ensures seen { wholes live.now map.new ≡ wholes live.now map.old }
     ensures extends { Extends map.old map.new }
     ensures elsewhere { StayOwnButChildren (layer_at map.old at).name cells.now map.old map.new }
-    ensures children { OnOk result (ChildrenHold map.new (layer_at map.old at).name cells.now) }
+    ensures children { OnOk result (ChildrenPin map.new (layer_at map.old at).name cells.now) }
 {
     for k in 1..map.len() {
-        hold_child(live, map, k, at, cells)?;
+        pin_child(live, map, k, at, cells)?;
     }
     Ok(())
 }
 
 /// Makes an entry at a cell of a current content that has none there.
-pub fn hold_current(
+pub fn pin_current(
     live: &Sheet,
     map: &mut WorkspaceMap,
     at: usize,
@@ -126,7 +126,7 @@ pub fn hold_current(
     ensures seen { wholes live.now map.new ≡ wholes live.now map.old }
     ensures extends { Extends map.old map.new }
     ensures elsewhere { StayOwnBut at (cell ∷ []) map.old map.new }
-    ensures held { OnOk result (HasEntry (layer_at map.new at).current cell) }
+    ensures pinned { OnOk result (HasEntry (layer_at map.new at).current cell) }
 {
     if map.current(at).get(cell).is_some() {
         return Ok(());
@@ -137,7 +137,7 @@ pub fn hold_current(
 }
 
 /// Makes an entry at each of some cells of a current content that has none there.
-pub fn hold_own(
+pub fn pin_own(
     live: &Sheet,
     map: &mut WorkspaceMap,
     at: usize,
@@ -149,16 +149,16 @@ pub fn hold_own(
     ensures seen { wholes live.now map.new ≡ wholes live.now map.old }
     ensures extends { Extends map.old map.new }
     ensures elsewhere { StayOwnBut at cells.now map.old map.new }
-    ensures held { OnOk result (HasEntries (layer_at map.new at).current cells.now) }
+    ensures pinned { OnOk result (HasEntries (layer_at map.new at).current cells.now) }
 {
     for cell in cells {
-        hold_current(live, map, at, *cell)?;
+        pin_current(live, map, at, *cell)?;
     }
     Ok(())
 }
 
 /// Makes an entry at a cell of each savepoint of a workspace that has none there.
-pub fn hold_saved(
+pub fn pin_saved(
     live: &Sheet,
     map: &mut WorkspaceMap,
     at: usize,
@@ -170,8 +170,8 @@ pub fn hold_saved(
     ensures seen { wholes live.now map.new ≡ wholes live.now map.old }
     ensures extends { Extends map.old map.new }
     ensures elsewhere { StayOwnBut at (cell ∷ []) map.old map.new }
-    ensures held { OnOk result (EachMarkHolds (layer_at map.new at).marks cell) }
+    ensures pinned { OnOk result (EachMarkPins (layer_at map.new at).marks cell) }
 {
     let row = copy_row(base_row_of(live, map, at, cell))?;
-    map.hold_saved(at, cell, row.as_ref())
+    map.pin_saved(at, cell, row.as_ref())
 }

@@ -3,14 +3,14 @@ use Rattle.std.proofs.lemmas.Bool.{cases_eq}
 use Rattle.clr_differences.specs.Differences.{HasEntries}
 use Rattle.clr_differences.proofs.DifferenceLemmas.{entries_keep}
 use Rattle.clr_layers.specs.Layers.{layer_at, IsUnder}
-use Rattle.clr_contents.proofs.HoldLemmas.{extends_both, but_children_both}
-use Rattle.clr_contents.proofs.holds.hold_children.Goals as goal
+use Rattle.clr_contents.proofs.PinLemmas.{extends_both, but_children_both}
+use Rattle.clr_contents.proofs.pins.pin_children.Goals as goal
 
 pub loop-k-preserved : goal.loop-k-preserved
 loop-k-preserved c =
     let old = c.loop-k.map in
-    let new = c.hold_child.new.map in
-    let e = c.in_ok-hold_child.ensures in
+    let new = c.pin_child.new.map in
+    let e = c.in_ok-pin_child.ensures in
     let i = c.loop-k.invariant in
     let k = c.loop-k.k in
     let name = (layer_at c.args.map.now c.args.at).name in
@@ -18,16 +18,16 @@ loop-k-preserved c =
       seen = e.seen ∙ i.seen;
       extends = extends_both _ old new i.extends e.extends;
       elsewhere = but_children_both c.args.at c.args.cells.now c.args.map.now old new i.extends i.elsewhere e.elsewhere;
-      held = λ j some lt under. ⊎_elim
+      pinned = λ j some lt under. ⊎_elim
           (λ (same : j ≡ k).
           subst (λ n. HasEntries (layer_at new n).base c.args.cells.now) (sym same)
-          (e.held (subst (λ n. IsUnder n (layer_at new k)) (sym (i.extends.each c.args.at).name) (subst (λ n. IsUnder name (layer_at new n)) same under))))
+          (e.pinned (subst (λ n. IsUnder n (layer_at new k)) (sym (i.extends.each c.args.at).name) (subst (λ n. IsUnder name (layer_at new n)) same under))))
           (λ (other : j ≢ k).
           let more = e.extends.each j in
-          entries_keep (layer_at old j).base (layer_at new j).base _ more.base (i.held j some (omega arith) (subst (λ n. IsUnder name (record (layer_at old j) { parent = n })) more.parent under)))
+          entries_keep (layer_at old j).base (layer_at new j).base _ more.base (i.pinned j some (omega arith) (subst (λ n. IsUnder name (record (layer_at old j) { parent = n })) more.parent under)))
           (cases_eq j k);
     }
 
-pub returns-in_err-hold_child-clause-elsewhere : goal.returns-in_err-hold_child-clause-elsewhere
-returns-in_err-hold_child-clause-elsewhere c =
-    but_children_both c.args.at c.args.cells.now c.args.map.now c.loop-k.map c.hold_child.new.map c.loop-k.invariant.extends c.loop-k.invariant.elsewhere c.hold_child.ensures.elsewhere
+pub returns-in_err-pin_child-clause-elsewhere : goal.returns-in_err-pin_child-clause-elsewhere
+returns-in_err-pin_child-clause-elsewhere c =
+    but_children_both c.args.at c.args.cells.now c.args.map.now c.loop-k.map c.pin_child.new.map c.loop-k.invariant.extends c.loop-k.invariant.elsewhere c.pin_child.ensures.elsewhere

@@ -37,8 +37,8 @@ StayOwnButChildren name cells ls ms = (k : ℕ) (q : CellId) → (IsUnder name (
     → StaysOwnAt q (layer_at ls k) (layer_at ms k)
 
 -- the base of each child of a workspace has entries at these cells
-abbrev pub ChildrenHold : List Layer → Name → List CellId → Type 0
-ChildrenHold ls name cells = (k : ℕ) → 0 < k → k < length ls → IsUnder name (layer_at ls k) → HasEntries (layer_at ls k).base cells
+abbrev pub ChildrenPin : List Layer → Name → List CellId → Type 0
+ChildrenPin ls name cells = (k : ℕ) → 0 < k → k < length ls → IsUnder name (layer_at ls k) → HasEntries (layer_at ls k).base cells
 
 -- the changes from a content to the rows at some cells, set one after another
 unfoldable pub set_each : Content → Changes → Rows → Changes

@@ -15,7 +15,7 @@ use Rattle.clr_layers.specs.Layers.{Layer, no_layer, layer_at, layer_changed, wh
 use Rattle.clr_layers.specs.declared.stored_marks.StoredMark.{StoredMark}
 use Rattle.clr_layers.proofs.Meaning.{wholes-at}
 use Rattle.clr_layers.proofs.Places.{LaterAgree}
-use Rattle.clr_contents.specs.Holding.{HasEntriesOf, Extends, ChildrenHold, StaysOwnAt, StayOwnBut, StayOwnButChildren}
+use Rattle.clr_contents.specs.Pinning.{HasEntriesOf, Extends, ChildrenPin, StaysOwnAt, StayOwnBut, StayOwnButChildren}
 use Rattle.clr_contents.specs.Roots.{IsRooted}
 use Rattle.clr_contents.proofs.ReadLemmas.{above_parent, base_of_whole, current_of_whole}
 use Rattle.clr_contents.proofs.MoveLemmas.{stays}
@@ -41,22 +41,22 @@ module _ (live : Content) (ls : List Layer) (at : ℕ) (r : IsRooted (wholes liv
   abbrev above : Content
   above = above_at live ls at
 
-  pub base_held : (p : ℕ) (k : CellId) (v : Option Row) → parent_of (wholes live ls) at ≡ Some p → p < at → finite.get stored.base k ≡ None → v ≡ row_at (workspace_at (wholes live ls) p).current k
+  pub base_pinned : (p : ℕ) (k : CellId) (v : Option Row) → parent_of (wholes live ls) at ≡ Some p → p < at → finite.get stored.base k ≡ None → v ≡ row_at (workspace_at (wholes live ls) p).current k
       → wholes live (layer_changed ls at (λ l. record l { base = finite.insert l.base k v })) ≡ wholes live ls
-  base_held p k v e up none is =
+  base_pinned p k v e up none is =
       stays live ls at r some lt _ refl refl (whole_base above stored (finite.insert stored.base k v)
       (neutral_new above stored.base k v none (is ∙ ap (λ (m : Content). row_at m k) (sym (above_parent live ls at p e up)))))
 
-  pub current_held : (k : CellId) (v : Option Row) → v ≡ row_at (workspace_at (wholes live ls) at).current k
+  pub current_pinned : (k : CellId) (v : Option Row) → v ≡ row_at (workspace_at (wholes live ls) at).current k
       → wholes live (layer_changed ls at (λ l. record l { current = finite.insert l.current k v })) ≡ wholes live ls
-  current_held k v is =
+  current_pinned k v is =
       let row : v ≡ row_at (seen_over (seen_over above stored.base) stored.current) k = is ∙ ap (λ (w : Workspace). row_at w.current k) (wholes-at live ls at some lt) ∙ ap (λ (m : Content). row_at m k) (current_of_whole above stored) in
       stays live ls at r some lt _ refl refl (whole_current above stored (finite.insert stored.current k v) (neutral (seen_over above stored.base) stored.current k v row))
 
-  pub saved_held : (k : CellId) (v : Option Row) (ms : List StoredMark) → v ≡ row_at (workspace_at (wholes live ls) at).base k
+  pub saved_pinned : (k : CellId) (v : Option Row) (ms : List StoredMark) → v ≡ row_at (workspace_at (wholes live ls) at).base k
       → ((b : Content) → row_at b k ≡ v → map (whole_mark b) ms ≡ map (whole_mark b) stored.marks)
       → wholes live (layer_changed ls at (λ l. record l { marks = ms })) ≡ wholes live ls
-  saved_held k v ms is same =
+  saved_pinned k v ms is same =
       let row : row_at (seen_over above stored.base) k ≡ v = sym (is ∙ ap (λ (w : Workspace). row_at w.base k) (wholes-at live ls at some lt) ∙ ap (λ (m : Content). row_at m k) (base_of_whole above stored)) in
       stays live ls at r some lt _ refl refl (whole_marks above stored ms (same (seen_over above stored.base) row))
 
@@ -148,19 +148,19 @@ apart_at [] i c q lt apart = absurd (omega arith)
 apart_at (cell ∷ cells) zero c q lt apart = ap (λ b. cond b true false) (not_among cell cells q apart).0
 apart_at (cell ∷ cells) (suc i) c q lt apart = apart_at cells i c q (omega arith) (not_among cell cells q apart).1
 
-pub held_base : (ls : List Layer) (at : ℕ) (k : CellId) (v : Option Row) → at < length ls → HasEntry (layer_at (layer_changed ls at (λ l. record l { base = finite.insert l.base k v })) at).base k
-held_base ls at k v lt = subst (λ (l : Layer). HasEntry l.base k) (sym (get_or-set_same ls at _ no_layer lt)) (entry_made (layer_at ls at).base k v)
+pub pinned_base : (ls : List Layer) (at : ℕ) (k : CellId) (v : Option Row) → at < length ls → HasEntry (layer_at (layer_changed ls at (λ l. record l { base = finite.insert l.base k v })) at).base k
+pinned_base ls at k v lt = subst (λ (l : Layer). HasEntry l.base k) (sym (get_or-set_same ls at _ no_layer lt)) (entry_made (layer_at ls at).base k v)
 
-pub held_current : (ls : List Layer) (at : ℕ) (k : CellId) (v : Option Row) → at < length ls → HasEntry (layer_at (layer_changed ls at (λ l. record l { current = finite.insert l.current k v })) at).current k
-held_current ls at k v lt = subst (λ (l : Layer). HasEntry l.current k) (sym (get_or-set_same ls at _ no_layer lt)) (entry_made (layer_at ls at).current k v)
+pub pinned_current : (ls : List Layer) (at : ℕ) (k : CellId) (v : Option Row) → at < length ls → HasEntry (layer_at (layer_changed ls at (λ l. record l { current = finite.insert l.current k v })) at).current k
+pinned_current ls at k v lt = subst (λ (l : Layer). HasEntry l.current k) (sym (get_or-set_same ls at _ no_layer lt)) (entry_made (layer_at ls at).current k v)
 
--- children still hold where layers have more entries
-pub children_keep : (ls ms : List Layer) (name : Name) (cells : List CellId) → Extends ls ms → ChildrenHold ls name cells → ChildrenHold ms name cells
-children_keep ls ms name cells e held k some lt under =
+-- children still have them pinned where layers have more entries
+pub children_keep : (ls ms : List Layer) (name : Name) (cells : List CellId) → Extends ls ms → ChildrenPin ls name cells → ChildrenPin ms name cells
+children_keep ls ms name cells e pinned k some lt under =
     let one = e.each k in
     entries_keep (layer_at ls k).base (layer_at ms k).base cells one.base
-    (held k some (subst (λ n. k < n) e.long lt) (subst (λ n. IsUnder name (record (layer_at ls k) { parent = n })) one.parent under))
+    (pinned k some (subst (λ n. k < n) e.long lt) (subst (λ n. IsUnder name (record (layer_at ls k) { parent = n })) one.parent under))
 
--- rows that the children hold
-pub rows_agree : (ls : List Layer) (name : Name) (m : Content) (rows : Rows) → ChildrenHold ls name (cells_in rows) → LaterAgree name m (over m rows) ls
-rows_agree ls name m rows held k some lt under q none = over_outside (layer_at ls k).base rows m (held k some lt under) q none
+-- rows that the children have pinned
+pub rows_agree : (ls : List Layer) (name : Name) (m : Content) (rows : Rows) → ChildrenPin ls name (cells_in rows) → LaterAgree name m (over m rows) ls
+rows_agree ls name m rows pinned k some lt under q none = over_outside (layer_at ls k).base rows m (pinned k some lt under) q none

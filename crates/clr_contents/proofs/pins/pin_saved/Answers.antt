@@ -1,0 +1,18 @@
+use Rattle.std.proofs.Common.{ap, sym, subst, ◌∙◌, ◌∷◌, []}
+use Rattle.clr_layers.specs.Layers.{wholes}
+use Rattle.clr_contents.specs.Pinning.{Extends, StayOwnBut}
+use Rattle.clr_contents.proofs.PinLemmas.{saved_pinned, extends_marks, but_marks}
+use Rattle.clr_contents.proofs.pins.pin_saved.Goals as goal
+
+pub returns-clause-seen : goal.returns-clause-seen
+returns-clause-seen c =
+    ap (wholes c.args.live.now) c.pin_saved.ensures.others
+    ∙ saved_pinned c.args.live.now c.args.map.now c.args.at c.requires.rooted c.requires.child c.requires.within c.args.cell c.in_ok-row.row _ (c.in_ok-row.ensures ∙ c.base_row_of.ensures)
+    (λ b is. c.pin_saved.ensures.seen b (is ∙ sym c.as_ref.ensures.value))
+
+pub returns-clause-extends : goal.returns-clause-extends
+returns-clause-extends c = subst (Extends c.args.map.now) (sym c.pin_saved.ensures.others) (extends_marks c.args.map.now c.args.at _ c.requires.within)
+
+pub returns-clause-elsewhere : goal.returns-clause-elsewhere
+returns-clause-elsewhere c =
+    subst (StayOwnBut c.args.at (c.args.cell ∷ []) c.args.map.now) (sym c.pin_saved.ensures.others) (but_marks c.args.map.now c.args.at (c.args.cell ∷ []) _ c.requires.within c.pin_saved.ensures.elsewhere)
