@@ -15,12 +15,7 @@ use std::alloc::AllocError;
 // for want of memory alone.
 
 /// Makes an entry at a cell of a base that has none there.
-fn pin_base(
-    live: &Sheet,
-    map: &mut WorkspaceMap,
-    at: usize,
-    cell: CellId,
-) -> Result<(), AllocError>
+fn pin_base(live: &Sheet, map: &mut WorkspaceMap, at: usize, cell: CellId) -> Result<(), AllocError>
     requires child { 0 < at }
     requires within { at < length map.old }
     requires rooted { IsRooted (wholes live.now map.old) }

@@ -11,7 +11,7 @@ ghost use Rattle.clr_layers.specs.Entries.{layer_of};
 ghost use Rattle.clr_layers.specs.declared.stored_marks.StoredMark.TheVariants.{Child};
 
 use crate::stored_marks::{
-    StoredMark, cut_after, drop_mark, drop_mark_of, drop_saved, pin_each, move_last, push_mark,
+    StoredMark, cut_after, drop_mark, drop_mark_of, drop_saved, move_last, pin_each, push_mark,
 };
 use clr_differences::Differences;
 use clr_rows::{CellId, Row, Words};

@@ -19,8 +19,8 @@ ghost use Rattle.clr_tree.specs.declared.rebases.Rebase.TheVariants.{Merge, Refr
 use crate::rebases::{Keep, Rebase};
 use clr_change::{ChangeSet, copy_row};
 use clr_contents::{
-    base_row_of, cells_of, changes_of, pin_children, pin_current, pin_own, pin_saved,
-    parent_of, row_of, saved_at, sweep_at,
+    base_row_of, cells_of, changes_of, parent_of, pin_children, pin_current, pin_own, pin_saved,
+    row_of, saved_at, sweep_at,
 };
 use clr_differences::Differences;
 use clr_layers::{Layer, StoredMark, WorkspaceMap};
@@ -316,12 +316,7 @@ fn keep_own(
     Ok(())
 }
 
-fn pin_cell(
-    live: &Sheet,
-    map: &mut WorkspaceMap,
-    at: usize,
-    cell: CellId,
-) -> Result<(), AllocError>
+fn pin_cell(live: &Sheet, map: &mut WorkspaceMap, at: usize, cell: CellId) -> Result<(), AllocError>
     requires within { at < length map.old }
     requires rooted { IsRooted (wholes live.now map.old) }
     ensures seen { wholes live.now map.new ≡ wholes live.now map.old }
