@@ -7,9 +7,9 @@ ghost use Rattle.clr_audit.specs.Searches.{Gains, IsOfRule};
 
 use crate::role_index::RoleIndex;
 use crate::searching::Search;
-use crate::sorting::sort_and_dedup;
 use clr_rows::{Held, Sheet};
 use clr_rules::{Broken, RuleBook};
+use clr_spots::put_in_order;
 use std::alloc::{AllocError, Global};
 
 /// All rows of a sheet, in the order of cells.
@@ -60,6 +60,6 @@ pub fn audit(alloc: Global, book: &RuleBook, sheet: &Sheet) -> Result<Vec<Broken
     for rule in 0..book.len() {
         add_of_rule(alloc, book, rule as u16, rows.as_slice(), &mut list)?;
     }
-    sort_and_dedup(&mut list);
+    put_in_order(&mut list);
     Ok(list)
 }

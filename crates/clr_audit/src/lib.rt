@@ -4,7 +4,6 @@
 mod audits;
 mod role_index;
 mod searching;
-mod sorting;
 mod spot_maps;
 
 pub use audits::audit;

@@ -12,11 +12,10 @@ ghost use Rattle.clr_audit.specs.Searches.{AreRowsFiled, GainsAll, IsAlone, IsOf
 ghost use Rattle.clr_audit.specs.Searches.{need_if_broken, need_beside, rows_of, serves_among, serves_at, servers_at_spots, servers_near};
 
 use crate::role_index::RoleIndex;
-use crate::sorting::sort_and_dedup;
 use crate::spot_maps::FiledPart;
 use clr_rows::Held;
 use clr_rules::{Ask, Broken, Roles, RuleBook};
-use clr_spots::{Spot, Spots, subject_spots};
+use clr_spots::{Spot, Spots, put_in_order, subject_spots};
 use std::alloc::{AllocError, Global};
 
 fn row_by_position<'a, 'b>(rows: &'a [Held<'b>], position: usize) -> Option<&'a Held<'b>>
@@ -218,7 +217,7 @@ impl<'a> Search<'a> {
         let spots = subject_spots(alloc, self.book, self.rule, part, first)?;
         let mut beside = Vec::new(alloc);
         self.index.add_partners(roles, &spots, &mut beside)?;
-        sort_and_dedup(&mut beside);
+        put_in_order(&mut beside);
         self.add_beside_all(first, part, &spots, beside.as_slice(), list)?;
         Ok(())
     }

@@ -11,13 +11,13 @@ ghost use Rattle.clr_foot.specs.Orders.{need_cmp};
 ghost use Rattle.clr_foot.specs.Scenes.{IsReady, model_of, setting_in};
 ghost use Rattle.clr_foot.specs.Versions.{IsAt, row_and_life};
 
-use crate::lists::put_in_order;
 use crate::members::add_cells;
 use crate::needs::{Life, Need, VersionId};
 use crate::scenes::Scene;
 use crate::versions::Version;
 use clr_grid::RowFinder;
 use clr_rows::{CellId, RowView};
+use clr_spots::put_in_order;
 use std::alloc::AllocError;
 
 /// Whether a life names a member.

@@ -11,7 +11,6 @@ mod independence;
 mod involvement;
 mod laws;
 mod limits;
-mod lists;
 mod members;
 mod needs;
 mod picks;

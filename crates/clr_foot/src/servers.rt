@@ -8,13 +8,13 @@ ghost use Rattle.clr_foot.specs.Scenes.{IsReady, model_of, setting_in, setting_o
 ghost use Rattle.clr_foot.specs.Touches.{IsServerOf};
 ghost use Rattle.clr_foot.specs.Versions.{IsAt, IsAtToo, IsNamedToo, row_of};
 
-use crate::lists::put_in_order;
 use crate::needs::{Need, VersionId};
 use crate::scenes::Scene;
 use crate::versions::Version;
 use clr_grid::RowFinder;
 use clr_rows::RowView;
 use clr_rules::Ask;
+use clr_spots::put_in_order;
 use std::alloc::AllocError;
 
 impl<V: RowView, F: RowFinder> Scene<'_, V, F> {

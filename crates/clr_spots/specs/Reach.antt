@@ -3,16 +3,17 @@ use Rattle.std.specs.Prelude.{◌≤◌, unsigned_abs}
 use Rattle.clr_rows.specs.declared.places.Place.{Place}
 use Rattle.clr_rows.specs.Places.{InRange}
 use Rattle.clr_segments.specs.declared.boxes.Bounds.{Bounds}
+use Rattle.clr_spots.specs.declared.limits.TheConstants.{GREATEST_REACH}
 
 -- both corners are in range
 pub record IsInRange (b : Bounds) : Type 0 where
   pub least : InRange b.least
   pub most : InRange b.most
 
--- both coordinates are within two million metres, in millimetres
+-- both coordinates are within the greatest reach
 pub record IsNearPlace (p : Place) : Type 0 where
-  pub in_x : unsigned_abs p.x ≤ 2000000000
-  pub in_y : unsigned_abs p.y ≤ 2000000000
+  pub in_x : unsigned_abs p.x ≤ GREATEST_REACH
+  pub in_y : unsigned_abs p.y ≤ GREATEST_REACH
 
 -- both corners are
 pub record IsNear (b : Bounds) : Type 0 where

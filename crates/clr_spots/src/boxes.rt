@@ -5,6 +5,7 @@ ghost use Rattle.clr_rules.specs.declared.limits.TheConstants.{LEAST_DISTANCE};
 ghost use Rattle.clr_segments.specs.declared.limits.TheConstants.{GREATEST_DISTANCE};
 ghost use Rattle.clr_segments.specs.Bounding.{box_between, grown_box};
 ghost use Rattle.clr_spots.specs.Reach.{IsNear, IsInRange};
+ghost use Rattle.clr_spots.specs.declared.limits.TheConstants.{GREATEST_REACH};
 
 use clr_rows::Place;
 use clr_segments::{Bounds, box_of};
@@ -25,7 +26,7 @@ fn subtract_distance(x: i64, d: i64) -> i64
     requires d_least { LEAST_DISTANCE ≤ℤ d }
     requires d_most { d ≤ℤ GREATEST_DISTANCE }
     ensures value { result ≡ x -ℤ d }
-    ensures bound { unsigned_abs result ≤ 2_000_000_000 }
+    ensures bound { unsigned_abs result ≤ GREATEST_REACH }
 {
     x - d
 }
@@ -36,7 +37,7 @@ fn add_distance(x: i64, d: i64) -> i64
     requires d_least { LEAST_DISTANCE ≤ℤ d }
     requires d_most { d ≤ℤ GREATEST_DISTANCE }
     ensures value { result ≡ x +ℤ d }
-    ensures bound { unsigned_abs result ≤ 2_000_000_000 }
+    ensures bound { unsigned_abs result ≤ GREATEST_REACH }
 {
     x + d
 }

@@ -9,6 +9,7 @@ mod order;
 mod parts;
 mod role_spots;
 mod rows;
+mod sorted_lists;
 mod spots;
 mod squares;
 mod values;
@@ -20,4 +21,5 @@ pub use laws::{
 pub use limits::{MOST_SPOTS, SQUARE_SIDE};
 pub use role_spots::{server_spots, subject_spots};
 pub use rows::spots_of;
+pub use sorted_lists::put_in_order;
 pub use spots::{Spot, SpotList, Spots};

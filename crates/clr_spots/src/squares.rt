@@ -1,6 +1,7 @@
 ghost use Rattle.std.specs.Prelude.{◌≡◌, ◌≤◌, ◌++◌, length, unsigned_abs, IfOk};
 ghost use Rattle.clr_spots.specs.Spots.{square_of, span, column_of_squares, grid_of_squares, squares_of, are_many, unless_many};
 ghost use Rattle.clr_spots.specs.Reach.{IsNear};
+ghost use Rattle.clr_spots.specs.declared.limits.TheConstants.{GREATEST_REACH, GREATEST_SQUARE, MOST_SQUARES_ACROSS};
 
 use crate::limits::{MOST_SPOTS, SQUARE_SIDE};
 use crate::spots::{Spot, SpotList, Spots};
@@ -9,19 +10,19 @@ use std::alloc::{AllocError, Global};
 
 /// The number of the square that a coordinate is in.
 pub(crate) fn square_of(x: i64) -> i64
-    requires { unsigned_abs x ≤ 2_000_000_000 }
+    requires { unsigned_abs x ≤ GREATEST_REACH }
     ensures value { result ≡ square_of x }
-    ensures bound { unsigned_abs result ≤ 20_000 }
+    ensures bound { unsigned_abs result ≤ GREATEST_SQUARE }
 {
     x.div_euclid(SQUARE_SIDE)
 }
 
 /// How many squares the coordinates from low to high are in.
 fn span(low: i64, high: i64) -> u64
-    requires low_near { unsigned_abs low ≤ 2_000_000_000 }
-    requires high_near { unsigned_abs high ≤ 2_000_000_000 }
+    requires low_near { unsigned_abs low ≤ GREATEST_REACH }
+    requires high_near { unsigned_abs high ≤ GREATEST_REACH }
     ensures value { result ≡ span low high }
-    ensures bound { result ≤ 40_001 }
+    ensures bound { result ≤ MOST_SQUARES_ACROSS }
 {
     (square_of(high) - square_of(low)).unsigned_abs() + 1
 }
@@ -36,8 +37,8 @@ pub(crate) fn count_squares(bounds: Bounds) -> u64
 
 /// Adds n squares upwards from (i, j).
 fn add_column(list: &mut Vec<Spot>, i: i64, j: i64, n: u64) -> Result<(), AllocError>
-    requires j_in { unsigned_abs j ≤ 20_000 }
-    requires few { n ≤ 40_001 }
+    requires j_in { unsigned_abs j ≤ GREATEST_SQUARE }
+    requires few { n ≤ MOST_SQUARES_ACROSS }
     ensures { IfOk result (λ _. list.new.items ≡ list.old.items ++ column_of_squares i j n) }
 {
     for k in 0..n {
@@ -48,10 +49,10 @@ fn add_column(list: &mut Vec<Spot>, i: i64, j: i64, n: u64) -> Result<(), AllocE
 
 /// m columns of n squares, from (i, j) to the right.
 fn list_grid(alloc: Global, i: i64, j: i64, m: u64, n: u64) -> Result<Vec<Spot>, AllocError>
-    requires i_in { unsigned_abs i ≤ 20_000 }
-    requires j_in { unsigned_abs j ≤ 20_000 }
-    requires few { m ≤ 40_001 }
-    requires low { n ≤ 40_001 }
+    requires i_in { unsigned_abs i ≤ GREATEST_SQUARE }
+    requires j_in { unsigned_abs j ≤ GREATEST_SQUARE }
+    requires few { m ≤ MOST_SQUARES_ACROSS }
+    requires low { n ≤ MOST_SQUARES_ACROSS }
     ensures { IfOk result (λ list. list.items ≡ grid_of_squares i j m n) }
 {
     let mut list = Vec::new(alloc);

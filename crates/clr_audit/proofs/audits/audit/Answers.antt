@@ -25,14 +25,14 @@ loop-rule-preserved c =
       | inr l ↦ inr (omega (arith, w, l))
     ])
 
-pub sort_and_dedup-requires : goal.sort_and_dedup-requires
+pub put_in_order-requires : goal.put_in_order-requires
 unfolding broken_cmp
-sort_and_dedup-requires c = broken_exact
+put_in_order-requires c = broken_exact
 
 listed : goal.returns-clause-list
 unfolding broken_cmp
-listed c = audit_is c.args.book.now c.args.sheet.now (map held_of c.in_ok-rows.rows.items) c.loop-rule.list.items c.sort_and_dedup.new.list.items c.loop-rule.rule c.in_ok-rows.ensures
-    (omega (arith, c.loop-rule-test.false, c.loop-rule.auto.rule-end, c.len-rule-end.ensures.value)) c.loop-rule.invariant c.sort_and_dedup.ensures.rising c.sort_and_dedup.ensures.same
+listed c = audit_is c.args.book.now c.args.sheet.now (map held_of c.in_ok-rows.rows.items) c.loop-rule.list.items c.put_in_order.new.list.items c.loop-rule.rule c.in_ok-rows.ensures
+    (omega (arith, c.loop-rule-test.false, c.loop-rule.auto.rule-end, c.len-rule-end.ensures.value)) c.loop-rule.invariant c.put_in_order.ensures.ascending c.put_in_order.ensures.same
 
 pub returns-clause-list : goal.returns-clause-list
 returns-clause-list c = listed c

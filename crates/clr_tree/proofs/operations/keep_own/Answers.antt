@@ -25,7 +25,7 @@ returns-clause-ok c =
     let rooted = subst IsRooted (sym seen) c.requires.rooted in
     let parent = subst (λ (vs : List Workspace). parent_of vs at ≡ Some c.args.above) (sym seen) c.requires.parent in
     ap (wholes live) c.take_base.ensures
-    ∙ base_taken live hs at rooted c.requires.child (omega (arith, c.requires.within, both.long)) c.args.above parent c.requires.earlier c.args.cell ((f.extends.each at).current c.args.cell e.held) f.held
+    ∙ base_taken live hs at rooted c.requires.child (omega (arith, c.requires.within, both.long)) c.args.above parent c.requires.earlier c.args.cell ((f.extends.each at).current c.args.cell e.pinned) f.pinned
     ∙ ap (λ (vs : List Workspace). after_resolve vs at c.args.above c.args.cell Child) seen
 
 pub returns-in_err-pin_current-clause-long : goal.returns-in_err-pin_current-clause-long

@@ -31,7 +31,7 @@ returns-clause-ok c =
     let parent = subst (λ (vs : List Workspace). parent_of vs at ≡ Some c.args.above) (sym seen) c.requires.parent in
     let children = subst (λ n. ChildrenPin hs n (c.args.cell ∷ [])) (sym (all.each at).name) (children_keep bs hs (layer_at ls at).name (c.args.cell ∷ []) later d.children) in
     ap (wholes live) c.move_row.ensures
-    ∙ row_set live hs at rooted c.requires.child (omega (arith, c.requires.within, all.long)) c.args.above parent c.requires.earlier c.args.cell c.args.row children ((f.extends.each at).current c.args.cell e.held) f.held
+    ∙ row_set live hs at rooted c.requires.child (omega (arith, c.requires.within, all.long)) c.args.above parent c.requires.earlier c.args.cell c.args.row children ((f.extends.each at).current c.args.cell e.pinned) f.pinned
     ∙ ap (λ (vs : List Workspace). row_moved vs at c.args.above c.args.cell c.args.row) seen
 
 pub returns-in_err-pin_cell-clause-long : goal.returns-in_err-pin_cell-clause-long

@@ -21,6 +21,6 @@ returns c =
     let near = partners search.index.now c.args.roles spots.list spots.wide in
     let found : c.add_partners.new.list.items ≡ near = c.in_ok-add_partners.ensures ∙ ap (λ (xs : List FiledPart). xs ++ near) c.new-beside.ensures.items in
     let all = λ (e : FiledPart) (h : Among e near). subst (Among e) (sym c.as_slice.ensures.value)
-    (among e c.sort_and_dedup.new.list.items ((c.sort_and_dedup.ensures.same e).1 (contained e c.add_partners.new.list.items (subst (Among e) (sym found) h)))) in
+    (among e c.put_in_order.new.list.items ((c.put_in_order.ensures.same e).1 (contained e c.add_partners.new.list.items (subst (Among e) (sym found) h)))) in
     part_gains search spots c.args.part (held_of c.args.first) c.args.roles c.as_slice.result.now c.args.list.now.items c.add_beside_all.new.list.items
     (record { fit = c.requires.fit; filed = c.requires.filed; list = c.in_ok-spots.ensures.list; wide = c.in_ok-spots.ensures.wide }) c.requires.one c.requires.roles all c.in_ok-add_beside_all.ensures
