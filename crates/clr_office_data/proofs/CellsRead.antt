@@ -31,7 +31,8 @@ use Rattle.clr_office_text.specs.Patches.{named_cell_of, put_fault, with_cell, w
 use Rattle.clr_office_data.specs.CellData.{coordinates_of, named_cell, named_cell_data, named_cells, named_row, named_row_data, named_rows, row_data, row_or_gone_data}
 use Rattle.clr_office_data.specs.Values.{number_data, value_data}
 use Rattle.clr_office_data.proofs.ListsRead.{all_mapped, all_pass, each_read, key_within, number_read, value_read}
-use Rattle.clr_office_data.proofs.PutAgain.{AreFree, all_entries, all_put, all_put_again, first, free_after, free_at_first, second}
+use Rattle.clr_rows.proofs.Tests.{first, second}
+use Rattle.clr_office_data.proofs.PutAgain.{AreFree, all_entries, all_put, all_put_again, free_after, free_at_first}
 
 -- rows ---------------------------------------------------------------------------------------
 
