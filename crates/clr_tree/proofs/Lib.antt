@@ -9,6 +9,7 @@ pub mod ModelLemmas
 pub mod NameLemmas
 pub mod OperationLemmas
 pub mod PartLemmas
+pub mod RebaseLemmas
 pub mod RootLemmas
 pub mod SoundLemmas
 pub mod SweepLemmas
