@@ -15,7 +15,7 @@ use Rattle.clr_tree.proofs.TreeLemmas.{sound_rebased}
 module _ {X E : Type 0} (r : Result X E) (live next : Content) (ls ms : List Layer) (t : Tree) (is : tree_of live ls ≡ t) (at : ℕ) (how : Rebase) where
   -- it is sound
   pub rebased_sound : at < length t.list → 0 < at → IsSound (wholes live ls)
-    → OnOk r (wholes next ms ≡ after_rebase (wholes live ls) at how) → OnErr r (wholes next ms ≡ wholes live ls) → IsSound (wholes next ms)
+      → OnOk r (wholes next ms ≡ after_rebase (wholes live ls) at how) → OnErr r (wholes next ms ≡ wholes live ls) → IsSound (wholes next ms)
   rebased_sound within some s ok err =
       let lt = within_wholes live ls at (within_tree live ls t at is within) in
       either r _ _ _ (λ done. subst IsSound (sym done) (sound_rebased (wholes live ls) at s lt some how)) (λ stays. subst IsSound (sym stays) s) ok err
