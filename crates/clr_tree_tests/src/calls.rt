@@ -1,12 +1,12 @@
 ghost use Rattle.std.specs.Prelude.{◌<◌, length};
 
-use crate::deeds::find_savepoint;
-use crate::layered::layered_parts;
-use crate::scripts::{act_line, parts_of};
-use crate::texts::{changes_text, part_text, rows_text, tree_text};
 use clr_change::ChangeSet;
 use clr_rows::Sheet;
 use clr_tree::{Part, PartFault, Tree};
+use clr_tree_trials::{
+    act_line, changes_text, find_savepoint, layered_parts, part_text, parts_of, rows_text,
+    tree_text,
+};
 use std::alloc::{AllocError, Global};
 
 /// What is answered.

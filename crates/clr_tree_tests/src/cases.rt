@@ -1,6 +1,15 @@
 //! Cases as texts: a line for each deed, a line `--`, a line for each workspace that isn't as before, how
 //! many entries are stored of each workspace under LIVE, and a line `==`.
 
+/// The first of some cases, in two parts, and the others.
+pub(crate) fn split_case(
+    cases: &'static str,
+) -> Option<(&'static str, &'static str, &'static str)> {
+    let (case, others) = cases.split_once("\n==\n")?;
+    let (first, second) = case.split_once("\n--\n")?;
+    Some((first, second, others))
+}
+
 /// Three levels with savepoints: C under B under A, each with rows of its own. A lags behind LIVE,
 /// and B behind A.
 pub(crate) const THREE_LEVELS: &str = "A create LIVE

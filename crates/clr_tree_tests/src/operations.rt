@@ -1,9 +1,8 @@
 use crate::cases::{
     BASE_KEPT, CHILD_KEPT, FLAGS, MARKS, MERGES, PARENT_KEPT, REFRESHES, REMOVALS, ROLLS,
-    THREE_LEVELS, THREE_LEVELS_TEXT, WRITES,
+    THREE_LEVELS, THREE_LEVELS_TEXT, WRITES, split_case,
 };
-use crate::scripts::{act_lines, split_case, tree_after};
-use crate::texts::{counts_text, news_text};
+use clr_tree_trials::{act_lines, counts_text, news_text, tree_after};
 use std::alloc::{AllocError, Global};
 use std::process::Abort;
 use std::test::Fail;

@@ -1,11 +1,10 @@
 //! Faults of parts. A line of a text is a part: its name, its parent and its marks, of which a
 //! savepoint follows `=`, and the mark of a child `+`.
 
-use crate::fixtures::{numbered_sheet, words};
-use crate::scripts::{parts_of, split_case};
-use crate::texts::tree_text;
+use crate::cases::split_case;
 use clr_rows::Sheet;
 use clr_tree::{MarkPart, Part, Tree};
+use clr_tree_trials::{numbered_sheet, parts_of, tree_text, words};
 use std::alloc::{AllocError, Global};
 use std::process::Abort;
 use std::test::Fail;

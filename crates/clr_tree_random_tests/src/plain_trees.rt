@@ -1,7 +1,7 @@
-use crate::deeds::Deed;
 use crate::plain_spaces::{
     Content, KEYS, Mark, Space, content_text, count_differences, place_of, put_over,
 };
+use clr_tree_trials::Deed;
 use std::alloc::{AllocError, Global};
 
 /// The most levels under LIVE.

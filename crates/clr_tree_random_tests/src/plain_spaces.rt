@@ -1,7 +1,7 @@
 //! Workspaces with whole contents, in which each operation is as it is defined.
 
-use crate::deeds::Deed;
 use clr_tree::Keep;
+use clr_tree_trials::Deed;
 use std::alloc::{AllocError, Global};
 
 /// Keys are below this number.

@@ -10,7 +10,7 @@ use std::alloc::{AllocError, Global};
 
 /// What is done to a workspace of a tree. What can't be done does nothing.
 #[derive(Clone, Copy, Debug)]
-pub(crate) enum Deed {
+pub enum Deed {
     /// Makes it under another.
     Create(&'static str),
     Remove,
@@ -75,7 +75,7 @@ fn mark(tree: &mut Tree, at: usize, savepoint: &str) -> Result<(), AllocError>
 }
 
 /// The position of a savepoint among the marks of a workspace.
-pub(crate) fn find_savepoint(tree: &Tree, at: usize, savepoint: &str) -> Option<usize>
+pub fn find_savepoint(tree: &Tree, at: usize, savepoint: &str) -> Option<usize>
     requires child { 0 < at }
     requires within { at < length tree.now.list }
     ensures { IfSome result (λ mark. is_saved (mark_at (workspace_at tree.now.list at).marks mark) ≡ true) }
@@ -154,12 +154,7 @@ fn act_on_child(tree: &mut Tree, at: usize, deed: Deed) -> Result<(), AllocError
 }
 
 /// Does something to the workspace of a name. It fails for want of memory alone.
-pub(crate) fn act(
-    alloc: Global,
-    tree: &mut Tree,
-    name: &str,
-    deed: Deed,
-) -> Result<(), AllocError> {
+pub fn act(alloc: Global, tree: &mut Tree, name: &str, deed: Deed) -> Result<(), AllocError> {
     if let Deed::Create(parent) = deed {
         return create(tree, name, parent);
     }

@@ -8,7 +8,7 @@ use clr_tree::{ChangeSet, MarkPart, Part, Tree};
 use std::alloc::{AllocError, Global};
 
 /// Each key of a sheet with the number of its row, after a space.
-pub(crate) fn rows_text(alloc: Global, rows: &Sheet) -> Result<String, AllocError> {
+pub fn rows_text(alloc: Global, rows: &Sheet) -> Result<String, AllocError> {
     let mut text = String::new(alloc);
     for (cell, row) in rows.iter() {
         let row = format!(in alloc; " {}={}", cell.key, number_of(row))?;
@@ -18,7 +18,7 @@ pub(crate) fn rows_text(alloc: Global, rows: &Sheet) -> Result<String, AllocErro
 }
 
 /// Each changed key with the numbers of the rows before and after, or 0 where there is none.
-pub(crate) fn changes_text(alloc: Global, changed: &ChangeSet) -> Result<String, AllocError> {
+pub fn changes_text(alloc: Global, changed: &ChangeSet) -> Result<String, AllocError> {
     let mut text = String::new(alloc);
     for (cell, change) in changed.iter() {
         let before = change.before.as_ref().map_or(0, number_of);
@@ -49,7 +49,7 @@ fn marks_text(alloc: Global, marks: &[MarkPart]) -> Result<String, AllocError> {
 
 /// A workspace with all that it has: its parent, its base, its current content, its marks in order,
 /// and `kept` where every rule is to hold.
-pub(crate) fn part_text(alloc: Global, part: &Part) -> Result<String, AllocError> {
+pub fn part_text(alloc: Global, part: &Part) -> Result<String, AllocError> {
     let base = rows_text(alloc, &part.base)?;
     let current = rows_text(alloc, &part.current)?;
     let marks = marks_text(alloc, part.marks.as_slice())?;
@@ -72,7 +72,7 @@ fn space_text(alloc: Global, tree: &Tree, at: usize) -> Result<String, AllocErro
 }
 
 /// A line for each workspace of a tree.
-pub(crate) fn tree_text(alloc: Global, tree: &Tree) -> Result<String, AllocError> {
+pub fn tree_text(alloc: Global, tree: &Tree) -> Result<String, AllocError> {
     let mut text = live_text(alloc, tree)?;
     for at in 1..tree.len() {
         text.push_str(space_text(alloc, tree, at)?.as_str())?;
@@ -81,7 +81,7 @@ pub(crate) fn tree_text(alloc: Global, tree: &Tree) -> Result<String, AllocError
 }
 
 /// How many entries are stored of each workspace under LIVE.
-pub(crate) fn counts_text(alloc: Global, tree: &Tree) -> Result<String, AllocError> {
+pub fn counts_text(alloc: Global, tree: &Tree) -> Result<String, AllocError> {
     let mut text = String::from_str(alloc, "stored")?;
     for at in 1..tree.len() {
         text.push_str(format!(in alloc; " {}", tree.stored(at))?.as_str())?;
@@ -90,7 +90,7 @@ pub(crate) fn counts_text(alloc: Global, tree: &Tree) -> Result<String, AllocErr
 }
 
 /// The lines of a text that another hasn't.
-pub(crate) fn new_lines(alloc: Global, text: &str, before: &str) -> Result<String, AllocError> {
+pub fn new_lines(alloc: Global, text: &str, before: &str) -> Result<String, AllocError> {
     let mut new = String::new(alloc);
     for line in text.lines() {
         if !before.lines().any(|old| old == line) {
@@ -102,7 +102,7 @@ pub(crate) fn new_lines(alloc: Global, text: &str, before: &str) -> Result<Strin
 }
 
 /// The lines of the text of a tree that another hasn't, and how many entries are stored.
-pub(crate) fn news_text(alloc: Global, tree: &Tree, before: &str) -> Result<String, AllocError> {
+pub fn news_text(alloc: Global, tree: &Tree, before: &str) -> Result<String, AllocError> {
     let all = tree_text(alloc, tree)?;
     let mut text = new_lines(alloc, all.as_str(), before)?;
     text.push_str(counts_text(alloc, tree)?.as_str())?;

@@ -3,7 +3,7 @@ use Rattle.std.specs.Prelude.{IfSome}
 use Rattle.std.proofs.lemmas.List.Quantifiers.{position-Some}
 use Rattle.clr_layers.specs.Marks.{Name, Mark, Saved, ChildMark, is_saved, is_saved_as, find_mark, mark_at}
 use Rattle.clr_layers.specs.Workspaces.{workspace_at}
-use Rattle.clr_tree_tests.proofs.deeds.find_savepoint.Goals as goal
+use Rattle.clr_tree_trials.proofs.deeds.find_savepoint.Goals as goal
 
 saved_as : (name : Name) (mark : Mark) → is_saved_as name mark ≡ true → is_saved mark ≡ true
 saved_as name (Saved other content) e = refl

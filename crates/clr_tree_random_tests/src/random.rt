@@ -1,10 +1,7 @@
-use crate::deeds::{Deed, act};
 use crate::dice::Dice;
-use crate::layered::{SAME_DEEDS, layered_tree};
 use crate::plain_trees::PlainTree;
-use crate::scripts::deed_in;
-use crate::texts::{counts_text, tree_text};
 use clr_tree::{Keep, Tree};
+use clr_tree_trials::{Deed, SAME_DEEDS, act, counts_text, deed_in, layered_tree, tree_text};
 use std::alloc::{AllocError, Global};
 use std::process::Abort;
 use std::test::Fail;

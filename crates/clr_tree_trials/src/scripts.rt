@@ -56,7 +56,7 @@ fn deed_of(word: &str, rest: &'static str) -> Option<Deed> {
 }
 
 /// The name, the word and the rest of a line.
-pub(crate) fn parts_of(line: &'static str) -> (&'static str, &'static str, &'static str) {
+pub fn parts_of(line: &'static str) -> (&'static str, &'static str, &'static str) {
     let (name, rest) = split_word(line);
     let (word, rest) = split_word(rest);
     (name, word, rest)
@@ -64,18 +64,14 @@ pub(crate) fn parts_of(line: &'static str) -> (&'static str, &'static str, &'sta
 
 /// What a line says: a deed, and to the workspace of which name. There is none where it can't be
 /// read.
-pub(crate) fn deed_in(line: &'static str) -> Option<(&'static str, Deed)> {
+pub fn deed_in(line: &'static str) -> Option<(&'static str, Deed)> {
     let (name, word, rest) = parts_of(line);
     Some((name, deed_of(word, rest)?))
 }
 
 /// Does what a line says, which is nothing where it can't be read. It fails for want of memory
 /// alone.
-pub(crate) fn act_line(
-    alloc: Global,
-    tree: &mut Tree,
-    line: &'static str,
-) -> Result<(), AllocError> {
+pub fn act_line(alloc: Global, tree: &mut Tree, line: &'static str) -> Result<(), AllocError> {
     match deed_in(line) {
         Some((name, deed)) => act(alloc, tree, name, deed),
         None => Ok(()),
@@ -83,11 +79,7 @@ pub(crate) fn act_line(
 }
 
 /// Does what lines say, one after another.
-pub(crate) fn act_lines(
-    alloc: Global,
-    tree: &mut Tree,
-    lines: &'static str,
-) -> Result<(), AllocError> {
+pub fn act_lines(alloc: Global, tree: &mut Tree, lines: &'static str) -> Result<(), AllocError> {
     for line in lines.lines() {
         act_line(alloc, tree, line)?;
     }
@@ -95,17 +87,8 @@ pub(crate) fn act_lines(
 }
 
 /// A tree of LIVE, with a row of number 1 at each of the keys 1 to 3, after lines.
-pub(crate) fn tree_after(alloc: Global, lines: &'static str) -> Result<Tree, AllocError> {
+pub fn tree_after(alloc: Global, lines: &'static str) -> Result<Tree, AllocError> {
     let mut tree = Tree::new(alloc, numbered_sheet(alloc, &[(1, 1), (2, 1), (3, 1)])?)?;
     act_lines(alloc, &mut tree, lines)?;
     Ok(tree)
-}
-
-/// The first of some cases, in two parts, and the others.
-pub(crate) fn split_case(
-    cases: &'static str,
-) -> Option<(&'static str, &'static str, &'static str)> {
-    let (case, others) = cases.split_once("\n==\n")?;
-    let (first, second) = case.split_once("\n--\n")?;
-    Some((first, second, others))
 }
