@@ -12,6 +12,8 @@ mod office_texts;
 #[cfg(test)]
 mod plan_lines;
 #[cfg(test)]
+mod questions;
+#[cfg(test)]
 mod report_lines;
 #[cfg(test)]
 mod script_cases;

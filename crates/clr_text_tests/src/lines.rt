@@ -1,7 +1,8 @@
-use crate::network::{MAIN, NODE, schema};
+use crate::network::{main_at, node_at, schema};
+use crate::texts::are_lines;
 use clr_change::{Edit, EditFault};
 use clr_lines::{reply_line, rows_lines};
-use clr_rows::{CellId, RowFault, Schema, Sheet};
+use clr_rows::{RowFault, Schema, Sheet};
 use clr_rules::{Ask, Broken};
 use clr_scripts::read_edits;
 use clr_steps::Reply;
@@ -10,64 +11,48 @@ use std::test::Fail;
 
 /// Whether this is the line of a reply.
 fn is_line(alloc: Global, reply: Reply, text: &str) -> bool {
-    let Some(schema) = schema(alloc) else {
-        return false;
-    };
-    match reply_line(alloc, &schema, &reply) {
-        Ok(line) => line.as_slice() == text.as_bytes(),
-        Err(_) => false,
+    match schema(alloc) {
+        Some(schema) => are_lines(reply_line(alloc, &schema, &reply), text),
+        None => false,
     }
 }
 
 #[test]
 fn lines_of_plain_replies(rt: HostRuntime) {
-    let cases = [
-        (Reply::Done, "done\n"),
-        (Reply::OutOfMemory, "refused 0 OutOfMemory\n"),
-        (Reply::NoWorkspace, "refused 1 NoWorkspace\n"),
-        (Reply::NameTaken, "refused 2 NameTaken\n"),
-        (Reply::BadName, "refused 3 BadName\n"),
-        (Reply::LiveIsFixed, "refused 4 LiveIsFixed\n"),
-        (Reply::NotLeaf, "refused 5 NotLeaf\n"),
-        (Reply::TooMany, "refused 6 TooMany\n"),
-        (Reply::NoSavepoint, "refused 7 NoSavepoint\n"),
-        (Reply::SavepointHeld, "refused 8 SavepointHeld\n"),
-        (Reply::NotInConflict, "refused 11 NotInConflict\n"),
-    ];
-    for (reply, text) in cases {
-        assert!(rt; is_line(rt.alloc(), reply, text), "at {text}");
-    }
+    let alloc = rt.alloc();
+    assert!(rt; is_line(alloc, Reply::Done, "done\n"));
+    assert!(rt; is_line(alloc, Reply::OutOfMemory, "refused 0 OutOfMemory\n"));
+    assert!(rt; is_line(alloc, Reply::NoWorkspace, "refused 1 NoWorkspace\n"));
+    assert!(rt; is_line(alloc, Reply::NameTaken, "refused 2 NameTaken\n"));
+    assert!(rt; is_line(alloc, Reply::BadName, "refused 3 BadName\n"));
+    assert!(rt; is_line(alloc, Reply::LiveIsFixed, "refused 4 LiveIsFixed\n"));
+    assert!(rt; is_line(alloc, Reply::NotLeaf, "refused 5 NotLeaf\n"));
+    assert!(rt; is_line(alloc, Reply::TooMany, "refused 6 TooMany\n"));
+    assert!(rt; is_line(alloc, Reply::NoSavepoint, "refused 7 NoSavepoint\n"));
+    assert!(rt; is_line(alloc, Reply::SavepointHeld, "refused 8 SavepointHeld\n"));
+    assert!(rt; is_line(alloc, Reply::NotInConflict, "refused 11 NotInConflict\n"));
+}
+
+/// Whether this is the line of edits of which one is bad.
+fn is_line_of_edits(alloc: Global, number: usize, fault: EditFault, text: &str) -> bool {
+    is_line(alloc, Reply::BadEdit(number, fault), text)
+}
+
+/// Whether this is the line of edits of which one has a bad row.
+fn is_line_of_row(alloc: Global, number: usize, fault: RowFault, text: &str) -> bool {
+    is_line_of_edits(alloc, number, EditFault::Row(fault), text)
 }
 
 #[test]
 fn lines_of_bad_edits(rt: HostRuntime) {
-    let cases = [
-        (1, EditFault::KeyTaken, "refused 9 BadEdit 1 KeyTaken\n"),
-        (2, EditFault::NoRow, "refused 9 BadEdit 2 NoRow\n"),
-        (
-            30,
-            EditFault::Row(RowFault::ZeroSegment),
-            "refused 9 BadEdit 30 ZeroSegment\n",
-        ),
-        (
-            4,
-            EditFault::Row(RowFault::BadPath),
-            "refused 9 BadEdit 4 BadPath\n",
-        ),
-        (
-            5,
-            EditFault::Row(RowFault::NoTable),
-            "refused 9 BadEdit 5 NoTable\n",
-        ),
-    ];
-    for (number, fault, text) in cases {
-        let reply = Reply::BadEdit(number, fault);
-        assert!(rt; is_line(rt.alloc(), reply, text), "at {text}");
-    }
-}
-
-fn main_at(key: i64) -> CellId {
-    CellId { table: MAIN, key }
+    let alloc = rt.alloc();
+    let text = "refused 9 BadEdit 1 KeyTaken\n";
+    assert!(rt; is_line_of_edits(alloc, 1, EditFault::KeyTaken, text));
+    assert!(rt; is_line_of_edits(alloc, 2, EditFault::NoRow, "refused 9 BadEdit 2 NoRow\n"));
+    let text = "refused 9 BadEdit 30 ZeroSegment\n";
+    assert!(rt; is_line_of_row(alloc, 30, RowFault::ZeroSegment, text));
+    assert!(rt; is_line_of_row(alloc, 4, RowFault::BadPath, "refused 9 BadEdit 4 BadPath\n"));
+    assert!(rt; is_line_of_row(alloc, 5, RowFault::NoTable, "refused 9 BadEdit 5 NoTable\n"));
 }
 
 #[test]
@@ -76,34 +61,9 @@ fn the_line_of_a_conflict(rt: HostRuntime) {
     assert!(rt; is_line(rt.alloc(), reply, "refused 10 Conflict main/20 12\n"));
 }
 
-#[test]
-fn lines_of_broken_rules(rt: HostRuntime) {
-    let node = CellId {
-        table: NODE,
-        key: 9,
-    };
-    let cases = [
-        (
-            Broken::new(Ask::plain(2), node, None),
-            "refused 12 RuleBroken rule 2 node/9\n",
-        ),
-        (
-            Broken::new(Ask::plain(1), main_at(1), Some(main_at(2))),
-            "refused 12 RuleBroken rule 1 main/1 main/2\n",
-        ),
-        (
-            crossing_at(3, 1),
-            "refused 12 RuleBroken rule 1 main/20/3 main/21\n",
-        ),
-        (
-            crossing_at(1, 31),
-            "refused 12 RuleBroken rule 1 main/20 main/21/31\n",
-        ),
-    ];
-    for (need, text) in cases {
-        let reply = Reply::RuleBroken(need);
-        assert!(rt; is_line(rt.alloc(), reply, text), "at {text}");
-    }
+/// Whether this is the line of a rule that is broken.
+fn is_line_of_need(alloc: Global, need: Broken, text: &str) -> bool {
+    is_line(alloc, Reply::RuleBroken(need), text)
 }
 
 /// A crossing of these parts of mains 20 and 21, under rule 1.
@@ -114,6 +74,21 @@ fn crossing_at(first_part: u16, second_part: u16) -> Broken {
         second_part,
     };
     Broken::new(ask, main_at(20), Some(main_at(21)))
+}
+
+#[test]
+fn lines_of_broken_rules(rt: HostRuntime) {
+    let alloc = rt.alloc();
+    let end = Broken::new(Ask::plain(2), node_at(9), None);
+    assert!(rt; is_line_of_need(alloc, end, "refused 12 RuleBroken rule 2 node/9\n"));
+    let mains = Broken::new(Ask::plain(1), main_at(1), Some(main_at(2)));
+    assert!(rt; is_line_of_need(alloc, mains, "refused 12 RuleBroken rule 1 main/1 main/2\n"));
+    let first = crossing_at(3, 1);
+    let text = "refused 12 RuleBroken rule 1 main/20/3 main/21\n";
+    assert!(rt; is_line_of_need(alloc, first, text));
+    let last = crossing_at(1, 31);
+    let text = "refused 12 RuleBroken rule 1 main/20 main/21/31\n";
+    assert!(rt; is_line_of_need(alloc, last, text));
 }
 
 const ROWS: &str =

@@ -1,6 +1,6 @@
-use clr_rows::{Columns, Form, Kind, Place, Row, Schema, Shape, TableDef, Value, Values, Words};
+use clr_office_text::read_office;
+use clr_rows::{CellId, Place, Row, Schema, Shape, Value, Values, Words};
 use std::alloc::{AllocError, Global};
-use std::test::Fail;
 
 pub const NODE: u16 = 0;
 
@@ -8,64 +8,30 @@ pub const MAIN: u16 = 1;
 
 pub const ROUTE: u16 = 3;
 
+pub fn node_at(key: i64) -> CellId {
+    CellId { table: NODE, key }
+}
+
+pub fn main_at(key: i64) -> CellId {
+    CellId { table: MAIN, key }
+}
+
 pub fn words(alloc: Global, text: &str) -> Result<Words, AllocError> {
     Ok(Words::new(String::from_str(alloc, text)?))
 }
 
 /// Nodes with a kind, mains with a code and a number, notes with nothing, and routes, which are
 /// paths, with a code.
-const TABLES: &str = "node point kind:text
-main segment code:text n:number
-note none
-route path code:text";
-
-fn form(word: &str) -> Option<Form> {
-    match word {
-        "none" => Some(Form::Bare),
-        "point" => Some(Form::Point),
-        "segment" => Some(Form::Segment),
-        "path" => Some(Form::Path),
-        _ => None,
-    }
-}
-
-fn columns(alloc: Global, text: &str) -> Option<Columns> {
-    let mut list = Vec::new(alloc);
-    for part in text.split(' ') {
-        if let Some((name, kind)) = part.split_once(':') {
-            let kind = if kind == "text" {
-                Kind::Words
-            } else {
-                Kind::Int
-            };
-            list.push((words(alloc, name).ok()?, kind)).ok()?;
-        }
-    }
-    Some(Columns::new(list))
-}
-
-/// The table of a line: its name, its form, and its columns.
-fn table(alloc: Global, line: &str) -> Option<TableDef> {
-    let (name, rest) = line.split_once(' ')?;
-    let (word, rest) = rest.split_once(' ').unwrap_or((rest, ""));
-    Some(TableDef {
-        name: words(alloc, name).ok()?,
-        columns: columns(alloc, rest)?,
-        shape: form(word)?,
-    })
-}
+const TABLES: &str = r#"{"format":2,"tables":[
+{"name":"node","columns":[["kind","TEXT"]],"shape":"POINT"},
+{"name":"main","columns":[["code","TEXT"],["n","INT"]],"shape":"SEGMENT"},
+{"name":"note","columns":[],"shape":"NONE"},
+{"name":"route","columns":[["code","TEXT"]],"shape":"PATH"}],"live":[]}"#;
 
 /// The network of `TABLES`.
 pub fn schema(alloc: Global) -> Option<Schema> {
-    let mut tables = Vec::new(alloc);
-    for line in TABLES.lines() {
-        tables.push(table(alloc, line)?).ok()?;
-    }
-    Schema::new(tables).ok()
-}
-
-pub fn network(alloc: Global) -> Result<Schema, Fail> {
-    Ok(schema(alloc).ok_or("no network")?)
+    let parts = read_office(alloc, TABLES.as_bytes()).ok()?;
+    Some(parts.schema)
 }
 
 pub fn main_row(alloc: Global, code: &str, number: i64, shape: Shape) -> Result<Row, AllocError> {

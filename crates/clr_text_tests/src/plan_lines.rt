@@ -1,12 +1,12 @@
 //! Plans as lines.
 
 use crate::network::{MAIN, schema};
-use crate::verdict_lines::{uncovered_need, version};
+use crate::texts::{are_lines, unfold};
+use crate::verdict_lines::{conflict, shared_cell, uncovered_need, version};
 use clr_cert::read_certificate;
 use clr_clearance::Verdict;
 use clr_plan::Plan;
 use clr_plan_lines::plan_lines;
-use clr_rows::CellId;
 use std::alloc::Global;
 
 /// Certificates and the lines of plans that have them, with bars in place of line ends.
@@ -18,36 +18,30 @@ need,1,main/1/old,main/2/old,node/9/old,node/10/new|member,W1,,,,| \
 member,W1,,,,|need,1,main/20/old/3,main/21/old,node/31/old,node/32/new| \
 => cleared 1|member,W1,,,,|need,1,main/20/old/3,main/21/old,node/31/old,node/32/new|";
 
-/// A text with line ends in place of bars.
-fn unfold(alloc: Global, line: &str) -> Option<String> {
-    let mut text = String::new(alloc);
-    for character in line.chars() {
-        let part = if character == '|' { '\n' } else { character };
-        text.push(part).ok()?;
-    }
-    Some(text)
-}
-
-/// The lines of a plan of three members of a root.
-fn lines_of(alloc: Global, root: &str, plan: &Plan) -> Option<Vec<u8>> {
-    let schema = schema(alloc)?;
-    plan_lines(alloc, &schema, &["W1", "W2", "W3"], root, plan).ok()
-}
-
+/// Whether a plan of three members of a root has these lines.
 fn has_lines(alloc: Global, root: &str, plan: &Plan, text: &str) -> bool {
-    match lines_of(alloc, root, plan) {
-        Some(lines) => lines.as_slice() == text.as_bytes(),
+    match schema(alloc) {
+        Some(schema) => are_lines(
+            plan_lines(alloc, &schema, &["W1", "W2", "W3"], root, plan),
+            text,
+        ),
         None => false,
     }
+}
+
+/// The plan that clears by a certificate.
+fn cleared(alloc: Global, text: &str) -> Option<Plan> {
+    let text = unfold(alloc, text, '|')?;
+    let schema = schema(alloc)?;
+    let certificate = read_certificate(alloc, &schema, text.as_str().as_bytes()).ok()?;
+    Some(Plan::Cleared(certificate))
 }
 
 /// Whether a plan that clears by a certificate has the lines that stand behind it.
 fn is_right(alloc: Global, case: &str) -> Option<bool> {
     let (text, lines) = case.split_once(" => ")?;
-    let (text, lines) = (unfold(alloc, text)?, unfold(alloc, lines)?);
-    let schema = schema(alloc)?;
-    let certificate = read_certificate(alloc, &schema, text.as_str().as_bytes()).ok()?;
-    let plan = Plan::Cleared(certificate);
+    let lines = unfold(alloc, lines, '|')?;
+    let plan = cleared(alloc, text)?;
     Some(has_lines(alloc, "LIVE", &plan, lines.as_str()))
 }
 
@@ -68,24 +62,10 @@ fn has_blocked_lines(alloc: Global, order: &[usize], cause: Verdict, text: &str)
 
 #[test]
 fn orders_blocked_by_changes(rt: HostRuntime) {
-    let cell = CellId {
-        table: MAIN,
-        key: 20,
-    };
-    let shared = Verdict::SharedCell {
-        cell,
-        first: 0,
-        second: 1,
-    };
     let text = "blocked 2 W1 W2\ncause 5 SharedCell main/20 W1 W2\n";
-    assert!(rt; has_blocked_lines(rt.alloc(), &[0, 1], shared, text));
-    let conflict = Verdict::Conflict {
-        member: 0,
-        cell,
-        count: 1,
-    };
+    assert!(rt; has_blocked_lines(rt.alloc(), &[0, 1], shared_cell(), text));
     let text = "blocked 1 W1\ncause 4 Conflict W1 main/20 1\n";
-    assert!(rt; has_blocked_lines(rt.alloc(), &[0], conflict, text));
+    assert!(rt; has_blocked_lines(rt.alloc(), &[0], conflict(1), text));
 }
 
 /// That a need of two mains, both without a part above 1, isn't covered.
@@ -102,21 +82,18 @@ fn orders_blocked_by_needs(rt: HostRuntime) {
     assert!(rt; has_blocked_lines(rt.alloc(), &[0, 1, 2], uncovered_mains(1, 2, false), text));
 }
 
+/// Whether a plan that is unfit for this verdict has these lines under K.
+fn has_unfit_lines(alloc: Global, verdict: Verdict, text: &str) -> bool {
+    has_lines(alloc, "K", &Plan::Unfit(verdict), text)
+}
+
 #[test]
 fn lines_of_other_plans(rt: HostRuntime) {
-    let cases = [
-        (
-            Plan::Unfit(Verdict::RepeatedMember(0)),
-            "unfit 1 RepeatedMember W1\n",
-        ),
-        (
-            Plan::Unfit(Verdict::NotUnderRoot(1)),
-            "unfit 3 NotUnderRoot W2\n",
-        ),
-        (Plan::Unfit(Verdict::NotKept), "unfit 7 NotKept K\n"),
-        (Plan::OutOfMemory, "refused 0 OutOfMemory\n"),
-    ];
-    for (plan, text) in cases {
-        assert!(rt; has_lines(rt.alloc(), "K", &plan, text), "at {text}");
-    }
+    let alloc = rt.alloc();
+    let repeated = Verdict::RepeatedMember(0);
+    assert!(rt; has_unfit_lines(alloc, repeated, "unfit 1 RepeatedMember W1\n"));
+    let elsewhere = Verdict::NotUnderRoot(1);
+    assert!(rt; has_unfit_lines(alloc, elsewhere, "unfit 3 NotUnderRoot W2\n"));
+    assert!(rt; has_unfit_lines(alloc, Verdict::NotKept, "unfit 7 NotKept K\n"));
+    assert!(rt; has_lines(alloc, "K", &Plan::OutOfMemory, "refused 0 OutOfMemory\n"));
 }

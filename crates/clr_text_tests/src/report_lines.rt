@@ -1,4 +1,5 @@
-use crate::network::{MAIN, NODE, line, main_row, network};
+use crate::network::{line, main_at, main_row, node_at, schema};
+use crate::texts::are_lines;
 use clr_change::ChangeSet;
 use clr_lines::{
     add_workspace, audit_lines, changes_lines, conflicts_lines, count_line, unheld_line,
@@ -7,14 +8,6 @@ use clr_rows::CellId;
 use clr_rules::{Ask, Broken};
 use std::alloc::{AllocError, Global};
 use std::test::Fail;
-
-fn node_at(key: i64) -> CellId {
-    CellId { table: NODE, key }
-}
-
-fn main_at(key: i64) -> CellId {
-    CellId { table: MAIN, key }
-}
 
 /// Main 20 is inserted, main 3 updated, and node 9 deleted.
 fn changes(alloc: Global) -> Result<ChangeSet, AllocError> {
@@ -27,30 +20,37 @@ fn changes(alloc: Global) -> Result<ChangeSet, AllocError> {
     Ok(set)
 }
 
-#[test]
-fn changes_are_listed(rt: HostRuntime) -> Result<(), Fail> {
-    let alloc = rt.alloc();
-    let schema = network(alloc)?;
-    let none = changes_lines(alloc, &schema, &ChangeSet::new(alloc))?;
-    assert_eq!(rt; none.as_slice(), b"changes 0\n".as_slice());
-    let lines = changes_lines(alloc, &schema, &changes(alloc)?)?;
-    let text = "changes 3\ndelete node/9\nupdate main/3\ninsert main/20\n";
-    assert_eq!(rt; lines.as_slice(), text.as_bytes());
-    Ok(())
+/// Whether changes have these lines.
+fn are_changes(alloc: Global, changes: &ChangeSet, text: &str) -> bool {
+    match schema(alloc) {
+        Some(schema) => are_lines(changes_lines(alloc, &schema, changes), text),
+        None => false,
+    }
 }
 
 #[test]
-fn conflicts_are_listed(rt: HostRuntime) -> Result<(), Fail> {
-    let alloc = rt.alloc();
-    let schema = network(alloc)?;
-    let none = conflicts_lines(alloc, &schema, &[])?;
-    assert_eq!(rt; none.as_slice(), b"conflicts 0\n".as_slice());
-    let lines = conflicts_lines(alloc, &schema, &[node_at(9), main_at(20)])?;
-    assert_eq!(rt;
-        lines.as_slice(),
-        b"conflicts 2\nnode/9\nmain/20\n".as_slice()
-    );
+fn changes_are_listed(rt: HostRuntime) -> Result<(), Fail> {
+    let none = ChangeSet::new(rt.alloc());
+    assert!(rt; are_changes(rt.alloc(), &none, "changes 0\n"));
+    let changes = changes(rt.alloc())?;
+    let text = "changes 3\ndelete node/9\nupdate main/3\ninsert main/20\n";
+    assert!(rt; are_changes(rt.alloc(), &changes, text));
     Ok(())
+}
+
+/// Whether cells in conflict have these lines.
+fn are_conflicts(alloc: Global, cells: &[CellId], text: &str) -> bool {
+    match schema(alloc) {
+        Some(schema) => are_lines(conflicts_lines(alloc, &schema, cells), text),
+        None => false,
+    }
+}
+
+#[test]
+fn conflicts_are_listed(rt: HostRuntime) {
+    assert!(rt; are_conflicts(rt.alloc(), &[], "conflicts 0\n"));
+    let cells = [node_at(9), main_at(20)];
+    assert!(rt; are_conflicts(rt.alloc(), &cells, "conflicts 2\nnode/9\nmain/20\n"));
 }
 
 /// Mains 1 and 2, which break rule 0, parts of mains 20 and 21, which break rule 1, and node 9,
@@ -68,34 +68,34 @@ fn needs() -> [Broken; 3] {
     ]
 }
 
-#[test]
-fn broken_needs_are_listed(rt: HostRuntime) -> Result<(), Fail> {
-    let alloc = rt.alloc();
-    let schema = network(alloc)?;
-    let none = audit_lines(alloc, &schema, &[])?;
-    assert_eq!(rt; none.as_slice(), b"broken 0\n".as_slice());
-    let lines = audit_lines(alloc, &schema, &needs())?;
-    let text = "broken 3\nrule 0 main/1 main/2\nrule 1 main/20/3 main/21/2\nrule 2 node/9\n";
-    assert_eq!(rt; lines.as_slice(), text.as_bytes());
-    Ok(())
+/// Whether broken needs have these lines.
+fn are_needs(alloc: Global, needs: &[Broken], text: &str) -> bool {
+    match schema(alloc) {
+        Some(schema) => are_lines(audit_lines(alloc, &schema, needs), text),
+        None => false,
+    }
 }
 
 #[test]
-fn unheld_rules_have_lines(rt: HostRuntime) -> Result<(), Fail> {
-    let alloc = rt.alloc();
-    let schema = network(alloc)?;
+fn broken_needs_are_listed(rt: HostRuntime) {
+    assert!(rt; are_needs(rt.alloc(), &[], "broken 0\n"));
+    let text = "broken 3\nrule 0 main/1 main/2\nrule 1 main/20/3 main/21/2\nrule 2 node/9\n";
+    assert!(rt; are_needs(rt.alloc(), &needs(), text));
+}
+
+/// Whether a crossing of mains that breaks rule 1 in a workspace, or in LIVE, has this line.
+fn is_unheld(alloc: Global, workspace: Option<&str>, text: &str) -> bool {
     let need = Broken::new(Ask::plain(1), main_at(1), Some(main_at(2)));
-    let live = unheld_line(alloc, &schema, None, &need)?;
-    assert_eq!(rt;
-        live.as_slice(),
-        b"unheld rule 1 main/1 main/2\n".as_slice()
-    );
-    let child = unheld_line(alloc, &schema, Some("K"), &need)?;
-    assert_eq!(rt;
-        child.as_slice(),
-        b"unheld K rule 1 main/1 main/2\n".as_slice()
-    );
-    Ok(())
+    match schema(alloc) {
+        Some(schema) => are_lines(unheld_line(alloc, &schema, workspace, &need), text),
+        None => false,
+    }
+}
+
+#[test]
+fn unheld_rules_have_lines(rt: HostRuntime) {
+    assert!(rt; is_unheld(rt.alloc(), None, "unheld rule 1 main/1 main/2\n"));
+    assert!(rt; is_unheld(rt.alloc(), Some("K"), "unheld K rule 1 main/1 main/2\n"));
 }
 
 #[test]

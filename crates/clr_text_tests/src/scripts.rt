@@ -1,28 +1,19 @@
 //! Edits and scripts as they are read, or why they aren't.
 
 use crate::network::{schema, words};
+use crate::questions::{check, is_answer};
 use crate::script_cases::{
     COMMANDS, COUNTS, EDIT_FAULTS, EDITS, REPORTS, SCRIPT_FAULTS, SCRIPTS, TURNS,
 };
-use crate::texts::{edits_text, steps_text};
+use crate::texts::{coordinates, edits_text, steps_text, unfold};
 use clr_rows::Names;
 use clr_scripts::{RecordFault, read_edits, read_script};
 use std::alloc::Global;
-use std::process::Abort;
 use std::test::Fail;
 
-/// A text with line ends in place of strokes.
-fn unfold(alloc: Global, line: &str) -> Option<String> {
-    let mut text = String::new(alloc);
-    let mut is_first = true;
-    for part in line.split('/') {
-        if !is_first {
-            text.push('\n').ok()?;
-        }
-        is_first = false;
-        text.push_str(part).ok()?;
-    }
-    Some(text)
+/// Why a record is bad, behind its number.
+fn fault_text(alloc: Global, number: usize, fault: RecordFault) -> Option<String> {
+    format!(in alloc; "{number} {fault:?}").ok()
 }
 
 /// Edits, or the number of the record that is bad, and why.
@@ -30,7 +21,7 @@ fn read_edits_text(alloc: Global, text: &str) -> Option<String> {
     let schema = schema(alloc)?;
     match read_edits(alloc, &schema, text.as_bytes()) {
         Ok(edits) => edits_text(alloc, edits.as_slice()),
-        Err((number, fault)) => format!(in alloc; "{number} {fault:?}").ok(),
+        Err((number, fault)) => fault_text(alloc, number, fault),
     }
 }
 
@@ -39,51 +30,27 @@ fn read_script_text(alloc: Global, text: &str) -> Option<String> {
     let schema = schema(alloc)?;
     match read_script(alloc, &schema, text.as_bytes()) {
         Ok(steps) => steps_text(alloc, steps.as_slice()),
-        Err((number, fault)) => format!(in alloc; "{number} {fault:?}").ok(),
+        Err((number, fault)) => fault_text(alloc, number, fault),
     }
 }
 
-/// An insertion of a route with so many coordinates, which are 0 and 1 in turn.
-fn route_with(alloc: Global, coordinates: &str) -> Option<String> {
-    let mut text = String::from_str(alloc, "insert,route,5,R").ok()?;
-    for n in 0..coordinates.parse::<u16>().ok()? {
-        text.push_str(if n % 4 < 2 { ",0" } else { ",1" }).ok()?;
-    }
-    Some(text)
-}
-
-/// `read`, or why a route with so many coordinates isn't.
-fn route_text(alloc: Global, coordinates: &str) -> Option<String> {
-    let text = route_with(alloc, coordinates)?;
-    match read_edits(alloc, &schema(alloc)?, text.as_bytes()) {
+/// `read`, or why a route isn't that has so many coordinates.
+fn route_text(alloc: Global, count: &str) -> Option<String> {
+    let coordinates = coordinates(alloc, count)?;
+    let text = format!(in alloc; "insert,route,5,R{}", coordinates.as_str()).ok()?;
+    let schema = schema(alloc)?;
+    match read_edits(alloc, &schema, text.as_bytes()) {
         Ok(_) => String::from_str(alloc, "read").ok(),
-        Err((number, fault)) => format!(in alloc; "{number} {fault:?}").ok(),
+        Err((number, fault)) => fault_text(alloc, number, fault),
     }
 }
 
-fn answer(alloc: Global, question: &str) -> Option<String> {
-    let (word, line) = question.split_once(' ')?;
+/// What is read of edits, of a script, or of a route.
+pub(crate) fn answer(alloc: Global, word: &str, line: &str) -> Option<String> {
     match word {
-        "edits" => read_edits_text(alloc, unfold(alloc, line)?.as_str()),
-        "script" => read_script_text(alloc, unfold(alloc, line)?.as_str()),
+        "edits" => read_edits_text(alloc, unfold(alloc, line, '/')?.as_str()),
+        "script" => read_script_text(alloc, unfold(alloc, line, '/')?.as_str()),
         _ => route_text(alloc, line),
-    }
-}
-
-fn is_right(alloc: Global, line: &str) -> bool {
-    let Some((question, wanted)) = line.split_once(" => ") else {
-        return false;
-    };
-    match answer(alloc, question) {
-        Some(text) => text.as_str() == wanted,
-        None => false,
-    }
-}
-
-/// Each line is read as it says.
-fn check(rt: &impl Abort, alloc: Global, lines: &str) {
-    for line in lines.lines() {
-        assert!(rt; is_right(alloc, line), "{line}");
     }
 }
 
@@ -112,18 +79,13 @@ fn scripts_of_several_steps(rt: HostRuntime) {
     check(&rt, rt.alloc(), SCRIPTS);
 }
 
-/// Whether a script of one record has too few or too many fields.
-fn has_wrong_count(alloc: Global, line: &str) -> bool {
-    match read_script_text(alloc, line) {
-        Some(text) => text.as_str() == "1 FieldCount",
-        None => false,
-    }
-}
-
 #[test]
 fn counts_of_fields(rt: HostRuntime) {
     for line in COUNTS.lines() {
-        assert!(rt; has_wrong_count(rt.alloc(), line), "{line}");
+        assert!(rt;
+            is_answer(rt.alloc(), "script", line, "1 FieldCount"),
+            "{line}"
+        );
     }
 }
 

@@ -1,10 +1,37 @@
-//! Rows, edits and steps as texts.
+//! Rows, edits and steps as texts, and pieces of texts that are read.
 
 use clr_change::Edit;
-use clr_rows::{CellId, Names, Place, Row, Shape, Sheet, Value};
+use clr_rows::{CellId, Place, Row, Shape, Sheet, Value, Words};
 use clr_scripts::Step;
 use clr_steps::{Command, Keep};
-use std::alloc::Global;
+use std::alloc::{AllocError, Global};
+
+/// A text with line ends in place of a character.
+pub(crate) fn unfold(alloc: Global, line: &str, mark: char) -> Option<String> {
+    let mut text = String::new(alloc);
+    for character in line.chars() {
+        let part = if character == mark { '\n' } else { character };
+        text.push(part).ok()?;
+    }
+    Some(text)
+}
+
+/// Whether lines that are made are those of a text.
+pub(crate) fn are_lines(lines: Result<Vec<u8>, AllocError>, text: &str) -> bool {
+    match lines {
+        Ok(lines) => lines.as_slice() == text.as_bytes(),
+        Err(_) => false,
+    }
+}
+
+/// So many coordinates, which are 0 and 1 in turn, each behind a comma.
+pub(crate) fn coordinates(alloc: Global, count: &str) -> Option<String> {
+    let mut text = String::new(alloc);
+    for n in 0..count.parse::<u16>().ok()? {
+        text.push_str(if n % 4 < 2 { ",0" } else { ",1" }).ok()?;
+    }
+    Some(text)
+}
 
 /// Adds a text, after another where it isn't the first.
 pub(crate) fn add_part(line: &mut String, between: &str, part: &str) -> Option<()> {
@@ -133,11 +160,11 @@ fn command_text(alloc: Global, command: &Command) -> Option<String> {
     format!(in alloc; "{word} [{workspace}] [{other}]{space}{}", rest.as_str()).ok()
 }
 
-/// The names of a report, each behind a stroke.
-fn names_text(alloc: Global, names: &Names) -> Option<String> {
+/// Names, each behind a character.
+pub(crate) fn names_text(alloc: Global, before: char, names: &[Words]) -> Option<String> {
     let mut text = String::new(alloc);
-    for name in names.as_slice() {
-        text.push('/').ok()?;
+    for name in names {
+        text.push(before).ok()?;
         text.push_str(name.as_str()).ok()?;
     }
     Some(text)
@@ -147,7 +174,7 @@ fn step_text(alloc: Global, step: &Step) -> Option<String> {
     match step {
         Step::Act(command) => command_text(alloc, command),
         Step::Report(word, names) => {
-            let names = names_text(alloc, names)?;
+            let names = names_text(alloc, '/', names.as_slice())?;
             format!(in alloc; "{word:?}{}", names.as_str()).ok()
         }
     }

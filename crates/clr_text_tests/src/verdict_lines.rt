@@ -1,6 +1,7 @@
 //! Verdicts as lines.
 
-use crate::network::{MAIN, NODE, ROUTE, schema};
+use crate::network::{MAIN, NODE, ROUTE, main_at, schema};
+use crate::texts::are_lines;
 use clr_clearance::Verdict;
 use clr_foot::{Need, VersionId};
 use clr_rows::CellId;
@@ -30,71 +31,62 @@ pub(crate) fn uncovered_need(
     })
 }
 
+/// That the first member has so many cells in conflict, of which main 20 is the least.
+pub(crate) fn conflict(count: usize) -> Verdict {
+    Verdict::Conflict {
+        member: 0,
+        cell: main_at(20),
+        count,
+    }
+}
+
+/// That the first two members change main 20.
+pub(crate) fn shared_cell() -> Verdict {
+    Verdict::SharedCell {
+        cell: main_at(20),
+        first: 0,
+        second: 1,
+    }
+}
+
 /// Whether this is the line of a verdict over two members of K.
-fn is_line(alloc: Global, verdict: &Verdict, text: &str) -> bool {
-    let Some(schema) = schema(alloc) else {
-        return false;
-    };
-    match verdict_line(alloc, &schema, &["W1", "W2"], "K", verdict) {
-        Ok(line) => line.as_slice() == text.as_bytes(),
-        Err(_) => false,
+fn is_line(alloc: Global, verdict: Verdict, text: &str) -> bool {
+    match schema(alloc) {
+        Some(schema) => are_lines(
+            verdict_line(alloc, &schema, &["W1", "W2"], "K", &verdict),
+            text,
+        ),
+        None => false,
     }
 }
 
 #[test]
 fn lines_of_plain_verdicts(rt: HostRuntime) {
-    let cases = [
-        (Verdict::Clear, "clear\n"),
-        (Verdict::OutOfMemory, "0 OutOfMemory\n"),
-        (Verdict::RepeatedMember(1), "1 RepeatedMember W2\n"),
-        (Verdict::NoWorkspace(0), "2 NoWorkspace W1\n"),
-        (Verdict::NotUnderRoot(1), "3 NotUnderRoot W2\n"),
-        (Verdict::NotKept, "7 NotKept K\n"),
-    ];
-    for (verdict, text) in cases {
-        assert!(rt; is_line(rt.alloc(), &verdict, text), "at {text}");
-    }
+    let alloc = rt.alloc();
+    assert!(rt; is_line(alloc, Verdict::Clear, "clear\n"));
+    assert!(rt; is_line(alloc, Verdict::OutOfMemory, "0 OutOfMemory\n"));
+    assert!(rt; is_line(alloc, Verdict::RepeatedMember(1), "1 RepeatedMember W2\n"));
+    assert!(rt; is_line(alloc, Verdict::NoWorkspace(0), "2 NoWorkspace W1\n"));
+    assert!(rt; is_line(alloc, Verdict::NotUnderRoot(1), "3 NotUnderRoot W2\n"));
+    assert!(rt; is_line(alloc, Verdict::NotKept, "7 NotKept K\n"));
 }
 
 #[test]
 fn lines_of_changed_cells(rt: HostRuntime) {
-    let cell = CellId {
-        table: MAIN,
-        key: 20,
-    };
-    let conflict = Verdict::Conflict {
-        member: 0,
-        cell,
-        count: 3,
-    };
-    assert!(rt; is_line(rt.alloc(), &conflict, "4 Conflict W1 main/20 3\n"));
-    let shared = Verdict::SharedCell {
-        cell,
-        first: 0,
-        second: 1,
-    };
-    assert!(rt; is_line(rt.alloc(), &shared, "5 SharedCell main/20 W1 W2\n"));
+    assert!(rt; is_line(rt.alloc(), conflict(3), "4 Conflict W1 main/20 3\n"));
+    assert!(rt; is_line(rt.alloc(), shared_cell(), "5 SharedCell main/20 W1 W2\n"));
 }
 
 #[test]
 fn lines_of_needs(rt: HostRuntime) {
-    let mains = (version(MAIN, 1, false), version(MAIN, 21, true));
-    let routes = (version(ROUTE, 20, false), version(ROUTE, 21, false));
-    let cases = [
-        (
-            uncovered_need(1, mains.0, 1, Some(mains.1)),
-            "6 Uncovered rule 1 main/1/old main/21/new\n",
-        ),
-        (
-            uncovered_need(1, routes.0, 3, Some(routes.1)),
-            "6 Uncovered rule 1 route/20/old/3 route/21/old\n",
-        ),
-        (
-            uncovered_need(2, version(NODE, 6, false), 1, None),
-            "6 Uncovered rule 2 node/6/old\n",
-        ),
-    ];
-    for (verdict, text) in cases {
-        assert!(rt; is_line(rt.alloc(), &verdict, text), "at {text}");
-    }
+    let second = Some(version(MAIN, 21, true));
+    let mains = uncovered_need(1, version(MAIN, 1, false), 1, second);
+    let text = "6 Uncovered rule 1 main/1/old main/21/new\n";
+    assert!(rt; is_line(rt.alloc(), mains, text));
+    let second = Some(version(ROUTE, 21, false));
+    let routes = uncovered_need(1, version(ROUTE, 20, false), 3, second);
+    let text = "6 Uncovered rule 1 route/20/old/3 route/21/old\n";
+    assert!(rt; is_line(rt.alloc(), routes, text));
+    let node = uncovered_need(2, version(NODE, 6, false), 1, None);
+    assert!(rt; is_line(rt.alloc(), node, "6 Uncovered rule 2 node/6/old\n"));
 }

@@ -1,9 +1,10 @@
 //! Why office texts are refused, by lines that have a part of each.
 
-use crate::office_texts::cases::{CELLS, PATHS, RULES, TEXTS, WORKSPACES};
+use crate::office_texts::cases::{CELLS, FLAGS, PATHS, RULES, TEXTS, WORKSPACES};
+use crate::questions::check;
+use crate::texts::coordinates;
 use clr_office_text::{TextFault, read_office};
 use std::alloc::Global;
-use std::process::Abort;
 
 /// An office text up to the first cell of LIVE: one table, of nodes with a kind and a size.
 const NODES: &str =
@@ -15,27 +16,26 @@ const TABLES: &str = r#"{"format":1,"tables":[
 {"name":"main","columns":[["code","TEXT"]],"shape":"SEGMENT"}],
 "live":[],"rules":["#;
 
+/// A good rule.
+const RULE: &str = r#"{"kind":"UNIQUE","subject":{"table":"main"},"columns":["code"]}"#;
+
 /// An office text of format 2 up to the first cell of LIVE: routes, which are paths, and mains.
 const ROUTES: &str = r#"{"format":2,"tables":[
 {"name":"route","columns":[["code","TEXT"]],"shape":"PATH"},
 {"name":"main","columns":[["code","TEXT"]],"shape":"SEGMENT"}],
 "live":["#;
 
-/// An office text of format 3 up to its first workspace.
+/// An office text behind its format, up to its first workspace.
 const PARTS: &str =
-    r#"{"format":3,"tables":[{"name":"node","columns":[],"shape":"NONE"}],"live":[],"workspaces":["#;
+    r#""tables":[{"name":"node","columns":[],"shape":"NONE"}],"live":[],"workspaces":["#;
 
 /// A workspace up to what stands behind its name and parent.
 const PART: &str = r#"{"name":"W1","parent":"LIVE","#;
 
-fn count(text: &str) -> Option<u16> {
-    text.parse::<u16>().ok()
-}
-
 /// A text as often as a number says, with another between.
 fn repeat(alloc: Global, part: &str, between: &str, times: &str) -> Option<String> {
     let mut text = String::new(alloc);
-    for n in 0..count(times)? {
+    for n in 0..times.parse::<u16>().ok()? {
         text.push_str(if n == 0 { "" } else { between }).ok()?;
         text.push_str(part).ok()?;
     }
@@ -57,22 +57,26 @@ fn with_lists(alloc: Global, levels: &str) -> Option<String> {
     with_cells(alloc, "", more.as_str())
 }
 
-/// An office text with so many good rules.
-fn with_rules(alloc: Global, times: &str) -> Option<String> {
-    let rule = r#"{"kind":"UNIQUE","subject":{"table":"main"},"columns":["code"]}"#;
-    let rules = repeat(alloc, rule, ",", times)?;
-    format!(in alloc; "{TABLES}{}]}}", rules.as_str()).ok()
+/// An office text with these rules.
+fn with_rules(alloc: Global, rules: &str) -> Option<String> {
+    format!(in alloc; "{TABLES}{rules}]}}").ok()
 }
 
 /// An office text with a cell of this table, and so many coordinates, which are 0 and 1 in turn.
-pub(crate) fn with_path(alloc: Global, table: &str, coordinates: &str) -> Option<String> {
-    let mut text = format!(in alloc; r#"{ROUTES}{{"t":"{table}","k":5,"v":["R"],"s":["#).ok()?;
-    for n in 0..count(coordinates)? {
-        text.push_str(if n == 0 { "" } else { "," }).ok()?;
-        text.push_str(if n % 4 < 2 { "0" } else { "1" }).ok()?;
-    }
-    text.push_str("]}]}").ok()?;
-    Some(text)
+pub(super) fn with_path(alloc: Global, table: &str, count: &str) -> Option<String> {
+    let coordinates = coordinates(alloc, count)?;
+    let list = coordinates.as_str().strip_prefix(",").unwrap_or("");
+    format!(in alloc; r#"{ROUTES}{{"t":"{table}","k":5,"v":["R"],"s":[{list}]}}]}}"#).ok()
+}
+
+/// An office text of a format with these workspaces.
+fn with_parts(alloc: Global, format: &str, parts: &str) -> Option<String> {
+    format!(in alloc; r#"{{"format":{format},{PARTS}{parts}]}}"#).ok()
+}
+
+/// An office text of a format with a workspace.
+fn with_part(alloc: Global, format: &str, part: &str) -> Option<String> {
+    format!(in alloc; r#"{{"format":{format},{PARTS}{PART}{part}}}]}}"#).ok()
 }
 
 fn office_text(alloc: Global, word: &str, part: &str) -> Option<String> {
@@ -81,15 +85,15 @@ fn office_text(alloc: Global, word: &str, part: &str) -> Option<String> {
             let (cells, more) = part.split_once('^')?;
             with_cells(alloc, cells, more)
         }
-        "lists" => with_lists(alloc, part),
-        "rules" => format!(in alloc; "{TABLES}{part}]}}").ok(),
-        "many" => with_rules(alloc, part),
-        "parts" => format!(in alloc; "{PARTS}{part}]}}").ok(),
-        "part" => format!(in alloc; "{PARTS}{PART}{part}}}]}}").ok(),
         "path" => {
             let (table, coordinates) = part.split_once(' ')?;
             with_path(alloc, table, coordinates)
         }
+        "lists" => with_lists(alloc, part),
+        "rules" => with_rules(alloc, part),
+        "many" => with_rules(alloc, repeat(alloc, RULE, ",", part)?.as_str()),
+        "parts" => with_parts(alloc, "3", part),
+        "part" => with_part(alloc, "3", part),
         _ => String::from_str(alloc, part).ok(),
     }
 }
@@ -102,27 +106,10 @@ fn fault_text(alloc: Global, text: &[u8]) -> Option<String> {
     }
 }
 
-fn answer(alloc: Global, question: &str) -> Option<String> {
-    let (word, part) = question.split_once(' ')?;
+/// `fits`, or why the office text of a word and a part is refused.
+pub(super) fn fault_answer(alloc: Global, word: &str, part: &str) -> Option<String> {
     let text = office_text(alloc, word, part)?;
     fault_text(alloc, text.as_str().as_bytes())
-}
-
-fn is_right(alloc: Global, line: &str) -> bool {
-    let Some((question, wanted)) = line.split_once(" => ") else {
-        return false;
-    };
-    match answer(alloc, question) {
-        Some(text) => text.as_str() == wanted,
-        None => false,
-    }
-}
-
-/// Each line is answered as it says.
-fn check(rt: &impl Abort, alloc: Global, lines: &str) {
-    for line in lines.lines() {
-        assert!(rt; is_right(alloc, line), "{line}");
-    }
 }
 
 #[test]
@@ -159,11 +146,10 @@ fn bytes_that_are_no_json(rt: HostRuntime) {
     assert!(rt; read_office(rt.alloc(), marked.as_bytes()).err() == Some(TextFault::NotJson));
 }
 
-/// Whether a workspace of a text with a flag is kept, and why it is refused without one.
-fn flag_text(alloc: Global, format: u16, flag: &str) -> Option<String> {
-    let text = format!(in alloc;
-        r#"{{"format":{format},"tables":[{{"name":"node","columns":[],"shape":"NONE"}}],"live":[],"workspaces":[{PART}"kept":{flag}}}]}}"#
-    ).ok()?;
+/// How many workspaces a text of a format has, and whether the first is kept by this flag; or why it is refused.
+fn flag_text(alloc: Global, format: &str, flag: &str) -> Option<String> {
+    let part = format!(in alloc; r#""kept":{flag}"#).ok()?;
+    let text = with_part(alloc, format, part.as_str())?;
     match read_office(alloc, text.as_str().as_bytes()) {
         Ok(parts) => {
             let kept = parts.workspaces.first()?.layer.kept;
@@ -173,18 +159,13 @@ fn flag_text(alloc: Global, format: u16, flag: &str) -> Option<String> {
     }
 }
 
-/// Whether a flag is answered so in the formats 1, 2 and 3.
-fn are_flags(alloc: Global, flag: &str, answers: &[&str; 3]) -> Option<bool> {
-    let first = flag_text(alloc, 1, flag)?.as_str() == answers[0];
-    let second = flag_text(alloc, 2, flag)?.as_str() == answers[1];
-    let third = flag_text(alloc, 3, flag)?.as_str() == answers[2];
-    Some(first && second && third)
+/// What becomes of a flag behind a format.
+pub(super) fn flag_answer(alloc: Global, case: &str) -> Option<String> {
+    let (format, flag) = case.split_once(' ')?;
+    flag_text(alloc, format, flag)
 }
 
 #[test]
 fn flags_by_format(rt: HostRuntime) {
-    let null = ["1 false", "1 false", "BadField"];
-    assert!(rt; are_flags(rt.alloc(), "null", &null) == Some(true));
-    let set = ["1 false", "1 false", "1 true"];
-    assert!(rt; are_flags(rt.alloc(), "true", &set) == Some(true));
+    check(&rt, rt.alloc(), FLAGS);
 }

@@ -132,3 +132,11 @@ path main 4 => fits
 path main 6 => BadField
 path pipe 4 => BadRow
 path pipe 6 => BadField"#;
+
+/// Flags of a workspace that say whether it is kept, each behind the format of its text.
+pub(crate) const FLAGS: &str = "flag 1 null => 1 false
+flag 2 null => 1 false
+flag 3 null => BadField
+flag 1 true => 1 false
+flag 2 true => 1 false
+flag 3 true => 1 true";

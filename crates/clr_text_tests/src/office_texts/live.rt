@@ -1,6 +1,7 @@
 //! Tables and rows of office texts.
 
 use crate::office_texts::answers::with_path;
+use crate::questions::check;
 use crate::texts::sheet_text;
 use clr_office_text::read_office;
 use std::alloc::Global;
@@ -14,43 +15,45 @@ const NETWORK: &str = r#"{"format":1,"tables":[
 {"t":"main","k":1,"v":["A"],"s":[0,0,10,10]},
 {"t":"main","k":2,"v":["C"],"s":[0,10,10,0]}]}"#;
 
-/// The number of a table of a text.
-fn table_number(alloc: Global, text: &str, name: &str) -> Option<u16> {
-    read_office(alloc, text.as_bytes()).ok()?.schema.table(name)
+/// Tables with their numbers.
+const TABLES: &str = "table node => Some(0)
+table main => Some(1)
+table hydrant => Some(2)
+table pipe => None";
+
+/// The number of a table.
+pub(super) fn table_text(alloc: Global, name: &str) -> Option<String> {
+    let parts = read_office(alloc, NETWORK.as_bytes()).ok()?;
+    format!(in alloc; "{:?}", parts.schema.table(name)).ok()
 }
 
 #[test]
 fn tables_in_order(rt: HostRuntime) {
-    for (name, number) in [
-        ("node", Some(0)),
-        ("main", Some(1)),
-        ("hydrant", Some(2)),
-        ("pipe", None),
-    ] {
-        assert!(rt; table_number(rt.alloc(), NETWORK, name) == number, "{name}");
-    }
+    check(&rt, rt.alloc(), TABLES);
 }
 
-/// Whether LIVE has just these rows.
-fn has_rows(alloc: Global, text: &str, wanted: &str) -> Option<bool> {
+/// The rows of LIVE of a text.
+fn live_text(alloc: Global, text: &str) -> Option<String> {
     let parts = read_office(alloc, text.as_bytes()).ok()?;
-    let rows = sheet_text(alloc, &parts.live)?;
-    Some(rows.as_str() == wanted)
+    sheet_text(alloc, &parts.live)
+}
+
+/// The rows of the network, or of a text whose path has six coordinates.
+pub(super) fn rows_text(alloc: Global, word: &str) -> Option<String> {
+    if word == "network" {
+        return live_text(alloc, NETWORK);
+    }
+    let text = with_path(alloc, "route", "6")?;
+    live_text(alloc, text.as_str())
 }
 
 #[test]
 fn rows_of_live(rt: HostRuntime) {
-    let rows = "row 0.9 'valve 5,5, row 1.1 'A 0,0 10,10, row 1.2 'C 0,10 10,0";
-    assert!(rt; has_rows(rt.alloc(), NETWORK, rows) == Some(true));
-}
-
-/// Whether LIVE has just this row where a path has six coordinates.
-fn has_path(alloc: Global, wanted: &str) -> Option<bool> {
-    let text = with_path(alloc, "route", "6")?;
-    has_rows(alloc, text.as_str(), wanted)
+    let line = "rows network => row 0.9 'valve 5,5, row 1.1 'A 0,0 10,10, row 1.2 'C 0,10 10,0";
+    check(&rt, rt.alloc(), line);
 }
 
 #[test]
 fn a_path_of_live(rt: HostRuntime) {
-    assert!(rt; has_path(rt.alloc(), "row 0.5 'R path 0,0 1,1 0,0") == Some(true));
+    check(&rt, rt.alloc(), "rows path => row 0.5 'R path 0,0 1,1 0,0");
 }
