@@ -1,7 +1,10 @@
 //! Offices that dice make, with members whose merges are planned and then given.
 
-use crate::dice::Dice;
-use crate::offices::answer_in;
+use crate::made_up_edits::edit;
+use clr_check::{Verdict, check};
+use clr_engine::{Office, Reply};
+use clr_plan::{Plan, plan};
+use clr_trials::{Dice, commands_of, office_of, perform_script, rows_of};
 use std::alloc::{AllocError, Global};
 use std::test::Fail;
 
@@ -37,7 +40,7 @@ fn add_edits(
     count: u64,
 ) -> Result<(), AllocError> {
     for _ in 0..count {
-        let edit = dice.edit(alloc)?;
+        let edit = edit(alloc, dice)?;
         let step = format!(in alloc; "apply,{name},1\n{edit}")?;
         script.push_str(step.as_str())?;
     }
@@ -73,7 +76,7 @@ fn order(dice: &mut Dice) -> [u8; 3] {
 
 /// Merges of the first members in an order that dice choose, each after a refresh of one of them.
 fn merges(alloc: Global, dice: &mut Dice, members: u8) -> Result<String, AllocError> {
-    let mut script = String::from_str(alloc, "rows\n")?;
+    let mut script = String::new(alloc);
     for member in order(dice) {
         if member <= members {
             let refreshed = dice.throw(2) + 1;
@@ -84,6 +87,16 @@ fn merges(alloc: Global, dice: &mut Dice, members: u8) -> Result<String, AllocEr
     Ok(script)
 }
 
+/// The rows of LIVE after a script, whatever it is answered, and merges, if all are done.
+fn rows_in(alloc: Global, office: &mut Office, script: &str, merges: &str) -> Option<Vec<u8>> {
+    perform_script(alloc, office, script)?;
+    if perform_script(alloc, office, merges)? {
+        rows_of(alloc, office, "LIVE")
+    } else {
+        None
+    }
+}
+
 /// The rows of LIVE after such merges in a made-up office, if all are done.
 fn rows_after_merges(
     alloc: Global,
@@ -92,8 +105,11 @@ fn rows_after_merges(
     members: u8,
 ) -> Result<Vec<u8>, Fail> {
     let merges = merges(alloc, dice, members)?;
-    let (_, rows) = answer_in(alloc, network, script, merges.as_str()).ok_or("a merge is refused")?;
-    Ok(rows)
+    let rows = match office_of(alloc, network) {
+        Some(mut office) => rows_in(alloc, &mut office, script, merges.as_str()),
+        None => None,
+    };
+    Ok(rows.ok_or("a merge is refused")?)
 }
 
 /// Whether all members of a cleared office can be merged in three orders, with the same rows.
@@ -120,30 +136,76 @@ enum Outcome {
     Wrong,
 }
 
+/// The merges of members in the order of a plan.
+fn merges_in(alloc: Global, members: &[&str], order: &[usize]) -> Option<String> {
+    let mut script = String::new(alloc);
+    for position in order {
+        let step = format!(in alloc; "merge,{},keep\n", members.get(*position)?).ok()?;
+        script.push_str(step.as_str()).ok()?;
+    }
+    Some(script)
+}
+
+/// Whether merges in the order of a plan are refused for a conflict or a broken rule.
+fn is_refused(
+    alloc: Global,
+    office: &mut Office,
+    members: &[&str],
+    order: &[usize],
+) -> Option<bool> {
+    let script = merges_in(alloc, members, order)?;
+    let commands = commands_of(alloc, office, script.as_str())?;
+    let replies = office.perform_all(commands.as_slice()).ok()?;
+    Some(replies.iter().any(|reply| matches!(reply, Reply::Conflict(..) | Reply::RuleBroken(_))))
+}
+
+/// How the plan for members of LIVE turns out in an office after a script; alike where its certificate is clear.
+fn outcome_in(
+    alloc: Global,
+    office: &mut Office,
+    script: &str,
+    members: &[&str],
+) -> Option<Outcome> {
+    perform_script(alloc, office, script)?;
+    let (is_so, outcome) = match plan(alloc, office, "LIVE", members) {
+        Plan::Cleared(certificate) => {
+            let is_clear = check(alloc, office, &certificate) == Verdict::Clear;
+            (is_clear, Outcome::Alike)
+        }
+        Plan::Blocked { order, .. } => {
+            let is_refused = is_refused(alloc, office, members, order.as_slice())?;
+            (is_refused, Outcome::Refused)
+        }
+        _ => return None,
+    };
+    Some(if is_so { outcome } else { Outcome::Wrong })
+}
+
+/// The same in the office of a text.
+fn outcome_over(
+    alloc: Global,
+    (network, script): (&str, &str),
+    members: &[&str],
+) -> Option<Outcome> {
+    match office_of(alloc, network) {
+        Some(mut office) => outcome_in(alloc, &mut office, script, members),
+        None => None,
+    }
+}
+
 /// How the plan of the office that a seed makes turns out.
 fn plan_outcome(alloc: Global, seed: u64) -> Result<Outcome, Fail> {
     let mut dice = Dice::new(seed);
     let network = network(alloc, &mut dice)?;
     let script = script(alloc, &mut dice)?;
     let texts = (network.as_str(), script.as_str());
-    let members = if seed % 2 == 0 { 2 } else { 3 };
-    let asked = if members == 2 {
-        "judge\nW1 W2\n"
-    } else {
-        "judge\nW1 W2 W3\n"
-    };
-    let answered = answer_in(alloc, texts.0, texts.1, asked);
-    let (_, line) = answered.ok_or("nothing is planned")?;
-    if line.as_slice() == b"refused\n".as_slice() {
-        return Ok(Outcome::Refused);
+    let members: u8 = if seed % 2 == 0 { 2 } else { 3 };
+    let names: &[&str] = if members == 2 { &["W1", "W2"] } else { &NAMES };
+    let outcome = outcome_over(alloc, texts, names).ok_or("nothing is planned")?;
+    if outcome == Outcome::Alike && !are_alike(alloc, &mut dice, texts, members)? {
+        return Ok(Outcome::Wrong);
     }
-    let is_clear = line.as_slice() == b"cleared\n".as_slice();
-    let is_so = is_clear && are_alike(alloc, &mut dice, texts, members)?;
-    Ok(if is_so {
-        Outcome::Alike
-    } else {
-        Outcome::Wrong
-    })
+    Ok(outcome)
 }
 
 /// How the plans of a hundred offices turn out.

@@ -1,6 +1,8 @@
+//! Office texts by name.
+
 /// A node at which two mains cross, and no hydrant: codes of mains are unique, where mains meet
 /// there is a node, and a hydrant names its main.
-pub(crate) const CROSSING: &str = r#"{"format":1,"tables":[
+const CROSSING: &str = r#"{"format":1,"tables":[
 {"name":"node","columns":[["kind","TEXT"]],"shape":"POINT"},
 {"name":"main","columns":[["code","TEXT"]],"shape":"SEGMENT"},
 {"name":"hydrant","columns":[["main","INT"]],"shape":"POINT"}],
@@ -38,13 +40,20 @@ const ONE_NODE: &str = r#"{"format":1,"tables":[
 {"name":"node","columns":[["kind","TEXT"]],"shape":"POINT"}],
 "live":[{"t":"node","k":9,"v":["valve"],"s":[5,5]}]}"#;
 
+/// One code, which no other row may have.
+const ONE_CODE: &str = r#"{"format":3,"tables":[
+{"name":"code","columns":[["code","TEXT"]],"shape":"NONE"}],
+"rules":[{"kind":"UNIQUE","subject":{"table":"code"},"columns":["code"]}],
+"live":[{"t":"code","k":1,"v":["A"],"s":[]}]}"#;
+
 /// The office text of a name.
-pub(crate) fn network(name: &str) -> Option<&'static str> {
+pub fn network(name: &str) -> Option<&'static str> {
     match name {
         "crossing" => Some(CROSSING),
-        "one_main" => Some(ONE_MAIN),
+        "one main" => Some(ONE_MAIN),
         "paths" => Some(PATHS),
-        "one_node" => Some(ONE_NODE),
+        "one node" => Some(ONE_NODE),
+        "one code" => Some(ONE_CODE),
         _ => None,
     }
 }

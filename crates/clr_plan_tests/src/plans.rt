@@ -1,4 +1,4 @@
-use crate::cases::first_wrong;
+use crate::answers::first_wrong;
 
 /// Members that are cleared, and with which certificate.
 const CLEARED: &str = "crossing
@@ -21,13 +21,6 @@ member,W2,,,,
 ----
 cleared
 ====
-crossing
-create,W1,LIVE
-create,W2,LIVE
-apply,W1,1
-insert,main,20,D,100,0,100,10
-apply,W2,1
-insert,main,21,E,200,0,200,10
 ----
 plan LIVE W2 W1
 member,W2,,,,
@@ -68,19 +61,6 @@ need,1,main/1/old,main/2/old,node/11/old,
 ----
 cleared
 ====
-crossing
-apply,LIVE,2
-insert,node,10,valve,5,5
-insert,node,11,valve,5,5
-create,W1,LIVE
-create,W2,LIVE
-create,W3,LIVE
-apply,W1,1
-delete,node,9
-apply,W2,1
-delete,node,10
-apply,W3,1
-delete,node,11
 ----
 plan LIVE W1 W3
 member,W1,,,,
@@ -89,19 +69,6 @@ need,1,main/1/old,main/2/old,node/10/old,
 ----
 cleared
 ====
-crossing
-apply,LIVE,2
-insert,node,10,valve,5,5
-insert,node,11,valve,5,5
-create,W1,LIVE
-create,W2,LIVE
-create,W3,LIVE
-apply,W1,1
-delete,node,9
-apply,W2,1
-delete,node,10
-apply,W3,1
-delete,node,11
 ----
 plan LIVE W2 W3
 member,W2,,,,
@@ -201,7 +168,7 @@ plan LIVE W1
 blocked W1
 cause 6 Uncovered rule 1 main/1/old main/2/old
 ====
-one_main
+one main
 create,W1,LIVE
 apply,LIVE,2
 insert,node,9,valve,5,5
@@ -328,34 +295,16 @@ plan LIVE W1 W1
 ----
 1 RepeatedMember W1
 ====
-crossing
-create,W1,LIVE
-mark,W1,s1
-apply,W1,1
-insert,main,20,D,100,0,100,10
-create,W2,W1
 ----
 plan LIVE W9
 ----
 2 NoWorkspace W9
 ====
-crossing
-create,W1,LIVE
-mark,W1,s1
-apply,W1,1
-insert,main,20,D,100,0,100,10
-create,W2,W1
 ----
 plan LIVE W2
 ----
 3 NotUnderRoot W2
 ====
-crossing
-create,W1,LIVE
-mark,W1,s1
-apply,W1,1
-insert,main,20,D,100,0,100,10
-create,W2,W1
 ----
 plan LIVE LIVE
 ----
@@ -378,15 +327,6 @@ member,V2,,,,
 ----
 cleared
 ====
-crossing
-create,K,LIVE
-hold,K
-create,V1,K
-create,V2,K
-apply,V1,1
-insert,main,20,D,100,0,100,10
-apply,V2,1
-insert,main,21,E,200,0,200,10
 ----
 plan LIVE V1
 ----
@@ -431,15 +371,6 @@ member,W2,,,,
 ----
 cleared
 ====
-crossing
-create,W1,LIVE
-create,W2,LIVE
-apply,W1,1
-insert,main,20,D,100,0,100,10
-apply,W2,1
-insert,main,21,E,200,0,200,10
-merge,W1,keep
-refresh,W2
 ----
 plan LIVE W2
 member,W2,,,,

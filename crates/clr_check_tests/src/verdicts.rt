@@ -1,4 +1,4 @@
-use crate::cases::first_wrong;
+use crate::answers::first_wrong;
 
 /// Members that are clear.
 const CLEAR: &str = "crossing
@@ -7,13 +7,13 @@ check
 ----
 clear
 ====
-one_node
+one node
 ----
 check
 ----
 clear
 ====
-one_node
+one node
 create,W1,LIVE
 create,W2,LIVE
 apply,W1,1
@@ -41,13 +41,6 @@ member,W2,,,,
 ----
 clear
 ====
-crossing
-create,W1,LIVE
-create,W2,LIVE
-apply,W1,1
-insert,main,20,D,100,0,100,10
-apply,W2,1
-insert,main,21,E,200,0,200,10
 ----
 check
 member,W2,,,,
@@ -87,19 +80,6 @@ need,1,main/1/old,main/2/old,node/11/old,
 ----
 clear
 ====
-crossing
-apply,LIVE,2
-insert,node,10,valve,5,5
-insert,node,11,valve,5,5
-create,W1,LIVE
-create,W2,LIVE
-create,W3,LIVE
-apply,W1,1
-delete,node,9
-apply,W2,1
-delete,node,10
-apply,W3,1
-delete,node,11
 ----
 check
 member,W1,,,,
@@ -193,48 +173,24 @@ member,W1,,,,
 ----
 1 RepeatedMember W1
 ====
-crossing
-create,W1,LIVE
-mark,W1,s1
-apply,W1,1
-insert,main,20,D,100,0,100,10
-create,W2,W1
 ----
 check
 member,W9,,,,
 ----
 2 NoWorkspace W9
 ====
-crossing
-create,W1,LIVE
-mark,W1,s1
-apply,W1,1
-insert,main,20,D,100,0,100,10
-create,W2,W1
 ----
 check
 member,W2,,,,
 ----
 3 NotUnderRoot W2
 ====
-crossing
-create,W1,LIVE
-mark,W1,s1
-apply,W1,1
-insert,main,20,D,100,0,100,10
-create,W2,W1
 ----
 check
 member,LIVE,,,,
 ----
 3 NotUnderRoot LIVE
 ====
-crossing
-create,W1,LIVE
-mark,W1,s1
-apply,W1,1
-insert,main,20,D,100,0,100,10
-create,W2,W1
 ----
 check
 member,W2,,,,
@@ -244,12 +200,6 @@ member,W1,,,,
 ----
 1 RepeatedMember W1
 ====
-crossing
-create,W1,LIVE
-mark,W1,s1
-apply,W1,1
-insert,main,20,D,100,0,100,10
-create,W2,W1
 ----
 check
 member,W2,,,,
@@ -272,15 +222,6 @@ member,V1,,,,
 ----
 3 NotUnderRoot V1
 ====
-crossing
-create,K,LIVE
-hold,K
-create,V1,K
-create,V2,K
-apply,V1,1
-insert,main,20,D,100,0,100,10
-apply,V2,1
-insert,main,21,E,200,0,200,10
 ----
 check
 root,K,,,,
@@ -305,16 +246,6 @@ member,V1,,,,
 ----
 7 NotKept K
 ====
-crossing
-create,K,LIVE
-hold,K
-create,V1,K
-create,V2,K
-apply,V1,1
-insert,main,20,D,100,0,100,10
-apply,V2,1
-insert,main,21,E,200,0,200,10
-release,K
 ----
 check
 root,X,,,,
@@ -323,7 +254,7 @@ member,V1,,,,
 ----
 7 NotKept X
 ====
-one_node
+one node
 create,W1,LIVE
 create,W2,LIVE
 apply,W1,1
@@ -345,7 +276,7 @@ fn names_that_are_wrong(rt: HostRuntime) {
 }
 
 /// Members in conflict, shared cells, and needs that nothing covers.
-const BLOCKED: &str = "one_node
+const BLOCKED: &str = "one node
 create,W1,LIVE
 create,W2,LIVE
 apply,W1,1
@@ -373,13 +304,6 @@ member,W2,,,,
 ----
 5 SharedCell main/20 W1 W2
 ====
-crossing
-create,W1,LIVE
-create,W2,LIVE
-apply,W1,1
-insert,main,20,D,100,0,100,10
-apply,W2,1
-insert,main,20,D,100,0,100,10
 ----
 check
 member,W2,,,,
@@ -411,7 +335,7 @@ member,W1,,,,
 ----
 6 Uncovered rule 1 main/1/old main/2/old
 ====
-one_main
+one main
 create,W1,LIVE
 apply,LIVE,2
 insert,node,9,valve,5,5
@@ -504,16 +428,6 @@ member,V1,,,,
 ----
 6 Uncovered rule 1 main/1/old main/2/old
 ====
-crossing
-create,K,LIVE
-hold,K
-apply,K,1
-insert,main,30,Z,300,0,300,10
-apply,LIVE,1
-insert,main,31,Z,400,0,400,10
-create,V1,K
-apply,V1,1
-delete,node,9
 ----
 check
 member,K,,,,

@@ -1,4 +1,4 @@
-use crate::cases::first_wrong;
+use crate::answers::first_wrong;
 
 /// Merges of members that are blocked, in an order in which one is refused; and what else is refused
 /// or done then.
@@ -17,7 +17,7 @@ merge,W2,keep
 done
 refused 10 Conflict main/20 1
 ====
-one_node
+one node
 create,W1,LIVE
 create,W2,LIVE
 apply,W1,1
@@ -59,7 +59,7 @@ merge,W1,keep
 ----
 refused 12 RuleBroken rule 1 main/1 main/2
 ====
-one_main
+one main
 create,W1,LIVE
 apply,LIVE,2
 insert,node,9,valve,5,5
@@ -167,41 +167,8 @@ fn merges_of_blocked_members(rt: HostRuntime) {
     assert_eq!(rt; first_wrong(rt.alloc(), BLOCKED), None);
 }
 
-/// Merges that are to take the workspace away, given under a certificate and without one.
+/// Merges that are to take the workspace away.
 const REMOVING: &str = "crossing
-create,W1,LIVE
-create,W2,LIVE
-apply,W1,1
-insert,main,20,D,100,0,100,10
-apply,W2,1
-insert,main,21,E,200,0,200,10
-create,K,W2
-----
-run
-member,W1,,,,
-member,W2,,,,
---
-merge,W2,remove
-remove,K
-merge,W2,remove
-refresh,W2
-merge,W1,remove
-merge,W2,remove
-----
-refused 5 NotLeaf
-done
-done
-refused 1 NoWorkspace
-done
-refused 1 NoWorkspace
-rows 5
-node,9,valve,5,5
-main,1,A,0,0,10,10
-main,2,C,0,10,10,0
-main,20,D,100,0,100,10
-main,21,E,200,0,200,10
-====
-crossing
 create,W1,LIVE
 mark,W1,s1
 apply,W1,1
@@ -226,32 +193,6 @@ done
 refused 7 NoSavepoint
 done
 refused 1 NoWorkspace
-====
-crossing
-create,K,LIVE
-hold,K
-create,V1,K
-create,V2,K
-apply,V1,1
-insert,main,20,D,100,0,100,10
-apply,V2,1
-insert,main,21,E,200,0,200,10
-----
-run
-root,K,,,,
-member,V1,,,,
-member,V2,,,,
---
-merge,V1,remove
-create,V1,K
-----
-done
-stopped 2
-rows 4
-node,9,valve,5,5
-main,1,A,0,0,10,10
-main,2,C,0,10,10,0
-main,20,D,100,0,100,10
 ====
 ";
 

@@ -1,17 +1,13 @@
-//! Lists of commands of many kinds, given under certificates, and the offices that they leave. Each
-//! case ends with a line `====` and has six parts, parted by lines `----`: the shapes of the mains
-//! and of the hydrants, with the rules; the rows and workspaces before; a certificate; commands; the
-//! lines that are answered; and the rows and workspaces after them.
+//! Lists of commands of many kinds, given under certificates, and the offices that they leave. The setting of a case is the shapes
+//! of the mains and of the hydrants, with the rules; behind it stand the rows and workspaces before; a certificate; commands; the
+//! lines that are answered; and the rows and workspaces after them, or nothing where these are as before.
 
 use crate::answers::run_under;
-use crate::offices::office_of;
-use crate::texts::certificate_of;
+use clr_clearance_trials::certificate_of;
 use clr_engine::Office;
 use clr_office_writer::write_office;
+use clr_trials::{first_wrong, office_of};
 use std::alloc::Global;
-
-/// More cases than a text has.
-const MOST: usize = 100;
 
 /// The office of a network, and rows and workspaces.
 fn office_in(alloc: Global, network: &str, contents: &str) -> Option<Office> {
@@ -44,30 +40,23 @@ fn is_left(
 }
 
 /// Whether a case is so.
-fn is_so(alloc: Global, case: &str) -> Option<bool> {
-    let (network, rest) = case.split_once("----\n")?;
+fn is_so(alloc: Global, network: &str, rest: &str) -> Option<bool> {
     let (before, rest) = rest.split_once("----\n")?;
     let (certificate, rest) = rest.split_once("----\n")?;
     let (commands, rest) = rest.split_once("----\n")?;
-    let (lines, after) = rest.split_once("----\n")?;
+    let (lines, rest) = rest.split_once("----\n")?;
+    let after = if rest.is_empty() { before } else { rest };
     let mut office = office_in(alloc, network, before)?;
     let other = office_in(alloc, network, after)?;
     is_left(alloc, &mut office, (certificate, commands), lines, &other)
 }
 
 /// The position of the first case that isn't so.
-fn first_wrong(alloc: Global, cases: &str) -> Option<usize> {
-    let mut rest = cases;
-    for at in 0..MOST {
-        let Some((case, others)) = rest.split_once("====\n") else {
-            return None;
-        };
-        if is_so(alloc, case) != Some(true) {
-            return Some(at);
-        }
-        rest = others;
-    }
-    Some(MOST)
+fn first_not_so(alloc: Global, cases: &str) -> Option<usize> {
+    first_wrong(
+        cases,
+        |network, rest| is_so(alloc, network, rest) == Some(true),
+    )
 }
 
 /// Members that are merged between commands of others.
@@ -305,7 +294,7 @@ done
 
 #[test]
 fn members_merged_between_other_commands(rt: HostRuntime) {
-    assert_eq!(rt; first_wrong(rt.alloc(), MERGED), None);
+    assert_eq!(rt; first_not_so(rt.alloc(), MERGED), None);
 }
 
 /// Runs that stop at a command that isn't quiet.
@@ -339,8 +328,6 @@ done
 done
 stopped 6
 ----
-"live":[{"t":"node","k":3,"v":["a",2],"s":[4,1]},{"t":"node","k":4,"v":["a",3],"s":[2,1]}],
-"workspaces":[{"name":"W1","parent":"LIVE","rows":[{"t":"node","k":4,"v":["b",4],"s":[2,1]}]}]
 ====
 SEGMENT POINT
 "rules":[{"kind":"ENDNODE","subject":{"table":"main"},"tip":"FIRST","server":{"table":"node"}},
@@ -371,12 +358,6 @@ unmark,W1,s1
 ----
 stopped 1
 ----
-"live":[{"t":"node","k":1,"v":["a",2],"s":[0,4]},{"t":"node","k":2,"v":["c",2],"s":[3,0]},
-{"t":"node","k":4,"v":["b",4],"s":[4,2]},{"t":"node","k":8,"v":["c",2],"s":[0,2]},
-{"t":"hyd","k":2,"v":[1],"s":[1,4]},{"t":"hyd","k":6,"v":[1],"s":[2,4]}],
-"workspaces":[{"name":"W1","parent":"LIVE","rows":[{"t":"node","k":2,"gone":true},
-{"t":"node","k":15,"v":["a",4],"s":[3,0]}],"marks":[{"child":"W1c"}]},
-{"name":"W1c","parent":"W1"}]
 ====
 PATH POINT
 "rules":[{"kind":"CROSSING","a":{"table":"main"},"b":{"table":"main","where":[["ref",3]]},
@@ -444,10 +425,6 @@ done
 refused 7 NoSavepoint
 stopped 3
 ----
-"live":[{"t":"node","k":3,"v":["b",1],"s":[0,2]},{"t":"main","k":3,"v":["d",3],"s":[0,3,2,3]},
-{"t":"hyd","k":1,"v":[1],"s":[0,4]},{"t":"hyd","k":2,"v":[4],"s":[4,3]}],
-"workspaces":[{"name":"W1","parent":"LIVE","rows":[{"t":"node","k":16,"v":["a",1],"s":[2,4]},
-{"t":"hyd","k":1,"gone":true},{"t":"hyd","k":9,"v":[1],"s":[0,4]}]}]
 ====
 SEGMENT POINT
 "rules":[{"kind":"CROSSING","a":{"table":"main"},"b":{"table":"main"},"server":{"table":"node"}},
@@ -492,7 +469,7 @@ stopped 4
 
 #[test]
 fn runs_that_stop(rt: HostRuntime) {
-    assert_eq!(rt; first_wrong(rt.alloc(), STOPPED), None);
+    assert_eq!(rt; first_not_so(rt.alloc(), STOPPED), None);
 }
 
 /// Members that are cleared in networks of paths.
@@ -636,7 +613,7 @@ done
 
 #[test]
 fn members_in_networks_of_paths(rt: HostRuntime) {
-    assert_eq!(rt; first_wrong(rt.alloc(), PATHS), None);
+    assert_eq!(rt; first_not_so(rt.alloc(), PATHS), None);
 }
 
 /// Children of a workspace that is kept.
@@ -861,7 +838,7 @@ done
 
 #[test]
 fn children_of_a_kept_workspace(rt: HostRuntime) {
-    assert_eq!(rt; first_wrong(rt.alloc(), ROOTS), None);
+    assert_eq!(rt; first_not_so(rt.alloc(), ROOTS), None);
 }
 
 /// Certificates that aren't clear: nothing is performed.
@@ -894,14 +871,6 @@ merge,W3,keep
 ----
 5 SharedCell main/5 W1 W2
 ----
-"live":[{"t":"node","k":3,"v":["c",3],"s":[2,0]},{"t":"node","k":5,"v":["d",2],"s":[4,0]},
-{"t":"main","k":5,"v":["c",2],"s":[0,4,2,4]}],
-"workspaces":[{"name":"W1","parent":"LIVE","rows":[{"t":"node","k":15,"v":["d",3],"s":[0,4]},
-{"t":"main","k":5,"gone":true},{"t":"main","k":15,"v":["c",2],"s":[0,4,2,4]},
-{"t":"hyd","k":11,"v":[2],"s":[0,3]}]},{"name":"W2","parent":"LIVE",
-"rows":[{"t":"main","k":5,"gone":true},{"t":"main","k":20,"v":["c",2],"s":[0,4,2,4]}]},
-{"name":"W3","parent":"LIVE","rows":[{"t":"main","k":5,"gone":true},
-{"t":"main","k":30,"v":["c",2],"s":[0,4,2,4]}]}]
 ====
 SEGMENT NONE
 "rules":[{"kind":"ENDNODE","subject":{"table":"main"},"tip":"SECOND",
@@ -935,15 +904,6 @@ remove,Z1
 ----
 4 Conflict W1 main/6 1
 ----
-"live":[{"t":"node","k":1,"v":["d",1],"s":[2,2]},{"t":"node","k":3,"v":["a",1],"s":[4,0]},
-{"t":"node","k":5,"v":["b",1],"s":[4,3]},{"t":"main","k":3,"v":["c",3],"s":[3,0,4,3]},
-{"t":"main","k":5,"v":["b",1],"s":[3,1,4,0]},{"t":"main","k":6,"v":["c",2],"s":[1,2,2,2]}],
-"workspaces":[{"name":"W1","parent":"LIVE","base":[{"t":"main","k":6,"v":["d",2],"s":[1,2,2,2]}],
-"rows":[{"t":"node","k":6,"v":["a",1],"s":[0,4]},{"t":"main","k":5,"gone":true},
-{"t":"main","k":6,"v":["a",4],"s":[1,2,0,4]},{"t":"main","k":7,"v":["b",1],"s":[3,1,4,0]}],
-"marks":[{"savepoint":"s1","rows":[{"t":"node","k":6,"v":["a",1],"s":[0,4]},
-{"t":"main","k":5,"gone":true},{"t":"main","k":6,"v":["a",4],"s":[1,2,0,4]},
-{"t":"main","k":7,"v":["b",1],"s":[3,1,4,0]}]}]}]
 ====
 SEGMENT SEGMENT
 "rules":[{"kind":"UNIQUE","subject":{"table":"hyd"},"columns":["ref"]},
@@ -978,17 +938,10 @@ merge,W3,keep
 ----
 6 Uncovered rule 0 hyd/2/old hyd/17/new
 ----
-"live":[{"t":"node","k":2,"v":["b",1],"s":[4,2]},{"t":"hyd","k":2,"v":[4],"s":[0,2,1,0]},
-{"t":"hyd","k":3,"v":[3],"s":[1,4,3,0]}],
-"workspaces":[{"name":"W1","parent":"LIVE","rows":[{"t":"hyd","k":16,"v":[1],"s":[1,4,2,0]}],
-"marks":[{"savepoint":"s1","rows":[{"t":"hyd","k":16,"v":[1],"s":[1,4,2,0]}]}]},
-{"name":"W2","parent":"LIVE","rows":[{"t":"hyd","k":17,"v":[4],"s":[3,0,2,3]}]},
-{"name":"W3","parent":"LIVE","rows":[{"t":"hyd","k":3,"v":[2],"s":[1,4,3,0]},
-{"t":"hyd","k":25,"v":[4],"s":[2,1,0,0]}],"marks":[{"child":"W3c"}]},{"name":"W3c","parent":"W3"}]
 ====
 "#;
 
 #[test]
 fn certificates_that_are_not_clear(rt: HostRuntime) {
-    assert_eq!(rt; first_wrong(rt.alloc(), REFUSED), None);
+    assert_eq!(rt; first_not_so(rt.alloc(), REFUSED), None);
 }

@@ -1,6 +1,6 @@
 //! Certificates that somebody made up: each gets its verdict, and none does harm.
 
-use crate::cases::first_wrong;
+use crate::answers::first_wrong;
 use std::alloc::{AllocError, Global};
 use std::test::Fail;
 
@@ -17,11 +17,6 @@ need,1,main/1/old,main/2/old,node/9/old,
 ----
 6 Uncovered rule 1 main/1/old main/2/old
 ====
-crossing
-create,W1,LIVE
-apply,W1,2
-delete,node,9
-insert,node,10,valve,5,5
 ----
 check
 member,W1,,,,
@@ -29,11 +24,6 @@ need,1,main/1/old,main/2/old,node/10/new,
 ----
 6 Uncovered rule 1 main/1/old main/2/old
 ====
-crossing
-create,W1,LIVE
-apply,W1,2
-delete,node,9
-insert,node,10,valve,5,5
 ----
 check
 member,W1,,,,
@@ -41,11 +31,6 @@ need,1,main/1/old,main/2/old,node/77/old,node/10/new
 ----
 6 Uncovered rule 1 main/1/old main/2/old
 ====
-crossing
-create,W1,LIVE
-apply,W1,2
-delete,node,9
-insert,node,10,valve,5,5
 ----
 check
 member,W1,,,,
@@ -53,11 +38,6 @@ need,1,main/1/old,main/2/old,node/9/new,node/10/new
 ----
 6 Uncovered rule 1 main/1/old main/2/old
 ====
-crossing
-create,W1,LIVE
-apply,W1,2
-delete,node,9
-insert,node,10,valve,5,5
 ----
 check
 member,W1,,,,
@@ -65,11 +45,6 @@ need,1,main/1/old,main/2/old,node/10/old,node/9/new
 ----
 6 Uncovered rule 1 main/1/old main/2/old
 ====
-crossing
-create,W1,LIVE
-apply,W1,2
-delete,node,9
-insert,node,10,valve,5,5
 ----
 check
 member,W1,,,,
@@ -77,11 +52,6 @@ need,1,main/1/old,main/2/old,main/1/old,
 ----
 6 Uncovered rule 1 main/1/old main/2/old
 ====
-crossing
-create,W1,LIVE
-apply,W1,2
-delete,node,9
-insert,node,10,valve,5,5
 ----
 check
 member,W1,,,,
@@ -89,11 +59,6 @@ need,0,main/1/old,main/2/old,node/9/old,node/10/new
 ----
 6 Uncovered rule 1 main/1/old main/2/old
 ====
-crossing
-create,W1,LIVE
-apply,W1,2
-delete,node,9
-insert,node,10,valve,5,5
 ----
 check
 member,W1,,,,
@@ -101,11 +66,6 @@ need,64,main/1/old,main/2/old,node/9/old,node/10/new
 ----
 6 Uncovered rule 1 main/1/old main/2/old
 ====
-crossing
-create,W1,LIVE
-apply,W1,2
-delete,node,9
-insert,node,10,valve,5,5
 ----
 check
 member,W1,,,,
@@ -113,11 +73,6 @@ need,1,main/2/old,main/1/old,node/9/old,node/10/new
 ----
 6 Uncovered rule 1 main/1/old main/2/old
 ====
-crossing
-create,W1,LIVE
-apply,W1,2
-delete,node,9
-insert,node,10,valve,5,5
 ----
 check
 member,W1,,,,
@@ -125,11 +80,6 @@ need,1,main/1/old,,node/9/old,node/10/new
 ----
 6 Uncovered rule 1 main/1/old main/2/old
 ====
-crossing
-create,W1,LIVE
-apply,W1,2
-delete,node,9
-insert,node,10,valve,5,5
 ----
 check
 member,W1,,,,
@@ -137,11 +87,6 @@ need,1,main/1/old/2,main/2/old,node/9/old,node/10/new
 ----
 6 Uncovered rule 1 main/1/old main/2/old
 ====
-crossing
-create,W1,LIVE
-apply,W1,2
-delete,node,9
-insert,node,10,valve,5,5
 ----
 check
 member,W1,,,,
@@ -149,11 +94,6 @@ need,1,main/1/old,main/2/old,node/10/new,node/9/old
 ----
 clear
 ====
-crossing
-create,W1,LIVE
-apply,W1,2
-delete,node,9
-insert,node,10,valve,5,5
 ----
 check
 need,1,main/1/old,main/2/old,node/9/old,node/10/new
@@ -161,11 +101,6 @@ member,W1,,,,
 ----
 clear
 ====
-crossing
-create,W1,LIVE
-apply,W1,2
-delete,node,9
-insert,node,10,valve,5,5
 ----
 check
 member,W1,,,,
@@ -174,11 +109,6 @@ need,5,main/1/old,,node/9/old,
 ----
 clear
 ====
-crossing
-create,W1,LIVE
-apply,W1,2
-delete,node,9
-insert,node,10,valve,5,5
 ----
 check
 member,W1,,,,
@@ -217,19 +147,6 @@ need,1,main/1/old,main/2/old,node/11/old,
 ----
 6 Uncovered rule 1 main/1/old main/2/old
 ====
-crossing
-apply,LIVE,2
-insert,node,10,valve,5,5
-insert,node,11,valve,5,5
-create,W1,LIVE
-create,W2,LIVE
-create,W3,LIVE
-apply,W1,1
-delete,node,9
-apply,W2,1
-delete,node,10
-apply,W3,1
-delete,node,11
 ----
 check
 member,W1,,,,
@@ -239,19 +156,6 @@ need,1,main/1/old,main/2/old,node/9/old,node/10/old
 ----
 6 Uncovered rule 1 main/1/old main/2/old
 ====
-crossing
-apply,LIVE,2
-insert,node,10,valve,5,5
-insert,node,11,valve,5,5
-create,W1,LIVE
-create,W2,LIVE
-create,W3,LIVE
-apply,W1,1
-delete,node,9
-apply,W2,1
-delete,node,10
-apply,W3,1
-delete,node,11
 ----
 check
 member,W1,,,,
@@ -263,19 +167,6 @@ need,1,main/1/old,main/2/old,node/11/old,
 ----
 6 Uncovered rule 1 main/1/old main/2/old
 ====
-crossing
-apply,LIVE,2
-insert,node,10,valve,5,5
-insert,node,11,valve,5,5
-create,W1,LIVE
-create,W2,LIVE
-create,W3,LIVE
-apply,W1,1
-delete,node,9
-apply,W2,1
-delete,node,10
-apply,W3,1
-delete,node,11
 ----
 check
 member,W1,,,,
@@ -310,17 +201,6 @@ need,1,main/20/old,main/21/old,node/31/old,node/32/new
 ----
 6 Uncovered rule 1 main/20/old/3 main/21/old
 ====
-paths
-apply,LIVE,4
-insert,node,30,tee,105,0
-insert,main,20,D,100,0,110,0,110,10,100,10
-insert,main,21,E,105,-5,105,15
-insert,node,31,tee,105,10
-create,W1,LIVE
-apply,W1,1
-delete,node,31
-apply,W1,1
-insert,node,32,tee,105,10
 ----
 check
 member,W1,,,,
@@ -328,17 +208,6 @@ need,1,main/20/old/4,main/21/old,node/31/old,node/32/new
 ----
 6 Uncovered rule 1 main/20/old/3 main/21/old
 ====
-paths
-apply,LIVE,4
-insert,node,30,tee,105,0
-insert,main,20,D,100,0,110,0,110,10,100,10
-insert,main,21,E,105,-5,105,15
-insert,node,31,tee,105,10
-create,W1,LIVE
-apply,W1,1
-delete,node,31
-apply,W1,1
-insert,node,32,tee,105,10
 ----
 check
 member,W1,,,,
@@ -346,17 +215,6 @@ need,1,main/20/old/3,main/21/old,node/30/old,
 ----
 6 Uncovered rule 1 main/20/old/3 main/21/old
 ====
-paths
-apply,LIVE,4
-insert,node,30,tee,105,0
-insert,main,20,D,100,0,110,0,110,10,100,10
-insert,main,21,E,105,-5,105,15
-insert,node,31,tee,105,10
-create,W1,LIVE
-apply,W1,1
-delete,node,31
-apply,W1,1
-insert,node,32,tee,105,10
 ----
 check
 member,W1,,,,
@@ -381,7 +239,6 @@ need,1,main/1/old,main/2/old,no
 ----
 FieldCount at 2
 ====
-crossing
 ----
 read
 member,W1,,,,
@@ -389,7 +246,6 @@ need,1,main/1/old,main/2/old,node/9/old,nod
 ----
 BadReference at 2
 ====
-crossing
 ----
 read
 member,W1,,,,
@@ -397,7 +253,6 @@ need,1,main/1/old,main/2/old,pipe/1/old,
 ----
 BadReference at 2
 ====
-crossing
 ----
 read
 member,W1,,,,
@@ -405,7 +260,6 @@ need,1,main/1/old,main/2/old,main/01/old,
 ----
 BadReference at 2
 ====
-crossing
 ----
 read
 member,W1,,,,
@@ -413,7 +267,6 @@ need,1,main/1/old,main/2/old,main/0/old,
 ----
 BadReference at 2
 ====
-crossing
 ----
 read
 member,W1,,,,
@@ -422,14 +275,12 @@ root,K,,,,
 ----
 BadReference at 3
 ====
-crossing
 ----
 read
 root,LIVE,,,,
 ----
 BadReference at 1
 ====
-crossing
 ----
 read
 members,W1,,,,
@@ -482,7 +333,7 @@ fn one_entry_among_many(rt: HostRuntime) -> Result<(), Fail> {
 
 /// The check of a certificate of 100,000 names, and then this.
 fn with_many_names(alloc: Global, rest: &str) -> Result<String, AllocError> {
-    let mut text = String::from_str(alloc, "one_node\ncreate,W1,LIVE\n----\ncheck\n")?;
+    let mut text = String::from_str(alloc, "one node\ncreate,W1,LIVE\n----\ncheck\n")?;
     for number in 1..100_001u32 {
         let member = format!(in alloc; "member,W{number},,,,\n")?;
         text.push_str(member.as_str())?;
