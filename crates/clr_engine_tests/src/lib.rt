@@ -2,28 +2,14 @@
 #![tactic(auto)]
 
 #[cfg(test)]
-mod admissions;
-#[cfg(test)]
-mod builds;
-#[cfg(test)]
-mod cases;
+mod answers;
 #[cfg(test)]
 mod limits;
 #[cfg(test)]
 mod merges;
-#[cfg(test)]
-mod networks;
-#[cfg(test)]
-mod offices;
-#[cfg(test)]
-mod pictures;
 #[cfg(test)]
 mod refusals;
 #[cfg(test)]
 mod reports;
 #[cfg(test)]
 mod savepoints;
-#[cfg(test)]
-mod scarce_commands;
-#[cfg(test)]
-mod scarce_runs;

@@ -1,6 +1,6 @@
 //! As many workspaces, levels and savepoints as there can be, and one more.
 
-use crate::cases::{first_wrong, is_so};
+use crate::answers::{first_wrong, is_so};
 use std::alloc::{AllocError, Global};
 use std::test::Fail;
 
@@ -63,10 +63,9 @@ fn are_most(
 ) -> Result<bool, AllocError> {
     let commands = numbered_lines(alloc, words, usize::from(count) + 1)?;
     let dones = dones(alloc, usize::from(count))?;
-    let case = format!(in alloc;
-        "one node\n{before}\n{commands}----\ndone\n{dones}refused 6 TooMany\n"
-    )?;
-    Ok(is_so(alloc, case.as_str()))
+    let setting = format!(in alloc; "one node\n{before}\n{commands}")?;
+    let lines = format!(in alloc; "done\n{dones}refused 6 TooMany\n")?;
+    Ok(is_so(alloc, setting.as_str(), lines.as_str()))
 }
 
 #[test]

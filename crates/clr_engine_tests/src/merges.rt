@@ -1,4 +1,4 @@
-use crate::cases::first_wrong;
+use crate::answers::first_wrong;
 
 /// What merges write to the parent, and what they leave.
 const MERGES: &str = "one node

@@ -1,4 +1,4 @@
-use crate::cases::first_wrong;
+use crate::answers::first_wrong;
 
 /// Names that are bad, taken or unknown, LIVE, edits that cannot be made, and rules that LIVE would break.
 const REFUSALS: &str = "crossing

@@ -1,11 +1,11 @@
 //! What steps of scripts are answered, as lines: commands by their replies, and reports by the calls
 //! that show what an office has.
 
-use crate::pictures::picture;
 use clr_engine::Office;
 use clr_lines::{changes_lines, conflicts_lines, reply_line, rows_lines};
 use clr_rows::{Sheet, Words};
 use clr_scripts::{Step, Word};
+use clr_trials::picture;
 use std::alloc::Global;
 
 /// What is answered where there is no workspace of a name.

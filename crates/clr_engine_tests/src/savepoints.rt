@@ -1,4 +1,4 @@
-use crate::cases::first_wrong;
+use crate::answers::first_wrong;
 
 /// Savepoints, those that the mark of a child holds among them.
 const SAVEPOINTS: &str = "crossing

@@ -141,6 +141,14 @@ fn find_the_same(alloc: Global, office: &Office) -> Result<bool, Fail> {
     )
 }
 
+/// The same in the office of tables with rules, and rows of LIVE.
+fn find_the_same_over(alloc: Global, rules: &str, live: &str) -> Result<bool, Fail> {
+    match network(alloc, rules, live, &[]) {
+        Ok(office) => find_the_same(alloc, &office),
+        Err(fail) => Err(fail),
+    }
+}
+
 /// Mains that are long, three of them wide, with nodes on some of them.
 const LONG_MAINS: &str = r#"{"t":"node","k":1,"v":["tee"],"s":[250000,0]},
 {"t":"node","k":2,"v":["tee"],"s":[9000000,9000000]},
@@ -166,13 +174,19 @@ main/6: node/2 main/4 main/5 main/6 main/7 served by node/2
 main/7: node/1 node/2 main/1 main/2 main/3 main/4 main/5 main/6 main/7 served by node/1 node/2
 "#;
 
+/// What the office's own finder finds among them under the rule of ducts that cross mains.
+fn lines_of_long_mains(alloc: Global) -> Result<Vec<u8>, Fail> {
+    match network(alloc, STREETS, LONG_MAINS, &[]) {
+        Ok(office) => indexed_lines_under(alloc, &office, 3),
+        Err(fail) => Err(fail),
+    }
+}
+
 #[test]
 fn wide_rows(rt: HostRuntime) -> Result<(), Fail> {
-    let alloc = rt.alloc();
-    let office = network(alloc, STREETS, LONG_MAINS, &[])?;
-    let lines = indexed_lines_under(alloc, &office, 3)?;
+    let lines = lines_of_long_mains(rt.alloc())?;
     assert!(rt; lines.as_slice() == SHARING.as_bytes());
-    assert!(rt; find_the_same(alloc, &office)?);
+    assert!(rt; find_the_same_over(rt.alloc(), STREETS, LONG_MAINS)?);
     Ok(())
 }
 
@@ -191,18 +205,15 @@ fn both_finders_find_the_same_at_a_crossing(rt: HostRuntime) -> Result<(), Fail>
     let alloc = rt.alloc();
     for (rules, more) in CROSSINGS {
         let live = format!(in alloc; "{CROSSING}{more}")?;
-        let office = network(alloc, rules, live.as_str(), &[])?;
-        assert!(rt; find_the_same(alloc, &office)?, "{more}");
+        assert!(rt; find_the_same_over(alloc, rules, live.as_str())?, "{more}");
     }
     Ok(())
 }
 
 #[test]
 fn both_finders_find_the_same(rt: HostRuntime) -> Result<(), Fail> {
-    let alloc = rt.alloc();
-    for (live, _, _) in SCENES {
-        let office = network(alloc, STREETS, live, &[])?;
-        assert!(rt; find_the_same(alloc, &office)?, "{live}");
+    for (live, _, _) in &SCENES {
+        assert!(rt; find_the_same_over(rt.alloc(), STREETS, live)?, "{live}");
     }
     Ok(())
 }

@@ -6,6 +6,7 @@ use crate::networks::{
 };
 use crate::sites::{SceneOver, assert_said, site_lines};
 use clr_hoard::Hoard;
+use std::alloc::Global;
 use std::test::Fail;
 
 /// What serves no need: codes that are given up and taken.
@@ -232,12 +233,18 @@ fn paths_once_there_is_memory(rt: HostRuntime) -> Result<(), Fail> {
     )
 }
 
+/// What is said of three members that change these rows.
+fn lines_of_three(alloc: Global, changes: &[&str]) -> Result<String, Fail> {
+    match network(alloc, MAINS, CROSSING, changes) {
+        Ok(office) => Ok(site_lines(alloc, &office, "LIVE", members(3), &mut Memory::All)?),
+        Err(fail) => Err(fail),
+    }
+}
+
 #[test]
 fn one_cell_changed_by_two(rt: HostRuntime) -> Result<(), Fail> {
-    let alloc = rt.alloc();
     let main = r#"{"t":"main","k":20,"v":["D"],"s":[100,0,100,10]}"#;
-    let office = network(alloc, MAINS, CROSSING, &[main, "", main])?;
-    let found = site_lines(alloc, &office, "LIVE", members(3), &mut Memory::All)?;
+    let found = lines_of_three(rt.alloc(), &[main, "", main])?;
     assert_eq!(rt; found.as_str(), "shared main/20 0 2\n");
     Ok(())
 }
@@ -250,12 +257,19 @@ const KEPT: &str =
 {"name":"V2","parent":"K","rows":[{"t":"main","k":21,"v":["E"],"s":[200,0,200,10]},
 {"t":"hydrant","k":1,"v":[1],"s":[7,7]}]}"#;
 
+/// What is said of the children of K in the office of a text.
+fn lines_under_k(alloc: Global, text: &str) -> Result<String, Fail> {
+    match office_of(alloc, text) {
+        Ok(office) => Ok(site_lines(alloc, &office, "K", &["V1", "V2"], &mut Memory::All)?),
+        Err(fail) => Err(fail),
+    }
+}
+
 #[test]
 fn children_of_a_kept_workspace(rt: HostRuntime) -> Result<(), Fail> {
     let alloc = rt.alloc();
     let text = format!(in alloc; r#"{MAINS}{CROSSING}],"workspaces":[{KEPT}]}}"#)?;
-    let office = office_of(alloc, text.as_str())?;
-    let found = site_lines(alloc, &office, "K", &["V1", "V2"], &mut Memory::All)?;
+    let found = lines_under_k(alloc, text.as_str())?;
     assert_eq!(rt;
         found.as_str(),
         r#"rule 1 parts 1 1 main/1/old main/2/old served node/9/old-0 node/10/new+0 picked node/9/old-0 node/10/new+0 blocked 0

@@ -3,8 +3,9 @@ ghost use Rattle.std.specs.FinMap as finite;
 ghost use Rattle.std.specs.Prelude.{◌<◌, length};
 
 use crate::schemas::{NETWORK, schema};
-use crate::texts::{add_word, cell, row, text_in};
+use crate::texts::{add_word, text_in};
 use clr_change::{ChangeSet, Edit, Edits, first_conflict, stage};
+use clr_row_texts::{cell, row};
 use clr_rows::{CellId, Change, Row, Sheet};
 use std::alloc::Global;
 

@@ -2,7 +2,7 @@
 
 use crate::places::bounds_text;
 use crate::schemas::{FORMS, schema};
-use crate::texts::{cell, ordinal, row, shape};
+use clr_row_texts::{cell, ordinal, row, shape};
 use clr_rows::{CellId, Row, RowFault, Schema};
 use clr_segments::{box_of_shape, part, parts};
 use std::alloc::Global;

@@ -1,11 +1,11 @@
 //! Edits and scripts as they are read, or why they aren't.
 
-use crate::network::{schema, words};
 use crate::questions::{check, is_answer};
 use crate::script_cases::{
     COMMANDS, COUNTS, EDIT_FAULTS, EDITS, REPORTS, SCRIPT_FAULTS, SCRIPTS, TURNS,
 };
-use crate::texts::{coordinates, edits_text, steps_text, unfold};
+use crate::texts::{coordinates, edits_text, steps_text};
+use clr_line_trials::{schema, unfold, words};
 use clr_rows::Names;
 use clr_scripts::{RecordFault, read_edits, read_script};
 use std::alloc::Global;

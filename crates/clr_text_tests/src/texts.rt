@@ -4,25 +4,7 @@ use clr_change::Edit;
 use clr_rows::{CellId, Place, Row, Shape, Sheet, Value, Words};
 use clr_scripts::Step;
 use clr_steps::{Command, Keep};
-use std::alloc::{AllocError, Global};
-
-/// A text with line ends in place of a character.
-pub(crate) fn unfold(alloc: Global, line: &str, mark: char) -> Option<String> {
-    let mut text = String::new(alloc);
-    for character in line.chars() {
-        let part = if character == mark { '\n' } else { character };
-        text.push(part).ok()?;
-    }
-    Some(text)
-}
-
-/// Whether lines that are made are those of a text.
-pub(crate) fn are_lines(lines: Result<Vec<u8>, AllocError>, text: &str) -> bool {
-    match lines {
-        Ok(lines) => lines.as_slice() == text.as_bytes(),
-        Err(_) => false,
-    }
-}
+use std::alloc::Global;
 
 /// So many coordinates, which are 0 and 1 in turn, each behind a comma.
 pub(crate) fn coordinates(alloc: Global, count: &str) -> Option<String> {

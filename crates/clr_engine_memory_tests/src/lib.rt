@@ -1,0 +1,11 @@
+//! Tests of drafts, and of an office's commands while memory is wanting, by their public calls.
+#![tactic(auto)]
+
+#[cfg(test)]
+mod admissions;
+#[cfg(test)]
+mod builds;
+#[cfg(test)]
+mod scarce_commands;
+#[cfg(test)]
+mod scarce_runs;

@@ -1,0 +1,47 @@
+use clr_rows::{Value, Values, Words};
+use std::alloc::Global;
+
+/// A number with or without a sign.
+pub fn number(text: &str) -> Option<i64> {
+    text.parse::<i64>().ok()
+}
+
+/// The number of a table, a column or a part, or how often a text stands.
+pub fn ordinal(text: &str) -> Option<u16> {
+    text.parse::<u16>().ok()
+}
+
+/// The text itself.
+pub fn words(alloc: Global, text: &str) -> Option<Words> {
+    Some(Words::new(String::from_str(alloc, text).ok()?))
+}
+
+/// A text as often as the number after a star says.
+fn repeat(alloc: Global, text: &str) -> Option<Words> {
+    let (part, times) = text.split_once('*').unwrap_or((text, "1"));
+    let mut whole = String::new(alloc);
+    for _ in 0..ordinal(times)? {
+        whole.push_str(part).ok()?;
+    }
+    Some(Words::new(whole))
+}
+
+/// A text after a quote, as often as the number after a star says; or a number.
+pub fn value(alloc: Global, text: &str) -> Option<Value> {
+    match text.strip_prefix('\'') {
+        Some(text) => Some(Value::Words(repeat(alloc, text)?)),
+        None => Some(Value::Int(number(text)?)),
+    }
+}
+
+/// Values that are parted by plus signs, or none for a hyphen.
+pub fn values(alloc: Global, text: &str) -> Option<Values> {
+    let mut list = Vec::new(alloc);
+    if text == "-" {
+        return Some(Values::new(list));
+    }
+    for part in text.split('+') {
+        list.push(value(alloc, part)?).ok()?;
+    }
+    Some(Values::new(list))
+}
