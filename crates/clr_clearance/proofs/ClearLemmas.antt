@@ -56,7 +56,7 @@ module _ {X : Type 0} (p : X → Bool) where
   pub none_found : (xs : List X) → ((k : ℕ) (x : X) → slice_get xs k ≡ Some x → p x ≡ false) → position p xs ≡ None
   none_found xs fails = position_is xs ∙ none_from 0 xs fails
 
-neither : {X : Type 0} (a b : Option X) → option_or a b ≡ None → (a ≡ None) × (b ≡ None)
+pub neither : {X : Type 0} (a b : Option X) → option_or a b ≡ None → (a ≡ None) × (b ≡ None)
 neither None b e = (refl, e)
 neither (Some x) b e = absurd (cc)
 
@@ -146,6 +146,9 @@ module _ (names : List Name) where
               let same = differ j x (slice_index_or names x []) f (slice_get-get_or names x [] within) in
               omega (arith, less, same)
 
+pub differ_unless_repeated : (site : Site) → repeated_member site ≡ None → AllDiffer site.members
+differ_unless_repeated site none = all_differ site.members (no_map verdict.RepeatedMember (first_repeated site.members) none)
+
 -- the tests -------------------------------------------------------------------------------------------------
 
 -- a test of each name, by position and by name
@@ -225,7 +228,7 @@ module _ (o : Office) (site : Site) where
       let missing = neither (missing_member o site) (stray_member o site) repeated.1 in
       record {
         kept = is_kept_root root.0;
-        differ = all_differ site.members (no_map verdict.RepeatedMember (first_repeated site.members) repeated.0);
+        differ = differ_unless_repeated site repeated.0;
         children = λ name h. not-false _ (each_of (λ n. not (is_child o site n)) site.members (no_map verdict.NotUnderRoot (position (λ n. not (is_child o site n)) site.members) missing.1) name h);
         free = all_free o 0 site.members both.1;
       }

@@ -6,7 +6,7 @@ use Rattle.std.proofs.lemmas.Bool.{cases_Bool, false≢true, true≢false, or_ca
 use Rattle.std.proofs.lemmas.Option.{slice_get_within}
 use Rattle.clr_rows.specs.declared.cells.CellId.{CellId}
 use Rattle.clr_rows.specs.declared.rows.Row.{Row}
-use Rattle.clr_rows.specs.Contents.{conflicts, least_and_count, row_at}
+use Rattle.clr_rows.specs.Contents.{conflicts, row_at}
 use Rattle.clr_rules.specs.Needs.{Holds}
 use Rattle.clr_layers.specs.Marks.{Name}
 use Rattle.clr_layers.specs.Workspaces.{Workspace}
@@ -17,21 +17,25 @@ use Rattle.clr_foot.specs.Settings.{Setting, changer, has as has_by}
 use Rattle.clr_foot.proofs.Merges.{IsChanger, changer_is, standing_row, taken_is, taken_over}
 use Rattle.clr_foot.proofs.PositionLaws.{range_has}
 use Rattle.clr_steps.specs.Names.{same_name, has}
+use Rattle.clr_steps.specs.declared.commands.Command.{Command}
 use Rattle.clr_steps.specs.Offices.{Office, content_of, workspace}
 use Rattle.clr_steps.specs.Quiet.{Site, is_member, is_root, root_content}
 use Rattle.clr_steps.specs.Readings.{conflicts_in}
-use Rattle.clr_steps.specs.Refusals.{conflict, in_conflict}
+use Rattle.clr_steps.specs.Refusals.{conflict}
+use Rattle.clr_steps.specs.Steps.{run}
 use Rattle.clr_steps.proofs.FindLemmas.{same_is, same_itself}
 use Rattle.clr_steps.proofs.WorkspaceLemmas.{none_listed}
 use Rattle.clr_clearance.specs.Invariants.{Invariant}
-use Rattle.clr_clearance.specs.PlanLaws.{LastingCoverLaw, LastingLaw, StaysClear}
+use Rattle.clr_clearance.specs.PlanLaws.{LastingCoverLaw, LastingCoverReorderedLaw, LastingLaw, LastingReorderedLaw, StaysClear}
 use Rattle.clr_clearance.specs.Plans.{standing}
+use Rattle.clr_clearance.specs.Runs.{AreQuiet}
 use Rattle.clr_clearance.specs.Sites.{AreMergeable, Covers, KeepsRules, RootHolds, changed_by, is_child, rows_with, setting_of}
 use Rattle.clr_clearance.proofs.CarryLemmas.{AreIdle, Changes, Fate, IsLater, Gone, Merged, Stays, carried, changes_of, idle_or_changed, on_entry}
 use Rattle.clr_clearance.proofs.ClearLemmas.{AllDiffer, has_at, no_member_fault, position_of}
 use Rattle.clr_clearance.proofs.MemberLemmas.{again, it, no_conflict_now, not_root}
 use Rattle.clr_clearance.proofs.NameLemmas.{has_is}
 use Rattle.clr_clearance.proofs.PlanLemmas.{safe_plan}
+use Rattle.clr_clearance.proofs.ReorderedLemmas.{covers_reordered}
 use Rattle.clr_clearance.proofs.SafeLemmas.{quiet_list_law, safe_law}
 use Rattle.clr_clearance.proofs.SiteLemmas.{changed_by-standing, order_law, untaken}
 use Rattle.clr_clearance.proofs.StaticLemmas.{apart_by_position, keeps_rules, numbered_is}
@@ -298,19 +302,41 @@ module _ (first : Office) (site : Site) (mergeable : AreMergeable first site) (n
         },
       )
 
-  stays_clear : (entries : List Entry) → Covers first site entries → RootHolds first site → StaysClear now (standing now site)
-  stays_clear entries covers holds =
-      let (others, covers_now) = standing_covered entries covers in
-      let holds_now = standing_holds (keeps_rules first site entries covers holds) in
-      record {
-        free = no_member_fault now (standing now site) standing_mergeable;
-        mergeable = standing_mergeable;
-        holds = holds_now;
-        unblocked = λ order cause. safe_plan now (standing now site) order cause (safe_law now (standing now site) others covers_now holds_now) holds_now;
-      }
+-- where entries cover a site and every rule holds in its root, all is clear
+all_clear : (o : Office) (site : Site) (entries : List Entry) → Covers o site entries → RootHolds o site → StaysClear o site
+all_clear o site entries covers holds = record {
+  free = no_member_fault o site covers.mergeable;
+  mergeable = covers.mergeable;
+  holds = holds;
+  unblocked = λ order cause. safe_plan o site order cause (safe_law o site entries covers holds) holds;
+}
 
 pub lasting_cover : LastingCoverLaw
 lasting_cover o site entries commands lost covers quiet = standing_covered o site covers.mergeable _ _ (quiet_list_law o site commands lost covers.mergeable quiet) entries covers
 
+pub lasting_holds : (o : Office) (site : Site) (entries : List Entry) (commands : List Command) (lost : ℕ → Bool) → Covers o site entries → RootHolds o site → AreQuiet o site commands lost
+    → let now = (run o commands lost).office in RootHolds now (standing now site)
+lasting_holds o site entries commands lost covers holds quiet =
+    standing_holds o site covers.mergeable _ _ (quiet_list_law o site commands lost covers.mergeable quiet) (keeps_rules o site entries covers holds)
+
 pub lasting : LastingLaw
-lasting o site entries commands lost covers holds quiet = stays_clear o site covers.mergeable _ _ (quiet_list_law o site commands lost covers.mergeable quiet) entries covers holds
+lasting o site entries commands lost covers holds quiet =
+    let now = (run o commands lost).office in
+    let (others, covers_now) = lasting_cover o site entries commands lost covers quiet in
+    all_clear now (standing now site) others covers_now (lasting_holds o site entries commands lost covers holds quiet)
+
+-- in whichever order the members that stand are named ------------------------------------------------------------------
+
+pub lasting_cover_reordered : LastingCoverReorderedLaw
+lasting_cover_reordered o site entries commands lost covers quiet other same once =
+    let now = (run o commands lost).office in
+    let (others, covers_now) = lasting_cover o site entries commands lost covers quiet in
+    (others, covers_reordered now (standing now site) other others same once covers_now)
+
+pub lasting_reordered : LastingReorderedLaw
+unfolding root_content
+lasting_reordered o site entries commands lost covers holds quiet other same once =
+    let now = (run o commands lost).office in
+    let (others, covers_now) = lasting_cover_reordered o site entries commands lost covers quiet other same once in
+    let holds_now = lasting_holds o site entries commands lost covers holds quiet in
+    all_clear now other others covers_now (subst (λ root. Holds now.book (row_at (content_of now root))) (sym same.root) holds_now)

@@ -3,13 +3,17 @@ pub mod CarryLemmas
 pub mod CheckLemmas
 pub mod ClearLemmas
 pub mod EffectLemmas
+pub mod HeadlineLemmas
 pub mod LastingLemmas
 pub mod MemberLemmas
 pub mod NameLemmas
+pub mod OneAnswerLemmas
 pub mod OrderLemmas
 pub mod PickLemmas
 pub mod PlanLemmas
 pub mod RefusedLemmas
+pub mod ReorderedLemmas
+pub mod ReplyLemmas
 pub mod RunLemmas
 pub mod SafeLemmas
 pub mod SharedLemmas

@@ -31,7 +31,7 @@ cleared_safe o site entries cleared holds = safe_law o site entries (cleared_pla
 pub blocked_plan : BlockedPlanLaw
 blocked_plan o site order cause (of_conflict at cell count none found same e) holds = ap (λ positions. is_refused o (names_at site positions)) same ∙ conflict_is_refused o site at cell count found
 blocked_plan o site order cause (of_shared cell i j none shared same e) holds = ap (λ positions. is_refused o (names_at site positions)) same ∙ shared_is_refused o site cell i j none shared
-blocked_plan o site order cause (of_unpicked n none apart first blocks e) holds = unpicked_is_refused o site order n (mergeable_of o site none apart) holds first blocks
+blocked_plan o site order cause (of_unpicked n none apart first blocks e) holds = unpicked_is_refused o site n order (mergeable_of o site none apart) holds first.touched first.none blocks
 
 -- merges of members, one after another -------------------------------------------------------------------------
 

@@ -7,14 +7,11 @@ use Rattle.std.proofs.lemmas.List.{append_assoc, append-nil}
 use Rattle.clr_rows.specs.declared.cells.CellId.{CellId}
 use Rattle.clr_rows.specs.Contents.{Content, conflicts, least_and_count, row_at}
 use Rattle.clr_rows.specs.Same.{same}
-use Rattle.clr_rules.specs.declared.needs.Broken.{Broken}
 use Rattle.clr_rules.specs.Needs.{Holds}
 use Rattle.clr_layers.specs.Marks.{Name}
 use Rattle.clr_layers.specs.Workspaces.{Workspace}
 use Rattle.clr_tree.specs.Operations.{own_changes}
-use Rattle.clr_foot.specs.declared.needs.Need.{Need}
 use Rattle.clr_foot.specs.Covers.{AreBlockers, IsUncovered}
-use Rattle.clr_foot.specs.Picks.{Blocks}
 use Rattle.clr_foot.proofs.BrokenLaws.{uncovered_breaks}
 use Rattle.clr_steps.specs.Readings.{conflicts_in}
 use Rattle.clr_foot.specs.Positions.{after_member, by_position}
@@ -28,14 +25,14 @@ use Rattle.clr_steps.specs.Names.{same_name}
 use Rattle.clr_steps.specs.Offices.{Office, content_of, is_kept, workspace}
 use Rattle.clr_steps.specs.Effects.{after_merge, after_remove, effect, merged_content}
 use Rattle.clr_steps.specs.Quiet.{Member, Site, is_member, is_root, member_of}
-use Rattle.clr_steps.specs.Refusals.{breaks, conflict, first_broken, first_of, in_conflict, refusal, refusals_of}
+use Rattle.clr_steps.specs.Refusals.{breaks, conflict, first_of, in_conflict, refusal, refusals_of}
 use Rattle.clr_steps.specs.Steps.{Answer, answer, step}
 use Rattle.clr_steps.proofs.FindLemmas.{found_name, same_is as same_name_is, same_itself as same_name_itself}
-use Rattle.clr_steps.proofs.NeedLemmas.{holds_if_none}
 use Rattle.clr_steps.proofs.RuleLemmas.{holds_where}
 use Rattle.clr_clearance.specs.Invariants.{Invariant}
 use Rattle.clr_clearance.specs.declared.verdicts.Verdict.TheVariants as verdict
-use Rattle.clr_clearance.specs.Plans.{IsFirstUnpicked, is_refused, names_at}
+use Rattle.clr_clearance.specs.PlanLaws.{UnpickedLaw}
+use Rattle.clr_clearance.specs.Plans.{is_refused, names_at}
 use Rattle.clr_clearance.specs.Verdicts.{first_conflict}
 use Rattle.clr_clearance.proofs.PickLemmas.{blockers_are, unpicked_is_uncovered}
 use Rattle.clr_clearance.specs.Runs.{merged_by}
@@ -189,14 +186,13 @@ module _ (o : Office) (site : Site) where
 
 -- a need that nothing covers ------------------------------------------------------------------------------------
 
-pub unpicked_is_refused : (o : Office) (site : Site) (order : List ℕ) (n : Need) → AreMergeable o site → RootHolds o site → IsFirstUnpicked (setting_by_position o site) n → Blocks (setting_by_position o site) n order
-    → is_refused o (names_at site order) ≡ true
-unpicked_is_refused o site order n mergeable holds first blocks = breaking_is_refused o site mergeable (names_at site order) (names_part o site order) holds breaking
+pub unpicked_is_refused : UnpickedLaw
+unpicked_is_refused o site n order mergeable holds needed none blocks = breaking_is_refused o site mergeable (names_at site order) (names_part o site order) holds breaking
   where
     breaking : Holds o.book (rows_with o site (names_at site order)) → ⊥
     breaking good =
-        let (a, b, possible, touched) = first.touched in
-        let uncovered = unpicked_is_uncovered (setting_by_position o site) n a b possible (first.none a b possible) in
+        let (a, b, possible, touched) = needed in
+        let uncovered = unpicked_is_uncovered (setting_by_position o site) n a b possible (none a b possible) in
         let blockers = blockers_are (setting_by_position o site) n a b order possible (blocks a b possible) in
         uncovered_breaks (by_position (setting_of o site)) n a b order
         (subst (λ c. IsUncovered c n a b) (numbered_is o site) uncovered)

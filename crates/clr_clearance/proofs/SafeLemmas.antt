@@ -1,5 +1,5 @@
 -- What every quiet list of commands leaves, and that a covered site is safe.
-use Rattle.std.proofs.Common.{◌≡◌, ℕ, suc, ◌+◌, Bool, true, false, cond, List, [], ◌∷◌, ◌++◌, inl, inr, refl, sym, ap, ◌∙◌, subst, Some}
+use Rattle.std.proofs.Common.{◌≡◌, ℕ, suc, ◌+◌, Bool, true, false, cond, List, [], ◌∷◌, ◌++◌, inl, inr, refl, sym, ap, ◌∙◌, subst}
 use Rattle.std.specs.Option.{option_map}
 use Rattle.std.proofs.lemmas.Bool.{cases_Bool, false≢true}
 use Rattle.std.proofs.lemmas.List.{append-nil, append_assoc}
@@ -12,7 +12,7 @@ use Rattle.clr_steps.specs.declared.commands.Command.TheVariants as command
 use Rattle.clr_steps.specs.declared.commands.Reply.{Reply}
 use Rattle.clr_steps.specs.declared.commands.Reply.TheVariants.{Done, OutOfMemory}
 use Rattle.clr_steps.specs.Offices.{Office}
-use Rattle.clr_steps.specs.Quiet.{Member, Site, is_of_member, is_quiet, member_of}
+use Rattle.clr_steps.specs.Quiet.{Site, is_of_member, is_quiet, member_of}
 use Rattle.clr_steps.specs.Steps.{run, step, step_or_lost}
 use Rattle.clr_steps.proofs.FirstLemmas.{some_is}
 use Rattle.clr_steps.proofs.QuietLemmas.{quiet_law}

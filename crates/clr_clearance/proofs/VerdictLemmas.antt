@@ -15,16 +15,16 @@ use Rattle.clr_clearance.proofs.ClearLemmas.{order}
 use Rattle.clr_foot.proofs.NeedOrder.{need_exact}
 use Rattle.clr_clearance.proofs.OrderLemmas.{in_order, need_total}
 
-one_some : {X : Type 0} (r : Option X) (x y : X) → r ≡ Some x → r ≡ Some y → x ≡ y
+pub one_some : {X : Type 0} (r : Option X) (x y : X) → r ≡ Some x → r ≡ Some y → x ≡ y
 one_some r x y e f = let both : Some x ≡ Some y = sym e ∙ f in cc
 
-not_both : {X : Type 0} (r : Option X) (x : X) → r ≡ None → r ≡ Some x → ⊥
+pub not_both : {X : Type 0} (r : Option X) (x : X) → r ≡ None → r ≡ Some x → ⊥
 not_both r x e f = let both : None ≡ Some x = sym e ∙ f in cc
 
 -- a cell that two members change -----------------------------------------------------------------------
 
 module _ (sets : List Changes) where
-  not_apart : (cell : CellId) (i j : ℕ) → IsSceneFault sets (scene.SharedCell cell i j) → IsApart sets cell → ⊥
+  pub not_apart : (cell : CellId) (i j : ℕ) → IsSceneFault sets (scene.SharedCell cell i j) → IsApart sets cell → ⊥
   not_apart cell i j shared apart = let same = apart i j shared.two.first shared.two.second in let less = shared.two.ascending in omega (arith, same, less)
 
   -- the first two of one cell
@@ -49,7 +49,7 @@ module _ (sets : List Changes) where
           let b = only l more t.two.second in
           omega (arith, below, a, b)
 
-  one_cell : (cell other : CellId) (i j k l : ℕ) → IsSceneFault sets (scene.SharedCell cell i j) → IsSceneFault sets (scene.SharedCell other k l) → verdict.SharedCell cell i j ≡ verdict.SharedCell other k l
+  pub one_cell : (cell other : CellId) (i j k l : ℕ) → IsSceneFault sets (scene.SharedCell cell i j) → IsSceneFault sets (scene.SharedCell other k l) → verdict.SharedCell cell i j ≡ verdict.SharedCell other k l
   one_cell cell other i j k l s t = elim (in_order cell_cmp_total cell_cmp_exact cell other) [
     | inl same ↦ (let (a, b) = one_pair other i j k l (subst (λ q. IsSceneFault sets (scene.SharedCell q i j)) same s) t in λ x. verdict.SharedCell (same x) (a x) (b x))
     | inr (inl before) ↦ absurd (not_apart cell i j s (t.least cell before))

@@ -1,12 +1,12 @@
 -- Runs of the first commands of a list, up to one that isn't quiet.
-use Rattle.std.specs.Prelude.{◌≡◌, ℕ, ◌+◌, true, false, List, Option, Some, None, length, slice_get, take}
+use Rattle.std.specs.Prelude.{◌≡◌, ℕ, ◌+◌, false, List, Option, Some, None, length, slice_get, take}
 use Rattle.clr_steps.specs.declared.commands.Command.{Command}
 use Rattle.clr_steps.specs.declared.commands.Reply.{Reply}
 use Rattle.clr_steps.specs.Offices.{Office}
-use Rattle.clr_steps.specs.Quiet.{Site, is_of_member, is_quiet, root_content}
+use Rattle.clr_steps.specs.Quiet.{Site, is_quiet, root_content}
 use Rattle.clr_steps.specs.Steps.{AreAnswers, lost_in, run}
 use Rattle.clr_clearance.specs.Runs.{AreQuiet, merged_in}
-use Rattle.clr_clearance.specs.Safety.{IsMergeOf, is_clash}
+use Rattle.clr_clearance.specs.Safety.{IsMergeOf, NoneClashes}
 
 -- no command is left, or the next one, numbered from 1, isn't quiet in this office
 abbrev pub IsStop : Site → List Command → List Reply → Office → Option ℕ → Type 0
@@ -24,6 +24,5 @@ pub record IsQuietStart (o : Office) (site : Site) (commands : List Command) (re
 -- it is a run in which no merge and no refresh of a member clashes, and that leaves the root as the merge of those that were done
 pub record IsClearedRun (o : Office) (site : Site) (commands : List Command) (replies : List Reply) (left : Office) : Type 0 where
   pub runs : run o commands (lost_in replies) ≡ record { replies = replies; office = left }
-  pub no_clash : (at : ℕ) (c : Command) (reply : Reply) → slice_get commands at ≡ Some c → slice_get replies at ≡ Some reply
-      → is_of_member site c ≡ true → is_clash reply ≡ false
+  pub no_clash : NoneClashes site commands replies
   pub root : IsMergeOf o site (merged_in site commands replies) (root_content left site)

@@ -1,8 +1,10 @@
 pub mod CheckLaws
 pub mod ClearedRuns
 pub mod Examples
+pub mod Headline
 pub mod Invariants
 pub mod Laws
+pub mod OneAnswer
 pub mod Plans
 pub mod PlanLaws
 pub mod Runs

@@ -1,18 +1,22 @@
 -- What a plan promises, by definitions alone.
 use Rattle.std.specs.Prelude.{◌≡◌, ℕ, Bool, true, false, List, None}
 use Rattle.clr_layers.specs.Marks.{Name}
+use Rattle.clr_foot.specs.declared.needs.Need.{Need}
 use Rattle.clr_foot.specs.Covers.{Entry}
+use Rattle.clr_foot.specs.Needs.{IsTouched}
+use Rattle.clr_foot.specs.Picks.{Blocks, Picks}
 use Rattle.clr_foot.specs.Settings.{AreAmong}
 use Rattle.clr_steps.specs.declared.commands.Command.{Command}
 use Rattle.clr_steps.specs.Offices.{Office}
 use Rattle.clr_steps.specs.Quiet.{Site}
 use Rattle.clr_steps.specs.Steps.{run}
 use Rattle.clr_clearance.specs.declared.verdicts.Verdict.{Verdict}
+use Rattle.clr_clearance.specs.Headline.{NamesTheSame}
 use Rattle.clr_clearance.specs.Plans.{IsBlocked, IsCleared, is_refused, names_at, standing}
 use Rattle.clr_clearance.specs.Runs.{AreQuiet}
 use Rattle.clr_clearance.specs.Safety.{Safe}
-use Rattle.clr_clearance.specs.Sites.{AreMergeable, Covers, RootHolds, setting_of}
-use Rattle.clr_clearance.specs.Verdicts.{member_fault}
+use Rattle.clr_clearance.specs.Sites.{AreMergeable, Covers, RootHolds, setting_by_position, setting_of}
+use Rattle.clr_clearance.specs.Verdicts.{member_fault, repeated_member}
 
 -- a cleared plan covers the site
 abbrev pub ClearedPlanLaw : Type 0
@@ -27,6 +31,16 @@ abbrev pub BlockedPlanLaw : Type 0
 BlockedPlanLaw = (o : Office) (site : Site) (order : List ℕ) (cause : Verdict)
     → IsBlocked o site order cause
     → RootHolds o site
+    → is_refused o (names_at site order) ≡ true
+
+-- so is, of any touched need for which no witnesses are picked, that of the members that break it, as they stand in the list
+abbrev pub UnpickedLaw : Type 0
+UnpickedLaw = (o : Office) (site : Site) (n : Need) (order : List ℕ)
+    → AreMergeable o site
+    → RootHolds o site
+    → IsTouched (setting_by_position o site) n
+    → Picks (setting_by_position o site) n None
+    → Blocks (setting_by_position o site) n order
     → is_refused o (names_at site order) ≡ true
 
 -- and no order of merges of members of a safe site is, so that no safe site is blocked
@@ -56,3 +70,18 @@ LastingLaw = (o : Office) (site : Site) (entries : List Entry) (commands : List 
     → RootHolds o site
     → AreQuiet o site commands lost
     → let now = (run o commands lost).office in StaysClear now (standing now site)
+
+-- both in whichever order those members are named, each once
+abbrev pub LastingCoverReorderedLaw : Type 0
+LastingCoverReorderedLaw = (o : Office) (site : Site) (entries : List Entry) (commands : List Command) (lost : ℕ → Bool)
+    → Covers o site entries
+    → AreQuiet o site commands lost
+    → let now = (run o commands lost).office in
+    (other : Site) → NamesTheSame (standing now site) other → repeated_member other ≡ None → (others : List Entry) × Covers now other others
+
+abbrev pub LastingReorderedLaw : Type 0
+LastingReorderedLaw = (o : Office) (site : Site) (entries : List Entry) (commands : List Command) (lost : ℕ → Bool)
+    → Covers o site entries
+    → RootHolds o site
+    → AreQuiet o site commands lost
+    → let now = (run o commands lost).office in (other : Site) → NamesTheSame (standing now site) other → repeated_member other ≡ None → StaysClear now other

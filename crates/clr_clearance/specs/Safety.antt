@@ -1,5 +1,5 @@
 -- What a site promises over every list of quiet commands, whichever of them find no memory.
-use Rattle.std.specs.Prelude.{◌≡◌, ℕ, Bool, true, false, not, ◌&&◌, List, ◌∷◌, Some, is_some}
+use Rattle.std.specs.Prelude.{◌≡◌, ℕ, Bool, true, false, not, ◌&&◌, List, ◌∷◌, Some, is_some, slice_get}
 use Rattle.clr_rows.specs.declared.cells.CellId.{CellId}
 use Rattle.clr_rows.specs.Contents.{Content, row_at}
 use Rattle.clr_rules.specs.Needs.{Holds}
@@ -26,6 +26,11 @@ abbrev pub is_clash : Reply → Bool
 is_clash (Conflict cell count) = true
 is_clash (RuleBroken need) = true
 is_clash _ = false
+
+-- of commands and the replies to them, no merge and no refresh of a member clashes
+abbrev pub NoneClashes : Site → List Command → List Reply → Type 0
+NoneClashes site commands replies = (at : ℕ) (c : Command) (reply : Reply) → slice_get commands at ≡ Some c → slice_get replies at ≡ Some reply
+    → is_of_member site c ≡ true → is_clash reply ≡ false
 
 -- the workspace that is to be merged or refreshed stands and, where it is to go, has no children
 abbrev pub is_ready : Office → Command → Bool

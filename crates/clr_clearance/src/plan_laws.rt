@@ -1,7 +1,7 @@
 //! Laws of plans, each proved by a function that does nothing.
 
 ghost use Rattle.clr_clearance.specs.PlanLaws.{BlockedPlanLaw, ClearedIsSafeLaw, ClearedPlanLaw, LastingCoverLaw, LastingLaw};
-ghost use Rattle.clr_clearance.specs.PlanLaws.{SafeOrderLaw, SafePlanLaw};
+ghost use Rattle.clr_clearance.specs.PlanLaws.{LastingCoverReorderedLaw, LastingReorderedLaw, SafeOrderLaw, SafePlanLaw, UnpickedLaw};
 
 /// The entries of a cleared plan, one for each touched need with the witnesses picked for it, cover
 /// the members; so where every rule holds in the root, the members are safe.
@@ -17,6 +17,13 @@ pub fn blocked_plans_are_refused()
     ensures { BlockedPlanLaw }
 {}
 
+/// Where every rule holds in the root, the members could be merged but for needs, and no witnesses
+/// are picked for a touched need, whichever it is: of the merges of the members that break it, as
+/// they stand in the list, one is answered by a conflict or a broken rule.
+pub fn unpicked_needs_are_refused()
+    ensures { UnpickedLaw }
+{}
+
 /// No order of merges of members of a safe site is refused, and so no plan for one is blocked.
 pub fn safe_sites_are_never_blocked()
     ensures order { SafeOrderLaw }
@@ -26,8 +33,11 @@ pub fn safe_sites_are_never_blocked()
 /// After a list of commands that are quiet for covered members, some entries cover those that still
 /// stand: they are different children of a kept root, none in conflict with it, no cell is changed by
 /// two, and each need that they touch has an entry. So where every rule held in the root, every rule
-/// holds there still, and no plan for them is blocked.
+/// holds there still, and no plan for them is blocked. All of it goes for those members in whichever
+/// order they are named.
 pub fn clearances_last()
     ensures cover { LastingCoverLaw }
     ensures clear { LastingLaw }
+    ensures cover_reordered { LastingCoverReorderedLaw }
+    ensures clear_reordered { LastingReorderedLaw }
 {}

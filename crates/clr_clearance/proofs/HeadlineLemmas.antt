@@ -1,0 +1,73 @@
+-- The headline: what a clear verdict promises of every list of quiet commands.
+use Rattle.std.proofs.Common.{◌≡◌, ℕ, Bool, true, false, List, sym, ◌∙◌, subst, take, refl}
+use Rattle.std.proofs.lemmas.Bool.{false≢true}
+use Rattle.clr_rows.specs.declared.cells.CellId.{CellId}
+use Rattle.clr_rows.specs.Contents.{row_at}
+use Rattle.clr_rules.specs.Needs.{Holds}
+use Rattle.clr_layers.specs.Marks.{Name}
+use Rattle.clr_foot.specs.Settings.{AreAmong}
+use Rattle.clr_steps.specs.declared.commands.Command.{Command}
+use Rattle.clr_steps.specs.Names.{has}
+use Rattle.clr_steps.specs.Offices.{Office}
+use Rattle.clr_steps.specs.Quiet.{Site, is_member, root_content}
+use Rattle.clr_clearance.specs.Headline.{AreAllMerged, HeadlineLaw, merged_after, root_after}
+use Rattle.clr_clearance.specs.Runs.{AreQuiet, office_before}
+use Rattle.clr_clearance.specs.Safety.{Safe}
+use Rattle.clr_clearance.specs.Sites.{AreMergeable, RootHolds, setting_of}
+use Rattle.clr_clearance.proofs.ClearLemmas.{clear_covers}
+use Rattle.clr_clearance.proofs.NameLemmas.{has_is}
+use Rattle.clr_clearance.proofs.ReplyLemmas.{first_quiet, quiet_reply}
+use Rattle.clr_clearance.proofs.SafeLemmas.{quiet_list_law, safe_law}
+use Rattle.clr_clearance.proofs.SiteLemmas.{order_law}
+
+module _ (o : Office) (site : Site) (mergeable : AreMergeable o site) where
+  -- no member is merged that isn't one
+  merged_are_members : (names : List Name) → AreAmong (setting_of o site) names site.members → (name : Name) → is_member site name ≡ false
+      → has names name ≡ false
+  merged_are_members names part name out = by (has names name) refl
+    where
+      by : (b : Bool) → has names name ≡ b → b ≡ false
+      by false e = refl
+      by true e = absurd (false≢true (sym out ∙ sym (has_is site.members name) ∙ part name (has_is names name ∙ e)))
+
+  module _
+      (commands others : List Command) (lost lost_too : ℕ → Bool) (quiet : AreQuiet o site commands lost) (quiet_too : AreQuiet o site others lost_too)
+    where
+      abbrev AreMergedAlike : Type 0
+      AreMergedAlike = (name : Name) → has (merged_after o site commands lost) name ≡ has (merged_after o site others lost_too) name
+
+      same_rows : AreMergedAlike → (cell : CellId) → root_after o site commands lost cell ≡ root_after o site others lost_too cell
+      same_rows alike cell =
+          let one = quiet_list_law o site commands lost mergeable quiet in
+          let two = quiet_list_law o site others lost_too mergeable quiet_too in
+          one.rows cell
+          ∙ order_law o site (merged_after o site commands lost) (merged_after o site others lost_too) mergeable one.part alike cell
+          ∙ sym (two.rows cell)
+
+      all_alike : AreAllMerged o site commands lost → AreAllMerged o site others lost_too → AreMergedAlike
+      all_alike all all_too name = by (is_member site name) refl
+        where
+          by : (b : Bool) → is_member site name ≡ b → has (merged_after o site commands lost) name ≡ has (merged_after o site others lost_too) name
+          by true e = all name e ∙ sym (all_too name e)
+          by false e =
+              merged_are_members (merged_after o site commands lost) (quiet_list_law o site commands lost mergeable quiet).part name e
+              ∙ sym (merged_are_members (merged_after o site others lost_too) (quiet_list_law o site others lost_too mergeable quiet_too).part name e)
+
+  holds_before : Safe o site → (commands : List Command) (lost : ℕ → Bool) → AreQuiet o site commands lost → (at : ℕ)
+      → RootHolds (office_before o commands lost at) site
+  holds_before safe commands lost quiet at =
+      let now = safe (take at commands) lost (first_quiet o site commands lost at quiet) in
+      subst (λ book. Holds book (row_at (root_content (office_before o commands lost at) site))) (sym now.book) now.root.holds
+
+pub headline : HeadlineLaw
+headline o site entries clear holds =
+    let covers = clear_covers o site entries clear in
+    let safe = safe_law o site entries covers holds in
+    record {
+      no_clash = λ commands lost. quiet_reply o site commands lost safe;
+      holds = holds_before o site covers.mergeable safe;
+      same_rows = same_rows o site covers.mergeable;
+      all_merged = λ commands others lost lost_too quiet quiet_too all all_too.
+          same_rows o site covers.mergeable commands others lost lost_too quiet quiet_too
+          (all_alike o site covers.mergeable commands others lost lost_too quiet quiet_too all all_too);
+    }

@@ -1,0 +1,88 @@
+-- What a clear verdict promises, in one sentence, and that it goes by which members there are, and not by the order in which they are named.
+use Rattle.std.specs.Prelude.{◌≡◌, ℕ, Bool, true, List, None}
+use Rattle.clr_rows.specs.declared.cells.CellId.{CellId}
+use Rattle.clr_rows.specs.Contents.{row_at}
+use Rattle.clr_rules.specs.Needs.{View}
+use Rattle.clr_layers.specs.Marks.{Name}
+use Rattle.clr_foot.specs.Covers.{Entry}
+use Rattle.clr_steps.specs.declared.commands.Command.{Command}
+use Rattle.clr_steps.specs.declared.commands.Reply.{Reply}
+use Rattle.clr_steps.specs.Names.{has}
+use Rattle.clr_steps.specs.Offices.{Office}
+use Rattle.clr_steps.specs.Quiet.{Site, is_member, root_content}
+use Rattle.clr_steps.specs.Steps.{lost_in, run}
+use Rattle.clr_clearance.specs.declared.verdicts.Verdict.TheVariants as verdict
+use Rattle.clr_clearance.specs.ClearedRuns.{IsClearedRun}
+use Rattle.clr_clearance.specs.Runs.{AreQuiet, merged_in, office_before}
+use Rattle.clr_clearance.specs.Safety.{NoneClashes, Safe}
+use Rattle.clr_clearance.specs.Sites.{Covers, RootHolds}
+use Rattle.clr_clearance.specs.Verdicts.{IsVerdict, repeated_member}
+
+-- a run of a list of commands -----------------------------------------------------------------------
+
+-- the members that it merges
+abbrev pub merged_after : Office → Site → List Command → (ℕ → Bool) → List Name
+merged_after o site commands lost = merged_in site commands (run o commands lost).replies
+
+-- the rows that the root has after it
+abbrev pub root_after : Office → Site → List Command → (ℕ → Bool) → View
+root_after o site commands lost = row_at (root_content (run o commands lost).office site)
+
+-- every member is merged in it
+abbrev pub AreAllMerged : Office → Site → List Command → (ℕ → Bool) → Type 0
+AreAllMerged o site commands lost = (name : Name) → is_member site name ≡ true → has (merged_after o site commands lost) name ≡ true
+
+-- every list of quiet commands ------------------------------------------------------------------------
+
+-- in every list of commands that are quiet for the members, whichever of them find no memory, no merge or refresh of a member meets a conflict or
+-- breaks a rule; every rule holds in the root after each command; after any two such lists that merge the same members the root has the same rows,
+-- and so it has once all members are merged
+pub record Headline (o : Office) (site : Site) : Type 0 where
+  pub no_clash : (commands : List Command) (lost : ℕ → Bool) → AreQuiet o site commands lost → NoneClashes site commands (run o commands lost).replies
+  pub holds : (commands : List Command) (lost : ℕ → Bool) → AreQuiet o site commands lost → (at : ℕ) → RootHolds (office_before o commands lost at) site
+  pub same_rows : (commands others : List Command) (lost lost_too : ℕ → Bool) → AreQuiet o site commands lost → AreQuiet o site others lost_too
+      → ((name : Name) → has (merged_after o site commands lost) name ≡ has (merged_after o site others lost_too) name)
+      → (cell : CellId) → root_after o site commands lost cell ≡ root_after o site others lost_too cell
+  pub all_merged : (commands others : List Command) (lost lost_too : ℕ → Bool) → AreQuiet o site commands lost → AreQuiet o site others lost_too
+      → AreAllMerged o site commands lost → AreAllMerged o site others lost_too
+      → (cell : CellId) → root_after o site commands lost cell ≡ root_after o site others lost_too cell
+
+-- so it is where the verdict is clear and every rule holds in the root
+abbrev pub HeadlineLaw : Type 0
+HeadlineLaw = (o : Office) (site : Site) (entries : List Entry) → IsVerdict o site entries verdict.Clear → RootHolds o site → Headline o site
+
+-- of a safe site alone: no reply of a run of quiet commands to a merge or a refresh of a member is a clash
+abbrev pub QuietReplyLaw : Type 0
+QuietReplyLaw = (o : Office) (site : Site) (commands : List Command) (lost : ℕ → Bool)
+    → Safe o site
+    → AreQuiet o site commands lost
+    → NoneClashes site commands (run o commands lost).replies
+
+-- a run of quiet commands, what is lost being read off the replies, is a cleared one
+abbrev pub RunsAreCleared : Office → Site → Type 0
+RunsAreCleared o site = (commands : List Command) (replies : List Reply) (left : Office)
+    → AreQuiet o site commands (lost_in replies)
+    → run o commands (lost_in replies) ≡ record { replies = replies; office = left }
+    → IsClearedRun o site commands replies left
+
+abbrev pub QuietRunLaw : Type 0
+QuietRunLaw = (o : Office) (site : Site) → Safe o site → RunsAreCleared o site
+
+-- the order in which members are named ----------------------------------------------------------------
+
+-- the same root, and the same members in whatever order
+pub record NamesTheSame (site other : Site) : Type 0 where
+  pub root : other.root ≡ site.root
+  pub members : (name : Name) → is_member other name ≡ is_member site name
+
+-- the site of the same members is safe too
+abbrev pub SafeReorderedLaw : Type 0
+SafeReorderedLaw = (o : Office) (site other : Site) → NamesTheSame site other → Safe o site → Safe o other
+
+-- and where none is named twice, the same entries cover it
+abbrev pub CoversReorderedLaw : Type 0
+CoversReorderedLaw = (o : Office) (site other : Site) (entries : List Entry)
+    → NamesTheSame site other
+    → repeated_member other ≡ None
+    → Covers o site entries
+    → Covers o other entries
