@@ -1,4 +1,4 @@
-ghost use Rattle.std.specs.Prelude.{◌≡◌, ◌<◌, ◌^◌, length, slice_get, false, Some, IfOk, OnOk, OnErr, IsSome};
+ghost use Rattle.std.specs.Prelude.{◌≡◌, ◌<◌, ◌^◌, length, slice_get, false, IfOk, IfSome, OnOk, OnErr, IsSome};
 ghost use Rattle.std.specs.BTreeMap.{keys};
 ghost use Rattle.std.specs.FinMap as finite;
 ghost use Rattle.std.specs.Map.Iter.{ShowsInOrder, deref_pair};
@@ -132,13 +132,12 @@ impl ChangeSet {
     }
 
     /// The changed cell at a position in the order of cells, which is found by going over the
-    /// changes before it.
-    pub fn cell_at(&self, at: usize) -> CellId
-        requires { at < length (finite.keys self.now) }
-        ensures position { slice_get (finite.keys self.now) at ≡ Some result }
-        ensures held { IsSome (finite.get self.now result) }
+    /// changes before it, or none where there are fewer changes.
+    pub fn cell_at(&self, at: usize) -> Option<CellId>
+        ensures position { result ≡ slice_get (finite.keys self.now) at }
+        ensures held { IfSome result (λ cell. IsSome (finite.get self.now cell)) }
     {
-        *key_at(&self.changes, at).unwrap()
+        key_at(&self.changes, at).copied()
     }
 
     /// The changed cells with their changes, in the order of cells.

@@ -1,6 +1,4 @@
 //! Edits of mains, and the change sets that they make.
-ghost use Rattle.std.specs.FinMap as finite;
-ghost use Rattle.std.specs.Prelude.{◌<◌, length};
 
 use crate::schemas::{NETWORK, schema};
 use crate::texts::{add_word, text_in};
@@ -63,15 +61,16 @@ fn change_text(alloc: Global, cell: CellId, change: &Change) -> Option<String> {
 }
 
 /// The change at a position, by its cell.
-fn change_at(alloc: Global, set: &ChangeSet, at: usize) -> Option<String>
-    requires { at < length (finite.keys set.now) }
-{
-    let cell = set.cell_at(at);
+fn change_at(alloc: Global, set: &ChangeSet, at: usize) -> Option<String> {
+    let cell = set.cell_at(at)?;
     change_text(alloc, cell, set.get(cell)?)
 }
 
-/// How many changes a set has, and the changes by position.
+/// How many changes a set has, and the changes by position, behind which there is none.
 fn by_position(alloc: Global, set: &ChangeSet) -> Option<String> {
+    if set.cell_at(set.len()).is_some() {
+        return None;
+    }
     let mut text = format!(in alloc; "{}", set.len()).ok()?;
     for at in 0..set.len() {
         add_word(&mut text, change_at(alloc, set, at)?.as_str())?;

@@ -58,11 +58,14 @@ fn kind_text(alloc: Global, sheet: &Sheet, text: &str) -> Option<String> {
     String::from_str(alloc, kind).ok()
 }
 
-/// How many rows a sheet has, and its cells by position.
+/// How many rows a sheet has, and its cells by position, behind which there is none.
 fn cells_text(alloc: Global, sheet: &Sheet) -> Option<String> {
     let mut text = format!(in alloc; "{}", sheet.len()).ok()?;
+    if sheet.cell_at(sheet.len()).is_some() {
+        return None;
+    }
     for at in 0..sheet.len() {
-        let cell = sheet.cell_at(at);
+        let cell = sheet.cell_at(at)?;
         let word = format!(in alloc; "{}.{}", cell.table, cell.key).ok()?;
         add_word(&mut text, word.as_str())?;
     }

@@ -1,5 +1,5 @@
 -- A finite map by its entries in the order of their keys.
-use Rattle.std.proofs.Common.{◌≡◌, ℕ, suc, zero, ◌<◌, Bool, true, cond, T, List, [], ◌∷◌, length, map, Option, Some, None, Bor, refl, sym, ap, subst, ◌∙◌, arith}
+use Rattle.std.proofs.Common.{◌≡◌, ℕ, suc, zero, Bool, true, cond, T, List, [], ◌∷◌, map, Option, Some, None, refl, sym, ap, subst, ◌∙◌}
 use Rattle.std.proofs.lemmas.Bool.{or_right}
 use Rattle.std.specs.List.{AllByRecursion}
 use Rattle.std.specs.List.Sorted.{IsStrictlySortedBy}
@@ -12,7 +12,7 @@ use Rattle.std.specs.Map.{lookup, keys_of}
 use Rattle.std.specs.FinMap.Entries.{find, below_all, is_sorted}
 use Rattle.std.specs.FinMap.{FinMap, IsAntisymmetric, get, keys, insert, remove, empty, get-empty, from_sorted, get-from_sorted, get-insert, get-remove, same_map, contains_key-keys, entries-from_sorted}
 use Rattle.std.specs.List.{list_any, slice_get}
-use Rattle.std.specs.Option.{is_some, option_copied}
+use Rattle.std.specs.Option.{IfSome, IsSome, is_some}
 use Rattle.clr_rows.proofs.Tests.{both}
 
 module _ {K X : Type 0} (R : K → K → Ordering) where
@@ -62,17 +62,11 @@ any_at p (y ∷ ys) (suc i) x e h = or_right (p y) (list_any p ys) (any_at p ys 
 pub held_at : {K X : Type 0} {R : K → K → Ordering} → IsTotalOrder R → (m : FinMap R X) (i : ℕ) (k : K) → slice_get (keys m) i ≡ Some k → is_some (get m k) ≡ true
 held_at {R = R} o m i k e = contains_key-keys m k ∙ any_at (eq_by_cmp R k) (keys m) i k e (ap is_eq (tied_itself o k))
 
--- each position below the length has an element
-pub some_at : {A : Type 0} (xs : List A) (i : ℕ) → i < length xs → is_some (slice_get xs i) ≡ true
-some_at [] i lt = absurd (omega arith)
-some_at (x ∷ xs) zero lt = refl
-some_at (x ∷ xs) (suc i) lt = some_at xs i (omega arith)
+-- so has the key there, if there is one
+pub held_where : {K X : Type 0} {R : K → K → Ordering} → IsTotalOrder R → (m : FinMap R X) (i : ℕ) (found : Option K) → found ≡ slice_get (keys m) i → IfSome found (λ k. IsSome (get m k))
+held_where o m i None e = tt
+held_where o m i (Some k) e = held_at o m i k (sym e)
 
 -- the keys of sorted entries are those of the map that they make
 pub keys-from_sorted : {K X : Type 0} {R : K → K → Ordering} (es : List (K × X)) (m : FinMap R X) → T (is_sorted R es) → from_sorted es ≡ m → map (λ e. e.0) es ≡ keys m
 keys-from_sorted {K = K} {X = X} {R = R} es m ascending is = ap (λ (xs : List (K × X)). map (λ e. e.0) xs) (sym (entries-from_sorted R es ascending)) ∙ ap (λ (n : FinMap R X). keys n) is
-
--- a reference is found where a copy of what it points to is
-pub found_copied : {A : Type 0} (found : Option (Bor A)) → is_some (option_copied found) ≡ true → is_some found ≡ true
-found_copied (Some x) e = e
-found_copied None e = e

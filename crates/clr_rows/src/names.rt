@@ -1,4 +1,4 @@
-ghost use Rattle.std.specs.Prelude.{◌≡◌, ◌++◌, ◌∷◌, [], OnOk};
+ghost use Rattle.std.specs.Prelude.{◌≡◌, ◌++◌, ◌∷◌, [], OnOk, OnErr, IfErr};
 ghost use Rattle.std.specs.List.{list_all};
 ghost use Rattle.clr_rows.specs.Names.{is_good_name, is_name_byte};
 
@@ -70,9 +70,12 @@ impl Names {
         self.list
     }
 
-    /// Adds a name behind the others. It fails for want of memory alone.
+    /// Adds a name behind the others. It fails for want of memory alone, and then it changes nothing
+    /// and gives the name back.
     pub fn push(&mut self, name: Words) -> Result<(), AllocFailed<Words>>
-        ensures { OnOk result (self.new ≡ self.old ++ name ∷ []) }
+        ensures ok { OnOk result (self.new ≡ self.old ++ name ∷ []) }
+        ensures err { OnErr result (self.new ≡ self.old) }
+        ensures given_back { IfErr result (λ failed. failed.value ≡ name) }
     {
         self.list.push(name)
     }

@@ -1,4 +1,4 @@
-ghost use Rattle.std.specs.Prelude.{◌≡◌, ◌<◌, length, slice_get, Some, None, IfOk, OnOk, OnErr, IsSome, IsOk};
+ghost use Rattle.std.specs.Prelude.{◌≡◌, length, slice_get, None, IfOk, IfSome, OnOk, OnErr, IsSome, IsOk};
 ghost use Rattle.std.specs.FinMap as finite;
 ghost use Rattle.std.specs.Option.{option_copied};
 ghost use Rattle.std.specs.BTreeMap.{keys};
@@ -102,13 +102,12 @@ impl Sheet {
     }
 
     /// The cell of the row at a position in the order of cells, which is found by going over the
-    /// rows before it.
-    pub fn cell_at(&self, at: usize) -> CellId
-        requires { at < length (cells_of self.now) }
-        ensures position { slice_get (cells_of self.now) at ≡ Some result }
-        ensures held { IsSome (row_at self.now result) }
+    /// rows before it, or none where there are fewer rows.
+    pub fn cell_at(&self, at: usize) -> Option<CellId>
+        ensures position { result ≡ slice_get (cells_of self.now) at }
+        ensures held { IfSome result (λ cell. IsSome (row_at self.now cell)) }
     {
-        *key_at(&self.rows, at).unwrap()
+        key_at(&self.rows, at).copied()
     }
 
     /// The cells with their rows, in the order of cells.

@@ -2,7 +2,8 @@
 use Rattle.std.proofs.Common.{◌≡◌, ℕ, zero, suc, ◌+◌, ◌≤◌, Bool, true, false, ◌&&◌, List, [], ◌∷◌, Option, Some, None, refl, subst, arith}
 use Rattle.std.proofs.lemmas.Bool.{and_parts, and_from, false≢true}
 use Rattle.std.specs.List.{list_all}
-use Rattle.std.specs.Prelude.{if◌then◌else◌, slice_get, length, nat_le}
+use Rattle.std.specs.Prelude.{if◌then◌else◌, slice_get, length, min, nat_le}
+use Rattle.std.proofs.Math.Nat.{min-eq_left}
 use Rattle.clr_rows.specs.declared.places.Shape.{Shape}
 use Rattle.clr_rows.specs.declared.rows.Value.{Value}
 use Rattle.clr_rows.specs.declared.tables.Kind.{Kind}
@@ -41,6 +42,10 @@ sound_row tables s fit = record {
 pub part_is_sound : (shape : Shape) (n : ℕ) (e : Segment) → IsSound shape → part_of shape n ≡ Some e → IsSoundSegment e
 part_is_sound shape zero e h is = absurd (cc)
 part_is_sound shape (suc n) e h is = h.parts n e is
+
+-- each part of a sound shape has a number
+pub counted_parts : (shape : Shape) → IsSound shape → min (length (parts_of shape)) 65535 ≡ length (parts_of shape)
+counted_parts shape h = min-eq_left (omega (arith, h.few))
 
 -- the rows that fit beside a book are sound
 pub first_sound : (rules : List Rule) (s : Held) (rest : List Held) → FitTogether rules (s ∷ rest) → IsSound s.1.shape

@@ -1,21 +1,22 @@
-ghost use Rattle.std.specs.Prelude.{◌≡◌, ◌<◌, length};
-ghost use Rattle.std.specs.Prelude.{slice_get};
-ghost use Rattle.clr_rows.specs.declared.limits.TheConstants.{MOST_VERTICES};
+ghost use Rattle.std.specs.Prelude.{◌≡◌, length, min, slice_get};
 ghost use Rattle.clr_rows.specs.Parts.{path_parts, parts_of, part_of};
 
 use clr_rows::{Place, Shape};
 
 /// How many parts a shape has: a path has one from each vertex to the next, a segment is one part,
-/// and another shape has none. A path has at most 32 vertices.
+/// and another shape has none. Of a path with more than 65,535 parts, which no row that fits a
+/// schema has, those are counted that have a number.
 pub fn parts(shape: &Shape) -> u16
-    requires { length (parts_of shape.now) < MOST_VERTICES }
-    ensures { result ≡ length (parts_of shape.now) }
+    ensures { result ≡ min (length (parts_of shape.now)) u16.MAX }
 {
     match shape {
         Shape::Bare => 0,
         Shape::At(_) => 0,
         Shape::Line(_, _) => 1,
-        Shape::Chain(vertices) => vertices.as_slice().len().saturating_sub(1) as u16,
+        Shape::Chain(vertices) => {
+            let parts = vertices.as_slice().len().saturating_sub(1);
+            parts.min(u16::MAX as usize) as u16
+        }
     }
 }
 

@@ -70,9 +70,10 @@ fn last_rows(alloc: Global, cells: Vec<(CellId, Option<Row>)>) -> Result<Sheet, 
     Ok(sheet)
 }
 
-/// Sets a cell to a row, or to none.
+/// Sets a cell to a row, or to none. It fails for want of memory alone, and changes nothing then.
 fn set(sheet: &mut Sheet, cell: CellId, row: Option<Row>) -> Result<(), AllocError>
-    ensures { OnOk result (sheet.new ≡ set_cell sheet.old cell row) }
+    ensures ok { OnOk result (sheet.new ≡ set_cell sheet.old cell row) }
+    ensures err { OnErr result (sheet.new ≡ sheet.old) }
 {
     match row {
         Some(row) => {
