@@ -1,7 +1,7 @@
 -- Cells filed at spots: what stays when one is added or taken away.
-use Rattle.std.proofs.Common.{◌≡◌, inl, inr, ◌+◌, ◌<◌, ℕ, Bool, true, false, cond, not, ◌&&◌, ◌||◌, List, [], ◌∷◌, ◌++◌, take, get_or, length, Option, Some, None, is_some, unwrap_or, refl, ap, sym, subst, ◌∙◌}
+use Rattle.std.proofs.Common.{◌≡◌, ◌⊎◌, inl, inr, ◌+◌, ◌<◌, ℕ, zero, suc, arith, Bool, true, false, cond, not, ◌&&◌, ◌||◌, List, [], ◌∷◌, ◌++◌, take, get_or, length, Option, Some, None, is_some, unwrap_or, refl, ap, sym, subst, ◌∙◌}
 use Rattle.std.specs.Prelude.{Result, Ok, Err, OnErr}
-use Rattle.std.proofs.lemmas.Bool.{false≢true, true≢false, or_left, or_right, or_cases, cases_Bool, not-true, not-false}
+use Rattle.std.proofs.lemmas.Bool.{false≢true, true≢false, or_left, or_right, or_cases, and_parts, cases_Bool, not-true, not-false}
 use Rattle.std.proofs.lemmas.List.{take_more}
 use Rattle.std.proofs.lemmas.List.Folds.{list_any-append}
 use Rattle.std.specs.BTreeMap.{get, is_at}
@@ -11,14 +11,14 @@ use Rattle.std.specs.List.{list_any}
 use Rattle.std.specs.Ordering.{eq_by_cmp}
 use Rattle.clr_rows.specs.declared.cells.CellId.{CellId}
 use Rattle.clr_rows.specs.Cells.{cell_cmp}
-use Rattle.clr_rows.proofs.CellOrder.{cell_cmp_total}
+use Rattle.clr_rows.proofs.CellOrder.{cell_cmp_total, cell_cmp_exact}
 use Rattle.clr_spots.specs.declared.spots.Spot.{Spot}
 use Rattle.clr_spots.specs.SpotOrder.{spot_cmp, same_spot}
 use Rattle.clr_spots.specs.SpotOrderLaws.{spot_cmp_total, spot_cmp_exact, same_spot_is, same_spot_itself, same_spot_equiv}
 use Rattle.clr_rows.proofs.ChangeLemmas.{tied_self}
 use Rattle.clr_grid.proofs.SetLemmas.{or_none}
 use Rattle.clr_grid.specs.CellSets.{Cells, is_one}
-use Rattle.clr_grid.specs.Filing.{Key, All, Wide, At, has_cell, has_key, has_spot, is_filed, is_looked_at, keeps_role, keeps_wide, stays}
+use Rattle.clr_grid.specs.Filing.{Key, All, Wide, At, has_cell, has_key, has_key_of, has_spot, is_filed, is_looked_at, keeps_role, keeps_wide, stays}
 use Rattle.clr_grid.specs.declared.row_spots.RuleSpots.{RuleSpots}
 use Rattle.clr_grid.specs.declared.side_index.SideIndex.{SideIndex}
 
@@ -39,6 +39,18 @@ is_not_one cell q test p t = go (is_one cell q) p
     go : (b : Bool) → (b && test) ≡ false → b ≡ false
     go true e = absurd (true≢false (sym t ∙ e))
     go false e = refl
+
+pub insert_only : (m : Cells) (cell q : CellId) → set.contains (set.insert m cell) q ≡ true → (set.contains m q ≡ true) ⊎ (q ≡ cell)
+insert_only m cell q e = elim (or_cases (eq_by_cmp cell_cmp q cell) (set.contains m q) (sym (set.contains-insert cell_cmp_total m cell q) ∙ e)) [
+  | inl one ↦ inr (cell_cmp_exact q cell ((Equal-is (cell_cmp q cell)).0 one))
+  | inr old ↦ inl old
+]
+
+pub remove_fewer : (m : Cells) (cell q : CellId) → set.contains (set.remove m cell) q ≡ true → set.contains m q ≡ true
+remove_fewer m cell q e = (and_parts (not (eq_by_cmp cell_cmp q cell)) (set.contains m q) (sym (set.contains-remove cell_cmp_total m cell q) ∙ e)).1
+
+pub remove_gone : (m : Cells) (cell : CellId) → set.contains (set.remove m cell) cell ≡ false
+remove_gone m cell = set.contains-remove cell_cmp_total m cell cell ∙ ap (λ b. not b && set.contains m cell) (tied_self cell)
 
 -- ---- spots
 abbrev pub AtSpots : Type 0
@@ -65,6 +77,22 @@ added_keeps f g s m cell is had x q e = ap (λ o. has_cell o q) (is x) ∙ go (i
     go true t = insert_keeps m cell q (had q (subst (λ y. has_cell (f y) q ≡ true) (sym (tied_spot s x t)) e))
     go false t = e
 
+pub none_or_cells : (o : Option Cells) (q : CellId) → set.contains (unwrap_or o set.empty) q ≡ true → has_cell o q ≡ true
+none_or_cells None q e = absurd (false≢true (sym (set.contains-empty cell_cmp q) ∙ e))
+none_or_cells (Some m) q e = e
+
+-- nothing more is filed than a cell at a spot
+pub added_only : (f g : AtSpots) (s : Spot) (m : Cells) (cell : CellId) → ((x : Spot) → g x ≡ cond (is_at (spot_cmp s) x) (Some (set.insert m cell)) (f x)) → ((q : CellId) → set.contains m q ≡ true → has_cell (f s) q ≡ true)
+    → (x : Spot) (q : CellId) → has_cell (g x) q ≡ true → (has_cell (f x) q ≡ true) ⊎ ((q ≡ cell) × (x ≡ s))
+added_only f g s m cell is had x q e = go (is_at (spot_cmp s) x) refl (sym (ap (λ o. has_cell o q) (is x)) ∙ e)
+  where
+    go : (b : Bool) → is_at (spot_cmp s) x ≡ b → has_cell (cond b (Some (set.insert m cell)) (f x)) q ≡ true → (has_cell (f x) q ≡ true) ⊎ ((q ≡ cell) × (x ≡ s))
+    go true t h = elim (insert_only m cell q h) [
+      | inl old ↦ inl (subst (λ y. has_cell (f y) q ≡ true) (tied_spot s x t) (had q old))
+      | inr one ↦ inr (one, sym (tied_spot s x t))
+    ]
+    go false t h = inl h
+
 pub added_has : (f g : AtSpots) (s : Spot) (m : Cells) (cell : CellId) → ((x : Spot) → g x ≡ cond (is_at (spot_cmp s) x) (Some (set.insert m cell)) (f x)) → has_cell (g s) cell ≡ true
 added_has f g s m cell is = ap (λ o. has_cell o cell) (is s ∙ ap (λ b. cond b (Some (set.insert m cell)) (f s)) (spot_itself s)) ∙ insert_has m cell
 
@@ -81,6 +109,32 @@ removed_keeps f g s cell is x q p e = ap (λ o. has_cell o q) (is x) ∙ go (is_
         remove_keeps (unwrap_or (f s) set.empty) cell q (is_not_one cell q (same_spot s x) p (subst (λ y. same_spot s y ≡ true) same (same_spot_itself s)))
         (cells_or_none (f s) q (subst (λ y. has_cell (f y) q ≡ true) (sym same) e))
     go false t = e
+
+-- nothing more is filed, and the cell is gone from the spot
+pub removed_fewer : (f g : AtSpots) (s : Spot) (cell : CellId) → ((x : Spot) → g x ≡ cond (is_at (spot_cmp s) x) (Some (set.remove (unwrap_or (f s) set.empty) cell)) (f x)) → Keeps g f
+removed_fewer f g s cell is x q e = go (is_at (spot_cmp s) x) refl (sym (ap (λ o. has_cell o q) (is x)) ∙ e)
+  where
+    go : (b : Bool) → is_at (spot_cmp s) x ≡ b → has_cell (cond b (Some (set.remove (unwrap_or (f s) set.empty) cell)) (f x)) q ≡ true → has_cell (f x) q ≡ true
+    go true t h = subst (λ y. has_cell (f y) q ≡ true) (tied_spot s x t) (none_or_cells (f s) q (remove_fewer (unwrap_or (f s) set.empty) cell q h))
+    go false t h = h
+
+pub removed_gone : (f g : AtSpots) (s : Spot) (cell : CellId) → ((x : Spot) → g x ≡ cond (is_at (spot_cmp s) x) (Some (set.remove (unwrap_or (f s) set.empty) cell)) (f x)) → has_cell (g s) cell ≡ false
+removed_gone f g s cell is =
+    ap (λ o. has_cell o cell) (is s ∙ ap (λ b. cond b (Some (set.remove (unwrap_or (f s) set.empty) cell)) (f s)) (spot_itself s)) ∙ remove_gone (unwrap_or (f s) set.empty) cell
+
+pub emptied_fewer : (f g : AtSpots) (s : Spot) → ((x : Spot) → g x ≡ cond (is_at (spot_cmp s) x) None (f x)) → Keeps g f
+emptied_fewer f g s is x q e = go (is_at (spot_cmp s) x) (sym (ap (λ o. has_cell o q) (is x)) ∙ e)
+  where
+    go : (b : Bool) → has_cell (cond b None (f x)) q ≡ true → has_cell (f x) q ≡ true
+    go true h = absurd (false≢true h)
+    go false h = h
+
+pub emptied_gone : (f g : AtSpots) (s : Spot) (cell : CellId) → ((x : Spot) → g x ≡ cond (is_at (spot_cmp s) x) None (f x)) → has_cell (g s) cell ≡ false
+emptied_gone f g s cell is = ap (λ o. has_cell o cell) (is s ∙ ap (λ b. cond b None (f s)) (spot_itself s))
+
+pub none_there : (o : Option Cells) (cell : CellId) → is_some o ≡ false → has_cell o cell ≡ false
+none_there None cell e = refl
+none_there (Some m) cell e = absurd (true≢false e)
 
 pub emptied_keeps : (f g : AtSpots) (s : Spot) → f s ≡ Some set.empty → ((x : Spot) → g x ≡ cond (is_at (spot_cmp s) x) None (f x)) → Keeps f g
 emptied_keeps f g s empty is x q e = ap (λ o. has_cell o q) (is x) ∙ go (is_at (spot_cmp s) x) refl
@@ -108,6 +162,34 @@ filed_more f g cell xs k s less is keeps here before x e =
       | inr new ↦ subst (λ y. has_cell (g y) cell ≡ true) (sym (same_spot_is x s new)) here
     ]
 
+-- a spot of a list is one of it
+pub spot_listed : (xs : List Spot) (k : ℕ) (s : Spot) → k < length xs → s ≡ get_or xs k s → list_any (same_spot s) xs ≡ true
+spot_listed [] k s less is = absurd (omega (arith, less))
+spot_listed (y ∷ ys) zero s less is = or_left (same_spot s y) _ (subst (λ z. same_spot s z ≡ true) is (same_spot_itself s))
+spot_listed (y ∷ ys) (suc k) s less is = or_right (same_spot s y) _ (spot_listed ys k s (omega (arith, less)) is)
+
+-- nothing more is filed than the cell at the spots
+pub gained_more : (f g h : AtSpots) (cell : CellId) (xs : List Spot) (k : ℕ) (s : Spot) → k < length xs → s ≡ get_or xs k s
+    → ((x : Spot) (q : CellId) → has_cell (h x) q ≡ true → (has_cell (g x) q ≡ true) ⊎ ((q ≡ cell) × (x ≡ s)))
+    → ((x : Spot) (q : CellId) → has_cell (g x) q ≡ true → (has_cell (f x) q ≡ true) ⊎ ((q ≡ cell) × (list_any (same_spot x) xs ≡ true)))
+    → (x : Spot) (q : CellId) → has_cell (h x) q ≡ true → (has_cell (f x) q ≡ true) ⊎ ((q ≡ cell) × (list_any (same_spot x) xs ≡ true))
+gained_more f g h cell xs k s less is one before x q e = elim (one x q e) [
+  | inl old ↦ before x q old
+  | inr new ↦ inr (new.0, subst (λ y. list_any (same_spot y) xs ≡ true) (sym new.1) (spot_listed xs k s less is))
+]
+
+-- one more spot where the cell is gone, but for a row that keeps it
+pub gone_more : (f g : AtSpots) (cell : CellId) (kept : Option RuleSpots) (xs : List Spot) (k : ℕ) (s : Spot) → k < length xs → s ≡ get_or xs k s → Keeps g f
+    → (has_cell (g s) cell ≡ true → has_spot kept s ≡ true)
+    → ((x : Spot) → list_any (same_spot x) (take k xs) ≡ true → has_cell (f x) cell ≡ true → has_spot kept x ≡ true)
+    → (x : Spot) → list_any (same_spot x) (take (k + 1) xs) ≡ true → has_cell (g x) cell ≡ true → has_spot kept x ≡ true
+gone_more f g cell kept xs k s less is fewer here before x among e =
+    elim (or_cases (list_any (same_spot x) (take k xs)) (same_spot x s) (sym (any_more (same_spot x) xs k s less is) ∙ among)) [
+      | inl old ↦ before x old (fewer x cell e)
+      | inr new ↦ (let same : x ≡ s = same_spot_is x s new in
+          subst (λ y. has_spot kept y ≡ true) (sym same) (here (subst (λ y. has_cell (g y) cell ≡ true) same e)))
+    ]
+
 -- a spot that is taken away isn't one of a row that stays
 pub taken_more : (f g h : AtSpots) (cell : CellId) (kept : Option RuleSpots) (s : Spot) → has_spot kept s ≡ false → KeepsOthers g h s cell
     → ((x : Spot) (q : CellId) → (is_one cell q && not (has_spot kept x)) ≡ false → has_cell (f x) q ≡ true → has_cell (g x) q ≡ true)
@@ -130,6 +212,47 @@ pub kept_by : (i j : SideIndex) → ((q : CellId) → set.contains i.all q ≡ t
 kept_by i j all wide spots All q e = all q e
 kept_by i j all wide spots Wide q e = wide q e
 kept_by i j all wide spots (At x) q e = spots x q e
+
+pub only_by : (i j : SideIndex) (x : RuleSpots) (cell : CellId)
+    → ((q : CellId) → set.contains j.all q ≡ true → (set.contains i.all q ≡ true) ⊎ ((q ≡ cell) × (x.has_role ≡ true)))
+    → ((q : CellId) → set.contains j.wide q ≡ true → (set.contains i.wide q ≡ true) ⊎ ((q ≡ cell) × (x.spots.wide ≡ true)))
+    → ((y : Spot) (q : CellId) → is_filed j (At y) q ≡ true → (is_filed i (At y) q ≡ true) ⊎ ((q ≡ cell) × (list_any (same_spot y) x.spots.list ≡ true)))
+    → (k : Key) (q : CellId) → is_filed j k q ≡ true → (is_filed i k q ≡ true) ⊎ ((q ≡ cell) × (has_key x k ≡ true))
+only_by i j x cell all wide spots All q e = all q e
+only_by i j x cell all wide spots Wide q e = wide q e
+only_by i j x cell all wide spots (At y) q e = spots y q e
+
+keeps_all : (kept : Option RuleSpots) → keeps_role kept ≡ has_key_of kept All
+keeps_all None = refl
+keeps_all (Some y) = refl
+
+keeps_all_wide : (kept : Option RuleSpots) → keeps_wide kept ≡ has_key_of kept Wide
+keeps_all_wide None = refl
+keeps_all_wide (Some y) = refl
+
+keeps_spot : (kept : Option RuleSpots) (x : Spot) → has_spot kept x ≡ has_key_of kept (At x)
+keeps_spot None x = refl
+keeps_spot (Some y) x = refl
+
+kept_if : (b : Bool) (cell : CellId) (m : Cells) → (not b ≡ true → set.contains m cell ≡ false) → set.contains m cell ≡ true → b ≡ true
+kept_if true cell m gone e = refl
+kept_if false cell m gone e = absurd (false≢true (sym (gone refl) ∙ e))
+
+pub gone_by : (j : SideIndex) (x : RuleSpots) (cell : CellId) (kept : Option RuleSpots)
+    → (not (keeps_role kept) ≡ true → set.contains j.all cell ≡ false)
+    → (not (keeps_wide kept) ≡ true → set.contains j.wide cell ≡ false)
+    → ((y : Spot) → list_any (same_spot y) x.spots.list ≡ true → is_filed j (At y) cell ≡ true → has_spot kept y ≡ true)
+    → (k : Key) → has_key x k ≡ true → is_filed j k cell ≡ true → has_key_of kept k ≡ true
+gone_by j x cell kept all wide spots All key e = sym (keeps_all kept) ∙ kept_if (keeps_role kept) cell j.all all e
+gone_by j x cell kept all wide spots Wide key e = sym (keeps_all_wide kept) ∙ kept_if (keeps_wide kept) cell j.wide wide e
+gone_by j x cell kept all wide spots (At y) key e = sym (keeps_spot kept y) ∙ spots y key e
+
+-- an index without cells
+pub none_in : (i : SideIndex) → ((q : CellId) → set.contains i.all q ≡ false) → ((q : CellId) → set.contains i.wide q ≡ false) → ((x : Spot) → get spot_cmp i.by_spot x ≡ None)
+    → (k : Key) (q : CellId) → is_filed i k q ≡ false
+none_in i all wide spots All q = all q
+none_in i all wide spots Wide q = wide q
+none_in i all wide spots (At x) q = ap (λ o. has_cell o q) (spots x)
 
 pub none_has : {A : Type 0} (o : Option Cells) (q : CellId) → is_some o ≡ false → has_cell o q ≡ true → A
 none_has None q e h = absurd (false≢true h)

@@ -1,6 +1,6 @@
 -- Indexes by rule: what stays filed, and that each row is filed.
-use Rattle.std.proofs.Common.{◌≡◌, inl, inr, ◌<◌, ◌+◌, ℕ, zero, suc, Bool, true, false, cond, not, ◌&&◌, ◌||◌, List, [], ◌∷◌, ◌++◌, length, get_or, set, Option, Some, None, slice_get, refl, ap, sym, subst, ◌∙◌, arith}
-use Rattle.std.proofs.lemmas.Bool.{false≢true, true≢false, and_parts, or_cases, cases_lt}
+use Rattle.std.proofs.Common.{◌≡◌, ◌⊎◌, inl, inr, ◌<◌, ◌≤◌, ◌+◌, ℕ, zero, suc, Bool, true, false, cond, not, ◌&&◌, ◌||◌, List, [], ◌∷◌, ◌++◌, length, get_or, set, Option, Some, None, slice_get, refl, ap, sym, subst, ◌∙◌, arith}
+use Rattle.std.proofs.lemmas.Bool.{false≢true, true≢false, and_parts, or_cases, cases_Bool, cases_lt}
 use Rattle.std.specs.Cmp.{Equal-is}
 use Rattle.std.specs.FinMap as finite
 use Rattle.std.specs.List.{list_any}
@@ -15,7 +15,7 @@ use Rattle.clr_spots.specs.SpotOrderLaws.{same_spot_itself}
 use Rattle.clr_spots.specs.Spots.{have_common_spot}
 use Rattle.clr_rules.proofs.Elements.{some_of, any_by}
 use Rattle.clr_grid.specs.CellSets.{is_one, is_one_of}
-use Rattle.clr_grid.specs.Filing.{Key, All, Wide, At, has_key, has_spot, is_filed, is_filed_under, is_looked_at, side_of, keeps_role, keeps_wide, same_side, of_side, spots_at, stays, IsFiled, IsFiledToo, AreFiled, StayFiled, StayFiledBut, AreNear}
+use Rattle.clr_grid.specs.Filing.{Key, All, Wide, At, has_key, has_spot, is_filed, is_filed_under, is_looked_at, side_of, keeps_role, keeps_wide, same_side, of_side, spots_at, stays, IsFiled, IsFiledToo, AreFiled, AreOfRows, AreGone, GainNone, GainOnly, HasRowFor, IsFiledExactly, StayFiled, StayFiledBut, AreNear, has_key_of, has_key_under}
 use Rattle.clr_grid.specs.RowMaps.{Rows, RowOrNone, IsRowAt, no_rows, with_pending, with_settled, without_pending}
 use Rattle.clr_grid.specs.Sharing.{are_meeting, is_met, is_met_at}
 use Rattle.clr_grid.specs.declared.row_spots.RuleSpots.{RuleSpots}
@@ -41,6 +41,37 @@ pub set_filed : (xs : List RuleIndex) (m : ℕ) (new : RuleIndex) (b : Bool) (k 
 set_filed [] m new b k q less e = absurd (omega (arith, less))
 set_filed (y ∷ ys) zero new b k q less e = e
 set_filed (y ∷ ys) (suc m) new b k q less e = set_filed ys m new b k q (omega (arith, less)) e
+
+-- an index without cells adds nothing
+pub append_only : (xs : List RuleIndex) (x : RuleIndex) → ((b : Bool) (k : Key) (q : CellId) → is_filed (side_of x b) k q ≡ false) → GainNone xs (xs ++ x ∷ [])
+append_only [] x none zero serves k q e = absurd (false≢true (sym (none serves k q) ∙ e))
+append_only [] x none (suc n) serves k q e = e
+append_only (y ∷ ys) x none zero serves k q e = e
+append_only (y ∷ ys) x none (suc n) serves k q e = append_only ys x none n serves k q e
+
+-- nothing more is filed than in one index that is changed
+pub set_only : {A : Type 0} (xs : List RuleIndex) (m : ℕ) (old new : RuleIndex) (n : ℕ) (b : Bool) (k : Key) (q : CellId) → m < length xs → old ≡ get_or xs m old
+    → (n ≡ m → is_filed (side_of new b) k q ≡ true → (is_filed (side_of old b) k q ≡ true) ⊎ A)
+    → is_filed_under (set xs m new) n b k q ≡ true → (is_filed_under xs n b k q ≡ true) ⊎ A
+set_only [] m old new n b k q less is step e = absurd (omega (arith, less))
+set_only (y ∷ ys) zero old new zero b k q less is step e = elim (step refl e) [ inl before ↦ inl (subst (λ i. is_filed (side_of i b) k q ≡ true) is before) | inr more ↦ inr more ]
+set_only (y ∷ ys) zero old new (suc n) b k q less is step e = inl e
+set_only (y ∷ ys) (suc m) old new zero b k q less is step e = inl e
+set_only (y ∷ ys) (suc m) old new (suc n) b k q less is step e = set_only ys m old new n b k q (omega (arith, less)) is (λ same. step (ap suc same)) e
+
+pub set_here : (xs : List RuleIndex) (m : ℕ) (new : RuleIndex) (b : Bool) (k : Key) (q : CellId) → m < length xs → is_filed_under (set xs m new) m b k q ≡ true → is_filed (side_of new b) k q ≡ true
+set_here [] m new b k q less e = absurd (omega (arith, less))
+set_here (y ∷ ys) zero new b k q less e = e
+set_here (y ∷ ys) (suc m) new b k q less e = set_here ys m new b k q (omega (arith, less)) e
+
+pub none_past : {A : Type 0} (xs : List RuleIndex) (m : ℕ) (b : Bool) (k : Key) (q : CellId) → length xs ≤ m → is_filed_under xs m b k q ≡ true → A
+none_past [] m b k q less e = absurd (false≢true e)
+none_past (y ∷ ys) zero b k q less e = absurd (omega (arith, less))
+none_past (y ∷ ys) (suc m) b k q less e = none_past ys m b k q (omega (arith, less)) e
+
+pub one_or : {A : Type 0} → A ⊎ ⊥ → A
+one_or (inl a) = a
+one_or (inr none) = absurd none
 
 pub got : {X : Type 0} (xs : List X) (n : ℕ) (x d : X) → slice_get xs n ≡ Some x → x ≡ get_or xs n d
 got [] n x d e = absurd (cc)
@@ -208,6 +239,42 @@ dropped_again rows cell row free = λ i. record { settled = rows.settled; pendin
         go true tie = sym (ap (λ c. finite.get rows.pending c) (cell_cmp_exact q cell ((Equal-is (cell_cmp q cell)).0 tie)) ∙ free)
         go false tie = refl
 
+-- an element at a position that is there
+pub got_at : {X : Type 0} (xs : List X) (n : ℕ) (x : X) → n < length xs → x ≡ get_or xs n x → slice_get xs n ≡ Some x
+got_at [] n x less is = absurd (omega (arith, less))
+got_at (y ∷ ys) zero x less is = ap Some (sym is)
+got_at (y ∷ ys) (suc n) x less is = got_at ys n x (omega (arith, less)) is
+
+under_at : (row : List RuleSpots) (m : ℕ) (s : RuleSpots) (b : Bool) (k : Key) → slice_get row m ≡ Some s → has_key_under (Some row) m b k ≡ has_key_of (of_side b (Some s)) k
+under_at row m s b k at = ap (λ o. has_key_of (of_side b o) k) at
+
+-- nothing more is filed than the cell under one more rule
+pub gained_next : (xs ys zs : List RuleIndex) (cell : CellId) (row : List RuleSpots) (m : ℕ) (s : RuleSpots) → m < length row → s ≡ get_or row m s
+    → ((n : ℕ) (b : Bool) (k : Key) (q : CellId) → is_filed_under zs n b k q ≡ true → (is_filed_under ys n b k q ≡ true) ⊎ ((q ≡ cell) × ((n ≡ m) × (has_key_of (of_side b (Some s)) k ≡ true))))
+    → GainOnly cell (Some row) xs ys → GainOnly cell (Some row) xs zs
+gained_next xs ys zs cell row m s less at here before n b k q e = elim (here n b k q e) [
+  | inl old ↦ before n b k q old
+  | inr new ↦ inr (new.0, subst (λ j. has_key_under (Some row) j b k ≡ true) (sym new.1.0) (under_at row m s b k (got_at row m s less at) ∙ new.1.1))
+]
+
+-- the cell is gone under one more rule, but for a row that it keeps
+pub gone_next : (ys zs : List RuleIndex) (cell : CellId) (row : List RuleSpots) (kept : RowOrNone) (m : ℕ) (s : RuleSpots) → s ≡ get_or row m s → m < length row → GainNone ys zs
+    → ((b : Bool) (k : Key) → has_key_of (of_side b (Some s)) k ≡ true → is_filed_under zs m b k cell ≡ true → has_key_under kept m b k ≡ true)
+    → ((n : ℕ) (b : Bool) (k : Key) → n < m → has_key_under (Some row) n b k ≡ true → is_filed_under ys n b k cell ≡ true → has_key_under kept n b k ≡ true)
+    → (n : ℕ) (b : Bool) (k : Key) → n < m + 1 → has_key_under (Some row) n b k ≡ true → is_filed_under zs n b k cell ≡ true → has_key_under kept n b k ≡ true
+gone_next ys zs cell row kept m s at less fewer here before n b k up key e = elim (cases_lt n m) [
+  | inl lower ↦ before n b k lower key (fewer n b k cell e)
+  | inr not_lower ↦ (let same : n ≡ m = omega (arith, up, not_lower) in
+      subst (λ j. has_key_under kept j b k ≡ true) (sym same)
+      (here b k (sym (under_at row m s b k (got_at row m s less at)) ∙ subst (λ j. has_key_under (Some row) j b k ≡ true) same key) (subst (λ j. is_filed_under zs j b k cell ≡ true) same e)))
+]
+
+-- a row has no key past its rules
+pub none_under : {A : Type 0} (row : List RuleSpots) (n : ℕ) (b : Bool) (k : Key) → length row ≤ n → has_key_under (Some row) n b k ≡ true → A
+none_under [] n b k less e = absurd (false≢true e)
+none_under (y ∷ ys) zero b k less e = absurd (omega (arith, less))
+none_under (y ∷ ys) (suc n) b k less e = none_under ys n b k (omega (arith, less)) e
+
 -- the cell filed under one more rule
 pub filed_next : (xs ys : List RuleIndex) (cell : CellId) (row : List RuleSpots) (m : ℕ) (s : RuleSpots) → s ≡ get_or row m s → StayFiled xs ys → ((k : Key) → has_key s k ≡ true → is_filed_under ys m s.may_serve k cell ≡ true)
     → ((n : ℕ) (y : RuleSpots) (k : Key) → n < m → slice_get row n ≡ Some y → has_key y k ≡ true → is_filed_under xs n y.may_serve k cell ≡ true)
@@ -226,3 +293,112 @@ noted_row rows rows' cell row is =
 
 pub noted_dropped : (rows noted left : Rows) (cell : CellId) (row : RowOrNone) → finite.get rows.pending cell ≡ None → noted ≡ with_pending rows cell row → left ≡ without_pending noted cell → left ≡ rows
 noted_dropped rows noted left cell row free is gone = gone ∙ ap (λ (r : Rows). without_pending r cell) is ∙ dropped_again rows cell row free
+
+-- ---- nothing else is filed
+by_cell : {A : Type 0} (cell q : CellId) → (q ≡ cell → A) → (eq_by_cmp cell_cmp q cell ≡ false → A) → A
+by_cell cell q same apart = elim (cases_Bool (eq_by_cmp cell_cmp q cell)) [
+  | inl tie ↦ same (cell_cmp_exact q cell ((Equal-is (cell_cmp q cell)).0 tie))
+  | inr differ ↦ apart differ
+]
+
+kept_row : (rows : Rows) (cell : CellId) (kept : RowOrNone) (n : ℕ) (b : Bool) (k : Key) → kept ≡ finite.get rows.settled cell → has_key_under kept n b k ≡ true → HasRowFor rows cell n b k
+kept_row rows cell None n b k is key = absurd (false≢true key)
+kept_row rows cell (Some row) n b k is key = record { row = row; stands = inl (sym is); wanted = key }
+
+noted_key : (rows : Rows) (cell : CellId) (row : RowOrNone) (n : ℕ) (b : Bool) (k : Key) → has_key_under row n b k ≡ true → HasRowFor (with_pending rows cell row) cell n b k
+noted_key rows cell None n b k key = absurd (false≢true key)
+noted_key rows cell (Some row) n b k key = record {
+  row = row;
+  stands = inr (finite.get-insert cell_cmp_total rows.pending cell (Some row) cell ∙ ap (λ t. cond t (Some (Some row)) (finite.get rows.pending cell)) (tied_self cell));
+  wanted = key;
+}
+
+pub others_noted : (rows rows' : Rows) (cell : CellId) (row : RowOrNone) (xs ys : List RuleIndex) → finite.get rows.pending cell ≡ None → AreOfRows rows xs → GainOnly cell row xs ys → rows' ≡ with_pending rows cell row → AreOfRows rows' ys
+others_noted rows rows' cell row xs ys free of gain is n b k q e = subst (λ (r : Rows). HasRowFor r q n b k) (sym is) (elim (gain n b k q e) [
+  | inl old ↦ stays (of n b k q old)
+  | inr new ↦ subst (λ c. HasRowFor (with_pending rows cell row) c n b k) (sym new.0) (noted_key rows cell row n b k new.1)
+])
+  where
+    stays : HasRowFor rows q n b k → HasRowFor (with_pending rows cell row) q n b k
+    stays h = elim h.stands [
+      | inl settled ↦ record { row = h.row; stands = inl settled; wanted = h.wanted }
+      | inr pending ↦ record {
+          row = h.row;
+          stands = inr (by_cell cell q (λ tie. absurd (cc (ap (λ c. finite.get rows.pending c) tie, free, pending)))
+              (λ differ. finite.get-insert cell_cmp_total rows.pending cell row q ∙ ap (λ t. cond t (Some row) (finite.get rows.pending q)) differ ∙ pending));
+          wanted = h.wanted;
+        }
+    ]
+
+pub others_refused : (rows rows' : Rows) (cell : CellId) (row kept : RowOrNone) (xs ys zs : List RuleIndex) → AreOfRows rows xs → GainOnly cell row xs ys → GainNone ys zs → AreGone cell row kept zs
+    → rows' ≡ rows → kept ≡ finite.get rows'.settled cell → AreOfRows rows' zs
+others_refused rows rows' cell row kept xs ys zs of gain fewer gone is same n b k q e = elim (gain n b k q (fewer n b k q e)) [
+  | inl old ↦ subst (λ (r : Rows). HasRowFor r q n b k) (sym is) (of n b k q old)
+  | inr new ↦ subst (λ c. HasRowFor rows' c n b k) (sym new.0) (kept_row rows' cell kept n b k same (gone n b k new.1 (subst (λ c. is_filed_under zs n b k c ≡ true) new.0 e)))
+]
+
+pub others_settled : (rows rows' : Rows) (cell : CellId) (before kept : RowOrNone) (xs ys : List RuleIndex) → AreOfRows rows xs → GainNone xs ys → AreGone cell before kept ys
+    → before ≡ finite.get rows.settled cell → rows' ≡ with_settled rows cell → kept ≡ finite.get rows'.settled cell → AreOfRows rows' ys
+others_settled rows rows' cell before kept xs ys of fewer gone was is same n b k q e = subst (λ (r : Rows). HasRowFor r q n b k) (sym is) (go (of n b k q (fewer n b k q e)))
+  where
+    here : HasRowFor rows cell n b k → is_filed_under ys n b k cell ≡ true → HasRowFor (with_settled rows cell) cell n b k
+    here h there = elim h.stands [
+      | inl settled ↦ kept_row (with_settled rows cell) cell kept n b k (same ∙ ap (λ (r : Rows). finite.get r.settled cell) is)
+          (gone n b k (subst (λ o. has_key_under o n b k ≡ true) (sym (was ∙ settled)) h.wanted) there)
+      | inr pending ↦ record {
+          row = h.row;
+          stands = inl (get_set_at rows.settled cell (option_flatten (finite.get rows.pending cell)) cell
+              ∙ ap (λ t. cond t (option_flatten (finite.get rows.pending cell)) (finite.get rows.settled cell)) (tied_self cell) ∙ ap option_flatten pending);
+          wanted = h.wanted;
+        }
+    ]
+
+    apart : eq_by_cmp cell_cmp q cell ≡ false → HasRowFor rows q n b k → HasRowFor (with_settled rows cell) q n b k
+    apart differ h = elim h.stands [
+      | inl settled ↦ record {
+          row = h.row;
+          stands = inl (get_set_at rows.settled cell (option_flatten (finite.get rows.pending cell)) q
+              ∙ ap (λ t. cond t (option_flatten (finite.get rows.pending cell)) (finite.get rows.settled q)) differ ∙ settled);
+          wanted = h.wanted;
+        }
+      | inr pending ↦ record {
+          row = h.row;
+          stands = inr (finite.get-remove cell_cmp_total rows.pending cell q ∙ ap (λ t. cond t None (finite.get rows.pending q)) differ ∙ pending);
+          wanted = h.wanted;
+        }
+    ]
+
+    go : HasRowFor rows q n b k → HasRowFor (with_settled rows cell) q n b k
+    go h = by_cell cell q
+        (λ tie. subst (λ c. HasRowFor (with_settled rows cell) c n b k) (sym tie) (here (subst (λ c. HasRowFor rows c n b k) tie h) (subst (λ c. is_filed_under ys n b k c ≡ true) tie e)))
+        (λ differ. apart differ h)
+
+pub others_left : (rows rows' : Rows) (cell : CellId) (row kept : RowOrNone) (xs ys : List RuleIndex) → AreOfRows rows xs → GainNone xs ys → AreGone cell row kept ys
+    → row ≡ option_flatten (finite.get rows.pending cell) → rows' ≡ without_pending rows cell → kept ≡ finite.get rows'.settled cell → AreOfRows rows' ys
+others_left rows rows' cell row kept xs ys of fewer gone was is same n b k q e = subst (λ (r : Rows). HasRowFor r q n b k) (sym is) (go (of n b k q (fewer n b k q e)))
+  where
+    here : HasRowFor rows cell n b k → is_filed_under ys n b k cell ≡ true → HasRowFor (without_pending rows cell) cell n b k
+    here h there = elim h.stands [
+      | inl settled ↦ record { row = h.row; stands = inl settled; wanted = h.wanted }
+      | inr pending ↦ kept_row (without_pending rows cell) cell kept n b k (same ∙ ap (λ (r : Rows). finite.get r.settled cell) is)
+          (gone n b k (subst (λ o. has_key_under o n b k ≡ true) (sym (was ∙ ap option_flatten pending)) h.wanted) there)
+    ]
+
+    apart : eq_by_cmp cell_cmp q cell ≡ false → HasRowFor rows q n b k → HasRowFor (without_pending rows cell) q n b k
+    apart differ h = elim h.stands [
+      | inl settled ↦ record { row = h.row; stands = inl settled; wanted = h.wanted }
+      | inr pending ↦ record {
+          row = h.row;
+          stands = inr (finite.get-remove cell_cmp_total rows.pending cell q ∙ ap (λ t. cond t None (finite.get rows.pending q)) differ ∙ pending);
+          wanted = h.wanted;
+        }
+    ]
+
+    go : HasRowFor rows q n b k → HasRowFor (without_pending rows cell) q n b k
+    go h = by_cell cell q
+        (λ tie. subst (λ c. HasRowFor (without_pending rows cell) c n b k) (sym tie) (here (subst (λ c. HasRowFor rows c n b k) tie h) (subst (λ c. is_filed_under ys n b k c ≡ true) tie e)))
+        (λ differ. apart differ h)
+
+-- no index files nothing
+pub none_other : (rows : Rows) (xs : List RuleIndex) → xs ≡ [] → AreOfRows rows xs
+none_other rows xs is n b k q e = absurd (false≢true (sym (ap (λ ys. is_filed_under ys n b k q) is) ∙ e))

@@ -1,5 +1,5 @@
 -- Cells filed by the spots of their rows under each rule, so that rows with a common spot are found.
-use Rattle.std.specs.Prelude.{◌≡◌, ℕ, Bool, true, false, not, List, ◌&&◌, Option, Some, None, slice_get, ⊤, if◌then◌else◌}
+use Rattle.std.specs.Prelude.{◌≡◌, ◌⊎◌, ℕ, Bool, true, false, not, List, ◌&&◌, Option, Some, None, slice_get, ⊤, if◌then◌else◌}
 use Rattle.std.specs.BTreeMap.{get}
 use Rattle.std.specs.FinSet as set
 use Rattle.std.specs.List.{list_any}
@@ -23,6 +23,11 @@ abbrev pub has_key : RuleSpots → Key → Bool
 has_key x All = x.has_role
 has_key x Wide = x.spots.wide
 has_key x (At y) = list_any (same_spot y) x.spots.list
+
+-- a row, if there is one, is to be filed there
+abbrev pub has_key_of : Option RuleSpots → Key → Bool
+has_key_of None k = false
+has_key_of (Some y) k = has_key y k
 
 -- the cells there are found for the row
 abbrev pub is_looked_at : RuleSpots → Key → Bool
@@ -85,6 +90,10 @@ abbrev pub spots_at : Option (List RuleSpots) → ℕ → Option RuleSpots
 spots_at None number = None
 spots_at (Some ys) number = slice_get ys number
 
+-- a row, if there is one, is to be filed there under the rule of a number
+abbrev pub has_key_under : Option (List RuleSpots) → ℕ → Bool → Key → Bool
+has_key_under ys number serves k = has_key_of (of_side serves (spots_at ys number)) k
+
 -- a row is filed wherever it is to be
 abbrev pub IsFiled : List RuleIndex → CellId → List RuleSpots → Type 0
 IsFiled indexes q ys = (number : ℕ) (y : RuleSpots) (k : Key) → slice_get ys number ≡ Some y → has_key y k ≡ true
@@ -99,6 +108,22 @@ IsFiledToo indexes q (Some ys) = IsFiled indexes q ys
 abbrev pub AreFiled : Rows → List RuleIndex → Type 0
 AreFiled rows indexes = (q : CellId) (ys : List RuleSpots) → IsRowAt rows q ys → IsFiled indexes q ys
 
+-- a row of the cell, which stands there or is to, is to be filed there under the rule of a number
+pub record HasRowFor (rows : Rows) (q : CellId) (number : ℕ) (serves : Bool) (k : Key) : Type 0 where
+  pub row : List RuleSpots
+  pub stands : IsRowAt rows q row
+  pub wanted : has_key_under (Some row) number serves k ≡ true
+
+-- nothing else is filed
+abbrev pub AreOfRows : Rows → List RuleIndex → Type 0
+AreOfRows rows indexes = (number : ℕ) (serves : Bool) (k : Key) (q : CellId) → is_filed_under indexes number serves k q ≡ true
+    → HasRowFor rows q number serves k
+
+-- the rows that stand or are to stand are filed, and nothing else is
+pub record IsFiledExactly (rows : Rows) (indexes : List RuleIndex) : Type 0 where
+  pub filed : AreFiled rows indexes
+  pub others : AreOfRows rows indexes
+
 -- what is filed stays
 abbrev pub StayFiled : List RuleIndex → List RuleIndex → Type 0
 StayFiled old new = (number : ℕ) (serves : Bool) (k : Key) (q : CellId) → is_filed_under old number serves k q ≡ true
@@ -110,6 +135,21 @@ StayFiledBut cell kept old new = (number : ℕ) (serves : Bool) (k : Key) (q : C
     → stays cell (of_side serves (spots_at kept number)) k q ≡ true
     → is_filed_under old number serves k q ≡ true
     → is_filed_under new number serves k q ≡ true
+
+-- nothing more is filed than a cell wherever its row, if there is one, is to be
+abbrev pub GainOnly : CellId → Option (List RuleSpots) → List RuleIndex → List RuleIndex → Type 0
+GainOnly cell ys old new = (number : ℕ) (serves : Bool) (k : Key) (q : CellId) → is_filed_under new number serves k q ≡ true
+    → (is_filed_under old number serves k q ≡ true) ⊎ ((q ≡ cell) × (has_key_under ys number serves k ≡ true))
+
+-- nothing more is filed
+abbrev pub GainNone : List RuleIndex → List RuleIndex → Type 0
+GainNone old new = StayFiled new old
+
+-- wherever a row of a cell, if there is one, was to be filed, the cell is filed for a row alone that it keeps
+abbrev pub AreGone : CellId → Option (List RuleSpots) → Option (List RuleSpots) → List RuleIndex → Type 0
+AreGone cell ys kept indexes = (number : ℕ) (serves : Bool) (k : Key) → has_key_under ys number serves k ≡ true
+    → is_filed_under indexes number serves k cell ≡ true
+    → has_key_under kept number serves k ≡ true
 
 -- each cell that is looked at for a row is one of some
 abbrev pub AreNear : List RuleIndex → Bool → ℕ → RuleSpots → List CellId → Type 0

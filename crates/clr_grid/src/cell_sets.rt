@@ -1,4 +1,4 @@
-ghost use Rattle.std.specs.Prelude.{◌≡◌, ◌||◌, ◌&&◌, true, false, OnOk, OnErr, IfOk};
+ghost use Rattle.std.specs.Prelude.{◌≡◌, ◌⊎◌, ◌||◌, ◌&&◌, true, false, OnOk, OnErr, IfOk};
 ghost use Rattle.std.specs.FinSet as set;
 ghost use Rattle.std.specs.List.Sorted.{IsStrictlySortedBy};
 ghost use Rattle.clr_rows.specs.Cells.{cell_cmp};
@@ -46,9 +46,10 @@ impl CellSet {
         Ok(())
     }
 
-    /// Adds a cell, where a test says so.
+    /// Adds a cell, where a test says so, and nothing else. It fails for want of memory alone.
     pub(crate) fn add_if(&mut self, test: bool, cell: CellId) -> Result<(), AllocError>
         ensures kept { (q : Cell) → set.contains self.old q ≡ true → set.contains self.new q ≡ true }
+        ensures only { (q : Cell) → set.contains self.new q ≡ true → (set.contains self.old q ≡ true) ⊎ ((q ≡ cell) × (test ≡ true)) }
         ensures added { OnOk result (test ≡ true → set.contains self.new cell ≡ true) }
     {
         if test {
@@ -66,7 +67,9 @@ impl CellSet {
 
     /// Takes a cell away, where a test says so.
     pub(crate) fn remove_if(&mut self, test: bool, cell: CellId)
-        ensures { (q : Cell) → (is_one cell q && test) ≡ false → set.contains self.old q ≡ true → set.contains self.new q ≡ true }
+        ensures kept { (q : Cell) → (is_one cell q && test) ≡ false → set.contains self.old q ≡ true → set.contains self.new q ≡ true }
+        ensures fewer { (q : Cell) → set.contains self.new q ≡ true → set.contains self.old q ≡ true }
+        ensures gone { test ≡ true → set.contains self.new cell ≡ false }
     {
         if test {
             self.remove(cell);

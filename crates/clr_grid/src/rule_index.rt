@@ -1,10 +1,10 @@
-ghost use Rattle.std.specs.Prelude.{◌≡◌, ◌<◌, ◌≤◌, ℕ, Bool, true, Some, None, IfOk, OnOk, slice_get, length};
+ghost use Rattle.std.specs.Prelude.{◌≡◌, ◌⊎◌, ◌<◌, ◌≤◌, ℕ, Bool, true, false, Some, None, IfOk, OnOk, slice_get, length};
 ghost use Rattle.std.specs.FinSet as set;
 ghost use Rattle.std.specs.List.Sorted.{IsStrictlySortedBy};
 ghost use Rattle.std.specs.Option.{option_copied};
 ghost use Rattle.clr_rows.specs.Cells.{cell_cmp};
 ghost use Rattle.clr_rows.specs.declared.cells.CellId.{CellId as Cell};
-ghost use Rattle.clr_grid.specs.Filing.{AreNear, IsFiled, IsFiledToo, Key, StayFiled, StayFiledBut, has_key};
+ghost use Rattle.clr_grid.specs.Filing.{AreGone, AreNear, GainNone, GainOnly, IsFiled, IsFiledToo, Key, StayFiled, StayFiledBut, has_key, has_key_of};
 ghost use Rattle.clr_grid.specs.Filing.{is_filed, is_filed_under, is_looked_at, of_side, side_of, spots_at, stays};
 
 use crate::cell_sets::CellSet;
@@ -32,7 +32,9 @@ fn of_side(serves: bool, kept: Option<&RuleSpots>) -> Option<&RuleSpots>
 
 impl RuleIndex {
     /// An index without cells.
-    fn new(alloc: Global) -> RuleIndex {
+    fn new(alloc: Global) -> RuleIndex
+        ensures { (b : Bool) (k : Key) (q : Cell) → is_filed (side_of result b) k q ≡ false }
+    {
         RuleIndex {
             servers: SideIndex::new(alloc),
             others: SideIndex::new(alloc),
@@ -42,6 +44,8 @@ impl RuleIndex {
     /// Files the cell of a row wherever it is to be. It fails for want of memory alone.
     fn file(&mut self, alloc: Global, cell: CellId, spots: &RuleSpots) -> Result<(), AllocError>
         ensures kept { (b : Bool) (k : Key) (q : Cell) → is_filed (side_of self.old b) k q ≡ true → is_filed (side_of self.new b) k q ≡ true }
+        ensures only { (b : Bool) (k : Key) (q : Cell) → is_filed (side_of self.new b) k q ≡ true
+            → (is_filed (side_of self.old b) k q ≡ true) ⊎ ((q ≡ cell) × (has_key_of (of_side b (Some spots.now)) k ≡ true)) }
         ensures filed { OnOk result ((k : Key) → has_key spots.now k ≡ true → is_filed (side_of self.new spots.now.may_serve) k cell ≡ true) }
     {
         if spots.may_serve {
@@ -53,8 +57,11 @@ impl RuleIndex {
 
     /// Takes the cell of a row away, but for what a row keeps that stays.
     fn unfile(&mut self, cell: CellId, spots: &RuleSpots, kept: Option<&RuleSpots>)
-        ensures { (b : Bool) (k : Key) (q : Cell) → stays cell (of_side b (option_copied kept.entry)) k q ≡ true
+        ensures kept { (b : Bool) (k : Key) (q : Cell) → stays cell (of_side b (option_copied kept.entry)) k q ≡ true
             → is_filed (side_of self.old b) k q ≡ true → is_filed (side_of self.new b) k q ≡ true }
+        ensures fewer { (b : Bool) (k : Key) (q : Cell) → is_filed (side_of self.new b) k q ≡ true → is_filed (side_of self.old b) k q ≡ true }
+        ensures gone { (b : Bool) (k : Key) → has_key_of (of_side b (Some spots.now)) k ≡ true → is_filed (side_of self.new b) k cell ≡ true
+            → has_key_of (of_side b (option_copied kept.entry)) k ≡ true }
     {
         let kept = of_side(spots.may_serve, kept);
         if spots.may_serve {
@@ -96,6 +103,7 @@ fn spots_at(kept: Option<&RowSpots>, rule: usize) -> Option<&RuleSpots>
 /// Makes an index for each rule below a number.
 fn make_rules(rules: &mut Vec<RuleIndex>, alloc: Global, count: usize) -> Result<(), AllocError>
     ensures kept { StayFiled rules.old.items rules.new.items }
+    ensures only { GainNone rules.old.items rules.new.items }
     ensures enough { OnOk result (count ≤ length rules.new.items) }
 {
     while rules.len() < count {
@@ -114,6 +122,8 @@ fn file_at(
 ) -> Result<(), AllocError>
     requires { rule < length rules.old.items }
     ensures kept { StayFiled rules.old.items rules.new.items }
+    ensures only { (n : ℕ) (b : Bool) (k : Key) (q : Cell) → is_filed_under rules.new.items n b k q ≡ true
+        → (is_filed_under rules.old.items n b k q ≡ true) ⊎ ((q ≡ cell) × ((n ≡ rule) × (has_key_of (of_side b (Some spots.now)) k ≡ true))) }
     ensures length { length rules.new.items ≡ length rules.old.items }
     ensures filed { OnOk result ((k : Key) → has_key spots.now k ≡ true → is_filed_under rules.new.items rule spots.now.may_serve k cell ≡ true) }
 {
@@ -129,6 +139,7 @@ fn file_at_each(
     row: &RowSpots,
 ) -> Result<(), AllocError>
     ensures kept { StayFiled rules.old.items rules.new.items }
+    ensures only { GainOnly cell (Some row.now) rules.old.items rules.new.items }
     ensures filed { OnOk result (IsFiled rules.new.items cell row.now) }
 {
     let spots = row.as_slice();
@@ -147,6 +158,7 @@ pub(crate) fn file_row(
     row: Option<&RowSpots>,
 ) -> Result<(), AllocError>
     ensures kept { StayFiled rules.old.items rules.new.items }
+    ensures only { GainOnly cell (option_copied row.entry) rules.old.items rules.new.items }
     ensures filed { OnOk result (IsFiledToo rules.new.items cell (option_copied row.entry)) }
 {
     match row {
@@ -163,8 +175,11 @@ fn unfile_at(
     spots: &RuleSpots,
     kept: Option<&RuleSpots>,
 )
-    ensures { (n : ℕ) (b : Bool) (k : Key) (q : Cell) → (n ≡ rule → stays cell (of_side b (option_copied kept.entry)) k q ≡ true)
+    ensures kept { (n : ℕ) (b : Bool) (k : Key) (q : Cell) → (n ≡ rule → stays cell (of_side b (option_copied kept.entry)) k q ≡ true)
         → is_filed_under rules.old.items n b k q ≡ true → is_filed_under rules.new.items n b k q ≡ true }
+    ensures fewer { GainNone rules.old.items rules.new.items }
+    ensures gone { (b : Bool) (k : Key) → has_key_of (of_side b (Some spots.now)) k ≡ true → is_filed_under rules.new.items rule b k cell ≡ true
+        → has_key_of (of_side b (option_copied kept.entry)) k ≡ true }
 {
     if rule < rules.len() {
         let index = &mut rules[rule];
@@ -174,7 +189,9 @@ fn unfile_at(
 
 /// Takes a cell away at the spots of a row, but for what a row keeps that stays.
 fn unfile_at_each(rules: &mut Vec<RuleIndex>, cell: CellId, row: &RowSpots, kept: Option<&RowSpots>)
-    ensures { StayFiledBut cell (option_copied kept.entry) rules.old.items rules.new.items }
+    ensures kept { StayFiledBut cell (option_copied kept.entry) rules.old.items rules.new.items }
+    ensures fewer { GainNone rules.old.items rules.new.items }
+    ensures gone { AreGone cell (Some row.now) (option_copied kept.entry) rules.new.items }
 {
     let spots = row.as_slice();
     for rule in 0..spots.len() {
@@ -189,7 +206,9 @@ pub(crate) fn unfile_row(
     row: Option<RowSpots>,
     kept: Option<&RowSpots>,
 )
-    ensures { StayFiledBut cell (option_copied kept.entry) rules.old.items rules.new.items }
+    ensures kept { StayFiledBut cell (option_copied kept.entry) rules.old.items rules.new.items }
+    ensures fewer { GainNone rules.old.items rules.new.items }
+    ensures gone { AreGone cell row (option_copied kept.entry) rules.new.items }
 {
     if let Some(row) = row {
         unfile_at_each(rules, cell, &row, kept);

@@ -1,4 +1,4 @@
-ghost use Rattle.std.specs.Prelude.{◌≡◌, ◌||◌, ◌&&◌, not, true, false, IfOk, OnOk, OnErr, Some, None, IsSome, is_some, unwrap_or, if◌then◌else◌};
+ghost use Rattle.std.specs.Prelude.{◌≡◌, ◌⊎◌, ◌||◌, ◌&&◌, not, true, false, IfOk, OnOk, OnErr, Some, None, IsSome, is_some, unwrap_or, if◌then◌else◌};
 ghost use Rattle.std.specs.BTreeMap.{get, is_at};
 ghost use Rattle.std.specs.FinSet as set;
 ghost use Rattle.std.specs.List.{list_any};
@@ -7,7 +7,7 @@ ghost use Rattle.clr_rows.specs.declared.cells.CellId.{CellId as Cell};
 ghost use Rattle.clr_spots.specs.SpotOrder.{same_spot, spot_cmp};
 ghost use Rattle.clr_spots.specs.declared.spots.Spot.{Spot as OneSpot};
 ghost use Rattle.clr_grid.specs.CellSets.{is_one};
-ghost use Rattle.clr_grid.specs.Filing.{Key, has_cell, has_key, has_spot, is_filed, is_looked_at, keeps_role, keeps_wide, stays};
+ghost use Rattle.clr_grid.specs.Filing.{Key, has_cell, has_key, has_key_of, has_spot, is_filed, is_looked_at, keeps_role, keeps_wide, stays};
 
 use crate::cell_sets::CellSet;
 use crate::row_spots::RuleSpots;
@@ -60,6 +60,8 @@ fn file_at(
     cell: CellId,
 ) -> Result<(), AllocError>
     ensures kept { (x : OneSpot) (q : Cell) → has_cell (get spot_cmp by_spot.old x) q ≡ true → has_cell (get spot_cmp by_spot.new x) q ≡ true }
+    ensures only { (x : OneSpot) (q : Cell) → has_cell (get spot_cmp by_spot.new x) q ≡ true
+        → (has_cell (get spot_cmp by_spot.old x) q ≡ true) ⊎ ((q ≡ cell) × (x ≡ spot.now)) }
     ensures filed { OnOk result (has_cell (get spot_cmp by_spot.new spot.now) cell ≡ true) }
 {
     if by_spot.contains_key(spot) {
@@ -80,6 +82,8 @@ fn file_at_each(
     cell: CellId,
 ) -> Result<(), AllocError>
     ensures kept { (x : OneSpot) (q : Cell) → has_cell (get spot_cmp by_spot.old x) q ≡ true → has_cell (get spot_cmp by_spot.new x) q ≡ true }
+    ensures only { (x : OneSpot) (q : Cell) → has_cell (get spot_cmp by_spot.new x) q ≡ true
+        → (has_cell (get spot_cmp by_spot.old x) q ≡ true) ⊎ ((q ≡ cell) × (list_any (same_spot x) spots.now ≡ true)) }
     ensures filed { OnOk result ((x : OneSpot) → list_any (same_spot x) spots.now ≡ true → has_cell (get spot_cmp by_spot.new x) cell ≡ true) }
 {
     for spot in spots {
@@ -113,8 +117,10 @@ fn is_left_empty(by_spot: &BTreeMap<Spot, CellSet>, spot: &Spot) -> bool
 
 /// Takes a cell away from a spot, and the spot where no cell is left.
 fn take_at(by_spot: &mut BTreeMap<Spot, CellSet>, spot: &Spot, cell: CellId)
-    ensures { (x : OneSpot) (q : Cell) → (is_one cell q && same_spot spot.now x) ≡ false → has_cell (get spot_cmp by_spot.old x) q ≡ true
+    ensures kept { (x : OneSpot) (q : Cell) → (is_one cell q && same_spot spot.now x) ≡ false → has_cell (get spot_cmp by_spot.old x) q ≡ true
         → has_cell (get spot_cmp by_spot.new x) q ≡ true }
+    ensures fewer { (x : OneSpot) (q : Cell) → has_cell (get spot_cmp by_spot.new x) q ≡ true → has_cell (get spot_cmp by_spot.old x) q ≡ true }
+    ensures gone { has_cell (get spot_cmp by_spot.new spot.now) cell ≡ false }
 {
     if by_spot.contains_key(spot) {
         remove_at(by_spot, spot, cell);
@@ -161,8 +167,11 @@ fn take_at_each(
     kept: Option<&RuleSpots>,
     cell: CellId,
 )
-    ensures { (x : OneSpot) (q : Cell) → (is_one cell q && not (has_spot (option_copied kept.entry) x)) ≡ false
+    ensures kept { (x : OneSpot) (q : Cell) → (is_one cell q && not (has_spot (option_copied kept.entry) x)) ≡ false
         → has_cell (get spot_cmp by_spot.old x) q ≡ true → has_cell (get spot_cmp by_spot.new x) q ≡ true }
+    ensures fewer { (x : OneSpot) (q : Cell) → has_cell (get spot_cmp by_spot.new x) q ≡ true → has_cell (get spot_cmp by_spot.old x) q ≡ true }
+    ensures gone { (x : OneSpot) → list_any (same_spot x) spots.now ≡ true → has_cell (get spot_cmp by_spot.new x) cell ≡ true
+        → has_spot (option_copied kept.entry) x ≡ true }
 {
     for spot in spots {
         if !has_spot(kept, spot) {
@@ -173,7 +182,9 @@ fn take_at_each(
 
 impl SideIndex {
     /// An index without cells.
-    pub(crate) fn new(alloc: Global) -> SideIndex {
+    pub(crate) fn new(alloc: Global) -> SideIndex
+        ensures { (k : Key) (q : Cell) → is_filed result k q ≡ false }
+    {
         SideIndex {
             by_spot: BTreeMap::new(alloc),
             wide: CellSet::new(alloc),
@@ -189,6 +200,7 @@ impl SideIndex {
         spots: &RuleSpots,
     ) -> Result<(), AllocError>
         ensures kept { (k : Key) (q : Cell) → is_filed self.old k q ≡ true → is_filed self.new k q ≡ true }
+        ensures only { (k : Key) (q : Cell) → is_filed self.new k q ≡ true → (is_filed self.old k q ≡ true) ⊎ ((q ≡ cell) × (has_key spots.now k ≡ true)) }
         ensures filed { OnOk result ((k : Key) → has_key spots.now k ≡ true → is_filed self.new k cell ≡ true) }
     {
         self.all.add_if(spots.has_role, cell)?;
@@ -199,7 +211,9 @@ impl SideIndex {
 
     /// Takes the cell of a row away, but for what a row keeps that stays.
     pub(crate) fn unfile(&mut self, cell: CellId, spots: &RuleSpots, kept: Option<&RuleSpots>)
-        ensures { (k : Key) (q : Cell) → stays cell (option_copied kept.entry) k q ≡ true → is_filed self.old k q ≡ true → is_filed self.new k q ≡ true }
+        ensures kept { (k : Key) (q : Cell) → stays cell (option_copied kept.entry) k q ≡ true → is_filed self.old k q ≡ true → is_filed self.new k q ≡ true }
+        ensures fewer { (k : Key) (q : Cell) → is_filed self.new k q ≡ true → is_filed self.old k q ≡ true }
+        ensures gone { (k : Key) → has_key spots.now k ≡ true → is_filed self.new k cell ≡ true → has_key_of (option_copied kept.entry) k ≡ true }
     {
         self.all.remove_if(!keeps_role(kept), cell);
         self.wide.remove_if(!keeps_wide(kept), cell);

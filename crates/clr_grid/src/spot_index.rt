@@ -30,11 +30,11 @@ impl Model for SpotIndex {
 
     ghost coded = { coded_rows };
 
-    ghost use Rattle.clr_grid.specs.Filing.{AreFiled};
+    ghost use Rattle.clr_grid.specs.Filing.{IsFiledExactly};
 
     ghost view = { λ a. a.rows };
 
-    ghost invariant = { λ a. AreFiled a.rows a.rules.items };
+    ghost invariant = { λ a. IsFiledExactly a.rows a.rules.items };
 }
 
 impl SpotIndex {

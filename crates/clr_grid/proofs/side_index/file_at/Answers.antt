@@ -1,4 +1,6 @@
-use Rattle.std.proofs.Common.{◌≡◌, ◌∙◌, ap, sym, subst, cond, unwrap_or, Some, true, is_some}
+use Rattle.std.proofs.lemmas.Bool.{false≢true}
+use Rattle.clr_rows.specs.Cells.{cell_cmp}
+use Rattle.std.proofs.Common.{◌≡◌, ◌⊎◌, ◌∙◌, ap, sym, subst, cond, unwrap_or, Some, true, is_some}
 use Rattle.std.specs.BTreeMap.{get, is_at}
 use Rattle.std.specs.FinSet as set
 use Rattle.clr_rows.specs.declared.cells.CellId.{CellId}
@@ -6,7 +8,7 @@ use Rattle.clr_spots.specs.declared.spots.Spot.{Spot}
 use Rattle.clr_spots.specs.SpotOrder.{spot_cmp}
 use Rattle.clr_grid.specs.CellSets.{Cells}
 use Rattle.clr_grid.specs.Filing.{has_cell}
-use Rattle.clr_grid.proofs.FilingLemmas.{AtSpots, added_keeps, added_has, cells_or_none, none_has}
+use Rattle.clr_grid.proofs.FilingLemmas.{AtSpots, added_keeps, added_has, added_only, cells_or_none, none_or_cells, none_has}
 use Rattle.clr_grid.proofs.side_index.file_at.Goals as goal
 
 pub returns-then-contains_key-clause-kept : goal.returns-then-contains_key-clause-kept
@@ -32,6 +34,21 @@ returns-clause-kept c =
     let s = c.in_ok-copy_of.field-0 in
     added_keeps f g s c.new-cells.result c.args.cell (put_again f g s c.add.new.self c.args.cell c.new-cells.result c.in_ok-insert.ensures.updates.0 c.in_ok-add.ensures.ok)
     (λ q h. none_has (f s) q (ap (λ x. is_some (f x)) c.in_ok-copy_of.ensures ∙ sym c.contains_key.ensures ∙ c.if-contains_key.false) h)
+
+pub returns-then-contains_key-clause-only : goal.returns-then-contains_key-clause-only
+returns-then-contains_key-clause-only c =
+    let f : AtSpots = get spot_cmp c.args.by_spot.now in
+    let g : AtSpots = get spot_cmp c.add_at.new.by_spot in
+    added_only f g c.args.spot.now (unwrap_or (f c.args.spot.now) set.empty) c.args.cell c.in_ok-add_at.ensures.ok (none_or_cells (f c.args.spot.now))
+
+pub returns-clause-only : goal.returns-clause-only
+returns-clause-only c =
+    let f : AtSpots = get spot_cmp c.args.by_spot.now in
+    let g : AtSpots = get spot_cmp c.insert.new.self in
+    let s = c.in_ok-copy_of.field-0 in
+    subst (λ (y : Spot). (x : Spot) (q : CellId) → has_cell (g x) q ≡ true → (has_cell (f x) q ≡ true) ⊎ ((q ≡ c.args.cell) × (x ≡ y))) c.in_ok-copy_of.ensures
+    (added_only f g s c.new-cells.result c.args.cell (put_again f g s c.add.new.self c.args.cell c.new-cells.result c.in_ok-insert.ensures.updates.0 c.in_ok-add.ensures.ok)
+    (λ q h. absurd (false≢true (sym (set.contains-empty cell_cmp q) ∙ ap (λ (m : Cells). set.contains m q) (sym c.new-cells.ensures) ∙ h))))
 
 pub returns-clause-filed : goal.returns-clause-filed
 returns-clause-filed c =

@@ -1,17 +1,38 @@
+use Rattle.std.proofs.Common.{◌∙◌, sym}
 use Rattle.std.specs.BTreeMap.{get}
 use Rattle.clr_spots.specs.SpotOrder.{spot_cmp}
-use Rattle.clr_grid.proofs.FilingLemmas.{AtSpots, removed_keeps, emptied_keeps}
+use Rattle.clr_grid.proofs.FilingLemmas.{AtSpots, removed_keeps, removed_fewer, removed_gone, emptied_keeps, emptied_fewer, emptied_gone, none_there}
 use Rattle.clr_grid.proofs.side_index.take_at.Goals as goal
 
-pub returns-then-is_left_empty : goal.returns-then-is_left_empty
-returns-then-is_left_empty c x q apart e =
+pub returns-then-is_left_empty-clause-kept : goal.returns-then-is_left_empty-clause-kept
+returns-then-is_left_empty-clause-kept c x q apart e =
     let f : AtSpots = get spot_cmp c.args.by_spot.now in
     let g : AtSpots = get spot_cmp c.remove_at.new.by_spot in
     let h : AtSpots = get spot_cmp c.remove.new.self in
     emptied_keeps g h c.args.spot.now (c.is_left_empty.ensures c.if-is_left_empty.true) c.remove.ensures.updates.0 x q (removed_keeps f g c.args.spot.now c.args.cell c.remove_at.ensures x q apart e)
 
-pub returns-else-is_left_empty : goal.returns-else-is_left_empty
-returns-else-is_left_empty c =
+pub returns-then-is_left_empty-clause-fewer : goal.returns-then-is_left_empty-clause-fewer
+returns-then-is_left_empty-clause-fewer c x q e =
     let f : AtSpots = get spot_cmp c.args.by_spot.now in
     let g : AtSpots = get spot_cmp c.remove_at.new.by_spot in
-    removed_keeps f g c.args.spot.now c.args.cell c.remove_at.ensures
+    let h : AtSpots = get spot_cmp c.remove.new.self in
+    removed_fewer f g c.args.spot.now c.args.cell c.remove_at.ensures x q (emptied_fewer g h c.args.spot.now c.remove.ensures.updates.0 x q e)
+
+pub returns-then-is_left_empty-clause-gone : goal.returns-then-is_left_empty-clause-gone
+returns-then-is_left_empty-clause-gone c =
+    emptied_gone (get spot_cmp c.remove_at.new.by_spot) (get spot_cmp c.remove.new.self) c.args.spot.now c.args.cell c.remove.ensures.updates.0
+
+pub returns-else-is_left_empty-clause-kept : goal.returns-else-is_left_empty-clause-kept
+returns-else-is_left_empty-clause-kept c =
+    removed_keeps (get spot_cmp c.args.by_spot.now) (get spot_cmp c.remove_at.new.by_spot) c.args.spot.now c.args.cell c.remove_at.ensures
+
+pub returns-else-is_left_empty-clause-fewer : goal.returns-else-is_left_empty-clause-fewer
+returns-else-is_left_empty-clause-fewer c =
+    removed_fewer (get spot_cmp c.args.by_spot.now) (get spot_cmp c.remove_at.new.by_spot) c.args.spot.now c.args.cell c.remove_at.ensures
+
+pub returns-else-is_left_empty-clause-gone : goal.returns-else-is_left_empty-clause-gone
+returns-else-is_left_empty-clause-gone c =
+    removed_gone (get spot_cmp c.args.by_spot.now) (get spot_cmp c.remove_at.new.by_spot) c.args.spot.now c.args.cell c.remove_at.ensures
+
+pub returns-else-contains_key-clause-gone : goal.returns-else-contains_key-clause-gone
+returns-else-contains_key-clause-gone c = none_there (get spot_cmp c.args.by_spot.now c.args.spot.now) c.args.cell (sym c.contains_key.ensures ∙ c.if-contains_key.false)

@@ -1,13 +1,19 @@
-use Rattle.std.proofs.Common.{◌≡◌, true, false, not, ◌&&◌}
+use Rattle.std.proofs.Common.{◌≡◌, true, false, not, ◌&&◌, take}
 use Rattle.std.specs.BTreeMap.{get}
+use Rattle.std.specs.List.{list_any}
 use Rattle.std.specs.Option.{option_copied}
 use Rattle.clr_rows.specs.declared.cells.CellId.{CellId}
 use Rattle.clr_spots.specs.declared.spots.Spot.{Spot}
-use Rattle.clr_spots.specs.SpotOrder.{spot_cmp}
+use Rattle.clr_spots.specs.SpotOrder.{same_spot, spot_cmp}
 use Rattle.clr_grid.specs.CellSets.{is_one}
 use Rattle.clr_grid.specs.Filing.{has_cell, has_spot}
+use Rattle.clr_grid.proofs.FilingLemmas.{Keeps}
 use Rattle.clr_grid.proofs.side_index.take_at_each.Given as goal
 
--- what is filed for other cells, or at spots that stay, stays
+-- what is filed for other cells, or at spots that stay, stays; nothing more is filed; and the cell is gone from the other spots so far
 abbrev pub invariant-loop-spot : goal.invariant-loop-spot
-invariant-loop-spot l = (x : Spot) (q : CellId) → (is_one l.cell q && not (has_spot (option_copied l.kept) x)) ≡ false → has_cell (get spot_cmp l.fn.by_spot x) q ≡ true → has_cell (get spot_cmp l.by_spot x) q ≡ true
+invariant-loop-spot l = record {
+  kept : (x : Spot) (q : CellId) → (is_one l.cell q && not (has_spot (option_copied l.kept) x)) ≡ false → has_cell (get spot_cmp l.fn.by_spot x) q ≡ true → has_cell (get spot_cmp l.by_spot x) q ≡ true;
+  fewer : Keeps (get spot_cmp l.by_spot) (get spot_cmp l.fn.by_spot);
+  gone : (x : Spot) → list_any (same_spot x) (take l.spot-index l.spots) ≡ true → has_cell (get spot_cmp l.by_spot x) l.cell ≡ true → has_spot (option_copied l.kept) x ≡ true;
+}
