@@ -143,6 +143,35 @@ emptied_keeps f g s empty is x q e = ap (λ o. has_cell o q) (is x) ∙ go (is_a
     go true t = absurd (false≢true (sym (set.contains-empty cell_cmp q) ∙ sym (ap (λ o. has_cell o q) (ap f (sym (tied_spot s x t)) ∙ empty)) ∙ e))
     go false t = e
 
+-- each spot that is kept holds a cell
+abbrev pub Hold : AtSpots → Type 0
+Hold f = (x : Spot) → f x ≡ Some set.empty → ⊥
+
+pub same_hold : (f g : AtSpots) → ((x : Spot) → g x ≡ f x) → Hold f → Hold g
+same_hold f g is hold x e = hold x (sym (is x) ∙ e)
+
+pub added_hold : (f g : AtSpots) (s : Spot) (m : Cells) (cell : CellId) → ((x : Spot) → g x ≡ cond (is_at (spot_cmp s) x) (Some (set.insert m cell)) (f x)) → Hold f → Hold g
+added_hold f g s m cell is hold x e = go (is_at (spot_cmp s) x) (sym (is x) ∙ e)
+  where
+    go : (b : Bool) → cond b (Some (set.insert m cell)) (f x) ≡ Some set.empty → ⊥
+    go true h = let none : set.insert m cell ≡ set.empty = cc in
+        true≢false (sym (insert_has m cell) ∙ ap (λ n. set.contains n cell) none ∙ set.contains-empty cell_cmp cell)
+    go false h = hold x h
+
+pub removed_hold : (f g : AtSpots) (s : Spot) (w : Option Cells) → ((x : Spot) → g x ≡ cond (is_at (spot_cmp s) x) w (f x)) → (g s ≡ Some set.empty → ⊥) → Hold f → Hold g
+removed_hold f g s w is some hold x e = go (is_at (spot_cmp s) x) refl (sym (is x) ∙ e)
+  where
+    go : (b : Bool) → is_at (spot_cmp s) x ≡ b → cond b w (f x) ≡ Some set.empty → ⊥
+    go true t h = some (subst (λ y. g y ≡ Some set.empty) (sym (tied_spot s x t)) e)
+    go false t h = hold x h
+
+pub emptied_hold : (f g h : AtSpots) (s : Spot) (w : Option Cells) → ((x : Spot) → g x ≡ cond (is_at (spot_cmp s) x) w (f x)) → ((x : Spot) → h x ≡ cond (is_at (spot_cmp s) x) None (g x)) → Hold f → Hold h
+emptied_hold f g h s w is then hold x e = go (is_at (spot_cmp s) x) refl (sym (then x) ∙ e)
+  where
+    go : (b : Bool) → is_at (spot_cmp s) x ≡ b → cond b None (g x) ≡ Some set.empty → ⊥
+    go true t i = absurd (cc)
+    go false t i = hold x (sym (is x ∙ ap (λ b. cond b w (f x)) t) ∙ i)
+
 -- ---- lists of spots
 pub any_turned : (x : Spot) (ys : List Spot) → list_any (λ y. same_spot y x) ys ≡ list_any (same_spot x) ys
 any_turned x [] = refl

@@ -15,7 +15,7 @@ use Rattle.clr_spots.specs.SpotOrderLaws.{same_spot_itself}
 use Rattle.clr_spots.specs.Spots.{have_common_spot}
 use Rattle.clr_rules.proofs.Elements.{some_of, any_by}
 use Rattle.clr_grid.specs.CellSets.{is_one, is_one_of}
-use Rattle.clr_grid.specs.Filing.{Key, All, Wide, At, has_key, has_spot, is_filed, is_filed_under, is_looked_at, side_of, keeps_role, keeps_wide, same_side, of_side, spots_at, stays, IsFiled, IsFiledToo, AreFiled, AreOfRows, AreGone, GainNone, GainOnly, HasRowFor, IsFiledExactly, StayFiled, StayFiledBut, AreNear, has_key_of, has_key_under}
+use Rattle.clr_grid.specs.Filing.{Key, All, Wide, At, has_key, has_spot, is_filed, is_filed_under, is_looked_at, side_of, keeps_role, keeps_wide, same_side, of_side, spots_at, stays, IsFiled, IsFiledToo, AreFiled, AreOfRows, AreGone, GainNone, GainOnly, HasRowFor, HoldCells, AllHoldCells, StayFiled, StayFiledBut, AreNear, has_key_of, has_key_under}
 use Rattle.clr_grid.specs.RowMaps.{Rows, RowOrNone, IsRowAt, no_rows, with_pending, with_settled, without_pending}
 use Rattle.clr_grid.specs.Sharing.{are_meeting, is_met, is_met_at}
 use Rattle.clr_grid.specs.declared.row_spots.RuleSpots.{RuleSpots}
@@ -68,6 +68,29 @@ pub none_past : {A : Type 0} (xs : List RuleIndex) (m : ℕ) (b : Bool) (k : Key
 none_past [] m b k q less e = absurd (false≢true e)
 none_past (y ∷ ys) zero b k q less e = absurd (omega (arith, less))
 none_past (y ∷ ys) (suc m) b k q less e = none_past ys m b k q (omega (arith, less)) e
+
+-- each spot that is kept holds a cell
+pub append_lean : (xs : List RuleIndex) (x : RuleIndex) → ((b : Bool) → HoldCells (side_of x b).by_spot) → AllHoldCells xs → AllHoldCells (xs ++ x ∷ [])
+append_lean [] x lean all zero index b e = let same : x ≡ index = cc in subst (λ (i : RuleIndex). HoldCells (side_of i b).by_spot) same (lean b)
+append_lean [] x lean all (suc n) index b e = absurd (cc)
+append_lean (y ∷ ys) x lean all zero index b e = all zero index b e
+append_lean (y ∷ ys) x lean all (suc n) index b e = append_lean ys x lean (λ m. all (suc m)) n index b e
+
+pub set_lean : (xs : List RuleIndex) (m : ℕ) (old new : RuleIndex) → old ≡ get_or xs m old → ((b : Bool) → HoldCells (side_of old b).by_spot → HoldCells (side_of new b).by_spot) → AllHoldCells xs → AllHoldCells (set xs m new)
+set_lean [] m old new is step all n index b e = all n index b e
+set_lean (y ∷ ys) zero old new is step all zero index b e =
+    let same : new ≡ index = cc in subst (λ (i : RuleIndex). HoldCells (side_of i b).by_spot) same (step b (all zero old b (ap Some (sym is))))
+set_lean (y ∷ ys) zero old new is step all (suc n) index b e = all (suc n) index b e
+set_lean (y ∷ ys) (suc m) old new is step all zero index b e = all zero index b e
+set_lean (y ∷ ys) (suc m) old new is step all (suc n) index b e = set_lean ys m old new is step (λ k. all (suc k)) n index b e
+
+pub sides_lean : (old new : RuleIndex) → (HoldCells old.servers.by_spot → HoldCells new.servers.by_spot) → (HoldCells old.others.by_spot → HoldCells new.others.by_spot)
+    → (b : Bool) → HoldCells (side_of old b).by_spot → HoldCells (side_of new b).by_spot
+sides_lean old new servers others true = servers
+sides_lean old new servers others false = others
+
+pub none_lean : (xs : List RuleIndex) → xs ≡ [] → AllHoldCells xs
+none_lean xs is n index b e = absurd (cc (ap (λ ys. slice_get ys n) is, e))
 
 pub one_or : {A : Type 0} → A ⊎ ⊥ → A
 one_or (inl a) = a
@@ -323,11 +346,11 @@ others_noted rows rows' cell row xs ys free of gain is n b k q e = subst (λ (r 
     stays h = elim h.stands [
       | inl settled ↦ record { row = h.row; stands = inl settled; wanted = h.wanted }
       | inr pending ↦ record {
-          row = h.row;
-          stands = inr (by_cell cell q (λ tie. absurd (cc (ap (λ c. finite.get rows.pending c) tie, free, pending)))
-              (λ differ. finite.get-insert cell_cmp_total rows.pending cell row q ∙ ap (λ t. cond t (Some row) (finite.get rows.pending q)) differ ∙ pending));
-          wanted = h.wanted;
-        }
+        row = h.row;
+        stands = inr (by_cell cell q (λ tie. absurd (cc (ap (λ c. finite.get rows.pending c) tie, free, pending)))
+            (λ differ. finite.get-insert cell_cmp_total rows.pending cell row q ∙ ap (λ t. cond t (Some row) (finite.get rows.pending q)) differ ∙ pending));
+        wanted = h.wanted;
+      }
     ]
 
 pub others_refused : (rows rows' : Rows) (cell : CellId) (row kept : RowOrNone) (xs ys zs : List RuleIndex) → AreOfRows rows xs → GainOnly cell row xs ys → GainNone ys zs → AreGone cell row kept zs
@@ -346,26 +369,26 @@ others_settled rows rows' cell before kept xs ys of fewer gone was is same n b k
       | inl settled ↦ kept_row (with_settled rows cell) cell kept n b k (same ∙ ap (λ (r : Rows). finite.get r.settled cell) is)
           (gone n b k (subst (λ o. has_key_under o n b k ≡ true) (sym (was ∙ settled)) h.wanted) there)
       | inr pending ↦ record {
-          row = h.row;
-          stands = inl (get_set_at rows.settled cell (option_flatten (finite.get rows.pending cell)) cell
-              ∙ ap (λ t. cond t (option_flatten (finite.get rows.pending cell)) (finite.get rows.settled cell)) (tied_self cell) ∙ ap option_flatten pending);
-          wanted = h.wanted;
-        }
+        row = h.row;
+        stands = inl (get_set_at rows.settled cell (option_flatten (finite.get rows.pending cell)) cell
+            ∙ ap (λ t. cond t (option_flatten (finite.get rows.pending cell)) (finite.get rows.settled cell)) (tied_self cell) ∙ ap option_flatten pending);
+        wanted = h.wanted;
+      }
     ]
 
     apart : eq_by_cmp cell_cmp q cell ≡ false → HasRowFor rows q n b k → HasRowFor (with_settled rows cell) q n b k
     apart differ h = elim h.stands [
       | inl settled ↦ record {
-          row = h.row;
-          stands = inl (get_set_at rows.settled cell (option_flatten (finite.get rows.pending cell)) q
-              ∙ ap (λ t. cond t (option_flatten (finite.get rows.pending cell)) (finite.get rows.settled q)) differ ∙ settled);
-          wanted = h.wanted;
-        }
+        row = h.row;
+        stands = inl (get_set_at rows.settled cell (option_flatten (finite.get rows.pending cell)) q
+            ∙ ap (λ t. cond t (option_flatten (finite.get rows.pending cell)) (finite.get rows.settled q)) differ ∙ settled);
+        wanted = h.wanted;
+      }
       | inr pending ↦ record {
-          row = h.row;
-          stands = inr (finite.get-remove cell_cmp_total rows.pending cell q ∙ ap (λ t. cond t None (finite.get rows.pending q)) differ ∙ pending);
-          wanted = h.wanted;
-        }
+        row = h.row;
+        stands = inr (finite.get-remove cell_cmp_total rows.pending cell q ∙ ap (λ t. cond t None (finite.get rows.pending q)) differ ∙ pending);
+        wanted = h.wanted;
+      }
     ]
 
     go : HasRowFor rows q n b k → HasRowFor (with_settled rows cell) q n b k
@@ -388,10 +411,10 @@ others_left rows rows' cell row kept xs ys of fewer gone was is same n b k q e =
     apart differ h = elim h.stands [
       | inl settled ↦ record { row = h.row; stands = inl settled; wanted = h.wanted }
       | inr pending ↦ record {
-          row = h.row;
-          stands = inr (finite.get-remove cell_cmp_total rows.pending cell q ∙ ap (λ t. cond t None (finite.get rows.pending q)) differ ∙ pending);
-          wanted = h.wanted;
-        }
+        row = h.row;
+        stands = inr (finite.get-remove cell_cmp_total rows.pending cell q ∙ ap (λ t. cond t None (finite.get rows.pending q)) differ ∙ pending);
+        wanted = h.wanted;
+      }
     ]
 
     go : HasRowFor rows q n b k → HasRowFor (without_pending rows cell) q n b k

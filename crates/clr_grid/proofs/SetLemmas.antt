@@ -1,5 +1,7 @@
 -- Sets of cells, as the keys of trees make them.
-use Rattle.std.proofs.Common.{◌≡◌, Bool, true, false, cond, not, ◌&&◌, ◌||◌, List, [], ◌∷◌, refl, ap, sym, ◌∙◌}
+use Rattle.std.proofs.Common.{◌≡◌, Bool, true, false, cond, not, ◌&&◌, ◌||◌, List, [], ◌∷◌, length, refl, ap, sym, ◌∙◌}
+use Rattle.std.proofs.lemmas.Bool.{true≢false, or_left}
+use Rattle.clr_rows.proofs.ChangeLemmas.{tied_self}
 use Rattle.std.specs.BTreeMap.{is_at}
 use Rattle.std.specs.Cmp.{eq_by_cmp_equiv}
 use Rattle.std.specs.FinSet as set
@@ -33,6 +35,12 @@ one_gone ks ls k h = set.same_set cell_cmp_total cell_cmp_exact _ _ (λ q.
     set.contains-from_list cell_cmp_total ls q ∙ h q ∙ and_cond (is_at (cell_cmp k) q) _
     ∙ ap (λ b. not b && list_any (is_at (cell_cmp q)) ks) ((eq_by_cmp_equiv cell_cmp_total).symm k q)
     ∙ sym (set.contains-remove cell_cmp_total (set.from_list ks) k q ∙ ap (λ b. not (eq_by_cmp cell_cmp q k) && b) (set.contains-from_list cell_cmp_total ks q)))
+
+-- keys that make the empty set are none
+pub no_keys : (ks : List CellId) → set.from_list {R = cell_cmp} ks ≡ set.empty → length ks ≡ 0
+no_keys [] e = refl
+no_keys (k ∷ ks) e = absurd (true≢false (sym (or_left (is_at (cell_cmp k) k) (list_any (is_at (cell_cmp k)) ks) (tied_self k))
+    ∙ sym (set.contains-from_list cell_cmp_total (k ∷ ks) k) ∙ ap (λ (m : Cells). set.contains m k) e ∙ set.contains-empty cell_cmp k))
 
 or_move : (a b c : Bool) → ((a || b) || c) ≡ (b || (a || c))
 or_move true true c = refl

@@ -1,6 +1,6 @@
 -- Cells filed by the spots of their rows under each rule, so that rows with a common spot are found.
 use Rattle.std.specs.Prelude.{◌≡◌, ◌⊎◌, ℕ, Bool, true, false, not, List, ◌&&◌, Option, Some, None, slice_get, ⊤, if◌then◌else◌}
-use Rattle.std.specs.BTreeMap.{get}
+use Rattle.std.specs.BTreeMap.{BTreeMap, get}
 use Rattle.std.specs.FinSet as set
 use Rattle.std.specs.List.{list_any}
 use Rattle.clr_rows.specs.declared.cells.CellId.{CellId}
@@ -119,10 +119,19 @@ abbrev pub AreOfRows : Rows → List RuleIndex → Type 0
 AreOfRows rows indexes = (number : ℕ) (serves : Bool) (k : Key) (q : CellId) → is_filed_under indexes number serves k q ≡ true
     → HasRowFor rows q number serves k
 
--- the rows that stand or are to stand are filed, and nothing else is
+-- each spot that is kept holds a cell
+abbrev pub HoldCells : BTreeMap Spot Cells → Type 0
+HoldCells by_spot = (x : Spot) → get spot_cmp by_spot x ≡ Some set.empty → ⊥
+
+abbrev pub AllHoldCells : List RuleIndex → Type 0
+AllHoldCells indexes = (number : ℕ) (index : RuleIndex) (serves : Bool) → slice_get indexes number ≡ Some index
+    → HoldCells (side_of index serves).by_spot
+
+-- the rows that stand or are to stand are filed, and nothing else is kept
 pub record IsFiledExactly (rows : Rows) (indexes : List RuleIndex) : Type 0 where
   pub filed : AreFiled rows indexes
   pub others : AreOfRows rows indexes
+  pub lean : AllHoldCells indexes
 
 -- what is filed stays
 abbrev pub StayFiled : List RuleIndex → List RuleIndex → Type 0

@@ -56,9 +56,10 @@ settled_of (e ∷ es) = set_at (settled_of es) e.0 e.1
 abbrev pub pending_of : List (CellId × RowOrNone) → Pending
 pending_of es = finite.from_entries es
 
--- each pending change has room among the settled rows
-abbrev pub HasRoom : BTreeMap CellId RowOrNone → BTreeMap CellId RowOrNone → Type 0
-HasRoom settled pending = (q : CellId) → is_some (get cell_cmp pending q) ≡ true → is_some (get cell_cmp settled q) ≡ true
+-- each pending change has room among the settled rows, and nothing else has room without a row
+pub record HasRoom (settled pending : BTreeMap CellId RowOrNone) : Type 0 where
+  pub room : (q : CellId) → is_some (get cell_cmp pending q) ≡ true → is_some (get cell_cmp settled q) ≡ true
+  pub lean : (q : CellId) → get cell_cmp settled q ≡ Some None → is_some (get cell_cmp pending q) ≡ true
 
 -- a row that stands at a cell, or is to
 abbrev pub IsRowAt : Rows → CellId → List RuleSpots → Type 0

@@ -78,7 +78,8 @@ impl CellSet {
 
     /// Whether there is no cell.
     pub(crate) fn is_empty(&self) -> bool
-        ensures { result ≡ true → self.now ≡ set.empty }
+        ensures none { result ≡ true → self.now ≡ set.empty }
+        ensures some { result ≡ false → self.now ≡ set.empty → ⊥ }
     {
         self.cells.is_empty()
     }

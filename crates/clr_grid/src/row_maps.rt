@@ -1,4 +1,4 @@
-ghost use Rattle.std.specs.Prelude.{◌≡◌, Some, None, true, false, IsSome, IfOk, OnOk, OnErr, MatchOption, is_some, if◌then◌else◌};
+ghost use Rattle.std.specs.Prelude.{◌≡◌, ◌⊎◌, Some, None, true, false, IsSome, IfOk, OnOk, OnErr, MatchOption, is_some, if◌then◌else◌};
 ghost use Rattle.std.specs.BTreeMap.{get, is_at};
 ghost use Rattle.std.specs.FinMap as finite;
 ghost use Rattle.std.specs.List.Sorted.{IsStrictlySortedBy};
@@ -78,6 +78,8 @@ fn make_room(
 ) -> Result<(), AllocError>
     ensures rows { settled_of settled.new.entries ≡ settled_of settled.old.entries }
     ensures kept { (q : Cell) → is_some (get cell_cmp settled.old q) ≡ true → is_some (get cell_cmp settled.new q) ≡ true }
+    ensures only { (q : Cell) → get cell_cmp settled.new q ≡ Some None → (get cell_cmp settled.old q ≡ Some None) ⊎ (q ≡ cell) }
+    ensures err { OnErr result ((q : Cell) → get cell_cmp settled.new q ≡ get cell_cmp settled.old q) }
     ensures room { OnOk result (is_some (get cell_cmp settled.new cell) ≡ true) }
 {
     if !settled.contains_key(&cell) {
@@ -90,6 +92,7 @@ fn make_room(
 fn drop_room(settled: &mut BTreeMap<CellId, Option<RowSpots>>, cell: CellId)
     ensures rows { settled_of settled.new.entries ≡ settled_of settled.old.entries }
     ensures others { (q : Cell) → is_at (cell_cmp cell) q ≡ false → get cell_cmp settled.new q ≡ get cell_cmp settled.old q }
+    ensures gone { get cell_cmp settled.new cell ≡ Some None → ⊥ }
 {
     if let Some(None) = settled.get(&cell) {
         settled.remove(&cell);

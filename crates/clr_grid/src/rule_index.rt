@@ -4,7 +4,7 @@ ghost use Rattle.std.specs.List.Sorted.{IsStrictlySortedBy};
 ghost use Rattle.std.specs.Option.{option_copied};
 ghost use Rattle.clr_rows.specs.Cells.{cell_cmp};
 ghost use Rattle.clr_rows.specs.declared.cells.CellId.{CellId as Cell};
-ghost use Rattle.clr_grid.specs.Filing.{AreGone, AreNear, GainNone, GainOnly, IsFiled, IsFiledToo, Key, StayFiled, StayFiledBut, has_key, has_key_of};
+ghost use Rattle.clr_grid.specs.Filing.{AllHoldCells, AreGone, AreNear, GainNone, GainOnly, HoldCells, IsFiled, IsFiledToo, Key, StayFiled, StayFiledBut, has_key, has_key_of};
 ghost use Rattle.clr_grid.specs.Filing.{is_filed, is_filed_under, is_looked_at, of_side, side_of, spots_at, stays};
 
 use crate::cell_sets::CellSet;
@@ -33,7 +33,8 @@ fn of_side(serves: bool, kept: Option<&RuleSpots>) -> Option<&RuleSpots>
 impl RuleIndex {
     /// An index without cells.
     fn new(alloc: Global) -> RuleIndex
-        ensures { (b : Bool) (k : Key) (q : Cell) → is_filed (side_of result b) k q ≡ false }
+        ensures none { (b : Bool) (k : Key) (q : Cell) → is_filed (side_of result b) k q ≡ false }
+        ensures lean { (b : Bool) → HoldCells (side_of result b).by_spot }
     {
         RuleIndex {
             servers: SideIndex::new(alloc),
@@ -46,6 +47,7 @@ impl RuleIndex {
         ensures kept { (b : Bool) (k : Key) (q : Cell) → is_filed (side_of self.old b) k q ≡ true → is_filed (side_of self.new b) k q ≡ true }
         ensures only { (b : Bool) (k : Key) (q : Cell) → is_filed (side_of self.new b) k q ≡ true
             → (is_filed (side_of self.old b) k q ≡ true) ⊎ ((q ≡ cell) × (has_key_of (of_side b (Some spots.now)) k ≡ true)) }
+        ensures lean { (b : Bool) → HoldCells (side_of self.old b).by_spot → HoldCells (side_of self.new b).by_spot }
         ensures filed { OnOk result ((k : Key) → has_key spots.now k ≡ true → is_filed (side_of self.new spots.now.may_serve) k cell ≡ true) }
     {
         if spots.may_serve {
@@ -62,6 +64,7 @@ impl RuleIndex {
         ensures fewer { (b : Bool) (k : Key) (q : Cell) → is_filed (side_of self.new b) k q ≡ true → is_filed (side_of self.old b) k q ≡ true }
         ensures gone { (b : Bool) (k : Key) → has_key_of (of_side b (Some spots.now)) k ≡ true → is_filed (side_of self.new b) k cell ≡ true
             → has_key_of (of_side b (option_copied kept.entry)) k ≡ true }
+        ensures lean { (b : Bool) → HoldCells (side_of self.old b).by_spot → HoldCells (side_of self.new b).by_spot }
     {
         let kept = of_side(spots.may_serve, kept);
         if spots.may_serve {
@@ -104,6 +107,7 @@ fn spots_at(kept: Option<&RowSpots>, rule: usize) -> Option<&RuleSpots>
 fn make_rules(rules: &mut Vec<RuleIndex>, alloc: Global, count: usize) -> Result<(), AllocError>
     ensures kept { StayFiled rules.old.items rules.new.items }
     ensures only { GainNone rules.old.items rules.new.items }
+    ensures lean { AllHoldCells rules.old.items → AllHoldCells rules.new.items }
     ensures enough { OnOk result (count ≤ length rules.new.items) }
 {
     while rules.len() < count {
@@ -124,6 +128,7 @@ fn file_at(
     ensures kept { StayFiled rules.old.items rules.new.items }
     ensures only { (n : ℕ) (b : Bool) (k : Key) (q : Cell) → is_filed_under rules.new.items n b k q ≡ true
         → (is_filed_under rules.old.items n b k q ≡ true) ⊎ ((q ≡ cell) × ((n ≡ rule) × (has_key_of (of_side b (Some spots.now)) k ≡ true))) }
+    ensures lean { AllHoldCells rules.old.items → AllHoldCells rules.new.items }
     ensures length { length rules.new.items ≡ length rules.old.items }
     ensures filed { OnOk result ((k : Key) → has_key spots.now k ≡ true → is_filed_under rules.new.items rule spots.now.may_serve k cell ≡ true) }
 {
@@ -140,6 +145,7 @@ fn file_at_each(
 ) -> Result<(), AllocError>
     ensures kept { StayFiled rules.old.items rules.new.items }
     ensures only { GainOnly cell (Some row.now) rules.old.items rules.new.items }
+    ensures lean { AllHoldCells rules.old.items → AllHoldCells rules.new.items }
     ensures filed { OnOk result (IsFiled rules.new.items cell row.now) }
 {
     let spots = row.as_slice();
@@ -159,6 +165,7 @@ pub(crate) fn file_row(
 ) -> Result<(), AllocError>
     ensures kept { StayFiled rules.old.items rules.new.items }
     ensures only { GainOnly cell (option_copied row.entry) rules.old.items rules.new.items }
+    ensures lean { AllHoldCells rules.old.items → AllHoldCells rules.new.items }
     ensures filed { OnOk result (IsFiledToo rules.new.items cell (option_copied row.entry)) }
 {
     match row {
@@ -180,6 +187,7 @@ fn unfile_at(
     ensures fewer { GainNone rules.old.items rules.new.items }
     ensures gone { (b : Bool) (k : Key) → has_key_of (of_side b (Some spots.now)) k ≡ true → is_filed_under rules.new.items rule b k cell ≡ true
         → has_key_of (of_side b (option_copied kept.entry)) k ≡ true }
+    ensures lean { AllHoldCells rules.old.items → AllHoldCells rules.new.items }
 {
     if rule < rules.len() {
         let index = &mut rules[rule];
@@ -192,6 +200,7 @@ fn unfile_at_each(rules: &mut Vec<RuleIndex>, cell: CellId, row: &RowSpots, kept
     ensures kept { StayFiledBut cell (option_copied kept.entry) rules.old.items rules.new.items }
     ensures fewer { GainNone rules.old.items rules.new.items }
     ensures gone { AreGone cell (Some row.now) (option_copied kept.entry) rules.new.items }
+    ensures lean { AllHoldCells rules.old.items → AllHoldCells rules.new.items }
 {
     let spots = row.as_slice();
     for rule in 0..spots.len() {
@@ -209,6 +218,7 @@ pub(crate) fn unfile_row(
     ensures kept { StayFiledBut cell (option_copied kept.entry) rules.old.items rules.new.items }
     ensures fewer { GainNone rules.old.items rules.new.items }
     ensures gone { AreGone cell row (option_copied kept.entry) rules.new.items }
+    ensures lean { AllHoldCells rules.old.items → AllHoldCells rules.new.items }
 {
     if let Some(row) = row {
         unfile_at_each(rules, cell, &row, kept);

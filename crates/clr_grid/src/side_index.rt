@@ -7,7 +7,7 @@ ghost use Rattle.clr_rows.specs.declared.cells.CellId.{CellId as Cell};
 ghost use Rattle.clr_spots.specs.SpotOrder.{same_spot, spot_cmp};
 ghost use Rattle.clr_spots.specs.declared.spots.Spot.{Spot as OneSpot};
 ghost use Rattle.clr_grid.specs.CellSets.{is_one};
-ghost use Rattle.clr_grid.specs.Filing.{Key, has_cell, has_key, has_key_of, has_spot, is_filed, is_looked_at, keeps_role, keeps_wide, stays};
+ghost use Rattle.clr_grid.specs.Filing.{HoldCells, Key, has_cell, has_key, has_key_of, has_spot, is_filed, is_looked_at, keeps_role, keeps_wide, stays};
 
 use crate::cell_sets::CellSet;
 use crate::row_spots::RuleSpots;
@@ -62,6 +62,7 @@ fn file_at(
     ensures kept { (x : OneSpot) (q : Cell) → has_cell (get spot_cmp by_spot.old x) q ≡ true → has_cell (get spot_cmp by_spot.new x) q ≡ true }
     ensures only { (x : OneSpot) (q : Cell) → has_cell (get spot_cmp by_spot.new x) q ≡ true
         → (has_cell (get spot_cmp by_spot.old x) q ≡ true) ⊎ ((q ≡ cell) × (x ≡ spot.now)) }
+    ensures lean { HoldCells by_spot.old → HoldCells by_spot.new }
     ensures filed { OnOk result (has_cell (get spot_cmp by_spot.new spot.now) cell ≡ true) }
 {
     if by_spot.contains_key(spot) {
@@ -84,6 +85,7 @@ fn file_at_each(
     ensures kept { (x : OneSpot) (q : Cell) → has_cell (get spot_cmp by_spot.old x) q ≡ true → has_cell (get spot_cmp by_spot.new x) q ≡ true }
     ensures only { (x : OneSpot) (q : Cell) → has_cell (get spot_cmp by_spot.new x) q ≡ true
         → (has_cell (get spot_cmp by_spot.old x) q ≡ true) ⊎ ((q ≡ cell) × (list_any (same_spot x) spots.now ≡ true)) }
+    ensures lean { HoldCells by_spot.old → HoldCells by_spot.new }
     ensures filed { OnOk result ((x : OneSpot) → list_any (same_spot x) spots.now ≡ true → has_cell (get spot_cmp by_spot.new x) cell ≡ true) }
 {
     for spot in spots {
@@ -107,7 +109,8 @@ fn remove_at(by_spot: &mut BTreeMap<Spot, CellSet>, spot: &Spot, cell: CellId)
 
 /// Whether no cell is left at a spot that has had some.
 fn is_left_empty(by_spot: &BTreeMap<Spot, CellSet>, spot: &Spot) -> bool
-    ensures { result ≡ true → get spot_cmp by_spot.now spot.now ≡ Some set.empty }
+    ensures none { result ≡ true → get spot_cmp by_spot.now spot.now ≡ Some set.empty }
+    ensures some { result ≡ false → get spot_cmp by_spot.now spot.now ≡ Some set.empty → ⊥ }
 {
     match by_spot.get(spot) {
         Some(cells) => cells.is_empty(),
@@ -121,6 +124,7 @@ fn take_at(by_spot: &mut BTreeMap<Spot, CellSet>, spot: &Spot, cell: CellId)
         → has_cell (get spot_cmp by_spot.new x) q ≡ true }
     ensures fewer { (x : OneSpot) (q : Cell) → has_cell (get spot_cmp by_spot.new x) q ≡ true → has_cell (get spot_cmp by_spot.old x) q ≡ true }
     ensures gone { has_cell (get spot_cmp by_spot.new spot.now) cell ≡ false }
+    ensures lean { HoldCells by_spot.old → HoldCells by_spot.new }
 {
     if by_spot.contains_key(spot) {
         remove_at(by_spot, spot, cell);
@@ -172,6 +176,7 @@ fn take_at_each(
     ensures fewer { (x : OneSpot) (q : Cell) → has_cell (get spot_cmp by_spot.new x) q ≡ true → has_cell (get spot_cmp by_spot.old x) q ≡ true }
     ensures gone { (x : OneSpot) → list_any (same_spot x) spots.now ≡ true → has_cell (get spot_cmp by_spot.new x) cell ≡ true
         → has_spot (option_copied kept.entry) x ≡ true }
+    ensures lean { HoldCells by_spot.old → HoldCells by_spot.new }
 {
     for spot in spots {
         if !has_spot(kept, spot) {
@@ -183,7 +188,8 @@ fn take_at_each(
 impl SideIndex {
     /// An index without cells.
     pub(crate) fn new(alloc: Global) -> SideIndex
-        ensures { (k : Key) (q : Cell) → is_filed result k q ≡ false }
+        ensures none { (k : Key) (q : Cell) → is_filed result k q ≡ false }
+        ensures lean { HoldCells result.by_spot }
     {
         SideIndex {
             by_spot: BTreeMap::new(alloc),
@@ -201,6 +207,7 @@ impl SideIndex {
     ) -> Result<(), AllocError>
         ensures kept { (k : Key) (q : Cell) → is_filed self.old k q ≡ true → is_filed self.new k q ≡ true }
         ensures only { (k : Key) (q : Cell) → is_filed self.new k q ≡ true → (is_filed self.old k q ≡ true) ⊎ ((q ≡ cell) × (has_key spots.now k ≡ true)) }
+        ensures lean { HoldCells self.old.by_spot → HoldCells self.new.by_spot }
         ensures filed { OnOk result ((k : Key) → has_key spots.now k ≡ true → is_filed self.new k cell ≡ true) }
     {
         self.all.add_if(spots.has_role, cell)?;
@@ -214,6 +221,7 @@ impl SideIndex {
         ensures kept { (k : Key) (q : Cell) → stays cell (option_copied kept.entry) k q ≡ true → is_filed self.old k q ≡ true → is_filed self.new k q ≡ true }
         ensures fewer { (k : Key) (q : Cell) → is_filed self.new k q ≡ true → is_filed self.old k q ≡ true }
         ensures gone { (k : Key) → has_key spots.now k ≡ true → is_filed self.new k cell ≡ true → has_key_of (option_copied kept.entry) k ≡ true }
+        ensures lean { HoldCells self.old.by_spot → HoldCells self.new.by_spot }
     {
         self.all.remove_if(!keeps_role(kept), cell);
         self.wide.remove_if(!keeps_wide(kept), cell);

@@ -1,22 +1,13 @@
 //! Parts and boxes of shapes.
 
 use crate::places::bounds_text;
-use crate::schemas::{FORMS, schema};
-use clr_row_texts::{cell, ordinal, row, shape};
-use clr_rows::{CellId, Row, RowFault, Schema};
+use clr_row_texts::{ordinal, shape};
 use clr_segments::{box_of_shape, part, parts};
 use std::alloc::Global;
 
-/// How many parts the shape of a row has that fits the table of its cell.
-fn part_count(schema: &Schema, cell: CellId, row: &Row) -> Result<u16, RowFault> {
-    schema.fits(cell, row)?;
-    Ok(parts(&row.shape))
-}
-
+/// How many parts a shape has.
 pub(crate) fn parts_text(alloc: Global, text: &str) -> Option<String> {
-    let (at, rest) = text.split_once(' ')?;
-    let row = row(alloc, rest)?;
-    let count = part_count(&schema(alloc, FORMS)?, cell(at)?, &row).ok()?;
+    let count = parts(&shape(alloc, text)?);
     format!(in alloc; "{count}").ok()
 }
 

@@ -182,12 +182,16 @@ near 1 1,-100001 500000000,-999999999 => false
 near 6 99999,1 99999,999999999 => false";
 
 /// How many parts a shape has, and the ends of each part.
-pub(crate) const PARTS: &str = "parts 0.1 - none => 0
-parts 1.1 - at 1,2 => 0
-parts 2.1 - line 1,2 3,4 => 1
-parts 3.1 - walk 2 1 => 1
-parts 3.1 - walk 3 1 => 2
-parts 3.1 - walk 32 1 => 31
+pub(crate) const PARTS: &str = "parts none => 0
+parts at 1,2 => 0
+parts line 1,2 3,4 => 1
+parts walk 0 1 => 0
+parts walk 1 1 => 0
+parts walk 2 1 => 1
+parts walk 3 1 => 2
+parts walk 32 1 => 31
+parts walk 33 1 => 32
+parts walk 65535 1 => 65534
 part 1 none => none
 part 1 at 1,2 => none
 part 0 line 1,2 3,4 => none

@@ -1,5 +1,5 @@
 use Rattle.std.proofs.Common.{◌≡◌, ◌<◌, ◌≤◌, ℕ, true, Some, slice_get, length}
-use Rattle.clr_grid.specs.Filing.{GainOnly, Key, StayFiled, has_key, is_filed_under}
+use Rattle.clr_grid.specs.Filing.{AllHoldCells, GainOnly, Key, StayFiled, has_key, is_filed_under}
 use Rattle.clr_grid.specs.declared.row_spots.RuleSpots.{RuleSpots}
 use Rattle.clr_grid.proofs.rule_index.file_at_each.Given as goal
 
@@ -8,6 +8,7 @@ abbrev pub invariant-loop-rule : goal.invariant-loop-rule
 invariant-loop-rule l = record {
   kept : StayFiled l.fn.rules.items l.rules.items;
   only : GainOnly l.cell (Some l.spots) l.fn.rules.items l.rules.items;
+  lean : AllHoldCells l.fn.rules.items → AllHoldCells l.rules.items;
   enough : length l.spots ≤ length l.rules.items;
   filed : (n : ℕ) (y : RuleSpots) (k : Key) → n < l.rule → slice_get l.spots n ≡ Some y → has_key y k ≡ true → is_filed_under l.rules.items n y.may_serve k l.cell ≡ true;
 }

@@ -1,5 +1,5 @@
 use Rattle.std.proofs.Common.{inl, arith}
-use Rattle.clr_grid.proofs.IndexLemmas.{filed_set, none_past, one_or, set_here, set_only}
+use Rattle.clr_grid.proofs.IndexLemmas.{filed_set, none_past, one_or, set_here, set_lean, set_only}
 use Rattle.clr_grid.proofs.rule_index.unfile_at.Goals as goal
 
 pub returns-then-rule-len-clause-kept : goal.returns-then-rule-len-clause-kept
@@ -16,3 +16,6 @@ returns-then-rule-len-clause-gone c b k key e =
 
 pub returns-else-rule-len-clause-gone : goal.returns-else-rule-len-clause-gone
 returns-else-rule-len-clause-gone c b k key e = none_past c.args.rules.now.items c.args.rule b k c.args.cell (omega (arith, c.if-rule-len.false, c.len.ensures)) e
+
+pub returns-then-rule-len-clause-lean : goal.returns-then-rule-len-clause-lean
+returns-then-rule-len-clause-lean c = set_lean c.args.rules.now.items c.args.rule c.index_mut-index.result.now c.unfile.new.self c.index_mut-index.ensures.value c.unfile.ensures.lean

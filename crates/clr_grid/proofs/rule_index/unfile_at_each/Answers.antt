@@ -7,7 +7,7 @@ use Rattle.clr_grid.proofs.IndexLemmas.{gone_next, none_under}
 use Rattle.clr_grid.proofs.rule_index.unfile_at_each.Goals as goal
 
 pub loop-rule-init : goal.loop-rule-init
-loop-rule-init c = record { kept = λ n b k q stay e. e; fewer = λ n b k q e. e; gone = λ n b k less. absurd (omega (arith, less)) }
+loop-rule-init c = record { kept = λ n b k q stay e. e; fewer = λ n b k q e. e; gone = λ n b k less. absurd (omega (arith, less)); lean = λ h. h }
 
 pub loop-rule-preserved : goal.loop-rule-preserved
 loop-rule-preserved c = record {
@@ -16,6 +16,7 @@ loop-rule-preserved c = record {
   fewer = λ n b k q e. c.loop-rule.invariant.fewer n b k q (c.unfile_at.ensures.fewer n b k q e);
   gone = gone_next c.loop-rule.rules.items c.unfile_at.new.rules.items c.args.cell c.as_slice-spots.result.now (option_copied c.args.kept) c.loop-rule.rule c.index-spots-rule.result c.index-spots-rule.is (omega (arith, c.loop-rule-test.true))
       c.unfile_at.ensures.fewer (λ b k key e. ap (λ (o : Option RuleSpots). has_key_of (of_side b o) k) (sym c.spots_at.ensures) ∙ c.unfile_at.ensures.gone b k key e) c.loop-rule.invariant.gone;
+  lean = λ h. c.unfile_at.ensures.lean (c.loop-rule.invariant.lean h);
 }
 
 pub returns-clause-kept : goal.returns-clause-kept
@@ -31,3 +32,6 @@ returns-clause-gone c n b k key e =
       | inl lower ↦ c.loop-rule.invariant.gone n b k lower at e
       | inr not_lower ↦ none_under c.as_slice-spots.result.now n b k (omega (arith, not_lower, c.loop-rule-test.false)) at
     ]
+
+pub returns-clause-lean : goal.returns-clause-lean
+returns-clause-lean c = c.loop-rule.invariant.lean

@@ -8,7 +8,7 @@ use Rattle.clr_spots.specs.declared.spots.Spot.{Spot}
 use Rattle.clr_spots.specs.SpotOrder.{spot_cmp}
 use Rattle.clr_grid.specs.CellSets.{Cells}
 use Rattle.clr_grid.specs.Filing.{has_cell}
-use Rattle.clr_grid.proofs.FilingLemmas.{AtSpots, added_keeps, added_has, added_only, cells_or_none, none_or_cells, none_has}
+use Rattle.clr_grid.proofs.FilingLemmas.{AtSpots, added_hold, same_hold, added_keeps, added_has, added_only, cells_or_none, none_or_cells, none_has}
 use Rattle.clr_grid.proofs.side_index.file_at.Goals as goal
 
 pub returns-then-contains_key-clause-kept : goal.returns-then-contains_key-clause-kept
@@ -49,6 +49,22 @@ returns-clause-only c =
     subst (λ (y : Spot). (x : Spot) (q : CellId) → has_cell (g x) q ≡ true → (has_cell (f x) q ≡ true) ⊎ ((q ≡ c.args.cell) × (x ≡ y))) c.in_ok-copy_of.ensures
     (added_only f g s c.new-cells.result c.args.cell (put_again f g s c.add.new.self c.args.cell c.new-cells.result c.in_ok-insert.ensures.updates.0 c.in_ok-add.ensures.ok)
     (λ q h. absurd (false≢true (sym (set.contains-empty cell_cmp q) ∙ ap (λ (m : Cells). set.contains m q) (sym c.new-cells.ensures) ∙ h))))
+
+pub returns-in_err-add_at-clause-lean : goal.returns-in_err-add_at-clause-lean
+returns-in_err-add_at-clause-lean c = same_hold (get spot_cmp c.args.by_spot.now) (get spot_cmp c.add_at.new.by_spot) c.in_err-add_at.ensures.err
+
+pub returns-then-contains_key-clause-lean : goal.returns-then-contains_key-clause-lean
+returns-then-contains_key-clause-lean c =
+    let f : AtSpots = get spot_cmp c.args.by_spot.now in
+    let g : AtSpots = get spot_cmp c.add_at.new.by_spot in
+    added_hold f g c.args.spot.now (unwrap_or (f c.args.spot.now) set.empty) c.args.cell c.in_ok-add_at.ensures.ok
+
+pub returns-clause-lean : goal.returns-clause-lean
+returns-clause-lean c =
+    let f : AtSpots = get spot_cmp c.args.by_spot.now in
+    let g : AtSpots = get spot_cmp c.insert.new.self in
+    let s = c.in_ok-copy_of.field-0 in
+    added_hold f g s c.new-cells.result c.args.cell (put_again f g s c.add.new.self c.args.cell c.new-cells.result c.in_ok-insert.ensures.updates.0 c.in_ok-add.ensures.ok)
 
 pub returns-clause-filed : goal.returns-clause-filed
 returns-clause-filed c =

@@ -1,4 +1,4 @@
-use Rattle.std.proofs.Common.{inl, inr, ◌∙◌, ap}
+use Rattle.std.proofs.Common.{inl, ◌∙◌, ap}
 use Rattle.std.proofs.lemmas.Bool.{false≢true}
 use Rattle.std.proofs.lemmas.List.{take_all}
 use Rattle.std.specs.BTreeMap.{get}
@@ -8,7 +8,7 @@ use Rattle.clr_grid.proofs.FilingLemmas.{AtSpots, filed_more, gained_more}
 use Rattle.clr_grid.proofs.side_index.file_at_each.Goals as goal
 
 pub loop-spot-init : goal.loop-spot-init
-loop-spot-init c = record { kept = λ x q e. e; only = λ x q e. inl e; filed = λ x e. absurd (false≢true e) }
+loop-spot-init c = record { kept = λ x q e. e; only = λ x q e. inl e; lean = λ h. h; filed = λ x e. absurd (false≢true e) }
 
 pub loop-spot-preserved : goal.loop-spot-preserved
 loop-spot-preserved c =
@@ -17,6 +17,7 @@ loop-spot-preserved c =
       kept = λ x q e. c.in_ok-file_at.ensures.kept x q (c.loop-spot.invariant.kept x q e);
       only = gained_more (get spot_cmp c.args.by_spot.now) f g c.args.cell c.args.spots.now c.loop-spot.spot-index c.spot-item.result c.loop-spot-test.true c.spot-item.is
           c.in_ok-file_at.ensures.only c.loop-spot.invariant.only;
+      lean = λ h. c.in_ok-file_at.ensures.lean (c.loop-spot.invariant.lean h);
       filed = filed_more f g c.args.cell c.args.spots.now c.loop-spot.spot-index c.spot-item.result c.loop-spot-test.true c.spot-item.is c.in_ok-file_at.ensures.kept c.in_ok-file_at.ensures.filed c.loop-spot.invariant.filed;
     }
 
@@ -27,6 +28,12 @@ pub returns-in_err-file_at-clause-only : goal.returns-in_err-file_at-clause-only
 returns-in_err-file_at-clause-only c =
     gained_more (get spot_cmp c.args.by_spot.now) (get spot_cmp c.loop-spot.by_spot) (get spot_cmp c.file_at.new.by_spot) c.args.cell c.args.spots.now c.loop-spot.spot-index c.spot-item.result c.loop-spot-test.true c.spot-item.is
     c.in_err-file_at.ensures.only c.loop-spot.invariant.only
+
+pub returns-in_err-file_at-clause-lean : goal.returns-in_err-file_at-clause-lean
+returns-in_err-file_at-clause-lean c h = c.in_err-file_at.ensures.lean (c.loop-spot.invariant.lean h)
+
+pub returns-clause-lean : goal.returns-clause-lean
+returns-clause-lean c = c.loop-spot.invariant.lean
 
 pub returns-clause-only : goal.returns-clause-only
 returns-clause-only c = c.loop-spot.invariant.only

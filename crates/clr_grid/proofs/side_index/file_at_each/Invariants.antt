@@ -4,7 +4,7 @@ use Rattle.std.specs.BTreeMap.{get}
 use Rattle.std.specs.List.{list_any}
 use Rattle.clr_spots.specs.declared.spots.Spot.{Spot}
 use Rattle.clr_spots.specs.SpotOrder.{same_spot, spot_cmp}
-use Rattle.clr_grid.specs.Filing.{has_cell}
+use Rattle.clr_grid.specs.Filing.{HoldCells, has_cell}
 use Rattle.clr_grid.proofs.FilingLemmas.{Keeps}
 use Rattle.clr_grid.proofs.side_index.file_at_each.Given as goal
 
@@ -13,5 +13,6 @@ abbrev pub invariant-loop-spot : goal.invariant-loop-spot
 invariant-loop-spot l = record {
   kept : Keeps (get spot_cmp l.fn.by_spot) (get spot_cmp l.by_spot);
   only : (x : Spot) (q : CellId) → has_cell (get spot_cmp l.by_spot x) q ≡ true → (has_cell (get spot_cmp l.fn.by_spot x) q ≡ true) ⊎ ((q ≡ l.cell) × (list_any (same_spot x) l.spots ≡ true));
+  lean : HoldCells l.fn.by_spot → HoldCells l.by_spot;
   filed : (x : Spot) → list_any (same_spot x) (take l.spot-index l.spots) ≡ true → has_cell (get spot_cmp l.by_spot x) l.cell ≡ true;
 }

@@ -6,7 +6,7 @@ use Rattle.clr_rows.specs.declared.cells.CellId.{CellId}
 use Rattle.clr_spots.specs.declared.spots.Spot.{Spot}
 use Rattle.clr_spots.specs.SpotOrder.{same_spot, spot_cmp}
 use Rattle.clr_grid.specs.CellSets.{is_one}
-use Rattle.clr_grid.specs.Filing.{has_cell, has_spot}
+use Rattle.clr_grid.specs.Filing.{HoldCells, has_cell, has_spot}
 use Rattle.clr_grid.proofs.FilingLemmas.{Keeps}
 use Rattle.clr_grid.proofs.side_index.take_at_each.Given as goal
 
@@ -16,4 +16,5 @@ invariant-loop-spot l = record {
   kept : (x : Spot) (q : CellId) → (is_one l.cell q && not (has_spot (option_copied l.kept) x)) ≡ false → has_cell (get spot_cmp l.fn.by_spot x) q ≡ true → has_cell (get spot_cmp l.by_spot x) q ≡ true;
   fewer : Keeps (get spot_cmp l.by_spot) (get spot_cmp l.fn.by_spot);
   gone : (x : Spot) → list_any (same_spot x) (take l.spot-index l.spots) ≡ true → has_cell (get spot_cmp l.by_spot x) l.cell ≡ true → has_spot (option_copied l.kept) x ≡ true;
+  lean : HoldCells l.fn.by_spot → HoldCells l.by_spot;
 }

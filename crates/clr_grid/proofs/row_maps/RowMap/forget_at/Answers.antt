@@ -2,7 +2,7 @@ use Rattle.std.proofs.Common.{◌∙◌, ap, sym, is_some}
 use Rattle.std.specs.FinMap as finite
 use Rattle.std.specs.Option.{option_flatten}
 use Rattle.clr_grid.specs.RowMaps.{Rows}
-use Rattle.clr_grid.proofs.MapLemmas.{get_pending, one_taken, rows_alike, room_left}
+use Rattle.clr_grid.proofs.MapLemmas.{get_pending, lean_left, one_taken, rows_alike, room_left}
 use Rattle.clr_grid.proofs.row_maps.RowMap.forget_at.Goals as goal
 
 pub returns-clause-before : goal.returns-clause-before
@@ -14,5 +14,9 @@ returns-clause-after c =
     ∙ ap (λ (r : Rows). let s : Rows = record { settled = r.settled; pending = finite.remove r.pending c.args.cell } in s) c.self.view_is
 
 pub invariant_of-self : goal.invariant_of-self
-invariant_of-self c = room_left c.self.inside.settled.entries c.drop_room.new.settled.entries c.self.inside.pending.entries c.remove-row.new.self.entries c.args.cell c.remove-row.ensures.updates.0
-    (λ q e some. ap is_some (c.drop_room.ensures.others q e) ∙ some) c.self.invariant
+invariant_of-self c = record {
+  room = room_left c.self.inside.settled.entries c.drop_room.new.settled.entries c.self.inside.pending.entries c.remove-row.new.self.entries c.args.cell c.remove-row.ensures.updates.0
+      (λ q e some. ap is_some (c.drop_room.ensures.others q e) ∙ some) c.self.invariant.room;
+  lean = lean_left c.self.inside.settled.entries c.drop_room.new.settled.entries c.self.inside.pending.entries c.remove-row.new.self.entries c.args.cell c.remove-row.ensures.updates.0
+      c.drop_room.ensures.others c.drop_room.ensures.gone c.self.invariant.lean;
+}

@@ -1,5 +1,5 @@
-use Rattle.std.proofs.Common.{◌≡◌, ◌∙◌, ap, None, rules}
-use Rattle.std.specs.BTreeMap.{get}
+use Rattle.std.proofs.Common.{◌≡◌, [], ◌∙◌, ap, None, rules}
+use Rattle.std.specs.BTreeMap.{BTreeMap, get}
 use Rattle.std.specs.FinSet as set
 use Rattle.clr_rows.specs.Cells.{cell_cmp}
 use Rattle.clr_spots.specs.declared.spots.Spot.{Spot}
@@ -8,8 +8,14 @@ use Rattle.clr_grid.specs.CellSets.{Cells}
 use Rattle.clr_grid.proofs.FilingLemmas.{none_in}
 use Rattle.clr_grid.proofs.side_index.SideIndex.new.Goals as goal
 
-pub returns : goal.returns
-returns c = none_in (record { by_spot = c.new.result; wide = c.new-2.result; all = c.new-3.result })
+none : (by_spot : BTreeMap Spot Cells) → by_spot.entries ≡ [] → (x : Spot) → get spot_cmp by_spot x ≡ None
+none by_spot is x = search rules
+
+pub returns-clause-none : goal.returns-clause-none
+returns-clause-none c = none_in (record { by_spot = c.new.result; wide = c.new-2.result; all = c.new-3.result })
     (λ q. ap (λ (m : Cells). set.contains m q) c.new-3.ensures ∙ set.contains-empty cell_cmp q)
     (λ q. ap (λ (m : Cells). set.contains m q) c.new-2.ensures ∙ set.contains-empty cell_cmp q)
-    (λ x. let none : get spot_cmp c.new.result x ≡ None = search rules in none)
+    (none c.new.result c.new.ensures.empty)
+
+pub returns-clause-lean : goal.returns-clause-lean
+returns-clause-lean c x e = absurd (cc (none c.new.result c.new.ensures.empty x, e))

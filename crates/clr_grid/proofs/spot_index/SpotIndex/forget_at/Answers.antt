@@ -8,4 +8,5 @@ invariant_of-self c = record {
       c.self.invariant.filed c.unfile_row.ensures.kept c.forget_at-row.ensures.after c.settled_row.ensures;
   others = others_left c.self.inside.rows c.forget_at-row.new.self c.args.cell c.forget_at-row.result (option_copied c.settled_row.result) c.self.inside.rules.items c.unfile_row.new.rules.items
       c.self.invariant.others c.unfile_row.ensures.fewer c.unfile_row.ensures.gone c.forget_at-row.ensures.before c.forget_at-row.ensures.after c.settled_row.ensures;
+  lean = c.unfile_row.ensures.lean c.self.invariant.lean;
 }

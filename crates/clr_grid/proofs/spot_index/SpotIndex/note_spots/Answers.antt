@@ -18,6 +18,7 @@ invariant_of-self-in-Ok c =
           (subst (λ (o : RowOrNone). IsFiledToo c.file_row.new.rules.items c.args.cell o) row c.in-Ok.ensures.filed) c.in_ok-note.ensures.ok;
       others = others_noted c.self.inside.rows c.note.new.self c.args.cell c.args.spots c.self.inside.rules.items c.file_row.new.rules.items free c.self.invariant.others
           (subst (λ (o : RowOrNone). GainOnly c.args.cell o c.self.inside.rules.items c.file_row.new.rules.items) row c.in-Ok.ensures.only) c.in_ok-note.ensures.ok;
+      lean = c.in-Ok.ensures.lean c.self.invariant.lean;
     }
 
 pub invariant_of-self-in-Err : goal.invariant_of-self-in-Err
@@ -25,7 +26,7 @@ invariant_of-self-in-Err c =
     let free : finite.get c.self.inside.rows.pending c.args.cell ≡ None = ap (λ (r : Rows). finite.get r.pending c.args.cell) c.self.view_is ∙ c.requires in
     let noted : option_flatten (finite.get c.note.new.self.pending c.args.cell) ≡ c.args.spots = noted_row c.self.inside.rows c.note.new.self c.args.cell c.args.spots c.in_ok-note.ensures.ok in
     let left : c.forget_at-refused.new.self ≡ c.self.inside.rows =
-        noted_dropped c.self.inside.rows c.note.new.self c.forget_at-refused.new.self c.args.cell c.args.spots free c.in_ok-note.ensures.ok c.forget_at-refused.ensures.after in
+    noted_dropped c.self.inside.rows c.note.new.self c.forget_at-refused.new.self c.args.cell c.args.spots free c.in_ok-note.ensures.ok c.forget_at-refused.ensures.after in
     let row : option_copied c.pending_row.result ≡ c.forget_at-refused.result = c.pending_row.ensures ∙ noted ∙ sym (c.forget_at-refused.ensures.before ∙ noted) in
     record {
       filed = filed_refused c.self.inside.rows c.forget_at-refused.new.self c.args.cell (option_copied c.settled_row.result) c.self.inside.rules.items c.file_row.new.rules.items c.unfile_row.new.rules.items
@@ -33,6 +34,7 @@ invariant_of-self-in-Err c =
       others = others_refused c.self.inside.rows c.forget_at-refused.new.self c.args.cell c.forget_at-refused.result (option_copied c.settled_row.result) c.self.inside.rules.items c.file_row.new.rules.items c.unfile_row.new.rules.items
           c.self.invariant.others (subst (λ (o : RowOrNone). GainOnly c.args.cell o c.self.inside.rules.items c.file_row.new.rules.items) row c.in-Err.ensures.only)
           c.unfile_row.ensures.fewer c.unfile_row.ensures.gone left c.settled_row.ensures;
+      lean = c.unfile_row.ensures.lean (c.in-Err.ensures.lean c.self.invariant.lean);
     }
 
 pub returns-in-Err-clause-err : goal.returns-in-Err-clause-err
