@@ -9,7 +9,7 @@ use Rattle.clr_foot.specs.Candidates.{are_opposed}
 use Rattle.clr_foot.specs.Covers.{CoverTogether, CoversAlone, IsLifeOf, Lasts, WitnessesCover}
 use Rattle.clr_foot.specs.Needs.{AreOpposed, AreServers, IsBesideToo, IsPossible, Serves}
 use Rattle.clr_foot.specs.Settings.{Setting, Lifetime, Always, With, Without, Lived, version}
-use Rattle.clr_foot.proofs.BreakLaws.{subjects_once}
+use Rattle.clr_foot.proofs.NeedSubjects.{subjects_once}
 use Rattle.clr_foot.proofs.Gaining.{none_taken, one_more, all_taken}
 use Rattle.clr_foot.proofs.PickLaws.{listed_serves, serving_listed}
 use Rattle.clr_clearance.proofs.CheckLemmas.{one_lived}

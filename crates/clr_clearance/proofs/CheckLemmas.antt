@@ -10,6 +10,7 @@ use Rattle.clr_foot.specs.Covers.{Entry, HasEntry}
 use Rattle.clr_foot.specs.Needs.{IsBesideToo, IsPossible}
 use Rattle.clr_foot.specs.Orders.{need_cmp}
 use Rattle.clr_foot.specs.Settings.{Setting, Lived, version}
+use Rattle.clr_foot.proofs.NeedOrder.{need_total}
 use Rattle.clr_steps.specs.declared.commands.Command.{Command}
 use Rattle.clr_steps.specs.declared.commands.Reply.{Reply}
 use Rattle.clr_steps.specs.Names.{same_name, is_live}
@@ -24,7 +25,6 @@ use Rattle.clr_clearance.specs.CheckLaws.{AllJudgedLaw, FirstJudgedLaw, IsCovere
 use Rattle.clr_clearance.specs.Examples.{FaultExample}
 use Rattle.clr_clearance.specs.Runs.{AreQuiet}
 use Rattle.clr_clearance.specs.Verdicts.{name_fault}
-use Rattle.clr_clearance.proofs.OrderLemmas.{need_total}
 
 pub fault_example : FaultExample
 unfolding name_fault refusal refusals_of effect step same_name is_live workspace stands is_kept content_of after_create set_kept breaks first_broken broken_needs broken_below depth_within is_good_name is_root

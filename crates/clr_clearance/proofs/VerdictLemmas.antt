@@ -12,8 +12,8 @@ use Rattle.clr_clearance.specs.declared.verdicts.Verdict.TheVariants as verdict
 use Rattle.clr_clearance.specs.Laws.{OneVerdictLaw}
 use Rattle.clr_clearance.specs.Verdicts.{IsFirstUncovered, member_fault, of_cell, of_member, of_need, of_none}
 use Rattle.clr_clearance.proofs.ClearLemmas.{order}
-use Rattle.clr_foot.proofs.NeedOrder.{need_exact}
-use Rattle.clr_clearance.proofs.OrderLemmas.{in_order, need_total}
+use Rattle.clr_foot.proofs.NeedOrder.{need_exact, need_total}
+use Rattle.clr_clearance.proofs.OrderLemmas.{in_order}
 
 pub one_some : {X : Type 0} (r : Option X) (x y : X) → r ≡ Some x → r ≡ Some y → x ≡ y
 one_some r x y e f = let both : Some x ≡ Some y = sym e ∙ f in cc

@@ -21,8 +21,7 @@ use Rattle.clr_foot.specs.Needs.{AreServers, IsBesideToo, IsPossible, IsPossible
 use Rattle.clr_foot.specs.Picks.{Blocks}
 use Rattle.clr_foot.specs.Settings.{Setting, Lifetime, Always, With, Without, Lived, has, version}
 use Rattle.clr_foot.specs.Witnesses.{IsLeastPassing, IsPassing, has_life_at}
-use Rattle.clr_foot.proofs.BreakLaws.{subjects_once}
-use Rattle.clr_foot.proofs.Lives.{names_member}
+use Rattle.clr_foot.proofs.NeedSubjects.{blocker_involves, involved_member, subjects_once}
 
 pub same_told : (l m : Lifetime ℕ) → same_life l m ≡ true → l ≡ m
 same_told Always Always e = refl
@@ -136,7 +135,7 @@ module _ (c : Setting ℕ) (n : Need) where
       ]
 
 -- a member is below the number of sets
-range_below : (len from k : ℕ) → has (λ i j. i == j) (range_with_len from len) k ≡ true → k < from + len
+pub range_below : (len from k : ℕ) → has (λ i j. i == j) (range_with_len from len) k ≡ true → k < from + len
 range_below zero from k h = absurd (false≢true h)
 range_below (suc len) from k h = by (or_cases (from == k) (has (λ i j. i == j) (range_with_len (from + 1) len) k) h) (range_below len (from + 1) k)
   where
@@ -144,29 +143,22 @@ range_below (suc len) from k h = by (or_cases (from == k) (has (λ i j. i == j) 
     by (inl e) later = let same = (Decides-eqb from k).0 e in omega (arith, same)
     by (inr g) later = let less = later g in omega (arith, less)
 
-module _ (rules : List Rule) (root : Content) (sets : List Changes) (n : Need) where
+module _ (rules : List Rule) (root : Content) (sets : List Changes) where
   abbrev s : Setting ℕ
   s = setting rules root sets
 
-  member_below : (x : ℕ) → has s.same s.members x ≡ true → x < length sets
+  pub member_below : (x : ℕ) → has s.same s.members x ≡ true → x < length sets
   member_below x h = let less = range_below (length sets) 0 x h in omega (arith, less)
 
-  pub blocker_below : (a : Lived ℕ) (b : Option (Lived ℕ)) → IsPossible s n a b → (x : ℕ) → IsBlocker s n a b x → x < length sets
-  blocker_below a b p x (inl e) = member_below x (names_member s n.first a x p.first_is (subst (λ l. Names l x) (sym e) refl))
-  blocker_below a b p x (inr (inr (v, l, serve, e))) = member_below x (names_member s v l x serve.is (subst (λ l. Names l x) (sym e) refl))
-  blocker_below a b p x (inr (inl e)) = by n.second b p.second_is e
-    where
-      by : (w : Option VersionId) (b : Option (Lived ℕ)) → IsBesideToo s n.first a w b → IsLifeOf (With x) b → x < length sets
-      by None None is e = absurd e
-      by None (Some b) is e = absurd is
-      by (Some w) None is e = absurd is
-      by (Some w) (Some b) is e = member_below x (names_member s w b x is.is (subst (λ l. Names l x) e refl))
+  module _ (n : Need) where
+    pub blocker_below : (a : Lived ℕ) (b : Option (Lived ℕ)) → IsPossible s n a b → (x : ℕ) → IsBlocker s n a b x → x < length sets
+    blocker_below a b p x blocks = member_below x (involved_member s n a b x p (blocker_involves s n a b x blocks))
 
-  pub all_block : (k : ℕ) (list : List ℕ) → length sets ≤ k → AreBlockersTo s n k list → Blocks s n list
-  all_block k list past are a b p = record {
-    ascending = are.ascending;
-    exactly = λ x. (λ h. only x ((are.exactly x).0 h).blocks, λ w. (are.exactly x).1 (record { below = (let less = blocker_below a b p x w in omega (arith, less, past)); blocks = (a, b, p, w) }));
-  }
-    where
-      only : (x : ℕ) → IsBlockerOf s n x → IsBlocker s n a b x
-      only x (d, e, q, w) = let once = subjects_once s n a d b e p q in subst (λ l. IsBlocker s n l b x) once.0 (subst (λ m. IsBlocker s n d m x) once.1 w)
+    pub all_block : (k : ℕ) (list : List ℕ) → length sets ≤ k → AreBlockersTo s n k list → Blocks s n list
+    all_block k list past are a b p = record {
+      ascending = are.ascending;
+      exactly = λ x. (λ h. only x ((are.exactly x).0 h).blocks, λ w. (are.exactly x).1 (record { below = (let less = blocker_below a b p x w in omega (arith, less, past)); blocks = (a, b, p, w) }));
+    }
+      where
+        only : (x : ℕ) → IsBlockerOf s n x → IsBlocker s n a b x
+        only x (d, e, q, w) = let once = subjects_once s n a d b e p q in subst (λ l. IsBlocker s n l b x) once.0 (subst (λ m. IsBlocker s n d m x) once.1 w)

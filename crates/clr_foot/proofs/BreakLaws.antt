@@ -36,6 +36,7 @@ use Rattle.clr_foot.proofs.Meetings.{HasServer, IsStandingNeed, IsSubjectLife, h
 use Rattle.clr_foot.proofs.Placing.{PlaceOf, after, before, here, place_of}
 use Rattle.clr_foot.proofs.Gaining.{all_taken, one_more}
 use Rattle.clr_foot.proofs.Merges.{IsMerge, root_is, taken_over}
+use Rattle.clr_foot.proofs.NeedSubjects.{subjects_once}
 
 module _ (rules : List Rule) (root : Content) (sets : List Changes) (one : length sets ≡ 1) where
   abbrev s : Setting ℕ
@@ -319,17 +320,6 @@ module _ (rules : List Rule) (root : Content) (sets : List Changes) (one : lengt
 -- ---- one need
 
 module _ (c : Setting ℕ) (n : Need) where
-  pub subjects_once : (a x : Lived ℕ) (b y : Option (Lived ℕ)) → IsPossible c n a b → IsPossible c n x y → (x ≡ a) × (y ≡ b)
-  subjects_once a x b y p q = (let e : Some x ≡ Some a = sym q.first_is ∙ p.first_is in cc, by n.second b y p.second_is q.second_is)
-    where
-      by : (w : Option VersionId) (b y : Option (Lived ℕ)) → IsBesideToo c n.first a w b → IsBesideToo c n.first x w y → y ≡ b
-      by None None None h k = refl
-      by None None (Some y) h k = absurd k
-      by None (Some b) y h k = absurd h
-      by (Some w) None y h k = absurd h
-      by (Some w) (Some b) None h k = absurd k
-      by (Some w) (Some b) (Some y) h k = sym k.is ∙ h.is
-
   module _ (servers read : List VersionId) (are : AreServers c n servers) (same : read ≡ servers) where
     pub none_living : (told : Bool) → IsPossibleNeed c n → ((a : Lived ℕ) (b : Option (Lived ℕ)) → IsPossible c n a b → told ≡ are_living a b) → told ≡ true
         → ((v : VersionId) → Contains read v → is_living_at (version c v) ≡ true → ⊥) → IsUnservedAfterMerge c n
@@ -344,7 +334,7 @@ module _ (c : Setting ℕ) (n : Need) where
     pub some_living : (v : VersionId) → Contains read v → is_living_at (version c v) ≡ true → IsServedAfterMerge c n
     some_living v h living a b p stand =
         let (x, y, l, q, serve) = (are.exactly v).0 (subst (λ vs. Contains vs v) same h) in
-        let once = subjects_once a x b y p q in (
+        let once = subjects_once c n a x b y p q in (
           v,
           l,
           record { is = serve.is; it_serves = sym (λ i. serves c.rules (ask_of n) (held_row n.first (once.0 i)) (held_too n.second (once.1 i)) (held_row v l)) ∙ serve.it_serves },

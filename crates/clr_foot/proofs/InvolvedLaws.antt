@@ -21,7 +21,7 @@ use Rattle.clr_foot.specs.Needs.{AreServers, IsBesideToo, IsPossible, IsPossible
 use Rattle.clr_foot.specs.Orders.{need_cmp}
 use Rattle.clr_foot.specs.Settings.{Setting, Lifetime, Always, With, Without, Lived, changer, held_row, version}
 use Rattle.clr_foot.specs.Versions.{IsAt, row_and_life, version_of}
-use Rattle.clr_foot.proofs.BreakLaws.{subjects_once}
+use Rattle.clr_foot.proofs.NeedSubjects.{subjects_once}
 use Rattle.clr_foot.proofs.Gaining.{all_taken, gains_as, gains_both, gains_none, one_more, read_of}
 use Rattle.clr_foot.proofs.Lives.{named_by_old, new_is, old_is, version_by, version_by_changer}
 use Rattle.clr_foot.proofs.Merges.{IsChanger, changer_is}
@@ -143,7 +143,7 @@ module _ (c : Setting ℕ) where
   -- ---- two members
 
   -- of one need both tell, whatever its subjects were taken for
-  both_depend : (n : Need) (x y : ℕ) → IsInvolving c x n → IsInvolving c y n → AreDependent c x y
+  pub both_depend : (n : Need) (x y : ℕ) → IsInvolving c x n → IsInvolving c y n → AreDependent c x y
   both_depend n x y (a, b, p, first) (d, e, q, second) =
       let once = subjects_once c n d a e b q p in
       (n, d, e, q, subst (λ k. Involves c n d k x) once.1 (subst (λ k. Involves c n k b x) once.0 first), second)

@@ -1,3 +1,4 @@
+pub mod Agreement
 pub mod AuditLaws
 pub mod BlockerLaws
 pub mod BreakLaws
@@ -12,7 +13,12 @@ pub mod Lives
 pub mod Meetings
 pub mod Merges
 pub mod NeedOrder
+pub mod NeedSubjects
 pub mod NewRows
+pub mod PartLaws
+pub mod PartLives
+pub mod PartPositions
+pub mod PartSteps
 pub mod PickLaws
 pub mod Placing
 pub mod PositionLaws

@@ -123,15 +123,14 @@ module _ {A : Type 0} (c : Setting A) where
   named_by_old None n e = absurd e
   named_by_old (Some m) n e = ap Some e
 
-  -- a member that a version's life names
-  pub names_member : (v : VersionId) (l : Lived A) (n : A) → version c v ≡ Some l → Names l.life n → has c.same c.members n ≡ true
-  names_member v l n e names = by v.fresh (changer c v.cell) (changer_is c v.cell) (sym (version_by_changer v) ∙ e)
+  -- whom a version's life names changes its cell, and is a member
+  pub names_changer : (v : VersionId) (l : Lived A) (n : A) → version c v ≡ Some l → Names l.life n → changer c v.cell ≡ Some n
+  names_changer v l n e names = by v.fresh (changer c v.cell) (sym (version_by_changer v) ∙ e)
     where
-      member : (x : Option A) → IsChanger c c.members v.cell x → x ≡ Some n → has c.same c.members n ≡ true
-      member None h k = cc
-      member (Some m) h k = let same : m ≡ n = cc in ap (has c.same c.members) (sym same) ∙ h.0
+      by : (fresh : Bool) (x : Option A) → version_by fresh v.cell x ≡ Some l → x ≡ Some n
+      by false x is = named_by_old x n (subst (λ k. Names k n) ((old_is x (c.root v.cell) l is).1) names)
+      by true None is = cc
+      by true (Some m) is = ap Some (subst (λ k. Names k n) ((new_is m (c.after m v.cell) l is).1) names)
 
-      by : (fresh : Bool) (x : Option A) → IsChanger c c.members v.cell x → version_by fresh v.cell x ≡ Some l → has c.same c.members n ≡ true
-      by false x h is = member x h (named_by_old x n (subst (λ k. Names k n) ((old_is x (c.root v.cell) l is).1) names))
-      by true None h is = cc
-      by true (Some m) h is = member (Some m) h (ap Some (subst (λ k. Names k n) ((new_is m (c.after m v.cell) l is).1) names))
+  pub names_member : (v : VersionId) (l : Lived A) (n : A) → version c v ≡ Some l → Names l.life n → has c.same c.members n ≡ true
+  names_member v l n e names = (subst (IsChanger c c.members v.cell) (names_changer v l n e names) (changer_is c v.cell)).0

@@ -1,18 +1,28 @@
--- Versions and needs that tie are one.
+-- The order of needs is total, and versions and needs that tie are one.
 use Rattle.std.proofs.Common.{◌≡◌, Bool, true, false, Option, Some, None, pos, refl, ap}
+use Rattle.std.specs.Cmp.{IsTotalOrder}
+use Rattle.std.specs.Cmp.Lexicographic.{options_total}
 use Rattle.std.specs.FinMap.{IsAntisymmetric}
 use Rattle.std.specs.Option.{option_cmp}
 use Rattle.std.specs.Ordering.{bool_cmp, nat_cmp, ordering_then}
 use Rattle.std.specs.declared.cmp.Ordering.{Ordering}
 use Rattle.std.specs.declared.cmp.Ordering.TheVariants.{Less, Equal, Greater}
+use Rattle.std.proofs.lemmas.Cmp.{then_total, on_total, nat_cmp_total}
 use Rattle.std.proofs.lemmas.Map.Lookups.{exact_unsigned}
 use Rattle.clr_rows.specs.Cells.{cell_cmp}
 use Rattle.clr_rows.proofs.CellOrder.{cell_cmp_exact}
 use Rattle.clr_foot.specs.declared.needs.Need.{Need}
 use Rattle.clr_foot.specs.declared.needs.VersionId.{VersionId}
 use Rattle.clr_foot.specs.Orders.{need_cmp, version_cmp}
+use Rattle.clr_foot.proofs.VersionOrder.{version_total}
 
-both_tie : (o p : Ordering) → ordering_then o p ≡ Equal → (o ≡ Equal) × (p ≡ Equal)
+pub need_total : IsTotalOrder need_cmp
+need_total = then_total (on_total (λ (n : Need). n.rule) nat_cmp_total)
+    (then_total (on_total (λ (n : Need). n.first) version_total)
+    (then_total (on_total (λ (n : Need). n.second) (options_total version_total))
+    (then_total (on_total (λ (n : Need). n.first_part) nat_cmp_total) (on_total (λ (n : Need). n.second_part) nat_cmp_total))))
+
+pub both_tie : (o p : Ordering) → ordering_then o p ≡ Equal → (o ≡ Equal) × (p ≡ Equal)
 both_tie Less p e = cc
 both_tie Equal p e = (refl, e)
 both_tie Greater p e = cc

@@ -13,7 +13,7 @@ use Rattle.clr_foot.specs.Picks.{HasBoth, IsLeastVersion, IsPick, Picks, ServesA
 use Rattle.clr_foot.specs.Settings.{Setting, Lifetime, Always, With, Without, Lived}
 use Rattle.clr_foot.specs.Witnesses.{HasPair, IsFirstPair, IsLeastPassing, IsPassing, has_life_at, lasts, lasts_at}
 use Rattle.clr_foot.proofs.BlockerLaws.{blocker_below, life_at, lives_as, same_told, subject_told, told_subject}
-use Rattle.clr_foot.proofs.BreakLaws.{subjects_once}
+use Rattle.clr_foot.proofs.NeedSubjects.{subjects_once}
 
 least_as : (P Q : VersionId → Type 0) (v : VersionId) → ((w : VersionId) → P w → Q w) → ((w : VersionId) → Q w → P w) → IsLeastVersion P v → IsLeastVersion Q v
 least_as P Q v there back (is, least) = (there v is, λ w lesser h. least w lesser (back w h))

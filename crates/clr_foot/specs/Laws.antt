@@ -9,9 +9,11 @@ use Rattle.clr_foot.specs.declared.needs.VersionId.{VersionId}
 use Rattle.clr_foot.specs.Blocking.{IsBlockerOf}
 use Rattle.clr_foot.specs.Covers.{AreBlockers, AreCovered, Entry, IsUncovered, IsUncoveredNeed}
 use Rattle.clr_foot.specs.Broken.{view_after_merge}
+use Rattle.clr_foot.specs.Independence.{AreDependent}
 use Rattle.clr_foot.specs.Members.{setting}
 use Rattle.clr_foot.specs.Needs.{IsPossibleNeed, IsServing, IsTouched}
-use Rattle.clr_foot.specs.Positions.{StandsAt, by_position}
+use Rattle.clr_foot.specs.Picks.{Blocks, Picks, PicksBy}
+use Rattle.clr_foot.specs.Positions.{BlocksInOrder, ComesBefore, StandAt, StandsAt}
 use Rattle.clr_foot.specs.Renamings.{IsSameVersionToo}
 use Rattle.clr_foot.specs.Settings.{Setting, Lived, AreDisjoint, AreAmong, view_with, version}
 
@@ -46,7 +48,7 @@ UncoveredByPosition = (c : Setting ℕ) → UncoveredBreaks c
 abbrev pub UncoveredByName : Type 0
 UncoveredByName = (c : Setting (List ℕ)) → UncoveredBreaks c
 
--- the members of one setting and their first positions in another: the same versions, the same needs, and what covers or breaks them
+-- the members of one setting and their first positions in another: the same versions, the same needs, what covers, breaks and involves them, and what is picked for them
 pub record SayTheSame {A : Type 0} (c : Setting A) (d : Setting ℕ) : Type 0 where
   pub versions : (v : VersionId) → IsSameVersionToo (StandsAt c) (version c v) (version d v)
   pub possible : (n : Need) → IsPossibleNeed c n ↔ IsPossibleNeed d n
@@ -54,11 +56,11 @@ pub record SayTheSame {A : Type 0} (c : Setting A) (d : Setting ℕ) : Type 0 wh
   pub touched : (n : Need) → IsTouched c n ↔ IsTouched d n
   pub covered : (es : List Entry) → AreCovered c es ↔ AreCovered d es
   pub uncovered : (n : Need) → IsUncoveredNeed c n ↔ IsUncoveredNeed d n
+  pub picks : (n : Need) (pick : Option (VersionId × Option VersionId)) → PicksBy (ComesBefore c) c n pick ↔ Picks d n pick
   pub blockers : (n : Need) (m : A) (k : ℕ) → StandsAt c m k → IsBlockerOf c n m ↔ IsBlockerOf d n k
+  pub blocks : (n : Need) (ms : List A) (ks : List ℕ) → StandAt c ms ks → BlocksInOrder c n ms ↔ Blocks d n ks
+  pub dependent : (x y : A) (j k : ℕ) → StandsAt c x j → StandsAt c y k → AreDependent c x y ↔ AreDependent d j k
   pub apart : AreDisjoint d → AreDisjoint c
-
-abbrev pub NamesByPosition : Type 0
-NamesByPosition = (c : Setting (List ℕ)) → SayTheSame c (by_position c)
 
 -- what is told of the merge of one change set is told of the content with the changes over it
 abbrev pub FirstBrokenAfter : Type 0

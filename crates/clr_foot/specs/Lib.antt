@@ -9,6 +9,7 @@ pub mod Laws
 pub mod Members
 pub mod Needs
 pub mod Orders
+pub mod Parts
 pub mod Picks
 pub mod Positions
 pub mod Renamings

@@ -1,7 +1,9 @@
 //! Laws of covered and uncovered needs, each proved by a function that does nothing.
 
-ghost use Rattle.clr_foot.specs.Laws.{CoveredByName, CoveredByPosition, NamesByPosition, UncoveredByName, UncoveredByPosition};
-ghost use Rattle.clr_foot.specs.Laws.{FirstBrokenAfter, FirstBrokenIsListed};
+ghost use Rattle.clr_foot.specs.Laws.{CoveredByName, CoveredByPosition, UncoveredByName, UncoveredByPosition};
+ghost use Rattle.clr_foot.specs.Laws.{FirstBrokenAfter, FirstBrokenIsListed, SayTheSame};
+ghost use Rattle.clr_foot.specs.Positions.{by_position};
+ghost use Rattle.clr_foot.specs.Settings.{Setting};
 
 /// Where each touched need is covered and every rule holds in the root, every rule holds in the root
 /// with the changes of any of the members over it.
@@ -16,10 +18,11 @@ pub fn uncovered_needs_are_broken()
     ensures by_name { UncoveredByName }
 {}
 
-/// A setting by the positions of its members says the same as by their names: the same versions,
-/// whose lives name the same members, the same needs, and what serves, covers or breaks them.
-pub fn positions_stand_for_names()
-    ensures { NamesByPosition }
+/// A setting by the positions of its members says the same as by their names, whatever names them:
+/// the same versions, whose lives name the same members, the same needs, what serves, covers or
+/// breaks them, what is picked for them, and which members depend on one another.
+pub fn positions_stand_for_names<N>()
+    ensures { (c : Setting N) → SayTheSame c (by_position c) }
 {}
 
 /// The least need that the merge of one change set breaks is the least broken need of the content

@@ -13,6 +13,7 @@ mod laws;
 mod limits;
 mod members;
 mod needs;
+mod parts;
 mod picks;
 mod scene_versions;
 mod scenes;

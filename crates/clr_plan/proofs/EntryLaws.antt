@@ -16,7 +16,7 @@ use Rattle.clr_foot.proofs.Gaining.{read_in}
 use Rattle.clr_foot.proofs.Placing.{PlaceOf, after, before, here, place_of}
 use Rattle.clr_clearance.specs.Plans.{ArePicked, IsFirstUnpicked}
 use Rattle.clr_foot.proofs.VersionOrder.{unread as unread_version}
-use Rattle.clr_clearance.proofs.OrderLemmas.{need_total}
+use Rattle.clr_foot.proofs.NeedOrder.{need_total}
 use Rattle.clr_check.specs.Certificates.{entries_in, witnesses_of}
 
 -- what a read past the end would give

@@ -1,5 +1,6 @@
-use Rattle.std.proofs.Common.{[], ◌∙◌, ◌≤◌, ◌++◌, List, ap, subst, sym, refl}
+use Rattle.std.proofs.Common.{[], ◌∙◌, ◌<◌, ◌≤◌, ◌++◌, List, ap, subst, sym, refl}
 use Rattle.std.specs.FinMap as finite
+use Rattle.std.proofs.lemmas.List.{length-map}
 use Rattle.clr_rows.specs.declared.cells.CellId.{CellId}
 use Rattle.clr_foot.specs.Gains.{Gains}
 use Rattle.clr_foot.specs.Involvement.{IsInvolving}
@@ -23,7 +24,7 @@ loop-rule-preserved g c =
     let refs = scene.members.sets.items in
     let set = c.index.result.now.now in
     let keys = c.as_slice.ensures.value ∙ c.in_ok-add_cells.ensures ∙ ap (λ (qs : List CellId). qs ++ finite.keys set) c.new-cells.ensures.items in
-    one_rule_involved scene.book.now (g.V.RowView.content scene.root.now) (sets_of refs) c.args.position set (set_at refs c.args.position c.index.result.now c.requires.position c.index.ensures) c.loop-rule.rule
+    one_rule_involved scene.book.now (g.V.RowView.content scene.root.now) (sets_of refs) c.args.position set (set_at refs c.args.position c.index.result.now (subst (λ n. c.args.position < n) (length-map refs (λ s. s.now)) c.requires.position) c.index.ensures) c.loop-rule.rule
     c.as_slice.result.now [] _ _ keys c.loop-rule.invariant c.in_ok-add_involved_among.ensures
 
 pub put_in_order-requires : goal.put_in_order-requires
