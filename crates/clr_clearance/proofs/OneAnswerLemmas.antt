@@ -14,7 +14,7 @@ use Rattle.clr_foot.specs.Covers.{Entry}
 use Rattle.clr_foot.specs.Needs.{IsTouched, Lists}
 use Rattle.clr_foot.specs.Picks.{Blocks, HasBoth, IsLeastVersion, IsPick, Picks, ServesAs}
 use Rattle.clr_foot.specs.Settings.{Setting, With, Without, Lived}
-use Rattle.clr_foot.proofs.NeedOrder.{need_exact, version_exact}
+use Rattle.clr_foot.proofs.NeedOrder.{need_exact, need_total, version_exact}
 use Rattle.clr_foot.proofs.VersionOrder.{version_total}
 use Rattle.clr_steps.specs.declared.commands.Command.{Command}
 use Rattle.clr_steps.specs.declared.commands.Reply.{Reply}
@@ -32,7 +32,7 @@ use Rattle.clr_clearance.specs.Runs.{AreQuiet}
 use Rattle.clr_clearance.specs.Sites.{setting_by_position}
 use Rattle.clr_clearance.specs.Verdicts.{first_conflict, member_fault, name_fault}
 use Rattle.clr_clearance.proofs.ClearLemmas.{neither, order}
-use Rattle.clr_clearance.proofs.OrderLemmas.{in_order, need_total}
+use Rattle.clr_clearance.proofs.OrderLemmas.{in_order}
 use Rattle.clr_clearance.proofs.VerdictLemmas.{not_apart, not_both, one_cell, one_some}
 
 -- lists and least versions --------------------------------------------------------------------------------
