@@ -20,7 +20,7 @@ use Rattle.clr_rows.proofs.Entries.{keys-from_sorted}
 use Rattle.clr_rows.proofs.RowLemmas.{tied_cells}
 use Rattle.clr_rows.proofs.SameLemmas.{same_is, same_itself}
 use Rattle.clr_rows.proofs.Tests.{first, second}
-use Rattle.clr_differences.specs.Differences.{Differences, Rows, seen_over, is_own, without_neutral, is_among, is_neutral_over, swept_cell, swept_at, IsOwnOver}
+use Rattle.clr_differences.specs.Differences.{Differences, Rows, differences_from, seen_over, is_own, without_neutral, is_among, is_neutral_over, swept_cell, swept_at, IsOwnOver}
 use Rattle.clr_differences.proofs.DifferenceLemmas.{row-seen_over, neutral_taken}
 
 -- what `retain` leaves, where the test keeps no state and changes no value
@@ -85,25 +85,34 @@ seen-swept below d = same_content _ _ (λ q.
     by a b true e = same_is a b e
     by a b false e = refl
 
-after_sorted : (changed : Changes) → T (is_sorted cell_cmp (rows_after changed))
+pub after_sorted : (changed : Changes) → T (is_sorted cell_cmp (rows_after changed))
 after_sorted changed = sorted-map after_of (finite.entries changed) (finite.entries_sorted changed)
+
+-- the entries of what a content differs in are the rows after the changes
+pub entries-differences : (below content : Content) → finite.entries (differences_from below content) ≡ rows_after (changes below content)
+entries-differences below content = finite.entries-from_sorted cell_cmp (rows_after (changes below content)) (after_sorted (changes below content))
 
 cells_after : (es : List (CellId × Change)) → length (map (λ (e : CellId × Option Row). e.0) (map (λ (e : CellId × Change). (e.0, e.1.after)) es)) ≡ length (map (λ (e : CellId × Change). e.0) es)
 cells_after [] = refl
 cells_after (e ∷ es) = ap suc (cells_after es)
 
-pub count-swept : (below : Content) (d : Differences) → length (finite.keys (without_neutral below d)) ≡ length (finite.keys (changes below (seen_over below d)))
-count-swept below d =
+-- without neutral entries, differences are what the content that is seen differs in
+pub swept-differences : (below : Content) (d : Differences) → differences_from below (seen_over below d) ≡ without_neutral below d
+swept-differences below d =
     let changed = changes below (seen_over below d) in
-    let alike : finite.from_sorted (rows_after changed) ≡ without_neutral below d = finite.same_map cell_cmp_total cell_cmp_exact _ _ (λ q.
+    finite.same_map cell_cmp_total cell_cmp_exact _ _ (λ q.
     finite.get-from_sorted cell_cmp _ q (after_sorted changed) ∙ find-map after_of (finite.entries changed) q ∙ ap (option_map after_of) (sym (finite.get-entries changed q) ∙ get-changes below (seen_over below d) q)
-    ∙ by q (is_changed below (seen_over below d) q) ∙ sym (get-swept below d q)) in
-    sym (ap length (keys-from_sorted (rows_after changed) (without_neutral below d) (after_sorted changed) alike)) ∙ cells_after (finite.entries changed) ∙ keys_are changed
+    ∙ by q (is_changed below (seen_over below d) q) ∙ sym (get-swept below d q))
   where
     by : (q : CellId) (b : Bool) → option_map after_of (cond b (Some (change_of below (seen_over below d) q)) None) ≡ cond b (Some (row_at (seen_over below d) q)) None
     by q true = refl
     by q false = refl
 
+pub count-swept : (below : Content) (d : Differences) → length (finite.keys (without_neutral below d)) ≡ length (finite.keys (changes below (seen_over below d)))
+count-swept below d =
+    let changed = changes below (seen_over below d) in
+    sym (ap length (keys-from_sorted (rows_after changed) (without_neutral below d) (after_sorted changed) (swept-differences below d))) ∙ cells_after (finite.entries changed) ∙ keys_are changed
+  where
     keys_are : (changed : Changes) → length (map (λ (e : CellId × Change). e.0) (finite.entries changed)) ≡ length (finite.keys changed)
     keys_are changed = refl
 
@@ -196,3 +205,7 @@ swept_own below d own = finite.same_map cell_cmp_total cell_cmp_exact _ _ (λ q.
     by : (q : CellId) (o : Option (Option Row)) → IsOwnOver (row_at below q) o → cond (not (same (row_at below q) (unwrap_or o (row_at below q)))) (Some (unwrap_or o (row_at below q))) None ≡ o
     by q None e = ap (λ b. cond (not b) (Some (row_at below q)) None) (same_itself (row_at below q))
     by q (Some row) e = ap (λ b. cond (not b) (Some row) None) e
+
+-- the law of differences without neutral entries: they are what the content that is seen differs in
+pub own_differences : (below : Content) (d : Differences) → ((q : CellId) → IsOwnOver (row_at below q) (finite.get d q)) → d ≡ differences_from below (seen_over below d)
+own_differences below d own = sym (swept_own below d own) ∙ sym (swept-differences below d)

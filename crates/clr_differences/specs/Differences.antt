@@ -6,7 +6,7 @@ use Rattle.std.specs.Ordering.{eq_by_cmp}
 use Rattle.clr_rows.specs.declared.cells.CellId.{CellId}
 use Rattle.clr_rows.specs.declared.rows.Row.{Row}
 use Rattle.clr_rows.specs.Cells.{cell_cmp, coded_cell}
-use Rattle.clr_rows.specs.Contents.{Content, coded_row, row_at, over}
+use Rattle.clr_rows.specs.Contents.{Content, changes, coded_row, row_at, rows_after, over}
 use Rattle.clr_rows.specs.Same.{same}
 
 abbrev pub Differences : Type 0
@@ -35,6 +35,10 @@ IsSound entries = T (finite.is_sorted cell_cmp entries)
 -- the content that is seen where differences lie over another
 unfoldable pub seen_over : Content → Differences → Content
 seen_over below d = over below (finite.entries d)
+
+-- what a content differs in from the one below: at exactly the cells where they differ
+abbrev pub differences_from : Content → Content → Differences
+differences_from below content = differences_of (rows_after (changes below content))
 
 -- an entry that hasn't the row of the content below
 abbrev pub is_own : Content → CellId × Option Row → Bool

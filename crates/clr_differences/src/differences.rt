@@ -1,7 +1,10 @@
-ghost use Rattle.std.specs.Prelude.{◌≡◌, ◌<◌, ◌^◌, ◌∷◌, [], false, length, IfOk, OnOk, OnErr, IsOk};
+ghost use Rattle.std.specs.Prelude.{◌≡◌, ◌<◌, ◌^◌, ◌∷◌, [], false, length, Option, IfOk, OnOk, OnErr, IsOk};
 ghost use Rattle.std.specs.FinMap as finite;
+ghost use Rattle.std.specs.Map.Iter.{ShowsInOrder, deref_pair};
 ghost use Rattle.std.specs.Option.{option_copied};
 ghost use Rattle.clr_rows.specs.Contents.{Content, row_at};
+ghost use Rattle.clr_rows.specs.declared.cells.CellId.{CellId as Cell};
+ghost use Rattle.clr_rows.specs.declared.rows.Row.{Row as OneRow};
 ghost use Rattle.clr_rows.specs.Same.{same};
 ghost use Rattle.clr_differences.specs.Differences.{no_differences, put_each, seen_over, without_neutral, swept_at, swept_cell, cells_in};
 ghost use Rattle.clr_differences.specs.Differences.{is_among, is_neutral_over, HasEntry, HasEntries};
@@ -10,6 +13,7 @@ use clr_change::{are_same, copy_row};
 use clr_rows::{CellId, Row, RowView};
 use std::alloc::{AllocError, Global};
 use std::collections::BTreeMap;
+use std::collections::btree_map::Iter;
 use std::marker::Model;
 
 /// Differences from a content: at some cells a row, or none.
@@ -62,6 +66,14 @@ impl Differences {
         ensures small { result < 2 ^ 63 }
     {
         self.rows.len()
+    }
+
+    /// The entries, in the order of cells, without a copy.
+    pub fn iter(&self) -> Iter<'_, CellId, Option<Row>>
+        ensures rest { result ≡ finite.entries self.now }
+        ensures runs { ShowsInOrder (deref_pair {K = Cell} {X = Option OneRow}) }
+    {
+        self.rows.iter()
     }
 
     /// Takes away each entry with the row of the content below, so that what is seen stays. It

@@ -1,3 +1,4 @@
+pub mod Differing
 pub mod Entries
 pub mod Layers
 pub mod Marks

@@ -1,10 +1,12 @@
 //! What is stored of the workspaces of a tree: a map of layers by name, in order of creation.
 #![tactic(auto)]
 
+mod layer_views;
 mod stored_marks;
 mod stored_parts;
 mod workspace_maps;
 
+pub use layer_views::LayerView;
 pub use stored_marks::{
     StoredMark, count_marks_of, count_saved, find_saved, has_child_after, sweep_each, sweep_each_at,
 };

@@ -10,6 +10,7 @@ ghost use Rattle.clr_layers.specs.Layers.{stored_without_mark_of, EachMarkPins, 
 ghost use Rattle.clr_layers.specs.Entries.{layer_of};
 ghost use Rattle.clr_layers.specs.declared.stored_marks.StoredMark.TheVariants.{Child};
 
+use crate::layer_views::LayerView;
 use crate::stored_marks::{
     StoredMark, cut_after, drop_mark, drop_mark_of, drop_saved, move_last, pin_each, push_mark,
 };
@@ -141,6 +142,15 @@ impl WorkspaceMap {
     {
         let layer = &self.map[at];
         layer.marks.as_slice()
+    }
+
+    /// What is stored of the workspace at a position, not copied.
+    pub fn layer(&self, at: usize) -> LayerView<'_>
+        requires { at < length self.now }
+        ensures { result ≡ layer_at self.now at }
+    {
+        let (name, layer) = self.map.get_index(at).unwrap();
+        LayerView::new(name.as_str(), layer)
     }
 
     /// How many workspaces have this name as that of their parent.

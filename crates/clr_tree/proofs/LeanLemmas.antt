@@ -11,9 +11,10 @@ use Rattle.clr_rows.specs.declared.rows.Row.{Row}
 use Rattle.clr_rows.specs.Cells.{cell_cmp}
 use Rattle.clr_rows.specs.Contents.{Content, no_rows, row_at, set_cell, over, rows_after}
 use Rattle.clr_rows.proofs.ChangeLemmas.{row-set_cell}
-use Rattle.clr_differences.specs.Differences.{Differences, Rows, no_differences, put_each, cells_in, is_among, IsOwnOver}
+use Rattle.clr_differences.specs.Differences.{Differences, Rows, differences_from, no_differences, put_each, cells_in, is_among, IsOwnOver}
 use Rattle.clr_differences.proofs.DifferenceLemmas.{row-seen_over, not_among, put_elsewhere, put_each_elsewhere, taken_elsewhere}
-use Rattle.clr_differences.proofs.SweepLemmas.{swept_own}
+use Rattle.clr_differences.proofs.SweepLemmas.{own_differences, swept_own}
+use Rattle.clr_layers.specs.Differing.{mark_from}
 use Rattle.clr_layers.specs.Marks.{Name, Mark, is_saved, mark_at, saved_content, mark_last, without_mark_of}
 use Rattle.clr_contents.proofs.MarkLemmas.{saved_there}
 use Rattle.clr_layers.proofs.FindLemmas.{find_more}
@@ -33,10 +34,11 @@ use Rattle.clr_tree.proofs.OperationLemmas.{kept_set, mark_removed, mark_pushed,
 use Rattle.clr_tree.proofs.CreateLemmas.{below_parent, below_stays, leaf_made}
 use Rattle.clr_tree.proofs.LeafLemmas.{any_dropped, gone, no_child_whole, parent_removed, opened, closed_at, opened-closed, opened-later, was_at, was_in, read_removed}
 use Rattle.clr_contents.specs.Roots.{IsRooted}
-use Rattle.clr_contents.proofs.ReadLemmas.{within_wholes, within_layers, under_its_parent, marks-wholes, row-base, row-current}
+use Rattle.clr_contents.proofs.ReadLemmas.{within_wholes, within_layers, under_its_parent, current-wholes, kept-wholes, marks-wholes, row-base, row-current}
+use Rattle.clr_contents.proofs.SweepLemmas.{base_is}
 use Rattle.clr_contents.specs.Lean.{IsLeanAt, IsLeanOver, IsLean, IsLeanBut, StayOwnButNear, row_above}
 use Rattle.clr_tree.specs.Moves.{mark_moved, put_into}
-use Rattle.clr_tree.specs.Trees.{needed, needed_of_marks, stored_of_marks}
+use Rattle.clr_tree.specs.Trees.{needed, needed_layer, needed_of_marks, stored_of_marks}
 use Rattle.clr_contents.specs.Lean.{content_above, content_of_parent, swept_marks}
 use Rattle.clr_contents.proofs.LeanLemmas.{base_row, own_none}
 use Rattle.clr_tree.proofs.RootLemmas.{parent_set, rooted_set}
@@ -48,6 +50,12 @@ marks_as_swept : (base : Content) (ms : List StoredMark) → ((q : CellId) → A
 marks_as_swept base [] own = refl
 marks_as_swept base (kinds.Saved name d ∷ ms) own = λ i. kinds.Saved name (swept_own base d (λ q. (own q).0) i) ∷ marks_as_swept base ms (λ q. (own q).1) i
 marks_as_swept base (kinds.Child name ∷ ms) own = ap (λ (ns : List StoredMark). kinds.Child name ∷ ns) (marks_as_swept base ms (λ q. (own q).1))
+
+-- so marks are what their contents differ in from the base
+marks_differing : (base : Content) (ms : List StoredMark) → ((q : CellId) → AreOwnOver (row_at base q) q ms) → ms ≡ map (mark_from base) (map (whole_mark base) ms)
+marks_differing base [] own = refl
+marks_differing base (kinds.Saved name d ∷ ms) own = λ i. kinds.Saved name (own_differences base d (λ q. (own q).0) i) ∷ marks_differing base ms (λ q. (own q).1) i
+marks_differing base (kinds.Child name ∷ ms) own = ap (λ (ns : List StoredMark). kinds.Child name ∷ ns) (marks_differing base ms (λ q. (own q).1))
 
 module _ (live : Content) (ls : List Layer) (k : ℕ) (r : IsRooted (wholes live ls)) (some : 0 < k) (lt : k < length ls) where
   abbrev ws : List Workspace
@@ -77,6 +85,17 @@ module _ (live : Content) (ls : List Layer) (k : ℕ) (r : IsRooted (wholes live
 
     pub lean_saved : stored_of_marks (layer_at ls k) ≡ needed_of_marks (wholes live ls) k
     lean_saved = ap (λ (ms : List StoredMark). map entries_of_mark ms) (sym (marks_as_swept base l.marks saved_own)) ∙ count_saved live ls k r some lt
+
+    -- the law of layers without neutral entries: each is what its whole workspace differs in
+    pub lean_layer : layer_at ls k ≡ needed_layer (wholes live ls) k
+    lean_layer =
+        let name = sym (name-wholes live ls k) in
+        let parent = sym (parent-wholes live ls k) in
+        let from_base = own_differences above l.base (λ q. (lean q).base) ∙ ap (differences_from above) (sym (base_is live ls k r some lt)) in
+        let from_current = own_differences base l.current current_own ∙ ap (differences_from base) (sym (current-wholes live ls k some lt)) in
+        let marks = marks_differing base l.marks saved_own ∙ ap (map (mark_from base)) (sym (marks-wholes live ls k some lt)) in
+        let kept = sym (kept-wholes live ls k some lt) in
+        λ i. record { name = name i; parent = parent i; base = from_base i; current = from_current i; marks = marks i; kept = kept i }
 
 -- what keeps layers so -----------------------------------------------------------------------------
 

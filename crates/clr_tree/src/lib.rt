@@ -13,7 +13,7 @@ mod tree;
 
 pub use clr_change::{ChangeSet, Edit, EditFault, Edits, first_conflict, stage};
 pub use clr_contents::View;
-pub use clr_layers::StoredPart;
+pub use clr_layers::{LayerView, StoredPart};
 pub use limits::{MOST_LEVELS, MOST_SAVEPOINTS, MOST_WORKSPACES};
 pub use parts::{MarkPart, Part, PartFault};
 pub use rebases::{Keep, Rebase};

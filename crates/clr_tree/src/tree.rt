@@ -2,7 +2,7 @@ ghost use Rattle.std.specs.Prelude.{ℕ, ◌≡◌, ◌<◌, ◌↔◌, [], ◌�
 ghost use Rattle.std.specs.Option.{option_copied};
 ghost use Rattle.clr_rows.specs.Contents.{row_at, changes};
 ghost use Rattle.clr_rows.specs.Names.{is_good_name};
-ghost use Rattle.clr_layers.specs.Layers.{wholes};
+ghost use Rattle.clr_layers.specs.Layers.{layer_at, wholes};
 ghost use Rattle.clr_layers.specs.Marks.{find_mark, is_held, is_saved, mark_at, saved_content, saved_count};
 ghost use Rattle.clr_layers.specs.Workspaces.{workspace_at, find, parent_of as position_of_parent, children_of, depth_of, live_workspace};
 ghost use Rattle.clr_tree.specs.Operations.{after_create, after_remove, after_write, after_mark, after_unmark};
@@ -10,7 +10,7 @@ ghost use Rattle.clr_tree.specs.Operations.{after_roll_to, after_roll_all, after
 ghost use Rattle.clr_tree.specs.Parts.{workspace_of, list_of, spaces_of, first_fault, workspaces_fault, IsRefused};
 ghost use Rattle.clr_tree.specs.Soundness.{IsSound};
 ghost use Rattle.clr_tree.specs.declared.rebases.Rebase.TheVariants as rebase;
-ghost use Rattle.clr_tree.specs.Trees.{tree_of, stored_at, saved_at, needed, needed_of_marks};
+ghost use Rattle.clr_tree.specs.Trees.{tree_of, stored_at, saved_at, needed, needed_layer, needed_of_marks};
 
 use crate::builds::push_parts;
 use crate::layered_builds::push_layers;
@@ -27,7 +27,7 @@ use clr_change::ChangeSet;
 use clr_contents::{
     View, base_row_of, base_rows, changes_of, depth_at, row_of, saved_rows, sweep, whole_rows,
 };
-use clr_layers::{StoredPart, WorkspaceMap, count_saved, find_saved, has_child_after};
+use clr_layers::{LayerView, StoredPart, WorkspaceMap, count_saved, find_saved, has_child_after};
 use clr_rows::{CellId, Row, Sheet};
 use std::alloc::{AllocError, Global};
 use std::marker::Model;
@@ -237,6 +237,15 @@ impl Tree {
         self.map.count_entries(at)
     }
 
+    /// What is stored of the workspace at a position, which isn't LIVE, not copied.
+    pub fn layer(&self, at: usize) -> LayerView<'_>
+        requires child { 0 < at }
+        requires within { at < length self.now.list }
+        ensures { result ≡ layer_at self.now.layers at }
+    {
+        self.map.layer(at)
+    }
+
     /// The current content of the workspace at a position, seen by cell.
     pub fn view(&self, at: usize) -> View<'_>
         requires { at < length self.now.list }
@@ -434,9 +443,11 @@ impl Tree {
     /// Takes away every entry of a base, a current content or a savepoint that has the row of what
     /// it lies over, without memory. No content changes. Then a base has an entry at just the cells
     /// at which it isn't as the parent's current content, and a current content and a savepoint at
-    /// just those at which they aren't as the base.
+    /// just those at which they aren't as the base: what is stored of a workspace is exactly what it
+    /// differs in from its parent's current content, and its current content and savepoints from its base.
     pub fn sweep(&mut self)
         ensures contents { self.new.list ≡ self.old.list }
+        ensures layers { (at : ℕ) → 0 < at → at < length self.new.list → layer_at self.new.layers at ≡ needed_layer self.new.list at }
         ensures counts { (at : ℕ) → 0 < at → at < length self.new.list → stored_at self.new.stored at ≡ needed self.new.list at }
         ensures saved { (at : ℕ) → 0 < at → at < length self.new.list → saved_at self.new.saved at ≡ needed_of_marks self.new.list at }
     {
