@@ -26,6 +26,7 @@ use Rattle.clr_steps.proofs.FitLemmas.{fits_content_of}
 use Rattle.clr_engine.specs.Drafts.{IsAdmitted}
 use Rattle.clr_clearance.specs.declared.verdicts.Verdict.{Verdict}
 use Rattle.clr_clearance.specs.declared.verdicts.Verdict.TheVariants as verdict
+use Rattle.clr_clearance.specs.Headline.{Headline, RunsAreCleared}
 use Rattle.clr_clearance.specs.Laws.{StaysFree}
 use Rattle.clr_clearance.specs.Safety.{Safe}
 use Rattle.clr_clearance.specs.Sites.{RootHolds, change_sets, setting_by_position}
@@ -33,6 +34,8 @@ use Rattle.clr_clearance.specs.Verdicts.{IsVerdict, first_conflict, member_fault
 use Rattle.clr_clearance.specs.Verdicts.{of_member as member}
 use Rattle.clr_clearance.proofs.ClearLemmas.{clear_covers}
 use Rattle.clr_foot.specs.Covers.{Entry}
+use Rattle.clr_clearance.proofs.HeadlineLemmas.{headline}
+use Rattle.clr_clearance.proofs.ReplyLemmas.{quiet_run}
 use Rattle.clr_clearance.proofs.RunLemmas.{clear_is_safe}
 use Rattle.clr_check.specs.Answers.{IsAnswer, IsFault, of_member, of_memory, of_verdict, without_memory}
 use Rattle.clr_check.proofs.NameLemmas.{nowhere, shown, unshown}
@@ -176,10 +179,13 @@ module _ (o : Office) (s : Site) where
     clear_verdict v (of_verdict h) e = subst (IsVerdict o s entries) e h
     clear_verdict v (of_memory none f) e = absurd (let both : verdict.OutOfMemory ≡ verdict.Clear = sym f ∙ e in cc)
 
-    pub clear_safe : IsAdmitted o → (v : Verdict) → IsAnswer o s entries v → v ≡ verdict.Clear → StaysFree o s × Safe o s
-    clear_safe admitted v answer e =
+    -- all that a clear answer promises
+    pub clear_promises : IsAdmitted o → (v : Verdict) → IsAnswer o s entries v → v ≡ verdict.Clear → StaysFree o s × Safe o s × Headline o s × RunsAreCleared o s
+    clear_promises admitted v answer e =
         let clear = clear_verdict v answer e in
-        clear_is_safe o s entries clear (root_holds o admitted s (clear_covers o s entries clear).mergeable.kept)
+        let holds = root_holds o admitted s (clear_covers o s entries clear).mergeable.kept in
+        let (free, safe) = clear_is_safe o s entries clear holds in
+        (free, safe, headline o s entries clear holds, quiet_run o s safe)
 
 -- results ------------------------------------------------------------------------------------------------
 

@@ -1,6 +1,7 @@
 //! The check of a certificate in an office.
 
 ghost use Rattle.std.specs.Prelude.{◌≡◌};
+ghost use Rattle.clr_clearance.specs.Headline.{Headline, RunsAreCleared};
 ghost use Rattle.clr_clearance.specs.Laws.{StaysFree};
 ghost use Rattle.clr_clearance.specs.Safety.{Safe};
 ghost use Rattle.clr_clearance.specs.declared.verdicts.Verdict.TheVariants as verdict;
@@ -55,13 +56,17 @@ fn judge_parts(alloc: Global, office: &Office, parts: &SiteParts, entries: &[Ent
 /// The verdict on a certificate in an office: clear, or the first test that fails. `OutOfMemory` may
 /// come in its place where no test of names fails, and only where a growth was refused. Where the
 /// answer is `Clear`, every rule holds in the root with the changes of any of the members over it and
-/// no other member is in conflict with that; and all of it stays so over every list of quiet
-/// commands, in which no merge or refresh of a member is answered by a conflict or a broken rule.
+/// no other member is in conflict with that; and in every list of quiet commands no merge or refresh
+/// of a member is answered by a conflict or a broken rule, every rule holds in the root after each
+/// command, and once the same members are merged, all of them for one, the root has the same rows. So
+/// what `Office::perform_all` answers to quiet commands is a cleared run.
 /// Nothing that the certificate says is taken for true.
 pub fn check(alloc: Global, office: &Office, certificate: &Certificate) -> Verdict
     ensures answer { IsAnswer office.now (site_of certificate.now) (entries_in certificate.now.entries) result }
     ensures free { result ≡ verdict.Clear → StaysFree office.now (site_of certificate.now) }
     ensures safe { result ≡ verdict.Clear → Safe office.now (site_of certificate.now) }
+    ensures headline { result ≡ verdict.Clear → Headline office.now (site_of certificate.now) }
+    ensures runs { result ≡ verdict.Clear → RunsAreCleared office.now (site_of certificate.now) }
     ensures admitted { IsAdmitted office.now }
 {
     match read_site(

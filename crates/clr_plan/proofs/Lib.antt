@@ -1,3 +1,4 @@
 pub mod EntryLaws
 pub mod FaultLaws
+pub mod OnePlanLemmas
 pub mod PromiseLaws

@@ -8,13 +8,15 @@ use Rattle.clr_steps.specs.Offices.{Office, is_kept}
 use Rattle.clr_steps.specs.Quiet.{Site, root_content}
 use Rattle.clr_clearance.specs.declared.verdicts.Verdict.{Verdict}
 use Rattle.clr_clearance.specs.declared.verdicts.Verdict.TheVariants as verdict
+use Rattle.clr_clearance.specs.Headline.{NamesTheSame}
 use Rattle.clr_clearance.specs.PlanLaws.{StaysClear}
 use Rattle.clr_clearance.specs.Plans.{IsBlocked, of_conflict, of_shared, of_unpicked, standing}
 use Rattle.clr_clearance.specs.Safety.{Safe}
 use Rattle.clr_clearance.specs.Sites.{RootHolds}
 use Rattle.clr_clearance.specs.Verdicts.{missing_member, name_fault, repeated_member, stray_member}
 use Rattle.clr_clearance.proofs.ClearLemmas.{clear_law}
-use Rattle.clr_clearance.proofs.LastingLemmas.{lasting}
+use Rattle.clr_clearance.proofs.HeadlineLemmas.{headline}
+use Rattle.clr_clearance.proofs.LastingLemmas.{lasting_reordered}
 use Rattle.clr_clearance.proofs.PlanLemmas as plans
 use Rattle.clr_plan.specs.declared.plans.Plan.{Plan}
 use Rattle.clr_plan.specs.declared.plans.Plan.TheVariants as plan
@@ -51,11 +53,14 @@ unfit_law o s plan.OutOfMemory h v e = absurd (not_found v (sym h ∙ e))
 pub promise_law : (o : Office) (s : Site) (p : Plan) → HoldsWhereKept o → IsPlan o s p → Promises o s p
 promise_law o s (plan.Cleared c) holds h =
     let covers = plans.cleared_plan o s (entries_in c.entries) h.cleared in
+    let clear = (clear_law o s (entries_in c.entries)).1 covers in
+    let root = root_holds o s holds (no_name_fault o s h.cleared.free) in
     record {
       names = h.site;
       covers = covers;
-      clear = (clear_law o s (entries_in c.entries)).1 covers;
-      safe = plans.cleared_safe o s (entries_in c.entries) h.cleared (root_holds o s holds (no_name_fault o s h.cleared.free));
+      clear = clear;
+      safe = plans.cleared_safe o s (entries_in c.entries) h.cleared root;
+      headline = headline o s (entries_in c.entries) clear root;
     }
 promise_law o s (plan.Blocked order cause) holds h =
     let root = root_holds o s holds (named o s order.items cause h) in
@@ -80,5 +85,6 @@ stays o s (plan.Unfit v) clear h found = absurd (not_found v (sym (no_name_fault
 stays o s plan.OutOfMemory clear h found = absurd (false≢true (sym found))
 
 pub lasting_law : (o : Office) (s : Site) (p : Plan) → IsPlan o s p → Lasts o s p
-lasting_law o s p h first site entries commands lost covers holds quiet later stood found =
-    stays o s p (subst (StaysClear o) (sym stood) (subst (λ now. StaysClear now (standing now site)) (sym later) (lasting first site entries commands lost covers holds quiet))) h found
+lasting_law o s p h first site entries commands lost covers holds quiet later same once found =
+    let clear = lasting_reordered first site entries commands lost covers holds quiet in
+    stays o s p (subst (λ now. (other : Site) → NamesTheSame (standing now site) other → repeated_member other ≡ None → StaysClear now other) (sym later) clear s same once) h found

@@ -8,21 +8,23 @@ use Rattle.clr_steps.specs.Quiet.{Site}
 use Rattle.clr_steps.specs.Steps.{run}
 use Rattle.clr_clearance.specs.declared.verdicts.Verdict.{Verdict}
 use Rattle.clr_clearance.specs.declared.verdicts.Verdict.TheVariants as verdict
+use Rattle.clr_clearance.specs.Headline.{Headline, NamesTheSame}
 use Rattle.clr_clearance.specs.Plans.{IsUnfit, is_refused, names_at, standing}
 use Rattle.clr_clearance.specs.Runs.{AreQuiet}
 use Rattle.clr_clearance.specs.Safety.{Safe}
 use Rattle.clr_clearance.specs.Sites.{Covers, RootHolds}
-use Rattle.clr_clearance.specs.Verdicts.{IsVerdict, name_fault}
+use Rattle.clr_clearance.specs.Verdicts.{IsVerdict, name_fault, repeated_member}
 use Rattle.clr_check.specs.Certificates.{entries_in, site_of}
 use Rattle.clr_plan.specs.declared.plans.Plan.{Plan}
 use Rattle.clr_plan.specs.declared.plans.Plan.TheVariants as plan
 
--- the certificate covers the members as they are given, so that the verdict on it is clear; and they are safe
+-- the certificate covers the members as they are given, so that the verdict on it is clear; and they are safe, as the headline says
 pub record IsProof (o : Office) (s : Site) (c : Certificate) : Type 0 where
   pub names : site_of c ≡ s
   pub covers : Covers o s (entries_in c.entries)
   pub clear : IsVerdict o s (entries_in c.entries) verdict.Clear
   pub safe : Safe o s
+  pub headline : Headline o s
 
 -- of the merges of the members in this order, the workspaces kept, one meets a conflict or breaks a rule
 pub record IsRefusal (o : Office) (s : Site) (order : List ℕ) : Type 0 where
@@ -55,13 +57,14 @@ IsExact o s p = name_fault o s ≡ None → is_out_of_memory p ≡ false → (is
 abbrev pub IsUnfitWhere : Office → Site → Plan → Type 0
 IsUnfitWhere o s p = (v : Verdict) → IsUnfit o s v → p ≡ plan.Unfit v
 
--- the members of a covered site that stand after quiet commands are cleared, memory aside
+-- the members of a covered site that stand after quiet commands are cleared, in whichever order they are named, memory aside
 abbrev pub Lasts : Office → Site → Plan → Type 0
 Lasts o s p = (first : Office) (site : Site) (entries : List Entry) (commands : List Command) (lost : ℕ → Bool)
     → Covers first site entries
     → RootHolds first site
     → AreQuiet first site commands lost
     → o ≡ (run first commands lost).office
-    → s ≡ standing o site
+    → NamesTheSame (standing o site) s
+    → repeated_member s ≡ None
     → is_out_of_memory p ≡ false
     → is_cleared p ≡ true

@@ -4,10 +4,12 @@
 
 mod certificates;
 mod faults;
+mod laws;
 mod picked;
 mod planner;
 mod plans;
 mod scene_plans;
 
+pub use laws::plans_of_a_site_are_alike;
 pub use planner::plan;
 pub use plans::Plan;

@@ -40,7 +40,8 @@ fn plan_parts(
 /// safe. `Blocked` comes with an order of members, by position, and the first test that fails: of the
 /// merges in that order, from this office and the workspaces kept, one meets a conflict or breaks a
 /// rule. There is no other answer but `OutOfMemory`, in place of `Cleared` and `Blocked`. What was
-/// cleared stays so for the members that still stand, after every list of quiet commands.
+/// cleared stays so for the members that still stand, in whichever order they are named, after every
+/// list of quiet commands.
 pub fn plan(alloc: Global, office: &Office, root: &str, members: &[&str]) -> Plan
     ensures plan { IsPlan office.now (site root.now (map (λ name. name.now) members.now)) result }
     ensures unfit { IsUnfitWhere office.now (site root.now (map (λ name. name.now) members.now)) result }

@@ -3,7 +3,7 @@ use Rattle.clr_check.specs.Answers.{IsAnswer, IsFault}
 use Rattle.clr_check.specs.Certificates.{entries_in, site_of}
 use Rattle.clr_check.specs.SiteNames.{site}
 use Rattle.clr_check.specs.Sites.{AreParts}
-use Rattle.clr_check.proofs.SiteLemmas.{clear_safe, fault_answers}
+use Rattle.clr_check.proofs.SiteLemmas.{clear_promises, fault_answers}
 use Rattle.clr_check.proofs.checks.check.Goals as goal
 
 pub returns-in-Ok-clause-answer : goal.returns-in-Ok-clause-answer
@@ -19,7 +19,7 @@ returns-in-Ok-clause-free c e =
     let s = site_of c.args.certificate.now in
     let answer = subst (λ es. IsAnswer o s (entries_in es) c.judge_parts.result) c.as_slice.ensures
     (c.judge_parts.ensures s (subst (λ root. AreParts o (site root c.args.certificate.now.members) c.in-Ok.parts) c.as_str.ensures c.in-Ok.ensures.parts)) in
-    (clear_safe o s (entries_in c.args.certificate.now.entries) c.in-Ok.ensures.admitted c.judge_parts.result answer e).0
+    (clear_promises o s (entries_in c.args.certificate.now.entries) c.in-Ok.ensures.admitted c.judge_parts.result answer e).0
 
 pub returns-in-Ok-clause-safe : goal.returns-in-Ok-clause-safe
 returns-in-Ok-clause-safe c e =
@@ -27,24 +27,59 @@ returns-in-Ok-clause-safe c e =
     let s = site_of c.args.certificate.now in
     let answer = subst (λ es. IsAnswer o s (entries_in es) c.judge_parts.result) c.as_slice.ensures
     (c.judge_parts.ensures s (subst (λ root. AreParts o (site root c.args.certificate.now.members) c.in-Ok.parts) c.as_str.ensures c.in-Ok.ensures.parts)) in
-    (clear_safe o s (entries_in c.args.certificate.now.entries) c.in-Ok.ensures.admitted c.judge_parts.result answer e).1
+    (clear_promises o s (entries_in c.args.certificate.now.entries) c.in-Ok.ensures.admitted c.judge_parts.result answer e).1
+
+pub returns-in-Ok-clause-headline : goal.returns-in-Ok-clause-headline
+returns-in-Ok-clause-headline c e =
+    let o = c.args.office.now in
+    let s = site_of c.args.certificate.now in
+    let answer = subst (λ es. IsAnswer o s (entries_in es) c.judge_parts.result) c.as_slice.ensures
+    (c.judge_parts.ensures s (subst (λ root. AreParts o (site root c.args.certificate.now.members) c.in-Ok.parts) c.as_str.ensures c.in-Ok.ensures.parts)) in
+    (clear_promises o s (entries_in c.args.certificate.now.entries) c.in-Ok.ensures.admitted c.judge_parts.result answer e).2
+
+pub returns-in-Ok-clause-runs : goal.returns-in-Ok-clause-runs
+returns-in-Ok-clause-runs c e =
+    let o = c.args.office.now in
+    let s = site_of c.args.certificate.now in
+    let answer = subst (λ es. IsAnswer o s (entries_in es) c.judge_parts.result) c.as_slice.ensures
+    (c.judge_parts.ensures s (subst (λ root. AreParts o (site root c.args.certificate.now.members) c.in-Ok.parts) c.as_str.ensures c.in-Ok.ensures.parts)) in
+    (clear_promises o s (entries_in c.args.certificate.now.entries) c.in-Ok.ensures.admitted c.judge_parts.result answer e).3
 
 pub returns-in-Err-clause-answer : goal.returns-in-Err-clause-answer
 returns-in-Err-clause-answer c =
     let o = c.args.office.now in
     let certificate = c.args.certificate.now in
-    fault_answers o (site_of certificate) (entries_in certificate.entries) c.in-Err.verdict (subst (λ root. IsFault o (site root certificate.members) c.in-Err.verdict) c.as_str.ensures c.in-Err.ensures.fault)
+    let fault = subst (λ root. IsFault o (site root certificate.members) c.in-Err.verdict) c.as_str.ensures c.in-Err.ensures.fault in
+    fault_answers o (site_of certificate) (entries_in certificate.entries) c.in-Err.verdict fault
 
 pub returns-in-Err-clause-free : goal.returns-in-Err-clause-free
 returns-in-Err-clause-free c e =
     let o = c.args.office.now in
     let certificate = c.args.certificate.now in
-    let answer = fault_answers o (site_of certificate) (entries_in certificate.entries) c.in-Err.verdict (subst (λ root. IsFault o (site root certificate.members) c.in-Err.verdict) c.as_str.ensures c.in-Err.ensures.fault) in
-    (clear_safe o (site_of certificate) (entries_in certificate.entries) c.in-Err.ensures.admitted c.in-Err.verdict answer e).0
+    let fault = subst (λ root. IsFault o (site root certificate.members) c.in-Err.verdict) c.as_str.ensures c.in-Err.ensures.fault in
+    let answer = fault_answers o (site_of certificate) (entries_in certificate.entries) c.in-Err.verdict fault in
+    (clear_promises o (site_of certificate) (entries_in certificate.entries) c.in-Err.ensures.admitted c.in-Err.verdict answer e).0
 
 pub returns-in-Err-clause-safe : goal.returns-in-Err-clause-safe
 returns-in-Err-clause-safe c e =
     let o = c.args.office.now in
     let certificate = c.args.certificate.now in
-    let answer = fault_answers o (site_of certificate) (entries_in certificate.entries) c.in-Err.verdict (subst (λ root. IsFault o (site root certificate.members) c.in-Err.verdict) c.as_str.ensures c.in-Err.ensures.fault) in
-    (clear_safe o (site_of certificate) (entries_in certificate.entries) c.in-Err.ensures.admitted c.in-Err.verdict answer e).1
+    let fault = subst (λ root. IsFault o (site root certificate.members) c.in-Err.verdict) c.as_str.ensures c.in-Err.ensures.fault in
+    let answer = fault_answers o (site_of certificate) (entries_in certificate.entries) c.in-Err.verdict fault in
+    (clear_promises o (site_of certificate) (entries_in certificate.entries) c.in-Err.ensures.admitted c.in-Err.verdict answer e).1
+
+pub returns-in-Err-clause-headline : goal.returns-in-Err-clause-headline
+returns-in-Err-clause-headline c e =
+    let o = c.args.office.now in
+    let certificate = c.args.certificate.now in
+    let fault = subst (λ root. IsFault o (site root certificate.members) c.in-Err.verdict) c.as_str.ensures c.in-Err.ensures.fault in
+    let answer = fault_answers o (site_of certificate) (entries_in certificate.entries) c.in-Err.verdict fault in
+    (clear_promises o (site_of certificate) (entries_in certificate.entries) c.in-Err.ensures.admitted c.in-Err.verdict answer e).2
+
+pub returns-in-Err-clause-runs : goal.returns-in-Err-clause-runs
+returns-in-Err-clause-runs c e =
+    let o = c.args.office.now in
+    let certificate = c.args.certificate.now in
+    let fault = subst (λ root. IsFault o (site root certificate.members) c.in-Err.verdict) c.as_str.ensures c.in-Err.ensures.fault in
+    let answer = fault_answers o (site_of certificate) (entries_in certificate.entries) c.in-Err.verdict fault in
+    (clear_promises o (site_of certificate) (entries_in certificate.entries) c.in-Err.ensures.admitted c.in-Err.verdict answer e).3

@@ -1,0 +1,9 @@
+//! A law of plans, proved by a function that does nothing.
+
+ghost use Rattle.clr_plan.specs.OnePlan.{OnePlanLaw};
+
+/// No site has two plans: where memory is found, any two say the same, with one reason, one order
+/// and one cause, or one certificate.
+pub fn plans_of_a_site_are_alike()
+    ensures { OnePlanLaw }
+{}
