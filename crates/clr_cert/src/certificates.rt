@@ -1,4 +1,4 @@
-ghost use Rattle.std.specs.Prelude.{◌≡◌, ◌++◌, ◌∷◌, [], OnOk};
+ghost use Rattle.std.specs.Prelude.{◌≡◌, ◌++◌, ◌∷◌, [], OnOk, OnErr, IfErr};
 
 use clr_foot::{Need, VersionId};
 use clr_rows::{Names, Words};
@@ -51,8 +51,12 @@ impl Entries {
         self.list
     }
 
+    /// Adds an entry behind the others. It fails for want of memory alone, and then it changes
+    /// nothing and gives the entry back.
     pub(crate) fn push(&mut self, entry: Entry) -> Result<(), AllocFailed<Entry>>
-        ensures { OnOk result (self.new ≡ self.old ++ entry ∷ []) }
+        ensures ok { OnOk result (self.new ≡ self.old ++ entry ∷ []) }
+        ensures err { OnErr result (self.new ≡ self.old) }
+        ensures given_back { IfErr result (λ failed. failed.value ≡ entry) }
     {
         self.list.push(entry)
     }

@@ -1,4 +1,4 @@
-ghost use Rattle.std.specs.Prelude.{◌≡◌, IfErr, IfOk, OnOk, map};
+ghost use Rattle.std.specs.Prelude.{◌≡◌, IfErr, IfOk, OnErr, OnOk, map};
 ghost use Rattle.csv.specs.Records.{fields_of};
 ghost use Rattle.clr_cert.specs.Certificates.{certificate_in, certificate_of, nothing_said, with_next};
 ghost use Rattle.clr_cert.specs.Faults.{GivesAt};
@@ -24,10 +24,11 @@ fn empty(alloc: Global) -> Result<Certificate, AllocError>
     })
 }
 
-/// Adds what the next record says.
+/// Adds what the next record says. It fails for want of memory alone, and changes nothing then.
 fn add(certificate: &mut Certificate, item: Item) -> Result<(), CertFault>
     ensures ok { OnOk result (certificate.new ≡ with_next certificate.old item) }
     ensures err { IfErr result (λ e. e ≡ fault.OutOfMemory) }
+    ensures kept { OnErr result (certificate.new ≡ certificate.old) }
 {
     match item {
         Item::Root(name) => certificate.root = name,

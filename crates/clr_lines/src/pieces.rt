@@ -1,22 +1,24 @@
-ghost use Rattle.std.specs.Prelude.{◌≡◌, ◌++◌, decimal, OnOk};
-ghost use Rattle.clr_lines.specs.Pieces.{cell_text, need_text, part_text, second_text, subject_text};
+ghost use Rattle.std.specs.Prelude.{◌≡◌, ◌++◌, decimal, OnOk, OnErr};
+ghost use Rattle.clr_lines.specs.Pieces.{IsBegun, cell_text, need_text, part_text, second_text, subject_text};
 
 use clr_rows::{CellId, Schema};
 use clr_rules::Broken;
 use itoa::Buffer;
 use std::alloc::AllocError;
 
-/// Adds a count in decimal digits. It fails for want of memory alone.
+/// Adds a count in decimal digits. It fails for want of memory alone, and changes nothing then.
 pub fn add_count(line: &mut Vec<u8>, count: usize) -> Result<(), AllocError>
-    ensures { OnOk result (line.new.items ≡ line.old.items ++ decimal count) }
+    ensures ok { OnOk result (line.new.items ≡ line.old.items ++ decimal count) }
+    ensures err { OnErr result (line.new.items ≡ line.old.items) }
 {
     line.extend_from_slice(Buffer::new().format(count).as_bytes())
 }
 
 /// Adds a cell, as `main/20`. The name of a table that the schema hasn't is empty. It fails for want
-/// of memory alone.
+/// of memory alone; then what stood in the line stands there, with a beginning of the cell behind it.
 pub fn add_cell(line: &mut Vec<u8>, schema: &Schema, cell: CellId) -> Result<(), AllocError>
-    ensures { OnOk result (line.new.items ≡ line.old.items ++ cell_text schema.now cell) }
+    ensures ok { OnOk result (line.new.items ≡ line.old.items ++ cell_text schema.now cell) }
+    ensures begun { IsBegun line.old.items (cell_text schema.now cell) line.new.items }
 {
     line.extend_from_slice(schema.name_of_table(cell.table).as_bytes())?;
     line.extend_from_slice(b"/")?;
@@ -24,7 +26,8 @@ pub fn add_cell(line: &mut Vec<u8>, schema: &Schema, cell: CellId) -> Result<(),
 }
 
 fn add_part(line: &mut Vec<u8>, part: u16) -> Result<(), AllocError>
-    ensures { OnOk result (line.new.items ≡ line.old.items ++ part_text part) }
+    ensures ok { OnOk result (line.new.items ≡ line.old.items ++ part_text part) }
+    ensures begun { IsBegun line.old.items (part_text part) line.new.items }
 {
     if part <= 1 {
         return Ok(());
@@ -39,7 +42,8 @@ fn add_subject(
     cell: CellId,
     part: u16,
 ) -> Result<(), AllocError>
-    ensures { OnOk result (line.new.items ≡ line.old.items ++ subject_text schema.now cell part) }
+    ensures ok { OnOk result (line.new.items ≡ line.old.items ++ subject_text schema.now cell part) }
+    ensures begun { IsBegun line.old.items (subject_text schema.now cell part) line.new.items }
 {
     add_cell(line, schema, cell)?;
     add_part(line, part)
@@ -51,7 +55,8 @@ fn add_second(
     cell: Option<CellId>,
     part: u16,
 ) -> Result<(), AllocError>
-    ensures { OnOk result (line.new.items ≡ line.old.items ++ second_text schema.now cell part) }
+    ensures ok { OnOk result (line.new.items ≡ line.old.items ++ second_text schema.now cell part) }
+    ensures begun { IsBegun line.old.items (second_text schema.now cell part) line.new.items }
 {
     match cell {
         Some(cell) => {
@@ -64,9 +69,10 @@ fn add_second(
 
 /// Adds a need that no row serves, as `rule 1 main/20/3 main/21`: the number of the rule and the
 /// cells of its subjects, each with its part where that is above 1. It fails for want of memory
-/// alone.
+/// alone; then what stood in the line stands there, with a beginning of the need behind it.
 pub fn add_need(line: &mut Vec<u8>, schema: &Schema, need: &Broken) -> Result<(), AllocError>
-    ensures { OnOk result (line.new.items ≡ line.old.items ++ need_text schema.now need.now) }
+    ensures ok { OnOk result (line.new.items ≡ line.old.items ++ need_text schema.now need.now) }
+    ensures begun { IsBegun line.old.items (need_text schema.now need.now) line.new.items }
 {
     line.extend_from_slice(b"rule ")?;
     line.extend_from_slice(Buffer::new().format(need.rule).as_bytes())?;
