@@ -1,0 +1,6 @@
+mod Chains
+mod GroupLaws
+pub mod GroupParts
+mod LabelSteps
+mod LabelledGroups
+mod NotedNeeds
