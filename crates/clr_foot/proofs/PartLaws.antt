@@ -256,7 +256,6 @@ module _ {A B : Type 0} (c : Setting B) (d : Setting A) (stands : A → B → Ty
         → (y : B) × stands x y × Involves c n subjects.first subjects.second y
     involved_up n p q subjects = involves_up d c stands n p q subjects.first subjects.second subjects.in_first subjects.in_second
         (serves_up n p q subjects.first subjects.second subjects.in_first.row (rows_in q subjects.second subjects.in_second))
-
     -- ---- a part with all who depend on its members
 
   abbrev pub IsClosedPart : Type 0

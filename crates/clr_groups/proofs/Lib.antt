@@ -1,5 +1,5 @@
 mod Chains
-mod GroupLaws
+pub mod GroupLaws
 pub mod GroupParts
 mod LabelSteps
 mod LabelledGroups

@@ -1,13 +1,14 @@
 -- Which tests of members can fail with which fault, and the plans that follow.
-use Rattle.std.proofs.Common.{◌≡◌, ℕ, suc, List, [], ◌∷◌, inl, inr, ◌⊎◌, Bool, true, false, cond, Option, Some, None, refl, sym, subst}
+use Rattle.std.proofs.Common.{◌≡◌, ℕ, suc, List, [], ◌∷◌, inl, inr, ◌⊎◌, ◌∙◌, Bool, true, false, cond, Option, Some, None, ap, is_some, refl, sym, subst}
 use Rattle.std.specs.Option.{option_map, option_or}
 use Rattle.clr_rows.specs.declared.cells.CellId.{CellId}
-use Rattle.clr_rows.specs.Contents.{least_and_count}
+use Rattle.clr_rows.specs.declared.rows.Row.{Row}
+use Rattle.clr_rows.specs.Contents.{Changes, least_and_count}
 use Rattle.clr_layers.specs.Marks.{Name}
 use Rattle.clr_foot.specs.declared.faults.SceneFault.TheVariants as scene
 use Rattle.clr_foot.specs.Members.{IsSceneFault}
 use Rattle.clr_foot.specs.Settings.{Setting}
-use Rattle.clr_foot.specs.Members.{AreApart}
+use Rattle.clr_foot.specs.Members.{AreApart, after_of}
 use Rattle.clr_steps.specs.Offices.{Office, is_kept}
 use Rattle.clr_steps.specs.Quiet.{Site}
 use Rattle.clr_steps.specs.Readings.{conflicts_in}
@@ -158,3 +159,11 @@ module _ (o : Office) (s : Site) where
       by (plan.Blocked order cause) h = of_unpicked h.0 none apart h.1 h.2 h.3
       by (plan.Unfit v) h = absurd h
       by plan.OutOfMemory h = absurd h
+
+-- no cell is changed by two in settings that are the same
+pub apart_sets : (sets others : List Changes) (c d : Setting ℕ) → c ≡ d → c.after ≡ after_of sets → d.after ≡ after_of others → AreApart others → AreApart sets
+apart_sets sets others c d same is other_is apart q m n h j =
+    apart q m n (sym (after m) ∙ h) (sym (after n) ∙ j)
+  where
+    after : (k : ℕ) → is_some (after_of sets k q) ≡ is_some (after_of others k q)
+    after k = ap (λ (f : ℕ → CellId → Option (Option Row)). is_some (f k q)) (sym is ∙ ap (λ (s : Setting ℕ). s.after) same ∙ other_is)

@@ -1,3 +1,4 @@
+pub mod GroupNeeds
 pub mod OnePlan
 pub mod Picked
 pub mod Plans

@@ -4,6 +4,9 @@
 
 mod certificates;
 mod faults;
+mod group_needs;
+mod group_picks;
+mod group_scenes;
 mod laws;
 mod picked;
 mod planner;

@@ -1,12 +1,15 @@
 //! The witnesses of the touched needs of a scene.
 
 ghost use Rattle.std.specs.Prelude.{IfOk};
+ghost use Rattle.clr_foot.specs.Members.{AreApart};
 ghost use Rattle.clr_foot.specs.Scenes.{IsReady, model_of, setting_of};
 ghost use Rattle.clr_plan.specs.Picked.{ArePickedFor};
 
+use crate::group_picks::pick_by_group;
 use clr_cert::{Entries, Entry};
 use clr_foot::{Need, Scene};
 use clr_grid::RowFinder;
+use clr_groups::groups;
 use clr_rows::RowView;
 use std::alloc::{AllocError, Global};
 
@@ -17,9 +20,9 @@ pub(crate) enum Picked {
     Unpicked(Need),
 }
 
-/// The touched needs of a scene with the witnesses that are picked for them. It fails for want of
-/// memory alone.
-pub(crate) fn pick_all<V: RowView, F: RowFinder>(
+/// The touched needs of a scene with the witnesses that are picked for them, all in this scene. It
+/// fails for want of memory alone.
+fn pick_in_scene<V: RowView, F: RowFinder>(
     alloc: Global,
     scene: &Scene<'_, V, F>,
 ) -> Result<Picked, AllocError>
@@ -39,4 +42,22 @@ pub(crate) fn pick_all<V: RowView, F: RowFinder>(
         }
     }
     Ok(Picked::Entries(Entries::new(list)))
+}
+
+/// The touched needs of a scene with the witnesses that are picked for them, each in the scene of its
+/// group where there are several groups. It fails for want of memory alone.
+pub(crate) fn pick_all<V: RowView, F: RowFinder>(
+    alloc: Global,
+    scene: &Scene<'_, V, F>,
+) -> Result<Picked, AllocError>
+    requires ready { IsReady F.settled (model_of V.content scene.now) }
+    requires apart { AreApart (model_of V.content scene.now).sets }
+    ensures { IfOk result (ArePickedFor (setting_of (model_of V.content scene.now))) }
+{
+    let groups = groups(alloc, scene)?;
+    if groups.len() > 1 {
+        pick_by_group(alloc, scene, groups.as_slice())
+    } else {
+        pick_in_scene(alloc, scene)
+    }
 }

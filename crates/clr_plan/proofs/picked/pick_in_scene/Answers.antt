@@ -7,7 +7,7 @@ use Rattle.clr_foot.proofs.Gaining.{read_of}
 use Rattle.clr_check.specs.Certificates.{entries_in}
 use Rattle.clr_clearance.specs.Plans.{ArePicked}
 use Rattle.clr_plan.proofs.EntryLaws.{all_entries, first_unpicked, no_entries, one_entry, unread}
-use Rattle.clr_plan.proofs.picked.pick_all.Goals as goal
+use Rattle.clr_plan.proofs.picked.pick_in_scene.Goals as goal
 
 pub loop-need-init : goal.loop-need-init
 loop-need-init g c = no_entries (setting_of (model_of g.V.RowView.content c.args.scene.now)) c.deref-need-items.result.now c.in_ok-list.list.items c.in_ok-list.ensures.items

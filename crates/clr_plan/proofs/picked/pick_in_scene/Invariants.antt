@@ -1,7 +1,7 @@
 use Rattle.std.proofs.Common.{take}
 use Rattle.clr_foot.specs.Scenes.{model_of, setting_of}
 use Rattle.clr_plan.proofs.EntryLaws.{AreEntriesOf}
-use Rattle.clr_plan.proofs.picked.pick_all.Given as goal
+use Rattle.clr_plan.proofs.picked.pick_in_scene.Given as goal
 
 -- the entries of the needs so far
 abbrev pub invariant-loop-need : goal.invariant-loop-need

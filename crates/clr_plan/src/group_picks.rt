@@ -1,0 +1,44 @@
+//! The witnesses of the touched needs of a scene, group by group.
+
+ghost use Rattle.std.specs.Prelude.{map, IfOk};
+ghost use Rattle.clr_foot.specs.Members.{AreApart};
+ghost use Rattle.clr_foot.specs.Scenes.{IsReady, model_of, setting_of};
+ghost use Rattle.clr_groups.specs.Groups.{AreGroups};
+ghost use Rattle.clr_plan.specs.Picked.{ArePickedFor};
+
+use crate::group_needs::group_needs;
+use crate::group_scenes::group_scenes;
+use crate::picked::Picked;
+use clr_cert::{Entries, Entry};
+use clr_foot::Scene;
+use clr_grid::RowFinder;
+use clr_rows::RowView;
+use std::alloc::{AllocError, Global};
+
+/// The touched needs of a scene with the witnesses that are picked for them, each in the scene of the
+/// group in which it is touched. It fails for want of memory alone.
+pub(crate) fn pick_by_group<V: RowView, F: RowFinder>(
+    alloc: Global,
+    scene: &Scene<'_, V, F>,
+    groups: &[Vec<u16>],
+) -> Result<Picked, AllocError>
+    requires ready { IsReady F.settled (model_of V.content scene.now) }
+    requires apart { AreApart (model_of V.content scene.now).sets }
+    requires groups { AreGroups (setting_of (model_of V.content scene.now)) (map (λ g. g.items) groups.now) }
+    ensures { IfOk result (ArePickedFor (setting_of (model_of V.content scene.now))) }
+{
+    let parts = group_scenes(alloc, scene, groups)?;
+    let needs = group_needs(alloc, parts.as_slice())?;
+    let mut list = Vec::with_capacity(alloc, needs.len())?;
+    for touched in &needs {
+        match parts[touched.group].pick(&touched.need)? {
+            None => return Ok(Picked::Unpicked(touched.need)),
+            Some((one, two)) => list.push(Entry {
+                need: touched.need,
+                one,
+                two,
+            })?,
+        }
+    }
+    Ok(Picked::Entries(Entries::new(list)))
+}
