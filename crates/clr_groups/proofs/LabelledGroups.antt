@@ -84,11 +84,11 @@ some_element (x ∷ xs) e = (x, contained x (x ∷ xs) (inl refl))
 -- groups, one label after another ----------------------------------------------------------------
 
 -- where the element at a position of a longer list stands
-data PutAt {X : Type 0} (old : List X) (g : X) (i : ℕ) (h : X) : Type 0 where
+pub data PutAt {X : Type 0} (old : List X) (g : X) (i : ℕ) (h : X) : Type 0 where
   earlier : slice_get old i ≡ Some h → PutAt old g i h
   last : i ≡ length old → h ≡ g → PutAt old g i h
 
-put_at : {X : Type 0} (old : List X) (g : X) (i : ℕ) (h : X) → slice_get (old ++ g ∷ []) i ≡ Some h → PutAt old g i h
+pub put_at : {X : Type 0} (old : List X) (g : X) (i : ℕ) (h : X) → slice_get (old ++ g ∷ []) i ≡ Some h → PutAt old g i h
 put_at [] g zero h e = last refl (cc)
 put_at [] g (suc i) h e = cc
 put_at (x ∷ xs) g zero h e = earlier e

@@ -2,5 +2,5 @@ mod Chains
 pub mod GroupLaws
 pub mod GroupParts
 mod LabelSteps
-mod LabelledGroups
+pub mod LabelledGroups
 mod NotedNeeds

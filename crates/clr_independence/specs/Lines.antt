@@ -1,0 +1,29 @@
+-- The lines of the independence of members.
+use Rattle.std.specs.Prelude.{◌≡◌, ◌++◌, ℕ, Bool, true, false, List, codes}
+use Rattle.std.specs.List.{flat_map}
+use Rattle.clr_rows.specs.declared.tables.TableDef.{TableDef}
+use Rattle.clr_layers.specs.Marks.{Name}
+use Rattle.clr_steps.specs.Offices.{Office}
+use Rattle.clr_steps.specs.Quiet.{Site}
+use Rattle.clr_verdict_lines.specs.Verdicts.{member_name, verdict_text}
+use Rattle.clr_independence.specs.declared.independences.Independence.{Independence}
+use Rattle.clr_independence.specs.declared.independences.Independence.TheVariants as said
+use Rattle.clr_independence.specs.declared.member_pairs.Pair.{Pair}
+use Rattle.clr_independence.specs.Independences.{IsIndependenceOf}
+
+abbrev pub word_of : Bool → List ℕ
+word_of true = codes "independent "
+word_of false = codes "dependent "
+
+-- the line of a pair: the word, and both names
+abbrev pub pair_text : List Name → Pair → List ℕ
+pair_text members p = word_of p.independent ++ member_name members p.first ++ codes " " ++ member_name members p.second ++ codes "\n"
+
+-- the lines of what is said of members of a root
+unfoldable pub independence_text : List TableDef → List Name → Name → Independence → List ℕ
+independence_text tables members root (said.Unfit v) = codes "unfit " ++ verdict_text tables members root v
+independence_text tables members root (said.Pairs pairs) = flat_map (pair_text members) pairs.items
+
+-- the lines of the members of a site in an office
+abbrev pub AreIndependenceLines : Office → Site → List ℕ → Type 0
+AreIndependenceLines o s lines = (value : Independence) × IsIndependenceOf o s value × (lines ≡ independence_text o.schema s.members s.root value)

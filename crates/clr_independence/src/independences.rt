@@ -1,0 +1,101 @@
+//! Which members of a site are independent.
+
+ghost use Rattle.std.specs.Prelude.{◌≡◌, None, map, IfOk};
+ghost use Rattle.clr_foot.specs.Members.{IsSceneFault};
+ghost use Rattle.clr_steps.specs.Offices.{Office};
+ghost use Rattle.clr_steps.specs.Quiet.{Site};
+ghost use Rattle.clr_clearance.specs.Sites.{change_sets};
+ghost use Rattle.clr_clearance.specs.Verdicts.{member_fault};
+ghost use Rattle.clr_check.specs.Answers.{IsFault};
+ghost use Rattle.clr_check.specs.SiteNames.{site};
+ghost use Rattle.clr_check.specs.Sites.{AreParts};
+ghost use Rattle.clr_independence.specs.Independences.{IsIndependenceOf};
+
+use crate::member_pairs::{Pair, pairs};
+use clr_check::{SiteParts, read_site};
+use clr_clearance::Verdict;
+use clr_engine::Office;
+use clr_foot::SceneFault;
+use std::alloc::{AllocError, Global};
+
+/// Which members of a root are independent, or why it can't be said.
+#[derive(Debug, Drop)]
+pub enum Independence {
+    /// The first test of the members that fails: of names, of conflicts with the root, of shared cells.
+    Unfit(Verdict),
+    /// Each pair of members, in the order of the list.
+    Pairs(Vec<Pair>),
+}
+
+/// The answer where a test of members fails. It fails for want of memory alone.
+fn of_fault(fault: Verdict) -> Result<Independence, AllocError>
+    ensures { IfOk result (λ said. (o : Office) (s : Site) → IsFault o s fault → IsIndependenceOf o s said) }
+{
+    match fault {
+        Verdict::OutOfMemory => Err(AllocError),
+        fault => Ok(Independence::Unfit(fault)),
+    }
+}
+
+/// The answer where two members change a cell. It fails for want of memory alone.
+fn of_shared(fault: SceneFault) -> Result<Independence, AllocError>
+    ensures { IfOk result (λ said. (o : Office) (s : Site) → member_fault o s ≡ None → IsSceneFault (change_sets o s) fault
+        → IsIndependenceOf o s said) }
+{
+    match fault {
+        SceneFault::OutOfMemory => Err(AllocError),
+        SceneFault::SharedCell {
+            cell,
+            first,
+            second,
+        } => {
+            let (first, second) = (first as usize, second as usize);
+            Ok(Independence::Unfit(Verdict::SharedCell {
+                cell,
+                first,
+                second,
+            }))
+        }
+    }
+}
+
+/// The answer that the parts of a site give. It fails for want of memory alone.
+fn of_parts(
+    alloc: Global,
+    office: &Office,
+    parts: &SiteParts<'_>,
+    root: &str,
+    members: &[&str],
+) -> Result<Independence, AllocError>
+    requires { AreParts office.now (site root.now (map (λ name. name.now) members.now)) parts.now }
+    ensures { IfOk result (IsIndependenceOf office.now (site root.now (map (λ name. name.now) members.now))) }
+{
+    let _root = root;
+    let _members = members;
+    match parts.scene(alloc, office) {
+        Ok(scene) => {
+            let list = pairs(alloc, &scene)?;
+            Ok(Independence::Pairs(list))
+        }
+        Err(fault) => of_shared(fault),
+    }
+}
+
+/// Which members of a root are independent: of each pair, whether no possible need, touched or not, has
+/// among its subjects and the versions that serve it one that lives with or without the first and one
+/// that lives with or without the second. Where the root isn't kept, a name is wrong, a member is in
+/// conflict or two change one cell: the first test that fails. The needs that involve each member are
+/// listed once. It fails for want of memory alone.
+pub fn independence_of(
+    alloc: Global,
+    office: &Office,
+    root: &str,
+    members: &[&str],
+) -> Result<Independence, AllocError>
+    ensures { IfOk result (IsIndependenceOf office.now (site root.now (map (λ name. name.now) members.now))) }
+{
+    match read_site(alloc, office, root, &members) {
+        Ok(parts) => of_parts(alloc, office, &parts, root, members),
+        Err(fault) => of_fault(fault),
+    }
+}

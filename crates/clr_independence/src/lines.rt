@@ -1,0 +1,91 @@
+//! The lines of the independence of members.
+
+ghost use Rattle.std.specs.Prelude.{◌≡◌, ◌++◌, codes, map, IfOk, OnOk};
+ghost use Rattle.std.specs.List.{flat_map};
+ghost use Rattle.clr_check.specs.SiteNames.{site};
+ghost use Rattle.clr_verdict_lines.specs.Verdicts.{verdict_text};
+ghost use Rattle.clr_independence.specs.Lines.{AreIndependenceLines, independence_text, pair_text};
+
+use crate::independences::{Independence, independence_of};
+use crate::member_pairs::Pair;
+use clr_clearance::Verdict;
+use clr_engine::Office;
+use clr_rows::Schema;
+use clr_verdict_lines::{member_name, verdict_line};
+use std::alloc::{AllocError, Global};
+
+/// Adds the line of a pair. It fails for want of memory alone.
+fn add_pair(lines: &mut Vec<u8>, members: &[&str], pair: Pair) -> Result<(), AllocError>
+    ensures { OnOk result (lines.new.items ≡ lines.old.items ++ pair_text (map (λ name. name.now) members.now) pair) }
+{
+    let word = if pair.independent {
+        "independent "
+    } else {
+        "dependent "
+    };
+    lines.extend_from_slice(word.as_bytes())?;
+    lines.extend_from_slice(member_name(members, pair.first).as_bytes())?;
+    lines.extend_from_slice(b" ")?;
+    lines.extend_from_slice(member_name(members, pair.second).as_bytes())?;
+    lines.extend_from_slice(b"\n")
+}
+
+/// The lines of pairs. It fails for want of memory alone.
+fn pair_lines(alloc: Global, members: &[&str], pairs: &[Pair]) -> Result<Vec<u8>, AllocError>
+    ensures { IfOk result (λ lines. lines.items ≡ flat_map (pair_text (map (λ name. name.now) members.now)) pairs.now) }
+{
+    let mut lines = Vec::new(alloc);
+    for pair in pairs {
+        add_pair(&mut lines, members, *pair)?;
+    }
+    Ok(lines)
+}
+
+/// The line of members that are unfit. It fails for want of memory alone.
+fn unfit_line(
+    alloc: Global,
+    schema: &Schema,
+    members: &[&str],
+    root: &str,
+    verdict: &Verdict,
+) -> Result<Vec<u8>, AllocError>
+    ensures { IfOk result (λ line. line.items ≡ codes "unfit " ++ verdict_text schema.now (map (λ name. name.now) members.now) root.now verdict.now) }
+{
+    let mut line = Vec::from_slice(alloc, b"unfit ")?;
+    let verdict = verdict_line(alloc, schema, members, root, verdict)?;
+    line.extend_from_slice(verdict.as_slice())?;
+    Ok(line)
+}
+
+/// The lines of the independence of members, each ended by `\n`: for each pair `independent` or
+/// `dependent` and both names, or `unfit` and the verdict. It fails for want of memory alone.
+#[tactic(auto, unfolding(crate::specs::Lines::independence_text))]
+pub fn lines_of_independence(
+    alloc: Global,
+    schema: &Schema,
+    members: &[&str],
+    root: &str,
+    said: &Independence,
+) -> Result<Vec<u8>, AllocError>
+    ensures { IfOk result (λ lines. lines.items ≡ independence_text schema.now (map (λ name. name.now) members.now) root.now said.now) }
+{
+    match said {
+        Independence::Unfit(verdict) => unfit_line(alloc, schema, members, root, verdict),
+        Independence::Pairs(pairs) => pair_lines(alloc, members, pairs.as_slice()),
+    }
+}
+
+/// The lines of the independence of members of a root in an office: none without members. It fails for
+/// want of memory alone.
+pub fn independence_lines(
+    alloc: Global,
+    office: &Office,
+    root: &str,
+    members: &[&str],
+) -> Result<Vec<u8>, AllocError>
+    ensures { IfOk result (λ lines. AreIndependenceLines office.now (site root.now (map (λ name. name.now) members.now)) lines.items) }
+{
+    let said = independence_of(alloc, office, root, members)?;
+    let lines = lines_of_independence(alloc, office.schema(), members, root, &said)?;
+    Ok(lines)
+}
