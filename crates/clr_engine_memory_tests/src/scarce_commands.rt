@@ -3,6 +3,7 @@
 
 use clr_engine::{Command, Office, Reply};
 use clr_hoard::Hoard;
+use clr_office_writer::write_office;
 use clr_trials::{
     add_picture, commands_of, first_wrong, needs_no_memory, office_after, refusals, reply_lines,
 };
@@ -27,19 +28,27 @@ fn is_answer(alloc: Global, office: &Office, reply: Reply, answer: &[u8]) -> boo
     }
 }
 
-/// Whether a command is answered rightly, or else with want of memory, and rightly when it is given again; none where it is
-/// answered otherwise.
+/// Whether a reply is want of memory and an office has this text.
+fn is_lost(alloc: Global, office: &Office, reply: Reply, before: &[u8]) -> bool {
+    match write_office(alloc, office) {
+        Ok(text) => reply == Reply::OutOfMemory && text.as_slice() == before,
+        Err(_) => false,
+    }
+}
+
+/// Whether a command is answered rightly, or else with want of memory, the office having the text that it had before, and rightly when
+/// it is given again; none where it is answered otherwise.
 fn is_right(
     alloc: Global,
     office: &mut Office,
     command: &Command,
     reply: Reply,
-    (lost, answer): (&[u8], &[u8]),
+    (before, answer): (&[u8], &[u8]),
 ) -> Option<bool> {
     if is_answer(alloc, office, reply, answer) {
         return Some(true);
     }
-    if !is_answer(alloc, office, reply, lost) {
+    if !is_lost(alloc, office, reply, before) {
         return None;
     }
     let again = office.perform(command);
@@ -74,10 +83,10 @@ fn is_right_in(
     let (asked, answer) = rest.split_once("----\n")?;
     let commands = commands_of(alloc, office, asked)?;
     let command = commands.as_slice().first()?;
-    let lost = answer_of(alloc, office, Reply::OutOfMemory)?;
+    let before = write_office(alloc, office).ok()?;
     let reply = reply_within(hoard, budget, office, command)?;
-    let answers = (lost.as_slice(), answer.as_bytes());
-    is_right(alloc, office, command, reply, answers)
+    let texts = (before.as_slice(), answer.as_bytes());
+    is_right(alloc, office, command, reply, texts)
 }
 
 /// The same in the office of a setting.

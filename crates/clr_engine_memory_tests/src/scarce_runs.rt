@@ -1,138 +1,225 @@
 //! Runs of commands and admissions of drafts while memory is wanting.
 
 use clr_drafts::read_office;
-use clr_engine::{AdmitFault, Command, Draft, Office};
+use clr_engine::{AdmitFault, Command, Draft, Office, Reply};
 use clr_hoard::Hoard;
-use clr_trials::{add_picture, commands_of, is_last, office_after, picture, refusals, reply_lines};
+use clr_office_writer::write_office;
+use clr_trials::{
+    answers_without_lost, commands_of, first_wrong, has_lost, lost_again, office_after, picture,
+    refusals, reply_lines,
+};
 use std::alloc::Global;
 use std::test::Fail;
 
 /// The step from one budget to the next, in bytes.
 const STEP: usize = 16;
 
-/// What commands are answered with so many bytes of memory.
-fn lines_within(
-    alloc: Global,
-    hoard: &mut Hoard,
-    budget: usize,
-    office: &mut Office,
-    commands: &[Command],
-) -> Option<Vec<u8>> {
-    hoard.leave(budget).ok()?;
-    let performed = office.perform_all(commands);
-    hoard.give_back();
-    match performed {
-        Ok(replies) => reply_lines(alloc, office.schema(), replies.as_slice()),
-        Err(_) => Vec::from_slice(alloc, b"no replies\n").ok(),
+/// Whether two offices have the same text; none where no memory is found for the texts.
+fn are_same(alloc: Global, first: &Office, second: &Office) -> Option<bool> {
+    let (text, other) = (
+        write_office(alloc, first).ok()?,
+        write_office(alloc, second).ok()?,
+    );
+    Some(text.as_slice() == other.as_slice())
+}
+
+/// An answer, where two offices have the same text; else none.
+fn if_same(alloc: Global, (first, second): (&Office, &Office), answer: bool) -> Option<bool> {
+    if are_same(alloc, first, second)? {
+        Some(answer)
+    } else {
+        None
     }
 }
 
-/// A setting, the commands of a run, and all that may be answered, without want of memory the last.
-const RUN: (&str, &str, &str) = (
-    "one node\n",
-    "create,W1,LIVE
-apply,W1,1
-insert,node,10,tee,7,7
-merge,W1,remove
-",
-    "no replies
-LIVE rows 1
-node,9,valve,5,5
---
-refused 0 OutOfMemory
-refused 0 OutOfMemory
-refused 0 OutOfMemory
-LIVE rows 1
-node,9,valve,5,5
---
-refused 0 OutOfMemory
-refused 0 OutOfMemory
-refused 1 NoWorkspace
-LIVE rows 1
-node,9,valve,5,5
---
-refused 0 OutOfMemory
-refused 1 NoWorkspace
-refused 0 OutOfMemory
-LIVE rows 1
-node,9,valve,5,5
---
-refused 0 OutOfMemory
-refused 1 NoWorkspace
-refused 1 NoWorkspace
-LIVE rows 1
-node,9,valve,5,5
---
-done
-refused 0 OutOfMemory
-refused 0 OutOfMemory
-LIVE rows 1
-node,9,valve,5,5
-W1 under LIVE
-base rows 1
-node,9,valve,5,5
-now rows 1
-node,9,valve,5,5
---
-done
-refused 0 OutOfMemory
-done
-LIVE rows 1
-node,9,valve,5,5
---
-done
-done
-refused 0 OutOfMemory
-LIVE rows 1
-node,9,valve,5,5
-W1 under LIVE
-base rows 1
-node,9,valve,5,5
-now rows 2
-node,9,valve,5,5
-node,10,tee,7,7
---
-done
-done
-done
-LIVE rows 2
-node,9,valve,5,5
-node,10,tee,7,7
---
-",
-);
+/// Whether no command was lost and the replies have these lines; where some were lost, whether two offices answer them the same when
+/// they are given again, and have the same text then. None where that isn't so.
+fn is_right_at_last(
+    alloc: Global,
+    (office, other): (&mut Office, &mut Office),
+    (commands, replies): (&[Command], &[Reply]),
+    lines: &str,
+) -> Option<bool> {
+    if has_lost(replies) {
+        let again = lost_again(alloc, office, commands, replies)?;
+        let wanted = lost_again(alloc, other, commands, replies)?;
+        if again.as_slice() == wanted.as_slice() {
+            return if_same(alloc, (office, other), false);
+        }
+        return None;
+    }
+    let found = reply_lines(alloc, office.schema(), replies)?;
+    if found.as_slice() == lines.as_bytes() {
+        Some(true)
+    } else {
+        None
+    }
+}
 
-/// Whether the run finds its memory in an office; none where it is answered wrongly.
+/// The same behind a run, where another office answers what wasn't lost the same, and has the same text then.
+fn is_right(
+    alloc: Global,
+    (office, other): (&mut Office, &mut Office),
+    (commands, replies): (&[Command], &[Reply]),
+    lines: &str,
+) -> Option<bool> {
+    if answers_without_lost(other, commands, replies) && are_same(alloc, office, other)? {
+        is_right_at_last(alloc, (office, other), (commands, replies), lines)
+    } else {
+        None
+    }
+}
+
+/// Whether commands for whose replies no memory was found left an office as another one is, and are answered by these lines when they
+/// are given again; it is never true.
+fn is_right_again(
+    alloc: Global,
+    (office, other): (&mut Office, &mut Office),
+    commands: &[Command],
+    lines: &str,
+) -> Option<bool> {
+    if !are_same(alloc, office, other)? {
+        return None;
+    }
+    let replies = office.perform_all(commands).ok()?;
+    let found = reply_lines(alloc, office.schema(), replies.as_slice())?;
+    if found.as_slice() == lines.as_bytes() {
+        Some(false)
+    } else {
+        None
+    }
+}
+
+/// Whether the commands of the first part find their memory in an office, and are answered by the lines of the second; none where they
+/// are answered wrongly. The other office is the same.
 fn is_done_in(
     alloc: Global,
     hoard: &mut Hoard,
     budget: usize,
-    office: &mut Office,
+    (office, other): (&mut Office, &mut Office),
+    rest: &str,
 ) -> Option<bool> {
-    let commands = commands_of(alloc, office, RUN.1)?;
-    let mut found = lines_within(alloc, hoard, budget, office, commands.as_slice())?;
-    add_picture(&mut found, alloc, office)?;
-    is_last(RUN.2, found.as_slice())
-}
-
-/// The same in the office of its setting.
-fn is_done_within(alloc: Global, hoard: &mut Hoard, budget: usize) -> Option<bool> {
-    match office_after(alloc, RUN.0) {
-        Some(mut office) => is_done_in(alloc, hoard, budget, &mut office),
-        None => None,
+    let (asked, lines) = rest.split_once("----\n")?;
+    let commands = commands_of(alloc, office, asked)?;
+    hoard.leave(budget).ok()?;
+    let performed = office.perform_all(commands.as_slice());
+    hoard.give_back();
+    match performed {
+        Ok(replies) => {
+            let given = (commands.as_slice(), replies.as_slice());
+            is_right(alloc, (office, other), given, lines)
+        }
+        Err(_) => is_right_again(alloc, (office, other), commands.as_slice(), lines),
     }
 }
 
-/// How many budgets are too small for the run; none where it is answered wrongly.
-fn lost_runs(alloc: Global, hoard: &mut Hoard) -> Option<usize> {
-    refusals(STEP, |budget| is_done_within(alloc, hoard, budget))
+/// The same in the office of a setting.
+fn is_done_within(
+    alloc: Global,
+    hoard: &mut Hoard,
+    budget: usize,
+    setting: &str,
+    rest: &str,
+) -> Option<bool> {
+    match (office_after(alloc, setting), office_after(alloc, setting)) {
+        (Some(mut office), Some(mut other)) => {
+            is_done_in(alloc, hoard, budget, (&mut office, &mut other), rest)
+        }
+        _ => None,
+    }
 }
+
+/// The position of the first case that isn't so at each budget, or takes no memory.
+fn first_wrong_while_scarce(alloc: Global, hoard: &mut Hoard, cases: &str) -> Option<usize> {
+    first_wrong(cases, |setting, rest| {
+        let refused = refusals(
+            STEP,
+            |budget| is_done_within(alloc, hoard, budget, setting, rest),
+        );
+        refused.unwrap_or(0) > 0
+    })
+}
+
+/// Settings, commands that are given all at once, and the lines of their replies.
+const RUNS: &str = "one node
+----
+create,W1,LIVE
+apply,W1,1
+insert,node,10,tee,7,7
+merge,W1,remove
+----
+done
+done
+done
+====
+crossing
+create,W1,LIVE
+create,W2,LIVE
+apply,W1,1
+insert,main,20,D,100,0,100,10
+apply,W2,1
+insert,main,21,E,200,0,200,10
+----
+merge,W1,keep
+refresh,W2
+merge,W2,keep
+merge,W2,keep
+----
+done
+done
+done
+done
+====
+crossing
+----
+create,W1,LIVE
+mark,W1,s1
+apply,W1,1
+insert,main,20,D,100,0,100,10
+create,W2,W1
+rollto,W1,s1
+merge,W1,remove
+remove,W2
+rollto,W1,s1
+unmark,W1,s1
+unmark,W1,s1
+----
+done
+done
+done
+done
+refused 8 SavepointHeld
+refused 5 NotLeaf
+done
+done
+done
+refused 7 NoSavepoint
+====
+crossing
+----
+create,W1,LIVE
+apply,LIVE,1
+insert,main,20,D,100,0,100,10
+refresh,W1
+apply,W1,1
+delete,main,20
+rollall,W1
+----
+done
+done
+done
+done
+done
+====
+";
 
 #[test]
 fn commands_one_after_another(rt: HostRuntime) -> Result<(), Fail> {
     let mut hoard = Hoard::take(rt.alloc())?;
-    let refused = lost_runs(rt.alloc(), &mut hoard).ok_or("answered wrongly")?;
-    assert!(rt; refused > 0);
+    assert_eq!(rt;
+        first_wrong_while_scarce(rt.alloc(), &mut hoard, RUNS),
+        None
+    );
     Ok(())
 }
 
