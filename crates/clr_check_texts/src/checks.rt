@@ -1,38 +1,56 @@
-ghost use Rattle.std.specs.Prelude.{◌≡◌};
-ghost use Rattle.clr_clearance.specs.declared.verdicts.Verdict.TheVariants as verdict;
-ghost use Rattle.clr_engine.specs.Drafts.{unheld_in};
-ghost use Rattle.clr_cert.specs.Certificates.{certificate_in};
-ghost use Rattle.clr_check_texts.specs.Checks.{IsChecked, IsCleared, case_of, where_held, with_certificate};
-ghost use Rattle.clr_check_texts.specs.declared.checked.Checked.TheVariants as checked;
+ghost use Rattle.std.specs.Prelude.{◌≡◌, Ok, IfOk, IfErr};
+ghost use Rattle.clr_check_texts.specs.Cases.{Case, IsCaseFault, case_of};
+ghost use Rattle.clr_check_texts.specs.Checks.{IsChecked, IsJudged};
 
+use crate::cases::{CaseFault, read_case};
 use crate::checked::Checked;
-use clr_cert::{CertFault, read_certificate};
-use clr_check::check;
-use clr_drafts::{TextFault, read_office};
-use clr_engine::{AdmitFault, Draft, Office};
+use clr_cert::Certificate;
+use clr_check::{Verdict, check};
+use clr_engine::Office;
 use std::alloc::Global;
 
-/// The check of a certificate's text in an office.
-fn check_text(alloc: Global, office: &Office, certificate: &[u8]) -> Checked
-    ensures checked { IsChecked (with_certificate office.now (certificate_in office.now.schema certificate.now)) result }
-    ensures clear { result ≡ checked.Answer verdict.Clear → IsCleared (with_certificate office.now (certificate_in office.now.schema certificate.now)) }
+/// An office and a certificate of it, both read from texts, and the verdict.
+#[derive(Drop)]
+pub struct TextCheck {
+    pub office: Office,
+    pub certificate: Certificate,
+    pub verdict: Verdict,
+}
+
+/// The check of a certificate in an office, both given as texts, with what its line names. It fails as
+/// `read_case` does. The verdict may be want of memory; where it is clear, the members are safe, as
+/// `check` says. Nothing that the certificate says is taken for true.
+pub fn judge_texts(
+    alloc: Global,
+    office: &[u8],
+    certificate: &[u8],
+) -> Result<TextCheck, CaseFault>
+    ensures case { IfOk result (λ check. case_of office.now certificate.now ≡ Ok (check.office, check.certificate)) }
+    ensures verdict { IfOk result (λ check. IsJudged check.office check.certificate check.verdict) }
+    ensures fault { IfErr result (IsCaseFault (case_of office.now certificate.now)) }
 {
-    match read_certificate(alloc, office.schema(), certificate) {
-        Ok(certificate) => Checked::Answer(check(alloc, office, &certificate)),
-        Err((_, CertFault::OutOfMemory)) => Checked::OutOfMemory,
-        Err((number, fault)) => Checked::BadCertificate(number, fault),
+    match read_case(alloc, office, certificate) {
+        Ok((office, certificate)) => {
+            let verdict = check(alloc, &office, &certificate);
+            Ok(TextCheck {
+                office,
+                certificate,
+                verdict,
+            })
+        }
+        Err(fault) => Err(fault),
     }
 }
 
-/// The check of a certificate's text in a draft, whose rules may not hold.
-fn check_in_draft(alloc: Global, draft: Draft, certificate: &[u8]) -> Checked
-    ensures checked { IsChecked (where_held draft certificate.now (unheld_in draft)) result }
-    ensures clear { result ≡ checked.Answer verdict.Clear → IsCleared (where_held draft certificate.now (unheld_in draft)) }
+/// What is said where two texts don't give an office with a certificate.
+fn said_of(fault: CaseFault) -> Checked
+    ensures { (given : Case) → IsCaseFault given fault → IsChecked given result }
 {
-    match draft.admit() {
-        Ok(office) => check_text(alloc, &office, certificate),
-        Err((_, AdmitFault::Broken { position, need })) => Checked::Unheld { position, need },
-        Err((_, AdmitFault::OutOfMemory)) => Checked::OutOfMemory,
+    match fault {
+        CaseFault::BadOffice(fault) => Checked::BadOffice(fault),
+        CaseFault::Unheld { position, need, .. } => Checked::Unheld { position, need },
+        CaseFault::BadCertificate(number, fault) => Checked::BadCertificate(number, fault),
+        CaseFault::OutOfMemory => Checked::OutOfMemory,
     }
 }
 
@@ -43,14 +61,11 @@ fn check_in_draft(alloc: Global, draft: Draft, certificate: &[u8]) -> Checked
 /// the changes of any of the members over it and no other member is in conflict with that; and all of
 /// it stays so over every list of quiet commands, in which no merge or refresh of a member is answered
 /// by a conflict or a broken rule. Nothing that the certificate says is taken for true.
-#[tactic(auto, unfolding(crate::specs::Checks::case_of))]
 pub fn check_texts(alloc: Global, office: &[u8], certificate: &[u8]) -> Checked
-    ensures checked { IsChecked (case_of office.now certificate.now) result }
-    ensures clear { result ≡ checked.Answer verdict.Clear → IsCleared (case_of office.now certificate.now) }
+    ensures { IsChecked (case_of office.now certificate.now) result }
 {
-    match read_office(alloc, office) {
-        Ok(draft) => check_in_draft(alloc, draft, certificate),
-        Err(TextFault::OutOfMemory) => Checked::OutOfMemory,
-        Err(fault) => Checked::BadOffice(fault),
+    match judge_texts(alloc, office, certificate) {
+        Ok(check) => Checked::Answer(check.verdict),
+        Err(fault) => said_of(fault),
     }
 }

@@ -15,7 +15,7 @@ use Rattle.clap.specs.Takes.{is_given}
 use Rattle.clap.specs.Faults.{check_fault, defaults_fault, entered_fault, fault_of, is_simple_and_free, level_fault, other_fault, settle_fault, step_fault, turn_fault, walk_fault, word_fault}
 use Rattle.clap.specs.declared.error.kind.ErrorKind.TheVariants as kind
 use Rattle.clap.proofs.OnLiterals.{clap_on_literals}
-use Rattle.clr_command_line.specs.Requests.{request_of, request_by_name}
+use Rattle.clr_command_line.specs.Asks.{ask_of, ask_by_name}
 use Rattle.clr_command_line.specs.Program.{program}
 
 -- the walk doesn't stop at `help` --------------------------------------------------------------------
@@ -121,7 +121,7 @@ has_one s rows has e f =
 
 -- something is asked by a subcommand, or it is `help`
 abbrev IsKnown : Shape → Type 0
-IsKnown s = (s.aliases ≡ []) × (((rows : List Row) → is_some (request_by_name s.name rows) ≡ true) ⊎ (s.name ≡ codes "help"))
+IsKnown s = (s.aliases ≡ []) × (((rows : List Row) → is_some (ask_by_name s.name rows) ≡ true) ⊎ (s.name ≡ codes "help"))
 
 or_false : (b : Bool) → (b || false) ≡ true → b ≡ true
 or_false true e = refl
@@ -136,27 +136,27 @@ abbrev met : List Shape → Text → List Text → Option (Text × List Row)
 met subs name rest = option_map (λ s. rows_at s rest) (find (λ s. answers_to name (label_of s)) subs)
 
 asks : (subs : List Shape) (name : Text) (rest : List Text) → AllByRecursion IsKnown subs → bytes_eq name (codes "help") ≡ false → is_some (met subs name rest) ≡ true
-    → is_some (request_of (met subs name rest)) ≡ true
+    → is_some (ask_of (met subs name rest)) ≡ true
 asks [] name rest known off e = absurd cc
 asks (s ∷ subs) name rest known off e = go (answers_to name (label_of s)) refl (λ some. asks subs name rest known.1 off some) e
   where
-    here : answers_to name (label_of s) ≡ true → ((rows : List Row) → is_some (request_by_name s.name rows) ≡ true) ⊎ (s.name ≡ codes "help") → is_some (request_by_name s.name (rows_at s rest).1) ≡ true
+    here : answers_to name (label_of s) ≡ true → ((rows : List Row) → is_some (ask_by_name s.name rows) ≡ true) ⊎ (s.name ≡ codes "help") → is_some (ask_by_name s.name (rows_at s rest).1) ≡ true
     here is (inl each) = each (rows_at s rest).1
     here is (inr help) =
         let same : name ≡ codes "help" = sym (name_met s.name name s.aliases known.0.0 is) ∙ help in
         let no : true ≡ false = rw same at off in
         absurd cc
 
-    go : (b : Bool) → answers_to name (label_of s) ≡ b → (is_some (met subs name rest) ≡ true → is_some (request_of (met subs name rest)) ≡ true) → is_some (option_map (λ s. rows_at s rest) (cond b (Some s) (find (λ s. answers_to name (label_of s)) subs))) ≡ true
-        → is_some (request_of (option_map (λ s. rows_at s rest) (cond b (Some s) (find (λ s. answers_to name (label_of s)) subs)))) ≡ true
+    go : (b : Bool) → answers_to name (label_of s) ≡ b → (is_some (met subs name rest) ≡ true → is_some (ask_of (met subs name rest)) ≡ true) → is_some (option_map (λ s. rows_at s rest) (cond b (Some s) (find (λ s. answers_to name (label_of s)) subs))) ≡ true
+        → is_some (ask_of (option_map (λ s. rows_at s rest) (cond b (Some s) (find (λ s. answers_to name (label_of s)) subs)))) ≡ true
     go true is later some = here is known.0.1
     go false is later some = later some
 
 all_known : AllByRecursion IsKnown (built program).subs
-unfolding request_by_name clap_on_literals
+unfolding ask_by_name clap_on_literals
 all_known = ((refl, inl (λ rows. refl)), ((refl, inl (λ rows. refl)), ((refl, inl (λ rows. refl)), ((refl, inl (λ rows. refl)), ((refl, inl (λ rows. refl)), ((refl, inl (λ rows. refl)), ((refl, inr refl), tt)))))))
 
-stop_asks : (stop : Option (Text × List Text)) → IsNoHelp stop → is_some (entered (built program) stop) ≡ true → is_some (request_of (entered (built program) stop)) ≡ true
+stop_asks : (stop : Option (Text × List Text)) → IsNoHelp stop → is_some (entered (built program) stop) ≡ true → is_some (ask_of (entered (built program) stop)) ≡ true
 stop_asks None off e = absurd cc
 stop_asks (Some p) off e = asks (built program).subs p.0 p.1 all_known off e
 
@@ -187,7 +187,7 @@ level_empty s names h words has below e =
     (check_fault s (finished s.rules end) has) e
 
 -- where the words have no fault, something is asked
-pub asks_something : (words : List Text) → fault_of program words ≡ [] → is_some (request_of (subcommand_of program words)) ≡ true
+pub asks_something : (words : List Text) → fault_of program words ≡ [] → is_some (ask_of (subcommand_of program words)) ≡ true
 asks_something words e =
     let a = built program in
     let given = argument_words program words in

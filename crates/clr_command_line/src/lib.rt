@@ -1,9 +1,9 @@
 //! What the words of a command line ask for.
 #![tactic(auto)]
 
+mod asks;
 mod command;
 mod reading;
-mod requests;
 
-pub use reading::request_of;
-pub use requests::{Request, RequestFault};
+pub use asks::{Ask, AskFault};
+pub use reading::ask_of;

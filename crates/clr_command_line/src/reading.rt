@@ -1,11 +1,11 @@
 ghost use Rattle.std.specs.Prelude.{◌≡◌, Some, IfOk, IfErr, codes, is_some, map, true};
 ghost use Rattle.clap.specs.Words.{found_of, kind_of, rows_of, subcommand_of, takes};
-ghost use Rattle.clr_command_line.specs.Requests.{IsMemory, request_of, request_by_name, database_and, database_of, names_of, value_of};
-ghost use Rattle.clr_command_line.specs.declared.requests.Request.TheVariants.{PlanUnder};
+ghost use Rattle.clr_command_line.specs.Asks.{IsMemory, ask_of, ask_by_name, database_and, database_of, names_of, value_of};
+ghost use Rattle.clr_command_line.specs.declared.asks.Ask.TheVariants.{PlanUnder};
 ghost use Rattle.clr_command_line.specs.Program.{program};
 
+use crate::asks::{Ask, AskFault};
 use crate::command::whole_command;
-use crate::requests::{Request, RequestFault};
 use clap::ArgMatches;
 use clap::error::ErrorKind;
 use clr_rows::{Names, Words};
@@ -61,36 +61,33 @@ fn database_with(alloc: Global, matches: &ArgMatches, id: &str) -> Result<Vec<Wo
 }
 
 /// What `planunder` asks for.
-fn plan_under(alloc: Global, matches: &ArgMatches) -> Result<Request, AllocError>
-    ensures { IfOk result (λ request. request
+fn plan_under(alloc: Global, matches: &ArgMatches) -> Result<Ask, AllocError>
+    ensures { IfOk result (λ ask. ask
         ≡ PlanUnder (value_of (codes "ROOT") (rows_of (found_of matches.now))) (names_of (rows_of (found_of matches.now)))) }
 {
     let root = value(alloc, matches, "ROOT")?;
     let names = names(alloc, matches)?;
-    Ok(Request::PlanUnder(root, names))
+    Ok(Ask::PlanUnder(root, names))
 }
 
 /// What a subcommand asks for, and its files.
-#[tactic(auto, unfolding(crate::specs::Requests::request_by_name))]
-fn request(
+#[tactic(auto, unfolding(crate::specs::Asks::ask_by_name))]
+fn ask_of_subcommand(
     alloc: Global,
     name: &str,
     matches: &ArgMatches,
-) -> Result<(Request, Vec<Words>), AllocError>
-    requires { is_some (request_by_name name.now (rows_of (found_of matches.now))) ≡ true }
-    ensures { IfOk result (λ r. request_by_name name.now (rows_of (found_of matches.now)) ≡ Some (r.0, r.1.items)) }
+) -> Result<(Ask, Vec<Words>), AllocError>
+    requires { is_some (ask_by_name name.now (rows_of (found_of matches.now))) ≡ true }
+    ensures { IfOk result (λ r. ask_by_name name.now (rows_of (found_of matches.now)) ≡ Some (r.0, r.1.items)) }
 {
     let found = match name {
-        "audit" => (Request::Audit, database(alloc, matches)?),
-        "run" => (Request::Run, database_with(alloc, matches, "SCRIPT")?),
-        "plan" => (
-            Request::Plan(names(alloc, matches)?),
-            database(alloc, matches)?,
-        ),
+        "audit" => (Ask::Audit, database(alloc, matches)?),
+        "run" => (Ask::Run, database_with(alloc, matches, "SCRIPT")?),
+        "plan" => (Ask::Plan(names(alloc, matches)?), database(alloc, matches)?),
         "planunder" => (plan_under(alloc, matches)?, database(alloc, matches)?),
-        "check" => (Request::Check, database_with(alloc, matches, "CERT")?),
+        "check" => (Ask::Check, database_with(alloc, matches, "CERT")?),
         "merge" => (
-            Request::Merge(names(alloc, matches)?),
+            Ask::Merge(names(alloc, matches)?),
             database_with(alloc, matches, "CERT")?,
         ),
         _ => unreachable!(),
@@ -98,13 +95,13 @@ fn request(
     Ok(found)
 }
 
-fn request_fault(error: clap::Error) -> RequestFault
+fn ask_fault(error: clap::Error) -> AskFault
     ensures { kind_of error ≡ ErrorKind.OutOfMemory → IsMemory result }
 {
     if error.kind() == ErrorKind::OutOfMemory {
-        RequestFault::OutOfMemory
+        AskFault::OutOfMemory
     } else {
-        RequestFault::Refused(error)
+        AskFault::Refused(error)
     }
 }
 
@@ -117,20 +114,17 @@ fn request_fault(error: clap::Error) -> RequestFault
 /// Fails with `Refused` where the words name no subcommand or another count of values than it has,
 /// or ask for help, as `help`, `--help` and `-h`, or for the version, as `--version` and `-V`; and
 /// with `OutOfMemory` for want of memory, which may come in place of any other answer.
-pub fn request_of<'a>(
-    alloc: Global,
-    words: &'a [&'a str],
-) -> Result<(Request, Vec<Words>), RequestFault>
-    ensures asks { IfOk result (λ r. request_of (subcommand_of program (map (λ s. s.now) words.entry.now)) ≡ Some (r.0, r.1.items)) }
+pub fn ask_of<'a>(alloc: Global, words: &'a [&'a str]) -> Result<(Ask, Vec<Words>), AskFault>
+    ensures asks { IfOk result (λ r. ask_of (subcommand_of program (map (λ s. s.now) words.entry.now)) ≡ Some (r.0, r.1.items)) }
     ensures takes { takes program (map (λ s. s.now) words.entry.now) ≡ true → IfErr result IsMemory }
 {
     let command = whole_command(alloc)?;
     let matches = match command.try_get_matches_from(words) {
         Ok(matches) => matches,
-        Err(error) => return Err(request_fault(error)),
+        Err(error) => return Err(ask_fault(error)),
     };
     let Some((name, values)) = matches.subcommand() else {
         unreachable!();
     };
-    Ok(request(alloc, name, values)?)
+    Ok(ask_of_subcommand(alloc, name, values)?)
 }

@@ -1,7 +1,6 @@
-pub mod CertificateTexts
+pub mod CaseTexts
 pub mod Lines
 pub mod Prints
 pub mod ReplyLines
 pub mod ScriptOutcomes
 pub mod Sessions
-pub mod WorkspaceLines

@@ -21,7 +21,7 @@ module _ (P Q : Printed → Type 0) (leads : (print : Printed) → P print → Q
 
   -- what is made for one print is made for another to which it leads
   pub weaker_made : (answer : Result Output RunFault) → IsMade P answer → IsMade Q answer
-  weaker_made (Ok output) h = λ found. leads _ (h found)
+  weaker_made (Ok output) h = leads _ h
   weaker_made (Err e) h = weaker_fault e h
 
 module _ (P : Office → Printed → Type 0) (meant : Result Office TextFault) (o : Office) (is : meant ≡ Ok o) (held : unheld_in o ≡ None) where

@@ -1,5 +1,5 @@
--- What the program prints for a request of one or two texts.
-use Rattle.std.specs.Prelude.{◌≡◌, ◌≢◌, ℕ, Bool, true, false, ◌||◌, List, Option, Result, Ok, Err, length, nat_lt}
+-- What the program prints for what is asked of one or two texts.
+use Rattle.std.specs.Prelude.{◌≡◌, ℕ, Bool, true, false, ◌||◌, List, Option, Result, Ok, Err, length, nat_lt}
 use Rattle.std.specs.Io.KnownBytes.{Appends}
 use Rattle.clr_rows.specs.Names.{live_name}
 use Rattle.clr_rules.specs.Needs.{broken_needs}
@@ -7,10 +7,11 @@ use Rattle.clr_steps.specs.Offices.{Office}
 use Rattle.clr_steps.specs.Quiet.{Site}
 use Rattle.clr_check.specs.SiteNames.{site}
 use Rattle.clr_lines.specs.Reports.{audit_text}
+use Rattle.clr_check_texts.specs.Cases.{case_of}
 use Rattle.clr_drafts.specs.Drafts.{draft_in}
 use Rattle.clr_office_text.specs.declared.faults.TextFault.{TextFault}
-use Rattle.clr_command_line.specs.declared.requests.Request.{Request}
-use Rattle.clr_command_line.specs.declared.requests.Request.TheVariants as request
+use Rattle.clr_command_line.specs.declared.asks.Ask.{Ask}
+use Rattle.clr_command_line.specs.declared.asks.Ask.TheVariants as ask
 use Rattle.clr_office.specs.Outcomes.{IsPlanOutcome}
 use Rattle.clr_office.specs.Printing.{Printed, print_of, IsPrintIn, IsPrintOf, IsScriptPrint, IsTextFault}
 use Rattle.clr_office.specs.Clearances.{IsCheckPrint, IsMergePrint}
@@ -20,7 +21,7 @@ use Rattle.clr_office.specs.declared.reading.TheConstants.{MOST_INPUT_BYTES}
 
 -- the needs of LIVE that no row serves, and whether there are any, also where a rule doesn't hold
 abbrev pub audit_print : Office → Printed
-audit_print o = let needs = broken_needs o.book o.live in print_of (audit_text o.schema needs) (nat_lt 0 (length needs))
+audit_print o = let needs = broken_needs o.book o.live in print_of (audit_text o.schema needs) (nat_lt 0 (length needs)) false
 
 unfoldable pub audit_of : Result Office TextFault → Printed
 audit_of (Err fault) = Err (run_fault.BadOffice fault)
@@ -29,33 +30,33 @@ audit_of (Ok o) = audit_print o
 abbrev pub IsPlanPrint : Site → Office → Printed → Type 0
 IsPlanPrint s o print = IsPrintOf (IsPlanOutcome o s) print
 
--- what is to be printed for a request of an office text and a second text
-abbrev pub IsAnswerWithin : Request → List ℕ → List ℕ → Printed → Type 0
-IsAnswerWithin request.Audit office second print = print ≡ audit_of (draft_in office)
-IsAnswerWithin request.Run office script print = IsPrintIn (IsScriptPrint script) (draft_in office) print
-IsAnswerWithin (request.Plan names) office second print = IsPrintIn (IsPlanPrint (site live_name names)) (draft_in office) print
-IsAnswerWithin (request.PlanUnder root names) office second print = IsPrintIn (IsPlanPrint (site root names)) (draft_in office) print
-IsAnswerWithin request.Check office certificate print = IsPrintIn (IsCheckPrint certificate) (draft_in office) print
-IsAnswerWithin (request.Merge names) office certificate print = IsPrintIn (IsMergePrint names certificate) (draft_in office) print
+-- what is to be printed for what is asked of an office text and a second text
+abbrev pub IsAnswerWithin : Ask → List ℕ → List ℕ → Printed → Type 0
+IsAnswerWithin ask.Audit office second print = print ≡ audit_of (draft_in office)
+IsAnswerWithin ask.Run office script print = IsPrintIn (IsScriptPrint script) (draft_in office) print
+IsAnswerWithin (ask.Plan names) office second print = IsPrintIn (IsPlanPrint (site live_name names)) (draft_in office) print
+IsAnswerWithin (ask.PlanUnder root names) office second print = IsPrintIn (IsPlanPrint (site root names)) (draft_in office) print
+IsAnswerWithin ask.Check office certificate print = IsCheckPrint (case_of office certificate) print
+IsAnswerWithin (ask.Merge names) office certificate print = IsMergePrint names (case_of office certificate) print
 
 abbrev pub is_too_long : List ℕ → Bool
 is_too_long text = nat_lt MOST_INPUT_BYTES (length text)
 
 -- the same where `too_long` says whether a text is
-abbrev pub IsAnswerIf : Bool → Request → List ℕ → List ℕ → Printed → Type 0
+abbrev pub IsAnswerIf : Bool → Ask → List ℕ → List ℕ → Printed → Type 0
 IsAnswerIf true asked office second print = print ≡ Err run_fault.TooLong
 IsAnswerIf false asked office second print = IsAnswerWithin asked office second print
 
-abbrev pub IsAnswerTo : Request → List ℕ → List ℕ → Printed → Type 0
+abbrev pub IsAnswerTo : Ask → List ℕ → List ℕ → Printed → Type 0
 IsAnswerTo asked office second print = IsAnswerIf (is_too_long office || is_too_long second) asked office second print
 
--- why a request has no exit status, where `failed` says whether the writer failed
+-- why what is asked has no exit status, where `failed` says whether the writer failed
 abbrev pub IsNoAnswer : (Printed → Type 0) → Bool → RunFault → Type 0
 IsNoAnswer IsPrint failed run_fault.WriteFailed = failed ≡ true
 IsNoAnswer IsPrint failed run_fault.TooLong = IsPrint (Err run_fault.TooLong)
 IsNoAnswer IsPrint failed e = IsTextFault IsPrint e
 
--- a request is answered so: its lines went out, of which nothing is said where something found no memory, or it has this fault
+-- what is asked is answered so: its lines went out, or it has this fault
 abbrev pub IsAnswer : (Printed → Type 0) → Option (List ℕ) → Option (List ℕ) → Bool → Result ℕ RunFault → Type 0
-IsAnswer IsPrint held holds failed (Ok status) = (failed ≡ false) × (status ≢ 3 → (lines : List ℕ) × IsPrint (Ok (lines, status)) × Appends held holds lines)
+IsAnswer IsPrint held holds failed (Ok status) = (failed ≡ false) × ((lines : List ℕ) × IsPrint (Ok (lines, status)) × Appends held holds lines)
 IsAnswer IsPrint held holds failed (Err e) = IsNoAnswer IsPrint failed e

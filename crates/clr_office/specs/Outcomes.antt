@@ -1,8 +1,6 @@
 -- What the steps of a script print over an office.
 use Rattle.std.specs.Prelude.{◌≡◌, ℕ, Bool, false, true, not, ◌||◌, List, [], ◌∷◌, ◌++◌}
-use Rattle.std.specs.Prelude.{⊤, codes, drop, if◌then◌else◌, length, map, nat_lt, unwrap_or}
-use Rattle.std.specs.FinMap as finite
-use Rattle.std.specs.List.{flat_map}
+use Rattle.std.specs.Prelude.{⊤, codes, drop, if◌then◌else◌, length, nat_lt}
 use Rattle.clr_rows.specs.Names.{live_name}
 use Rattle.clr_rules.specs.Needs.{broken_needs}
 use Rattle.clr_layers.specs.Marks.{Name}
@@ -10,39 +8,55 @@ use Rattle.clr_steps.specs.declared.commands.Command.{Command}
 use Rattle.clr_steps.specs.declared.commands.Reply.{Reply}
 use Rattle.clr_steps.specs.declared.commands.Reply.TheVariants.{Done, NoWorkspace}
 use Rattle.clr_steps.specs.Names.{is_live}
-use Rattle.clr_steps.specs.Offices.{Office, content_of, is_kept, stands}
+use Rattle.clr_steps.specs.Offices.{Office, content_of, stands}
 use Rattle.clr_steps.specs.Quiet.{Site}
-use Rattle.clr_steps.specs.Readings.{changes_in, conflicts_in, parent_in}
-use Rattle.clr_steps.specs.Steps.{step}
+use Rattle.clr_steps.specs.Readings.{changes_in, conflicts_in}
+use Rattle.clr_steps.specs.Steps.{TakesNoMemory, step_or_lost}
 use Rattle.clr_check.specs.SiteNames.{site}
 use Rattle.clr_plan.specs.declared.plans.Plan.{Plan}
 use Rattle.clr_plan.specs.Plans.{IsPlan}
-use Rattle.clr_plan.specs.Promises.{is_cleared, is_out_of_memory}
+use Rattle.clr_plan.specs.Promises.{IsExact, Promises, is_cleared, is_out_of_memory}
 use Rattle.clr_scripts.specs.declared.steps.Step.{Step}
 use Rattle.clr_scripts.specs.declared.steps.Step.TheVariants.{Act, Report}
 use Rattle.clr_scripts.specs.declared.steps.Word.TheVariants as word
 use Rattle.clr_lines.specs.Replies.{reply_text}
-use Rattle.clr_lines.specs.Reports.{audit_text, changes_text, conflicts_text, count_line, workspace_text}
+use Rattle.clr_lines.specs.Reports.{audit_text, changes_text, conflicts_text}
 use Rattle.clr_lines.specs.Rows.{rows_text}
 use Rattle.clr_plan_lines.specs.Plans.{plan_text}
 use Rattle.clr_office_writer.specs.Writing.{bytes_of}
+use Rattle.clr_texts.specs.Workspaces.{workspaces_text}
+use Rattle.clr_office.specs.declared.outputs.Output.{Output}
 
--- the lines that a step or a script prints, whether something was refused, and the office that it leaves
+-- the lines that a step or a script prints, whether something was refused, whether something found no memory, and the office that is left
 pub record Outcome : Type 0 where
   pub lines : List ℕ
   pub refused : Bool
+  pub lost : Bool
   pub office : Office
 
-abbrev pub outcome : List ℕ → Bool → Office → Outcome
-outcome lines refused office = record { lines = lines; refused = refused; office = office }
+abbrev pub outcome : List ℕ → Bool → Bool → Office → Outcome
+outcome lines refused lost office = record { lines = lines; refused = refused; lost = lost; office = office }
+
+-- the same of an output and an office
+abbrev pub outcome_of : Output → Office → Outcome
+outcome_of output office = outcome output.lines.items output.refused output.lost office
+
+-- what shows an office and leaves it, and found its memory
+abbrev pub shown : List ℕ → Bool → Office → Outcome
+shown lines refused office = outcome lines refused false office
 
 abbrev pub is_refused : Reply → Bool
 is_refused Done = false
 is_refused _ = true
 
--- a command: the line of its reply
-abbrev pub command_outcome : Office → Command → Outcome
-command_outcome o command = let a = step o command in outcome (reply_text a.office.schema a.reply) (is_refused a.reply) a.office
+-- a command: the line of its reply, which is OutOfMemory where it is lost
+abbrev pub command_outcome : Bool → Office → Command → Outcome
+command_outcome lost o command = let a = step_or_lost lost o command in outcome (reply_text a.office.schema a.reply) (is_refused a.reply) lost a.office
+
+-- it is one of these two; a command that takes no memory isn't lost
+pub record IsCommandOutcome (o : Office) (c : Command) (all : Outcome) : Type 0 where
+  pub answer : all ≡ command_outcome all.lost o c
+  pub found : TakesNoMemory c → all.lost ≡ false
 
 abbrev pub first_name : List Name → Name
 first_name [] = []
@@ -50,7 +64,7 @@ first_name (name ∷ names) = name
 
 -- a report on LIVE or a workspace, or that none has the name
 abbrev pub report_outcome : Office → Name → List ℕ → Bool → Outcome
-report_outcome o name lines refused = if stands o name then outcome lines refused o else outcome (reply_text o.schema NoWorkspace) true o
+report_outcome o name lines refused = if stands o name then shown lines refused o else shown (reply_text o.schema NoWorkspace) true o
 
 -- its rows
 unfoldable pub show_outcome : Office → Name → Outcome
@@ -68,49 +82,39 @@ conflicts_outcome o name = report_outcome o name (conflicts_text o.schema (confl
 unfoldable pub audit_outcome : Office → Name → Outcome
 audit_outcome o name = let needs = broken_needs o.book (content_of o name) in report_outcome o name (audit_text o.schema needs) (nat_lt 0 (length needs))
 
--- a workspace: how many changes it has, and how many cells are in conflict with its parent
-abbrev pub workspace_line : Office → Name → List ℕ
-workspace_line o name =
-    workspace_text name (unwrap_or (parent_in o name) []) (length (finite.keys (changes_in o name))) (length (conflicts_in o name)) (is_kept o name)
-
--- the names of the workspaces under LIVE, in order of creation
-abbrev pub names_below_live : Office → List Name
-names_below_live o = map (λ w. w.name) o.workspaces
-
--- how many workspaces there are under LIVE, and then each
-unfoldable pub workspaces_text : Office → List ℕ
-workspaces_text o = count_line (codes "workspaces") (length o.workspaces) ++ flat_map (workspace_line o) (names_below_live o)
-
+-- the lines of all workspaces
 abbrev pub workspaces_outcome : Office → Outcome
-workspaces_outcome o = outcome (workspaces_text o) false o
+workspaces_outcome o = shown (workspaces_text o) false o
 
 -- the text of the whole office, a line
 abbrev pub dump_text : Office → List ℕ
 dump_text o = bytes_of o ++ codes "\n"
 
 abbrev pub dump_outcome : Office → Outcome
-dump_outcome o = outcome (dump_text o) false o
+dump_outcome o = shown (dump_text o) false o
 
 -- what is unfolded to compare what is shown by name
 unfoldable pub by_name : ⊤
 unfolding show_outcome stands content_of is_live
 by_name = tt
 
--- the plan of members of a root, for which memory was found
+-- the plan of members of a root, or want of memory where no test of names fails, with what it promises: a cleared one that the members are
+-- safe, a blocked one that of the merges in its order one is refused; and it is cleared exactly where they are safe, memory aside
 pub record IsPlanned (o : Office) (s : Site) (p : Plan) : Type 0 where
   pub plan : IsPlan o s p
-  pub found : is_out_of_memory p ≡ false
+  pub promises : Promises o s p
+  pub exact : IsExact o s p
 
 -- its lines; all but a cleared plan counts as a refusal
 abbrev pub plan_outcome : Office → Site → Plan → Outcome
-plan_outcome o s p = outcome (plan_text o.schema s.members s.root p) (not (is_cleared p)) o
+plan_outcome o s p = outcome (plan_text o.schema s.members s.root p) (not (is_cleared p)) (is_out_of_memory p) o
 
 abbrev pub IsPlanOutcome : Office → Site → Outcome → Type 0
 IsPlanOutcome o s all = (p : Plan) × IsPlanned o s p × (all ≡ plan_outcome o s p)
 
 -- a step; of a plan under a root, the first name is the root and the others are the members
 abbrev pub IsOutcome : Office → Step → Outcome → Type 0
-IsOutcome o (Act command) all = all ≡ command_outcome o command
+IsOutcome o (Act command) all = IsCommandOutcome o command all
 IsOutcome o (Report word.Show names) all = all ≡ show_outcome o (first_name names)
 IsOutcome o (Report word.Changes names) all = all ≡ changes_outcome o (first_name names)
 IsOutcome o (Report word.Conflicts names) all = all ≡ conflicts_outcome o (first_name names)
@@ -122,10 +126,14 @@ IsOutcome o (Report word.PlanUnder names) all = IsPlanOutcome o (site (first_nam
 
 -- what is printed at first and then, in the office that was left
 abbrev pub followed_by : Outcome → Outcome → Outcome
-followed_by first later = outcome (first.lines ++ later.lines) (first.refused || later.refused) later.office
+followed_by first later = outcome (first.lines ++ later.lines) (first.refused || later.refused) (first.lost || later.lost) later.office
+
+-- nothing is printed
+abbrev pub nothing : Office → Outcome
+nothing o = shown [] false o
 
 -- steps one after another, each in the office that the one before left
 abbrev pub IsScriptOutcome : Office → List Step → Outcome → Type 0
-IsScriptOutcome o [] all = all ≡ outcome [] false o
+IsScriptOutcome o [] all = all ≡ nothing o
 IsScriptOutcome o (s ∷ steps) all =
     (first : Outcome) × (later : Outcome) × IsOutcome o s first × IsScriptOutcome first.office steps later × (all ≡ followed_by first later)

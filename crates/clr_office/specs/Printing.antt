@@ -20,19 +20,19 @@ abbrev pub exit_status : RunFault → ℕ
 exit_status run_fault.OutOfMemory = 3
 exit_status e = 2
 
--- the exit status of what was answered: 0 where all was done, and 1 where something was refused
-abbrev pub status_of : Bool → ℕ
-status_of refused = if refused then 1 else 0
+-- the exit status of what was answered: 3 where something found no memory, else 1 where something was refused, and 0 where all was done
+abbrev pub status_of : Bool → Bool → ℕ
+status_of refused lost = if lost then 3 else (if refused then 1 else 0)
 
 -- the lines and the exit status, or why nothing is printed
 abbrev pub Printed : Type 0
 Printed = Result (List ℕ × ℕ) RunFault
 
-abbrev pub print_of : List ℕ → Bool → Printed
-print_of lines refused = Ok (lines, status_of refused)
+abbrev pub print_of : List ℕ → Bool → Bool → Printed
+print_of lines refused lost = Ok (lines, status_of refused lost)
 
 abbrev pub IsPrintOf : (Outcome → Type 0) → Printed → Type 0
-IsPrintOf IsRight print = (all : Outcome) × IsRight all × (print ≡ print_of all.lines all.refused)
+IsPrintOf IsRight print = (all : Outcome) × IsRight all × (print ≡ print_of all.lines all.refused all.lost)
 
 -- the script of a text, performed, or why it can't be read
 abbrev pub ArePrinted : Office → Result (List Step) (ℕ × RecordFault) → Printed → Type 0
@@ -49,9 +49,13 @@ abbrev pub name_below_live : Office → ℕ → Option Name
 name_below_live o zero = None
 name_below_live o (suc position) = name_at o (suc position)
 
--- where a rule doesn't hold, that is told in place of what is asked
+-- where a rule doesn't hold: the line that says so, which counts as a refusal
+abbrev pub unheld_print : Office → ℕ → Broken → Printed
+unheld_print o position need = print_of (unheld_text o.schema (name_below_live o position) need) true false
+
+-- it stands in place of what is asked
 abbrev pub IsPrintWhereHeld : (Office → Printed → Type 0) → Office → Option (ℕ × Broken) → Printed → Type 0
-IsPrintWhereHeld IsPrint o (Some (position, need)) print = print ≡ print_of (unheld_text o.schema (name_below_live o position) need) true
+IsPrintWhereHeld IsPrint o (Some (position, need)) print = print ≡ unheld_print o position need
 IsPrintWhereHeld IsPrint o None print = IsPrint o print
 
 -- what is asked of an office, or why there is none
@@ -76,9 +80,9 @@ IsTextFault IsPrint run_fault.WriteFailed = ⊥
 IsTextFault IsPrint run_fault.TooLong = ⊥
 IsTextFault IsPrint run_fault.NoSeparator = ⊥
 
--- an output is what is to be printed, unless something found no memory; or a fault
+-- an output is what is to be printed; or a fault
 abbrev pub IsMade : (Printed → Type 0) → Result Output RunFault → Type 0
-IsMade IsPrint (Ok output) = output.lost ≡ false → IsPrint (print_of output.lines.items output.refused)
+IsMade IsPrint (Ok output) = IsPrint (print_of output.lines.items output.refused output.lost)
 IsMade IsPrint (Err e) = IsTextFault IsPrint e
 
 -- why an office text gives no draft, or want of memory

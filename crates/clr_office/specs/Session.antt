@@ -1,7 +1,7 @@
 -- What a run prints for an input, and what it leaves of its reader and writer.
-use Rattle.std.specs.Prelude.{◌≡◌, ◌≢◌, ℕ, List, Bool, true, false, Option, Some, None, Result, Ok, Err}
+use Rattle.std.specs.Prelude.{◌≡◌, ℕ, List, Bool, true, false, Option, Some, None, Result, Ok, Err}
 use Rattle.std.specs.Io.KnownBytes.{Appends}
-use Rattle.clr_command_line.specs.declared.requests.Request.TheVariants as request
+use Rattle.clr_command_line.specs.declared.asks.Ask.TheVariants as ask
 use Rattle.clr_office.specs.Answers.{IsAnswerWithin}
 use Rattle.clr_office.specs.Input.{GivesInput, GivesTooMuch}
 use Rattle.clr_office.specs.Printing.{Printed}
@@ -12,7 +12,7 @@ use Rattle.clr_office.specs.declared.faults.RunFault.TheVariants as run_fault
 -- what is to be printed for the office text and the script that stand on both sides of the separator
 abbrev pub IsSessionOf : Option (List ℕ × List ℕ) → Printed → Type 0
 IsSessionOf None print = print ≡ Err run_fault.NoSeparator
-IsSessionOf (Some parts) print = IsAnswerWithin request.Run parts.0 parts.1 print
+IsSessionOf (Some parts) print = IsAnswerWithin ask.Run parts.0 parts.1 print
 
 -- what is to be printed for an input
 abbrev pub IsSession : List ℕ → Printed → Type 0
@@ -32,11 +32,10 @@ pub record Run : Type 0 where
 abbrev pub Reads : Run → List ℕ → Type 0
 Reads run input = GivesInput run.input run.left input × (run.read_failed ≡ false)
 
--- the whole input was read, and its lines went out; of the lines nothing is said where
--- something found no memory
+-- the whole input was read, and its lines went out
 abbrev pub Prints : Run → ℕ → Type 0
 Prints run status = (input : List ℕ) × Reads run input × (run.write_failed ≡ false)
-    × (status ≢ 3 → (lines : List ℕ) × IsSession input (Ok (lines, status)) × Appends run.held run.holds lines)
+    × ((lines : List ℕ) × IsSession input (Ok (lines, status)) × Appends run.held run.holds lines)
 
 -- the whole input was read, and it has this fault
 abbrev pub Refuses : Run → RunFault → Type 0

@@ -1,22 +1,23 @@
 ghost use Rattle.std.specs.Prelude.{◌≡◌, ◌≢◌, false, IfOk, IfErr};
 ghost use Rattle.clr_check.specs.SiteNames.{site};
-ghost use Rattle.clr_command_line.specs.declared.requests.Request.TheVariants as request;
+ghost use Rattle.clr_command_line.specs.declared.asks.Ask.TheVariants as ask;
 ghost use Rattle.clr_drafts.specs.Drafts.{draft_in};
 ghost use Rattle.clr_office.specs.Answers.{IsAnswer, IsAnswerTo, IsAnswerWithin, IsPlanPrint, audit_of, audit_print};
 ghost use Rattle.clr_office.specs.Printing.{IsMade, IsPrintIn, print_of};
 ghost use Rattle.clr_office.specs.declared.faults.RunFault.TheVariants as run_fault;
 
-use crate::certificates::check_text;
+use crate::certificates::{check_output, fault_output};
 use crate::devices::Sink;
 use crate::faults::RunFault;
-use crate::merges::merge_by_text;
+use crate::merges::merge_members;
 use crate::offices::{draft_of, open_office};
 use crate::outputs::Output;
 use crate::plans::plan_members;
 use crate::reading::MOST_INPUT_BYTES;
 use crate::run_script::run_text;
 use clr_audit::audit;
-use clr_command_line::Request;
+use clr_check_texts::read_case;
+use clr_command_line::Ask;
 use clr_engine::Draft;
 use clr_lines::audit_lines;
 use clr_rows::{LIVE, Words};
@@ -24,7 +25,7 @@ use std::alloc::{AllocError, Global};
 
 /// The lines of an audit of LIVE, where rules may be broken.
 fn audit_draft(alloc: Global, draft: &Draft) -> Result<Output, AllocError>
-    ensures { IfOk result (λ o. print_of o.lines.items o.refused ≡ audit_print draft.now) }
+    ensures { IfOk result (λ o. print_of o.lines.items o.refused o.lost ≡ audit_print draft.now) }
 {
     let needs = audit(alloc, draft.book(), draft.live())?;
     Ok(Output {
@@ -48,7 +49,7 @@ fn answer_audit(alloc: Global, office: &[u8]) -> Result<Output, RunFault>
 
 /// What the script of a text prints over the office of another.
 pub fn answer_run(alloc: Global, office: &[u8], script: &[u8]) -> Result<Output, RunFault>
-    ensures { IsMade (IsAnswerWithin request.Run office.now script.now) result }
+    ensures { IsMade (IsAnswerWithin ask.Run office.now script.now) result }
 {
     match open_office(alloc, office) {
         Ok(mut office) => run_text(alloc, &mut office, script),
@@ -71,16 +72,6 @@ fn answer_plan(
     }
 }
 
-/// The verdict on the certificate of a text over the office of another.
-fn answer_check(alloc: Global, office: &[u8], certificate: &[u8]) -> Result<Output, RunFault>
-    ensures { IsMade (IsAnswerWithin request.Check office.now certificate.now) result }
-{
-    match open_office(alloc, office) {
-        Ok(office) => check_text(alloc, &office, certificate),
-        Err(answer) => answer,
-    }
-}
-
 /// Merges that the certificate of a text clears over the office of another.
 fn answer_merge(
     alloc: Global,
@@ -88,36 +79,38 @@ fn answer_merge(
     certificate: &[u8],
     names: &[Words],
 ) -> Result<Output, RunFault>
-    ensures { IsMade (IsAnswerWithin (request.Merge names.now) office.now certificate.now) result }
+    ensures { IsMade (IsAnswerWithin (ask.Merge names.now) office.now certificate.now) result }
 {
-    match open_office(alloc, office) {
-        Ok(mut office) => merge_by_text(alloc, &mut office, certificate, names),
-        Err(answer) => answer,
+    match read_case(alloc, office, certificate) {
+        Ok((mut office, certificate)) => {
+            Ok(merge_members(alloc, &mut office, &certificate, names)?)
+        }
+        Err(fault) => fault_output(alloc, fault),
     }
 }
 
-/// What is printed for a request of two texts.
+/// What is printed for what is asked of two texts.
 fn answer_texts(
     alloc: Global,
-    request: &Request,
+    ask: &Ask,
     office: &[u8],
     second: &[u8],
 ) -> Result<Output, RunFault>
-    ensures { IsMade (IsAnswerWithin request.now office.now second.now) result }
+    ensures { IsMade (IsAnswerWithin ask.now office.now second.now) result }
 {
-    match request {
-        Request::Audit => answer_audit(alloc, office),
-        Request::Run => answer_run(alloc, office, second),
-        Request::Plan(names) => answer_plan(alloc, office, LIVE, names.as_slice()),
-        Request::PlanUnder(root, names) => {
+    match ask {
+        Ask::Audit => answer_audit(alloc, office),
+        Ask::Run => answer_run(alloc, office, second),
+        Ask::Plan(names) => answer_plan(alloc, office, LIVE, names.as_slice()),
+        Ask::PlanUnder(root, names) => {
             answer_plan(alloc, office, root.as_str(), names.as_slice())
         }
-        Request::Check => answer_check(alloc, office, second),
-        Request::Merge(names) => answer_merge(alloc, office, second, names.as_slice()),
+        Ask::Check => check_output(alloc, office, second),
+        Ask::Merge(names) => answer_merge(alloc, office, second, names.as_slice()),
     }
 }
 
-/// Writes what a request prints of an office text and of a second text, which is the script or the
+/// Writes what is to be printed for what is asked of an office text and of a second text, which is the script or the
 /// certificate where there is one, by one put, and answers the exit status: 0 all done, cleared or
 /// clear; 1 something refused, a plan that is blocked or unfit, a verdict that isn't clear, a merge
 /// that isn't quiet, or a rule that doesn't hold; 3 a command, a plan or a verdict found no memory.
@@ -129,19 +122,19 @@ fn answer_texts(
 /// in place of any other answer.
 pub fn answer<W: Sink>(
     alloc: Global,
-    request: &Request,
+    ask: &Ask,
     office: &[u8],
     second: &[u8],
     writer: &mut W,
 ) -> Result<u8, RunFault>
     requires { W.failed writer.old ≡ false }
-    ensures answers { IsAnswer (IsAnswerTo request.now office.now second.now) (W.contents writer.old) (W.contents writer.new) (W.failed writer.new) result }
+    ensures answers { IsAnswer (IsAnswerTo ask.now office.now second.now) (W.contents writer.old) (W.contents writer.new) (W.failed writer.new) result }
     ensures keeps { IfErr result (λ e. e ≢ run_fault.WriteFailed → writer.new ≡ writer.old) }
 {
     if office.len() > MOST_INPUT_BYTES || second.len() > MOST_INPUT_BYTES {
         return Err(RunFault::TooLong);
     }
-    let output = match answer_texts(alloc, request, office, second) {
+    let output = match answer_texts(alloc, ask, office, second) {
         Ok(output) => output,
         Err(fault) => return Err(fault),
     };

@@ -1,32 +1,20 @@
-//! Certificates, read from a text, and the verdicts on them.
-ghost use Rattle.std.specs.Prelude.{◌≡◌, not, Ok, IfOk, IfErr};
-ghost use Rattle.clr_cert.specs.Certificates.{certificate_in};
+//! Verdicts on certificates, and what is printed where texts don't give an office with one.
+ghost use Rattle.std.specs.Prelude.{◌≡◌, not, IfOk};
+ghost use Rattle.clr_check_texts.specs.Cases.{case_of};
 ghost use Rattle.clr_verdict_lines.specs.Verdicts.{verdict_text};
-ghost use Rattle.clr_office.specs.Clearances.{IsCertificateFault, IsCheckPrint, is_clear as is_clear_verdict, is_without_memory as is_lost_verdict};
+ghost use Rattle.clr_office.specs.Clearances.{IsCheckPrint, fault_print, is_clear as is_clear_verdict, is_without_memory as is_lost_verdict};
 ghost use Rattle.clr_office.specs.Printing.{IsMade};
 
 use crate::faults::RunFault;
+use crate::offices::unheld_output;
 use crate::outputs::Output;
 use crate::plans::texts;
-use clr_cert::{CertFault, Certificate, read_certificate};
-use clr_check::{Verdict, check};
-use clr_engine::Office;
+use clr_cert::Certificate;
+use clr_check::Verdict;
+use clr_check_texts::{CaseFault, judge_texts};
 use clr_rows::Schema;
 use clr_verdict_lines::verdict_line;
 use std::alloc::{AllocError, Global};
-
-/// Reads a certificate. Fails with `BadCertificate` where it is none, and with `OutOfMemory` for want
-/// of memory.
-pub fn certificate_of(alloc: Global, schema: &Schema, text: &[u8]) -> Result<Certificate, RunFault>
-    ensures certificate { IfOk result (λ certificate. certificate_in schema.now text.now ≡ Ok certificate) }
-    ensures fault { IfErr result (λ e. IsCertificateFault (certificate_in schema.now text.now) e) }
-{
-    match read_certificate(alloc, schema, text) {
-        Ok(certificate) => Ok(certificate),
-        Err((_, CertFault::OutOfMemory)) => Err(RunFault::OutOfMemory),
-        Err((number, fault)) => Err(RunFault::BadCertificate(number, fault)),
-    }
-}
 
 fn is_clear(verdict: &Verdict) -> bool
     ensures { result ≡ is_clear_verdict verdict.now }
@@ -66,15 +54,35 @@ pub fn verdict_output(
     })
 }
 
-/// The line of the verdict on the certificate of a text. Fails with `BadCertificate` where the text
-/// is none, and with `OutOfMemory` where no memory is found for it or for the line.
-pub fn check_text(alloc: Global, office: &Office, text: &[u8]) -> Result<Output, RunFault>
-    ensures { IsMade (IsCheckPrint text.now office.now) result }
+/// What is printed where two texts don't give an office with a certificate: the line that says which rule
+/// doesn't hold. Else it fails, with `BadOffice`, `BadCertificate` or `OutOfMemory`.
+pub fn fault_output(alloc: Global, fault: CaseFault) -> Result<Output, RunFault>
+    ensures { IsMade (λ print. print ≡ fault_print fault) result }
 {
-    let certificate = match certificate_of(alloc, office.schema(), text) {
-        Ok(certificate) => certificate,
-        Err(fault) => return Err(fault),
-    };
-    let verdict = check(alloc, office, &certificate);
-    Ok(verdict_output(alloc, office.schema(), &certificate, &verdict)?)
+    match fault {
+        CaseFault::BadOffice(fault) => Err(RunFault::BadOffice(fault)),
+        CaseFault::Unheld {
+            draft,
+            position,
+            need,
+        } => Ok(unheld_output(alloc, &draft, position, &need)?),
+        CaseFault::BadCertificate(number, fault) => Err(RunFault::BadCertificate(number, fault)),
+        CaseFault::OutOfMemory => Err(RunFault::OutOfMemory),
+    }
+}
+
+/// The line of the verdict on a certificate in an office, both given as texts, as `check_texts` says it.
+/// Where the texts don't give both, it is as `fault_output` says.
+pub fn check_output(alloc: Global, office: &[u8], certificate: &[u8]) -> Result<Output, RunFault>
+    ensures { IsMade (IsCheckPrint (case_of office.now certificate.now)) result }
+{
+    match judge_texts(alloc, office, certificate) {
+        Ok(check) => Ok(verdict_output(
+            alloc,
+            check.office.schema(),
+            &check.certificate,
+            &check.verdict,
+        )?),
+        Err(fault) => fault_output(alloc, fault),
+    }
 }

@@ -19,8 +19,15 @@ mod run_script;
 mod separator;
 
 pub use answers::answer;
+pub use clr_cert::{CertFault, Certificate, Entries, Entry};
 pub use clr_check_texts::{Checked, check_texts};
-pub use clr_command_line::{Request, RequestFault, request_of};
+pub use clr_clearance::Verdict;
+pub use clr_command_line::{Ask, AskFault, ask_of};
+pub use clr_foot::{Need, VersionId};
+pub use clr_plan::Plan;
+pub use clr_rows::{CellId, Names, Words};
+pub use clr_rules::Broken;
+pub use clr_texts::{RecordFault, TextFault};
 pub use devices::{DeviceFault, Sink, Source};
 pub use faults::RunFault;
 pub use memory::{Page, Text};

@@ -1,18 +1,17 @@
 //! Merges that a certificate clears.
-ghost use Rattle.std.specs.Prelude.{◌≡◌, is_some, false, IfOk};
+ghost use Rattle.std.specs.Prelude.{◌≡◌, ◌||◌, is_some, false, IfOk};
 ghost use Rattle.std.specs.List.{flat_map, list_any};
 ghost use Rattle.clr_steps.specs.Steps.{is_lost};
 ghost use Rattle.clr_clearance.specs.Plans.{merges};
 ghost use Rattle.clr_lines.specs.Replies.{reply_text};
-ghost use Rattle.clr_office.specs.Clearances.{IsMergePrint, merge_outcome, stop_text};
-ghost use Rattle.clr_office.specs.Outcomes.{is_refused, outcome};
-ghost use Rattle.clr_office.specs.Printing.{IsMade};
+ghost use Rattle.clr_office.specs.Clearances.{IsMergeOutcome, merge_text, stop_text};
+ghost use Rattle.clr_office.specs.Outcomes.{is_refused, outcome_of};
 
-use crate::certificates::{certificate_of, verdict_output};
-use crate::faults::RunFault;
+use crate::certificates::verdict_output;
 use crate::outputs::Output;
 use crate::replies::reply_output;
 use crate::reports::dump_text;
+use clr_cert::Certificate;
 use clr_check::{ClearedRun, perform_cleared};
 use clr_engine::Office;
 use clr_lines::count_line;
@@ -64,7 +63,8 @@ fn stop_output(alloc: Global, stopped: Option<usize>) -> Result<Output, AllocErr
 
 /// The lines of merges that were performed, and the text of the office that they left.
 fn run_output(alloc: Global, office: &Office, run: &ClearedRun) -> Result<Output, AllocError>
-    ensures printed { IfOk result (λ o. outcome o.lines.items o.refused office.now ≡ merge_outcome run.now.replies.items run.now.stopped office.now) }
+    ensures lines { IfOk result (λ o. o.lines.items ≡ merge_text run.now.replies.items run.now.stopped office.now) }
+    ensures refused { IfOk result (λ o. o.refused ≡ (list_any is_refused run.now.replies.items || is_some run.now.stopped)) }
     ensures lost { IfOk result (λ o. o.lost ≡ list_any is_lost run.now.replies.items) }
 {
     let mut all = replies_output(alloc, office.schema(), run.replies.as_slice())?;
@@ -74,26 +74,21 @@ fn run_output(alloc: Global, office: &Office, run: &ClearedRun) -> Result<Output
     Ok(all)
 }
 
-/// Merges workspaces in the order of their names, as far as that is quiet for the certificate of a
-/// text, where it is clear: a line for each merge that was performed, one that says where it stopped,
-/// and the text of the office. Where the certificate isn't clear the verdict stands alone. Fails with
-/// `BadCertificate` where the text is none, and with `OutOfMemory` where no memory is found for it,
-/// for the commands or for a line.
-pub fn merge_by_text(
+/// Merges workspaces in the order of their names, as far as that is quiet for a certificate, where it is
+/// clear: a line for each merge that was performed, one that says where it stopped, and the text of
+/// the office. Where the certificate isn't clear the verdict stands alone. It fails for want of memory,
+/// where none is found for the commands or for a line.
+pub fn merge_members(
     alloc: Global,
     office: &mut Office,
-    text: &[u8],
+    certificate: &Certificate,
     names: &[Words],
-) -> Result<Output, RunFault>
-    ensures { IsMade (IsMergePrint names.now text.now office.old) result }
+) -> Result<Output, AllocError>
+    ensures { IfOk result (λ o. IsMergeOutcome office.old certificate.now names.now (outcome_of o office.new)) }
 {
-    let certificate = match certificate_of(alloc, office.schema(), text) {
-        Ok(certificate) => certificate,
-        Err(fault) => return Err(fault),
-    };
     let commands = merges(alloc, names)?;
-    match perform_cleared(alloc, office, &certificate, commands.as_slice()) {
-        Ok(run) => Ok(run_output(alloc, office, &run)?),
-        Err(verdict) => Ok(verdict_output(alloc, office.schema(), &certificate, &verdict)?),
+    match perform_cleared(alloc, office, certificate, commands.as_slice()) {
+        Ok(run) => run_output(alloc, office, &run),
+        Err(verdict) => verdict_output(alloc, office.schema(), certificate, &verdict),
     }
 }

@@ -1,9 +1,8 @@
 //! Office texts: read, and opened where the rules hold.
-ghost use Rattle.std.specs.Prelude.{◌≡◌, None, Ok, true, false, IfOk, IfErr};
+ghost use Rattle.std.specs.Prelude.{◌≡◌, None, Ok, IfOk, IfErr};
 ghost use Rattle.clr_engine.specs.Drafts.{unheld_in};
-ghost use Rattle.clr_lines.specs.Reports.{unheld_text};
 ghost use Rattle.clr_drafts.specs.Drafts.{draft_in};
-ghost use Rattle.clr_office.specs.Printing.{IsMade, IsNoPrint, IsOfficeFault, IsPrintIn, name_below_live};
+ghost use Rattle.clr_office.specs.Printing.{IsMade, IsNoPrint, IsOfficeFault, IsPrintIn, print_of, unheld_print};
 
 use crate::faults::RunFault;
 use crate::outputs::Output;
@@ -25,15 +24,15 @@ pub fn draft_of(alloc: Global, office: &[u8]) -> Result<Draft, RunFault>
     }
 }
 
-/// The line that says which content breaks a rule, and its least broken need.
-fn unheld_output(
+/// The line that says which content breaks a rule, and its least broken need. It fails for want of
+/// memory alone.
+pub fn unheld_output(
     alloc: Global,
     draft: &Draft,
     position: usize,
     need: &Broken,
 ) -> Result<Output, AllocError>
-    ensures lines { IfOk result (λ o. o.lines.items ≡ unheld_text draft.now.schema (name_below_live draft.now position) need.now) }
-    ensures refused { IfOk result (λ o. o.refused ≡ true) }
+    ensures { IfOk result (λ o. print_of o.lines.items o.refused o.lost ≡ unheld_print draft.now position need.now) }
 {
     let name = match position {
         0 => None,

@@ -1,4 +1,4 @@
-ghost use Rattle.std.specs.Prelude.{◌≡◌, ◌++◌, ◌||◌, true, false, OnOk};
+ghost use Rattle.std.specs.Prelude.{◌≡◌, ◌++◌, ◌||◌, false, OnOk};
 ghost use Rattle.clr_office.specs.Printing.{status_of};
 
 use std::alloc::AllocError;
@@ -39,8 +39,7 @@ impl Output {
     /// The exit status: 0 where all was done, 1 where something was refused, and 3 where something
     /// found no memory.
     pub fn status(&self) -> u8
-        ensures lost { self.now.lost ≡ true → result ≡ 3 }
-        ensures all { self.now.lost ≡ false → result ≡ status_of self.now.refused }
+        ensures { result ≡ status_of self.now.refused self.now.lost }
     {
         if self.lost {
             3

@@ -1,8 +1,8 @@
 //! Plans of members, which are given by their names.
-ghost use Rattle.std.specs.Prelude.{◌≡◌, false, map, IfOk};
+ghost use Rattle.std.specs.Prelude.{◌≡◌, map, IfOk};
 ghost use Rattle.clr_check.specs.SiteNames.{site};
 ghost use Rattle.clr_plan.specs.Promises.{is_cleared as is_cleared_plan, is_out_of_memory as is_lost_plan};
-ghost use Rattle.clr_office.specs.Outcomes.{IsPlanOutcome, outcome};
+ghost use Rattle.clr_office.specs.Outcomes.{IsPlanOutcome, outcome_of};
 
 use crate::outputs::Output;
 use clr_engine::Office;
@@ -48,7 +48,7 @@ pub fn plan_members(
     root: &str,
     names: &[Words],
 ) -> Result<Output, AllocError>
-    ensures { IfOk result (λ o. o.lost ≡ false → IsPlanOutcome office.now (site root.now names.now) (outcome o.lines.items o.refused office.now)) }
+    ensures { IfOk result (λ o. IsPlanOutcome office.now (site root.now names.now) (outcome_of o office.now)) }
 {
     let members = texts(alloc, names)?;
     let plan = plan(alloc, office, root, members.as_slice());

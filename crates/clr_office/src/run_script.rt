@@ -1,7 +1,7 @@
 //! The steps of a script, performed one after another, and the lines that they print.
-ghost use Rattle.std.specs.Prelude.{◌≡◌, drop, false, Ok, IfOk, IfErr};
+ghost use Rattle.std.specs.Prelude.{◌≡◌, drop, Ok, IfOk, IfErr};
 ghost use Rattle.clr_scripts.specs.Scripts.{script_in_text};
-ghost use Rattle.clr_office.specs.Outcomes.{IsOutcome, IsScriptOutcome, command_outcome, first_name as first_of_names, outcome};
+ghost use Rattle.clr_office.specs.Outcomes.{IsCommandOutcome, IsOutcome, IsScriptOutcome, first_name as first_of_names, outcome_of};
 ghost use Rattle.clr_office.specs.Printing.{IsMade, IsScriptFault, IsScriptPrint};
 
 use crate::faults::RunFault;
@@ -17,7 +17,7 @@ use std::alloc::{AllocError, Global};
 
 /// Performs a command. Its line is that of the reply.
 fn perform(alloc: Global, office: &mut Office, command: &Command) -> Result<Output, AllocError>
-    ensures { IfOk result (λ o. o.lost ≡ false → outcome o.lines.items o.refused office.new ≡ command_outcome office.old command.now) }
+    ensures { IfOk result (λ o. IsCommandOutcome office.old command.now (outcome_of o office.new)) }
 {
     let reply = office.perform(command);
     reply_output(alloc, office.schema(), &reply)
@@ -43,7 +43,7 @@ fn later_names(names: &Names) -> &[Words]
 }
 
 fn run_step(alloc: Global, office: &mut Office, step: &Step) -> Result<Output, AllocError>
-    ensures { IfOk result (λ o. o.lost ≡ false → IsOutcome office.old step.now (outcome o.lines.items o.refused office.new)) }
+    ensures { IfOk result (λ o. IsOutcome office.old step.now (outcome_of o office.new)) }
 {
     match step {
         Step::Act(command) => perform(alloc, office, command),
@@ -63,7 +63,7 @@ fn run_step(alloc: Global, office: &mut Office, step: &Step) -> Result<Output, A
 /// Performs the steps of a script one after another. It fails where a line, or what a report shows,
 /// finds no memory; a plan that finds none has its line.
 pub fn run_script(alloc: Global, office: &mut Office, steps: &[Step]) -> Result<Output, AllocError>
-    ensures { IfOk result (λ o. o.lost ≡ false → IsScriptOutcome office.old steps.now (outcome o.lines.items o.refused office.new)) }
+    ensures { IfOk result (λ o. IsScriptOutcome office.old steps.now (outcome_of o office.new)) }
 {
     let mut all = Output::of_lines(Vec::new(alloc));
     for step in steps {

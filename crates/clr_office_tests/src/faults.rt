@@ -1,7 +1,4 @@
-use clr_cert::CertFault;
-use clr_office::RunFault;
-use clr_office_text::TextFault;
-use clr_scripts::RecordFault;
+use clr_office::{CertFault, RecordFault, RunFault, TextFault};
 use std::test::Fail;
 
 #[test]

@@ -1,5 +1,5 @@
 use clr_hoard::Hoard;
-use clr_office::{Page, RunFault, answer, request_of};
+use clr_office::{Page, RunFault, answer, ask_of};
 use std::alloc::Global;
 
 /// Two mains that cross at a node, and two workspaces: W1 puts another node in its place, and W2
@@ -82,13 +82,13 @@ fn are_of_text(alloc: Global, bytes: &[u8], text: &str) -> Option<bool> {
 /// Whether what is asked is answered rightly with this many bytes of memory; none where it is
 /// answered neither so nor as it may be for want of memory.
 fn is_answered_within(alloc: Global, hoard: &mut Hoard, budget: usize, case: Case) -> Option<bool> {
-    let (request, _) = request_of(alloc, case.words).ok()?;
+    let (ask, _) = ask_of(alloc, case.words).ok()?;
     let mut page = Page::new(alloc, ROOM).ok()?;
     let (office, second) = case.texts;
     hoard.leave(budget).ok()?;
     let status = answer(
         alloc,
-        &request,
+        &ask,
         office.as_bytes(),
         second.as_bytes(),
         &mut page,

@@ -3,12 +3,10 @@
 //! subcommand asks of files.
 #![tactic(auto)]
 
-use clr_office::{
-    Port, Request, RequestFault, RunFault, answer, read_input, request_of, run_office,
-};
-use clr_rows::Words;
+use clr_office::{Ask, AskFault, Port, RunFault, Words, answer, ask_of, read_input, run_office};
 use std::alloc::AllocError;
 use std::env;
+use std::env::{Env, FillError};
 use std::fs::File;
 use std::io::ErrorKind;
 use std::process::ExitCode;
@@ -70,12 +68,12 @@ fn read_files(rt: &HostRuntime, files: &[Words]) -> Result<(Vec<u8>, Vec<u8>), R
 }
 
 /// Answers what the words ask of files on standard output, and gives the exit status.
-fn answer_files(rt: &HostRuntime, request: &Request, files: &[Words]) -> Result<u8, RunFault> {
+fn answer_files(rt: &HostRuntime, ask: &Ask, files: &[Words]) -> Result<u8, RunFault> {
     let (office, second) = read_files(rt, files)?;
     let mut writer = Port::new(rt.stdout());
     answer(
         rt.alloc(),
-        request,
+        ask,
         office.as_slice(),
         second.as_slice(),
         &mut writer,
@@ -94,10 +92,10 @@ fn texts<'a>(rt: &HostRuntime, words: &'a [String]) -> Result<Vec<&'a str>, Allo
 /// Does what the words ask for, and gives the exit status.
 fn run_words(rt: &HostRuntime, words: &[String]) -> Result<u8, RunFault> {
     let texts = texts(rt, words)?;
-    match request_of(rt.alloc(), texts.as_slice()) {
-        Ok((request, files)) => answer_files(rt, &request, files.as_slice()),
-        Err(RequestFault::Refused(error)) => Ok(refuse_words(rt, &error)),
-        Err(RequestFault::OutOfMemory) => Err(RunFault::OutOfMemory),
+    match ask_of(rt.alloc(), texts.as_slice()) {
+        Ok((ask, files)) => answer_files(rt, &ask, files.as_slice()),
+        Err(AskFault::Refused(error)) => Ok(refuse_words(rt, &error)),
+        Err(AskFault::OutOfMemory) => Err(RunFault::OutOfMemory),
     }
 }
 
@@ -112,15 +110,28 @@ fn words(rt: &HostRuntime) -> Result<Vec<String>, ErrorKind> {
     }
 }
 
-fn main(rt: HostRuntime) -> ExitCode {
-    let ended = match words(&rt) {
-        Ok(words) if words.len() <= 1 => run(&rt),
-        Ok(words) => run_words(&rt, words.as_slice()),
+/// Whether there is a word behind the program's name, which is of no matter where there is none.
+fn has_words(rt: &HostRuntime) -> bool {
+    !matches!(rt.arg(1, &mut [0]), Err(FillError::NotPresent))
+}
+
+/// Does what the words ask for, where all of them are UTF-8, and gives the exit status.
+fn answer_words(rt: &HostRuntime) -> Result<u8, RunFault> {
+    match words(rt) {
+        Ok(words) => run_words(rt, words.as_slice()),
         Err(ErrorKind::OutOfMemory) => Err(RunFault::OutOfMemory),
         Err(_) => {
-            let _ = eprintln!(&rt; "error: a word isn't UTF-8");
+            let _ = eprintln!(rt; "error: a word isn't UTF-8");
             Ok(BAD_WORDS)
         }
+    }
+}
+
+fn main(rt: HostRuntime) -> ExitCode {
+    let ended = if has_words(&rt) {
+        answer_words(&rt)
+    } else {
+        run(&rt)
     };
     let status = match ended {
         Ok(status) => status,

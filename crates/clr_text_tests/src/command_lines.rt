@@ -2,7 +2,7 @@
 
 use crate::questions::check;
 use crate::texts::names_text;
-use clr_command_line::{Request, RequestFault, request_of};
+use clr_command_line::{Ask, AskFault, ask_of};
 use clr_rows::Words;
 use std::alloc::Global;
 
@@ -27,20 +27,20 @@ words clr_office --help => printed
 words clr_office help merge => printed
 words clr_office --version => printed";
 
-/// The word of a request, its root, and its names.
-fn fields(request: &Request) -> (&str, &str, &[Words]) {
-    match request {
-        Request::Audit => ("audit", "", &[]),
-        Request::Run => ("run", "", &[]),
-        Request::Check => ("check", "", &[]),
-        Request::Plan(names) => ("plan", "", names.as_slice()),
-        Request::PlanUnder(root, names) => ("planunder ", root.as_str(), names.as_slice()),
-        Request::Merge(names) => ("merge", "", names.as_slice()),
+/// The word of what is asked, its root, and its names.
+fn fields(ask: &Ask) -> (&str, &str, &[Words]) {
+    match ask {
+        Ask::Audit => ("audit", "", &[]),
+        Ask::Run => ("run", "", &[]),
+        Ask::Check => ("check", "", &[]),
+        Ask::Plan(names) => ("plan", "", names.as_slice()),
+        Ask::PlanUnder(root, names) => ("planunder ", root.as_str(), names.as_slice()),
+        Ask::Merge(names) => ("merge", "", names.as_slice()),
     }
 }
 
-fn request_text(alloc: Global, request: &Request, files: &[Words]) -> Option<String> {
-    let (word, root, names) = fields(request);
+fn ask_text(alloc: Global, ask: &Ask, files: &[Words]) -> Option<String> {
+    let (word, root, names) = fields(ask);
     let names = names_text(alloc, ' ', names)?;
     let files = names_text(alloc, ' ', files)?;
     format!(in alloc; "{word}{root}{}:{}", names.as_str(), files.as_str()).ok()
@@ -57,9 +57,9 @@ fn words_of(alloc: Global, text: &'static str) -> Option<Vec<&'static str>> {
 /// What words ask for.
 pub(crate) fn answer(alloc: Global, text: &'static str) -> Option<String> {
     let words = words_of(alloc, text)?;
-    match request_of(alloc, words.as_slice()) {
-        Ok((request, files)) => request_text(alloc, &request, files.as_slice()),
-        Err(RequestFault::Refused(error)) => {
+    match ask_of(alloc, words.as_slice()) {
+        Ok((ask, files)) => ask_text(alloc, &ask, files.as_slice()),
+        Err(AskFault::Refused(error)) => {
             let text = if error.use_stderr() {
                 "refused"
             } else {
@@ -67,11 +67,11 @@ pub(crate) fn answer(alloc: Global, text: &'static str) -> Option<String> {
             };
             String::from_str(alloc, text).ok()
         }
-        Err(RequestFault::OutOfMemory) => None,
+        Err(AskFault::OutOfMemory) => None,
     }
 }
 
 #[test]
-fn requests_of_words(rt: HostRuntime) {
+fn asks_of_words(rt: HostRuntime) {
     check(&rt, rt.alloc(), CASES);
 }

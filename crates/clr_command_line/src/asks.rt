@@ -1,0 +1,48 @@
+ghost use Rattle.std.specs.Prelude.{◌≡◌};
+ghost use Rattle.clr_command_line.specs.declared.asks.AskFault.TheVariants.{OutOfMemory};
+
+use clr_rows::{Names, Words};
+use std::alloc::{AllocError, AllocFailed};
+
+/// What is asked of an office text, and of a second text where there is one.
+#[derive(Debug, Drop)]
+pub enum Ask {
+    /// The rules that LIVE's rows break.
+    Audit,
+    /// What the steps of a script print; the second text is the script.
+    Run,
+    /// Whether these children of LIVE can be merged in every order.
+    Plan(Names),
+    /// Whether these children of a root can be merged in every order: the root, and the children.
+    PlanUnder(Words, Names),
+    /// Whether a certificate clears its members; the second text is the certificate.
+    Check,
+    /// The merges of these workspaces in this order, by a certificate that clears its members; the
+    /// second text is the certificate.
+    Merge(Names),
+}
+
+/// Why words ask for nothing.
+#[derive(Drop)]
+pub enum AskFault {
+    /// The words are refused, or ask for help or the version: what is to be printed, and where.
+    Refused(clap::Error),
+    /// No memory was found. It may come in place of any other answer.
+    OutOfMemory,
+}
+
+impl From<AllocError> for AskFault {
+    ghost from_gives = { λ _ e. e ≡ OutOfMemory };
+
+    fn from(_e: AllocError) -> AskFault {
+        AskFault::OutOfMemory
+    }
+}
+
+impl<T: Drop> From<AllocFailed<T>> for AskFault {
+    ghost from_gives = { λ _ e. e ≡ OutOfMemory };
+
+    fn from(_e: AllocFailed<T>) -> AskFault {
+        AskFault::OutOfMemory
+    }
+}

@@ -1,0 +1,53 @@
+-- Every rule holds where no workspace is unheld.
+use Rattle.std.proofs.Common.{◌≡◌, ℕ, suc, Bool, true, false, ◌||◌, cond, List, [], ◌∷◌, Option, Some, None, refl, sym, ap, subst, ◌∙◌}
+use Rattle.std.specs.Option.{option_or, option_map, option_map_or}
+use Rattle.std.proofs.lemmas.Bool.{false≢true}
+use Rattle.std.proofs.lemmas.Option.{none-some, same_Some}
+use Rattle.clr_rows.specs.Contents.{row_at}
+use Rattle.clr_rules.specs.declared.needs.Broken.{Broken}
+use Rattle.clr_rules.specs.declared.rules.Rule.{Rule}
+use Rattle.clr_rules.specs.Needs.{Holds}
+use Rattle.clr_layers.specs.Marks.{Name}
+use Rattle.clr_layers.specs.Workspaces.{Workspace}
+use Rattle.clr_steps.specs.Invariants.{unheld_from}
+use Rattle.clr_steps.specs.Names.{is_live, same_name}
+use Rattle.clr_steps.specs.Offices.{Office, content_of, current_of, find_name, is_kept, workspace}
+use Rattle.clr_steps.specs.Refusals.{first_broken}
+use Rattle.clr_steps.proofs.NeedLemmas.{holds_if_none}
+use Rattle.clr_engine.specs.Drafts.{unheld_in}
+use Rattle.clr_drafts.specs.Laws.{HeldLaw}
+
+none_of : (r : Option Broken) (at : ℕ) (rest : Option (ℕ × Broken)) → option_or (option_map (λ need. (at, need)) r) rest ≡ None → (r ≡ None) × (rest ≡ None)
+none_of None at rest e = (refl, e)
+none_of (Some b) at rest e = absurd (cc)
+
+-- the first workspace of a name, if it is kept
+module _ (book : List Rule) (name : Name) where
+  none_at : (at : ℕ) (ws : List Workspace) (w : Workspace) → unheld_from book at ws ≡ None → find_name name ws ≡ Some w → w.kept ≡ true → first_broken book w.current ≡ None
+  unfolding unheld_from
+  none_at at [] w e f k = absurd (none-some w f)
+  none_at at (v ∷ ws) w e f k = by (same_name name v.name) f
+    where
+      by : (here : Bool) → cond here (Some v) (find_name name ws) ≡ Some w → first_broken book w.current ≡ None
+      by true f =
+          let need = cond v.kept (first_broken book v.current) None in
+          let none = (none_of need at (unheld_from book (suc at) ws) e).0 in
+          subst (λ (x : Workspace). x.kept ≡ true → first_broken book x.current ≡ None) (same_Some v w f)
+          (λ kept. sym (ap (λ b. cond b (first_broken book v.current) None) kept) ∙ none) k
+      by false f = none_at (suc at) ws w (none_of (cond v.kept (first_broken book v.current) None) at (unheld_from book (suc at) ws) e).1 f k
+
+module _ (o : Office) (name : Name) (none : unheld_in o ≡ None) where
+  holds_at : (r : Option Workspace) → find_name name o.workspaces ≡ r → option_map_or (λ w. w.kept) r false ≡ true → Holds o.book (row_at (current_of r))
+  holds_at None f k = absurd (false≢true k)
+  holds_at (Some w) f k =
+      let rest = (none_of (first_broken o.book o.live) 0 (unheld_from o.book 1 o.workspaces) none).1 in
+      holds_if_none o.book w.current (none_at o.book name 1 o.workspaces w rest f k)
+
+  holds_by : (live : Bool) → (live || option_map_or (λ w. w.kept) (cond live None (find_name name o.workspaces)) false) ≡ true
+      → Holds o.book (row_at (cond live o.live (current_of (find_name name o.workspaces))))
+  holds_by true k = holds_if_none o.book o.live (none_of (first_broken o.book o.live) 0 (unheld_from o.book 1 o.workspaces) none).0
+  holds_by false k = holds_at (find_name name o.workspaces) refl k
+
+pub held_law : HeldLaw
+unfolding is_kept workspace content_of
+held_law o none name kept = holds_by o name none (is_live name) kept

@@ -1,0 +1,90 @@
+-- What is made of what two texts give: of why they don't give both, and of an office with a certificate.
+use Rattle.std.proofs.Common.{◌≡◌, ℕ, Bool, not, ◌||◌, List, Option, Result, Ok, Err, is_some, length, take, refl, sym, subst, ◌∙◌}
+use Rattle.std.specs.List.{list_any}
+use Rattle.clr_layers.specs.Marks.{Name}
+use Rattle.clr_steps.specs.declared.commands.Command.{Command}
+use Rattle.clr_steps.specs.declared.commands.Reply.{Reply}
+use Rattle.clr_steps.specs.Offices.{Office}
+use Rattle.clr_steps.specs.Steps.{is_lost}
+use Rattle.clr_clearance.specs.declared.verdicts.Verdict.{Verdict}
+use Rattle.clr_clearance.specs.declared.verdicts.Verdict.TheVariants as verdict
+use Rattle.clr_clearance.specs.ClearedRuns.{IsClearedRun, IsQuietStart}
+use Rattle.clr_clearance.specs.Plans.{merges}
+use Rattle.clr_clearance.specs.Verdicts.{IsVerdict}
+use Rattle.clr_cert.specs.declared.certificates.Certificate.{Certificate}
+use Rattle.clr_check.specs.Answers.{IsRefusal}
+use Rattle.clr_check.specs.Certificates.{entries_in, site_of}
+use Rattle.clr_check_texts.specs.Cases.{Case, IsCaseFault}
+use Rattle.clr_check_texts.specs.Checks.{IsJudged}
+use Rattle.clr_check_texts.specs.declared.cases.CaseFault.{CaseFault}
+use Rattle.clr_check_texts.specs.declared.cases.CaseFault.TheVariants as case
+use Rattle.clr_verdict_lines.specs.Verdicts.{verdict_text}
+use Rattle.clr_office.specs.declared.faults.RunFault.{RunFault}
+use Rattle.clr_office.specs.declared.faults.RunFault.TheVariants as run_fault
+use Rattle.clr_office.specs.declared.outputs.Output.{Output}
+use Rattle.clr_office.specs.Clearances.{AreMerged, IsMergeOutcome, IsPrintOfCase, IsVerdictOutcome, fault_print, is_clear, is_without_memory}
+use Rattle.clr_office.specs.Clearances.{merge_outcome, merge_text, of_merges, of_verdict as of_verdict_alone, verdict_outcome}
+use Rattle.clr_office.specs.Outcomes.{Outcome, is_refused, outcome, outcome_of}
+use Rattle.clr_office.specs.Printing.{IsMade, IsTextFault, Printed, print_of}
+use Rattle.clr_office.proofs.Prints.{weaker_made}
+
+-- want of memory may come in place of what is made for any print
+lost_made : (P : Printed → Type 0) (answer : Result Output RunFault) → IsMade (λ print. print ≡ Err run_fault.OutOfMemory) answer → IsMade P answer
+lost_made P (Ok output) h = absurd cc
+lost_made P (Err (run_fault.BadOffice e)) h = absurd cc
+lost_made P (Err (run_fault.BadScript number e)) h = absurd cc
+lost_made P (Err (run_fault.BadCertificate number e)) h = absurd cc
+lost_made P (Err run_fault.OutOfMemory) h = tt
+lost_made P (Err run_fault.ReadFailed) h = h
+lost_made P (Err run_fault.WriteFailed) h = h
+lost_made P (Err run_fault.TooLong) h = h
+lost_made P (Err run_fault.NoSeparator) h = h
+
+module _ (IsRight : Office → Certificate → Outcome → Type 0) (given : Case) where
+  -- the texts don't give both
+  why_made : (why : CaseFault) → given ≡ Err why → (answer : Result Output RunFault) → IsMade (λ print. print ≡ fault_print why) answer → IsMade (IsPrintOfCase IsRight given) answer
+  why_made why is answer =
+      weaker_made (λ print. print ≡ fault_print why) (IsPrintOfCase IsRight given) (λ print h. subst (λ g. IsPrintOfCase IsRight g print) (sym is) h) answer
+
+  pub fault_made : (why : CaseFault) → IsCaseFault given why → (answer : Result Output RunFault) → IsMade (λ print. print ≡ fault_print why) answer
+      → IsMade (IsPrintOfCase IsRight given) answer
+  fault_made (case.BadOffice e) is = why_made (case.BadOffice e) is
+  fault_made (case.Unheld o position need) is = why_made (case.Unheld o position need) is
+  fault_made (case.BadCertificate number e) is = why_made (case.BadCertificate number e) is
+  fault_made case.OutOfMemory is = lost_made (IsPrintOfCase IsRight given)
+
+  -- they give both
+  pub case_made : (o left : Office) (c : Certificate) (output : Output) → given ≡ Ok (o, c) → IsRight o c (outcome_of output left) → IsMade (IsPrintOfCase IsRight given) (Ok output)
+  case_made o left c output is h =
+      subst (λ g. IsPrintOfCase IsRight g (print_of output.lines.items output.refused output.lost)) (sym is) (outcome_of output left, h, refl)
+
+-- an outcome by its parts
+outcome_is : (output : Output) (o : Office) (lines : List ℕ) (refused lost : Bool) → output.lines.items ≡ lines → output.refused ≡ refused → output.lost ≡ lost
+    → outcome_of output o ≡ outcome lines refused lost o
+outcome_is output o lines refused lost a b c = rw (a, b, c) refl
+
+module _ (o : Office) (c : Certificate) (v : Verdict) (output : Output)
+    (lines : output.lines.items ≡ verdict_text o.schema c.members c.root v) (refused : output.refused ≡ not (is_clear v)) (lost : output.lost ≡ is_without_memory v) where
+  of_verdict : outcome_of output o ≡ verdict_outcome o c v
+  of_verdict = outcome_is output o (verdict_text o.schema c.members c.root v) (not (is_clear v)) (is_without_memory v) lines refused lost
+
+  pub checked : IsJudged o c v → IsVerdictOutcome o c (outcome_of output o)
+  checked judged = (v, judged, of_verdict)
+
+  -- no merge is performed
+  pub not_merged : (names : List Name) → IsRefusal o (site_of c) (entries_in c.entries) v → IsMergeOutcome o c names (outcome_of output o)
+  not_merged names refusal = of_verdict_alone v refusal of_verdict
+
+module _ (o left : Office) (c : Certificate) (names : List Name) (commands : List Command) (replies : List Reply) (stopped : Option ℕ) (output : Output) where
+  -- merges are performed
+  pub merged : commands ≡ merges names → IsVerdict o (site_of c) (entries_in c.entries) verdict.Clear → IsQuietStart o (site_of c) commands replies left stopped
+      → IsClearedRun o (site_of c) (take (length replies) commands) replies left
+      → output.lines.items ≡ merge_text replies stopped left → output.refused ≡ (list_any is_refused replies || is_some stopped) → output.lost ≡ list_any is_lost replies
+      → IsMergeOutcome o c names (outcome_of output left)
+  merged are clear start ran lines refused lost =
+      let all : AreMerged o c names replies stopped left = record {
+        clear = clear;
+        start = subst (λ cs. IsQuietStart o (site_of c) cs replies left stopped) are start;
+        run = subst (λ cs. IsClearedRun o (site_of c) (take (length replies) cs) replies left) are ran;
+      } in
+      of_merges replies stopped left all (outcome_is output left (merge_text replies stopped left) (list_any is_refused replies || is_some stopped) (list_any is_lost replies) lines refused lost)

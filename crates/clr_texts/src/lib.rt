@@ -1,0 +1,13 @@
+//! All texts: office texts, edits and scripts read and written, and the lines of what an office is
+//! asked for.
+#![tactic(auto)]
+
+mod workspaces;
+
+pub use clr_drafts::{TextFault, read_office};
+pub use clr_lines::{audit_lines, changes_lines, conflicts_lines, reply_line, rows_lines};
+pub use clr_office_writer::write_office;
+pub use clr_plan_lines::plan_lines;
+pub use clr_scripts::{RecordFault, Step, Word, read_edits, read_script};
+pub use clr_verdict_lines::verdict_line;
+pub use workspaces::workspaces_lines;
