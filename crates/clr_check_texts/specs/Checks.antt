@@ -9,6 +9,7 @@ use Rattle.clr_cert.specs.declared.certificates.Certificate.{Certificate}
 use Rattle.clr_check.specs.Answers.{IsAnswer}
 use Rattle.clr_check.specs.Certificates.{entries_in, site_of}
 use Rattle.clr_check_texts.specs.Cases.{Case}
+use Rattle.clr_check_texts.specs.declared.cases.CaseFault.{CaseFault}
 use Rattle.clr_check_texts.specs.declared.cases.CaseFault.TheVariants as fault
 use Rattle.clr_check_texts.specs.declared.checked.Checked.{Checked}
 use Rattle.clr_check_texts.specs.declared.checked.Checked.TheVariants as checked
@@ -32,3 +33,10 @@ IsChecked given (checked.BadOffice e) = given ≡ Err (fault.BadOffice e)
 IsChecked given (checked.BadCertificate n e) = given ≡ Err (fault.BadCertificate n e)
 IsChecked given (checked.Unheld position need) = (o : Office) × (given ≡ Err (fault.Unheld o position need))
 IsChecked given checked.OutOfMemory = Unit {0}
+
+-- what is said where they don't give both
+abbrev pub said_of : CaseFault → Checked
+said_of (fault.BadOffice e) = checked.BadOffice e
+said_of (fault.Unheld o position need) = checked.Unheld position need
+said_of (fault.BadCertificate n e) = checked.BadCertificate n e
+said_of fault.OutOfMemory = checked.OutOfMemory

@@ -46,22 +46,20 @@ fn with_certificate(
 }
 
 /// The office of a draft, whose rules may not hold, with the certificate of a text.
-fn admit_with(
-    alloc: Global,
-    draft: Draft,
-    text: &[u8],
-) -> Result<(Office, Certificate), CaseFault>
+fn admit_with(alloc: Global, draft: Draft, text: &[u8]) -> Result<(Office, Certificate), CaseFault>
     ensures case { IfOk result (λ given. where_held draft text.now (unheld_in draft) ≡ Ok (given.0, given.1)) }
     ensures fault { IfErr result (IsCaseFault (where_held draft text.now (unheld_in draft))) }
 {
     match draft.admit() {
         Ok(office) => with_certificate(alloc, office, text),
-        Err((draft, AdmitFault::Broken { position, need })) => Err(CaseFault::Unheld {
-            draft,
-            position,
-            need,
-        }),
-        Err((_, AdmitFault::OutOfMemory)) => Err(CaseFault::OutOfMemory),
+        Err((draft, fault)) => match fault {
+            AdmitFault::Broken { position, need } => Err(CaseFault::Unheld {
+                draft,
+                position,
+                need,
+            }),
+            AdmitFault::OutOfMemory => Err(CaseFault::OutOfMemory),
+        },
     }
 }
 

@@ -1,6 +1,6 @@
 ghost use Rattle.std.specs.Prelude.{◌≡◌, Ok, IfOk, IfErr};
-ghost use Rattle.clr_check_texts.specs.Cases.{Case, IsCaseFault, case_of};
-ghost use Rattle.clr_check_texts.specs.Checks.{IsChecked, IsJudged};
+ghost use Rattle.clr_check_texts.specs.Cases.{IsCaseFault, case_of};
+ghost use Rattle.clr_check_texts.specs.Checks.{IsChecked, IsJudged, said_of};
 
 use crate::cases::{CaseFault, read_case};
 use crate::checked::Checked;
@@ -20,11 +20,7 @@ pub struct TextCheck {
 /// The check of a certificate in an office, both given as texts, with what its line names. It fails as
 /// `read_case` does. The verdict may be want of memory; where it is clear, the members are safe, as
 /// `check` says. Nothing that the certificate says is taken for true.
-pub fn judge_texts(
-    alloc: Global,
-    office: &[u8],
-    certificate: &[u8],
-) -> Result<TextCheck, CaseFault>
+pub fn judge_texts(alloc: Global, office: &[u8], certificate: &[u8]) -> Result<TextCheck, CaseFault>
     ensures case { IfOk result (λ check. case_of office.now certificate.now ≡ Ok (check.office, check.certificate)) }
     ensures verdict { IfOk result (λ check. IsJudged check.office check.certificate check.verdict) }
     ensures fault { IfErr result (IsCaseFault (case_of office.now certificate.now)) }
@@ -44,7 +40,7 @@ pub fn judge_texts(
 
 /// What is said where two texts don't give an office with a certificate.
 fn said_of(fault: CaseFault) -> Checked
-    ensures { (given : Case) → IsCaseFault given fault → IsChecked given result }
+    ensures { result ≡ said_of fault }
 {
     match fault {
         CaseFault::BadOffice(fault) => Checked::BadOffice(fault),

@@ -23,18 +23,20 @@ none_of (Some b) at rest e = absurd (cc)
 
 -- the first workspace of a name, if it is kept
 module _ (book : List Rule) (name : Name) where
+  -- it is the first of a list, or stands behind that
+  none_by : (here : Bool) (at : ℕ) (v : Workspace) (ws : List Workspace) (w : Workspace) → cond v.kept (first_broken book v.current) None ≡ None
+      → (find_name name ws ≡ Some w → first_broken book w.current ≡ None) → cond here (Some v) (find_name name ws) ≡ Some w → w.kept ≡ true → first_broken book w.current ≡ None
+  none_by true at v ws w none later f k =
+      subst (λ (x : Workspace). x.kept ≡ true → first_broken book x.current ≡ None) (same_Some v w f)
+      (λ kept. sym (ap (λ b. cond b (first_broken book v.current) None) kept) ∙ none) k
+  none_by false at v ws w none later f k = later f
+
   none_at : (at : ℕ) (ws : List Workspace) (w : Workspace) → unheld_from book at ws ≡ None → find_name name ws ≡ Some w → w.kept ≡ true → first_broken book w.current ≡ None
   unfolding unheld_from
   none_at at [] w e f k = absurd (none-some w f)
-  none_at at (v ∷ ws) w e f k = by (same_name name v.name) f
-    where
-      by : (here : Bool) → cond here (Some v) (find_name name ws) ≡ Some w → first_broken book w.current ≡ None
-      by true f =
-          let need = cond v.kept (first_broken book v.current) None in
-          let none = (none_of need at (unheld_from book (suc at) ws) e).0 in
-          subst (λ (x : Workspace). x.kept ≡ true → first_broken book x.current ≡ None) (same_Some v w f)
-          (λ kept. sym (ap (λ b. cond b (first_broken book v.current) None) kept) ∙ none) k
-      by false f = none_at (suc at) ws w (none_of (cond v.kept (first_broken book v.current) None) at (unheld_from book (suc at) ws) e).1 f k
+  none_at at (v ∷ ws) w e f k =
+      let both = none_of (cond v.kept (first_broken book v.current) None) at (unheld_from book (suc at) ws) e in
+      none_by (same_name name v.name) at v ws w both.0 (λ later. none_at (suc at) ws w both.1 later k) f k
 
 module _ (o : Office) (name : Name) (none : unheld_in o ≡ None) where
   holds_at : (r : Option Workspace) → find_name name o.workspaces ≡ r → option_map_or (λ w. w.kept) r false ≡ true → Holds o.book (row_at (current_of r))

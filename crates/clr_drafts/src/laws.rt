@@ -4,5 +4,4 @@ ghost use Rattle.clr_drafts.specs.Laws.{HeldLaw};
 /// breaks one, so of each office that a text gives and that isn't told to be unheld.
 pub fn rules_hold_where_none_is_unheld()
     ensures { HeldLaw }
-{
-}
+{}

@@ -17,7 +17,7 @@ use Rattle.clr_check.specs.Certificates.{entries_in, site_of}
 use Rattle.clr_check_texts.specs.Cases.{Case, IsCaseFault}
 use Rattle.clr_check_texts.specs.Checks.{IsJudged}
 use Rattle.clr_check_texts.specs.declared.cases.CaseFault.{CaseFault}
-use Rattle.clr_check_texts.specs.declared.cases.CaseFault.TheVariants as case
+use Rattle.clr_check_texts.specs.declared.cases.CaseFault.TheVariants as no_case
 use Rattle.clr_verdict_lines.specs.Verdicts.{verdict_text}
 use Rattle.clr_office.specs.declared.faults.RunFault.{RunFault}
 use Rattle.clr_office.specs.declared.faults.RunFault.TheVariants as run_fault
@@ -48,10 +48,10 @@ module _ (IsRight : Office → Certificate → Outcome → Type 0) (given : Case
 
   pub fault_made : (why : CaseFault) → IsCaseFault given why → (answer : Result Output RunFault) → IsMade (λ print. print ≡ fault_print why) answer
       → IsMade (IsPrintOfCase IsRight given) answer
-  fault_made (case.BadOffice e) is = why_made (case.BadOffice e) is
-  fault_made (case.Unheld o position need) is = why_made (case.Unheld o position need) is
-  fault_made (case.BadCertificate number e) is = why_made (case.BadCertificate number e) is
-  fault_made case.OutOfMemory is = lost_made (IsPrintOfCase IsRight given)
+  fault_made (no_case.BadOffice e) is = why_made (no_case.BadOffice e) is
+  fault_made (no_case.Unheld o position need) is = why_made (no_case.Unheld o position need) is
+  fault_made (no_case.BadCertificate number e) is = why_made (no_case.BadCertificate number e) is
+  fault_made no_case.OutOfMemory is = lost_made (IsPrintOfCase IsRight given)
 
   -- they give both
   pub case_made : (o left : Office) (c : Certificate) (output : Output) → given ≡ Ok (o, c) → IsRight o c (outcome_of output left) → IsMade (IsPrintOfCase IsRight given) (Ok output)

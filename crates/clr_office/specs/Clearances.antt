@@ -17,7 +17,7 @@ use Rattle.clr_check.specs.Certificates.{entries_in, site_of}
 use Rattle.clr_check_texts.specs.Cases.{Case}
 use Rattle.clr_check_texts.specs.Checks.{IsJudged}
 use Rattle.clr_check_texts.specs.declared.cases.CaseFault.{CaseFault}
-use Rattle.clr_check_texts.specs.declared.cases.CaseFault.TheVariants as case
+use Rattle.clr_check_texts.specs.declared.cases.CaseFault.TheVariants as no_case
 use Rattle.clr_lines.specs.Replies.{reply_text}
 use Rattle.clr_lines.specs.Reports.{count_line}
 use Rattle.clr_verdict_lines.specs.Verdicts.{verdict_text}
@@ -73,10 +73,10 @@ pub data IsMergeOutcome (o : Office) (c : Certificate) (names : List Name) (all 
 
 -- what is printed where two texts don't give an office with a certificate
 abbrev pub fault_print : CaseFault → Printed
-fault_print (case.BadOffice e) = Err (run_fault.BadOffice e)
-fault_print (case.Unheld o position need) = unheld_print o position need
-fault_print (case.BadCertificate number e) = Err (run_fault.BadCertificate number e)
-fault_print case.OutOfMemory = Err run_fault.OutOfMemory
+fault_print (no_case.BadOffice e) = Err (run_fault.BadOffice e)
+fault_print (no_case.Unheld o position need) = unheld_print o position need
+fault_print (no_case.BadCertificate number e) = Err (run_fault.BadCertificate number e)
+fault_print no_case.OutOfMemory = Err run_fault.OutOfMemory
 
 -- what is asked of what they give, or that
 abbrev pub IsPrintOfCase : (Office → Certificate → Outcome → Type 0) → Case → Printed → Type 0

@@ -90,12 +90,7 @@ fn answer_merge(
 }
 
 /// What is printed for what is asked of two texts.
-fn answer_texts(
-    alloc: Global,
-    ask: &Ask,
-    office: &[u8],
-    second: &[u8],
-) -> Result<Output, RunFault>
+fn answer_texts(alloc: Global, ask: &Ask, office: &[u8], second: &[u8]) -> Result<Output, RunFault>
     ensures { IsMade (IsAnswerWithin ask.now office.now second.now) result }
 {
     match ask {

@@ -88,7 +88,7 @@ pub fn merge_members(
 {
     let commands = merges(alloc, names)?;
     match perform_cleared(alloc, office, certificate, commands.as_slice()) {
-        Ok(run) => run_output(alloc, office, &run),
-        Err(verdict) => verdict_output(alloc, office.schema(), certificate, &verdict),
+        Ok(run) => Ok(run_output(alloc, office, &run)?),
+        Err(verdict) => Ok(verdict_output(alloc, office.schema(), certificate, &verdict)?),
     }
 }

@@ -86,13 +86,7 @@ fn is_answered_within(alloc: Global, hoard: &mut Hoard, budget: usize, case: Cas
     let mut page = Page::new(alloc, ROOM).ok()?;
     let (office, second) = case.texts;
     hoard.leave(budget).ok()?;
-    let status = answer(
-        alloc,
-        &ask,
-        office.as_bytes(),
-        second.as_bytes(),
-        &mut page,
-    );
+    let status = answer(alloc, &ask, office.as_bytes(), second.as_bytes(), &mut page);
     hoard.give_back();
     let written = page.as_slice();
     let is_known = match status {

@@ -2,7 +2,7 @@ use Rattle.std.proofs.Common.{Ok, refl}
 use Rattle.clr_check.specs.SiteNames.{site}
 use Rattle.clr_drafts.specs.Drafts.{draft_in}
 use Rattle.clr_office.specs.Answers.{IsPlanPrint}
-use Rattle.clr_office.specs.Outcomes.{outcome}
+use Rattle.clr_office.specs.Outcomes.{outcome_of}
 use Rattle.clr_office.proofs.Prints.{held_made}
 use Rattle.clr_office.proofs.answers.answer_plan.Goals as goal
 
@@ -11,4 +11,4 @@ returns-in_ok-plan_members-in-Ok c =
     let o = c.in-Ok.office in
     let output = c.in_ok-plan_members-in-Ok.field-0 in
     held_made (IsPlanPrint (site c.args.root.now c.args.names.now)) (draft_in c.args.office.now) o c.in-Ok.ensures.meant c.in-Ok.ensures.held (Ok output)
-    (λ found. (outcome output.lines.items output.refused o, c.in_ok-plan_members-in-Ok.ensures found, refl))
+    (outcome_of output o, c.in_ok-plan_members-in-Ok.ensures, refl)
