@@ -26,6 +26,7 @@ use Rattle.clr_office.specs.Clearances.{AreMerged, IsMergeOutcome, IsPrintOfCase
 use Rattle.clr_office.specs.Clearances.{merge_outcome, merge_text, of_merges, of_verdict as of_verdict_alone, verdict_outcome}
 use Rattle.clr_office.specs.Outcomes.{Outcome, is_refused, outcome, outcome_of}
 use Rattle.clr_office.specs.Printing.{IsMade, IsTextFault, Printed, print_of}
+use Rattle.clr_office.proofs.Outcomes.{parts_are}
 use Rattle.clr_office.proofs.Prints.{weaker_made}
 
 -- want of memory may come in place of what is made for any print
@@ -58,15 +59,10 @@ module _ (IsRight : Office → Certificate → Outcome → Type 0) (given : Case
   case_made o left c output is h =
       subst (λ g. IsPrintOfCase IsRight g (print_of output.lines.items output.refused output.lost)) (sym is) (outcome_of output left, h, refl)
 
--- an outcome by its parts
-outcome_is : (output : Output) (o : Office) (lines : List ℕ) (refused lost : Bool) → output.lines.items ≡ lines → output.refused ≡ refused → output.lost ≡ lost
-    → outcome_of output o ≡ outcome lines refused lost o
-outcome_is output o lines refused lost a b c = rw (a, b, c) refl
-
 module _ (o : Office) (c : Certificate) (v : Verdict) (output : Output)
     (lines : output.lines.items ≡ verdict_text o.schema c.members c.root v) (refused : output.refused ≡ not (is_clear v)) (lost : output.lost ≡ is_without_memory v) where
   of_verdict : outcome_of output o ≡ verdict_outcome o c v
-  of_verdict = outcome_is output o (verdict_text o.schema c.members c.root v) (not (is_clear v)) (is_without_memory v) lines refused lost
+  of_verdict = parts_are o _ _ _ _ _ _ lines refused lost
 
   pub checked : IsJudged o c v → IsVerdictOutcome o c (outcome_of output o)
   checked judged = (v, judged, of_verdict)
@@ -87,4 +83,4 @@ module _ (o left : Office) (c : Certificate) (names : List Name) (commands : Lis
         start = subst (λ cs. IsQuietStart o (site_of c) cs replies left stopped) are start;
         run = subst (λ cs. IsClearedRun o (site_of c) (take (length replies) cs) replies left) are ran;
       } in
-      of_merges replies stopped left all (outcome_is output left (merge_text replies stopped left) (list_any is_refused replies || is_some stopped) (list_any is_lost replies) lines refused lost)
+      of_merges replies stopped left all (parts_are left _ _ _ _ _ _ lines refused lost)

@@ -1,5 +1,6 @@
 pub mod CaseTexts
 pub mod Lines
+pub mod Outcomes
 pub mod Prints
 pub mod ReplyLines
 pub mod ScriptOutcomes
