@@ -1,6 +1,7 @@
 -- What the steps of a script print over an office.
 use Rattle.std.specs.Prelude.{◌≡◌, ℕ, Bool, false, true, not, ◌||◌, List, [], ◌∷◌, ◌++◌}
 use Rattle.std.specs.Prelude.{⊤, codes, drop, if◌then◌else◌, length, nat_lt}
+use Rattle.std.specs.List.{list_any}
 use Rattle.clr_rows.specs.Names.{live_name}
 use Rattle.clr_rules.specs.Needs.{broken_needs}
 use Rattle.clr_layers.specs.Marks.{Name}
@@ -13,6 +14,10 @@ use Rattle.clr_steps.specs.Quiet.{Site}
 use Rattle.clr_steps.specs.Readings.{changes_in, conflicts_in}
 use Rattle.clr_steps.specs.Steps.{TakesNoMemory, step_or_lost}
 use Rattle.clr_check.specs.SiteNames.{site}
+use Rattle.clr_independence.specs.declared.independences.Independence.{Independence}
+use Rattle.clr_independence.specs.declared.independences.Independence.TheVariants as said
+use Rattle.clr_independence.specs.Independences.{IsIndependenceOf}
+use Rattle.clr_independence.specs.Lines.{independence_text}
 use Rattle.clr_plan.specs.declared.plans.Plan.{Plan}
 use Rattle.clr_plan.specs.Plans.{IsPlan}
 use Rattle.clr_plan.specs.Promises.{IsExact, Promises, is_cleared, is_out_of_memory}
@@ -112,7 +117,19 @@ plan_outcome o s p = outcome (plan_text o.schema s.members s.root p) (not (is_cl
 abbrev pub IsPlanOutcome : Office → Site → Outcome → Type 0
 IsPlanOutcome o s all = (p : Plan) × IsPlanned o s p × (all ≡ plan_outcome o s p)
 
--- a step; of a plan under a root, the first name is the root and the others are the members
+-- members are unfit, or two of them depend on one another
+abbrev pub has_dependence : Independence → Bool
+has_dependence (said.Unfit v) = true
+has_dependence (said.Pairs pairs) = list_any (λ p. not p.independent) pairs.items
+
+-- the lines of the independence of members of a root; a dependent pair counts as a refusal, and so do members that are unfit
+abbrev pub independence_outcome : Office → Site → Independence → Outcome
+independence_outcome o s value = shown (independence_text o.schema s.members s.root value) (has_dependence value) o
+
+abbrev pub IsIndependenceOutcome : Office → Site → Outcome → Type 0
+IsIndependenceOutcome o s all = (value : Independence) × IsIndependenceOf o s value × (all ≡ independence_outcome o s value)
+
+-- a step; where it is asked of a root, the first name is the root and the others are the members
 abbrev pub IsOutcome : Office → Step → Outcome → Type 0
 IsOutcome o (Act command) all = IsCommandOutcome o command all
 IsOutcome o (Report word.Show names) all = all ≡ show_outcome o (first_name names)
@@ -123,6 +140,8 @@ IsOutcome o (Report word.Workspaces names) all = all ≡ workspaces_outcome o
 IsOutcome o (Report word.Dump names) all = all ≡ dump_outcome o
 IsOutcome o (Report word.Plan names) all = IsPlanOutcome o (site live_name names) all
 IsOutcome o (Report word.PlanUnder names) all = IsPlanOutcome o (site (first_name names) (drop 1 names)) all
+IsOutcome o (Report word.Independence names) all = IsIndependenceOutcome o (site live_name names) all
+IsOutcome o (Report word.IndependenceUnder names) all = IsIndependenceOutcome o (site (first_name names) (drop 1 names)) all
 
 -- what is printed at first and then, in the office that was left
 abbrev pub followed_by : Outcome → Outcome → Outcome

@@ -5,6 +5,7 @@ mod answers;
 mod certificates;
 mod devices;
 mod faults;
+mod independences;
 mod memory;
 mod merges;
 mod offices;

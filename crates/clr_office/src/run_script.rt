@@ -5,6 +5,7 @@ ghost use Rattle.clr_office.specs.Outcomes.{IsCommandOutcome, IsOutcome, IsScrip
 ghost use Rattle.clr_office.specs.Printing.{IsMade, IsScriptFault, IsScriptPrint};
 
 use crate::faults::RunFault;
+use crate::independences::members_independence;
 use crate::outputs::Output;
 use crate::plans::plan_members;
 use crate::replies::reply_output;
@@ -56,6 +57,12 @@ fn run_step(alloc: Global, office: &mut Office, step: &Step) -> Result<Output, A
         Step::Report(Word::Plan, names) => plan_members(alloc, office, LIVE, names.as_slice()),
         Step::Report(Word::PlanUnder, names) => {
             plan_members(alloc, office, first_name(names), later_names(names))
+        }
+        Step::Report(Word::Independence, names) => {
+            members_independence(alloc, office, LIVE, names.as_slice())
+        }
+        Step::Report(Word::IndependenceUnder, names) => {
+            members_independence(alloc, office, first_name(names), later_names(names))
         }
     }
 }

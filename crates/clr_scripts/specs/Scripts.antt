@@ -16,7 +16,7 @@ use Rattle.clr_scripts.specs.declared.plain_steps.CommandWord.TheVariants as ask
 use Rattle.clr_scripts.specs.declared.steps.Step.{Step}
 use Rattle.clr_scripts.specs.declared.steps.Step.TheVariants.{Act, Report}
 use Rattle.clr_scripts.specs.declared.steps.Word.{Word}
-use Rattle.clr_scripts.specs.declared.steps.Word.TheVariants.{Show, Changes, Conflicts, Audit, Workspaces, Dump, Plan, PlanUnder}
+use Rattle.clr_scripts.specs.declared.steps.Word.TheVariants.{Show, Changes, Conflicts, Audit, Workspaces, Dump, Plan, PlanUnder, Independence, IndependenceUnder}
 use Rattle.clr_records.specs.Records.{field_of, ◌>>=◌, at_record, or_fault}
 use Rattle.clr_scripts.specs.Records.{records_or_fault}
 use Rattle.clr_scripts.specs.Edits.{edits_from, whole_number}
@@ -52,7 +52,9 @@ report_word_of word =
     else (if bytes_eq word (codes "dump") then Some Dump
     else (if bytes_eq word (codes "plan") then Some Plan
     else (if bytes_eq word (codes "planunder") then Some PlanUnder
-    else None)))))))
+    else (if bytes_eq word (codes "independence") then Some Independence
+    else (if bytes_eq word (codes "independenceunder") then Some IndependenceUnder
+    else None)))))))))
 
 abbrev pub only_name_of : List (List ℕ) → Result (List ℕ) RecordFault
 only_name_of fields = with_count 2 fields (Ok (field_of fields 1))
@@ -123,6 +125,8 @@ can_have_fields Workspaces n = n == 1
 can_have_fields Dump n = n == 1
 can_have_fields Plan n = true
 can_have_fields PlanUnder n = nat_le 2 n
+can_have_fields Independence n = true
+can_have_fields IndependenceUnder n = nat_le 2 n
 
 -- the names are all fields but the first
 abbrev pub report_of : Word → List (List ℕ) → Result Step RecordFault

@@ -22,6 +22,12 @@ pub enum Word {
     /// The same of children of another workspace: the first of its names is the root, and those behind
     /// it, none or more, are the members.
     PlanUnder,
+    /// Which children of LIVE are independent, pair by pair: the members, which are its names, none or
+    /// more.
+    Independence,
+    /// The same of children of another workspace: the first of its names is the root, and those behind
+    /// it, none or more, are the members.
+    IndependenceUnder,
 }
 
 /// A step of a script: a command to perform; or a report to print, with the names that it is asked
