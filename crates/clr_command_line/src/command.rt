@@ -100,7 +100,9 @@ fn run<'a>(alloc: Global) -> Result<Command<'a>, AllocError>
         alloc,
         command,
         "SCRIPT",
-        "The file of the script: a CSV record for each step, as merge,W1,keep",
+        "The file of the script, a CSV record for each step: create, remove, apply, mark, unmark, rollto, \
+         rollall, refresh, merge, resolve, hold, release, show, changes, conflicts, audit, workspaces, \
+         dump, plan, planunder, independence, independenceunder",
     )
 }
 

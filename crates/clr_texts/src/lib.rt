@@ -5,6 +5,7 @@
 mod workspaces;
 
 pub use clr_drafts::{TextFault, read_office};
+pub use clr_independence::independence_lines;
 pub use clr_lines::{audit_lines, changes_lines, conflicts_lines, reply_line, rows_lines};
 pub use clr_office_writer::write_office;
 pub use clr_plan_lines::plan_lines;
