@@ -66,6 +66,11 @@ script plan, => Plan/
 script plan,W1,W2,W1 => Plan/W1/W2/W1
 script planunder,K => PlanUnder/K
 script planunder,K,V1,V2 => PlanUnder/K/V1/V2
+script independence,W1,W2 => Independence/W1/W2
+script independence => Independence
+script independence, => Independence/
+script independenceunder,K => IndependenceUnder/K
+script independenceunder,K,V1,V2 => IndependenceUnder/K/V1/V2
 script workspaces/dump => Workspaces; Dump";
 
 /// Several steps.
@@ -99,7 +104,8 @@ audit
 audit,W1,W2
 workspaces,W1
 dump,W1
-planunder";
+planunder
+independenceunder";
 
 /// Which of two faults of a record counts.
 pub(crate) const TURNS: &str = "script Hold,K => 1 BadWord
@@ -108,8 +114,7 @@ script weak => 1 BadWord
 script Conflicts,W1 => 1 BadWord
 script dumps => 1 BadWord
 script plans => 1 BadWord
-script independence,W1 => 1 BadWord
-script independenceunder,K,V1 => 1 BadWord
+script independences => 1 BadWord
 script merge,W1,drop => 1 BadWord
 script merge,W1,Keep => 1 BadWord
 script resolve,W1,main,20,parent => 1 BadWord
