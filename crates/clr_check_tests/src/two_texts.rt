@@ -1,6 +1,6 @@
 use clr_cert::CertFault;
 use clr_check::Verdict;
-use clr_check_texts::{CaseFault, Checked, TextFault, check_texts, judge_texts};
+use clr_check_texts::{Checked, TextFault, check_texts};
 use clr_foot::{Need, VersionId};
 use clr_rows::CellId;
 use clr_rules::{Ask, Broken};
@@ -82,30 +82,6 @@ fn texts_are_checked_in_turn(rt: HostRuntime) -> Result<(), Fail> {
     ];
     for (network, record, said) in cases {
         assert!(rt; check_of(rt.alloc(), network, record)? == said);
-    }
-    Ok(())
-}
-
-#[test]
-fn a_check_keeps_what_its_line_names(rt: HostRuntime) -> Result<(), Fail> {
-    let alloc = rt.alloc();
-    let office = format!(in alloc; "{CROSSING}{REPLACED}")?;
-    let certificate = "member,W1,,,,\nmember,W9,,,,\n";
-    let judged = judge_texts(alloc, office.as_bytes(), certificate.as_bytes());
-    let check = judged.ok().ok_or("both texts can be read")?;
-    assert!(rt; check.verdict == Verdict::NoWorkspace(1));
-    assert!(rt; check.certificate.members.as_slice().len() == 2);
-    assert!(rt; check.office.len() == 2);
-    let unheld = format!(in alloc; "{CROSSING}{DELETED}")?;
-    match judge_texts(alloc, unheld.as_bytes(), b"") {
-        Err(
-            CaseFault::Unheld {
-                draft,
-                position,
-                ..
-            },
-        ) => assert!(rt; draft.name_at(position) == Some("W1")),
-        _ => assert!(rt; false, "a rule doesn't hold in W1"),
     }
     Ok(())
 }

@@ -1,8 +1,6 @@
 ghost use Rattle.std.specs.Prelude.{None};
 
 use clr_office::{DeviceFault, Page, Port, RunFault, Sink, Source, Text, run_office};
-use std::io;
-use std::io::Write;
 use std::test::Fail;
 
 const INPUT: &str = "{\"format\":1,\"tables\":[],\"live\":[]}\n---\nshow,LIVE\n";
@@ -57,27 +55,6 @@ impl Sink for Jam {
         }
         self.puts_before_fault -= 1;
         Ok(())
-    }
-}
-
-/// A writer that takes all that it is given, and whose flush may fail.
-#[derive(Drop)]
-struct Clog {
-    flushes: bool,
-}
-
-impl Write for Clog {
-    ghost contents = { λ _. None };
-
-    fn write(&mut self, bytes: &[u8]) -> io::Result<usize> {
-        Ok(bytes.len())
-    }
-
-    fn flush(&mut self) -> io::Result<()> {
-        if self.flushes {
-            return Ok(());
-        }
-        Err(io::Error::from(io::ErrorKind::Other))
     }
 }
 
@@ -138,22 +115,6 @@ fn all_lines_go_out_in_one_put(rt: HostRuntime) -> Result<(), Fail> {
             assert_eq!(rt; jam.puts_before_fault, 0);
             assert_eq!(rt; jam.page.as_slice(), LINES);
         }
-    }
-    Ok(())
-}
-
-#[test]
-fn a_failed_flush_is_a_failed_write(rt: HostRuntime) -> Result<(), Fail> {
-    for flushes in [true, false] {
-        let mut port = Port::new(Clog { flushes });
-        let status = run_office(rt.alloc(), &mut Text::new(INPUT.as_bytes()), &mut port);
-        let want = if flushes {
-            Ok(0)
-        } else {
-            Err(RunFault::WriteFailed)
-        };
-        assert_eq!(rt; status, want);
-        assert!(rt; port.put(b"more").is_ok() == flushes);
     }
     Ok(())
 }

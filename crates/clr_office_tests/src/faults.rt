@@ -1,4 +1,7 @@
-use clr_office::{CertFault, RecordFault, RunFault, TextFault};
+use clr_cert::CertFault;
+use clr_office::RunFault;
+use clr_office_text::TextFault;
+use clr_scripts::RecordFault;
 use std::test::Fail;
 
 #[test]

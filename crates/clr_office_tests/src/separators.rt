@@ -1,4 +1,6 @@
-use clr_office::{Page, RecordFault, RunFault, Text, TextFault, run_office};
+use clr_office::{Page, RunFault, Text, run_office};
+use clr_office_text::TextFault;
+use clr_scripts::RecordFault;
 use std::alloc::Global;
 use std::test::Fail;
 

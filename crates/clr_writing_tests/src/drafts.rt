@@ -1,4 +1,4 @@
-use clr_texts::{TextFault, read_office};
+use clr_drafts::{TextFault, read_office};
 use std::alloc::{AllocError, Global};
 use std::test::Fail;
 

@@ -1,5 +1,5 @@
-use clr_engine::Office;
-use clr_texts::{read_office, workspaces_lines, write_office};
+use clr_drafts::read_office;
+use clr_office_writer::write_office;
 use std::alloc::Global;
 use std::test::Fail;
 
@@ -12,15 +12,10 @@ fn on_one_line(alloc: Global, lines: &str) -> Result<String, Fail> {
     Ok(text)
 }
 
-/// The office of a text.
-fn office_of(alloc: Global, text: &str) -> Result<Office, Fail> {
-    let admitted = read_office(alloc, text.as_bytes())?.admit();
-    Ok(admitted.ok().ok_or("a rule doesn't hold")?)
-}
-
 /// The text that is written of the office of a text.
 fn write_again(alloc: Global, text: &str) -> Result<Vec<u8>, Fail> {
-    let office = office_of(alloc, text)?;
+    let admitted = read_office(alloc, text.as_bytes())?.admit();
+    let office = admitted.ok().ok_or("a rule doesn't hold")?;
     Ok(write_office(alloc, &office)?)
 }
 
@@ -64,21 +59,5 @@ const NESTED: &str = r#"{"format":3,"live":[{"k":1,"s":[0,0,3,4,9,9],"t":"pipe",
 fn marks_flags_and_cells_that_are_gone(rt: HostRuntime) -> Result<(), Fail> {
     let nested = on_one_line(rt.alloc(), NESTED)?;
     assert!(rt; write_again(rt.alloc(), nested.as_str())?.as_slice() == nested.as_bytes());
-    Ok(())
-}
-
-#[test]
-fn lines_of_workspaces(rt: HostRuntime) -> Result<(), Fail> {
-    let text =
-        r#"{"format":3,"tables":[{"name":"node","columns":[["kind","TEXT"]],"shape":"POINT"}],
-"live":[{"t":"node","k":9,"v":["valve"],"s":[5,5]}],
-"workspaces":[{"name":"W1","parent":"LIVE","base":[{"t":"node","k":9,"v":["tap"],"s":[5,5]}],
-"rows":[{"t":"node","k":9,"v":["tee"],"s":[5,5]},{"t":"node","k":10,"v":["tee"],"s":[7,7]}]},
-{"name":"K","parent":"LIVE","kept":true,"marks":[{"child":"V"}]},
-{"name":"V","parent":"K","rows":[{"t":"node","k":9,"gone":true}]}]}"#;
-    let office = office_of(rt.alloc(), text)?;
-    let lines = workspaces_lines(rt.alloc(), &office)?;
-    let want = "workspaces 3\nW1 LIVE 2 1\nK LIVE 0 0 kept\nV K 1 0\n";
-    assert!(rt; lines.as_slice() == want.as_bytes());
     Ok(())
 }
