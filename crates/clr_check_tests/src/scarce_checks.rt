@@ -116,6 +116,48 @@ need,1,main/1/old,main/2/old,node/9/old,node/10/new
 clear
 --
 ====
+crossing
+create,W1,LIVE
+create,W2,LIVE
+apply,W1,1
+insert,main,20,D,100,0,100,10
+apply,W2,1
+insert,main,21,E,200,0,200,10
+----
+member,W1,,,,
+member,W2,,,,
+----
+0 OutOfMemory
+--
+clear
+--
+====
+crossing
+create,W1,LIVE
+mark,W1,s1
+apply,W1,1
+insert,main,20,D,100,0,100,10
+create,W2,W1
+----
+member,W1,,,,
+----
+0 OutOfMemory
+--
+clear
+--
+====
+crossing
+create,W1,LIVE
+apply,LIVE,1
+insert,main,20,D,100,0,100,10
+----
+member,W1,,,,
+----
+0 OutOfMemory
+--
+clear
+--
+====
 ";
 
 #[test]

@@ -223,6 +223,124 @@ fn commands_one_after_another(rt: HostRuntime) -> Result<(), Fail> {
     Ok(())
 }
 
+/// The same of lists of which some commands are refused: a merge in conflict, merges that break a rule, edits that can't be made;
+/// and of three workspaces that each take away another node of one place.
+const REFUSED_RUNS: &str = "crossing
+----
+create,W1,LIVE
+create,W2,LIVE
+apply,W1,1
+insert,main,20,D,100,0,100,10
+apply,W2,1
+insert,main,20,D,100,0,100,10
+merge,W1,keep
+merge,W2,keep
+----
+done
+done
+done
+done
+done
+refused 10 Conflict main/20 1
+====
+crossing
+----
+create,W1,LIVE
+create,W2,LIVE
+apply,W1,1
+update,main,1,B,0,0,10,10
+apply,W2,1
+insert,main,30,A,300,0,300,10
+merge,W2,keep
+merge,W1,keep
+merge,W2,keep
+----
+done
+done
+done
+done
+refused 12 RuleBroken rule 0 main/1 main/30
+done
+done
+====
+crossing
+----
+create,W1,LIVE
+apply,W1,1
+delete,node,9
+merge,W1,keep
+----
+done
+done
+refused 12 RuleBroken rule 1 main/1 main/2
+====
+crossing
+----
+apply,LIVE,2
+insert,node,10,valve,5,5
+insert,node,11,valve,5,5
+create,W1,LIVE
+create,W2,LIVE
+create,W3,LIVE
+apply,W1,1
+delete,node,9
+apply,W2,1
+delete,node,10
+apply,W3,1
+delete,node,11
+----
+done
+done
+done
+done
+done
+done
+done
+====
+crossing
+----
+create,W1,LIVE
+apply,W1,1
+update,main,1,W,0,0,10,10
+apply,LIVE,1
+update,main,1,L,0,0,10,10
+merge,W1,keep
+resolve,W1,main,1,CHILD
+merge,W1,keep
+resolve,W1,main,1,CHILD
+apply,W1,1
+insert,main,50,Z,3,3,3,3
+apply,W1,1
+insert,main,50,Z,3,3,3,1000000001
+apply,W1,1
+insert,main,1,Q,60,0,61,0
+apply,W1,1
+delete,main,77
+----
+done
+done
+done
+refused 10 Conflict main/1 1
+done
+done
+refused 11 NotInConflict
+refused 9 BadEdit 1 ZeroSegment
+refused 9 BadEdit 1 OutOfRange
+refused 9 BadEdit 1 KeyTaken
+refused 9 BadEdit 1 NoRow
+====
+";
+
+#[test]
+fn commands_of_which_some_are_refused(rt: HostRuntime) -> Result<(), Fail> {
+    let mut hoard = Hoard::take(rt.alloc())?;
+    assert_eq!(rt;
+        first_wrong_while_scarce(rt.alloc(), &mut hoard, REFUSED_RUNS),
+        None
+    );
+    Ok(())
+}
+
 /// A draft whose workspace is kept, under rules.
 const DRAFT: &str = r#"{"format":3,"tables":[
 {"name":"code","columns":[["code","TEXT"]],"shape":"NONE"}],

@@ -325,6 +325,17 @@ W1 under LIVE, 0 stored
 ====
 one node
 create,W1,LIVE
+apply,W1,1
+insert,node,10,tee,7,7
+workspaces
+----
+done
+done
+LIVE under nothing, 0 stored kept
+W1 under LIVE, 1 stored
+====
+one node
+create,W1,LIVE
 apply,W1,2
 insert,node,10,tee,7,7
 delete,node,9

@@ -176,6 +176,51 @@ blocked 1 W1
 cause 4 Conflict W1 main/1 1
 --
 ====
+crossing
+create,W1,LIVE
+create,W2,LIVE
+apply,W1,1
+insert,main,20,D,100,0,100,10
+apply,W2,1
+insert,main,21,E,200,0,200,10
+----
+LIVE W1 W2
+----
+refused 0 OutOfMemory
+--
+cleared 0
+member,W1,,,,
+member,W2,,,,
+--
+====
+crossing
+create,W1,LIVE
+mark,W1,s1
+apply,W1,1
+insert,main,20,D,100,0,100,10
+create,W2,W1
+----
+LIVE W1
+----
+refused 0 OutOfMemory
+--
+cleared 0
+member,W1,,,,
+--
+====
+crossing
+create,W1,LIVE
+apply,LIVE,1
+insert,main,20,D,100,0,100,10
+----
+LIVE W1
+----
+refused 0 OutOfMemory
+--
+cleared 0
+member,W1,,,,
+--
+====
 ";
 
 #[test]
