@@ -5,7 +5,7 @@ use Rattle.std.proofs.lemmas.List.{length-map}
 use Rattle.std.specs.List.{list_any}
 use Rattle.clr_rows.specs.Contents.{Content, no_rows}
 use Rattle.clr_layers.specs.Marks.{Mark, is_held, is_child_mark, is_saved, mark_at}
-use Rattle.clr_layers.specs.Layers.{Layer, layer_at, wholes, whole_mark, top}
+use Rattle.clr_layers.specs.Layers.{Layer, layer_at, wholes, whole_mark}
 use Rattle.clr_layers.specs.Workspaces.{Workspace, live_workspace, workspace_at}
 use Rattle.clr_layers.specs.declared.stored_marks.StoredMark.{StoredMark}
 use Rattle.clr_layers.proofs.Meaning.{live-wholes}
@@ -35,9 +35,17 @@ module _ (live : Content) (ls : List Layer) (t : Tree) (at : ℕ) (is : tree_of 
   -- the first workspace of a tree is LIVE
   pub first_is : at ≡ 0 → live_workspace live ≡ workspace_at t.list at
   first_is first =
-      let current : (workspace_at (wholes live ls) 0).current ≡ live = live-wholes live ls (within_tree live ls t 0 is (subst (λ (t : Tree). 0 < length t.list) is sound.rooted.filled)) in
+      let current : (workspace_at (wholes live ls) 0).current ≡ live =
+      live-wholes live ls (within_tree live ls t 0 is (subst (λ (t : Tree). 0 < length t.list) is sound.rooted.filled)) in
       let here : workspace_at (wholes live ls) 0 ≡ live_workspace live =
-      λ i. record { name = sound.rooted.live i; parent = sound.rooted.top i; base = sound.base i; current = current i; marks = sound.bare i; kept = sound.held i } in
+      λ i. record {
+        name = sound.rooted.live i;
+        parent = sound.rooted.top i;
+        base = sound.base i;
+        current = current i;
+        marks = sound.bare i;
+        kept = sound.held i;
+      } in
       sym here ∙ ap (λ (t : Tree). workspace_at t.list 0) is ∙ ap (workspace_at t.list) (sym first)
 
   pub first_base : at ≡ 0 → (workspace_at t.list at).base ≡ no_rows
@@ -46,7 +54,8 @@ module _ (live : Content) (ls : List Layer) (t : Tree) (at : ℕ) (is : tree_of 
   pub first_marks : at ≡ 0 → (workspace_at t.list at).marks ≡ []
   first_marks first = sym (ap (λ (w : Workspace). w.marks) (first_is first))
 
-  pub marks_in : (ns : List StoredMark) → at ≢ 0 → at < length t.list → ns ≡ (layer_at ls at).marks → let w = workspace_at t.list at in w.marks ≡ map (whole_mark w.base) ns
+  pub marks_in : (ns : List StoredMark) → at ≢ 0 → at < length t.list → ns ≡ (layer_at ls at).marks
+      → let w = workspace_at t.list at in w.marks ≡ map (whole_mark w.base) ns
   marks_in ns other lt e =
       let some : 0 < at = omega (arith, other) in
       subst (λ (t : Tree). let w = workspace_at t.list at in w.marks ≡ map (whole_mark w.base) ns) is

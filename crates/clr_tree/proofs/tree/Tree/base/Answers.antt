@@ -12,4 +12,5 @@ base_row_of-requires-clause-within c = within_tree c.self.inside.live c.self.ins
 pub returns-then-at-eq0 : goal.returns-then-at-eq0
 returns-then-at-eq0 c =
     sym (get-empty cell_cmp c.args.cell)
-    ∙ sym (ap (λ (m : Content). row_at m c.args.cell) (first_base c.self.inside.live c.self.inside.map c.args.self.now c.args.at c.self.view_is c.self.invariant.0 c.if-at-eq0.true))
+    ∙ sym (ap (λ (m : Content). row_at m c.args.cell)
+    (first_base c.self.inside.live c.self.inside.map c.args.self.now c.args.at c.self.view_is c.self.invariant.0 c.if-at-eq0.true))

@@ -4,4 +4,6 @@ use Rattle.clr_tree.proofs.OperationLemmas.{held_as_stored}
 use Rattle.clr_tree.proofs.tree.Tree.held.Goals as goal
 
 pub returns : goal.returns
-returns c = c.has_child_after.ensures ∙ sym (ap (λ (ms : List Mark). is_held ms c.args.mark) c.stored_marks-marks.ensures ∙ held_as_stored _ c.stored_marks-marks.result.now c.args.mark)
+returns c =
+    c.has_child_after.ensures
+    ∙ sym (ap (λ (ms : List Mark). is_held ms c.args.mark) c.stored_marks-marks.ensures ∙ held_as_stored _ c.stored_marks-marks.result.now c.args.mark)

@@ -9,4 +9,5 @@ pub returns-then-at-eq0 : goal.returns-then-at-eq0
 returns-then-at-eq0 c = first_marks c.self.inside.live c.self.inside.map c.args.self.now c.args.at c.self.view_is c.self.invariant.0 c.if-at-eq0.true
 
 pub returns : goal.returns
-returns c = marks_in c.self.inside.live c.self.inside.map c.args.self.now c.args.at c.self.view_is c.self.invariant.0 _ c.if-at-eq0.false c.requires c.marks.ensures
+returns c =
+    marks_in c.self.inside.live c.self.inside.map c.args.self.now c.args.at c.self.view_is c.self.invariant.0 _ c.if-at-eq0.false c.requires c.marks.ensures
