@@ -5,6 +5,7 @@ pub mod FaultLemmas
 pub mod LayeredLemmas
 pub mod LeafLemmas
 pub mod LeanLemmas
+pub mod LiveLemmas
 pub mod ModelLemmas
 pub mod NameLemmas
 pub mod OperationLemmas

@@ -1,14 +1,14 @@
 ghost use Rattle.std.specs.Prelude.{◌≡◌, ◌<◌, length, IfOk};
 ghost use Rattle.clr_layers.specs.Layers.{wholes, whole_mark};
-ghost use Rattle.clr_layers.specs.Workspaces.{workspace_at};
+ghost use Rattle.clr_layers.specs.Workspaces.{workspace_at, live_workspace};
 ghost use Rattle.clr_tree.specs.Parts.{mark_of, marks_of, workspace_of};
 ghost use Rattle.clr_contents.specs.Roots.{IsRooted};
 
 use crate::parts::{MarkPart, Part};
 use clr_contents::{base_rows, whole_rows};
 use clr_layers::{StoredMark, WorkspaceMap};
-use clr_rows::{Sheet, Words};
-use std::alloc::AllocError;
+use clr_rows::{LIVE, Sheet, Words};
+use std::alloc::{AllocError, Global};
 
 /// A mark of a workspace other than LIVE, with its content.
 #[tactic(auto, unfolding(clr_differences::specs::Differences::seen_over))]
@@ -46,6 +46,26 @@ fn mark_parts(live: &Sheet, map: &WorkspaceMap, at: usize) -> Result<Vec<MarkPar
         parts.push(mark_part(live, map, at, mark)?)?;
     }
     Ok(parts)
+}
+
+/// LIVE with this content. It fails for want of memory alone.
+pub fn live_part(alloc: Global, live: &Sheet) -> Result<Part, AllocError>
+    ensures { IfOk result (λ part. workspace_of part ≡ live_workspace live.now) }
+{
+    let name = Words::new(String::from_str(alloc, LIVE)?);
+    let no_name = String::new(alloc);
+    let parent = Words::new(no_name);
+    let base = Sheet::new(alloc);
+    let current = live.copy()?;
+    let marks = Vec::new(alloc);
+    Ok(Part {
+        name,
+        parent,
+        base,
+        current,
+        marks,
+        kept: true,
+    })
 }
 
 /// A workspace other than LIVE, with whole contents. It fails for want of memory alone.

@@ -1,8 +1,8 @@
-ghost use Rattle.std.specs.Prelude.{ℕ, ◌≡◌, ◌<◌, ◌↔◌, [], ◌∷◌, None, false, true, length, OnOk, OnErr, IfOk, IfErr, IfSome, IsSome};
+ghost use Rattle.std.specs.Prelude.{ℕ, ◌≡◌, ◌<◌, ◌↔◌, [], ◌∷◌, None, false, true, length, map, OnOk, OnErr, IfOk, IfErr, IfSome, IsSome};
 ghost use Rattle.std.specs.Option.{option_copied};
 ghost use Rattle.clr_rows.specs.Contents.{row_at, changes};
 ghost use Rattle.clr_rows.specs.Names.{is_good_name};
-ghost use Rattle.clr_layers.specs.Layers.{layer_at, wholes};
+ghost use Rattle.clr_layers.specs.Layers.{layer_at, whole_mark, wholes};
 ghost use Rattle.clr_layers.specs.Marks.{find_mark, is_held, is_saved, mark_at, saved_content, saved_count};
 ghost use Rattle.clr_layers.specs.Workspaces.{workspace_at, find, parent_of as position_of_parent, children_of, depth_of, live_workspace};
 ghost use Rattle.clr_tree.specs.Operations.{after_create, after_remove, after_write, after_mark, after_unmark};
@@ -20,14 +20,16 @@ use crate::operations::{
     write_rows,
 };
 use crate::part_checks::judge_marks;
-use crate::part_reads::part_at;
+use crate::part_reads::{live_part, part_at};
 use crate::parts::{Part, PartFault};
 use crate::rebases::Rebase;
 use clr_change::ChangeSet;
 use clr_contents::{
     View, base_row_of, base_rows, changes_of, depth_at, row_of, saved_rows, sweep, whole_rows,
 };
-use clr_layers::{LayerView, StoredPart, WorkspaceMap, count_saved, find_saved, has_child_after};
+use clr_layers::{
+    LayerView, StoredMark, StoredPart, WorkspaceMap, count_saved, find_saved, has_child_after,
+};
 use clr_rows::{CellId, Row, Sheet};
 use std::alloc::{AllocError, Global};
 use std::marker::Model;
@@ -180,34 +182,46 @@ impl Tree {
         at == 0 || self.map.is_kept(at)
     }
 
-    /// How many savepoints the workspace at a position has, which isn't LIVE.
+    /// What is stored of the marks of the workspace at a position. LIVE has none.
+    fn stored_marks(&self, at: usize) -> &[StoredMark]
+        requires { at < length self.now.list }
+        ensures { let w = workspace_at self.now.list at in w.marks ≡ map (whole_mark w.base) result.now }
+    {
+        let map = &self.map;
+        if at == 0 {
+            return &[];
+        }
+        map.marks(at)
+    }
+
+    /// How many savepoints the workspace at a position has, 0 for LIVE.
     pub fn saved(&self, at: usize) -> usize
-        requires child { 0 < at }
         requires within { at < length self.now.list }
         ensures { result ≡ saved_count (workspace_at self.now.list at).marks }
     {
-        count_saved(self.map.marks(at))
+        count_saved(self.stored_marks(at))
     }
 
-    /// The position of a savepoint among the marks of the workspace at a position, which isn't
-    /// LIVE, or none.
+    /// The position of a savepoint among the marks of the workspace at a position, or none, as for
+    /// LIVE.
     pub fn find_mark(&self, at: usize, name: &str) -> Option<usize>
-        requires child { 0 < at }
         requires within { at < length self.now.list }
         ensures { result ≡ find_mark (workspace_at self.now.list at).marks name.now }
     {
-        find_saved(self.map.marks(at), name)
+        find_saved(self.stored_marks(at), name)
     }
 
-    /// Whether the mark of a child stands after a mark of the workspace at a position, which isn't
-    /// LIVE.
+    /// Whether the mark of a child stands after a position among the marks of the workspace at a
+    /// position. There is none in LIVE, nor past the last mark.
     pub fn held(&self, at: usize, mark: usize) -> bool
-        requires child { 0 < at }
         requires within { at < length self.now.list }
-        requires marked { mark < length (workspace_at self.now.list at).marks }
         ensures { result ≡ is_held (workspace_at self.now.list at).marks mark }
     {
-        has_child_after(self.map.marks(at), mark)
+        let marks = self.stored_marks(at);
+        if mark >= marks.len() {
+            return false;
+        }
+        has_child_after(marks, mark)
     }
 
     /// The row at a cell in the current content of the workspace at a position, or none.
@@ -218,13 +232,17 @@ impl Tree {
         row_of(&self.live, &self.map, at, cell)
     }
 
-    /// The row at a cell in the base of the workspace at a position, which isn't LIVE, or none.
+    /// The row at a cell in the base of the workspace at a position, or none, as for LIVE, which has
+    /// no base.
     pub fn base(&self, at: usize, cell: CellId) -> Option<&Row>
-        requires child { 0 < at }
         requires within { at < length self.now.list }
         ensures { option_copied result ≡ row_at (workspace_at self.now.list at).base cell }
     {
-        base_row_of(&self.live, &self.map, at, cell)
+        let map = &self.map;
+        if at == 0 {
+            return None;
+        }
+        base_row_of(&self.live, map, at, cell)
     }
 
     /// How many entries are stored of the base and of the current content of the workspace at a
@@ -263,30 +281,33 @@ impl Tree {
         whole_rows(&self.live, &self.map, at)
     }
 
-    /// The workspace at a position, which isn't LIVE, with whole contents. It fails for want of
-    /// memory alone.
+    /// The workspace at a position with whole contents; LIVE has no parent, no base and no marks. It
+    /// fails for want of memory alone.
     pub fn part(&self, at: usize) -> Result<Part, AllocError>
-        requires child { 0 < at }
         requires within { at < length self.now.list }
         ensures { IfOk result (λ part. workspace_of part ≡ workspace_at self.now.list at) }
     {
+        if at == 0 {
+            return live_part(self.map.allocator(), &self.live);
+        }
         part_at(&self.live, &self.map, at)
     }
 
-    /// The base of the workspace at a position, which isn't LIVE, whole. It fails for want of memory
-    /// alone.
+    /// The base of the workspace at a position, whole; it has no row for LIVE. It fails for want of
+    /// memory alone.
     pub fn base_rows(&self, at: usize) -> Result<Sheet, AllocError>
-        requires child { 0 < at }
         requires within { at < length self.now.list }
         ensures { IfOk result (λ sheet. sheet ≡ (workspace_at self.now.list at).base) }
     {
+        if at == 0 {
+            return Ok(Sheet::new(self.map.allocator()));
+        }
         base_rows(&self.live, &self.map, at)
     }
 
-    /// The content of a savepoint of the workspace at a position, which isn't LIVE, whole. It fails
-    /// for want of memory alone.
+    /// The content of a savepoint of the workspace at a position, whole. It fails for want of memory
+    /// alone.
     pub fn saved_rows(&self, at: usize, mark: usize) -> Result<Sheet, AllocError>
-        requires child { 0 < at }
         requires within { at < length self.now.list }
         requires saved { is_saved (mark_at (workspace_at self.now.list at).marks mark) ≡ true }
         ensures { IfOk result (λ sheet. sheet ≡ saved_content (mark_at (workspace_at self.now.list at).marks mark)) }

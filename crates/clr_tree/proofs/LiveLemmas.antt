@@ -1,0 +1,70 @@
+-- LIVE has no base and no marks.
+use Rattle.std.proofs.Common.{◌≡◌, ℕ, suc, zero, ◌<◌, ◌≤◌, ◌≢◌, ◌⊎◌, inl, inr, true, false, List, [], ◌∷◌, length, map, drop, refl, ap, sym, subst, ◌∙◌, arith}
+use Rattle.std.proofs.lemmas.Bool.{false≢true}
+use Rattle.std.proofs.lemmas.List.{length-map}
+use Rattle.std.specs.List.{list_any}
+use Rattle.clr_rows.specs.Contents.{Content, no_rows}
+use Rattle.clr_layers.specs.Marks.{Mark, is_held, is_child_mark, is_saved, mark_at}
+use Rattle.clr_layers.specs.Layers.{Layer, layer_at, wholes, whole_mark}
+use Rattle.clr_layers.specs.Workspaces.{Workspace, live_workspace, workspace_at}
+use Rattle.clr_layers.specs.declared.stored_marks.StoredMark.{StoredMark}
+use Rattle.clr_layers.proofs.Meaning.{live-wholes}
+use Rattle.clr_contents.proofs.ReadLemmas.{marks-wholes}
+use Rattle.clr_contents.proofs.RootLemmas.{split}
+use Rattle.clr_tree.specs.Soundness.{IsSound}
+use Rattle.clr_tree.specs.Trees.{Tree, tree_of}
+use Rattle.clr_tree.proofs.ModelLemmas.{within_tree}
+
+none_after : (ms : List Mark) (i : ℕ) → length ms ≤ i → list_any is_child_mark (drop i ms) ≡ false
+none_after [] zero le = refl
+none_after [] (suc i) le = refl
+none_after (m ∷ ms) zero le = absurd (omega (arith, le))
+none_after (m ∷ ms) (suc i) le = none_after ms i (omega (arith, le))
+
+-- past the last mark there is none of a child
+pub held_past : (ms : List Mark) (i : ℕ) → length ms ≤ i → is_held ms i ≡ false
+held_past ms i le = none_after ms (suc i) (omega (arith, le))
+
+-- so where the marks are stored
+pub stored_past : (base : Content) (ms : List Mark) (ns : List StoredMark) (i : ℕ) → ms ≡ map (whole_mark base) ns → length ns ≤ i → false ≡ is_held ms i
+stored_past base ms ns i e le =
+    let long : length ms ≡ length ns = ap (λ (ms : List Mark). length ms) e ∙ length-map ns (whole_mark base) in
+    sym (held_past ms i (omega (arith, le, long)))
+
+module _ (live : Content) (ls : List Layer) (t : Tree) (at : ℕ) (is : tree_of live ls ≡ t) (sound : IsSound (wholes live ls)) where
+  -- the first workspace of a tree is LIVE
+  pub first_is : at ≡ 0 → live_workspace live ≡ workspace_at t.list at
+  first_is first =
+      let current : (workspace_at (wholes live ls) 0).current ≡ live =
+      live-wholes live ls (within_tree live ls t 0 is (subst (λ (t : Tree). 0 < length t.list) is sound.rooted.filled)) in
+      let here : workspace_at (wholes live ls) 0 ≡ live_workspace live =
+      λ i. record {
+        name = sound.rooted.live i;
+        parent = sound.rooted.top i;
+        base = sound.base i;
+        current = current i;
+        marks = sound.bare i;
+        kept = sound.held i;
+      } in
+      sym here ∙ ap (λ (t : Tree). workspace_at t.list 0) is ∙ ap (workspace_at t.list) (sym first)
+
+  pub first_base : at ≡ 0 → (workspace_at t.list at).base ≡ no_rows
+  first_base first = sym (ap (λ (w : Workspace). w.base) (first_is first))
+
+  pub first_marks : at ≡ 0 → (workspace_at t.list at).marks ≡ []
+  first_marks first = sym (ap (λ (w : Workspace). w.marks) (first_is first))
+
+  pub marks_in : (ns : List StoredMark) → at ≢ 0 → at < length t.list → ns ≡ (layer_at ls at).marks
+      → let w = workspace_at t.list at in w.marks ≡ map (whole_mark w.base) ns
+  marks_in ns other lt e =
+      let some : 0 < at = omega (arith, other) in
+      subst (λ (t : Tree). let w = workspace_at t.list at in w.marks ≡ map (whole_mark w.base) ns) is
+      (marks-wholes live ls at some (within_tree live ls t at is lt) ∙ ap (map (whole_mark (workspace_at (wholes live ls) at).base)) (sym e))
+
+  -- a savepoint is no mark of LIVE
+  pub saved_below : (mark : ℕ) → is_saved (mark_at (workspace_at t.list at).marks mark) ≡ true → 0 < at
+  saved_below mark e = by (split at)
+    where
+      by : (at ≡ 0) ⊎ (0 < at) → 0 < at
+      by (inl first) = absurd (false≢true (subst (λ (ms : List Mark). is_saved (mark_at ms mark) ≡ true) (first_marks first) e))
+      by (inr some) = some
