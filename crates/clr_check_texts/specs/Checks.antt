@@ -3,6 +3,7 @@ use Rattle.std.specs.Prelude.{◌≡◌, Result, Ok, Err}
 use Rattle.clr_steps.specs.Offices.{Office}
 use Rattle.clr_clearance.specs.declared.verdicts.Verdict.{Verdict}
 use Rattle.clr_clearance.specs.declared.verdicts.Verdict.TheVariants as verdict
+use Rattle.clr_clearance.specs.Headline.{Headline}
 use Rattle.clr_clearance.specs.Laws.{StaysFree}
 use Rattle.clr_clearance.specs.Safety.{Safe}
 use Rattle.clr_cert.specs.declared.certificates.Certificate.{Certificate}
@@ -14,12 +15,13 @@ use Rattle.clr_check_texts.specs.declared.cases.CaseFault.TheVariants as fault
 use Rattle.clr_check_texts.specs.declared.checked.Checked.{Checked}
 use Rattle.clr_check_texts.specs.declared.checked.Checked.TheVariants as checked
 
--- the verdict on a certificate, or want of memory where no test of names fails. Where it is clear, the members are safe, and every rule
--- holds in the root with the changes of any of them
+-- the verdict on a certificate, or want of memory where no test of names fails. Where it is clear, the members are safe, as the headline
+-- says in one sentence, and every rule holds in the root with the changes of any of them
 pub record IsJudged (o : Office) (c : Certificate) (v : Verdict) : Type 0 where
   pub answer : IsAnswer o (site_of c) (entries_in c.entries) v
   pub free : v ≡ verdict.Clear → StaysFree o (site_of c)
   pub safe : v ≡ verdict.Clear → Safe o (site_of c)
+  pub headline : v ≡ verdict.Clear → Headline o (site_of c)
 
 -- it is the verdict on what the texts give
 abbrev pub IsVerdictOn : Case → Verdict → Type 0

@@ -18,8 +18,8 @@ pub struct TextCheck {
 }
 
 /// The check of a certificate in an office, both given as texts, with what its line names. It fails as
-/// `read_case` does. The verdict may be want of memory; where it is clear, the members are safe, as
-/// `check` says. Nothing that the certificate says is taken for true.
+/// `read_case` does. The verdict may be want of memory; where it is clear, all holds that `check`
+/// promises of a clear one. Nothing that the certificate says is taken for true.
 pub fn judge_texts(alloc: Global, office: &[u8], certificate: &[u8]) -> Result<TextCheck, CaseFault>
     ensures case { IfOk result (λ check. case_of office.now certificate.now ≡ Ok (check.office, check.certificate)) }
     ensures verdict { IfOk result (λ check. IsJudged check.office check.certificate check.verdict) }
@@ -54,9 +54,10 @@ fn said_of(fault: CaseFault) -> Checked
 /// office text, the rules and the certificate's text, and else the verdict. `Answer` comes only where
 /// the texts are an office and a certificate, and every rule holds in LIVE and in each workspace that
 /// is kept; its verdict may be want of memory. Where it is clear, every rule holds in the root with
-/// the changes of any of the members over it and no other member is in conflict with that; and all of
-/// it stays so over every list of quiet commands, in which no merge or refresh of a member is answered
-/// by a conflict or a broken rule. Nothing that the certificate says is taken for true.
+/// the changes of any of the members over it and no other member is in conflict with that; and in every
+/// list of quiet commands no merge or refresh of a member is answered by a conflict or a broken rule,
+/// every rule holds in the root after each command, and once the same members are merged, all of them
+/// for one, the root has the same rows. Nothing that the certificate says is taken for true.
 pub fn check_texts(alloc: Global, office: &[u8], certificate: &[u8]) -> Checked
     ensures { IsChecked (case_of office.now certificate.now) result }
 {

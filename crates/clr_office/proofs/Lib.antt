@@ -1,5 +1,7 @@
 pub mod CaseTexts
 pub mod Lines
+pub mod OneOutcome
+pub mod OneSession
 pub mod Outcomes
 pub mod Prints
 pub mod ReplyLines
