@@ -162,7 +162,8 @@ module _ (o : Office) (c : Certificate) where
       of_verdicts all other found found_other v w judged.answer judged_other.answer is is_other
 
   -- a clear verdict and one that isn't clear
-  not_refused : (v : Verdict) → IsVerdict o (site_of c) (entries_in c.entries) verdict.Clear → IsSaid v → ¬ (v ≡ verdict.Clear) → is_without_memory v ≡ false → ⊥
+  not_refused : (v : Verdict) → IsVerdict o (site_of c) (entries_in c.entries) verdict.Clear → IsSaid v → ¬ (v ≡ verdict.Clear)
+      → is_without_memory v ≡ false → ⊥
   not_refused v clear one not_clear found =
       not_clear (one_verdict o (site_of c) (entries_in c.entries) v verdict.Clear (found_verdict v one found) clear)
 

@@ -1,4 +1,4 @@
-ghost use Rattle.std.specs.Prelude.{◌≡◌, ◌++◌, ◌||◌, false, OnOk};
+ghost use Rattle.std.specs.Prelude.{◌≡◌, ◌++◌, ◌||◌, false, OnErr, OnOk};
 ghost use Rattle.clr_office.specs.Printing.{status_of};
 
 use std::alloc::AllocError;
@@ -24,11 +24,13 @@ impl Output {
         }
     }
 
-    /// Adds what was asked next. It fails for want of memory alone.
+    /// Adds what was asked next. It fails for want of memory alone, and changes nothing then.
     pub fn append(&mut self, output: &Output) -> Result<(), AllocError>
         ensures lines { OnOk result (self.new.lines.items ≡ self.old.lines.items ++ output.now.lines.items) }
         ensures refused { OnOk result (self.new.refused ≡ (self.old.refused || output.now.refused)) }
         ensures lost { OnOk result (self.new.lost ≡ (self.old.lost || output.now.lost)) }
+        ensures kept_lines { OnErr result (self.new.lines.items ≡ self.old.lines.items) }
+        ensures kept_flags { OnErr result ((self.new.refused ≡ self.old.refused) × (self.new.lost ≡ self.old.lost)) }
     {
         self.lines.extend_from_slice(output.lines.as_slice())?;
         self.refused = self.refused || output.refused;

@@ -1,7 +1,7 @@
 //! What commands are answered in an office, under a certificate or without one, as lines.
 
 use clr_cert::Certificate;
-use clr_check::{ClearedRun, Verdict, perform_cleared};
+use clr_check::{ClearedRun, Verdict, check, perform_cleared};
 use clr_clearance_trials::{certificate_of, line_of};
 use clr_engine::Office;
 use clr_rows::Schema;
@@ -57,8 +57,30 @@ fn run_with_rows(
     Some(lines)
 }
 
-/// What is answered: the first line is `give`, with commands behind it, or `run`, with the text of a certificate and commands,
-/// parted by a line `--`.
+/// Whether the text of a certificate clears its members.
+fn is_clear(alloc: Global, office: &Office, text: &str) -> Option<bool> {
+    let certificate = certificate_of(alloc, office.schema(), text)?;
+    Some(check(alloc, office, &certificate) == Verdict::Clear)
+}
+
+/// What commands are answered all at once, where a certificate is clear, and the rows of LIVE after them.
+fn replies_where_clear(
+    alloc: Global,
+    office: &mut Office,
+    text: &str,
+    commands: &str,
+) -> Option<Vec<u8>> {
+    if !is_clear(alloc, office, text)? {
+        return None;
+    }
+    let mut lines = replies_to(alloc, office, commands)?;
+    let rows = rows_of(alloc, office, "LIVE")?;
+    lines.extend_from_slice(rows.as_slice()).ok()?;
+    Some(lines)
+}
+
+/// What is answered: the first line is `give`, with commands behind it, or `run` or `all`, with the text of a certificate and
+/// commands, parted by a line `--`; `all` gives the commands themselves, where the certificate is clear.
 fn answer(alloc: Global, office: &mut Office, asked: &str) -> Option<Vec<u8>> {
     let (word, text) = asked.split_once("\n")?;
     match word {
@@ -66,6 +88,10 @@ fn answer(alloc: Global, office: &mut Office, asked: &str) -> Option<Vec<u8>> {
         "run" => {
             let (certificate, commands) = text.split_once("--\n")?;
             run_with_rows(alloc, office, certificate, commands)
+        }
+        "all" => {
+            let (certificate, commands) = text.split_once("--\n")?;
+            replies_where_clear(alloc, office, certificate, commands)
         }
         _ => None,
     }

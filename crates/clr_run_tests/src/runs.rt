@@ -171,6 +171,43 @@ fn runs_under_certificates(rt: HostRuntime) {
     assert_eq!(rt; first_wrong(rt.alloc(), RUNS), None);
 }
 
+/// A refresh between the merges of two members that are cleared, and one of them merged once more, by commands that no
+/// certificate is handed to.
+const BETWEEN: &str = "crossing
+create,W1,LIVE
+create,W2,LIVE
+apply,W1,1
+insert,main,20,D,100,0,100,10
+apply,W2,1
+insert,main,21,E,200,0,200,10
+----
+all
+member,W1,,,,
+member,W2,,,,
+--
+merge,W1,keep
+refresh,W2
+merge,W2,keep
+merge,W2,keep
+----
+done
+done
+done
+done
+rows 5
+node,9,valve,5,5
+main,1,A,0,0,10,10
+main,2,C,0,10,10,0
+main,20,D,100,0,100,10
+main,21,E,200,0,200,10
+====
+";
+
+#[test]
+fn cleared_members_merged_by_commands_alone(rt: HostRuntime) {
+    assert_eq!(rt; first_wrong(rt.alloc(), BETWEEN), None);
+}
+
 /// Two nodes, merged in both orders.
 const ORDERS: &str = "one node
 create,W1,LIVE

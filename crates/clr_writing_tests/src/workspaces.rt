@@ -20,7 +20,8 @@ fn no_workspace(rt: HostRuntime) -> Result<(), Fail> {
 
 /// W1 took over another row of node 9 than LIVE has now, changed it, and inserted node 10; K is kept and has the child V,
 /// which deletes node 9.
-const THREE: &str = r#"{"format":3,"tables":[{"name":"node","columns":[["kind","TEXT"]],"shape":"POINT"}],
+const THREE: &str =
+    r#"{"format":3,"tables":[{"name":"node","columns":[["kind","TEXT"]],"shape":"POINT"}],
 "live":[{"t":"node","k":9,"v":["valve"],"s":[5,5]}],
 "workspaces":[{"name":"W1","parent":"LIVE","base":[{"t":"node","k":9,"v":["tap"],"s":[5,5]}],
 "rows":[{"t":"node","k":9,"v":["pump"],"s":[5,5]},{"t":"node","k":10,"v":["tee"],"s":[7,7]}]},
