@@ -1,4 +1,4 @@
--- The text that is written of an office: compact JSON of format 3, from contents and not from how they are kept.
+-- The text that is written of an office: compact JSON of format 3, told of contents and not of how they are kept.
 use Rattle.std.specs.Prelude.{ℕ, List, map}
 use Rattle.serde_json.specs.Written.{compact_text}
 use Rattle.clr_steps.specs.Offices.{Office}
