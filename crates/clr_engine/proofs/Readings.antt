@@ -1,8 +1,9 @@
 -- What is shown of an office is what its tree has at the position of a name.
-use Rattle.std.proofs.Common.{◌≡◌, ℕ, zero, suc, ◌+◌, ◌<◌, length, Bool, cond, List, [], Option, Some, None, refl, sym, ap, subst, ◌∙◌, arith}
+use Rattle.std.proofs.Common.{◌≡◌, ℕ, zero, suc, ◌+◌, ◌<◌, length, Bool, cond, List, [], ◌∷◌, Option, Some, None, refl, sym, ap, subst, ◌∙◌, arith}
 use Rattle.std.specs.Prelude.{is_some, IsSome}
 use Rattle.std.specs.FinMap as finite
 use Rattle.std.proofs.lemmas.Bool.{false≢true}
+use Rattle.std.proofs.lemmas.Option.{slice_get-get_or}
 use Rattle.std.specs.Option.{option_map, option_map_or}
 use Rattle.clr_rows.specs.declared.cells.CellId.{CellId}
 use Rattle.clr_rows.specs.declared.tables.TableDef.{TableDef}
@@ -10,16 +11,18 @@ use Rattle.clr_rows.specs.Cells.{cell_cmp}
 use Rattle.clr_rows.specs.Contents.{Content, changes, conflicts, no_changes, row_at}
 use Rattle.clr_rules.specs.declared.rules.Rule.{Rule}
 use Rattle.clr_layers.proofs.FindLemmas.{find_named}
+use Rattle.clr_layers.specs.Differing.{layer_from}
 use Rattle.clr_layers.specs.Marks.{Name}
-use Rattle.clr_layers.specs.Workspaces.{Workspace, find, parent_of, workspace_at}
+use Rattle.clr_layers.specs.Workspaces.{Workspace, find, no_workspace, parent_of, workspace_at}
 use Rattle.clr_tree.specs.Operations.{own_changes}
 use Rattle.clr_tree.specs.Soundness.{IsSound}
-use Rattle.clr_tree.specs.Trees.{change_count, content_above, needed}
+use Rattle.clr_tree.specs.Trees.{change_count, content_above, needed, needed_layer}
 use Rattle.clr_steps.specs.Laws.{IsSeen}
 use Rattle.clr_steps.specs.Offices.{Office, content_of, is_kept, office_of, workspace}
 use Rattle.clr_steps.specs.Positions.{below_top, content_at, kept_at}
 use Rattle.clr_steps.specs.Readings.{changes_in, conflicts_in, if_stands, parent_in, stored_in}
 use Rattle.clr_steps.proofs.SeenLemmas.{name_law}
+use Rattle.clr_engine.specs.Drafts.{layer_in, part_at}
 
 pub seen_in : (schema : List TableDef) (book : List Rule) (ws : List Workspace) (o : Office) → IsSound ws → office_of schema book ws ≡ o → (name : Name) → IsSeen o ws name
 seen_in schema book ws o sound is name = subst (λ (o : Office). IsSeen o ws name) is (name_law schema book ws sound name)
@@ -91,3 +94,22 @@ module _ (o : Office) (ws : List Workspace) (name : Name) (s : IsSeen o ws name)
 
   pub no_stored_is : workspace o name ≡ None → 0 ≡ stored_in o name
   no_stored_is e = sym (ap (λ (r : Option Workspace). option_map_or (λ w. length (finite.keys (changes (content_of o w.parent) w.base)) + length (finite.keys (own_changes w))) r 0) e)
+
+-- what a workspace under LIVE differs in is told by position
+pub layer_is : (schema : List TableDef) (book : List Rule) (ws : List Workspace) (o : Office) → IsSound ws → office_of schema book ws ≡ o → (at : ℕ) → 0 < at → at < length ws
+    → needed_layer ws at ≡ layer_in o (workspace_at ws at)
+layer_is schema book ws o sound is at some lt =
+    let w = workspace_at ws at in
+    let above = sound.rooted.under at some lt in
+    let parent = seen_in schema book ws o sound is w.parent in
+    ap (λ (r : Option ℕ). layer_from (content_above ws r) w) above.1 ∙ ap (λ (m : Content). layer_from m w) (sym (parent.content ∙ ap (content_at ws) above.1))
+
+-- what stands under LIVE is that of the tree
+pub part_is : (schema : List TableDef) (book : List Rule) (ws : List Workspace) (o : Office) → office_of schema book ws ≡ o → (at : ℕ) → 0 < at → at < length ws
+    → part_at o at ≡ Some (workspace_at ws at)
+part_is schema book ws o is at some lt = ap (λ (o : Office). part_at o at) (sym is) ∙ under ws at some lt
+  where
+    under : (ws : List Workspace) (at : ℕ) → 0 < at → at < length ws → part_at (office_of schema book ws) at ≡ Some (workspace_at ws at)
+    under ws zero some lt = absurd (omega (arith, some))
+    under [] (suc k) some lt = absurd (omega arith)
+    under (w ∷ ws) (suc k) some lt = slice_get-get_or ws k no_workspace (omega arith)

@@ -3,6 +3,8 @@ use Rattle.std.specs.Prelude.{◌≡◌, ℕ, zero, suc, List, map, Option, Some
 use Rattle.std.specs.Option.{option_or, option_map}
 use Rattle.clr_rows.specs.Contents.{Content}
 use Rattle.clr_rows.specs.declared.tables.TableDef.{TableDef}
+use Rattle.clr_layers.specs.Differing.{layer_from}
+use Rattle.clr_layers.specs.Layers.{Layer}
 use Rattle.clr_layers.specs.Workspaces.{Workspace}
 use Rattle.clr_tree.specs.Parts.{workspace_of}
 use Rattle.clr_tree.specs.declared.parts.Part.{Part}
@@ -12,7 +14,7 @@ use Rattle.clr_rules.specs.declared.needs.Broken.{Broken}
 use Rattle.clr_engine.specs.declared.drafts.AdmitFault.{AdmitFault}
 use Rattle.clr_engine.specs.declared.drafts.AdmitFault.TheVariants as fault
 use Rattle.clr_steps.specs.Invariants.{HoldsWhereKept, OfficeFits, unheld_from}
-use Rattle.clr_steps.specs.Offices.{Office}
+use Rattle.clr_steps.specs.Offices.{Office, content_of}
 use Rattle.clr_steps.specs.Refusals.{first_broken}
 
 -- of a schema, rules, LIVE's content and parts
@@ -23,6 +25,10 @@ office_of_parts schema book live parts = record { schema = schema; book = book; 
 abbrev pub part_at : Office → ℕ → Option Workspace
 part_at o zero = None
 part_at o (suc k) = slice_get o.workspaces k
+
+-- a workspace by what it differs in from the current content of its parent
+abbrev pub layer_in : Office → Workspace → Layer
+layer_in o w = layer_from (content_of o w.parent) w
 
 -- the rules and each row fit the schema
 pub record IsFitting (o : Office) : Type 0 where

@@ -8,7 +8,8 @@ use Rattle.clr_rules.specs.Needs.{Holds}
 use Rattle.clr_rules.specs.declared.rules.Rule.{Rule}
 use Rattle.clr_grid.specs.RowMaps.{Rows}
 use Rattle.clr_tree.specs.Soundness.{IsSound}
-use Rattle.clr_tree.specs.Trees.{Tree, needed, stored_at}
+use Rattle.clr_tree.specs.Trees.{Tree, needed, needed_layer, stored_at}
+use Rattle.clr_layers.specs.Layers.{layer_at}
 use Rattle.clr_layers.specs.Marks.{Name}
 use Rattle.clr_layers.specs.Workspaces.{Workspace, workspace_at}
 use Rattle.clr_steps.specs.declared.commands.Command.{Command}
@@ -50,6 +51,7 @@ pub record IsServed (book : List Rule) (ws : List Workspace) (finders : List (Op
   pub holds : HoldInKept book ws
   pub are : AreFinders book (kept_contents ws) finders
 
--- of each base and current content there are just the entries that it needs
-abbrev pub IsSwept : Tree → Type 0
-IsSwept t = (at : ℕ) → 0 < at → at < length t.list → stored_at t.stored at ≡ needed t.list at
+-- of each workspace just what it differs in is stored, so that there are as many entries as it needs
+pub record IsSwept (t : Tree) : Type 0 where
+  pub layers : (at : ℕ) → 0 < at → at < length t.list → layer_at t.layers at ≡ needed_layer t.list at
+  pub counts : (at : ℕ) → 0 < at → at < length t.list → stored_at t.stored at ≡ needed t.list at

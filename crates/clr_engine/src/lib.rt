@@ -12,6 +12,6 @@ mod offices;
 pub use clr_grid::SpotIndex;
 pub use clr_rules::{Broken, RuleBook};
 pub use clr_steps::{Command, Reply};
-pub use clr_tree::{MarkPart, Part, PartFault, View};
+pub use clr_tree::{LayerView, MarkPart, Part, PartFault, View};
 pub use drafts::{AdmitFault, Draft};
 pub use offices::Office;

@@ -7,7 +7,7 @@ ghost use Rattle.clr_tree.specs.Soundness.{IsSound};
 ghost use Rattle.clr_steps.specs.Offices.{content_of, is_kept, office_of, stands};
 ghost use Rattle.clr_steps.specs.Readings.{changes_in, conflicts_in, if_stands, name_at, parent_in, stored_in};
 ghost use Rattle.clr_steps.specs.Steps.{is_lost, lost_in, run, IsAnswer, TakesNoMemory};
-ghost use Rattle.clr_engine.specs.Drafts.{IsAdmitted, part_at};
+ghost use Rattle.clr_engine.specs.Drafts.{IsAdmitted, layer_in, part_at};
 ghost use Rattle.clr_engine.specs.Finders.{AreFinders, IsFinderAt, IsPositionOf, current_at, kept_at, kept_contents};
 ghost use Rattle.clr_engine.specs.Trees.{IsSwept};
 
@@ -20,7 +20,7 @@ use clr_grid::SpotIndex;
 use clr_rows::{CellId, Row, Schema, Sheet};
 use clr_rules::RuleBook;
 use clr_steps::{Command, Reply};
-use clr_tree::{Part, Tree, View};
+use clr_tree::{LayerView, Part, Tree, View};
 use std::alloc::AllocError;
 use std::marker::Model;
 
@@ -235,6 +235,19 @@ impl Office {
             return Ok(None);
         }
         Ok(Some(self.tree.part(position)?))
+    }
+
+    /// What is stored of the workspace at a position in order of creation, or none for LIVE, which
+    /// has position 0, and past the end. It is exactly what the workspace differs in: its base from
+    /// its parent's current content, and its current content and savepoints from its base. Nothing
+    /// is copied.
+    pub fn layer(&self, position: usize) -> Option<LayerView<'_>>
+        ensures { result ≡ option_map (layer_in self.now) (part_at self.now position) }
+    {
+        if position >= self.tree.len() || position == 0 {
+            return None;
+        }
+        Some(self.tree.layer(position))
     }
 
     /// Performs one command, whole or not at all: the first refusal that applies is answered, and

@@ -12,15 +12,15 @@ use Rattle.clr_rows.specs.Same.{same}
 use Rattle.clr_rows.specs.Schemas.{FitsSchema, cell_fault}
 use Rattle.clr_rows.proofs.ChangeLemmas.{after_of, find-rows_after, get-changes, taken_over-own}
 use Rattle.clr_rows.proofs.SchemaLemmas.{cell_named, fits_table}
-use Rattle.clr_differences.specs.Differences.{seen_over}
+use Rattle.clr_differences.specs.Differences.{differences_from, seen_over}
+use Rattle.clr_differences.proofs.SweepLemmas.{after_sorted, entries-differences}
+use Rattle.clr_layers.specs.Differing.{layer_from, mark_from}
 use Rattle.clr_layers.specs.Layers.{whole_mark, whole_of}
 use Rattle.clr_layers.specs.Marks.{Mark, Saved, ChildMark, mark_at, saved_content}
 use Rattle.clr_layers.specs.Workspaces.{Workspace}
 use Rattle.clr_steps.specs.Invariants.{WorkspaceFits}
 use Rattle.clr_office_text.specs.Fits.{FitsDifferences, FitsLayer, FitsMark}
 use Rattle.clr_office_text.specs.Patches.{put_fault}
-use Rattle.clr_office_json.specs.Differing.{differences_from, layer_from, mark_from}
-use Rattle.clr_office_json.proofs.Written.{rows_sorted}
 
 -- they fit -----------------------------------------------------------------------------------
 
@@ -42,7 +42,7 @@ module _ (tables : List TableDef) (below content : Content) (q : CellId) where
 
 get-differences : (below content : Content) (q : CellId) → finite.get (differences_from below content) q ≡ option_map after_of (cond (is_changed below content q) (Some (change_of below content q)) None)
 get-differences below content q =
-    finite.get-from_sorted cell_cmp (rows_after (changes below content)) q (rows_sorted below content) ∙ find-rows_after (changes below content) q ∙ ap (option_map after_of) (get-changes below content q)
+    finite.get-from_sorted cell_cmp (rows_after (changes below content)) q (after_sorted (changes below content)) ∙ find-rows_after (changes below content) q ∙ ap (option_map after_of) (get-changes below content q)
 
 differences_fit : (tables : List TableDef) (below content : Content) → FitsSchema tables below → FitsSchema tables content → FitsDifferences tables (differences_from below content)
 differences_fit tables below content from to q x is = change_fits tables below content q (is_changed below content q) x refl (sym (get-differences below content q) ∙ is) from to
@@ -63,7 +63,7 @@ layer_fits tables above w from fits = record {
 
 made : (below content : Content) → seen_over below (differences_from below content) ≡ content
 unfolding seen_over
-made below content = ap (over below) (finite.entries-from_sorted cell_cmp (rows_after (changes below content)) (rows_sorted below content)) ∙ taken_over-own below content
+made below content = ap (over below) (entries-differences below content) ∙ taken_over-own below content
 
 marks_made : (base : Content) (marks : List Mark) → map (whole_mark base) (map (mark_from base) marks) ≡ marks
 marks_made base [] = refl

@@ -1,16 +1,10 @@
--- The text that is written of an office: compact JSON of format 3, from contents and not from how they are kept.
+-- The text that is written of an office: compact JSON of format 3, told of contents and not of how they are kept.
 use Rattle.std.specs.Prelude.{ℕ, List, map}
 use Rattle.serde_json.specs.Written.{compact_text}
-use Rattle.clr_layers.specs.Layers.{Layer}
-use Rattle.clr_layers.specs.Workspaces.{Workspace}
-use Rattle.clr_steps.specs.Offices.{Office, content_of}
+use Rattle.clr_steps.specs.Offices.{Office}
+use Rattle.clr_engine.specs.Drafts.{layer_in}
 use Rattle.clr_office_text.specs.Offices.{OfficeText}
 use Rattle.clr_office_data.specs.OfficeData.{office_data}
-use Rattle.clr_office_json.specs.Differing.{layer_from}
-
--- a workspace by what it differs in from the content of its parent
-abbrev pub layer_in : Office → Workspace → Layer
-layer_in o w = layer_from (content_of o w.parent) w
 
 abbrev pub text_of : Office → OfficeText
 text_of o = record { schema = o.schema; book = o.book; live = o.live; layers = map (layer_in o) o.workspaces }

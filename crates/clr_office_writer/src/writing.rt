@@ -1,40 +1,25 @@
 ghost use Rattle.std.specs.Prelude.{◌≡◌, Some, Ok, map, IfOk};
 ghost use Rattle.serde_json.specs.View.{view};
 ghost use Rattle.clr_layers.specs.Workspaces.{Workspace as OneWorkspace};
-ghost use Rattle.clr_steps.specs.Offices.{content_of};
-ghost use Rattle.clr_engine.specs.Drafts.{part_at};
+ghost use Rattle.clr_engine.specs.Drafts.{layer_in, part_at};
 ghost use Rattle.clr_office_data.specs.OfficeData.{office_data};
 ghost use Rattle.clr_office_data.specs.Values.{list_data};
 ghost use Rattle.clr_office_data.specs.WorkspaceData.{layer_data};
 ghost use Rattle.clr_drafts.specs.Drafts.{draft_in};
-ghost use Rattle.clr_office_writer.specs.Writing.{layer_in, text_of, bytes_of};
+ghost use Rattle.clr_office_writer.specs.Writing.{text_of, bytes_of};
 
 use clr_engine::Office;
 use clr_office_json::{live_json, rules_json, tables_json, workspace_json};
-use clr_rows::Sheet;
 use serde_json::{Value as Json, json};
 use std::alloc::{AllocError, Global};
-
-/// The current content of LIVE or of a workspace, or no rows for an unknown name.
-fn rows_of(alloc: Global, office: &Office, ws: &str) -> Result<Sheet, AllocError>
-    ensures { IfOk result (λ rows. rows ≡ content_of office.now ws.now) }
-{
-    match office.rows(ws)? {
-        Some(rows) => Ok(rows),
-        None => Ok(Sheet::new(alloc)),
-    }
-}
 
 /// The workspace at a position in order of creation, LIVE having position 0, as JSON.
 fn json_at(alloc: Global, office: &Office, position: usize) -> Result<Json, AllocError>
     ensures { IfOk result (λ json. (w : OneWorkspace) → part_at office.now position ≡ Some w
         → view json ≡ layer_data office.now.schema (layer_in office.now w)) }
 {
-    match office.part(position)? {
-        Some(part) => {
-            let above = rows_of(alloc, office, part.parent.as_str())?;
-            workspace_json(alloc, office.schema(), &above, &part)
-        }
+    match office.layer(position) {
+        Some(layer) => workspace_json(alloc, office.schema(), &layer),
         None => Ok(Json::Null),
     }
 }

@@ -27,7 +27,7 @@ returns-in-Some c =
     let above = sound.rooted.under at some lt in
     let parent = seen_in inside.schema inside.judge ws o sound c.self.view_is (workspace_at ws at).parent in
     shown o ws c.args.ws.now seen at c.stored.result (stored_in o c.args.ws.now) e
-    (c.stored.ensures ∙ c.self.invariant.2 at some lt ∙ stored_is o ws c.args.ws.now seen at above.0 some e above.1 parent)
+    (c.stored.ensures ∙ c.self.invariant.2.counts at some lt ∙ stored_is o ws c.args.ws.now seen at above.0 some e above.1 parent)
 
 pub returns-in-None : goal.returns-in-None
 returns-in-None c =
