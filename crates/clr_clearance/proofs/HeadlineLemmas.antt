@@ -31,27 +31,29 @@ module _ (o : Office) (site : Site) (mergeable : AreMergeable o site) where
       by true e = absurd (false≢true (sym out ∙ sym (has_is site.members name) ∙ part name (has_is names name ∙ e)))
 
   module _
-      (commands others : List Command) (lost lost_too : ℕ → Bool) (quiet : AreQuiet o site commands lost) (quiet_too : AreQuiet o site others lost_too)
+      (commands others : List Command) (lost lost_of_others : ℕ → Bool)
+      (quiet : AreQuiet o site commands lost) (quiet_too : AreQuiet o site others lost_of_others)
     where
       abbrev AreMergedAlike : Type 0
-      AreMergedAlike = (name : Name) → has (merged_after o site commands lost) name ≡ has (merged_after o site others lost_too) name
+      AreMergedAlike = (name : Name) → has (merged_after o site commands lost) name ≡ has (merged_after o site others lost_of_others) name
 
-      same_rows : AreMergedAlike → (cell : CellId) → root_after o site commands lost cell ≡ root_after o site others lost_too cell
+      same_rows : AreMergedAlike → (cell : CellId) → root_after o site commands lost cell ≡ root_after o site others lost_of_others cell
       same_rows alike cell =
           let one = quiet_list_law o site commands lost mergeable quiet in
-          let two = quiet_list_law o site others lost_too mergeable quiet_too in
+          let two = quiet_list_law o site others lost_of_others mergeable quiet_too in
           one.rows cell
-          ∙ order_law o site (merged_after o site commands lost) (merged_after o site others lost_too) mergeable one.part alike cell
+          ∙ order_law o site (merged_after o site commands lost) (merged_after o site others lost_of_others) mergeable one.part alike cell
           ∙ sym (two.rows cell)
 
-      all_alike : AreAllMerged o site commands lost → AreAllMerged o site others lost_too → AreMergedAlike
+      all_alike : AreAllMerged o site commands lost → AreAllMerged o site others lost_of_others → AreMergedAlike
       all_alike all all_too name = by (is_member site name) refl
         where
-          by : (b : Bool) → is_member site name ≡ b → has (merged_after o site commands lost) name ≡ has (merged_after o site others lost_too) name
+          by : (b : Bool) → is_member site name ≡ b → has (merged_after o site commands lost) name ≡ has (merged_after o site others lost_of_others) name
           by true e = all name e ∙ sym (all_too name e)
           by false e =
               merged_are_members (merged_after o site commands lost) (quiet_list_law o site commands lost mergeable quiet).part name e
-              ∙ sym (merged_are_members (merged_after o site others lost_too) (quiet_list_law o site others lost_too mergeable quiet_too).part name e)
+              ∙ sym (merged_are_members (merged_after o site others lost_of_others)
+              (quiet_list_law o site others lost_of_others mergeable quiet_too).part name e)
 
   holds_before : Safe o site → (commands : List Command) (lost : ℕ → Bool) → AreQuiet o site commands lost → (at : ℕ)
       → RootHolds (office_before o commands lost at) site
@@ -67,7 +69,7 @@ headline o site entries clear holds =
       no_clash = λ commands lost. quiet_reply o site commands lost safe;
       holds = holds_before o site covers.mergeable safe;
       same_rows = same_rows o site covers.mergeable;
-      all_merged = λ commands others lost lost_too quiet quiet_too all all_too.
-          same_rows o site covers.mergeable commands others lost lost_too quiet quiet_too
-          (all_alike o site covers.mergeable commands others lost lost_too quiet quiet_too all all_too);
+      all_merged = λ commands others lost lost_of_others quiet quiet_too all all_too.
+          same_rows o site covers.mergeable commands others lost lost_of_others quiet quiet_too
+          (all_alike o site covers.mergeable commands others lost lost_of_others quiet quiet_too all all_too);
     }

@@ -40,12 +40,12 @@ AreAllMerged o site commands lost = (name : Name) → is_member site name ≡ tr
 pub record Headline (o : Office) (site : Site) : Type 0 where
   pub no_clash : (commands : List Command) (lost : ℕ → Bool) → AreQuiet o site commands lost → NoneClashes site commands (run o commands lost).replies
   pub holds : (commands : List Command) (lost : ℕ → Bool) → AreQuiet o site commands lost → (at : ℕ) → RootHolds (office_before o commands lost at) site
-  pub same_rows : (commands others : List Command) (lost lost_too : ℕ → Bool) → AreQuiet o site commands lost → AreQuiet o site others lost_too
-      → ((name : Name) → has (merged_after o site commands lost) name ≡ has (merged_after o site others lost_too) name)
-      → (cell : CellId) → root_after o site commands lost cell ≡ root_after o site others lost_too cell
-  pub all_merged : (commands others : List Command) (lost lost_too : ℕ → Bool) → AreQuiet o site commands lost → AreQuiet o site others lost_too
-      → AreAllMerged o site commands lost → AreAllMerged o site others lost_too
-      → (cell : CellId) → root_after o site commands lost cell ≡ root_after o site others lost_too cell
+  pub same_rows : (commands others : List Command) (lost lost_of_others : ℕ → Bool) → AreQuiet o site commands lost → AreQuiet o site others lost_of_others
+      → ((name : Name) → has (merged_after o site commands lost) name ≡ has (merged_after o site others lost_of_others) name)
+      → (cell : CellId) → root_after o site commands lost cell ≡ root_after o site others lost_of_others cell
+  pub all_merged : (commands others : List Command) (lost lost_of_others : ℕ → Bool) → AreQuiet o site commands lost → AreQuiet o site others lost_of_others
+      → AreAllMerged o site commands lost → AreAllMerged o site others lost_of_others
+      → (cell : CellId) → root_after o site commands lost cell ≡ root_after o site others lost_of_others cell
 
 -- so it is where the verdict is clear and every rule holds in the root
 abbrev pub HeadlineLaw : Type 0
