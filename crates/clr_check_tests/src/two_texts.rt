@@ -1,6 +1,7 @@
 use clr_cert::CertFault;
 use clr_check::Verdict;
-use clr_check_texts::{Checked, TextFault, check_texts};
+use clr_check_texts::{Checked, TextFault, check_texts, judge_texts};
+use clr_clearance_trials::line_of;
 use clr_foot::{Need, VersionId};
 use clr_rows::CellId;
 use clr_rules::{Ask, Broken};
@@ -83,5 +84,34 @@ fn texts_are_checked_in_turn(rt: HostRuntime) -> Result<(), Fail> {
     for (network, record, said) in cases {
         assert!(rt; check_of(rt.alloc(), network, record)? == said);
     }
+    Ok(())
+}
+
+/// Whether the verdict on a certificate with the member W1 and a record has this line, in a network behind the mains.
+fn is_line_of(
+    alloc: Global,
+    network: &str,
+    record: (&str, &str),
+    line: &str,
+) -> Result<bool, Fail> {
+    let office = format!(in alloc; "{CROSSING}{network}")?;
+    let certificate = format!(in alloc; "member,W1,,,,\n{}{}", record.0, record.1)?;
+    let judged = judge_texts(alloc, office.as_bytes(), certificate.as_bytes());
+    let check = judged
+        .ok()
+        .ok_or("the texts give no office with a certificate")?;
+    let schema = check.office.schema();
+    let said = line_of(alloc, schema, &check.certificate, &check.verdict);
+    Ok(said.ok_or("no line")?.as_slice() == line.as_bytes())
+}
+
+#[test]
+fn verdicts_have_the_lines_of_what_was_read(rt: HostRuntime) -> Result<(), Fail> {
+    let alloc = rt.alloc();
+    let uncovered = "6 Uncovered rule 1 main/1/old main/2/old\n";
+    let repeated = "1 RepeatedMember W1\n";
+    assert!(rt; is_line_of(alloc, REPLACED, (NEED, "node/10/new\n"), "clear\n")?);
+    assert!(rt; is_line_of(alloc, REPLACED, (NEED, "\n"), uncovered)?);
+    assert!(rt; is_line_of(alloc, REPLACED, ("member,W1,,,,\n", ""), repeated)?);
     Ok(())
 }

@@ -1,6 +1,7 @@
 ghost use Rattle.std.specs.Prelude.{None};
 
 use clr_office::{DeviceFault, Page, Port, RunFault, Sink, Source, Text, run_office};
+use std::io::{self, Write};
 use std::test::Fail;
 
 const INPUT: &str = "{\"format\":1,\"tables\":[],\"live\":[]}\n---\nshow,LIVE\n";
@@ -126,5 +127,33 @@ fn ports_pass_on_what_memory_tells(rt: HostRuntime) -> Result<(), Fail> {
     let status = run_office(rt.alloc(), &mut reader, &mut Port::new(&mut lines));
     assert_eq!(rt; status, Ok(0));
     assert_eq!(rt; lines.as_slice(), LINES);
+    Ok(())
+}
+
+/// A writer that takes all that is written, and can't flush it.
+#[derive(Drop)]
+struct Clogged {
+    taken: Vec<u8>,
+}
+
+impl Write for Clogged {
+    fn write(&mut self, bytes: &[u8]) -> io::Result<usize> {
+        self.taken.extend_from_slice(bytes)?;
+        Ok(bytes.len())
+    }
+
+    fn flush(&mut self) -> io::Result<()> {
+        Err(io::Error::from(io::ErrorKind::BrokenPipe))
+    }
+}
+
+#[test]
+fn a_failed_flush_is_a_failed_write(rt: HostRuntime) -> Result<(), Fail> {
+    let mut port = Port::new(Clogged {
+        taken: Vec::new(rt.alloc()),
+    });
+    let status = run_office(rt.alloc(), &mut Text::new(INPUT.as_bytes()), &mut port);
+    assert_eq!(rt; status, Err(RunFault::WriteFailed));
+    assert_eq!(rt; RunFault::WriteFailed.status(), 2);
     Ok(())
 }
