@@ -9,7 +9,8 @@ use Rattle.clr_foot.specs.Members.{AreApart, setting}
 use Rattle.clr_foot.specs.Parts.{setting_at}
 use Rattle.clr_clashes.specs.Clashes.{HoldNoClash, LeavesNoneUncovered}
 
--- where every rule holds in the root and no cell is changed by two members, each touched need of some of the members alone is covered exactly where they hold no clash
+-- where every rule holds in the root and no cell is changed by two members, some of the members alone leave no touched need uncovered
+-- exactly where they hold none of the smallest clashes of all
 abbrev pub ClashesDecideSubsets : Type 0
 ClashesDecideSubsets = (rules : List Rule) (root : Content) (sets : List Changes) (positions : List ℕ)
     → AreApart sets
