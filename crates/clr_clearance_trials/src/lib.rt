@@ -1,6 +1,10 @@
-//! Certificates of texts, and lines of verdicts on them, which crates of tests share. Where a text can't be read, or memory
-//! is wanting, they answer none.
+//! Certificates of texts, lines of verdicts on them, and lines of runs under them, which crates of tests share. Where a text can't
+//! be read, or memory is wanting, they answer none.
 #![tactic(auto)]
+
+mod runs;
+
+pub use runs::{run_or_verdict_lines, run_under};
 
 use clr_cert::{Certificate, read_certificate};
 use clr_check::Verdict;

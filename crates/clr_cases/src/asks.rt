@@ -1,0 +1,41 @@
+//! What is asked in an office, by words.
+//!
+//! | words | what is asked |
+//! |---|---|
+//! | `run` | what the steps of a script are answered, one after another, and its commands all at once |
+//! | `give` | what commands are answered all at once |
+//! | `check` | the verdict on a certificate |
+//! | `read` | with which fault the text of a certificate is read |
+//! | `plan ROOT NAME..` | a plan; where it is cleared, its certificate is the text |
+//! | `cleared` | what commands are answered under a certificate, and the rows of the root after them |
+//! | `where clear` | what commands are answered all at once, where a certificate is clear, and the rows of LIVE |
+//! | `office after` | what commands are answered under a certificate, where they leave the office of a text |
+
+use crate::cases::Ask;
+use crate::checks::{check_line, fault_line};
+use crate::plans::plan_lines;
+use crate::runs::{cleared_lines, lines_where_clear, lines_with_office};
+use crate::steps::script_lines;
+use clr_engine::Office;
+use clr_trials::replies_to;
+use std::alloc::Global;
+
+/// The lines that are answered in the office of a text, behind a script; none where nothing can be asked by these words, or it is
+/// not so.
+pub fn answer(
+    alloc: Global,
+    office: &mut Office,
+    text: &str,
+    ask: &Ask<'_>,
+) -> Option<Vec<u8>> {
+    match ask.words {
+        "run" => script_lines(alloc, office, text, ask.text),
+        "give" => replies_to(alloc, office, ask.text),
+        "check" => check_line(alloc, office, ask.text),
+        "read" => fault_line(alloc, office, ask.text),
+        "cleared" => cleared_lines(alloc, office, ask.text),
+        "where clear" => lines_where_clear(alloc, office, ask.text),
+        "office after" => lines_with_office(alloc, office, text, ask.text),
+        words => plan_lines(alloc, office, words.strip_prefix("plan ")?, ask.text),
+    }
+}
