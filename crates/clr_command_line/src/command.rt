@@ -18,11 +18,33 @@ const WITHOUT_WORDS: &str =
 It ends with status 0 where all is done, 1 where something is refused, 2 where its words or its input can't be read,
 and 3 for want of memory.";
 
-/// A subcommand over an office text.
+const AUDIT_PRINTS: &str = "It prints `broken N` and the N broken needs, a line each.
+The status is 0 where there is none, and 1 where there are some.";
+
+const RUN_PRINTS: &str = "It prints what each step answers.
+The status is 0 where all was done, cleared or clear, and 1 where something was refused.";
+
+const PLAN_PRINTS: &str = "It prints one of these:
+  cleared N  and the lines of a certificate with N needs, with status 0; without names it is cleared
+  blocked N  and the names of N workspaces: merged in this order, one of them is refused;
+             then the cause, with status 1
+  unfit      and what is wrong with a name, with status 1";
+
+const CHECK_PRINTS: &str =
+    "It prints `clear`, with status 0, or the first test that the certificate fails, with status 1.";
+
+const MERGE_PRINTS: &str =
+    "It prints a line for each merge and, in the last line, the office text. It writes no file.
+The status is 0 where all merges were done, and 1 where one was refused, or where the certificate
+says nothing of one, which ends the merges. Where the certificate isn't clear, it merges nothing
+and prints the test that fails, with status 1.";
+
+/// A subcommand over an office text, with a line about it and with what it prints.
 fn over_database<'a>(
     alloc: Global,
     name: &'a str,
     about: &'a str,
+    prints: &'a str,
 ) -> Result<Command<'a>, AllocError>
     ensures shape { IfOk result (λ c. app_of c ≡ database_command name.entry.now) }
     ensures plain { IfOk result (λ c. (fields_of c).has_globals ≡ false) }
@@ -30,7 +52,10 @@ fn over_database<'a>(
     let database = Arg::new(alloc, "DB")
         .required(true)
         .help("The file of the office text, which is JSON");
-    Command::new(alloc, name).about(about).arg(database)
+    Command::new(alloc, name)
+        .about(about)
+        .after_help(prints)
+        .arg(database)
 }
 
 /// The command with one more value, which has to be given.
@@ -84,6 +109,7 @@ fn audit<'a>(alloc: Global) -> Result<Command<'a>, AllocError>
         alloc,
         "audit",
         "Prints the rules that the rows of LIVE break",
+        AUDIT_PRINTS,
     )
 }
 
@@ -95,6 +121,7 @@ fn run<'a>(alloc: Global) -> Result<Command<'a>, AllocError>
         alloc,
         "run",
         "Performs a script, and prints what its steps answer",
+        RUN_PRINTS,
     )?;
     with_value(
         alloc,
@@ -114,6 +141,7 @@ fn plan<'a>(alloc: Global) -> Result<Command<'a>, AllocError>
         alloc,
         "plan",
         "Says whether children of LIVE can be merged in every order, and prints a certificate if so",
+        PLAN_PRINTS,
     )?;
     with_names(alloc, command, "The workspaces that are to be merged")
 }
@@ -125,7 +153,8 @@ fn plan_under<'a>(alloc: Global) -> Result<Command<'a>, AllocError>
     let command = over_database(
         alloc,
         "planunder",
-        "Says the same of children of another workspace, into which they are to be merged",
+        "Says whether children of another workspace can be merged into it in every order",
+        PLAN_PRINTS,
     )?;
     let command = with_value(
         alloc,
@@ -144,6 +173,7 @@ fn check<'a>(alloc: Global) -> Result<Command<'a>, AllocError>
         alloc,
         "check",
         "Says whether a certificate shows that its workspaces can be merged in every order",
+        CHECK_PRINTS,
     )?;
     with_certificate(alloc, command)
 }
@@ -156,6 +186,7 @@ fn merge<'a>(alloc: Global) -> Result<Command<'a>, AllocError>
         alloc,
         "merge",
         "Merges workspaces if a certificate holds, and prints the office text that is left",
+        MERGE_PRINTS,
     )?;
     let command = with_certificate(alloc, command)?;
     with_names(alloc, command, "The workspaces to merge, in this order")

@@ -1,5 +1,6 @@
-ghost use Rattle.std.specs.Prelude.{◌≡◌, List, ◌++◌, ◌∷◌, [], OnOk};
+ghost use Rattle.std.specs.Prelude.{◌≡◌, List, ◌++◌, ◌∷◌, [], OnErr, OnOk};
 ghost use Rattle.clr_layers.specs.Layers.{Layer};
+ghost use Rattle.std.specs.BTreeSet.{IsUnchanged};
 ghost use Rattle.std.specs.Str.{bytes_eq};
 ghost use Rattle.clr_rows.specs.Names.{live_name};
 ghost use Rattle.clr_office_text.specs.Workspaces.{HasNames, stands_in};
@@ -22,9 +23,10 @@ pub fn stands(names: &BTreeSet<String>, name: &str) -> bool
 }
 
 /// Puts the name of one more workspace to those of the earlier ones. It fails for want of memory
-/// alone.
+/// alone, and then the names stay as they are.
 pub fn note_name(names: &mut BTreeSet<String>, name: &Words) -> Result<(), AllocError>
-    ensures { OnOk result ((earlier : List Layer) (l : Layer) → HasNames names.old earlier → l.name ≡ name.now → HasNames names.new (earlier ++ l ∷ [])) }
+    ensures noted { OnOk result ((earlier : List Layer) (l : Layer) → HasNames names.old earlier → l.name ≡ name.now → HasNames names.new (earlier ++ l ∷ [])) }
+    ensures err { OnErr result (IsUnchanged names.old names.new) }
 {
     let copy = name.copy()?;
     names.insert(copy.into_string())?;

@@ -11,6 +11,8 @@ mod cases;
 #[cfg(test)]
 mod layered;
 #[cfg(test)]
+mod live;
+#[cfg(test)]
 mod operations;
 #[cfg(test)]
 mod parts;

@@ -21,7 +21,7 @@ pub loop-item-preserved : goal.loop-item-preserved
 loop-item-preserved c =
     rw c.in_ok-push.ensures.items record {
       so_far = goes_on c.args.format c.args.schema.now c.loop-item.parts.items c.args.items.now c.loop-item.item-index _ c.in_ok-one.one _ c.loop-item-test.true c.item-item.is (rw c.as_slice.ensures.value at c.in_ok-one.ensures) c.loop-item.invariant.so_far;
-      named = rw (map-append stored_layer c.loop-item.parts.items (c.in_ok-one.one ∷ [])) (c.in_ok-note_name.ensures (map stored_layer c.loop-item.parts.items) (stored_layer c.in_ok-one.one) c.loop-item.invariant.named refl);
+      named = rw (map-append stored_layer c.loop-item.parts.items (c.in_ok-one.one ∷ [])) (c.in_ok-note_name.ensures.noted (map stored_layer c.loop-item.parts.items) (stored_layer c.in_ok-one.one) c.loop-item.invariant.named refl);
     }
 
 pub returns : goal.returns

@@ -1,0 +1,3 @@
+mod ClashLaws
+mod Lists
+mod PartNeeds

@@ -1,0 +1,34 @@
+-- Clashes: members that break a touched need which nothing covers.
+use Rattle.std.specs.Prelude.{◌≡◌, ℕ, List, Contains}
+use Rattle.clr_foot.specs.declared.needs.Need.{Need}
+use Rattle.clr_foot.specs.Covers.{IsUncoveredNeed}
+use Rattle.clr_foot.specs.Needs.{IsTouched}
+use Rattle.clr_foot.specs.Picks.{Blocks}
+use Rattle.clr_foot.specs.Settings.{Setting}
+
+-- all of one list are in another
+abbrev pub IsWithin : List ℕ → List ℕ → Type 0
+IsWithin xs ys = (x : ℕ) → Contains xs x → Contains ys x
+
+-- a touched need that nothing covers, and exactly the members that break it, ascending
+pub record IsBrokenBy (c : Setting ℕ) (n : Need) (list : List ℕ) : Type 0 where
+  pub touched : IsTouched c n
+  pub uncovered : IsUncoveredNeed c n
+  pub blockers : Blocks c n list
+
+-- members that break such a need
+abbrev pub IsClash : Setting ℕ → List ℕ → Type 0
+IsClash c list = (n : Need) × IsBrokenBy c n list
+
+-- a clash that holds no other
+pub record IsSmallestClash (c : Setting ℕ) (list : List ℕ) : Type 0 where
+  pub clash : IsClash c list
+  pub smallest : (other : List ℕ) → IsClash c other → IsWithin other list → other ≡ list
+
+-- nothing that is touched is left uncovered
+abbrev pub LeavesNoneUncovered : Setting ℕ → Type 0
+LeavesNoneUncovered c = (n : Need) → IsTouched c n → ¬ (IsUncoveredNeed c n)
+
+-- some members hold none of the smallest clashes
+abbrev pub HoldNoClash : Setting ℕ → List ℕ → Type 0
+HoldNoClash c positions = (list : List ℕ) → IsSmallestClash c list → ¬ (IsWithin list positions)
