@@ -22,12 +22,7 @@ use std::alloc::Global;
 
 /// The lines that are answered in the office of a text, behind a script; none where nothing can be asked by these words, or it is
 /// not so.
-pub fn answer(
-    alloc: Global,
-    office: &mut Office,
-    text: &str,
-    ask: &Ask<'_>,
-) -> Option<Vec<u8>> {
+pub fn answer(alloc: Global, office: &mut Office, text: &str, ask: &Ask<'_>) -> Option<Vec<u8>> {
     match ask.words {
         "run" => script_lines(alloc, office, text, ask.text),
         "give" => replies_to(alloc, office, ask.text),

@@ -87,7 +87,12 @@ fn whole_lines(alloc: Global, office: &Office, word: Word) -> Option<Vec<u8>> {
     }
 }
 
-pub fn report_lines(alloc: Global, office: &Office, word: Word, names: &[Words]) -> Option<Vec<u8>> {
+pub fn report_lines(
+    alloc: Global,
+    office: &Office,
+    word: Word,
+    names: &[Words],
+) -> Option<Vec<u8>> {
     match names.first() {
         Some(name) => lines_of(alloc, office, word, name.as_str()),
         None => whole_lines(alloc, office, word),

@@ -4,12 +4,11 @@
 
 mod runs;
 
-pub use runs::{run_or_verdict_lines, run_under};
-
 use clr_cert::{Certificate, read_certificate};
 use clr_check::Verdict;
 use clr_rows::Schema;
 use clr_verdict_lines::verdict_line;
+pub use runs::{run_or_verdict_lines, run_under};
 use std::alloc::Global;
 
 /// The certificate of a text.

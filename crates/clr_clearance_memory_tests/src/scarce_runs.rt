@@ -2,10 +2,9 @@
 //! memory, and the office has the text that the other commands alone make. A lost command is answered rightly when it is given
 //! again, and so is a run that found no memory for its verdict. What is wrong with names is told without memory.
 
-use crate::answers::run_or_verdict_lines;
 use clr_cert::Certificate;
 use clr_check::{ClearedRun, Verdict, perform_cleared};
-use clr_clearance_trials::certificate_of;
+use clr_clearance_trials::{certificate_of, run_or_verdict_lines};
 use clr_engine::{Command, Office, Reply};
 use clr_hoard::Hoard;
 use clr_office_writer::write_office;
