@@ -11,7 +11,7 @@
 //! | `where clear` | what commands are answered all at once, where a certificate is clear, and the rows of LIVE |
 //! | `office after` | what commands are answered under a certificate, where they leave the office of a text |
 
-use crate::cases::Ask;
+use crate::cases::Case;
 use crate::checks::{check_line, fault_line};
 use crate::plans::plan_lines;
 use crate::runs::{cleared_lines, lines_where_clear, lines_with_office};
@@ -20,17 +20,18 @@ use clr_engine::Office;
 use clr_trials::replies_to;
 use std::alloc::Global;
 
-/// The lines that are answered in the office of a text, behind a script; none where nothing can be asked by these words, or it is
-/// not so.
-pub fn answer(alloc: Global, office: &mut Office, text: &str, ask: &Ask<'_>) -> Option<Vec<u8>> {
-    match ask.words {
-        "run" => script_lines(alloc, office, text, ask.text),
-        "give" => replies_to(alloc, office, ask.text),
-        "check" => check_line(alloc, office, ask.text),
-        "read" => fault_line(alloc, office, ask.text),
-        "cleared" => cleared_lines(alloc, office, ask.text),
-        "where clear" => lines_where_clear(alloc, office, ask.text),
-        "office after" => lines_with_office(alloc, office, text, ask.text),
-        words => plan_lines(alloc, office, words.strip_prefix("plan ")?, ask.text),
+/// The lines that a case is answered in its office, whose text is given too; none where nothing can be asked by its words, or it
+/// is not so.
+pub fn answer(alloc: Global, office: &mut Office, text: &str, case: &Case<'_>) -> Option<Vec<u8>> {
+    let asked = case.ask.text;
+    match case.ask.words {
+        "run" => script_lines(alloc, office, (text, case.script), asked),
+        "give" => replies_to(alloc, office, asked),
+        "check" => check_line(alloc, office, asked),
+        "read" => fault_line(alloc, office, asked),
+        "cleared" => cleared_lines(alloc, office, asked),
+        "where clear" => lines_where_clear(alloc, office, asked),
+        "office after" => lines_with_office(alloc, office, (text, case.script), asked),
+        words => plan_lines(alloc, office, words.strip_prefix("plan ")?, asked),
     }
 }

@@ -5,6 +5,7 @@
 mod asks;
 mod cases;
 mod checks;
+mod offices;
 mod plans;
 mod reports;
 mod runs;
@@ -12,7 +13,7 @@ mod steps;
 
 use asks::answer;
 use cases::{Case, OfficeText, case_of};
-use clr_trials::{office_of, perform_script};
+use offices::office_after;
 use std::alloc::Global;
 use std::fs::read_to_string;
 use std::io::Result as IoResult;
@@ -27,12 +28,8 @@ struct Counts {
 
 /// The lines that a case is answered over the text of its office; none where its script isn't done, or it can't be asked.
 fn lines_over(alloc: Global, text: &str, case: &Case<'_>) -> Option<Vec<u8>> {
-    let mut office = office_of(alloc, text)?;
-    if perform_script(alloc, &mut office, case.script)? {
-        answer(alloc, &mut office, text, &case.ask)
-    } else {
-        None
-    }
+    let mut office = office_after(alloc, text, case.script)?;
+    answer(alloc, &mut office, text, case)
 }
 
 /// The lines that a case is answered.
@@ -77,10 +74,12 @@ fn run_file(rt: &HostRuntime, file: &str, counts: &mut Counts) -> IoResult<()> {
         counts.cases = counts.cases.saturating_add(1);
         let is_so = match case_of(part) {
             Some(case) => is_so(rt, file, &case)?,
-            None => false,
+            None => {
+                println!(rt; "{file}: a part of case {} is missing", counts.cases)?;
+                false
+            }
         };
         if !is_so {
-            println!(rt; "{file}: case {} differs", counts.cases)?;
             counts.differ = counts.differ.saturating_add(1);
         }
     }

@@ -1,5 +1,6 @@
 //! What commands are answered in an office, under a certificate or without one, as lines.
 
+use crate::offices::office_after;
 use clr_check::{Verdict, check};
 use clr_clearance_trials::{certificate_of, run_under};
 use clr_engine::Office;
@@ -56,12 +57,12 @@ pub fn lines_where_clear(alloc: Global, office: &mut Office, asked: &str) -> Opt
     replies_where_clear(alloc, office, certificate, commands)
 }
 
-/// What commands are answered under a certificate, where they leave the office of a text. Certificate, commands and text are
-/// parted by lines `--`; without a text it is the office as it was.
+/// What commands are answered under a certificate, in the office of a text and of the script before, where they leave the office
+/// of another text. Certificate, commands and that text are parted by lines `--`; without it the office stays as it was.
 pub fn lines_with_office(
     alloc: Global,
     office: &mut Office,
-    before: &str,
+    before: (&str, &str),
     asked: &str,
 ) -> Option<Vec<u8>> {
     let (certificate, rest) = asked.split_once("--\n")?;
@@ -69,7 +70,11 @@ pub fn lines_with_office(
     let certificate = certificate_of(alloc, office.schema(), certificate)?;
     let lines = run_under(alloc, office, &certificate, commands)?;
     let left = write_office(alloc, office).ok()?;
-    let wanted = office_of(alloc, if after.is_empty() { before } else { after })?;
+    let wanted = if after.is_empty() {
+        office_after(alloc, before.0, before.1)?
+    } else {
+        office_of(alloc, after)?
+    };
     let wanted = write_office(alloc, &wanted).ok()?;
     if left.as_slice() == wanted.as_slice() {
         Some(lines)

@@ -1,11 +1,12 @@
 //! What the steps of a script are answered, as lines: commands by their replies, and reports by the calls that show what an
 //! office has. What the commands are answered must also be the same where they are performed all at once.
 
+use crate::offices::office_after;
 use crate::reports::report_lines;
 use clr_engine::Office;
 use clr_lines::reply_line;
 use clr_scripts::Step;
-use clr_trials::{add_picture, office_of, replies_to, steps_of};
+use clr_trials::{add_picture, replies_to, steps_of};
 use std::alloc::Global;
 
 /// What the steps of a script are answered, and what its commands are, with all that the office has
@@ -63,23 +64,25 @@ fn step_by_step(alloc: Global, office: &mut Office, script: &str) -> Option<Answ
     Some(answers)
 }
 
-/// What the commands of a script over a text are answered all at once, with all that the office has after them.
-fn at_once(alloc: Global, text: &str, script: &str) -> Option<Vec<u8>> {
-    let mut office = office_of(alloc, text)?;
+/// What the commands of a script are answered all at once, in the office of a text and of the script before, with all that the
+/// office has after them.
+fn at_once(alloc: Global, before: (&str, &str), script: &str) -> Option<Vec<u8>> {
+    let mut office = office_after(alloc, before.0, before.1)?;
     let mut lines = replies_to(alloc, &mut office, script)?;
     add_picture(&mut lines, alloc, &office)?;
     Some(lines)
 }
 
-/// What a script over the text of an office is answered; none where its commands are answered otherwise all at once.
+/// What a script is answered in the office of a text and of the script before; none where its commands are answered otherwise all
+/// at once.
 pub fn script_lines(
     alloc: Global,
     office: &mut Office,
-    text: &str,
+    before: (&str, &str),
     script: &str,
 ) -> Option<Vec<u8>> {
     let answers = step_by_step(alloc, office, script)?;
-    let commands = at_once(alloc, text, script)?;
+    let commands = at_once(alloc, before, script)?;
     if commands.as_slice() == answers.commands.as_slice() {
         Some(answers.lines)
     } else {
