@@ -1,11 +1,14 @@
-//! Certificates of texts, and lines of verdicts on them, which crates of tests share. Where a text can't be read, or memory
-//! is wanting, they answer none.
+//! Certificates of texts, lines of verdicts on them, and lines of runs under them, which crates of tests share. Where a text can't
+//! be read, or memory is wanting, they answer none.
 #![tactic(auto)]
+
+mod runs;
 
 use clr_cert::{Certificate, read_certificate};
 use clr_check::Verdict;
 use clr_rows::Schema;
 use clr_verdict_lines::verdict_line;
+pub use runs::{run_or_verdict_lines, run_under};
 use std::alloc::Global;
 
 /// The certificate of a text.

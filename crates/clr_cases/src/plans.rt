@@ -1,0 +1,83 @@
+//! What is planned in an office, as lines.
+
+use clr_cert::Certificate;
+use clr_check::{Verdict, check};
+use clr_clearance_trials::certificate_of;
+use clr_engine::Office;
+use clr_plan::{Plan, plan};
+use clr_verdict_lines::verdict_line;
+use std::alloc::Global;
+
+/// A root and members, whose names stand in a line.
+fn members_of(alloc: Global, line: &str) -> Option<(&str, Vec<&str>)> {
+    let (root, rest) = line.split_once(" ").unwrap_or((line, ""));
+    let mut members = Vec::new(alloc);
+    for name in rest.split_whitespace() {
+        members.push(name).ok()?;
+    }
+    Some((root, members))
+}
+
+/// Whether two certificates name the same root and members and have the same entries.
+fn are_same(one: &Certificate, other: &Certificate) -> bool {
+    let names = one.members.as_slice();
+    let others = other.members.as_slice();
+    one.root.as_str() == other.root.as_str()
+        && names.len() == others.len()
+        && names
+            .iter()
+            .zip(others)
+            .all(|(name, other)| name.as_str() == other.as_str())
+        && one.entries.as_slice() == other.entries.as_slice()
+}
+
+/// `cleared` where a certificate is clear, and that of a text.
+fn cleared_line(
+    alloc: Global,
+    office: &Office,
+    certificate: &Certificate,
+    text: &str,
+) -> Option<Vec<u8>> {
+    let wanted = certificate_of(alloc, office.schema(), text)?;
+    let is_clear = check(alloc, office, certificate) == Verdict::Clear;
+    let line = if is_clear && are_same(certificate, &wanted) {
+        "cleared\n"
+    } else {
+        "cleared otherwise\n"
+    };
+    Vec::from_slice(alloc, line.as_bytes()).ok()
+}
+
+/// `blocked`, the members of an order, and the line of the cause.
+fn blocked_lines(
+    alloc: Global,
+    order: &[usize],
+    members: &[&str],
+    cause: &[u8],
+) -> Option<Vec<u8>> {
+    let mut lines = Vec::from_slice(alloc, b"blocked").ok()?;
+    for position in order {
+        lines.extend_from_slice(b" ").ok()?;
+        lines
+            .extend_from_slice(members.get(*position)?.as_bytes())
+            .ok()?;
+    }
+    lines.extend_from_slice(b"\ncause ").ok()?;
+    lines.extend_from_slice(cause).ok()?;
+    Some(lines)
+}
+
+/// What is planned for a root and members, whose names stand in a line, where the text is that of the certificate.
+pub fn plan_lines(alloc: Global, office: &Office, names: &str, text: &str) -> Option<Vec<u8>> {
+    let (root, members) = members_of(alloc, names)?;
+    let members = members.as_slice();
+    match plan(alloc, office, root, members) {
+        Plan::Cleared(certificate) => cleared_line(alloc, office, &certificate, text),
+        Plan::Blocked { order, cause } => {
+            let cause = verdict_line(alloc, office.schema(), members, root, &cause).ok()?;
+            blocked_lines(alloc, order.as_slice(), members, cause.as_slice())
+        }
+        Plan::Unfit(verdict) => verdict_line(alloc, office.schema(), members, root, &verdict).ok(),
+        Plan::OutOfMemory => None,
+    }
+}
