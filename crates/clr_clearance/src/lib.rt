@@ -1,5 +1,23 @@
 //! When children of a kept workspace may be merged into it in any order, between other work: what a
 //! checker is to say of them, and what its yes promises.
+//!
+//! Beside the laws that the table in docs/PROVED.md names:
+//!
+//! - `covered_members_stay_free`: where entries cover the members and every rule holds in the root,
+//!   every rule holds in the root with the changes of any of them, and no other member is in
+//!   conflict with that. `order_gives_the_same_rows`, `covered_sites_are_safe`.
+//! - `quiet_lists_leave_merges`, `merges_and_refreshes_are_safe`: what quiet lists leave of the
+//!   root and of each member; a member that was refreshed has the root's first rows with the
+//!   changes of the merged members and its own over them, in which every rule holds.
+//! - `quiet_runs_are_cleared`: so it is of what `Office::perform_all` answers to quiet commands of
+//!   a safe site.
+//! - `members_stand_in_any_order`: whether a site is safe, and whether entries cover it, doesn't
+//!   depend on the order in which its members are named. `numbers_stand_for_names`: nor on whether
+//!   they are told by name or by position.
+//! - `unpicked_needs_are_refused`: of every touched need without witnesses the blockers are an
+//!   order that is refused.
+//! - `sites_have_one_plan`, `lists_have_one_quiet_start`: memory aside, no site has two plans, and
+//!   no list of commands is performed up to its first that isn't quiet in two ways.
 #![tactic(auto)]
 
 mod check_laws;

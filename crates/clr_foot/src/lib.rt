@@ -1,4 +1,38 @@
 //! Versions of rows over a root and its members' changes, and the needs that the changes touch.
+//!
+//! Members are sets of changes over a root's rows. The program uses `Scene::new` and `first_broken`
+//! for the one member that a command is, and `Scene::new`, `life`, `touched_needs`, `servers`,
+//! `pick` and `blockers` for checks and plans; which members are independent it tells by the needs
+//! that involve each, and not pair by pair by `independent`.
+//!
+//! - `Scene::new` [`model`, `apart`] takes the members, or refuses exactly a cell that two of them
+//!   change, naming the least one and its first two members; it files the rows that they bring by
+//!   their spots. `life`: whether the version of a name stands always, with a member or without
+//!   one.
+//! - `touched_needs`: all needs that the changes touch, and only those, ascending, each once.
+//!   `servers`: just the versions that serve a possible need, ascending. Neither copies a row or
+//!   goes over the root: rows are found by a finder. `blockers`: just the members that bring a
+//!   subject of a possible need or take a version away that serves it.
+//! - `pick`, of a possible need: the least version that covers it alone; else, of the first member
+//!   that takes a serving version away and brings another, the least that goes and the least that
+//!   comes; none exactly where nothing covers the need.
+//! - `independent`, of two members: whether no possible need, touched or not, involves both by the
+//!   life of a subject or of a version that serves; exact both ways, memory aside.
+//!   `needs_involving`, of one member: just the possible needs that involve it, ascending, each
+//!   once.
+//! - `part`: the scene of the members at some positions, over the same rules, rows and finder,
+//!   memory aside. `len`: how many members there are, at most `MOST_MEMBERS`.
+//! - `first_broken`, for one member over rows where every rule holds: none exactly where every rule
+//!   holds after its changes, and else the least need that they break.
+//!   `first_broken_is_listed_first`: that is what an audit of the changed content lists first.
+//! - `covered_members_keep_rules`: where no cell is changed by two members, each touched need is
+//!   covered and every rule holds in the root, every rule holds in the root with the changes of any
+//!   of the members over it. `uncovered_needs_are_broken`: a need that nothing covers is broken
+//!   where the changes of its blockers are over the root.
+//! - `positions_stand_for_names`: members by position and by name, whatever names them, have the
+//!   same versions, with the lives of the same members, and the same possible, touched and
+//!   uncovered needs, servers and covering entries; the same witnesses are picked, the same members
+//!   block a need, each for itself and as a list in their order, and the same pairs are dependent.
 #![tactic(auto)]
 
 mod asks;

@@ -1,5 +1,13 @@
 //! Groups of members: two stand in one where a chain of dependent pairs joins them. Each touched need
 //! of a scene is touched in the scene of just one group, so that a plan can be made group by group.
+//!
+//! - `groups` [`AreGroups`]: groups of a scene's members, by position. Each ascends and has a
+//!   member; each member stands in one; and two stand in the same one exactly where a chain of
+//!   dependent pairs joins them. The needs that involve each member are listed once; no pair is
+//!   tried.
+//! - `groups_split_needs`: where no cell is changed by two members, each touched need of all
+//!   members is touched in the scene of just one group, and no other need is touched there; the
+//!   same witnesses are picked for it there, and the same members break it.
 #![tactic(auto)]
 
 mod labels;

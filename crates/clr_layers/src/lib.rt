@@ -1,4 +1,8 @@
 //! What is stored of the workspaces of a tree: a map of layers by name, in order of creation.
+//!
+//! - What is stored of a workspace, by differences, and the whole contents that it means. Each call
+//!   says what becomes of what is stored; of `pin_saved` it is said that no content changes, also
+//!   where no memory is found.
 #![tactic(auto)]
 
 mod layer_views;

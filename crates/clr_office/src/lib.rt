@@ -1,4 +1,41 @@
 //! The program's run: from the bytes of a source to the bytes of a sink.
+//!
+//! - `run_office` [`answers`]: where reader and writer tell their bytes and there is a status, the
+//!   whole input was read, it is within the limit, and the status and the bytes written are a
+//!   *session* of that input, as docs/MODEL.md defines it. Where they tell their bytes, NoSeparator,
+//!   BadOffice and BadScript are answered only where the session is that fault, and TooLong only
+//!   where the reader gave more than the limit; ReadFailed and WriteFailed are answered only where
+//!   the reader or the writer failed.
+//! - `answer` [`answers`, `keeps`]: the same for what words ask of one or two texts: where the
+//!   writer tells its bytes and there is a status, bytes and status are what `IsAnswerTo` says
+//!   (`clr_office: Answers`), and each fault is answered only where the texts have it, in its
+//!   order, want of memory aside. So: of `audit` the broken needs of LIVE; of `run` the script's
+//!   lines; of `plan` and `planunder` the lines of a plan that is `clr_plan: IsPlan`; of `check`
+//!   the line of the verdict on the certificate (`clr_clearance: IsVerdict`), with status 0 exactly
+//!   where it is Clear; of `merge`, where the verdict isn't Clear, its line, and else the replies,
+//!   the stop and the text of the office of a run as `perform_cleared` promises it: the merges
+//!   before the first that isn't quiet, none of a member answered Conflict or RuleBroken, and the
+//!   root with the changes of the merged members over its first rows. Where a rule doesn't hold in
+//!   the office, that line in place of any of these but the audit.
+//! - What is printed says what it is worth. With the line `clear` of `check` the members are *safe*
+//!   in the office of the text (`clr_clearance: Safe`), the headline holds of them (`Headline`),
+//!   and every rule holds in the root with the changes of any of them; a plan that is printed as
+//!   cleared says that its members are safe, one that is printed as blocked that in its order a
+//!   merge is refused, and, memory aside and where the names fit, it is cleared exactly where they
+//!   are safe (`clr_office: Outcomes: IsPlanned`). So it is of each `plan` in a script, in the
+//!   office of its turn.
+//! - Status 3 is the status exactly where a command, a plan, a verdict or a merge is answered
+//!   OutOfMemory, and the lines are those of the same steps with just these lost: a lost command
+//!   has its line and leaves the office, and Remove, Unmark and Release are never lost; a plan and
+//!   a verdict aren't where a test of names fails.
+//! - `inputs_have_one_session` [`answer`, `session`]: no input has two sessions, and what words ask
+//!   of two texts has no two answers. Where the status of neither is 3, their lines are the same,
+//!   and so is the status, or the fault. So with a status other than 3 what is printed is told by
+//!   the input alone, also of plans, verdicts, merges and independence.
+//! - [`keeps`]: with any fault but WriteFailed nothing was written; after a failed write it isn't
+//!   known how much was.
+//! - `Text` and `Page`, over memory, tell their bytes; a `put` within the room of a page succeeds.
+//!   `Port` is over any reader or writer of `std`, and tells what that one tells.
 #![tactic(auto)]
 
 mod answers;

@@ -1,5 +1,8 @@
 //! The JSON of an office text: tables, rules, rows, and workspaces by what they differ in from their
 //! parents.
+//!
+//! - `tables_json`, `rules_json`, `live_json` and `workspace_json`: exactly the JSON of the
+//!   definitions, memory aside.
 #![tactic(auto)]
 
 mod cells;

@@ -1,4 +1,9 @@
 //! Office texts, read as a schema, a book of rules, the content of LIVE and workspaces.
+//!
+//! - `read_office` [`value`, `fits`]: what a text of format 1, 2 or 3 means, or its first fault,
+//!   memory aside: the schema, the rules, LIVE's rows, and the workspaces by their differences.
+//!   Each row and rule fits the schema. NotJson is answered only where the bytes aren't UTF-8 or
+//!   `serde_json` reads no value. Whether the workspaces as a whole make a tree isn't asked here.
 #![tactic(auto)]
 
 mod cells;

@@ -1,6 +1,8 @@
 //! Merge clearance. Without words it reads an office text, a separator line and a script from
 //! standard input, and prints the lines that the script asks for; with words it does what a
 //! subcommand asks of files.
+//!
+//! It is safe; what it does with words, files, streams and statuses no contract says.
 #![tactic(auto)]
 
 use clr_office::{Ask, AskFault, Port, RunFault, Words, answer, ask_of, read_input, run_office};

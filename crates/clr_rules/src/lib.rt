@@ -1,5 +1,15 @@
 //! Rules over the rows of a network: which rows call a rule, which serve them, and what the needs
 //! are that no row serves.
+//!
+//! - `RuleBook::new` [`made`, `judged`] makes a book of just these rules, or answers the first rule
+//!   that can't stand in one over the schema, and why. `calls_one`, `calls_two` and `serves` are
+//!   exactly the definitions: which rows a rule speaks of, part by part where it is asked of paths,
+//!   and which row serves them, by common points of segments and equal values. None takes memory.
+//!   `rule`, `rules`, `len` and `part_count`.
+//! - `roles_of`: which sides of a rule a row is of; `is_of_side`, `point_in` and `end_in` look at
+//!   one side and one shape. Laws, among them `crossing_subjects_have_common_points` and
+//!   `crossing_servers_are_common_points`: a CROSSING is what its definition with shares of
+//!   segments says.
 #![tactic(auto)]
 
 mod books;

@@ -1,4 +1,16 @@
 //! Commands over workspaces: what each is answered, and what it leaves.
+//!
+//! Definitions of commands, replies, steps, runs and quiet commands, and the laws that stand on
+//! them.
+//!
+//! - `steps_by_position`: for all twelve commands, a command by name is the operation of the tree
+//!   by position.
+//! - `steps_keep_offices_sound`: every rule goes on holding in LIVE and in each kept workspace;
+//!   rows go on fitting.
+//! - `quiet_commands_leave_the_site`: a quiet command that is no merge or refresh of a member
+//!   leaves the root and the members.
+//! - `answers_make_a_run`, `none_is_unheld_where_rules_hold`, `changes_after_commands`,
+//!   `replies_of_examples`.
 #![tactic(auto)]
 
 mod commands;
