@@ -1,9 +1,11 @@
 -- Lists that gain broken needs, one step after another.
-use Rattle.std.proofs.Common.{◌≡◌, ◌⊎◌, inl, inr, List, ◌++◌, Contains, sym, subst}
+use Rattle.std.proofs.Common.{◌≡◌, ◌⊎◌, inl, inr, List, ◌++◌, Contains, drop, sym, subst, take}
+use Rattle.std.proofs.lemmas.List.{take-append-drop}
 use Rattle.clr_rules.specs.declared.needs.Broken.{Broken}
 use Rattle.clr_rules.specs.declared.rules.Rule.{Rule}
 use Rattle.clr_rows.specs.Held.{Held}
 use Rattle.clr_rules.proofs.Elements.{Among, among, contained, among_left, among_right, among_either}
+use Rattle.clr_audit.specs.Filing.{IsBegun}
 use Rattle.clr_audit.specs.Searches.{Gains, IsBrokenAmong}
 
 module _ (rules : List Rule) (rows : List Held) where
@@ -35,3 +37,18 @@ module _ (rules : List Rule) (rows : List Held) where
     only = λ b h. elim (among_either b xs more (among b (xs ++ more) (subst (λ l. Contains l b) is h))) [ inl m ↦ inl (contained b xs m) | inr m ↦ inr (each b m) ];
     found = λ b h w. subst (λ l. Contains l b) (sym is) (contained b (xs ++ more) (among_right b xs more (all b h w)));
   }
+
+  -- ---- until there is no memory
+
+  pub gains_no_more : (xs ys : List Broken) → ys ≡ xs → Gains rules rows (λ b h. ⊥) xs ys
+  gains_no_more xs ys same = subst (λ l. Gains rules rows (λ b h. ⊥) xs l) (sym same) (gains_none (λ b h. ⊥) xs (λ b h w. w))
+
+  -- a beginning of a list of broken needs is added
+  pub gains_begun : (xs ys more : List Broken) → IsBegun xs more ys → ((b : Broken) → Among b more → IsBrokenAmong rules rows b) → Gains rules rows (λ b h. ⊥) xs ys
+  gains_begun xs ys more (k, is) each = gains_listed (λ b h. ⊥) xs ys (take k more) is
+      (λ b h. each b (subst (Among b) (take-append-drop k more) (among_left b (take k more) (drop k more) h)))
+      (λ b h w. absurd w)
+
+  -- one step is made, and some of the next one
+  pub gains_until : (U : Wanted) (xs ys zs : List Broken) → Gains rules rows U xs ys → Gains rules rows (λ b h. ⊥) ys zs → Gains rules rows (λ b h. ⊥) xs zs
+  gains_until U xs ys zs g k = gains_more U (λ b h. ⊥) (λ b h. ⊥) xs ys zs g k (λ b h w. inr w)

@@ -1,4 +1,5 @@
 pub mod AuditLaws
+pub mod Beginnings
 pub mod Filed
 pub mod FitLaws
 pub mod Gaining

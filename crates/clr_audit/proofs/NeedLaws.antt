@@ -23,11 +23,11 @@ use Rattle.clr_spots.proofs.SharedSpots.{Common}
 use Rattle.clr_audit.specs.declared.role_index.RoleIndex.{RoleIndex}
 use Rattle.clr_audit.specs.declared.searching.Search.{Search}
 use Rattle.clr_audit.specs.declared.spot_maps.FiledPart.{FiledPart}
-use Rattle.clr_audit.specs.Filing.{near}
+use Rattle.clr_audit.specs.Filing.{IsBegun, near}
 use Rattle.clr_audit.specs.RoleFiling.{filed_rows, no_rows_filed, partners}
-use Rattle.clr_audit.specs.Searches.{serves_if, serves_at, need_if_broken, need_with, need_beside, IsBeside, IsBrokenAmong, Gains, IsAlone, IsOfPart, IsOfRow, IsPaired}
+use Rattle.clr_audit.specs.Searches.{serves_if, serves_at, need_if_broken, need_with, need_beside, IsBeside, IsBrokenAmong, Gains, GainsSome, IsAlone, IsOfPart, IsOfRow, IsPaired}
 use Rattle.clr_audit.proofs.Filed.{found_near}
-use Rattle.clr_audit.proofs.Gaining.{gains_listed, gains_none, gains_more}
+use Rattle.clr_audit.proofs.Gaining.{gains_begun, gains_listed, gains_none, gains_more}
 use Rattle.clr_audit.proofs.RoleFiled.{IsRowFiled, IsSubjectFiled, entry, rows_filed}
 
 -- lists by position ----------------------------------------------------------------------------
@@ -234,6 +234,15 @@ part_gains search spots part s roles es before after ready listed is all added =
     go : (o : Option Held) (b : Broken) → IsSome o → IsNeeded search.book.now (map held_of search.rows.now) (ask_of_parts search.rule part b.second_part) s o b → Among b (flat_map (need_beside search spots s part) es)
     go None b some k = absurd (false≢true some)
     go (Some t) b some k = pair_found search spots part b.second_part s roles es ready is all t b k
+
+-- the first of them
+pub part_some : (search : Search) (spots : Spots) (part : ℕ) (s : Held) (es : List FiledPart) (before after : List Broken) → IsReady search spots part s
+    → Contains (map held_of search.rows.now) s
+    → IsBegun before (flat_map (need_beside search spots s part) es) after
+    → GainsSome search before after
+part_some search spots part s es before after ready listed begun =
+    gains_begun search.book.now (map held_of search.rows.now) before after (flat_map (need_beside search spots s part) es) begun
+    (λ b k. beside_broken search spots part s ready listed es b k)
 
 -- the part of a broken need is there
 pub first_there : (rules : List Rule) (rows : List Held) (n : ℕ) (s : Held) (b : Broken) (h : IsBrokenAmong rules rows b) → b.rule ≡ n → h.first ≡ s → (k : ℕ) × (k < part_count rules n s) × (b.first_part ≡ suc k)

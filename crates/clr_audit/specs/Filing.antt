@@ -1,5 +1,5 @@
 -- Entries of rows, filed by their spots.
-use Rattle.std.specs.Prelude.{◌≡◌, ℕ, Bool, List, [], ◌∷◌, ◌++◌, Option, Some, unwrap_or, refl, if◌then◌else◌}
+use Rattle.std.specs.Prelude.{◌≡◌, ℕ, Bool, List, [], ◌∷◌, ◌++◌, Option, Some, take, unwrap_or, refl, if◌then◌else◌}
 use Rattle.std.specs.BTreeMap.{is_at}
 use Rattle.std.specs.Coded.{Coded, code_by, coded×, coded_list, coded_ℕ}
 use Rattle.std.specs.FinMap as finite
@@ -53,6 +53,16 @@ filed_entry m e xs wide = record {
 -- the entries that may stand in a need with a row of these spots, wide or not
 abbrev pub near : Filed → List Spot → Bool → List FiledPart
 near m xs wide = if wide then m.all else m.wide ++ flat_map (entries_at m.by_spot) xs
+
+-- the later list is the earlier one, with the first of some elements behind it, or all of them, or none
+abbrev pub IsBegun : {X : Type 0} → List X → List X → List X → Type 0
+IsBegun {X} old more new = (k : ℕ) × (new ≡ old ++ take k more)
+
+-- the entry of a row is filed where it is to be, at the first of these places or at none; all that was filed stays
+pub record IsPartlyFiled (m : Filed) (e : FiledPart) (xs : List Spot) (many : Bool) (n : Filed) : Type 0 where
+  pub by_spot : (k : ℕ) × (n.by_spot ≡ filed_at_all m.by_spot (take k xs) e)
+  pub wide : IsBegun m.wide (if many then e ∷ [] else []) n.wide
+  pub all : IsBegun m.all (e ∷ []) n.all
 
 -- one more entry at a spot, and the others as before
 abbrev pub HasMore : Spot → FiledPart → (Spot → Option (List FiledPart)) → (Spot → Option (List FiledPart)) → Type 0

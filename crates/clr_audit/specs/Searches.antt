@@ -106,3 +106,7 @@ IsOfPart n s part b h = (b.rule ≡ n) × (h.first ≡ s) × IsSome h.second × 
 -- the same among the rows of a search
 abbrev pub GainsAll : (search : Search) → WantedOf search.book.now (rows_of search) → List Broken → List Broken → Type 0
 GainsAll search Wanted before after = Gains search.book.now (rows_of search) Wanted before after
+
+-- the later list has the earlier one, and besides it broken needs alone
+abbrev pub GainsSome : Search → List Broken → List Broken → Type 0
+GainsSome search before after = GainsAll search (λ b h. ⊥) before after

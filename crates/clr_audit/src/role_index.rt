@@ -1,8 +1,9 @@
 //! The rows of a content under one rule, filed by their spots, each role apart.
 
-ghost use Rattle.std.specs.Prelude.{◌≡◌, ◌<◌, ◌++◌, ◌∷◌, [], length, map, IfOk, OnOk};
+ghost use Rattle.std.specs.Prelude.{◌≡◌, ◌<◌, ◌++◌, ◌∷◌, [], length, map, IfOk, OnErr, OnOk};
 ghost use Rattle.clr_rows.specs.Held.{held_of};
 ghost use Rattle.clr_rules.specs.Books.{FitTogether};
+ghost use Rattle.clr_audit.specs.Filing.{IsBegun};
 ghost use Rattle.clr_audit.specs.RoleFiling.{no_rows_filed, with_subject, with_pairs, with_server, filed_rows, partners};
 
 use crate::spot_maps::{FiledPart, SpotMap};
@@ -119,14 +120,16 @@ impl RoleIndex {
     }
 
     /// Adds the entries of the subjects that may stand beside a row of these roles and spots. It
-    /// fails for want of memory alone.
+    /// fails for want of memory alone; then what stood in the list stands there, with the first of
+    /// these behind it.
     pub(crate) fn add_partners(
         &self,
         roles: Roles,
         spots: &Spots,
         list: &mut Vec<FiledPart>,
     ) -> Result<(), AllocError>
-        ensures { OnOk result (list.new.items ≡ list.old.items ++ partners self.now roles spots.now.list spots.now.wide) }
+        ensures ok { OnOk result (list.new.items ≡ list.old.items ++ partners self.now roles spots.now.list spots.now.wide) }
+        ensures err { OnErr result (IsBegun list.old.items (partners self.now roles spots.now.list spots.now.wide) list.new.items) }
     {
         self.boths.add_near(spots, list)?;
         if roles.second {

@@ -2,13 +2,14 @@
 //! alone that share a spot with them, and a server is looked for among such servers alone: no other
 //! row can stand in a need with them.
 
-ghost use Rattle.std.specs.Prelude.{◌≡◌, ◌<◌, ◌++◌, ◌∷◌, length, slice_get, Contains, OnOk, None, Some, option_map, option_to_list};
+ghost use Rattle.std.specs.Prelude.{◌≡◌, ◌<◌, ◌++◌, ◌∷◌, length, slice_get, Contains, OnErr, OnOk, None, Some, option_map, option_to_list};
 ghost use Rattle.std.specs.List.{flat_map};
 ghost use Rattle.clr_rows.specs.Held.{held_of};
 ghost use Rattle.clr_rules.specs.Books.{FitTogether};
 ghost use Rattle.clr_rules.specs.Calls.{plain_ask};
 ghost use Rattle.clr_rules.specs.Roles.{roles_under};
-ghost use Rattle.clr_audit.specs.Searches.{AreRowsFiled, GainsAll, IsAlone, IsOfPart, IsOfRow, IsOfRule, IsPaired};
+ghost use Rattle.clr_audit.specs.Filing.{IsBegun};
+ghost use Rattle.clr_audit.specs.Searches.{AreRowsFiled, GainsAll, GainsSome, IsAlone, IsOfPart, IsOfRow, IsOfRule, IsPaired};
 ghost use Rattle.clr_audit.specs.Searches.{need_if_broken, need_beside, rows_of, serves_among, serves_at, servers_at_spots, servers_near};
 
 use crate::role_index::RoleIndex;
@@ -106,7 +107,8 @@ impl<'a> Search<'a> {
     ) -> Result<(), AllocError>
         requires number { self.now.rule < length self.now.book.now }
         requires fit { FitTogether self.now.book.now (held_of first ∷ rows_of self.now) }
-        ensures { OnOk result (list.new.items ≡ list.old.items ++ need_if_broken self.now spots.now (plain_ask self.now.rule) (held_of first.entry) None) }
+        ensures ok { OnOk result (list.new.items ≡ list.old.items ++ need_if_broken self.now spots.now (plain_ask self.now.rule) (held_of first.entry) None) }
+        ensures err { OnErr result (list.new.items ≡ list.old.items) }
     {
         let ask = Ask::plain(self.rule);
         if self.book.calls_one(self.rule, first) && !self.is_served(ask, first, None, spots) {
@@ -126,7 +128,8 @@ impl<'a> Search<'a> {
     ) -> Result<(), AllocError>
         requires number { ask.rule < length self.now.book.now }
         requires fit { FitTogether self.now.book.now (held_of first ∷ held_of second ∷ rows_of self.now) }
-        ensures { OnOk result (list.new.items ≡ list.old.items ++ need_if_broken self.now spots.now ask (held_of first.entry) (Some (held_of second.entry))) }
+        ensures ok { OnOk result (list.new.items ≡ list.old.items ++ need_if_broken self.now spots.now ask (held_of first.entry) (Some (held_of second.entry))) }
+        ensures err { OnErr result (list.new.items ≡ list.old.items) }
     {
         if self.book.calls_two(ask, first, second)
             && !self.is_served(ask, first, Some(second), spots)
@@ -147,7 +150,8 @@ impl<'a> Search<'a> {
     ) -> Result<(), AllocError>
         requires number { self.now.rule < length self.now.book.now }
         requires fit { FitTogether self.now.book.now (held_of first ∷ rows_of self.now) }
-        ensures { OnOk result (list.new.items ≡ list.old.items ++ need_beside self.now spots.now (held_of first.entry) part entry) }
+        ensures ok { OnOk result (list.new.items ≡ list.old.items ++ need_beside self.now spots.now (held_of first.entry) part entry) }
+        ensures err { OnErr result (list.new.items ≡ list.old.items) }
     {
         let ask = Ask {
             rule: self.rule,
@@ -172,7 +176,8 @@ impl<'a> Search<'a> {
     ) -> Result<(), AllocError>
         requires number { self.now.rule < length self.now.book.now }
         requires fit { FitTogether self.now.book.now (held_of first ∷ rows_of self.now) }
-        ensures { OnOk result (list.new.items ≡ list.old.items ++ flat_map (need_beside self.now spots.now (held_of first.entry) part) entries.now) }
+        ensures ok { OnOk result (list.new.items ≡ list.old.items ++ flat_map (need_beside self.now spots.now (held_of first.entry) part) entries.now) }
+        ensures err { OnErr result (IsBegun list.old.items (flat_map (need_beside self.now spots.now (held_of first.entry) part) entries.now) list.new.items) }
     {
         for entry in entries {
             self.add_beside(first, part, spots, *entry, list)?;
@@ -191,7 +196,8 @@ impl<'a> Search<'a> {
         requires fit { FitTogether self.now.book.now (rows_of self.now) }
         requires filed { AreRowsFiled self.now }
         requires one { Contains (rows_of self.now) (held_of first) }
-        ensures { OnOk result (GainsAll self.now (IsAlone self.now.rule (held_of first.entry)) list.old.items list.new.items) }
+        ensures ok { OnOk result (GainsAll self.now (IsAlone self.now.rule (held_of first.entry)) list.old.items list.new.items) }
+        ensures err { OnErr result (list.new.items ≡ list.old.items) }
     {
         let spots = subject_spots(alloc, self.book, self.rule, 1, first)?;
         self.add_one_if_broken(first, &spots, list)?;
@@ -212,7 +218,8 @@ impl<'a> Search<'a> {
         requires filed { AreRowsFiled self.now }
         requires one { Contains (rows_of self.now) (held_of first) }
         requires roles { roles ≡ roles_under self.now.book.now self.now.rule (held_of first) }
-        ensures { OnOk result (GainsAll self.now (IsOfPart self.now.rule (held_of first.entry) part) list.old.items list.new.items) }
+        ensures ok { OnOk result (GainsAll self.now (IsOfPart self.now.rule (held_of first.entry) part) list.old.items list.new.items) }
+        ensures err { OnErr result (GainsSome self.now list.old.items list.new.items) }
     {
         let spots = subject_spots(alloc, self.book, self.rule, part, first)?;
         let mut beside = Vec::new(alloc);
@@ -235,7 +242,8 @@ impl<'a> Search<'a> {
         requires filed { AreRowsFiled self.now }
         requires one { Contains (rows_of self.now) (held_of first) }
         requires roles { roles ≡ roles_under self.now.book.now self.now.rule (held_of first) }
-        ensures { OnOk result (GainsAll self.now (IsPaired self.now.rule (held_of first.entry)) list.old.items list.new.items) }
+        ensures ok { OnOk result (GainsAll self.now (IsPaired self.now.rule (held_of first.entry)) list.old.items list.new.items) }
+        ensures err { OnErr result (GainsSome self.now list.old.items list.new.items) }
     {
         for part in 0..self.book.part_count(self.rule, first) {
             self.add_of_part(alloc, first, roles, part + 1, list)?;
@@ -254,7 +262,8 @@ impl<'a> Search<'a> {
         requires fit { FitTogether self.now.book.now (rows_of self.now) }
         requires filed { AreRowsFiled self.now }
         requires one { Contains (rows_of self.now) (held_of first) }
-        ensures { OnOk result (GainsAll self.now (IsOfRow self.now.rule (held_of first.entry)) list.old.items list.new.items) }
+        ensures ok { OnOk result (GainsAll self.now (IsOfRow self.now.rule (held_of first.entry)) list.old.items list.new.items) }
+        ensures err { OnErr result (GainsSome self.now list.old.items list.new.items) }
     {
         let roles = self.book.roles_of(self.rule, first);
         if roles.alone {
@@ -266,12 +275,14 @@ impl<'a> Search<'a> {
         Ok(())
     }
 
-    /// Adds the broken needs of the rule. It fails for want of memory alone.
+    /// Adds the broken needs of the rule. It fails for want of memory alone; then what stood in the
+    /// list stands there, and besides it broken needs alone.
     pub(crate) fn add_all(&self, alloc: Global, list: &mut Vec<Broken>) -> Result<(), AllocError>
         requires number { self.now.rule < length self.now.book.now }
         requires fit { FitTogether self.now.book.now (rows_of self.now) }
         requires filed { AreRowsFiled self.now }
-        ensures { OnOk result (GainsAll self.now (IsOfRule self.now.rule) list.old.items list.new.items) }
+        ensures ok { OnOk result (GainsAll self.now (IsOfRule self.now.rule) list.old.items list.new.items) }
+        ensures err { OnErr result (GainsSome self.now list.old.items list.new.items) }
     {
         for first in self.rows {
             self.add_of_row(alloc, *first, list)?;

@@ -1,9 +1,10 @@
 //! Rows by their spots.
 
-ghost use Rattle.std.specs.Prelude.{◌≡◌, ◌++◌, ◌∷◌, [], IsSome, OnOk};
+ghost use Rattle.std.specs.Prelude.{◌≡◌, ◌++◌, ◌∷◌, [], IsSome, OnErr, OnOk};
 ghost use Rattle.std.specs.BTreeMap.{get};
 ghost use Rattle.clr_spots.specs.SpotOrder.{spot_cmp};
-ghost use Rattle.clr_audit.specs.Filing.{no_entries, entries_at, filed_at, filed_entry, near, HasMore};
+ghost use Rattle.clr_spots.specs.declared.spots.Spot.{Spot as OneSpot};
+ghost use Rattle.clr_audit.specs.Filing.{no_entries, entries_at, filed_at, filed_entry, near, HasMore, IsBegun, IsPartlyFiled};
 
 use clr_spots::{Spot, Spots};
 use std::alloc::{AllocError, Global};
@@ -42,7 +43,8 @@ impl EntryList {
     }
 
     fn push(&mut self, entry: FiledPart) -> Result<(), AllocError>
-        ensures { OnOk result (self.new ≡ self.old ++ entry ∷ []) }
+        ensures ok { OnOk result (self.new ≡ self.old ++ entry ∷ []) }
+        ensures err { OnErr result (self.new ≡ self.old) }
     {
         self.list.push(entry)?;
         Ok(())
@@ -62,7 +64,8 @@ fn push_at(
     entry: FiledPart,
 ) -> Result<(), AllocError>
     requires { IsSome (get spot_cmp by_spot.old spot.now) }
-    ensures { OnOk result (HasMore spot.now entry (get spot_cmp by_spot.old) (get spot_cmp by_spot.new)) }
+    ensures ok { OnOk result (HasMore spot.now entry (get spot_cmp by_spot.old) (get spot_cmp by_spot.new)) }
+    ensures err { OnErr result ((x : OneSpot) → get spot_cmp by_spot.new x ≡ get spot_cmp by_spot.old x) }
 {
     if let Some(entries) = by_spot.get_mut(spot) {
         entries.push(entry)?;
@@ -102,7 +105,8 @@ impl SpotMap {
     }
 
     fn file_at(&mut self, alloc: Global, spot: Spot, entry: FiledPart) -> Result<(), AllocError>
-        ensures { OnOk result (self.new ≡ record self.old { by_spot = filed_at self.old.by_spot spot entry }) }
+        ensures ok { OnOk result (self.new ≡ record self.old { by_spot = filed_at self.old.by_spot spot entry }) }
+        ensures err { OnErr result (self.new ≡ self.old) }
     {
         if self.by_spot.contains_key(&spot) {
             push_at(&mut self.by_spot, &spot, entry)?;
@@ -115,14 +119,15 @@ impl SpotMap {
     }
 
     /// Files an entry at the spots of its row, or as that of a wide one. It fails for want of
-    /// memory alone.
+    /// memory alone; then all that was filed stays, and the entry may be filed at some of them.
     pub(crate) fn file(
         &mut self,
         alloc: Global,
         entry: FiledPart,
         spots: Spots,
     ) -> Result<(), AllocError>
-        ensures { OnOk result (self.new ≡ filed_entry self.old entry spots.list spots.wide) }
+        ensures ok { OnOk result (self.new ≡ filed_entry self.old entry spots.list spots.wide) }
+        ensures err { OnErr result (IsPartlyFiled self.old entry spots.list spots.wide self.new) }
     {
         self.all.push(entry)?;
         if spots.wide {
@@ -159,13 +164,15 @@ impl SpotMap {
     }
 
     /// Adds the entries that may stand in a need with a row of these spots: all where it is wide,
-    /// and else those of its spots and the wide ones. It fails for want of memory alone.
+    /// and else those of its spots and the wide ones. It fails for want of memory alone; then what
+    /// stood in the list stands there, with the first of these behind it.
     pub(crate) fn add_near(
         &self,
         spots: &Spots,
         list: &mut Vec<FiledPart>,
     ) -> Result<(), AllocError>
-        ensures { OnOk result (list.new.items ≡ list.old.items ++ near self.now spots.now.list spots.now.wide) }
+        ensures ok { OnOk result (list.new.items ≡ list.old.items ++ near self.now spots.now.list spots.now.wide) }
+        ensures err { OnErr result (IsBegun list.old.items (near self.now spots.now.list spots.now.wide) list.new.items) }
     {
         if spots.wide {
             list.extend_from_slice(self.all.as_slice())?;

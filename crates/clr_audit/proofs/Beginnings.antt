@@ -1,0 +1,70 @@
+-- Lists to which the first of some elements were added.
+use Rattle.std.proofs.Common.{◌≡◌, ◌∙◌, ℕ, Bool, true, false, cond, List, [], ◌∷◌, ◌++◌, append-nil, append_assoc, ap, drop, length, refl, subst, sym, take}
+use Rattle.std.specs.Prelude.{Result, Ok, Err, OnErr}
+use Rattle.std.specs.List.{flat_map}
+use Rattle.std.proofs.lemmas.Grind.{flat_map-append}
+use Rattle.std.proofs.lemmas.List.{take-append-drop}
+use Rattle.std.proofs.Math.Seq.{take-append_seam}
+use Rattle.clr_rules.specs.declared.roles.Roles.{Roles}
+use Rattle.clr_spots.specs.declared.spots.Spot.{Spot}
+use Rattle.clr_audit.specs.declared.spot_maps.FiledPart.{FiledPart}
+use Rattle.clr_audit.specs.declared.role_index.RoleIndex.{RoleIndex}
+use Rattle.clr_audit.specs.Filing.{Filed, IsBegun, entries_at, near}
+use Rattle.clr_audit.specs.RoleFiling.{partners}
+
+-- what holds, holds after an error
+pub on_err : {T E P : Type 0} (r : Result T E) → P → OnErr r P
+on_err (Ok x) p = tt
+on_err (Err e) p = p
+
+module _ {X : Type 0} where
+  -- as much was added as the front
+  pub some_begun : (old more new front rest : List X) → new ≡ old ++ front → more ≡ front ++ rest → IsBegun old more new
+  some_begun old more new front rest is parts = (length front, is ∙ ap (λ xs. old ++ xs) (sym (ap (take (length front)) parts ∙ take-append_seam front rest)))
+
+  -- the front was added, and then a beginning of what follows it
+  pub then_begun : (old more mid new front next rest : List X) → mid ≡ old ++ front → more ≡ front ++ (next ++ rest) → IsBegun mid next new → IsBegun old more new
+  then_begun old more mid new front next rest is parts (k, begun) = some_begun old more new (front ++ take k next) (drop k next ++ rest)
+      (begun ∙ ap (λ xs. xs ++ take k next) is ∙ append_assoc old front (take k next))
+      (parts ∙ ap (λ xs. front ++ (xs ++ rest)) (sym (take-append-drop k next)) ∙ ap (λ xs. front ++ xs) (append_assoc (take k next) (drop k next) rest)
+      ∙ sym (append_assoc front (take k next) (drop k next ++ rest)))
+
+  -- one element was added, if there is to be one
+  pub one_begun : (b : Bool) (old : List X) (x : X) (new : List X) → new ≡ cond b (old ++ x ∷ []) old → IsBegun old (cond b (x ∷ []) []) new
+  one_begun true old x new is = (1, is)
+  one_begun false old x new is = (0, is ∙ sym (append-nil old))
+
+module _ {X Y : Type 0} (f : Y → List X) where
+  -- what is made of the first of some things, and of the others
+  pub flat_parts : (ys : List Y) (k : ℕ) → flat_map f ys ≡ flat_map f (take k ys) ++ flat_map f (drop k ys)
+  flat_parts ys k = ap (flat_map f) (sym (take-append-drop k ys)) ∙ flat_map-append f (take k ys) (drop k ys)
+
+  pub flat_begun : (old mid new : List X) (ys : List Y) (k : ℕ) → mid ≡ old ++ flat_map f (take k ys) → new ≡ mid → IsBegun old (flat_map f ys) new
+  flat_begun old mid new ys k is same = some_begun old (flat_map f ys) new (flat_map f (take k ys)) (flat_map f (drop k ys)) (same ∙ is) (flat_parts ys k)
+
+-- the wide entries and those of the first spots were added
+pub near_begun : (m : Filed) (xs : List Spot) (wide : Bool) (old mid new : List FiledPart) (k : ℕ) → wide ≡ false
+    → mid ≡ (old ++ m.wide) ++ flat_map (entries_at m.by_spot) (take k xs) → new ≡ mid → IsBegun old (near m xs wide) new
+near_begun m xs wide old mid new k few is same =
+    subst (λ b. IsBegun old (cond b m.all (m.wide ++ flat_map (entries_at m.by_spot) xs)) new) (sym few)
+    (some_begun old (m.wide ++ flat_map (entries_at m.by_spot) xs) new (m.wide ++ flat_map (entries_at m.by_spot) (take k xs)) (flat_map (entries_at m.by_spot) (drop k xs))
+    (same ∙ is ∙ append_assoc old m.wide (flat_map (entries_at m.by_spot) (take k xs)))
+    (ap (λ es. m.wide ++ es) (flat_parts (entries_at m.by_spot) xs k) ∙ sym (append_assoc m.wide (flat_map (entries_at m.by_spot) (take k xs)) (flat_map (entries_at m.by_spot) (drop k xs)))))
+
+-- the subjects that may stand beside a row: of three maps, one after another
+module _ (index : RoleIndex) (roles : Roles) (xs : List Spot) (wide : Bool) (old : List FiledPart) where
+  pub partners_begun : (new : List FiledPart) → IsBegun old (near index.boths xs wide) new → IsBegun old (partners index roles xs wide) new
+  partners_begun new begun = then_begun old (partners index roles xs wide) old new [] (near index.boths xs wide)
+      (cond roles.second (near index.firsts xs wide) [] ++ cond roles.first (near index.seconds xs wide) []) (sym (append-nil old)) refl begun
+
+  pub firsts_begun : (mid new : List FiledPart) → roles.second ≡ true → mid ≡ old ++ near index.boths xs wide → IsBegun mid (near index.firsts xs wide) new → IsBegun old (partners index roles xs wide) new
+  firsts_begun mid new second is begun = then_begun old (partners index roles xs wide) mid new (near index.boths xs wide) (near index.firsts xs wide) (cond roles.first (near index.seconds xs wide) []) is
+      (ap (λ b. near index.boths xs wide ++ (cond b (near index.firsts xs wide) [] ++ cond roles.first (near index.seconds xs wide) [])) second) begun
+
+  pub seconds_begun : (mid new : List FiledPart) → roles.first ≡ true → mid ≡ (old ++ near index.boths xs wide) ++ cond roles.second (near index.firsts xs wide) []
+      → IsBegun mid (near index.seconds xs wide) new → IsBegun old (partners index roles xs wide) new
+  seconds_begun mid new first is begun =
+      let firsts = cond roles.second (near index.firsts xs wide) [] in
+      then_begun old (partners index roles xs wide) mid new (near index.boths xs wide ++ firsts) (near index.seconds xs wide) [] (is ∙ append_assoc old (near index.boths xs wide) firsts)
+      (ap (λ b. near index.boths xs wide ++ (firsts ++ cond b (near index.seconds xs wide) [])) first
+      ∙ sym (append_assoc (near index.boths xs wide) firsts (near index.seconds xs wide)) ∙ ap (λ es. (near index.boths xs wide ++ firsts) ++ es) (sym (append-nil (near index.seconds xs wide)))) begun
