@@ -128,7 +128,8 @@ impl<'a> Search<'a> {
     ) -> Result<(), AllocError>
         requires number { ask.rule < length self.now.book.now }
         requires fit { FitTogether self.now.book.now (held_of first ∷ held_of second ∷ rows_of self.now) }
-        ensures ok { OnOk result (list.new.items ≡ list.old.items ++ need_if_broken self.now spots.now ask (held_of first.entry) (Some (held_of second.entry))) }
+        ensures ok { OnOk result (list.new.items ≡ list.old.items
+            ++ need_if_broken self.now spots.now ask (held_of first.entry) (Some (held_of second.entry))) }
         ensures err { OnErr result (list.new.items ≡ list.old.items) }
     {
         if self.book.calls_two(ask, first, second)
