@@ -17,12 +17,12 @@ use Rattle.clr_foot.specs.declared.needs.Need.{Need}
 use Rattle.clr_foot.specs.declared.needs.VersionId.{VersionId}
 use Rattle.clr_foot.specs.declared.versions.Version.{Version}
 use Rattle.clr_foot.specs.Candidates.{IsNeedAmong, IsServerAmong, IsNeedOf, IsNeedOfAsk, IsNeedOfPair, IsNeedOfPart, are_opposed, id_of, is_asked, is_of_two_under, serves_too}
-use Rattle.clr_foot.specs.Gains.{Gains}
+use Rattle.clr_foot.specs.Gains.{Gains, GainsSome}
 use Rattle.clr_foot.specs.Needs.{AreOpposed, ask_of, need_of}
 use Rattle.clr_foot.specs.Settings.{Lifetime, With, Without}
 use Rattle.clr_foot.specs.Versions.{row_and_life, row_of}
 use Rattle.clr_foot.proofs.SharingLaws.{two_asked}
-use Rattle.clr_foot.proofs.Gaining.{all_taken, gains_as, gains_both, gains_none, gains_one, item_in, none_taken, one_more}
+use Rattle.clr_foot.proofs.Gaining.{all_taken, gains_as, gains_both, gains_none, gains_one, item_in, none_taken, one_more, some_as, then_some}
 
 -- ---- opposed lives
 
@@ -203,19 +203,33 @@ module _ (rules : List Rule) (number : ℕ) (r : Option Version) (s t : Version)
   not_told : are_opposed (row_and_life s).life (row_and_life t).life ≡ false → ¬ (AreOpposed (row_and_life s).life (row_and_life t).life)
   not_told fails opposed = false≢true (sym fails ∙ opposed_told (row_and_life s).life (row_and_life t).life opposed)
 
+  ordered_pair : are_opposed (row_and_life s).life (row_and_life t).life ≡ false → cell_cmp s.id.cell t.id.cell ≡ Less → (n : Need) → IsNeedOf rules number r s (Some t) n → Pair n
+  ordered_pair fails less n w = inl (record { ascending = less; not_opposed = not_told fails; need = w })
+
   pub in_order : (old new : List Need) → are_opposed (row_and_life s).life (row_and_life t).life ≡ false → cell_cmp s.id.cell t.id.cell ≡ Less
       → Gains (IsNeedOf rules number r s (Some t)) (IsNeedOf rules number r s (Some t)) old new → Gains Pair Pair old new
   in_order old new fails less g = gains_as (IsNeedOf rules number r s (Some t)) (IsNeedOf rules number r s (Some t)) Pair Pair old new
-      (λ n w. inl (record { ascending = less; not_opposed = not_told fails; need = w })) back g
+      (ordered_pair fails less) back g
     where
       back : (n : Need) → Pair n → IsNeedOf rules number r s (Some t) n
       back n (inl w) = w.need
       back n (inr w) = absurd (not_both cell_cmp_total s.id.cell t.id.cell less w.ascending)
 
+  pub some_in_order : (old new : List Need) → are_opposed (row_and_life s).life (row_and_life t).life ≡ false → cell_cmp s.id.cell t.id.cell ≡ Less
+      → GainsSome (IsNeedOf rules number r s (Some t)) old new → GainsSome Pair old new
+  some_in_order old new fails less g = some_as Pair (IsNeedOf rules number r s (Some t)) old new (ordered_pair fails less) g
+
 module _ (rules : List Rule) (number : ℕ) (r : Option Version) (s t : Version) where
   turned_pair : (n : Need) → IsNeedOfPair rules number r s t n → IsNeedOfPair rules number r t s n
   turned_pair n (inl w) = inr w
   turned_pair n (inr w) = inl w
+
+  pair_back : (n : Need) → IsNeedOfPair rules number r t s n → IsNeedOfPair rules number r s t n
+  pair_back n (inl w) = inr w
+  pair_back n (inr w) = inl w
+
+  turned_less : cell_cmp s.id.cell t.id.cell ≡ Greater → cell_cmp t.id.cell s.id.cell ≡ Less
+  turned_less more = cell_cmp_total.antisymm t.id.cell s.id.cell ∙ ap ordering_reverse more
 
   turned_told : (l m : Lifetime ℕ) → are_opposed l m ≡ false → are_opposed m l ≡ false
   turned_told l m fails = by (are_opposed m l) refl
@@ -235,14 +249,15 @@ module _ (rules : List Rule) (number : ℕ) (r : Option Version) (s t : Version)
   pub in_turned_order : (old new : List Need) → are_opposed (row_and_life s).life (row_and_life t).life ≡ false → cell_cmp s.id.cell t.id.cell ≡ Greater
       → Gains (IsNeedOf rules number r t (Some s)) (IsNeedOf rules number r t (Some s)) old new → Gains (IsNeedOfPair rules number r s t) (IsNeedOfPair rules number r s t) old new
   in_turned_order old new fails more g =
-      let less : cell_cmp t.id.cell s.id.cell ≡ Less = cell_cmp_total.antisymm t.id.cell s.id.cell ∙ ap ordering_reverse more in
       gains_as (IsNeedOfPair rules number r t s) (IsNeedOfPair rules number r t s) (IsNeedOfPair rules number r s t) (IsNeedOfPair rules number r s t) old new
-      (λ n w. by n w) turned_pair
-      (in_order rules number r t s old new (turned_told (row_and_life s).life (row_and_life t).life fails) less g)
-    where
-      by : (n : Need) → IsNeedOfPair rules number r t s n → IsNeedOfPair rules number r s t n
-      by n (inl w) = inr w
-      by n (inr w) = inl w
+      pair_back turned_pair
+      (in_order rules number r t s old new (turned_told (row_and_life s).life (row_and_life t).life fails) (turned_less more) g)
+
+  pub some_in_turned_order : (old new : List Need) → are_opposed (row_and_life s).life (row_and_life t).life ≡ false → cell_cmp s.id.cell t.id.cell ≡ Greater
+      → GainsSome (IsNeedOf rules number r t (Some s)) old new → GainsSome (IsNeedOfPair rules number r s t) old new
+  some_in_turned_order old new fails more g =
+      some_as (IsNeedOfPair rules number r s t) (IsNeedOfPair rules number r t s) old new pair_back
+      (some_in_order rules number r t s old new (turned_told (row_and_life s).life (row_and_life t).life fails) (turned_less more) g)
 
 -- ---- one version after another
 
@@ -277,6 +292,12 @@ module _ (rules : List Rule) (number : ℕ) (r : Option Version) (s : Version) (
           by : Contains (take k others) w.0 ⊎ (w.0 ≡ get_or others k t) → Among (take k others) n ⊎ IsNeedOfPair rules number r s t n
           by (inl before) = inl (w.0, before, w.2)
           by (inr last) = inr (subst (λ u. IsNeedOfPair rules number r s u n) (last ∙ sym is) w.2)
+
+  -- a call for one of them that finds no memory
+  pub some_pairs : (k : ℕ) (t : Version) (old middle new : List Need) → k < length others → t ≡ get_or others k t → Gains (Among others) (Among (take k others)) old middle
+      → GainsSome (IsNeedOfPair rules number r s t) middle new
+      → GainsSome (Among others) old new
+  some_pairs k t old middle new less is g h = then_some (Among others) (Among (take k others)) (IsNeedOfPair rules number r s t) old middle new (λ n w. (t, item_in others k t less is, w)) g h
 
   pub all_pairs : (k : ℕ) (old new : List Need) → length others ≤ k → Gains (Among others) (Among (take k others)) old new → Gains (Among others) (Among others) old new
   all_pairs k old new past g = gains_as (Among others) (Among (take k others)) (Among others) (Among others) old new (λ n w. w) (λ n w. (w.0, all_taken others k w.0 past w.1, w.2)) g

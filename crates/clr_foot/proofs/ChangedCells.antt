@@ -1,12 +1,14 @@
 -- The list of the cells that members change, read one set at a time.
-use Rattle.std.proofs.Common.{◌≡◌, ◌∙◌, ◌<◌, ◌≤◌, ◌+◌, ℕ, List, [], ◌∷◌, ◌++◌, Bor, drop, length, map, refl, sym, ap, append-nil, append_assoc}
+use Rattle.std.proofs.Common.{◌≡◌, ◌∙◌, ◌<◌, ◌≤◌, ◌+◌, ℕ, List, [], ◌∷◌, ◌++◌, Bor, drop, length, map, refl, sym, ap, append-nil, append_assoc, take}
 use Rattle.std.specs.FinMap as finite
 use Rattle.std.specs.List.{slice_index_or}
 use Rattle.std.proofs.Math.ListN.{drop_of_length-le}
 use Rattle.std.proofs.lemmas.List.{drop_more}
+use Rattle.std.proofs.Math.Seq.{take-append_seam}
 use Rattle.clr_rows.specs.declared.cells.CellId.{CellId}
 use Rattle.clr_rows.specs.declared.cells.Change.{Change}
 use Rattle.clr_rows.specs.Contents.{Changes}
+use Rattle.clr_foot.specs.Gains.{IsBegun}
 use Rattle.clr_foot.specs.Members.{changed_cells}
 use Rattle.clr_foot.proofs.Searches.{sets_of}
 
@@ -17,6 +19,27 @@ cells_of entries = map (λ e. e.0) entries
 -- the cell of an entry goes from those that are left to those that were read
 pub cell_moves : (cells : List CellId) (e : CellId × Change) (left : List (CellId × Change)) → (cells ++ e.0 ∷ []) ++ cells_of left ≡ cells ++ cells_of (e ∷ left)
 cell_moves cells e left = append_assoc cells (e.0 ∷ []) (cells_of left)
+
+-- the first of some cells stand behind a list, and those of the entries that are left follow
+abbrev pub AreReadTo : List CellId → List CellId → List CellId → List (CellId × Change) → Type 0
+AreReadTo old all cells left = (read : List CellId) × (cells ≡ old ++ read) × (read ++ cells_of left ≡ all)
+
+pub none_read : (old : List CellId) (left : List (CellId × Change)) → AreReadTo old (cells_of left) old left
+none_read old left = ([], sym (append-nil old), refl)
+
+pub one_read : (old all cells new : List CellId) (e : CellId × Change) (left : List (CellId × Change)) → new ≡ cells ++ e.0 ∷ [] → AreReadTo old all cells (e ∷ left) → AreReadTo old all new left
+one_read old all cells new e left put (read, is, whole) = (
+  read ++ e.0 ∷ [],
+  put ∙ ap (λ qs. qs ++ e.0 ∷ []) is ∙ append_assoc old read (e.0 ∷ []),
+  cell_moves read e left ∙ whole,
+)
+
+pub all_read : (old all cells : List CellId) → AreReadTo old all cells [] → cells ≡ old ++ all
+all_read old all cells (read, is, whole) = is ∙ ap (λ qs. old ++ qs) (sym (append-nil read) ∙ whole)
+
+pub some_read : (old all cells new : List CellId) (left : List (CellId × Change)) → new ≡ cells → AreReadTo old all cells left → IsBegun old all new
+some_read old all cells new left same (read, is, whole) =
+    (length read, same ∙ is ∙ ap (λ qs. old ++ qs) (sym (take-append_seam read (cells_of left)) ∙ ap (take (length read)) whole))
 
 -- the cells of the sets from a position on
 abbrev pub cells_left : List (Bor Changes) → ℕ → List CellId

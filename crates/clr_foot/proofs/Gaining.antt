@@ -3,7 +3,7 @@ use Rattle.std.proofs.Common.{◌≡◌, ◌<◌, ◌≤◌, ◌+◌, ℕ, zero,
 use Rattle.std.proofs.lemmas.List.{take_more, take_all}
 use Rattle.std.proofs.lemmas.List.Elements.{Contains-append_left, Contains-append_right, Contains-append_cases}
 use Rattle.clr_rules.proofs.Elements.{Among, among, contained}
-use Rattle.clr_foot.specs.Gains.{Gains, OfSome}
+use Rattle.clr_foot.specs.Gains.{Gains, GainsSome, OfSome}
 
 module _ {X : Type 0} where
   alone : (x y : X) → Contains (x ∷ []) y → y ≡ x
@@ -56,6 +56,25 @@ module _ {X : Type 0} where
       by : (x : X) → first x ⊎ second x → Contains new x
       by x (inl w) = h.kept x (g.every x w)
       by x (inr w) = h.every x w
+
+-- ---- what was added until there was no memory
+
+module _ {X : Type 0} (allowed : X → Type 0) where
+  -- nothing
+  pub none_gained : (old new : List X) → new ≡ old → GainsSome allowed old new
+  none_gained old new is = subst (GainsSome allowed old) (sym is) (gains_none allowed (λ x. ⊥) old (λ x w. w))
+
+  -- what is allowed may be more
+  pub some_as : (less : X → Type 0) (old new : List X) → ((x : X) → less x → allowed x) → GainsSome less old new → GainsSome allowed old new
+  some_as less old new may g = gains_as less (λ x. ⊥) allowed (λ x. ⊥) old new may (λ x w. w) g
+
+  -- all that one call adds, and some of what the next one does
+  pub then_some : (first less : X → Type 0) (old middle new : List X) → ((x : X) → less x → allowed x) → Gains allowed first old middle → GainsSome less middle new → GainsSome allowed old new
+  then_some first less old middle new may g h = gains_both allowed first (λ x. ⊥) (λ x. ⊥) old middle new (λ x w. inr w) g (some_as less middle new may h)
+
+  -- all that one call adds, and nothing more
+  pub then_none : (first : X → Type 0) (old middle new : List X) → new ≡ middle → Gains allowed first old middle → GainsSome allowed old new
+  then_none first old middle new is g = then_some first allowed old middle new (λ x a. a) g (none_gained middle new is)
 
 module _ {X : Type 0} where
   -- one more of the elements that are gone over

@@ -4,9 +4,9 @@ use Rattle.clr_rules.specs.declared.rules.Rule.{Rule}
 use Rattle.clr_foot.specs.declared.needs.Need.{Need}
 use Rattle.clr_foot.specs.declared.versions.Version.{Version}
 use Rattle.clr_foot.specs.Candidates.{IsNeedAmong, IsNeedOf}
-use Rattle.clr_foot.specs.Gains.{Gains}
+use Rattle.clr_foot.specs.Gains.{Gains, GainsSome}
 use Rattle.clr_foot.specs.Touches.{IsNeedServedAmong}
-use Rattle.clr_foot.proofs.Gaining.{all_taken, gains_as, gains_both, gains_none, item_in, none_taken, one_more}
+use Rattle.clr_foot.proofs.Gaining.{all_taken, gains_as, gains_both, gains_none, item_in, none_taken, one_more, then_none, then_some}
 
 module _ (rules : List Rule) (number : ℕ) (r : Version) (near : List Version) where
   abbrev Served : List Version → Need → Type 0
@@ -38,6 +38,23 @@ module _ (rules : List Rule) (number : ℕ) (r : Version) (near : List Version) 
           by : Contains (take k near) w.0 ⊎ (w.0 ≡ get_or near k s) → Served (take k near) n ⊎ Here s n
           by (inl earlier) = inl (w.0, earlier, w.2)
           by (inr last) = inr (subst (λ u. Here u n) (last ∙ sym is) w.2)
+
+  -- a call for one version that finds no memory: alone, or beside others
+  pub none_alone : (k : ℕ) (old middle new : List Need) → new ≡ middle → Gains (Served near) (Served (take k near)) old middle → GainsSome (Served near) old new
+  none_alone k old middle new is before = then_none (Served near) (Served (take k near)) old middle new is before
+
+  pub some_pairs : (k : ℕ) (s : Version) (old middle later new : List Need) → k < length near → s ≡ get_or near k s
+      → Gains (Served near) (Served (take k near)) old middle
+      → Gains (IsNeedOf rules number (Some r) s None) (IsNeedOf rules number (Some r) s None) middle later
+      → GainsSome (IsNeedAmong rules number (Some r) s near) later new
+      → GainsSome (Served near) old new
+  some_pairs k s old middle later new less is before alone pairs =
+      then_some (Served near) (Served (take k near)) (IsNeedAmong rules number (Some r) s near) old later new
+      (λ n w. (s, item_in near k s less is, inr w))
+      (gains_both (Served near) (Served (take k near)) (IsNeedOf rules number (Some r) s None) (Served (take k near)) old middle later (λ n w. inl w) before
+      (gains_as (IsNeedOf rules number (Some r) s None) (IsNeedOf rules number (Some r) s None) (Served near) (IsNeedOf rules number (Some r) s None) middle later
+      (λ n w. (s, item_in near k s less is, inl w)) (λ n w. w) alone))
+      pairs
 
   pub all_served : (k : ℕ) (old new : List Need) → length near ≤ k → Gains (Served near) (Served (take k near)) old new → Gains (Served near) (Served near) old new
   all_served k old new past g = gains_as (Served near) (Served (take k near)) (Served near) (Served near) old new (λ n w. w) (λ n w. (w.0, all_taken near k w.0 past w.1, w.2)) g

@@ -21,14 +21,14 @@ use Rattle.clr_foot.specs.declared.needs.Need.{Need}
 use Rattle.clr_foot.specs.declared.needs.VersionId.{VersionId}
 use Rattle.clr_foot.specs.declared.versions.Version.{Version}
 use Rattle.clr_foot.specs.Candidates.{IsNeedAmong, IsNeedAt, IsNeedOf, IsNeedServedBy, IsNeedWith, is_of_two_under}
-use Rattle.clr_foot.specs.Gains.{Gains}
+use Rattle.clr_foot.specs.Gains.{Gains, GainsSome}
 use Rattle.clr_foot.specs.Members.{ChangesCell, after_in, changed_cells, setting}
 use Rattle.clr_foot.specs.Needs.{IsBesideToo, IsChanged, IsTouched, IsTouchedBy, ask_of, held_too, is_fresh}
 use Rattle.clr_foot.specs.Settings.{Setting, Lived, changer, held_row, new_version, old_life, old_version, version}
 use Rattle.clr_foot.specs.Touches.{IsNear, IsNeedAtCells, IsNeedServedAmong, IsTouchedOf}
 use Rattle.clr_foot.specs.Versions.{FindsAll, FitsSetting, IsAt, row_of, version_of}
 use Rattle.clr_foot.proofs.ChangerSteps.{changed_key}
-use Rattle.clr_foot.proofs.Gaining.{all_taken, gains_as, gains_both, gains_none, none_taken, one_more}
+use Rattle.clr_foot.proofs.Gaining.{all_taken, gains_as, gains_both, gains_none, none_taken, one_more, some_as, then_none, then_some}
 use Rattle.clr_foot.proofs.Lives.{new_is, old_is}
 use Rattle.clr_foot.proofs.Merges.{IsChanger, changer_is}
 use Rattle.clr_foot.proofs.NewRows.{brought_is_listed}
@@ -123,6 +123,25 @@ module _ (c : Setting ℕ) (number : ℕ) where
       (gains_as (IsNeedAmong c.rules number None v near) (IsNeedAmong c.rules number None v near) (IsNeedWith c number v.id) (IsNeedAmong c.rules number None v near) second last
       (λ n w. among_with c number v at near n found.are w) (λ n w. w) pairs)
 
+  -- those until there was no memory: for the others near, and with them
+  pub none_with : (v : Version) (first last new : List Need) → IsAt c v → new ≡ last
+      → Gains (IsNeedOf c.rules number None v None) (IsNeedOf c.rules number None v None) first last
+      → GainsSome (IsNeedWith c number v.id) first new
+  none_with v first last new at is alone = some_as (IsNeedWith c number v.id) (IsNeedOf c.rules number None v None) first new (alone_with c number v at)
+      (then_none (IsNeedOf c.rules number None v None) (IsNeedOf c.rules number None v None) first last new is alone)
+
+  pub some_with : (v : Version) (near : List Version) (first second last : List Need) → IsAt c v
+      → FindsAll c (IsNear false c.rules number (row_of v)) near
+      → Gains (IsNeedOf c.rules number None v None) (IsNeedOf c.rules number None v None) first second
+      → GainsSome (IsNeedAmong c.rules number None v near) second last
+      → GainsSome (IsNeedWith c number v.id) first last
+  some_with v near first second last at found alone pairs =
+      then_some (IsNeedWith c number v.id) (IsNeedOf c.rules number None v None) (IsNeedAmong c.rules number None v near) first second last
+      (λ n w. among_with c number v at near n found.are w)
+      (gains_as (IsNeedOf c.rules number None v None) (IsNeedOf c.rules number None v None) (IsNeedWith c number v.id) (IsNeedOf c.rules number None v None) first second
+      (alone_with c number v at) (λ n w. w) alone)
+      pairs
+
   pub alone_gains : (v : Version) (told : Bool) (first last : List Need) → IsAt c v → told ≡ is_of_two_under c.rules number → told ≡ false
       → Gains (IsNeedOf c.rules number None v None) (IsNeedOf c.rules number None v None) first last
       → Gains (IsNeedWith c number v.id) (IsNeedWith c number v.id) first last
@@ -137,6 +156,13 @@ module _ (c : Setting ℕ) (number : ℕ) where
   served_gains r near old new at found g =
       gains_as (IsNeedServedAmong c.rules number r near near) (IsNeedServedAmong c.rules number r near near) (IsNeedServedBy c number r.id) (IsNeedServedBy c number r.id) old new
       (λ n w. among_served c number r at near n found.are w) (served_found c number r at near found) g
+
+  pub some_served : (r : Version) (near : List Version) (old new : List Need) → IsAt c r
+      → FindsAll c (IsNear false c.rules number (row_of r)) near
+      → GainsSome (IsNeedServedAmong c.rules number r near near) old new
+      → GainsSome (IsNeedServedBy c number r.id) old new
+  some_served r near old new at found g =
+      some_as (IsNeedServedBy c number r.id) (IsNeedServedAmong c.rules number r near near) old new (λ n w. among_served c number r at near n found.are w) g
 
   pub none_served_by : (r : Version) (told : Bool) (needs : List Need) → IsAt c r → told ≡ may_serve_under c.rules number (row_of r) → told ≡ false
       → Gains (IsNeedServedBy c number r.id) (IsNeedServedBy c number r.id) needs needs

@@ -1,9 +1,9 @@
 //! Versions that are held against one another: each need that a rule asks of them is added to a
 //! list.
 
-ghost use Rattle.std.specs.Prelude.{◌≡◌, ◌<◌, length, None, Some, OnOk};
+ghost use Rattle.std.specs.Prelude.{◌≡◌, ◌<◌, length, None, Some, OnErr, OnOk};
 ghost use Rattle.clr_foot.specs.Candidates.{IsNeedAmong, IsNeedOf, IsNeedOfAsk, IsNeedOfPair, IsNeedOfPart, IsServerAmong, are_opposed, serves_too};
-ghost use Rattle.clr_foot.specs.Gains.{Gains};
+ghost use Rattle.clr_foot.specs.Gains.{Gains, GainsSome};
 ghost use Rattle.clr_foot.specs.Members.{lifetime};
 ghost use Rattle.clr_foot.specs.Scenes.{setting_in};
 ghost use Rattle.clr_foot.specs.Versions.{AreAt, FitsSetting, IsAt, IsAtToo};
@@ -53,7 +53,7 @@ impl<V: RowView, F: RowFinder> Scene<'_, V, F> {
     }
 
     /// Adds the need of a version alone, where the rule asks it and the server, if one is given,
-    /// serves it.
+    /// serves it. It fails for want of memory alone, and changes nothing then.
     pub(crate) fn add_alone(
         &self,
         rule: u16,
@@ -65,9 +65,10 @@ impl<V: RowView, F: RowFinder> Scene<'_, V, F> {
         requires fit { FitsSetting (setting_in V.content self.now) }
         requires server { IsAtToo (setting_in V.content self.now) server }
         requires first { IsAt (setting_in V.content self.now) first }
-        ensures { OnOk result (Gains (IsNeedOf self.now.book.now rule server.entry first.entry None)
+        ensures ok { OnOk result (Gains (IsNeedOf self.now.book.now rule server.entry first.entry None)
             (IsNeedOf self.now.book.now rule server.entry first.entry None)
             needs.old.items needs.new.items) }
+        ensures err { OnErr result (needs.new.items ≡ needs.old.items) }
     {
         let ask = Ask::plain(rule);
         if self.serves_if_any(ask, first, None, server)
@@ -92,8 +93,9 @@ impl<V: RowView, F: RowFinder> Scene<'_, V, F> {
         requires server { IsAtToo (setting_in V.content self.now) server }
         requires first { IsAt (setting_in V.content self.now) first }
         requires second { IsAt (setting_in V.content self.now) second }
-        ensures { OnOk result (Gains (IsNeedOf self.now.book.now ask.rule server.entry first.entry (Some second.entry))
+        ensures ok { OnOk result (Gains (IsNeedOf self.now.book.now ask.rule server.entry first.entry (Some second.entry))
             (IsNeedOfAsk self.now.book.now ask server.entry first.entry second.entry) needs.old.items needs.new.items) }
+        ensures err { OnErr result (needs.new.items ≡ needs.old.items) }
     {
         if self.serves_if_any(ask, first, Some(second), server)
             && self.book.calls_two(ask, first.as_held(), second.as_held())
@@ -118,8 +120,10 @@ impl<V: RowView, F: RowFinder> Scene<'_, V, F> {
         requires server { IsAtToo (setting_in V.content self.now) server }
         requires first { IsAt (setting_in V.content self.now) first }
         requires second { IsAt (setting_in V.content self.now) second }
-        ensures { OnOk result (Gains (IsNeedOf self.now.book.now rule server.entry first.entry (Some second.entry))
+        ensures ok { OnOk result (Gains (IsNeedOf self.now.book.now rule server.entry first.entry (Some second.entry))
             (IsNeedOfPart self.now.book.now rule server.entry first.entry second.entry part) needs.old.items needs.new.items) }
+        ensures err { OnErr result (GainsSome (IsNeedOf self.now.book.now rule server.entry first.entry (Some second.entry))
+            needs.old.items needs.new.items) }
     {
         for other in 0..self.book.part_count(rule, second.as_held()) {
             let ask = Ask {
@@ -146,8 +150,10 @@ impl<V: RowView, F: RowFinder> Scene<'_, V, F> {
         requires server { IsAtToo (setting_in V.content self.now) server }
         requires first { IsAt (setting_in V.content self.now) first }
         requires second { IsAt (setting_in V.content self.now) second }
-        ensures { OnOk result (Gains (IsNeedOf self.now.book.now rule server.entry first.entry (Some second.entry))
+        ensures ok { OnOk result (Gains (IsNeedOf self.now.book.now rule server.entry first.entry (Some second.entry))
             (IsNeedOf self.now.book.now rule server.entry first.entry (Some second.entry)) needs.old.items needs.new.items) }
+        ensures err { OnErr result (GainsSome (IsNeedOf self.now.book.now rule server.entry first.entry (Some second.entry))
+            needs.old.items needs.new.items) }
     {
         for part in 0..self.book.part_count(rule, first.as_held()) {
             self.add_of_part(rule, part + 1, server, first, second, needs)?;
@@ -169,8 +175,10 @@ impl<V: RowView, F: RowFinder> Scene<'_, V, F> {
         requires server { IsAtToo (setting_in V.content self.now) server }
         requires one { IsAt (setting_in V.content self.now) one }
         requires other { IsAt (setting_in V.content self.now) other }
-        ensures { OnOk result (Gains (IsNeedOfPair self.now.book.now rule server.entry one.entry other.entry)
+        ensures ok { OnOk result (Gains (IsNeedOfPair self.now.book.now rule server.entry one.entry other.entry)
             (IsNeedOfPair self.now.book.now rule server.entry one.entry other.entry) needs.old.items needs.new.items) }
+        ensures err { OnErr result (GainsSome (IsNeedOfPair self.now.book.now rule server.entry one.entry other.entry)
+            needs.old.items needs.new.items) }
     {
         if are_opposed(one.life, other.life) {
             return Ok(());
@@ -183,7 +191,9 @@ impl<V: RowView, F: RowFinder> Scene<'_, V, F> {
         Ok(())
     }
 
-    /// Adds the needs of a version with each of some others, where the rule is asked of two.
+    /// Adds the needs of a version with each of some others, where the rule is asked of two. It fails
+    /// for want of memory alone; then what stood in the list stands there, and besides it some of
+    /// these needs alone.
     pub(crate) fn add_pairs(
         &self,
         rule: u16,
@@ -197,8 +207,10 @@ impl<V: RowView, F: RowFinder> Scene<'_, V, F> {
         requires server { IsAtToo (setting_in V.content self.now) server }
         requires one { IsAt (setting_in V.content self.now) one }
         requires others { AreAt (setting_in V.content self.now) others.now }
-        ensures { OnOk result (Gains (IsNeedAmong self.now.book.now rule server.entry one.entry others.now)
+        ensures ok { OnOk result (Gains (IsNeedAmong self.now.book.now rule server.entry one.entry others.now)
             (IsNeedAmong self.now.book.now rule server.entry one.entry others.now) needs.old.items needs.new.items) }
+        ensures err { OnErr result (GainsSome (IsNeedAmong self.now.book.now rule server.entry one.entry others.now)
+            needs.old.items needs.new.items) }
     {
         if !self.is_of_two(rule) {
             return Ok(());
@@ -209,7 +221,8 @@ impl<V: RowView, F: RowFinder> Scene<'_, V, F> {
         Ok(())
     }
 
-    /// Adds the names of those of some versions that serve.
+    /// Adds the names of those of some versions that serve. It fails for want of memory alone; then
+    /// what stood in the list stands there, and besides it some of these names alone.
     pub(crate) fn add_servers(
         &self,
         ask: Ask,
@@ -223,8 +236,10 @@ impl<V: RowView, F: RowFinder> Scene<'_, V, F> {
         requires first { IsAt (setting_in V.content self.now) first }
         requires second { IsAtToo (setting_in V.content self.now) second }
         requires others { AreAt (setting_in V.content self.now) others.now }
-        ensures { OnOk result (Gains (IsServerAmong self.now.book.now ask first.entry second.entry others.now)
+        ensures ok { OnOk result (Gains (IsServerAmong self.now.book.now ask first.entry second.entry others.now)
             (IsServerAmong self.now.book.now ask first.entry second.entry others.now) names.old.items names.new.items) }
+        ensures err { OnErr result (GainsSome (IsServerAmong self.now.book.now ask first.entry second.entry others.now)
+            names.old.items names.new.items) }
     {
         for other in others {
             if self.serves_if_any(ask, first, second, Some(*other)) {

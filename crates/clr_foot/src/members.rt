@@ -1,11 +1,12 @@
 //! The members of a scene: change sets, the cells that they change, and which of them change each.
 
-ghost use Rattle.std.specs.Prelude.{◌≡◌, ◌<◌, ◌≤◌, ◌++◌, true, Some, None, length, map, IfOk, IfSome, MatchOption, OnOk};
+ghost use Rattle.std.specs.Prelude.{◌≡◌, ◌<◌, ◌≤◌, ◌++◌, true, Some, None, length, map, IfOk, IfSome, MatchOption, OnErr, OnOk};
 ghost use Rattle.std.specs.BTreeMap.{get};
 ghost use Rattle.std.specs.FinMap as finite;
 ghost use Rattle.clr_rows.specs.Cells.{cell_cmp};
 ghost use Rattle.clr_rows.specs.declared.cells.CellId.{CellId as Cell};
 ghost use Rattle.clr_foot.specs.declared.limits.TheConstants.{MOST_MEMBERS};
+ghost use Rattle.clr_foot.specs.Gains.{IsBegun};
 ghost use Rattle.clr_foot.specs.Members.{AreApart, AreFirstTwo, IsApart, IsLeastShared, after_of, changed_cells, changers_at, lesser, positions};
 ghost use Rattle.clr_foot.specs.Settings.{first_changer};
 ghost use Rattle.clr_foot.specs.Versions.{AreNewRowsFiled, FitNewRows, new_version_at, row_and_life, version_of};
@@ -39,9 +40,11 @@ pub(crate) struct Members<'a> {
     ghost changed_by: { (q : Cell) → get cell_cmp changers q ≡ changers_at (map (λ s. s.now) sets.items) q },
 }
 
-/// Adds the cells that a change set changes.
+/// Adds the cells that a change set changes. It fails for want of memory alone; then what stood in the
+/// list stands there, with the first of these cells behind it.
 pub(crate) fn add_cells(set: &ChangeSet, cells: &mut Vec<CellId>) -> Result<(), AllocError>
-    ensures { OnOk result (cells.new.items ≡ cells.old.items ++ finite.keys set.now) }
+    ensures ok { OnOk result (cells.new.items ≡ cells.old.items ++ finite.keys set.now) }
+    ensures err { OnErr result (IsBegun cells.old.items (finite.keys set.now) cells.new.items) }
 {
     for (cell, _) in set.iter() {
         cells.push(*cell)?;

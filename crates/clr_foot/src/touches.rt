@@ -1,12 +1,12 @@
 //! The needs that changes touch: each new version is held against the versions that share with it,
 //! and each changed one is tried as a server of versions that share with it.
 
-ghost use Rattle.std.specs.Prelude.{◌≡◌, ◌<◌, ◌∷◌, [], false, true, length, Contains, IfOk, OnOk};
+ghost use Rattle.std.specs.Prelude.{◌≡◌, ◌<◌, ◌∷◌, [], false, true, length, Contains, IfOk, OnErr, OnOk};
 ghost use Rattle.clr_grid.specs.Sharing.{found_cells, rule_spots};
 ghost use Rattle.clr_rows.specs.Held.{held_of};
 ghost use Rattle.clr_rules.specs.Books.{FitTogether};
 ghost use Rattle.clr_foot.specs.Candidates.{IsNeedAt, IsNeedServedBy, IsNeedWith};
-ghost use Rattle.clr_foot.specs.Gains.{Gains};
+ghost use Rattle.clr_foot.specs.Gains.{Gains, GainsSome};
 ghost use Rattle.clr_foot.specs.Needs.{AreTouchedNeeds, IsTouched};
 ghost use Rattle.clr_foot.specs.Scenes.{IsReady, model_of, setting_in, setting_of};
 ghost use Rattle.clr_foot.specs.Touches.{IsInCells, IsNear, IsNeedServedAmong, IsTouchedOf};
@@ -102,7 +102,8 @@ impl<V: RowView, F: RowFinder> Scene<'_, V, F> {
     }
 
     /// Adds the possible needs with a version among their subjects: alone, or beside a version that
-    /// shares with it.
+    /// shares with it. It fails for want of memory alone; then what stood in the list stands there,
+    /// and besides it some of these needs alone.
     pub(crate) fn add_with(
         &self,
         rule: u16,
@@ -112,8 +113,10 @@ impl<V: RowView, F: RowFinder> Scene<'_, V, F> {
         requires number { rule < length self.now.book.now }
         requires ready { IsReady F.settled (model_of V.content self.now) }
         requires at { IsAt (setting_in V.content self.now) version }
-        ensures { OnOk result (Gains (IsNeedWith (setting_in V.content self.now) rule version.entry.id)
+        ensures ok { OnOk result (Gains (IsNeedWith (setting_in V.content self.now) rule version.entry.id)
             (IsNeedWith (setting_in V.content self.now) rule version.entry.id) needs.old.items needs.new.items) }
+        ensures err { OnErr result (GainsSome (IsNeedWith (setting_in V.content self.now) rule version.entry.id)
+            needs.old.items needs.new.items) }
     {
         self.add_alone(rule, None, version, needs)?;
         if !self.is_of_two(rule) {
@@ -136,8 +139,10 @@ impl<V: RowView, F: RowFinder> Scene<'_, V, F> {
         requires fit { FitsSetting (setting_in V.content self.now) }
         requires server { IsAt (setting_in V.content self.now) server }
         requires near { AreAt (setting_in V.content self.now) near.now }
-        ensures { OnOk result (Gains (IsNeedServedAmong self.now.book.now rule server.entry near.now near.now)
+        ensures ok { OnOk result (Gains (IsNeedServedAmong self.now.book.now rule server.entry near.now near.now)
             (IsNeedServedAmong self.now.book.now rule server.entry near.now near.now) needs.old.items needs.new.items) }
+        ensures err { OnErr result (GainsSome (IsNeedServedAmong self.now.book.now rule server.entry near.now near.now)
+            needs.old.items needs.new.items) }
     {
         for first in near {
             self.add_alone(rule, Some(server), *first, needs)?;
@@ -146,7 +151,8 @@ impl<V: RowView, F: RowFinder> Scene<'_, V, F> {
         Ok(())
     }
 
-    /// Adds the possible needs that a version serves.
+    /// Adds the possible needs that a version serves. It fails for want of memory alone; then what
+    /// stood in the list stands there, and besides it some of these needs alone.
     pub(crate) fn add_served_by(
         &self,
         rule: u16,
@@ -156,8 +162,10 @@ impl<V: RowView, F: RowFinder> Scene<'_, V, F> {
         requires number { rule < length self.now.book.now }
         requires ready { IsReady F.settled (model_of V.content self.now) }
         requires at { IsAt (setting_in V.content self.now) server }
-        ensures { OnOk result (Gains (IsNeedServedBy (setting_in V.content self.now) rule server.entry.id)
+        ensures ok { OnOk result (Gains (IsNeedServedBy (setting_in V.content self.now) rule server.entry.id)
             (IsNeedServedBy (setting_in V.content self.now) rule server.entry.id) needs.old.items needs.new.items) }
+        ensures err { OnErr result (GainsSome (IsNeedServedBy (setting_in V.content self.now) rule server.entry.id)
+            needs.old.items needs.new.items) }
     {
         if !self.may_serve(rule, server) {
             return Ok(());

@@ -8,7 +8,7 @@ loop-set-init c = ap (λ (cells : List CellId). cells ++ cells_left c.args.sets.
 
 pub loop-set-preserved : goal.loop-set-preserved
 loop-set-preserved c =
-    ap (λ (cells : List CellId). cells ++ cells_left c.args.sets.now (c.loop-set.set-index + 1)) c.in_ok-add_cells.ensures
+    ap (λ (cells : List CellId). cells ++ cells_left c.args.sets.now (c.loop-set.set-index + 1)) c.in_ok-add_cells.ensures.ok
     ∙ cells_move c.args.sets.now c.loop-set.set-index c.set-item.result c.loop-set.cells.items c.loop-set-test.true c.set-item.is
     ∙ c.loop-set.invariant
 

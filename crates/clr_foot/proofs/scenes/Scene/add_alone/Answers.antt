@@ -11,8 +11,8 @@ use Rattle.clr_foot.proofs.scenes.Scene.add_alone.Goals.{else-serves_if_any-via-
 pub calls_one-requires-clause-fit : goal.calls_one-requires-clause-fit
 calls_one-requires-clause-fit g c = fit_one (setting_in g.V.RowView.content c.args.self.now) c.requires.fit c.args.first _ c.requires.first c.as_held.ensures
 
-pub returns-in_ok-push : goal.returns-in_ok-push
-returns-in_ok-push g c =
+pub returns-in_ok-push-clause-ok : goal.returns-in_ok-push-clause-ok
+returns-in_ok-push-clause-ok g c =
     let rules = c.args.self.now.book.now in
     let ask = plain_ask c.args.rule in
     let s = c.args.first in
@@ -21,8 +21,8 @@ returns-in_ok-push g c =
     add_alone rules c.args.rule c.args.server s c.args.needs.now.items c.push.new.self.items c.new.result c.in_ok-push.ensures.items
     (c.new.ensures ∙ ap (λ a. need_of a s.id None) c.plain-ask.ensures) (both_told _ _ _ _ serves called c.if-serves_if_any.true c.if-calls_one.true)
 
-pub returns-else-serves_if_any : goal.returns-else-serves_if_any
-returns-else-serves_if_any g c =
+pub returns-else-serves_if_any-clause-ok : goal.returns-else-serves_if_any-clause-ok
+returns-else-serves_if_any-clause-ok g c =
     let rules = c.args.self.now.book.now in
     let ask = plain_ask c.args.rule in
     let s = c.args.first in

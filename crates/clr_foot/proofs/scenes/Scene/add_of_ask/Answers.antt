@@ -11,15 +11,15 @@ pub calls_two-requires-clause-fit : goal.calls_two-requires-clause-fit
 calls_two-requires-clause-fit g c =
     fit_two (setting_in g.V.RowView.content c.args.self.now) c.requires.fit c.args.first c.args.second _ _ c.requires.first c.requires.second c.as_held.ensures c.as_held-then-serves_if_any.ensures
 
-pub returns-in_ok-push : goal.returns-in_ok-push
-returns-in_ok-push g c =
+pub returns-in_ok-push-clause-ok : goal.returns-in_ok-push-clause-ok
+returns-in_ok-push-clause-ok g c =
     let rules = c.args.self.now.book.now in
     let called = c.calls_two.ensures ∙ (λ i. calls rules c.args.ask (c.as_held.ensures i) (Some (c.as_held-then-serves_if_any.ensures i))) in
     add_asked rules c.args.ask c.args.server c.args.first c.args.second c.args.needs.now.items c.push.new.self.items c.new.result c.in_ok-push.ensures.items
     c.new.ensures (both_told _ _ _ _ c.serves_if_any.ensures called c.if-serves_if_any.true c.if-calls_two.true)
 
-pub returns-else-serves_if_any : goal.returns-else-serves_if_any
-returns-else-serves_if_any g c =
+pub returns-else-serves_if_any-clause-ok : goal.returns-else-serves_if_any-clause-ok
+returns-else-serves_if_any-clause-ok g c =
     let rules = c.args.self.now.book.now in
     elim c.else-serves_if_any.branch [
       | else-serves_if_any-via-then-serves_if_any+else-calls_two w ↦ none_asked rules c.args.ask c.args.server c.args.first c.args.second c.args.needs.now.items

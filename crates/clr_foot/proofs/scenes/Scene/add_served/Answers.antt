@@ -1,5 +1,6 @@
+use Rattle.clr_grid.proofs.FilingLemmas.{on_err}
 use Rattle.clr_foot.proofs.Gaining.{item_in}
-use Rattle.clr_foot.proofs.ServedNeeds.{all_served, none_served, one_served}
+use Rattle.clr_foot.proofs.ServedNeeds.{all_served, none_alone, none_served, one_served, some_pairs}
 use Rattle.clr_foot.proofs.scenes.Scene.add_served.Goals as goal
 
 pub loop-first-init : goal.loop-first-init
@@ -14,7 +15,16 @@ add_pairs-requires-clause-one g c = c.requires.near c.first-item.result (item_in
 pub loop-first-preserved : goal.loop-first-preserved
 loop-first-preserved g c =
     one_served c.args.self.now.book.now c.args.rule c.args.server c.args.near.now c.loop-first.first-index c.first-item.result _ _ _ _ c.loop-first-test.true c.first-item.is c.loop-first.invariant
-    c.in_ok-add_alone.ensures c.in_ok-add_pairs.ensures
+    c.in_ok-add_alone.ensures.ok c.in_ok-add_pairs.ensures.ok
 
-pub returns : goal.returns
-returns g c = all_served c.args.self.now.book.now c.args.rule c.args.server c.args.near.now c.loop-first.first-index _ _ c.loop-first-test.false c.loop-first.invariant
+pub returns-clause-ok : goal.returns-clause-ok
+returns-clause-ok g c = all_served c.args.self.now.book.now c.args.rule c.args.server c.args.near.now c.loop-first.first-index _ _ c.loop-first-test.false c.loop-first.invariant
+
+pub returns-in_err-add_alone-clause-err : goal.returns-in_err-add_alone-clause-err
+returns-in_err-add_alone-clause-err g c =
+    on_err _ (none_alone c.args.self.now.book.now c.args.rule c.args.server c.args.near.now c.loop-first.first-index _ _ _ c.in_err-add_alone.ensures.err c.loop-first.invariant)
+
+pub returns-in_err-add_pairs-clause-err : goal.returns-in_err-add_pairs-clause-err
+returns-in_err-add_pairs-clause-err g c =
+    on_err _ (some_pairs c.args.self.now.book.now c.args.rule c.args.server c.args.near.now c.loop-first.first-index c.first-item.result _ _ _ _ c.loop-first-test.true c.first-item.is c.loop-first.invariant
+    c.in_ok-add_alone.ensures.ok c.in_err-add_pairs.ensures.err)

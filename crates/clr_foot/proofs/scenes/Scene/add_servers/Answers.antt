@@ -1,7 +1,9 @@
 use Rattle.std.proofs.Common.{◌∙◌, ◌+◌, ap, sym, subst, take}
+use Rattle.clr_grid.proofs.FilingLemmas.{on_err}
 use Rattle.clr_foot.specs.Candidates.{IsServerAmong}
 use Rattle.clr_foot.specs.Gains.{Gains}
 use Rattle.clr_foot.proofs.CandidateLaws.{all_servers, no_server_yet, not_one_server, one_server_more}
+use Rattle.clr_foot.proofs.Gaining.{then_none}
 use Rattle.clr_foot.proofs.scenes.Scene.add_servers.Goals as goal
 use Rattle.clr_foot.proofs.scenes.Scene.add_servers.Goals.{else-serves_if_any, then-serves_if_any+in_ok-push}
 
@@ -22,5 +24,8 @@ loop-other-preserved g c =
           (sym c.serves_if_any.ensures ∙ w.if-serves_if_any.false) c.loop-other.invariant)
     ]
 
-pub returns : goal.returns
-returns g c = all_servers c.args.self.now.book.now c.args.ask c.args.first c.args.second c.args.others.now c.loop-other.other-index _ _ c.loop-other-test.false c.loop-other.invariant
+pub returns-clause-ok : goal.returns-clause-ok
+returns-clause-ok g c = all_servers c.args.self.now.book.now c.args.ask c.args.first c.args.second c.args.others.now c.loop-other.other-index _ _ c.loop-other-test.false c.loop-other.invariant
+
+pub returns-in_err-push-clause-err : goal.returns-in_err-push-clause-err
+returns-in_err-push-clause-err g c = on_err _ (then_none _ _ _ _ _ c.in_err-push.ensures.items c.loop-other.invariant)

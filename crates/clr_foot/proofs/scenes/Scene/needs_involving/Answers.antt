@@ -23,7 +23,7 @@ loop-rule-preserved g c =
     let scene = c.args.self.now in
     let refs = scene.members.sets.items in
     let set = c.index.result.now.now in
-    let keys = c.as_slice.ensures.value ∙ c.in_ok-add_cells.ensures ∙ ap (λ (qs : List CellId). qs ++ finite.keys set) c.new-cells.ensures.items in
+    let keys = c.as_slice.ensures.value ∙ c.in_ok-add_cells.ensures.ok ∙ ap (λ (qs : List CellId). qs ++ finite.keys set) c.new-cells.ensures.items in
     one_rule_involved scene.book.now (g.V.RowView.content scene.root.now) (sets_of refs) c.args.position set (set_at refs c.args.position c.index.result.now (subst (λ n. c.args.position < n) (length-map refs (λ s. s.now)) c.requires.position) c.index.ensures) c.loop-rule.rule
     c.as_slice.result.now [] _ _ keys c.loop-rule.invariant c.in_ok-add_involved_among.ensures
 
