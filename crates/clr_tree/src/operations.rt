@@ -16,7 +16,6 @@ ghost use Rattle.clr_workspaces.specs.Roots.{IsRooted};
 ghost use Rattle.clr_workspaces.specs.declared.rebases.Keep.TheVariants.{Child};
 ghost use Rattle.clr_workspaces.specs.declared.rebases.Rebase.TheVariants.{Merge, Refresh};
 
-use clr_workspaces::{Keep, Rebase};
 use clr_change::{ChangeSet, copy_row};
 use clr_contents::{
     base_row_of, cells_of, changes_of, parent_of, pin_children, pin_current, pin_own, pin_saved,
@@ -25,6 +24,7 @@ use clr_contents::{
 use clr_differences::Differences;
 use clr_layers::{Layer, StoredMark, WorkspaceMap};
 use clr_rows::{CellId, LIVE, Row, Sheet, Words};
+use clr_workspaces::{Keep, Rebase};
 use std::alloc::{AllocError, Global};
 
 // Each function here fails for want of memory alone, and changes no content, mark or flag then: all

@@ -9,11 +9,11 @@ ghost use Rattle.clr_tree.specs.Parts.{has_good_marks, marks_fault_at, first_bel
 ghost use Rattle.clr_workspaces.specs.Roots.{IsRooted};
 ghost use Rattle.clr_workspaces.specs.Soundness.{are_good_savepoints};
 
-use clr_workspaces::{MOST_LEVELS, MOST_SAVEPOINTS, MOST_WORKSPACES};
 use crate::parts::PartFault;
 use clr_contents::depth_at;
 use clr_layers::{StoredMark, WorkspaceMap, count_marks_of, count_saved, find_saved};
 use clr_rows::{Sheet, good_name};
+use clr_workspaces::{MOST_LEVELS, MOST_SAVEPOINTS, MOST_WORKSPACES};
 
 /// The position of the parent, which has the second name, of a workspace of the first name that
 /// comes after those of a map, or why it can't come.

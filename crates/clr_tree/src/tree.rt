@@ -14,7 +14,6 @@ ghost use Rattle.clr_tree.specs.Trees.{tree_of, stored_at, saved_at, needed, nee
 
 use crate::builds::push_parts;
 use crate::layered_builds::push_layers;
-use clr_workspaces::{MOST_LEVELS, MOST_SAVEPOINTS, MOST_WORKSPACES};
 use crate::operations::{
     create, live_alone, mark, merge_changes, rebase, refresh_changes, remove, roll_all, roll_to,
     write_rows,
@@ -22,7 +21,6 @@ use crate::operations::{
 use crate::part_checks::judge_marks;
 use crate::part_reads::{live_part, part_at};
 use crate::parts::{Part, PartFault};
-use clr_workspaces::Rebase;
 use clr_change::ChangeSet;
 use clr_contents::{
     View, base_row_of, base_rows, changes_of, depth_at, row_of, saved_rows, sweep, whole_rows,
@@ -31,6 +29,7 @@ use clr_layers::{
     LayerView, StoredMark, StoredPart, WorkspaceMap, count_saved, find_saved, has_child_after,
 };
 use clr_rows::{CellId, Row, Sheet};
+use clr_workspaces::{MOST_LEVELS, MOST_SAVEPOINTS, MOST_WORKSPACES, Rebase};
 use std::alloc::{AllocError, Global};
 use std::marker::Model;
 
