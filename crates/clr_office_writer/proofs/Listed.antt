@@ -9,10 +9,10 @@ use Rattle.std.specs.declared.alloc.AllocError.{AllocError}
 use Rattle.serde_json.specs.View.{view}
 use Rattle.serde_json.specs.declared.value.Value.{Value as Json}
 use Rattle.clr_layers.specs.Layers.{Layer}
-use Rattle.clr_layers.specs.Workspaces.{Workspace}
+use Rattle.clr_workspaces.specs.Workspaces.{Workspace}
 use Rattle.clr_steps.specs.Offices.{Office}
 use Rattle.clr_engine.specs.Drafts.{layer_in, part_at}
-use Rattle.clr_office_data.specs.WorkspaceData.{layer_data}
+use Rattle.clr_office_json.specs.WorkspaceData.{layer_data}
 
 -- a workspace by what is stored of it
 pub one_written : (o : Office) (position : ℕ) (l : Layer) (r : Result Json AllocError) → Some l ≡ option_map (layer_in o) (part_at o position)
