@@ -1,5 +1,6 @@
 -- Laws of lists to which something was to be added: from the pieces that were added to the whole.
-use Rattle.std.proofs.Common.{◌≡◌, ℕ, ◌+◌, ◌<◌, List, [], ◌∷◌, ◌++◌, append-nil, length, get_or, take, drop, ap, sym, refl, ◌∙◌}
+use Rattle.std.proofs.Common.{◌≡◌, Bool, true, false, ℕ, ◌+◌, ◌<◌, List, [], ◌∷◌, ◌++◌, append-nil, length, get_or, take, drop, ap, sym, refl, ◌∙◌}
+use Rattle.std.specs.Prelude.{if◌then◌else◌}
 use Rattle.std.specs.List.{flat_map}
 use Rattle.std.proofs.lemmas.Grind.{flat_map-append}
 use Rattle.std.proofs.lemmas.List.{append_assoc, append_cancel_left, drop_more, take-append-drop, take_at}
@@ -56,3 +57,8 @@ begun_at f xs at x old mid new lt is before begun =
     let item : drop at xs ≡ x ∷ rest = drop_more xs at x lt ∙ ap (λ first. first ∷ rest) (sym is) in
     then_begun old (flat_map f xs) mid new (flat_map f (take at xs)) (f x) (flat_map f rest) before
     (ap (flat_map f) (sym (take-append-drop at xs)) ∙ flat_map-append f (take at xs) (drop at xs) ∙ ap (λ ys. flat_map f (take at xs) ++ flat_map f ys) item) begun
+
+-- where the last piece was added, or nothing of it
+pub last_begun : {A : Type 0} (done : Bool) (old more mid new front last : List A) → new ≡ (if done then mid ++ last else mid) → mid ≡ old ++ front → more ≡ front ++ last → IsBegun old more new
+last_begun true old more mid new front last is before parts = all_begun old more new (is ∙ ap (λ xs. xs ++ last) before ∙ append_assoc old front last ∙ ap (λ xs. old ++ xs) (sym parts))
+last_begun false old more mid new front last is before parts = some_begun old more new front last (is ∙ before) parts
