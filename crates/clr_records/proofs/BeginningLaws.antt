@@ -1,9 +1,9 @@
 -- Laws of lists to which something was to be added: from the pieces that were added to the whole.
-use Rattle.std.proofs.Common.{◌≡◌, Bool, true, false, ℕ, ◌+◌, ◌<◌, List, [], ◌∷◌, ◌++◌, append-nil, length, get_or, take, drop, ap, sym, refl, ◌∙◌}
+use Rattle.std.proofs.Common.{◌≡◌, Bool, true, false, ℕ, ◌+◌, ◌<◌, List, [], ◌∷◌, ◌++◌, append-nil, length, map, get_or, take, drop, ap, sym, refl, ◌∙◌}
 use Rattle.std.specs.Prelude.{if◌then◌else◌}
 use Rattle.std.specs.List.{flat_map}
 use Rattle.std.proofs.lemmas.Grind.{flat_map-append}
-use Rattle.std.proofs.lemmas.List.{append_assoc, append_cancel_left, drop_more, take-append-drop, take_at}
+use Rattle.std.proofs.lemmas.List.{append_assoc, append_cancel_left, drop_more, map-append, take-append-drop, take_at}
 use Rattle.clr_records.specs.Beginnings.{IsBegun}
 
 -- a front of what was to be added was added
@@ -62,3 +62,8 @@ begun_at f xs at x old mid new lt is before begun =
 pub last_begun : {A : Type 0} (done : Bool) (old more mid new front last : List A) → new ≡ (if done then mid ++ last else mid) → mid ≡ old ++ front → more ≡ front ++ last → IsBegun old more new
 last_begun true old more mid new front last is before parts = all_begun old more new (is ∙ ap (λ xs. xs ++ last) before ∙ append_assoc old front last ∙ ap (λ xs. old ++ xs) (sym parts))
 last_begun false old more mid new front last is before parts = some_begun old more new front last (is ∙ before) parts
+
+-- where what was to be added of the items before it was added, one for each, and then nothing
+pub begun_before_item : {X A : Type 0} (f : X → A) (xs : List X) (at : ℕ) (old mid new : List A) → mid ≡ old ++ map f (take at xs) → new ≡ mid → IsBegun old (map f xs) new
+begun_before_item f xs at old mid new before is =
+    some_begun old (map f xs) new (map f (take at xs)) (map f (drop at xs)) (is ∙ before) (ap (map f) (sym (take-append-drop at xs)) ∙ map-append f (take at xs) (drop at xs))
