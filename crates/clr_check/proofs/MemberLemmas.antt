@@ -6,9 +6,9 @@ use Rattle.std.specs.List.{AllByRecursion, IsDistinct, list_any}
 use Rattle.std.proofs.lemmas.Bool.{or_left, or_right}
 use Rattle.std.proofs.lemmas.List.{length-map}
 use Rattle.std.proofs.lemmas.Map.Made.{length-le_from_is_member}
-use Rattle.clr_layers.specs.Marks.{Name}
-use Rattle.clr_layers.specs.Workspaces.{Workspace, live_workspace}
-use Rattle.clr_tree.specs.Soundness.{IsSound}
+use Rattle.clr_workspaces.specs.Marks.{Name}
+use Rattle.clr_workspaces.specs.Workspaces.{Workspace, live_workspace}
+use Rattle.clr_workspaces.specs.Soundness.{IsSound}
 use Rattle.clr_foot.specs.declared.limits.TheConstants.{MOST_MEMBERS}
 use Rattle.clr_steps.specs.Names.{has, is_live, same_name}
 use Rattle.clr_steps.specs.Offices.{Office, find_name, workspace}

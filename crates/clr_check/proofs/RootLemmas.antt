@@ -3,7 +3,7 @@ use Rattle.std.proofs.Common.{◌≡◌, ℕ, Bool, true, false, cond, Option, S
 use Rattle.std.specs.Option.{IfSome, IsSome, is_some, option_copied}
 use Rattle.std.proofs.lemmas.Bool.{false≢true}
 use Rattle.clr_rows.specs.Contents.{Content}
-use Rattle.clr_layers.specs.Marks.{Name}
+use Rattle.clr_workspaces.specs.Marks.{Name}
 use Rattle.clr_grid.specs.RowMaps.{Rows}
 use Rattle.clr_grid.specs.Sharing.{IsSettledFor}
 use Rattle.clr_steps.specs.Offices.{Office, content_of, is_kept, stands}

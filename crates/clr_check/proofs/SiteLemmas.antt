@@ -10,9 +10,9 @@ use Rattle.clr_rows.specs.declared.rows.Row.{Row}
 use Rattle.clr_rows.specs.Contents.{Changes, change_of, conflicts, is_changed, least_and_count, no_changes, row_at}
 use Rattle.clr_rows.proofs.ChangeLemmas.{get-changes}
 use Rattle.clr_rules.specs.Books.{FitsCell, FitsContent}
-use Rattle.clr_layers.specs.Marks.{Name}
-use Rattle.clr_layers.specs.Workspaces.{Workspace}
-use Rattle.clr_tree.specs.Operations.{own_changes}
+use Rattle.clr_workspaces.specs.Marks.{Name}
+use Rattle.clr_workspaces.specs.Workspaces.{Workspace}
+use Rattle.clr_workspaces.specs.Operations.{own_changes}
 use Rattle.clr_foot.specs.declared.needs.VersionId.{VersionId}
 use Rattle.clr_foot.specs.Members.{after_in, after_of, positions}
 use Rattle.clr_foot.specs.Settings.{Lived, first_changer, held_row, new_version, old_version, version}

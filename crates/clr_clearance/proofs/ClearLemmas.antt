@@ -8,8 +8,8 @@ use Rattle.std.proofs.lemmas.List.FromFn.{length-range_with_len}
 use Rattle.std.proofs.lemmas.Option.{get_or_from_slice_get, slice_get-get_or, slice_get_within}
 use Rattle.clr_rows.specs.declared.cells.CellId.{CellId}
 use Rattle.clr_rows.specs.Contents.{least_and_count}
-use Rattle.clr_layers.specs.Marks.{Name}
-use Rattle.clr_layers.specs.Workspaces.{Workspace}
+use Rattle.clr_workspaces.specs.Marks.{Name}
+use Rattle.clr_workspaces.specs.Workspaces.{Workspace}
 use Rattle.clr_foot.specs.Covers.{Entry}
 use Rattle.clr_foot.specs.Members.{AreApart, after_of}
 use Rattle.clr_foot.specs.Positions.{after_member}

@@ -3,9 +3,9 @@ use Rattle.std.proofs.Common.{◌≡◌, Bool, true, false, ◌||◌, cond, List
 use Rattle.std.specs.Option.{option_map, option_map_or}
 use Rattle.std.proofs.lemmas.Bool.{false≢true}
 use Rattle.clr_rows.specs.Contents.{Content, changes, no_rows, taken_over}
-use Rattle.clr_layers.specs.Marks.{Mark, Name, mark_last, without_mark_of}
-use Rattle.clr_layers.specs.Workspaces.{Workspace}
-use Rattle.clr_tree.specs.Operations.{with_base_merged, refresh, with_current}
+use Rattle.clr_workspaces.specs.Marks.{Mark, Name, mark_last, without_mark_of}
+use Rattle.clr_workspaces.specs.Workspaces.{Workspace}
+use Rattle.clr_workspaces.specs.Operations.{with_base_merged, refresh, with_current}
 use Rattle.clr_steps.specs.Names.{same_name, is_live}
 use Rattle.clr_steps.specs.Offices.{Office, content_of, find_name, is_kept, modify, modify_marks, set_content, with_workspaces, without, workspace}
 use Rattle.clr_steps.specs.Effects.{after_merge, after_refresh, after_remove, merged_content}

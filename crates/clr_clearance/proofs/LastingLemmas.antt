@@ -8,9 +8,9 @@ use Rattle.clr_rows.specs.declared.cells.CellId.{CellId}
 use Rattle.clr_rows.specs.declared.rows.Row.{Row}
 use Rattle.clr_rows.specs.Contents.{conflicts, row_at}
 use Rattle.clr_rules.specs.Needs.{Holds}
-use Rattle.clr_layers.specs.Marks.{Name}
-use Rattle.clr_layers.specs.Workspaces.{Workspace}
-use Rattle.clr_tree.specs.Operations.{own_changes}
+use Rattle.clr_workspaces.specs.Marks.{Name}
+use Rattle.clr_workspaces.specs.Workspaces.{Workspace}
+use Rattle.clr_workspaces.specs.Operations.{own_changes}
 use Rattle.clr_foot.specs.Covers.{AreCovered, Entry}
 use Rattle.clr_foot.specs.Positions.{after_member, by_position}
 use Rattle.clr_foot.specs.Settings.{Setting, changer, has as has_by}

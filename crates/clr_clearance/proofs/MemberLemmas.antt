@@ -6,9 +6,9 @@ use Rattle.clr_rows.specs.declared.cells.CellId.{CellId}
 use Rattle.clr_rows.specs.declared.rows.Row.{Row}
 use Rattle.clr_rows.specs.Contents.{Content, change_at, is_changed, row_at, taken_over}
 use Rattle.clr_rows.proofs.ChangeLemmas.{row-merged}
-use Rattle.clr_layers.specs.Marks.{Name}
-use Rattle.clr_layers.specs.Workspaces.{Workspace}
-use Rattle.clr_tree.specs.Operations.{own_changes}
+use Rattle.clr_workspaces.specs.Marks.{Name}
+use Rattle.clr_workspaces.specs.Workspaces.{Workspace}
+use Rattle.clr_workspaces.specs.Operations.{own_changes}
 use Rattle.clr_foot.specs.Settings.{AreAmong, has as has_by}
 use Rattle.clr_foot.proofs.Merges.{taken_over as taken_cons}
 use Rattle.clr_steps.specs.Names.{same_name, has}

@@ -8,9 +8,9 @@ use Rattle.clr_rows.specs.declared.cells.CellId.{CellId}
 use Rattle.clr_rows.specs.Contents.{Content, conflicts, least_and_count, row_at}
 use Rattle.clr_rows.specs.Same.{same}
 use Rattle.clr_rules.specs.Needs.{Holds}
-use Rattle.clr_layers.specs.Marks.{Name}
-use Rattle.clr_layers.specs.Workspaces.{Workspace}
-use Rattle.clr_tree.specs.Operations.{own_changes}
+use Rattle.clr_workspaces.specs.Marks.{Name}
+use Rattle.clr_workspaces.specs.Workspaces.{Workspace}
+use Rattle.clr_workspaces.specs.Operations.{own_changes}
 use Rattle.clr_foot.specs.Covers.{AreBlockers, IsUncovered}
 use Rattle.clr_foot.proofs.BrokenLaws.{uncovered_breaks}
 use Rattle.clr_steps.specs.Readings.{conflicts_in}

@@ -8,9 +8,9 @@ use Rattle.clr_rows.specs.Contents.{is_changed, row_at, taken_over}
 use Rattle.clr_rows.specs.Same.{same}
 use Rattle.clr_rows.proofs.ChangeLemmas.{row-merged}
 use Rattle.clr_rows.proofs.SameLemmas.{same_is, same_itself}
-use Rattle.clr_layers.specs.Marks.{Name}
-use Rattle.clr_layers.specs.Workspaces.{Workspace}
-use Rattle.clr_tree.specs.Operations.{own_changes}
+use Rattle.clr_workspaces.specs.Marks.{Name}
+use Rattle.clr_workspaces.specs.Workspaces.{Workspace}
+use Rattle.clr_workspaces.specs.Operations.{own_changes}
 use Rattle.clr_foot.specs.declared.faults.SceneFault.TheVariants as scene
 use Rattle.clr_foot.specs.Members.{IsSceneFault}
 use Rattle.clr_foot.specs.Positions.{after_member}

@@ -9,9 +9,9 @@ use Rattle.clr_rows.specs.Contents.{Content, change_at, change_of, changes, conf
 use Rattle.clr_rows.specs.Same.{same}
 use Rattle.clr_rows.proofs.ChangeLemmas.{get-changes, untouched_from_none}
 use Rattle.clr_rows.proofs.SameLemmas.{same_itself}
-use Rattle.clr_layers.specs.Marks.{Name}
-use Rattle.clr_layers.specs.Workspaces.{Workspace}
-use Rattle.clr_tree.specs.Operations.{own_changes}
+use Rattle.clr_workspaces.specs.Marks.{Name}
+use Rattle.clr_workspaces.specs.Workspaces.{Workspace}
+use Rattle.clr_workspaces.specs.Operations.{own_changes}
 use Rattle.clr_foot.specs.Members.{after_in}
 use Rattle.clr_foot.specs.Settings.{Setting, AreDisjoint, AreAmong, changer, view_with, has as has_by}
 use Rattle.clr_foot.proofs.Merges.{IsMerge, taken_is, standing_row, root_is, taken_over as taken_cons}

@@ -8,9 +8,9 @@ use Rattle.std.proofs.lemmas.List.{length-map}
 use Rattle.std.proofs.lemmas.Option.{slice_get-map}
 use Rattle.clr_rows.specs.declared.cells.CellId.{CellId}
 use Rattle.clr_rows.specs.Contents.{conflicts, row_at}
-use Rattle.clr_layers.specs.Marks.{Name}
-use Rattle.clr_layers.specs.Workspaces.{Workspace}
-use Rattle.clr_tree.specs.Operations.{own_changes}
+use Rattle.clr_workspaces.specs.Marks.{Name}
+use Rattle.clr_workspaces.specs.Workspaces.{Workspace}
+use Rattle.clr_workspaces.specs.Operations.{own_changes}
 use Rattle.clr_foot.specs.Covers.{Entry}
 use Rattle.clr_foot.specs.Laws.{SayTheSame}
 use Rattle.clr_foot.specs.Members.{AreApart, after_at, after_of}

@@ -1,7 +1,7 @@
 -- Tests of names in an office without rows, computed from the definitions.
 use Rattle.std.specs.Prelude.{◌≡◌, false, List, [], ◌∷◌, Option, Some, None, codes}
 use Rattle.clr_rows.specs.Names.{live_name}
-use Rattle.clr_layers.specs.Marks.{Name}
+use Rattle.clr_workspaces.specs.Marks.{Name}
 use Rattle.clr_steps.specs.declared.commands.Command.TheVariants.{Create, Hold}
 use Rattle.clr_steps.specs.Offices.{Office}
 use Rattle.clr_steps.specs.Examples.{empty_office, first, second}

@@ -3,7 +3,7 @@ use Rattle.std.specs.Prelude.{◌≡◌, ℕ, Bool, true, List, None}
 use Rattle.clr_rows.specs.declared.cells.CellId.{CellId}
 use Rattle.clr_rows.specs.Contents.{row_at}
 use Rattle.clr_rules.specs.Needs.{View}
-use Rattle.clr_layers.specs.Marks.{Name}
+use Rattle.clr_workspaces.specs.Marks.{Name}
 use Rattle.clr_foot.specs.Covers.{Entry}
 use Rattle.clr_steps.specs.declared.commands.Command.{Command}
 use Rattle.clr_steps.specs.declared.commands.Reply.{Reply}

@@ -3,7 +3,7 @@ use Rattle.std.specs.Prelude.{◌≡◌, true, List, Some, None, if◌then◌els
 use Rattle.std.specs.Option.{option_map}
 use Rattle.clr_rows.specs.declared.cells.CellId.{CellId}
 use Rattle.clr_rows.specs.Contents.{change_at, row_at}
-use Rattle.clr_layers.specs.Marks.{Name}
+use Rattle.clr_workspaces.specs.Marks.{Name}
 use Rattle.clr_foot.specs.Settings.{AreAmong}
 use Rattle.clr_steps.specs.Names.{has}
 use Rattle.clr_steps.specs.Offices.{Office, workspace}

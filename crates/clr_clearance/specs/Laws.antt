@@ -1,8 +1,8 @@
 -- What covered sites promise, by definitions alone.
 use Rattle.std.specs.Prelude.{◌≡◌, ◌↔◌, ℕ, Bool, true, false, List, ◌∷◌, ◌++◌, Option, Some, length, take}
 use Rattle.clr_rows.specs.declared.cells.CellId.{CellId}
-use Rattle.clr_layers.specs.Marks.{Name}
-use Rattle.clr_layers.specs.Workspaces.{Workspace}
+use Rattle.clr_workspaces.specs.Marks.{Name}
+use Rattle.clr_workspaces.specs.Workspaces.{Workspace}
 use Rattle.clr_foot.specs.Covers.{Entry}
 use Rattle.clr_foot.specs.Laws.{SayTheSame}
 use Rattle.clr_foot.specs.Settings.{AreAmong}

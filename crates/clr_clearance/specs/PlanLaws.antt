@@ -1,6 +1,6 @@
 -- What a plan promises, by definitions alone.
 use Rattle.std.specs.Prelude.{◌≡◌, ℕ, Bool, true, false, List, None}
-use Rattle.clr_layers.specs.Marks.{Name}
+use Rattle.clr_workspaces.specs.Marks.{Name}
 use Rattle.clr_foot.specs.declared.needs.Need.{Need}
 use Rattle.clr_foot.specs.Covers.{Entry}
 use Rattle.clr_foot.specs.Needs.{IsTouched}

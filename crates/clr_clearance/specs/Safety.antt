@@ -3,8 +3,8 @@ use Rattle.std.specs.Prelude.{◌≡◌, ℕ, Bool, true, false, not, ◌&&◌, 
 use Rattle.clr_rows.specs.declared.cells.CellId.{CellId}
 use Rattle.clr_rows.specs.Contents.{Content, row_at}
 use Rattle.clr_rules.specs.Needs.{Holds}
-use Rattle.clr_layers.specs.Marks.{Name}
-use Rattle.clr_layers.specs.Workspaces.{Workspace}
+use Rattle.clr_workspaces.specs.Marks.{Name}
+use Rattle.clr_workspaces.specs.Workspaces.{Workspace}
 use Rattle.clr_steps.specs.declared.commands.Command.{Command}
 use Rattle.clr_steps.specs.declared.commands.Command.TheVariants as command
 use Rattle.clr_steps.specs.declared.commands.Reply.{Reply}

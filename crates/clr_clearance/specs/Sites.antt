@@ -6,7 +6,7 @@ use Rattle.clr_rows.specs.declared.cells.CellId.{CellId}
 use Rattle.clr_rows.specs.declared.rows.Row.{Row}
 use Rattle.clr_rows.specs.Contents.{Changes, Content, is_changed, row_at}
 use Rattle.clr_rules.specs.Needs.{Holds, View}
-use Rattle.clr_layers.specs.Marks.{Name}
+use Rattle.clr_workspaces.specs.Marks.{Name}
 use Rattle.clr_foot.specs.Covers.{AreCovered, Entry}
 use Rattle.clr_foot.specs.Members.{after_in, setting}
 use Rattle.clr_foot.specs.Positions.{AreDistinct}

@@ -4,7 +4,7 @@ use Rattle.std.specs.List.{range_with_len}
 use Rattle.std.specs.Option.{option_map, option_or}
 use Rattle.std.specs.declared.cmp.Ordering.TheVariants.{Less}
 use Rattle.clr_rows.specs.Contents.{least_and_count}
-use Rattle.clr_layers.specs.Marks.{Name}
+use Rattle.clr_workspaces.specs.Marks.{Name}
 use Rattle.clr_rows.specs.declared.cells.CellId.{CellId}
 use Rattle.clr_foot.specs.declared.faults.SceneFault.TheVariants as scene
 use Rattle.clr_foot.specs.declared.needs.Need.{Need}

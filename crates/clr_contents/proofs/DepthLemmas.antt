@@ -2,8 +2,8 @@
 use Rattle.std.proofs.Common.{◌≡◌, ℕ, suc, zero, ◌+◌, ◌<◌, ◌≤◌, ⊎_elim, List, [], ◌∷◌, ◌++◌, Some, length, refl, ap, sym, ◌∙◌, arith}
 use Rattle.std.proofs.Math.ListN.{get_or-append}
 use Rattle.clr_layers.proofs.FindLemmas.{find_more}
-use Rattle.clr_layers.specs.Workspaces.{Workspace, no_workspace, find, parent_of, one_above, depth_within, depth_of}
-use Rattle.clr_contents.specs.Roots.{IsRooted}
+use Rattle.clr_workspaces.specs.Workspaces.{Workspace, no_workspace, find, parent_of, one_above, depth_within, depth_of}
+use Rattle.clr_workspaces.specs.Roots.{IsRooted}
 use Rattle.clr_contents.proofs.RootLemmas.{no_parent, split}
 
 depth_next : (ws : List Workspace) (n at p : ℕ) → parent_of ws at ≡ Some p → depth_within ws (suc n) at ≡ depth_within ws n p + 1

@@ -10,12 +10,12 @@ use Rattle.clr_rows.specs.Contents.{Content, row_at}
 use Rattle.clr_differences.specs.Differences.{Differences, no_differences, seen_over, without_neutral, swept_at, is_among, IsOwnOver}
 use Rattle.clr_differences.proofs.DifferenceLemmas.{row-seen_over}
 use Rattle.clr_differences.proofs.SweepLemmas.{seen-swept, seen-swept_at, own_swept, own_made, own_stays}
-use Rattle.clr_layers.specs.Marks.{Saved, ChildMark}
-use Rattle.clr_layers.specs.Workspaces.{Workspace, workspace_at}
+use Rattle.clr_workspaces.specs.Marks.{Saved, ChildMark}
+use Rattle.clr_workspaces.specs.Workspaces.{Workspace, workspace_at}
 use Rattle.clr_layers.specs.Layers.{Layer, layer_at, whole_mark, wholes, AreOwnOver, IsUnder}
 use Rattle.clr_layers.specs.declared.stored_marks.StoredMark.{StoredMark}
 use Rattle.clr_layers.specs.declared.stored_marks.StoredMark.TheVariants as kinds
-use Rattle.clr_contents.specs.Roots.{IsRooted}
+use Rattle.clr_workspaces.specs.Roots.{IsRooted}
 use Rattle.clr_contents.specs.Lean.{content_of_parent, row_above, swept_marks, swept_marks_at, IsLeanAt, IsLeanBeside, IsLeanOver}
 use Rattle.clr_contents.proofs.ReadLemmas.{under_its_parent}
 use Rattle.clr_contents.proofs.SweepLemmas.{base_is}

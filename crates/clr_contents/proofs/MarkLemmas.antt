@@ -3,8 +3,8 @@ use Rattle.std.proofs.Common.{◌≡◌, ℕ, suc, zero, ◌<◌, true, List, []
 use Rattle.std.proofs.lemmas.List.{length-map}
 use Rattle.clr_rows.specs.Contents.{Content}
 use Rattle.clr_differences.specs.Differences.{seen_over}
-use Rattle.clr_layers.specs.Marks.{Mark, mark_at, is_saved, saved_content}
-use Rattle.clr_layers.specs.Workspaces.{workspace_at}
+use Rattle.clr_workspaces.specs.Marks.{Mark, mark_at, is_saved, saved_content}
+use Rattle.clr_workspaces.specs.Workspaces.{workspace_at}
 use Rattle.clr_layers.specs.Layers.{Layer, layer_at, whole_mark, wholes, stored_at, saved_differences}
 use Rattle.clr_layers.specs.declared.stored_marks.StoredMark.{StoredMark}
 use Rattle.clr_layers.specs.declared.stored_marks.StoredMark.TheVariants as stored

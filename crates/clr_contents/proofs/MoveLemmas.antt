@@ -2,12 +2,12 @@
 use Rattle.std.proofs.Common.{◌≡◌, ℕ, ◌<◌, List, length, refl, ap, sym, ◌∙◌, arith, slice_set, None, take}
 use Rattle.std.proofs.lemmas.List.{set-get_or}
 use Rattle.clr_rows.specs.Contents.{Content, row_at}
-use Rattle.clr_layers.specs.Workspaces.{Workspace, no_workspace, workspace_at, find}
+use Rattle.clr_workspaces.specs.Workspaces.{Workspace, no_workspace, workspace_at, find}
 use Rattle.clr_layers.specs.Layers.{Layer, layer_at, whole_of, wholes, content_by_name, above_at}
 use Rattle.clr_layers.proofs.FindLemmas.{first_is}
 use Rattle.clr_layers.proofs.Meaning.{name-wholes, wholes-at, named_later}
 use Rattle.clr_layers.proofs.Places.{moved, LaterAgree}
-use Rattle.clr_contents.specs.Roots.{IsRooted}
+use Rattle.clr_workspaces.specs.Roots.{IsRooted}
 use Rattle.clr_contents.proofs.ReadLemmas.{within_wholes}
 
 -- no earlier workspace has the name

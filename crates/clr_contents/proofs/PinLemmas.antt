@@ -9,14 +9,14 @@ use Rattle.clr_rows.specs.declared.rows.Row.{Row}
 use Rattle.clr_rows.specs.Contents.{Content, row_at, over}
 use Rattle.clr_differences.specs.Differences.{Differences, Rows, seen_over, put_each, cells_in, is_among, HasEntry, IsOwnOver}
 use Rattle.clr_differences.proofs.DifferenceLemmas.{neutral, neutral_new, entry_stays, entry_made, entries_keep, put_each_keeps, over_outside, not_among, put_elsewhere, put_each_elsewhere}
-use Rattle.clr_layers.specs.Marks.{Name, Mark}
-use Rattle.clr_layers.specs.Workspaces.{Workspace, workspace_at, parent_of}
+use Rattle.clr_workspaces.specs.Marks.{Name, Mark}
+use Rattle.clr_workspaces.specs.Workspaces.{Workspace, workspace_at, parent_of}
 use Rattle.clr_layers.specs.Layers.{Layer, no_layer, layer_at, layer_changed, whole_of, whole_mark, wholes, above_at, IsUnder, StayOwnBeside}
 use Rattle.clr_layers.specs.declared.stored_marks.StoredMark.{StoredMark}
 use Rattle.clr_layers.proofs.Meaning.{wholes-at}
 use Rattle.clr_layers.proofs.Places.{LaterAgree}
 use Rattle.clr_contents.specs.Pinning.{HasEntriesOf, Extends, ChildrenPin, StaysOwnAt, StayOwnBut, StayOwnButChildren}
-use Rattle.clr_contents.specs.Roots.{IsRooted}
+use Rattle.clr_workspaces.specs.Roots.{IsRooted}
 use Rattle.clr_contents.proofs.ReadLemmas.{above_parent, base_of_whole, current_of_whole}
 use Rattle.clr_contents.proofs.MoveLemmas.{stays}
 

@@ -8,12 +8,12 @@ use Rattle.clr_rows.specs.declared.rows.Row.{Row}
 use Rattle.clr_rows.specs.Contents.{Content, row_at, over}
 use Rattle.clr_differences.specs.Differences.{seen_over}
 use Rattle.clr_differences.proofs.DifferenceLemmas.{row-seen_over}
-use Rattle.clr_layers.specs.Workspaces.{Workspace, workspace_at, find, parent_of}
+use Rattle.clr_workspaces.specs.Workspaces.{Workspace, workspace_at, find, parent_of}
 use Rattle.clr_layers.specs.Layers.{Layer, layer_at, find_layer, whole_of, whole_mark, wholes, above_at, IsUnder}
 use Rattle.clr_layers.proofs.FindLemmas.{find_named}
 use Rattle.clr_layers.proofs.Meaning.{length-wholes, name-wholes, parent-wholes, find-wholes, wholes-at, named_found}
 use Rattle.clr_rows.specs.Contents.{no_rows}
-use Rattle.clr_contents.specs.Roots.{IsRooted}
+use Rattle.clr_workspaces.specs.Roots.{IsRooted}
 
 pub parent_here : (live : Content) (ls : List Layer) (at : ℕ) → parent_of (wholes live ls) at ≡ find_layer ls (layer_at ls at).parent
 parent_here live ls at = ap (find (wholes live ls)) (parent-wholes live ls at) ∙ find-wholes live ls (layer_at ls at).parent

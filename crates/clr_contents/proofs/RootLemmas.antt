@@ -3,9 +3,9 @@ use Rattle.std.proofs.Common.{◌≡◌, ℕ, suc, zero, ◌<◌, true, List, []
 use Rattle.std.specs.declared.option.Option.{Option}
 use Rattle.std.proofs.lemmas.Bool.{false≢true}
 use Rattle.clr_rows.specs.Names.{is_good_name}
-use Rattle.clr_layers.specs.Workspaces.{Workspace, workspace_at, find, parent_of}
+use Rattle.clr_workspaces.specs.Workspaces.{Workspace, workspace_at, find, parent_of}
 use Rattle.clr_layers.proofs.FindLemmas.{find_within, find_named}
-use Rattle.clr_contents.specs.Roots.{IsRooted}
+use Rattle.clr_workspaces.specs.Roots.{IsRooted}
 
 -- no workspace has the empty name, since each has a good one
 pub no_empty_name : (ws : List Workspace) → ((i : ℕ) → i < length ws → is_good_name (workspace_at ws i).name ≡ true) → find ws [] ≡ None

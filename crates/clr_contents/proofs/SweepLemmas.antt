@@ -9,13 +9,13 @@ use Rattle.clr_rows.specs.Contents.{Content, no_rows}
 use Rattle.clr_rows.specs.Names.{is_good_name}
 use Rattle.clr_differences.specs.Differences.{Differences, seen_over}
 use Rattle.clr_differences.proofs.SweepLemmas.{seen-swept}
-use Rattle.clr_layers.specs.Marks.{Name, Saved, ChildMark}
-use Rattle.clr_layers.specs.Workspaces.{Workspace, workspace_at, find, parent_of}
+use Rattle.clr_workspaces.specs.Marks.{Name, Saved, ChildMark}
+use Rattle.clr_workspaces.specs.Workspaces.{Workspace, workspace_at, find, parent_of}
 use Rattle.clr_layers.specs.Layers.{Layer, no_layer, layer_at, layer_changed, find_layer, whole_of, whole_mark, top, content_by_name, above_in, grow, wholes, above_at}
 use Rattle.clr_layers.specs.declared.stored_marks.StoredMark.{StoredMark}
 use Rattle.clr_layers.specs.declared.stored_marks.StoredMark.TheVariants as kinds
 use Rattle.clr_layers.proofs.Meaning.{length-wholes, name-wholes, parent-wholes, find-wholes, wholes-at}
-use Rattle.clr_contents.specs.Roots.{IsRooted}
+use Rattle.clr_workspaces.specs.Roots.{IsRooted}
 use Rattle.clr_contents.specs.Lean.{content_above, content_of_parent, swept_marks}
 use Rattle.clr_contents.proofs.PinLemmas.{whole_base, whole_current, whole_marks}
 use Rattle.clr_contents.proofs.MoveLemmas.{stays}

@@ -7,7 +7,7 @@ use Rattle.clr_rows.specs.Contents.{Content, no_rows, row_at}
 use Rattle.clr_differences.specs.Differences.{is_among, IsOwnOver}
 use Rattle.clr_layers.specs.Layers.{Layer, layer_at, wholes, swept_mark, swept_mark_at, AreOwnOver, IsUnder}
 use Rattle.clr_layers.specs.declared.stored_marks.StoredMark.{StoredMark}
-use Rattle.clr_layers.specs.Workspaces.{Workspace, workspace_at, parent_of}
+use Rattle.clr_workspaces.specs.Workspaces.{Workspace, workspace_at, parent_of}
 use Rattle.clr_contents.specs.Pinning.{StaysOwnAt}
 
 -- the current content of the parent

@@ -1,3 +1,2 @@
 pub mod Pinning
 pub mod Lean
-pub mod Roots

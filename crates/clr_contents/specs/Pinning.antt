@@ -6,7 +6,7 @@ use Rattle.clr_rows.specs.declared.rows.Row.{Row}
 use Rattle.clr_rows.specs.Contents.{Content, Changes, row_at}
 use Rattle.clr_change.specs.ChangeSets.{set_change}
 use Rattle.clr_differences.specs.Differences.{Rows, HasEntry, HasEntries, is_among, IsOwnOver}
-use Rattle.clr_layers.specs.Marks.{Name}
+use Rattle.clr_workspaces.specs.Marks.{Name}
 use Rattle.clr_layers.specs.Layers.{Layer, layer_at, IsUnder, AreOwnOver}
 
 -- a layer of the same name and parent with at least the entries of another

@@ -3,7 +3,7 @@ ghost use Rattle.std.specs.Str.{bytes_eq};
 ghost use Rattle.clr_differences.specs.Differences.{HasEntry, HasEntries};
 ghost use Rattle.clr_layers.specs.Layers.{layer_at, wholes, IsUnder, EachMarkPins};
 ghost use Rattle.clr_contents.specs.Pinning.{Extends, ChildrenPin, StayOwnBut, StayOwnButChildren};
-ghost use Rattle.clr_contents.specs.Roots.{IsRooted};
+ghost use Rattle.clr_workspaces.specs.Roots.{IsRooted};
 
 use crate::reads::{base_row_of, parent_of, row_of};
 use clr_change::copy_row;

@@ -2,8 +2,8 @@ ghost use Rattle.std.specs.Prelude.{◌≡◌, ◌<◌, length, Some};
 ghost use Rattle.std.specs.Option.{option_copied};
 ghost use Rattle.clr_rows.specs.Contents.{row_at};
 ghost use Rattle.clr_layers.specs.Layers.{wholes};
-ghost use Rattle.clr_layers.specs.Workspaces.{workspace_at, parent_of as position_of_parent, depth_of};
-ghost use Rattle.clr_contents.specs.Roots.{IsRooted};
+ghost use Rattle.clr_workspaces.specs.Workspaces.{workspace_at, parent_of as position_of_parent, depth_of};
+ghost use Rattle.clr_workspaces.specs.Roots.{IsRooted};
 
 use clr_layers::WorkspaceMap;
 use clr_rows::{CellId, Row, Sheet};

@@ -1,9 +1,9 @@
 ghost use Rattle.std.specs.Prelude.{◌≡◌, ◌<◌, ◌||◌, length, nat_eq};
 ghost use Rattle.std.specs.Str.{bytes_eq};
 ghost use Rattle.clr_layers.specs.Layers.{layer_at, layer_changed, wholes};
-ghost use Rattle.clr_layers.specs.Workspaces.{workspace_at};
+ghost use Rattle.clr_workspaces.specs.Workspaces.{workspace_at};
 ghost use Rattle.clr_differences.specs.Differences.{without_neutral, swept_at};
-ghost use Rattle.clr_contents.specs.Roots.{IsRooted};
+ghost use Rattle.clr_workspaces.specs.Roots.{IsRooted};
 ghost use Rattle.clr_contents.specs.Lean.{content_of_parent, swept_marks, swept_marks_at, IsLean, IsLeanBeside, IsLeanBut, IsLeanOver};
 
 use crate::reads::parent_of;

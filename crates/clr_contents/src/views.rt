@@ -1,7 +1,7 @@
 ghost use Rattle.std.specs.Prelude.{◌≡◌, ◌<◌, length};
 ghost use Rattle.clr_layers.specs.Layers.{wholes};
-ghost use Rattle.clr_layers.specs.Workspaces.{workspace_at};
-ghost use Rattle.clr_contents.specs.Roots.{IsRooted};
+ghost use Rattle.clr_workspaces.specs.Workspaces.{workspace_at};
+ghost use Rattle.clr_workspaces.specs.Roots.{IsRooted};
 
 use crate::reads::{base_row_of, row_of};
 use clr_layers::WorkspaceMap;
@@ -20,8 +20,8 @@ impl<'a> Model for View<'a> {
     ghost use Rattle.std.specs.Prelude.{◌<◌, length};
     ghost use Rattle.clr_rows.specs.Contents.{Content, coded_content};
     ghost use Rattle.clr_layers.specs.Layers.{wholes};
-    ghost use Rattle.clr_layers.specs.Workspaces.{workspace_at};
-    ghost use Rattle.clr_contents.specs.Roots.{IsRooted};
+    ghost use Rattle.clr_workspaces.specs.Workspaces.{workspace_at};
+    ghost use Rattle.clr_workspaces.specs.Roots.{IsRooted};
 
     ghost Value = { Content };
 
@@ -63,8 +63,8 @@ impl<'a> Model for BaseView<'a> {
     ghost use Rattle.std.specs.Prelude.{◌<◌, length};
     ghost use Rattle.clr_rows.specs.Contents.{Content, coded_content};
     ghost use Rattle.clr_layers.specs.Layers.{wholes};
-    ghost use Rattle.clr_layers.specs.Workspaces.{workspace_at};
-    ghost use Rattle.clr_contents.specs.Roots.{IsRooted};
+    ghost use Rattle.clr_workspaces.specs.Workspaces.{workspace_at};
+    ghost use Rattle.clr_workspaces.specs.Roots.{IsRooted};
 
     ghost Value = { Content };
 

@@ -2,10 +2,10 @@ ghost use Rattle.std.specs.Prelude.{◌≡◌, ◌<◌, true, length, IfOk};
 ghost use Rattle.clr_rows.specs.Contents.{changes, no_changes};
 ghost use Rattle.clr_differences.specs.Differences.{cells_in};
 ghost use Rattle.clr_layers.specs.Layers.{layer_at, stored_at, saved_differences, wholes};
-ghost use Rattle.clr_layers.specs.Marks.{is_saved, mark_at, saved_content};
-ghost use Rattle.clr_layers.specs.Workspaces.{workspace_at};
+ghost use Rattle.clr_workspaces.specs.Marks.{is_saved, mark_at, saved_content};
+ghost use Rattle.clr_workspaces.specs.Workspaces.{workspace_at};
 ghost use Rattle.clr_contents.specs.Pinning.{set_each};
-ghost use Rattle.clr_contents.specs.Roots.{IsRooted};
+ghost use Rattle.clr_workspaces.specs.Roots.{IsRooted};
 
 use crate::reads::{base_row_of, parent_of};
 use clr_change::ChangeSet;

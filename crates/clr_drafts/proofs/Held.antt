@@ -7,8 +7,8 @@ use Rattle.clr_rows.specs.Contents.{row_at}
 use Rattle.clr_rules.specs.declared.needs.Broken.{Broken}
 use Rattle.clr_rules.specs.declared.rules.Rule.{Rule}
 use Rattle.clr_rules.specs.Needs.{Holds}
-use Rattle.clr_layers.specs.Marks.{Name}
-use Rattle.clr_layers.specs.Workspaces.{Workspace}
+use Rattle.clr_workspaces.specs.Marks.{Name}
+use Rattle.clr_workspaces.specs.Workspaces.{Workspace}
 use Rattle.clr_steps.specs.Invariants.{unheld_from}
 use Rattle.clr_steps.specs.Names.{is_live, same_name}
 use Rattle.clr_steps.specs.Offices.{Office, content_of, current_of, find_name, is_kept, workspace}

@@ -5,10 +5,10 @@ use Rattle.std.proofs.lemmas.List.{length-take-le}
 use Rattle.std.proofs.lemmas.Option.{none-some}
 use Rattle.clr_rows.specs.Contents.{Content}
 use Rattle.clr_layers.specs.Layers.{Layer, grow, above_in, whole_of, workspaces_over}
-use Rattle.clr_layers.specs.Workspaces.{Workspace, live_workspace, workspace_at}
+use Rattle.clr_workspaces.specs.Workspaces.{Workspace, live_workspace, workspace_at}
 use Rattle.clr_layers.proofs.Meaning.{length-grow}
 use Rattle.clr_tree.specs.Parts.{IsRefused, first_below, name_fault_at, workspaces_fault}
-use Rattle.clr_tree.specs.declared.limits.TheConstants.{MOST_WORKSPACES}
+use Rattle.clr_workspaces.specs.declared.limits.TheConstants.{MOST_WORKSPACES}
 use Rattle.clr_tree.specs.declared.parts.PartFault.{PartFault}
 use Rattle.clr_tree.specs.declared.parts.PartFault.TheVariants as part
 use Rattle.clr_tree.proofs.FaultLemmas.{none_at, placed_from}

@@ -13,8 +13,8 @@ use Rattle.clr_rows.proofs.FitLemmas.{none_fit}
 use Rattle.clr_differences.specs.Differences.{Differences, seen_over}
 use Rattle.clr_differences.proofs.DifferenceLemmas.{row-seen_over}
 use Rattle.clr_layers.specs.Layers.{Layer, grow, content_by_name, whole_mark, whole_of, workspaces_over}
-use Rattle.clr_layers.specs.Marks.{Name, mark_at, saved_content}
-use Rattle.clr_layers.specs.Workspaces.{Workspace, live_workspace, workspace_at}
+use Rattle.clr_workspaces.specs.Marks.{Name, mark_at, saved_content}
+use Rattle.clr_workspaces.specs.Workspaces.{Workspace, live_workspace, workspace_at}
 use Rattle.clr_layers.specs.declared.stored_marks.StoredMark.{StoredMark}
 use Rattle.clr_layers.specs.declared.stored_marks.StoredMark.TheVariants as stored
 use Rattle.clr_steps.specs.Invariants.{WorkspaceFits}

@@ -1,5 +1,5 @@
 ghost use Rattle.std.specs.Prelude.{◌≡◌, ◌∷◌, IfOk};
-ghost use Rattle.clr_layers.specs.Workspaces.{live_workspace};
+ghost use Rattle.clr_workspaces.specs.Workspaces.{live_workspace};
 ghost use Rattle.clr_tree.specs.Parts.{spaces_of};
 ghost use Rattle.clr_steps.specs.Offices.{office_of};
 ghost use Rattle.clr_engine.specs.Drafts.{IsFitting};

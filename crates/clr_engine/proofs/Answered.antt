@@ -7,7 +7,7 @@ use Rattle.clr_rows.specs.Contents.{Content}
 use Rattle.clr_change.specs.declared.edits.EditFault.{EditFault}
 use Rattle.clr_rules.specs.declared.needs.Broken.{Broken}
 use Rattle.clr_rules.specs.declared.rules.Rule.{Rule}
-use Rattle.clr_layers.specs.Workspaces.{Workspace}
+use Rattle.clr_workspaces.specs.Workspaces.{Workspace}
 use Rattle.clr_steps.specs.declared.commands.Reply.{Reply}
 use Rattle.clr_steps.specs.declared.commands.Reply.TheVariants.{Done, OutOfMemory, RuleBroken}
 use Rattle.clr_steps.specs.Laws.{IsPerformed, without_memory, done}

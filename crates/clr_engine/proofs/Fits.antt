@@ -6,13 +6,13 @@ use Rattle.clr_rows.specs.Contents.{Content, Changes, taken_over}
 use Rattle.clr_rows.specs.Schemas.{FitsSchema}
 use Rattle.clr_rules.specs.Books.{FitsBook, FitsContent}
 use Rattle.clr_rules.specs.declared.rules.Rule.{Rule}
-use Rattle.clr_layers.specs.Marks.{saved_content, mark_at}
-use Rattle.clr_layers.specs.Workspaces.{Workspace, no_workspace, workspace_at}
+use Rattle.clr_workspaces.specs.Marks.{saved_content, mark_at}
+use Rattle.clr_workspaces.specs.Workspaces.{Workspace, no_workspace, workspace_at}
 use Rattle.clr_change.specs.declared.edits.Edit.{Edit}
 use Rattle.clr_change.specs.Edits.{after_edits, first_bad_edit}
 use Rattle.clr_change.proofs.EditLemmas.{all_edited_fits}
-use Rattle.clr_tree.specs.Operations.{keep_row, own_changes}
-use Rattle.clr_tree.specs.declared.rebases.Keep.{Keep}
+use Rattle.clr_workspaces.specs.Operations.{keep_row, own_changes}
+use Rattle.clr_workspaces.specs.declared.rebases.Keep.{Keep}
 use Rattle.clr_steps.specs.Invariants.{OfficeFits, WorkspaceFits}
 use Rattle.clr_steps.specs.Offices.{office_of}
 use Rattle.clr_steps.proofs.FitLemmas.{keep_row_fits, none_fits, taken_fits}

@@ -6,14 +6,14 @@ use Rattle.std.proofs.Math.ListN.{get_or-map}
 use Rattle.std.proofs.Math.Seq.{map-set_same}
 use Rattle.clr_rows.specs.declared.cells.CellId.{CellId}
 use Rattle.clr_rows.specs.Contents.{Content, Changes, taken_over}
-use Rattle.clr_layers.specs.Marks.{Mark, Name, mark_last, without_mark_of}
-use Rattle.clr_layers.specs.Workspaces.{Workspace, no_workspace, parent_of, workspace_at}
+use Rattle.clr_workspaces.specs.Marks.{Mark, Name, mark_last, without_mark_of}
+use Rattle.clr_workspaces.specs.Workspaces.{Workspace, no_workspace, parent_of, workspace_at}
 use Rattle.clr_tree.proofs.RootLemmas.{later_stays}
-use Rattle.clr_tree.specs.Operations.{after_create, after_refresh, after_remove, after_remove_under, after_rebase, after_rebase_under, after_resolve, after_write, at_position, change_at, change_marks, keep_row, new_leaf, own_changes, with_base_merged, refresh, with_current, with_mark_of, with_marks}
-use Rattle.clr_tree.specs.declared.rebases.Keep.{Keep}
-use Rattle.clr_tree.specs.declared.rebases.Keep.TheVariants as keeps
-use Rattle.clr_tree.specs.declared.rebases.Rebase.{Rebase}
-use Rattle.clr_tree.specs.declared.rebases.Rebase.TheVariants as ways
+use Rattle.clr_workspaces.specs.Operations.{after_create, after_refresh, after_remove, after_remove_under, after_rebase, after_rebase_under, after_resolve, after_write, at_position, change_at, change_marks, keep_row, new_leaf, own_changes, with_base_merged, refresh, with_current, with_mark_of, with_marks}
+use Rattle.clr_workspaces.specs.declared.rebases.Keep.{Keep}
+use Rattle.clr_workspaces.specs.declared.rebases.Keep.TheVariants as keeps
+use Rattle.clr_workspaces.specs.declared.rebases.Rebase.{Rebase}
+use Rattle.clr_workspaces.specs.declared.rebases.Rebase.TheVariants as ways
 use Rattle.clr_steps.specs.Positions.{merge_at}
 use Rattle.clr_engine.specs.Finders.{kept_content, kept_contents}
 

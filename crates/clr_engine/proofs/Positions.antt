@@ -1,11 +1,11 @@
 -- What is found at the position of a name, or of a savepoint.
 use Rattle.std.proofs.Common.{◌≡◌, ℕ, zero, suc, ◌<◌, true, List, [], Option, Some, None, refl, ap, ◌∙◌, arith}
 use Rattle.std.specs.Str.{bytes_eq}
-use Rattle.clr_layers.specs.Marks.{Name, Mark, Saved, ChildMark, is_saved, is_saved_as, find_mark, mark_at}
-use Rattle.clr_layers.specs.Workspaces.{Workspace, children_of, no_workspace, parent_of, workspace_at}
+use Rattle.clr_workspaces.specs.Marks.{Name, Mark, Saved, ChildMark, is_saved, is_saved_as, find_mark, mark_at}
+use Rattle.clr_workspaces.specs.Workspaces.{Workspace, children_of, no_workspace, parent_of, workspace_at}
 use Rattle.clr_rows.specs.Contents.{taken_over}
-use Rattle.clr_tree.specs.Operations.{after_rebase, after_rebase_under, at_position, change_at, own_changes, with_base_merged, with_current}
-use Rattle.clr_tree.specs.declared.rebases.Rebase.TheVariants as ways
+use Rattle.clr_workspaces.specs.Operations.{after_rebase, after_rebase_under, at_position, change_at, own_changes, with_base_merged, with_current}
+use Rattle.clr_workspaces.specs.declared.rebases.Rebase.TheVariants as ways
 use Rattle.clr_tree.proofs.CountLemmas.{count-set}
 use Rattle.clr_tree.proofs.RootLemmas.{stays_at}
 use Rattle.clr_steps.specs.declared.commands.Reply.{Reply}

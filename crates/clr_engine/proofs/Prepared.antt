@@ -9,7 +9,7 @@ use Rattle.clr_rows.specs.Contents.{Content, Changes, changes, taken_over}
 use Rattle.clr_rows.proofs.ChangeLemmas.{taken_over-own}
 use Rattle.clr_rules.specs.declared.rules.Rule.{Rule}
 use Rattle.clr_grid.specs.RowMaps.{Rows}
-use Rattle.clr_layers.specs.Workspaces.{Workspace, workspace_at}
+use Rattle.clr_workspaces.specs.Workspaces.{Workspace, workspace_at}
 use Rattle.clr_engine.specs.Finders.{AreFinders, HasForgotten, HasNoted, HasSettled, IsChangedAt, IsFinderAt, IsPrepared, kept_content, kept_contents}
 use Rattle.clr_engine.proofs.Indexes.{all_forgotten, all_settled, as_many, finder_at, once_changed, one_at}
 use Rattle.clr_engine.proofs.Kept.{content_at, with_content}

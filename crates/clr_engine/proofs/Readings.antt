@@ -12,10 +12,10 @@ use Rattle.clr_rows.specs.Contents.{Content, changes, conflicts, no_changes, row
 use Rattle.clr_rules.specs.declared.rules.Rule.{Rule}
 use Rattle.clr_layers.proofs.FindLemmas.{find_named}
 use Rattle.clr_layers.specs.Differing.{layer_from}
-use Rattle.clr_layers.specs.Marks.{Name}
-use Rattle.clr_layers.specs.Workspaces.{Workspace, find, no_workspace, parent_of, workspace_at}
-use Rattle.clr_tree.specs.Operations.{own_changes}
-use Rattle.clr_tree.specs.Soundness.{IsSound}
+use Rattle.clr_workspaces.specs.Marks.{Name}
+use Rattle.clr_workspaces.specs.Workspaces.{Workspace, find, no_workspace, parent_of, workspace_at}
+use Rattle.clr_workspaces.specs.Operations.{own_changes}
+use Rattle.clr_workspaces.specs.Soundness.{IsSound}
 use Rattle.clr_tree.specs.Trees.{change_count, content_above, needed, needed_layer}
 use Rattle.clr_steps.specs.Laws.{IsSeen}
 use Rattle.clr_steps.specs.Offices.{Office, content_of, is_kept, office_of, workspace}

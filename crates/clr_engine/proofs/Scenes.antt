@@ -22,7 +22,7 @@ use Rattle.clr_foot.specs.declared.needs.VersionId.{VersionId}
 use Rattle.clr_foot.specs.Members.{after_in, after_of, setting}
 use Rattle.clr_foot.specs.Settings.{Lived, changer, held_row, new_row, new_version, old_version, version}
 use Rattle.clr_foot.specs.Versions.{FitsSetting}
-use Rattle.clr_layers.specs.Workspaces.{Workspace}
+use Rattle.clr_workspaces.specs.Workspaces.{Workspace}
 use Rattle.clr_engine.specs.Finders.{IsFinderAt, IsFinderOf, kept_content}
 use Rattle.clr_engine.specs.Trees.{FitBoth}
 

@@ -12,10 +12,10 @@ use Rattle.clr_rows.specs.Names.{live_name}
 use Rattle.clr_rules.specs.Needs.{Holds}
 use Rattle.clr_rules.specs.declared.rules.Rule.{Rule}
 use Rattle.clr_grid.specs.RowMaps.{Rows}
-use Rattle.clr_layers.specs.Marks.{Mark, Name, find_mark}
-use Rattle.clr_layers.specs.Workspaces.{Workspace, find, no_workspace, workspace_at}
-use Rattle.clr_tree.specs.Operations.{after_create, after_mark, after_remove, after_unmark, at_position, save, set_kept, with_kept, with_marks}
-use Rattle.clr_tree.specs.Soundness.{IsSound}
+use Rattle.clr_workspaces.specs.Marks.{Mark, Name, find_mark}
+use Rattle.clr_workspaces.specs.Workspaces.{Workspace, find, no_workspace, workspace_at}
+use Rattle.clr_workspaces.specs.Operations.{after_create, after_mark, after_remove, after_unmark, at_position, save, set_kept, with_kept, with_marks}
+use Rattle.clr_workspaces.specs.Soundness.{IsSound}
 use Rattle.clr_steps.specs.Laws.{IsPerformed, without_memory, refused, done}
 use Rattle.clr_steps.specs.Offices.{Office, below_live, content_of, is_kept, office_of}
 use Rattle.clr_steps.specs.Positions.{at_savepoint}

@@ -6,8 +6,8 @@ use Rattle.clr_rows.specs.Contents.{Content}
 use Rattle.clr_rows.specs.declared.tables.TableDef.{TableDef}
 use Rattle.clr_rules.specs.declared.needs.Broken.{Broken}
 use Rattle.clr_rules.specs.declared.rules.Rule.{Rule}
-use Rattle.clr_layers.specs.Workspaces.{Workspace, no_workspace, workspace_at}
-use Rattle.clr_tree.specs.Soundness.{IsSound}
+use Rattle.clr_workspaces.specs.Workspaces.{Workspace, no_workspace, workspace_at}
+use Rattle.clr_workspaces.specs.Soundness.{IsSound}
 use Rattle.clr_steps.specs.declared.commands.Reply.{Reply}
 use Rattle.clr_steps.specs.declared.commands.Reply.TheVariants.{RuleBroken}
 use Rattle.clr_steps.specs.Invariants.{first_unheld, unheld_from}

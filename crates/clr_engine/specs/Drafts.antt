@@ -5,7 +5,7 @@ use Rattle.clr_rows.specs.Contents.{Content}
 use Rattle.clr_rows.specs.declared.tables.TableDef.{TableDef}
 use Rattle.clr_layers.specs.Differing.{layer_from}
 use Rattle.clr_layers.specs.Layers.{Layer}
-use Rattle.clr_layers.specs.Workspaces.{Workspace}
+use Rattle.clr_workspaces.specs.Workspaces.{Workspace}
 use Rattle.clr_tree.specs.Parts.{workspace_of}
 use Rattle.clr_tree.specs.declared.parts.Part.{Part}
 use Rattle.clr_rules.specs.declared.rules.Rule.{Rule}

@@ -7,11 +7,11 @@ use Rattle.clr_rules.specs.Books.{FitsBook}
 use Rattle.clr_rules.specs.Needs.{Holds}
 use Rattle.clr_rules.specs.declared.rules.Rule.{Rule}
 use Rattle.clr_grid.specs.RowMaps.{Rows}
-use Rattle.clr_tree.specs.Soundness.{IsSound}
+use Rattle.clr_workspaces.specs.Soundness.{IsSound}
 use Rattle.clr_tree.specs.Trees.{Tree, needed, needed_layer, stored_at}
 use Rattle.clr_layers.specs.Layers.{layer_at}
-use Rattle.clr_layers.specs.Marks.{Name}
-use Rattle.clr_layers.specs.Workspaces.{Workspace, workspace_at}
+use Rattle.clr_workspaces.specs.Marks.{Name}
+use Rattle.clr_workspaces.specs.Workspaces.{Workspace, workspace_at}
 use Rattle.clr_steps.specs.declared.commands.Command.{Command}
 use Rattle.clr_steps.specs.declared.commands.Reply.{Reply}
 use Rattle.clr_engine.specs.Drafts.{IsFitting}

@@ -18,7 +18,7 @@
 //!   fitting and holding [`admitted`].
 //! - `schema`, `book`, `live`, `len`, `name_at`, `parent_of`, `kept`, `read`, `rows`, `changes`,
 //!   `conflicts` and `part` show it exactly; all up to `read` take no memory. `len` [`sound`] tells
-//!   what is so of its workspaces (`clr_tree: Soundness`).
+//!   what is so of its workspaces (`clr_workspaces: Soundness`).
 //! - `find`, `view` and `finder`, without memory: a workspace's position, its current content by
 //!   cell, and the finder of just its rows, which there is exactly where it is kept. `stored`: of
 //!   each workspace just as many entries are stored as cells of its base aren't as its parent's

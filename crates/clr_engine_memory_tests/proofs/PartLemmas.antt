@@ -6,8 +6,8 @@ use Rattle.clr_rows.specs.Schemas.{FitsSchema}
 use Rattle.clr_rows.specs.declared.tables.TableDef.{TableDef}
 use Rattle.clr_rules.specs.Books.{FitsBook}
 use Rattle.clr_rules.specs.declared.rules.Rule.{Rule}
-use Rattle.clr_layers.specs.Marks.{mark_at, saved_content}
-use Rattle.clr_layers.specs.Workspaces.{workspace_at}
+use Rattle.clr_workspaces.specs.Marks.{mark_at, saved_content}
+use Rattle.clr_workspaces.specs.Workspaces.{workspace_at}
 use Rattle.clr_tree.specs.Parts.{marks_of, workspace_of}
 use Rattle.clr_tree.specs.declared.parts.MarkPart.{MarkPart}
 use Rattle.clr_tree.specs.declared.parts.Part.{Part}

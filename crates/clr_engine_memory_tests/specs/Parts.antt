@@ -2,7 +2,7 @@
 use Rattle.std.specs.Prelude.{◌≡◌}
 use Rattle.std.specs.List.{AllByRecursion}
 use Rattle.clr_rows.specs.Contents.{no_rows}
-use Rattle.clr_layers.specs.Marks.{saved_content}
+use Rattle.clr_workspaces.specs.Marks.{saved_content}
 use Rattle.clr_tree.specs.Parts.{mark_of}
 use Rattle.clr_tree.specs.declared.parts.MarkPart.{MarkPart}
 use Rattle.clr_tree.specs.declared.parts.Part.{Part}

@@ -8,7 +8,7 @@ use Rattle.std.specs.Map.{keys_of, values_of}
 use Rattle.std.proofs.lemmas.List.{map-append}
 use Rattle.indexmap.proofs.MapLemmas.{insert_entry-absent, Missing-position}
 use Rattle.indexmap.specs.IndexMap.{insert_entry, set_value_at}
-use Rattle.clr_layers.specs.Marks.{Name}
+use Rattle.clr_workspaces.specs.Marks.{Name}
 use Rattle.clr_layers.specs.Layers.{Layer, layer_at, layer_changed, find_layer}
 use Rattle.clr_layers.specs.Entries.{layer_of, layers_of}
 use Rattle.clr_layers.specs.declared.workspace_maps.Layer.{Layer as Parts}

@@ -10,8 +10,8 @@ use Rattle.std.specs.Cmp.Lexicographic.{bytes_decides}
 use Rattle.std.proofs.lemmas.Bool.{false≢true, ltb-true}
 use Rattle.clr_rows.specs.Contents.{Content}
 use Rattle.std.proofs.lemmas.Option.{same_Some}
-use Rattle.clr_layers.specs.Marks.{Name}
-use Rattle.clr_layers.specs.Workspaces.{Workspace, no_workspace, workspace_at, find}
+use Rattle.clr_workspaces.specs.Marks.{Name}
+use Rattle.clr_workspaces.specs.Workspaces.{Workspace, no_workspace, workspace_at, find}
 use Rattle.clr_layers.specs.Layers.{Layer, no_layer, layer_at, find_layer, whole_of, top, content_by_name, above_in, grow, wholes, above_at}
 
 -- lengths, names and parents -------------------------------------------------------------------

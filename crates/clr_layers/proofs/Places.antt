@@ -8,8 +8,8 @@ use Rattle.std.specs.Cmp.Lexicographic.{bytes_decides}
 use Rattle.clr_rows.specs.Contents.{Content, no_rows, row_at}
 use Rattle.clr_differences.specs.Differences.{seen_over}
 use Rattle.clr_differences.proofs.DifferenceLemmas.{AgreeOutside, hidden}
-use Rattle.clr_layers.specs.Marks.{Name}
-use Rattle.clr_layers.specs.Workspaces.{Workspace}
+use Rattle.clr_workspaces.specs.Marks.{Name}
+use Rattle.clr_workspaces.specs.Workspaces.{Workspace}
 use Rattle.clr_layers.specs.Layers.{Layer, layer_at, whole_of, top, content_by_name, above_in, grow, wholes, whole_mark, above_at, IsUnder}
 use Rattle.clr_layers.proofs.Meaning.{name-whole, named-append, differ_back, not_from}
 

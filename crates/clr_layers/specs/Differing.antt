@@ -3,8 +3,8 @@ use Rattle.std.specs.Prelude.{map}
 use Rattle.clr_rows.specs.Contents.{Content}
 use Rattle.clr_differences.specs.Differences.{differences_from}
 use Rattle.clr_layers.specs.Layers.{Layer}
-use Rattle.clr_layers.specs.Marks.{Mark, Saved, ChildMark}
-use Rattle.clr_layers.specs.Workspaces.{Workspace}
+use Rattle.clr_workspaces.specs.Marks.{Mark, Saved, ChildMark}
+use Rattle.clr_workspaces.specs.Workspaces.{Workspace}
 use Rattle.clr_layers.specs.declared.stored_marks.StoredMark.{StoredMark}
 use Rattle.clr_layers.specs.declared.stored_marks.StoredMark.TheVariants as stored
 

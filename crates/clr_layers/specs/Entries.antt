@@ -2,7 +2,7 @@
 use Rattle.std.specs.Prelude.{List, map, String, string_bytes}
 use Rattle.std.specs.declared.alloc.Global.{Global}
 use Rattle.clr_layers.specs.Layers.{Layer}
-use Rattle.clr_layers.specs.Marks.{Name}
+use Rattle.clr_workspaces.specs.Marks.{Name}
 use Rattle.clr_layers.specs.declared.stored_parts.StoredPart.{StoredPart}
 use Rattle.clr_layers.specs.declared.workspace_maps.Layer.{Layer as Parts}
 

@@ -10,8 +10,8 @@ use Rattle.clr_rows.specs.declared.rows.Row.{Row}
 use Rattle.clr_rows.specs.Contents.{Content, no_rows}
 use Rattle.clr_differences.specs.Differences.{Differences, Rows, HasEntry, IsOwnOver, coded_differences, is_among, no_differences, put_each, seen_over}
 use Rattle.clr_differences.specs.Differences.{without_neutral, swept_at}
-use Rattle.clr_layers.specs.Marks.{Name, Mark, Saved, ChildMark, coded_name}
-use Rattle.clr_layers.specs.Workspaces.{Workspace, live_workspace}
+use Rattle.clr_workspaces.specs.Marks.{Name, Mark, Saved, ChildMark, coded_name}
+use Rattle.clr_workspaces.specs.Workspaces.{Workspace, live_workspace}
 use Rattle.clr_layers.specs.declared.stored_marks.StoredMark.{StoredMark}
 use Rattle.clr_layers.specs.declared.stored_marks.StoredMark.TheVariants as stored
 

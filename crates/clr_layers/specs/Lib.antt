@@ -1,5 +1,3 @@
 pub mod Differing
 pub mod Entries
 pub mod Layers
-pub mod Marks
-pub mod Workspaces

@@ -1,7 +1,7 @@
 -- What is made of what two texts give: of why they don't give both, and of an office with a certificate.
 use Rattle.std.proofs.Common.{◌≡◌, ℕ, Bool, not, ◌||◌, List, Option, Result, Ok, Err, is_some, length, take, refl, sym, subst, ◌∙◌}
 use Rattle.std.specs.List.{list_any}
-use Rattle.clr_layers.specs.Marks.{Name}
+use Rattle.clr_workspaces.specs.Marks.{Name}
 use Rattle.clr_steps.specs.declared.commands.Command.{Command}
 use Rattle.clr_steps.specs.declared.commands.Reply.{Reply}
 use Rattle.clr_steps.specs.Offices.{Office}

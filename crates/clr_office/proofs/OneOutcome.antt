@@ -9,7 +9,7 @@ use Rattle.clr_rules.proofs.Elements.{Among, contained}
 use Rattle.clr_foot.specs.Independence.{IsIndependence}
 use Rattle.clr_foot.specs.Members.{AreApart}
 use Rattle.clr_foot.specs.Settings.{Setting}
-use Rattle.clr_layers.specs.Marks.{Name}
+use Rattle.clr_workspaces.specs.Marks.{Name}
 use Rattle.clr_steps.specs.declared.commands.Command.{Command}
 use Rattle.clr_steps.specs.Offices.{Office}
 use Rattle.clr_steps.specs.Quiet.{Site}

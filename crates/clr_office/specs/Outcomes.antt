@@ -4,7 +4,7 @@ use Rattle.std.specs.Prelude.{⊤, codes, drop, if◌then◌else◌, length, nat
 use Rattle.std.specs.List.{list_any}
 use Rattle.clr_rows.specs.Names.{live_name}
 use Rattle.clr_rules.specs.Needs.{broken_needs}
-use Rattle.clr_layers.specs.Marks.{Name}
+use Rattle.clr_workspaces.specs.Marks.{Name}
 use Rattle.clr_steps.specs.declared.commands.Command.{Command}
 use Rattle.clr_steps.specs.declared.commands.Reply.{Reply}
 use Rattle.clr_steps.specs.declared.commands.Reply.TheVariants.{Done, NoWorkspace}

@@ -1,7 +1,7 @@
 -- What is printed for an office text and a script, and the exit status.
 use Rattle.std.specs.Prelude.{◌≡◌, ℕ, zero, suc, Bool, true, false, List, Option, Some, None, Result, Ok, Err, if◌then◌else◌}
 use Rattle.clr_rules.specs.declared.needs.Broken.{Broken}
-use Rattle.clr_layers.specs.Marks.{Name}
+use Rattle.clr_workspaces.specs.Marks.{Name}
 use Rattle.clr_steps.specs.Offices.{Office}
 use Rattle.clr_steps.specs.Readings.{name_at}
 use Rattle.clr_engine.specs.Drafts.{unheld_in}

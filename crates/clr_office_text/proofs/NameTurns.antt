@@ -10,7 +10,7 @@ use Rattle.std.proofs.lemmas.Map.Text.{btree_set_updates_text}
 use Rattle.std.specs.Cmp.Lexicographic.{bytes_decides, slice_cmp}
 use Rattle.std.specs.Ordering.{is_eq, nat_cmp}
 use Rattle.clr_layers.specs.Layers.{Layer}
-use Rattle.clr_layers.specs.Marks.{Name}
+use Rattle.clr_workspaces.specs.Marks.{Name}
 use Rattle.clr_office_text.specs.Workspaces.{HasNames}
 
 pub none_read : (names : BTreeSet (String Global)) → IsEmpty names → HasNames names []

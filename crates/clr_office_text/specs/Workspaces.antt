@@ -9,7 +9,7 @@ use Rattle.serde_json.specs.Find.{get}
 use Rattle.clr_rows.specs.declared.tables.TableDef.{TableDef}
 use Rattle.clr_rows.specs.Names.{live_name}
 use Rattle.clr_layers.specs.Layers.{Layer}
-use Rattle.clr_layers.specs.Marks.{Name}
+use Rattle.clr_workspaces.specs.Marks.{Name}
 use Rattle.clr_layers.specs.declared.stored_marks.StoredMark.{StoredMark}
 use Rattle.clr_layers.specs.declared.stored_marks.StoredMark.TheVariants as stored
 use Rattle.clr_office_text.specs.declared.faults.TextFault.{TextFault}

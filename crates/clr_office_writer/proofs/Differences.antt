@@ -16,8 +16,8 @@ use Rattle.clr_differences.specs.Differences.{differences_from, seen_over}
 use Rattle.clr_differences.proofs.SweepLemmas.{after_sorted, entries-differences}
 use Rattle.clr_layers.specs.Differing.{layer_from, mark_from}
 use Rattle.clr_layers.specs.Layers.{whole_mark, whole_of}
-use Rattle.clr_layers.specs.Marks.{Mark, Saved, ChildMark, mark_at, saved_content}
-use Rattle.clr_layers.specs.Workspaces.{Workspace}
+use Rattle.clr_workspaces.specs.Marks.{Mark, Saved, ChildMark, mark_at, saved_content}
+use Rattle.clr_workspaces.specs.Workspaces.{Workspace}
 use Rattle.clr_steps.specs.Invariants.{WorkspaceFits}
 use Rattle.clr_office_text.specs.Fits.{FitsDifferences, FitsLayer, FitsMark}
 use Rattle.clr_office_text.specs.Patches.{put_fault}

@@ -9,10 +9,10 @@ use Rattle.clr_rows.specs.Contents.{Content, no_rows}
 use Rattle.clr_rows.specs.Names.{live_name}
 use Rattle.clr_rows.proofs.SchemaLemmas.{list_any-map}
 use Rattle.clr_layers.specs.Layers.{above_in, grow, content_by_name, whole_of, workspaces_over}
-use Rattle.clr_layers.specs.Marks.{Name}
-use Rattle.clr_layers.specs.Workspaces.{Workspace, no_workspace, live_workspace, workspace_at}
+use Rattle.clr_workspaces.specs.Marks.{Name}
+use Rattle.clr_workspaces.specs.Workspaces.{Workspace, no_workspace, live_workspace, workspace_at}
 use Rattle.clr_layers.proofs.Meaning.{named_found}
-use Rattle.clr_tree.specs.Soundness.{IsSound}
+use Rattle.clr_workspaces.specs.Soundness.{IsSound}
 use Rattle.clr_tree.proofs.FaultLemmas.{take_next}
 use Rattle.clr_tree.proofs.PartLemmas.{drop_at, past_all}
 use Rattle.clr_steps.specs.Invariants.{OfficeFits, WorkspaceFits}

@@ -9,12 +9,12 @@ use Rattle.std.proofs.lemmas.Bool.{and_from, and_parts}
 use Rattle.std.proofs.lemmas.List.{length-take-le}
 use Rattle.clr_rows.specs.Contents.{Content}
 use Rattle.clr_rows.specs.Names.{is_good_name}
-use Rattle.clr_layers.specs.Marks.{Name, Mark, Saved, ChildMark, is_mark_of, mark_count}
-use Rattle.clr_layers.specs.Workspaces.{Workspace, depth_of, depth_within, find, is_child_named, no_workspace, one_above, parent_of, live_workspace, workspace_at}
+use Rattle.clr_workspaces.specs.Marks.{Name, Mark, Saved, ChildMark, is_mark_of, mark_count}
+use Rattle.clr_workspaces.specs.Workspaces.{Workspace, depth_of, depth_within, find, is_child_named, no_workspace, one_above, parent_of, live_workspace, workspace_at}
 use Rattle.clr_layers.proofs.FindLemmas.{first_is, first_of, has_name}
 use Rattle.clr_tree.specs.Parts.{first_below, has_good_marks, is_childs, is_marked_once, is_under, marks_fault_at, name_fault_at, workspaces_fault}
-use Rattle.clr_contents.specs.Roots.{IsRooted}
-use Rattle.clr_tree.specs.Soundness.{IsSound}
+use Rattle.clr_workspaces.specs.Roots.{IsRooted}
+use Rattle.clr_workspaces.specs.Soundness.{IsSound}
 use Rattle.clr_tree.specs.declared.parts.PartFault.{PartFault}
 use Rattle.clr_tree.specs.declared.parts.PartFault.TheVariants as fault
 use Rattle.clr_tree.proofs.CountLemmas.{count-tally, tally}

@@ -5,8 +5,8 @@ use Rattle.std.proofs.lemmas.Str.{is_utf8-from_IsUtf8}
 use Rattle.serde_json.specs.Data.{Data}
 use Rattle.serde_json.specs.Read.{read}
 use Rattle.clr_rows.specs.Schemas.{schema_fault}
-use Rattle.clr_layers.specs.Workspaces.{live_workspace}
-use Rattle.clr_tree.specs.Soundness.{IsSound}
+use Rattle.clr_workspaces.specs.Workspaces.{live_workspace}
+use Rattle.clr_workspaces.specs.Soundness.{IsSound}
 use Rattle.clr_steps.specs.Offices.{Office}
 use Rattle.clr_engine.specs.Drafts.{IsFitting}
 use Rattle.clr_office_text.specs.Fits.{FitsOffice}

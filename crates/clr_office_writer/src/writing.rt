@@ -1,6 +1,6 @@
 ghost use Rattle.std.specs.Prelude.{◌≡◌, Some, Ok, map, IfOk};
 ghost use Rattle.serde_json.specs.View.{view};
-ghost use Rattle.clr_layers.specs.Workspaces.{Workspace as OneWorkspace};
+ghost use Rattle.clr_workspaces.specs.Workspaces.{Workspace as OneWorkspace};
 ghost use Rattle.clr_engine.specs.Drafts.{layer_in, part_at};
 ghost use Rattle.clr_office_data.specs.OfficeData.{office_data};
 ghost use Rattle.clr_office_data.specs.Values.{list_data};

@@ -4,7 +4,7 @@ use Rattle.std.specs.Option.{option_map, option_or}
 use Rattle.clr_rows.specs.declared.cells.CellId.{CellId}
 use Rattle.clr_rows.specs.declared.rows.Row.{Row}
 use Rattle.clr_rows.specs.Contents.{Changes, least_and_count}
-use Rattle.clr_layers.specs.Marks.{Name}
+use Rattle.clr_workspaces.specs.Marks.{Name}
 use Rattle.clr_foot.specs.declared.faults.SceneFault.TheVariants as scene
 use Rattle.clr_foot.specs.Members.{IsSceneFault}
 use Rattle.clr_foot.specs.Settings.{Setting}

@@ -5,8 +5,8 @@ use Rattle.std.specs.Str.{bytes_eq}
 use Rattle.clr_rows.specs.declared.cells.CellId.{CellId}
 use Rattle.clr_rows.specs.declared.tables.TableDef.{TableDef}
 use Rattle.clr_rows.specs.Schemas.{table_named}
-use Rattle.clr_tree.specs.declared.rebases.Keep.{Keep}
-use Rattle.clr_tree.specs.declared.rebases.Keep.TheVariants.{Parent, Child, Base}
+use Rattle.clr_workspaces.specs.declared.rebases.Keep.{Keep}
+use Rattle.clr_workspaces.specs.declared.rebases.Keep.TheVariants.{Parent, Child, Base}
 use Rattle.clr_steps.specs.declared.commands.Command.{Command}
 use Rattle.clr_steps.specs.declared.commands.Command.TheVariants.{Create, Remove, Apply, Mark, Unmark, RollTo, RollAll, Refresh, Merge, Resolve, Hold, Release}
 use Rattle.clr_scripts.specs.declared.faults.RecordFault.{RecordFault}

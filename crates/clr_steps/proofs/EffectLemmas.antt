@@ -12,13 +12,13 @@ use Rattle.clr_change.specs.declared.edits.Edit.{Edit}
 use Rattle.clr_change.specs.Edits.{after_edits}
 use Rattle.clr_rules.specs.declared.rules.Rule.{Rule}
 use Rattle.clr_steps.specs.declared.commands.Command.TheVariants as command
-use Rattle.clr_tree.specs.declared.rebases.Keep.{Keep}
-use Rattle.clr_layers.specs.Marks.{Name, Mark, find_mark, is_saved_as, without_mark_of, mark_last}
-use Rattle.clr_layers.specs.Workspaces.{Workspace, workspace_at, find, parent_of}
-use Rattle.clr_tree.specs.Operations as tree
-use Rattle.clr_tree.specs.declared.rebases.Rebase.TheVariants as rebase_as
-use Rattle.clr_tree.specs.Soundness.{IsSound}
-use Rattle.clr_tree.specs.Operations.{change_at, without_at, with_marks, with_current, with_kept, with_mark_of, new_leaf, save, roll_to, roll_all, refresh, with_base_merged, keep_row, own_changes, at_position, under_parent}
+use Rattle.clr_workspaces.specs.declared.rebases.Keep.{Keep}
+use Rattle.clr_workspaces.specs.Marks.{Name, Mark, find_mark, is_saved_as, without_mark_of, mark_last}
+use Rattle.clr_workspaces.specs.Workspaces.{Workspace, workspace_at, find, parent_of}
+use Rattle.clr_workspaces.specs.Operations as tree
+use Rattle.clr_workspaces.specs.declared.rebases.Rebase.TheVariants as rebase_as
+use Rattle.clr_workspaces.specs.Soundness.{IsSound}
+use Rattle.clr_workspaces.specs.Operations.{change_at, without_at, with_marks, with_current, with_kept, with_mark_of, new_leaf, save, roll_to, roll_all, refresh, with_base_merged, keep_row, own_changes, at_position, under_parent}
 use Rattle.clr_steps.specs.Names.{same_name, is_live}
 use Rattle.clr_steps.specs.Offices.{Office, with_workspaces, office_of, workspace, content_of, set_content, modify, modify_marks, below_live}
 use Rattle.clr_steps.specs.Effects.{edited_content, merged_content, after_create, after_remove, after_apply, after_mark, after_unmark, after_roll_to, after_roll_all, after_refresh, after_merge, after_resolve, set_kept, effect}

@@ -3,8 +3,8 @@ use Rattle.std.proofs.Common.{◌≡◌, Bool, true, false, not, cond, List, [],
 use Rattle.std.specs.Option.{option_map}
 use Rattle.std.specs.Cmp.Lexicographic.{bytes_decides}
 use Rattle.std.proofs.lemmas.Bool.{true≢false}
-use Rattle.clr_layers.specs.Marks.{Name, Mark}
-use Rattle.clr_layers.specs.Workspaces.{Workspace}
+use Rattle.clr_workspaces.specs.Marks.{Name, Mark}
+use Rattle.clr_workspaces.specs.Workspaces.{Workspace}
 use Rattle.clr_steps.specs.Names.{same_name, is_live, has}
 use Rattle.clr_steps.specs.Offices.{Office, find_name, workspace, modify, modify_marks, without}
 use Rattle.clr_steps.proofs.ModifyLemmas.{LeavesName}

@@ -18,13 +18,13 @@ use Rattle.clr_change.specs.Edits.{after_edits, first_bad_edit}
 use Rattle.clr_change.proofs.EditLemmas.{all_edited_fits}
 use Rattle.clr_steps.specs.declared.commands.Command.{Command}
 use Rattle.clr_steps.specs.declared.commands.Command.TheVariants as command
-use Rattle.clr_tree.specs.declared.rebases.Keep.{Keep}
-use Rattle.clr_tree.specs.declared.rebases.Keep.TheVariants as keeps
+use Rattle.clr_workspaces.specs.declared.rebases.Keep.{Keep}
+use Rattle.clr_workspaces.specs.declared.rebases.Keep.TheVariants as keeps
 use Rattle.clr_steps.specs.declared.commands.Reply.{Reply}
 use Rattle.clr_steps.specs.declared.commands.Reply.TheVariants.{NoWorkspace}
-use Rattle.clr_layers.specs.Marks.{Name, Mark, Saved, ChildMark, find_mark, mark_at, saved_content, is_child_mark, is_mark_of, is_saved_as, without_mark_of, mark_last}
-use Rattle.clr_layers.specs.Workspaces.{Workspace, no_workspace, workspace_at}
-use Rattle.clr_tree.specs.Operations.{with_mark_of, new_leaf, with_marks, with_current, with_kept, save, roll_to, roll_all, refresh, with_base_merged, keep_row}
+use Rattle.clr_workspaces.specs.Marks.{Name, Mark, Saved, ChildMark, find_mark, mark_at, saved_content, is_child_mark, is_mark_of, is_saved_as, without_mark_of, mark_last}
+use Rattle.clr_workspaces.specs.Workspaces.{Workspace, no_workspace, workspace_at}
+use Rattle.clr_workspaces.specs.Operations.{with_mark_of, new_leaf, with_marks, with_current, with_kept, save, roll_to, roll_all, refresh, with_base_merged, keep_row}
 use Rattle.clr_steps.specs.Names.{same_name, is_live}
 use Rattle.clr_steps.specs.Offices.{Office, with_workspaces, find_name, workspace, stands, content_of, current_of, set_content, modify, modify_marks, without}
 use Rattle.clr_steps.specs.Effects.{edited_content, merged_content, after_create, after_remove, after_apply, after_mark, after_unmark, after_roll_to, after_roll_all, after_refresh, after_merge, after_resolve, set_kept, effect}

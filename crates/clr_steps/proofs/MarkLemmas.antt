@@ -6,8 +6,8 @@ use Rattle.std.specs.Cmp.Lexicographic.{bytes_decides}
 use Rattle.std.proofs.lemmas.Bool.{and_parts, false≢true, or_parts, not-true}
 use Rattle.clr_rows.specs.Names.{is_good_name}
 use Rattle.clr_rows.specs.Schemas.{are_distinct}
-use Rattle.clr_layers.specs.Marks.{Name, Mark, Saved, ChildMark, find_mark, is_saved_as, saved_names}
-use Rattle.clr_tree.specs.Soundness.{are_good_savepoints}
+use Rattle.clr_workspaces.specs.Marks.{Name, Mark, Saved, ChildMark, find_mark, is_saved_as, saved_names}
+use Rattle.clr_workspaces.specs.Soundness.{are_good_savepoints}
 use Rattle.clr_steps.proofs.FirstLemmas.{IsNone, IsFirst, IsOnly, first_at_position}
 
 none_saved : (s : Name) (marks : List Mark) → list_any (bytes_eq s) (saved_names marks) ≡ false → IsNone (is_saved_as s) marks

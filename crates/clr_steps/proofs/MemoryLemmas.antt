@@ -8,7 +8,7 @@ use Rattle.clr_steps.specs.declared.commands.Command.{Command}
 use Rattle.clr_steps.specs.declared.commands.Command.TheVariants as command
 use Rattle.clr_steps.specs.declared.commands.Reply.{Reply}
 use Rattle.clr_steps.specs.declared.commands.Reply.TheVariants.{LiveIsFixed, NoWorkspace, BadName, NameTaken, TooMany, RuleBroken}
-use Rattle.clr_layers.specs.Workspaces.{Workspace}
+use Rattle.clr_workspaces.specs.Workspaces.{Workspace}
 use Rattle.clr_steps.specs.Names.{is_live}
 use Rattle.clr_steps.specs.Offices.{Office, workspace, stands}
 use Rattle.clr_steps.specs.Effects.{edited_content, effect}

@@ -6,9 +6,9 @@ use Rattle.clr_rows.specs.declared.tables.TableDef.{TableDef}
 use Rattle.clr_rows.specs.Contents.{Content}
 use Rattle.clr_rows.specs.Names.{live_name}
 use Rattle.clr_rules.specs.declared.rules.Rule.{Rule}
-use Rattle.clr_layers.specs.Marks.{Mark, without_mark_of, Name}
-use Rattle.clr_layers.specs.Workspaces.{Workspace, workspace_at}
-use Rattle.clr_tree.specs.Operations.{change_at, without_at, with_marks, with_current}
+use Rattle.clr_workspaces.specs.Marks.{Mark, without_mark_of, Name}
+use Rattle.clr_workspaces.specs.Workspaces.{Workspace, workspace_at}
+use Rattle.clr_workspaces.specs.Operations.{change_at, without_at, with_marks, with_current}
 use Rattle.clr_steps.specs.Names.{same_name, is_live}
 use Rattle.clr_steps.specs.Offices.{Office, with_workspaces, modify, modify_marks, without, set_content, below_live, office_of}
 use Rattle.clr_steps.proofs.FirstLemmas.{IsNone, IsOnly, remove_only, only_remove}

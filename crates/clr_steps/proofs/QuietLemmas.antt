@@ -8,11 +8,11 @@ use Rattle.clr_change.specs.declared.edits.Edit.{Edit}
 use Rattle.clr_steps.specs.declared.commands.Command.{Command}
 use Rattle.clr_steps.specs.declared.commands.Command.TheVariants as command
 use Rattle.clr_steps.specs.declared.commands.Reply.{Reply}
-use Rattle.clr_tree.specs.declared.rebases.Keep.{Keep}
-use Rattle.clr_tree.specs.declared.rebases.Keep.TheVariants as keeps
-use Rattle.clr_layers.specs.Marks.{Name, Mark, find_mark}
-use Rattle.clr_layers.specs.Workspaces.{Workspace}
-use Rattle.clr_tree.specs.Operations.{with_mark_of, new_leaf, with_current, with_kept, save, roll_to, roll_all, refresh, with_base_merged, keep_row}
+use Rattle.clr_workspaces.specs.declared.rebases.Keep.{Keep}
+use Rattle.clr_workspaces.specs.declared.rebases.Keep.TheVariants as keeps
+use Rattle.clr_workspaces.specs.Marks.{Name, Mark, find_mark}
+use Rattle.clr_workspaces.specs.Workspaces.{Workspace}
+use Rattle.clr_workspaces.specs.Operations.{with_mark_of, new_leaf, with_current, with_kept, save, roll_to, roll_all, refresh, with_base_merged, keep_row}
 use Rattle.clr_steps.specs.Names.{same_name, is_live}
 use Rattle.clr_steps.specs.Offices.{Office, with_workspaces, find_name, workspace, content_of, set_content, modify, modify_marks, without}
 use Rattle.clr_steps.specs.Effects.{edited_content, merged_content, after_create, after_remove, after_apply, after_mark, after_unmark, after_roll_to, after_roll_all, after_refresh, after_merge, after_resolve, set_kept, effect}

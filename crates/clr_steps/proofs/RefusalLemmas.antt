@@ -4,14 +4,14 @@ use Rattle.std.specs.Prelude.{is_some, is_none}
 use Rattle.std.specs.Option.{option_map_or}
 use Rattle.clr_rows.specs.declared.tables.TableDef.{TableDef}
 use Rattle.clr_rules.specs.declared.rules.Rule.{Rule}
-use Rattle.clr_tree.specs.declared.limits.TheConstants.{MOST_WORKSPACES}
+use Rattle.clr_workspaces.specs.declared.limits.TheConstants.{MOST_WORKSPACES}
 use Rattle.clr_steps.specs.declared.commands.Command.{Command}
 use Rattle.clr_steps.specs.declared.commands.Command.TheVariants as command
 use Rattle.clr_steps.specs.declared.commands.Reply.TheVariants.{NoWorkspace, LiveIsFixed, NotInConflict}
-use Rattle.clr_layers.specs.Marks.{Name}
-use Rattle.clr_layers.specs.Workspaces.{Workspace, workspace_at, find, parent_of}
-use Rattle.clr_tree.specs.Soundness.{IsSound}
-use Rattle.clr_tree.specs.Operations.{keep_row}
+use Rattle.clr_workspaces.specs.Marks.{Name}
+use Rattle.clr_workspaces.specs.Workspaces.{Workspace, workspace_at, find, parent_of}
+use Rattle.clr_workspaces.specs.Soundness.{IsSound}
+use Rattle.clr_workspaces.specs.Operations.{keep_row}
 use Rattle.clr_steps.specs.Names.{is_live}
 use Rattle.clr_steps.specs.Offices.{Office, office_of, workspace, content_of, is_kept, below_live}
 use Rattle.clr_steps.specs.Effects.{edited_content, rolled_content, merged_content, resolved_content}

@@ -5,9 +5,9 @@ use Rattle.clr_rows.specs.Contents.{Content}
 use Rattle.clr_steps.specs.declared.commands.Command.{Command}
 use Rattle.clr_steps.specs.declared.commands.Command.TheVariants as command
 use Rattle.clr_steps.specs.declared.commands.Reply.{Reply}
-use Rattle.clr_layers.specs.Marks.{Name, find_mark}
-use Rattle.clr_layers.specs.Workspaces.{Workspace}
-use Rattle.clr_tree.specs.Operations.{with_current, roll_to}
+use Rattle.clr_workspaces.specs.Marks.{Name, find_mark}
+use Rattle.clr_workspaces.specs.Workspaces.{Workspace}
+use Rattle.clr_workspaces.specs.Operations.{with_current, roll_to}
 use Rattle.clr_steps.specs.Names.{is_live}
 use Rattle.clr_steps.specs.Offices.{Office, workspace, set_content, modify}
 use Rattle.clr_steps.specs.Effects.{edited_content, merged_content, after_create, after_remove, after_apply, after_mark, after_unmark, after_roll_to, after_roll_all, after_refresh, after_merge, after_resolve, set_kept, effect}

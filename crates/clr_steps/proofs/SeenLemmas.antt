@@ -10,10 +10,10 @@ use Rattle.std.proofs.lemmas.List.Sums.{length-filter}
 use Rattle.clr_rows.specs.declared.tables.TableDef.{TableDef}
 use Rattle.clr_rows.specs.Names.{is_good_name, live_name}
 use Rattle.clr_rules.specs.declared.rules.Rule.{Rule}
-use Rattle.clr_layers.specs.Marks.{Name}
-use Rattle.clr_layers.specs.Workspaces as tree
-use Rattle.clr_layers.specs.Workspaces.{Workspace, no_workspace, workspace_at, find, parent_of, children_of, depth_of}
-use Rattle.clr_tree.specs.Soundness.{IsSound}
+use Rattle.clr_workspaces.specs.Marks.{Name}
+use Rattle.clr_workspaces.specs.Workspaces as tree
+use Rattle.clr_workspaces.specs.Workspaces.{Workspace, no_workspace, workspace_at, find, parent_of, children_of, depth_of}
+use Rattle.clr_workspaces.specs.Soundness.{IsSound}
 use Rattle.clr_steps.specs.Names.{same_name, is_live}
 use Rattle.clr_steps.specs.Offices.{Office, office_of, find_name, workspace, stands, content_of, is_kept, below_live}
 use Rattle.clr_steps.specs.Refusals.{has_child, depth, depth_within}

@@ -7,12 +7,12 @@ use Rattle.clr_rules.specs.declared.rules.Rule.{Rule}
 use Rattle.clr_steps.specs.declared.commands.Command.{Command}
 use Rattle.clr_steps.specs.declared.commands.Command.TheVariants as command
 use Rattle.clr_steps.specs.declared.commands.Reply.{Reply}
-use Rattle.clr_layers.specs.Marks.{Name, find_mark}
-use Rattle.clr_layers.specs.Workspaces.{Workspace, workspace_at, find, parent_of}
-use Rattle.clr_tree.specs.Operations as tree
-use Rattle.clr_tree.specs.Operations.{at_position}
-use Rattle.clr_tree.specs.declared.rebases.Rebase.TheVariants as rebase
-use Rattle.clr_tree.specs.Soundness.{IsSound}
+use Rattle.clr_workspaces.specs.Marks.{Name, find_mark}
+use Rattle.clr_workspaces.specs.Workspaces.{Workspace, workspace_at, find, parent_of}
+use Rattle.clr_workspaces.specs.Operations as tree
+use Rattle.clr_workspaces.specs.Operations.{at_position}
+use Rattle.clr_workspaces.specs.declared.rebases.Rebase.TheVariants as rebase
+use Rattle.clr_workspaces.specs.Soundness.{IsSound}
 use Rattle.clr_steps.specs.Offices.{Office, office_of}
 use Rattle.clr_steps.specs.Effects.{effect}
 use Rattle.clr_steps.specs.Refusals.{when, first_of}

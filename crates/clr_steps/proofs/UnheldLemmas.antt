@@ -7,8 +7,8 @@ use Rattle.clr_rows.specs.Contents.{row_at}
 use Rattle.clr_rules.specs.declared.needs.Broken.{Broken}
 use Rattle.clr_rules.specs.declared.rules.Rule.{Rule}
 use Rattle.clr_rules.specs.Needs.{Holds}
-use Rattle.clr_layers.specs.Workspaces.{Workspace, workspace_at, find}
-use Rattle.clr_tree.specs.Soundness.{IsSound}
+use Rattle.clr_workspaces.specs.Workspaces.{Workspace, workspace_at, find}
+use Rattle.clr_workspaces.specs.Soundness.{IsSound}
 use Rattle.clr_steps.specs.Offices.{Office, office_of, content_of, is_kept}
 use Rattle.clr_steps.specs.Refusals.{first_broken}
 use Rattle.clr_steps.specs.Positions.{content_at, kept_at}

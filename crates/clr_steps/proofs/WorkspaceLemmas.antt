@@ -9,10 +9,10 @@ use Rattle.clr_rows.specs.Contents.{Content, row_at, set_cell, is_changed, chang
 use Rattle.clr_rows.specs.Same.{same}
 use Rattle.clr_rows.proofs.ChangeLemmas.{get-changes, row-merged, row-set_cell, taken_over-own, tied_self, IsUntouched, untouched_from_none, none_from_untouched}
 use Rattle.clr_rows.proofs.SameLemmas.{same_is, same_itself}
-use Rattle.clr_layers.specs.Workspaces.{Workspace}
-use Rattle.clr_tree.specs.declared.rebases.Keep.{Keep}
-use Rattle.clr_tree.specs.declared.rebases.Keep.TheVariants as keeps
-use Rattle.clr_tree.specs.Operations.{own_changes, keep_row}
+use Rattle.clr_workspaces.specs.Workspaces.{Workspace}
+use Rattle.clr_workspaces.specs.declared.rebases.Keep.{Keep}
+use Rattle.clr_workspaces.specs.declared.rebases.Keep.TheVariants as keeps
+use Rattle.clr_workspaces.specs.Operations.{own_changes, keep_row}
 use Rattle.clr_steps.specs.Refusals.{in_conflict, conflict_with, is_in_conflict_with}
 use Rattle.clr_steps.specs.WorkspaceLaws.{ConflictLaw, MergeLaw, RollAllLaw, RefreshLaw, ResolveLaw}
 

@@ -5,12 +5,12 @@ use Rattle.clr_rows.specs.declared.cells.CellId.{CellId}
 use Rattle.clr_rows.specs.Contents.{Content, taken_over}
 use Rattle.clr_change.specs.declared.edits.Edit.{Edit}
 use Rattle.clr_change.specs.Edits.{after_edits}
-use Rattle.clr_layers.specs.Marks.{saved_content, mark_at, find_mark, is_saved_as, without_mark_of, mark_last, Name}
-use Rattle.clr_layers.specs.Workspaces.{Workspace}
-use Rattle.clr_tree.specs.Operations.{with_mark_of, new_leaf, with_kept, save, roll_to, roll_all, own_changes, refresh, with_base_merged, keep_row}
+use Rattle.clr_workspaces.specs.Marks.{saved_content, mark_at, find_mark, is_saved_as, without_mark_of, mark_last, Name}
+use Rattle.clr_workspaces.specs.Workspaces.{Workspace}
+use Rattle.clr_workspaces.specs.Operations.{with_mark_of, new_leaf, with_kept, save, roll_to, roll_all, own_changes, refresh, with_base_merged, keep_row}
 use Rattle.clr_steps.specs.declared.commands.Command.{Command}
 use Rattle.clr_steps.specs.declared.commands.Command.TheVariants as command
-use Rattle.clr_tree.specs.declared.rebases.Keep.{Keep}
+use Rattle.clr_workspaces.specs.declared.rebases.Keep.{Keep}
 use Rattle.clr_steps.specs.Offices.{Office, workspace, content_of, set_content, with_workspaces, modify, modify_marks, without}
 
 -- contents that would stand ------------------------------------------------------------------------

@@ -2,7 +2,7 @@
 use Rattle.std.specs.Prelude.{◌≡◌, true, false, List, [], ◌∷◌, codes}
 use Rattle.clr_rows.specs.Contents.{no_rows}
 use Rattle.clr_rows.specs.Names.{live_name}
-use Rattle.clr_layers.specs.Marks.{Name}
+use Rattle.clr_workspaces.specs.Marks.{Name}
 use Rattle.clr_steps.specs.declared.commands.Command.{Command}
 use Rattle.clr_steps.specs.declared.commands.Command.TheVariants.{Create, Remove, Unmark, RollTo, RollAll, Refresh, Merge, Hold, Release}
 use Rattle.clr_steps.specs.declared.commands.Command.TheVariants as command

@@ -7,8 +7,8 @@ use Rattle.clr_rows.specs.Schemas.{FitsSchema}
 use Rattle.clr_rules.specs.declared.needs.Broken.{Broken}
 use Rattle.clr_rules.specs.declared.rules.Rule.{Rule}
 use Rattle.clr_rules.specs.Needs.{Holds}
-use Rattle.clr_layers.specs.Marks.{Name, saved_content, mark_at}
-use Rattle.clr_layers.specs.Workspaces.{Workspace, workspace_at}
+use Rattle.clr_workspaces.specs.Marks.{Name, saved_content, mark_at}
+use Rattle.clr_workspaces.specs.Workspaces.{Workspace, workspace_at}
 use Rattle.clr_steps.specs.Offices.{Office, content_of, is_kept}
 use Rattle.clr_steps.specs.Refusals.{first_broken}
 

@@ -7,9 +7,9 @@ use Rattle.clr_rows.specs.contracts.tables.TableDef as table_type
 use Rattle.clr_rows.specs.Contents.{Content, coded_content, no_rows}
 use Rattle.clr_rules.specs.declared.rules.Rule.{Rule}
 use Rattle.clr_rules.specs.contracts.rules.Rule as rule_type
-use Rattle.clr_layers.specs.Marks.{Mark, Name}
-use Rattle.clr_layers.specs.Workspaces.{Workspace, coded_workspace, workspace_at}
-use Rattle.clr_tree.specs.Operations.{with_current, with_marks}
+use Rattle.clr_workspaces.specs.Marks.{Mark, Name}
+use Rattle.clr_workspaces.specs.Workspaces.{Workspace, coded_workspace, workspace_at}
+use Rattle.clr_workspaces.specs.Operations.{with_current, with_marks}
 use Rattle.clr_steps.specs.Names.{same_name, is_live}
 
 pub record Office : Type 0 where

@@ -8,12 +8,12 @@ use Rattle.clr_rows.specs.Names.{is_good_name}
 use Rattle.clr_change.specs.declared.edits.Edit.{Edit}
 use Rattle.clr_change.specs.Edits.{after_edits, first_bad_edit}
 use Rattle.clr_rules.specs.declared.rules.Rule.{Rule}
-use Rattle.clr_tree.specs.Operations as tree
-use Rattle.clr_layers.specs.Marks.{Name, find_mark, saved_count, is_held}
-use Rattle.clr_layers.specs.Workspaces.{Workspace, workspace_at, find, parent_of, children_of, depth_of}
-use Rattle.clr_tree.specs.Operations.{own_changes, keep_row, at_position}
-use Rattle.clr_tree.specs.declared.rebases.Rebase.TheVariants as rebase
-use Rattle.clr_tree.specs.declared.limits.TheConstants.{MOST_WORKSPACES, MOST_LEVELS, MOST_SAVEPOINTS}
+use Rattle.clr_workspaces.specs.Operations as tree
+use Rattle.clr_workspaces.specs.Marks.{Name, find_mark, saved_count, is_held}
+use Rattle.clr_workspaces.specs.Workspaces.{Workspace, workspace_at, find, parent_of, children_of, depth_of}
+use Rattle.clr_workspaces.specs.Operations.{own_changes, keep_row, at_position}
+use Rattle.clr_workspaces.specs.declared.rebases.Rebase.TheVariants as rebase
+use Rattle.clr_workspaces.specs.declared.limits.TheConstants.{MOST_WORKSPACES, MOST_LEVELS, MOST_SAVEPOINTS}
 use Rattle.clr_steps.specs.declared.commands.Command.{Command}
 use Rattle.clr_steps.specs.declared.commands.Command.TheVariants as command
 use Rattle.clr_steps.specs.declared.commands.Reply.{Reply}

@@ -2,10 +2,10 @@
 use Rattle.std.specs.Prelude.{◌≡◌, Bool, true, false, not, ◌||◌, ◌&&◌, List}
 use Rattle.std.specs.Option.{option_map, option_map_or}
 use Rattle.clr_rows.specs.Contents.{Content}
-use Rattle.clr_layers.specs.Workspaces.{Workspace}
+use Rattle.clr_workspaces.specs.Workspaces.{Workspace}
 use Rattle.clr_steps.specs.declared.commands.Command.{Command}
 use Rattle.clr_steps.specs.declared.commands.Command.TheVariants as command
-use Rattle.clr_layers.specs.Marks.{Name}
+use Rattle.clr_workspaces.specs.Marks.{Name}
 use Rattle.clr_steps.specs.Names.{same_name, has}
 use Rattle.clr_steps.specs.Offices.{Office, workspace, content_of, is_kept}
 

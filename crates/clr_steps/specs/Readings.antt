@@ -5,8 +5,8 @@ use Rattle.std.specs.Option.{option_map, option_map_or}
 use Rattle.clr_rows.specs.declared.cells.CellId.{CellId}
 use Rattle.clr_rows.specs.Contents.{Changes, no_changes, changes, conflicts}
 use Rattle.clr_rows.specs.Names.{live_name}
-use Rattle.clr_layers.specs.Marks.{Name}
-use Rattle.clr_tree.specs.Operations.{own_changes}
+use Rattle.clr_workspaces.specs.Marks.{Name}
+use Rattle.clr_workspaces.specs.Operations.{own_changes}
 use Rattle.clr_steps.specs.Offices.{Office, workspace, stands, content_of}
 
 -- a value of LIVE or of a workspace, where one has the name

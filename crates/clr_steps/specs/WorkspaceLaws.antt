@@ -3,9 +3,9 @@ use Rattle.std.specs.Prelude.{◌≡◌, ◌↔◌, false, Option, None}
 use Rattle.clr_rows.specs.declared.cells.CellId.{CellId}
 use Rattle.clr_rows.specs.declared.rows.Row.{Row}
 use Rattle.clr_rows.specs.Contents.{Content, change_at}
-use Rattle.clr_layers.specs.Workspaces.{Workspace}
-use Rattle.clr_tree.specs.declared.rebases.Keep.{Keep}
-use Rattle.clr_tree.specs.Operations.{with_base_merged, roll_all, refresh, keep_row}
+use Rattle.clr_workspaces.specs.Workspaces.{Workspace}
+use Rattle.clr_workspaces.specs.declared.rebases.Keep.{Keep}
+use Rattle.clr_workspaces.specs.Operations.{with_base_merged, roll_all, refresh, keep_row}
 use Rattle.clr_steps.specs.Refusals.{conflict_with, is_in_conflict_with}
 
 -- what a workspace has at a cell that it changed

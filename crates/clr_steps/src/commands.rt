@@ -1,7 +1,7 @@
 use clr_change::{EditFault, Edits};
 use clr_rows::{CellId, Words};
 use clr_rules::Broken;
-use clr_tree::Keep;
+use clr_workspaces::Keep;
 
 /// A command of the user of one workspace. It is performed whole or not at all.
 #[derive(Debug, Drop)]

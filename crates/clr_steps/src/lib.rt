@@ -18,7 +18,7 @@ mod laws;
 
 pub use clr_change::{Edit, EditFault, Edits};
 pub use clr_rules::Broken;
-pub use clr_tree::Keep;
+pub use clr_workspaces::Keep;
 pub use commands::{Command, Reply};
 pub use laws::{
     answers_make_a_run, changes_after_commands, none_is_unheld_where_rules_hold,

@@ -2,7 +2,7 @@
 use Rattle.std.specs.Prelude.{ℕ, List, [], ◌++◌, codes, length, map, unwrap_or}
 use Rattle.std.specs.FinMap as finite
 use Rattle.std.specs.List.{flat_map}
-use Rattle.clr_layers.specs.Marks.{Name}
+use Rattle.clr_workspaces.specs.Marks.{Name}
 use Rattle.clr_lines.specs.Reports.{count_line, workspace_text}
 use Rattle.clr_steps.specs.Offices.{Office, is_kept}
 use Rattle.clr_steps.specs.Readings.{changes_in, conflicts_in, parent_in}

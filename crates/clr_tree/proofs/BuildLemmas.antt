@@ -8,12 +8,12 @@ use Rattle.clr_rows.proofs.ChangeLemmas.{taken_over-own}
 use Rattle.clr_differences.specs.Differences.{Differences, Rows, no_differences, seen_over, put_each}
 use Rattle.clr_differences.proofs.DifferenceLemmas.{seen_over-fresh}
 use Rattle.clr_layers.specs.Layers.{Layer, find_layer, whole_of, whole_mark, wholes, content_by_name}
-use Rattle.clr_layers.specs.Workspaces.{Workspace, live_workspace, workspace_at, find}
+use Rattle.clr_workspaces.specs.Workspaces.{Workspace, live_workspace, workspace_at, find}
 use Rattle.clr_layers.proofs.FindLemmas.{find_within}
 use Rattle.clr_layers.proofs.Meaning.{length-wholes, name-whole, find-wholes, named_found}
 use Rattle.clr_layers.proofs.Places.{wholes-push}
 use Rattle.clr_tree.specs.Parts.{marks_of, workspace_of, marks_fault_at, first_below, first_name_fault, first_marks_fault, workspaces_fault, number_of, IsFault, IsRefused}
-use Rattle.clr_tree.specs.Soundness.{IsSound}
+use Rattle.clr_workspaces.specs.Soundness.{IsSound}
 use Rattle.clr_tree.specs.declared.parts.Part.{Part}
 use Rattle.clr_tree.specs.declared.parts.PartFault.{PartFault}
 use Rattle.clr_tree.specs.declared.parts.PartFault.TheVariants as fault

@@ -9,16 +9,16 @@ use Rattle.clr_rows.specs.Contents.{Content, Changes, no_rows, over, rows_after}
 use Rattle.clr_rows.specs.Names.{is_good_name}
 use Rattle.clr_differences.specs.Differences.{Rows, no_differences, seen_over, put_each, cells_in}
 use Rattle.clr_differences.proofs.DifferenceLemmas.{seen_over-none}
-use Rattle.clr_layers.specs.Marks.{Name, Mark, without_saved, mark_last}
-use Rattle.clr_layers.specs.Workspaces.{Workspace, no_workspace, workspace_at, find, parent_of}
+use Rattle.clr_workspaces.specs.Marks.{Name, Mark, without_saved, mark_last}
+use Rattle.clr_workspaces.specs.Workspaces.{Workspace, no_workspace, workspace_at, find, parent_of}
 use Rattle.clr_layers.specs.Layers.{Layer, layer_at, layer_changed, leaf, whole_of, content_by_name, wholes, is_stored_child}
 use Rattle.clr_layers.specs.declared.stored_marks.StoredMark.TheVariants as stored
 use Rattle.clr_layers.proofs.Meaning.{name-wholes, named_found}
 use Rattle.clr_layers.proofs.Places.{wholes-push}
 use Rattle.clr_contents.specs.Pinning.{Extends, ChildrenPin}
 use Rattle.clr_tree.specs.Moves.{mark_moved}
-use Rattle.clr_tree.specs.Operations.{change_at, with_marks, with_mark_of, change_marks, new_leaf, own_changes, refresh, after_create, after_refresh}
-use Rattle.clr_contents.specs.Roots.{IsRooted}
+use Rattle.clr_workspaces.specs.Operations.{change_at, with_marks, with_mark_of, change_marks, new_leaf, own_changes, refresh, after_create, after_refresh}
+use Rattle.clr_workspaces.specs.Roots.{IsRooted}
 use Rattle.clr_tree.proofs.RootLemmas.{later_stays, rooted_set, rooted_more, parent_set}
 use Rattle.clr_contents.proofs.ReadLemmas.{base-wholes, current-wholes, within_wholes}
 use Rattle.clr_tree.proofs.OperationLemmas.{mark_pushed, mark_lasts, restarted}

@@ -11,14 +11,14 @@ use Rattle.std.proofs.lemmas.Option.{none-some}
 use Rattle.std.proofs.lemmas.List.{length-append}
 use Rattle.clr_rows.specs.Contents.{Content}
 use Rattle.clr_rows.specs.Names.{is_good_name}
-use Rattle.clr_layers.specs.Marks.{Name, Mark, Saved, ChildMark, is_mark_of, mark_count, saved_names}
-use Rattle.clr_layers.specs.Workspaces.{Workspace, no_workspace, live_workspace, workspace_at, find, parent_of, is_child_named, child_count, depth_of}
+use Rattle.clr_workspaces.specs.Marks.{Name, Mark, Saved, ChildMark, is_mark_of, mark_count, saved_names}
+use Rattle.clr_workspaces.specs.Workspaces.{Workspace, no_workspace, live_workspace, workspace_at, find, parent_of, is_child_named, child_count, depth_of}
 use Rattle.clr_layers.proofs.FindLemmas.{find_more, find_named, find_within}
 use Rattle.clr_layers.proofs.Meaning.{not_from}
 use Rattle.clr_tree.specs.Parts.{workspace_of, list_of, name_fault, parent_fault, is_under, is_childs, is_marked_once, has_child_marks, has_good_marks, name_fault_at, marks_fault_at, first_below, first_name_fault, first_marks_fault}
-use Rattle.clr_contents.specs.Roots.{IsRooted}
-use Rattle.clr_tree.specs.Soundness.{IsSound, HasChildMarks, are_good_savepoints}
-use Rattle.clr_tree.specs.declared.limits.TheConstants.{MOST_WORKSPACES, MOST_LEVELS}
+use Rattle.clr_workspaces.specs.Roots.{IsRooted}
+use Rattle.clr_workspaces.specs.Soundness.{IsSound, HasChildMarks, are_good_savepoints}
+use Rattle.clr_workspaces.specs.declared.limits.TheConstants.{MOST_WORKSPACES, MOST_LEVELS}
 use Rattle.clr_tree.specs.declared.parts.Part.{Part}
 use Rattle.clr_tree.specs.declared.parts.PartFault.{PartFault}
 use Rattle.clr_tree.specs.declared.parts.PartFault.TheVariants as fault

@@ -5,9 +5,9 @@ use Rattle.std.proofs.lemmas.List.{append-nil, length-append}
 use Rattle.clr_rows.specs.Contents.{Content}
 use Rattle.clr_rows.specs.Names.{live_name}
 use Rattle.clr_layers.specs.Layers.{Layer, above_in, grow, leaf, whole_of, wholes, workspaces_over}
-use Rattle.clr_layers.specs.Workspaces.{Workspace, live_workspace, workspace_at}
+use Rattle.clr_workspaces.specs.Workspaces.{Workspace, live_workspace, workspace_at}
 use Rattle.clr_layers.proofs.Meaning.{length-wholes, name-whole}
-use Rattle.clr_contents.specs.Roots.{IsRooted}
+use Rattle.clr_workspaces.specs.Roots.{IsRooted}
 use Rattle.clr_tree.specs.Parts.{place_fault, name_fault_at, first_below, first_name_fault, number_of, IsFault, IsRefused}
 use Rattle.clr_tree.specs.declared.parts.PartFault.{PartFault}
 use Rattle.clr_tree.proofs.TreeLemmas.{root_made}

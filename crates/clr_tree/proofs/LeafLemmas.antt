@@ -10,14 +10,14 @@ use Rattle.std.specs.Str.{bytes_eq}
 use Rattle.std.specs.Cmp.Lexicographic.{bytes_decides}
 use Rattle.clr_rows.specs.Contents.{Content}
 use Rattle.clr_rows.specs.Names.{is_good_name}
-use Rattle.clr_layers.specs.Marks.{Name, without_mark_of}
-use Rattle.clr_layers.specs.Workspaces.{Workspace, no_workspace, workspace_at, find, parent_of, children_of}
+use Rattle.clr_workspaces.specs.Marks.{Name, without_mark_of}
+use Rattle.clr_workspaces.specs.Workspaces.{Workspace, no_workspace, workspace_at, find, parent_of, children_of}
 use Rattle.clr_layers.specs.Layers.{Layer, layer_at, layer_changed, top, wholes, IsUnder, stored_without_mark_of}
 use Rattle.clr_layers.proofs.FindLemmas.{first_is, first_of, find_named}
 use Rattle.clr_layers.proofs.Meaning.{length-wholes, name-wholes, parent-wholes, parents-wholes, differ_back, not_from}
 use Rattle.clr_layers.proofs.Places.{leaf_removed}
-use Rattle.clr_tree.specs.Operations.{change_at, with_marks, at_position, after_remove, after_remove_under}
-use Rattle.clr_contents.specs.Roots.{IsRooted}
+use Rattle.clr_workspaces.specs.Operations.{change_at, with_marks, at_position, after_remove, after_remove_under}
+use Rattle.clr_workspaces.specs.Roots.{IsRooted}
 use Rattle.clr_contents.proofs.ReadLemmas.{within_wholes}
 use Rattle.clr_tree.proofs.OperationLemmas.{mark_dropped}
 

@@ -15,10 +15,10 @@ use Rattle.clr_differences.specs.Differences.{Differences, Rows, differences_fro
 use Rattle.clr_differences.proofs.DifferenceLemmas.{row-seen_over, not_among, put_elsewhere, put_each_elsewhere, taken_elsewhere}
 use Rattle.clr_differences.proofs.SweepLemmas.{own_differences, swept_own}
 use Rattle.clr_layers.specs.Differing.{mark_from}
-use Rattle.clr_layers.specs.Marks.{Name, Mark, is_saved, mark_at, saved_content, mark_last, without_mark_of}
+use Rattle.clr_workspaces.specs.Marks.{Name, Mark, is_saved, mark_at, saved_content, mark_last, without_mark_of}
 use Rattle.clr_contents.proofs.MarkLemmas.{saved_there}
 use Rattle.clr_layers.proofs.FindLemmas.{find_more}
-use Rattle.clr_layers.specs.Workspaces.{Workspace, no_workspace, workspace_at, find, parent_of, children_of}
+use Rattle.clr_workspaces.specs.Workspaces.{Workspace, no_workspace, workspace_at, find, parent_of, children_of}
 use Rattle.clr_layers.specs.Layers.{Layer, no_layer, leaf, layer_at, layer_changed, stored_in, stored_at, saved_differences, stored_without_mark_of, is_stored_mark_of, whole_mark, wholes, entries_of_mark, is_stored_child, restarted_with, rows_taken_over, AreOwnOver, IsUnder}
 use Rattle.clr_layers.specs.declared.stored_marks.StoredMark.{StoredMark}
 use Rattle.clr_layers.specs.declared.stored_marks.StoredMark.TheVariants as kinds
@@ -27,13 +27,13 @@ use Rattle.clr_contents.specs.Pinning.{StaysOwnAt, StayOwnBut, StayOwnButChildre
 use Rattle.clr_contents.proofs.PinLemmas.{but_itself, but_marks, but_set, own_both}
 use Rattle.std.proofs.Math.ListN.{get_or, get_or-map, get_or-append}
 use Rattle.std.proofs.Math.Seq.{map-set_same, get_or-append_seam}
-use Rattle.clr_tree.specs.Operations.{own_changes, with_base_merged, after_merge, after_write, with_kept, with_marks, roll_all, new_leaf, keep_row, refresh, roll_to, change_marks, after_refresh, after_resolve, after_roll_to}
-use Rattle.clr_tree.specs.declared.rebases.Keep.{Keep}
-use Rattle.clr_tree.specs.declared.rebases.Keep.TheVariants as keeps
+use Rattle.clr_workspaces.specs.Operations.{own_changes, with_base_merged, after_merge, after_write, with_kept, with_marks, roll_all, new_leaf, keep_row, refresh, roll_to, change_marks, after_refresh, after_resolve, after_roll_to}
+use Rattle.clr_workspaces.specs.declared.rebases.Keep.{Keep}
+use Rattle.clr_workspaces.specs.declared.rebases.Keep.TheVariants as keeps
 use Rattle.clr_tree.proofs.OperationLemmas.{kept_set, mark_removed, mark_pushed, all_rolled}
 use Rattle.clr_tree.proofs.CreateLemmas.{below_parent, below_stays, leaf_made}
 use Rattle.clr_tree.proofs.LeafLemmas.{any_dropped, gone, no_child_whole, parent_removed, opened, closed_at, opened-closed, opened-later, was_at, was_in, read_removed}
-use Rattle.clr_contents.specs.Roots.{IsRooted}
+use Rattle.clr_workspaces.specs.Roots.{IsRooted}
 use Rattle.clr_contents.proofs.ReadLemmas.{within_wholes, within_layers, under_its_parent, current-wholes, kept-wholes, marks-wholes, row-base, row-current}
 use Rattle.clr_contents.proofs.SweepLemmas.{base_is}
 use Rattle.clr_contents.specs.Lean.{IsLeanAt, IsLeanOver, IsLean, IsLeanBut, StayOwnButNear, row_above}

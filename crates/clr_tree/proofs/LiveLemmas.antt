@@ -4,14 +4,14 @@ use Rattle.std.proofs.lemmas.Bool.{false≢true}
 use Rattle.std.proofs.lemmas.List.{length-map}
 use Rattle.std.specs.List.{list_any}
 use Rattle.clr_rows.specs.Contents.{Content, no_rows}
-use Rattle.clr_layers.specs.Marks.{Mark, is_held, is_child_mark, is_saved, mark_at}
+use Rattle.clr_workspaces.specs.Marks.{Mark, is_held, is_child_mark, is_saved, mark_at}
 use Rattle.clr_layers.specs.Layers.{Layer, layer_at, wholes, whole_mark}
-use Rattle.clr_layers.specs.Workspaces.{Workspace, live_workspace, workspace_at}
+use Rattle.clr_workspaces.specs.Workspaces.{Workspace, live_workspace, workspace_at}
 use Rattle.clr_layers.specs.declared.stored_marks.StoredMark.{StoredMark}
 use Rattle.clr_layers.proofs.Meaning.{live-wholes}
 use Rattle.clr_contents.proofs.ReadLemmas.{marks-wholes}
 use Rattle.clr_contents.proofs.RootLemmas.{split}
-use Rattle.clr_tree.specs.Soundness.{IsSound}
+use Rattle.clr_workspaces.specs.Soundness.{IsSound}
 use Rattle.clr_tree.specs.Trees.{Tree, tree_of}
 use Rattle.clr_tree.proofs.ModelLemmas.{within_tree}
 

@@ -2,7 +2,7 @@
 use Rattle.std.proofs.Common.{◌≡◌, ℕ, ◌<◌, List, length, ap, sym, subst, ◌∙◌}
 use Rattle.std.specs.Prelude.{Result, Ok, Err, OnOk, OnErr}
 use Rattle.clr_rows.specs.Contents.{Content}
-use Rattle.clr_layers.specs.Workspaces.{Workspace}
+use Rattle.clr_workspaces.specs.Workspaces.{Workspace}
 use Rattle.clr_layers.specs.Layers.{Layer, wholes}
 use Rattle.clr_tree.specs.Trees.{Tree, tree_of}
 use Rattle.clr_contents.proofs.ReadLemmas.{within_layers}

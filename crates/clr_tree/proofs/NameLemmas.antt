@@ -8,11 +8,11 @@ use Rattle.std.proofs.lemmas.Option.{none-some}
 use Rattle.clr_rows.specs.Contents.{Content}
 use Rattle.clr_rows.specs.Names.{is_good_name}
 use Rattle.clr_rows.specs.Schemas.{are_distinct}
-use Rattle.clr_layers.specs.Marks.{Name, Mark, Saved, ChildMark, is_saved, is_saved_as, saved_count, saved_names, find_mark, without_saved, without_mark_of, mark_last}
+use Rattle.clr_workspaces.specs.Marks.{Name, Mark, Saved, ChildMark, is_saved, is_saved_as, saved_count, saved_names, find_mark, without_saved, without_mark_of, mark_last}
 use Rattle.clr_layers.proofs.Meaning.{differ_back}
-use Rattle.clr_tree.specs.Soundness.{are_good_savepoints}
+use Rattle.clr_workspaces.specs.Soundness.{are_good_savepoints}
 use Rattle.clr_tree.proofs.CountLemmas.{tally, count-tally}
-use Rattle.clr_tree.specs.declared.limits.TheConstants.{MOST_SAVEPOINTS}
+use Rattle.clr_workspaces.specs.declared.limits.TheConstants.{MOST_SAVEPOINTS}
 
 -- some of the names, in their order
 abbrev IsSubsequence : List Name → List Name → Type 0

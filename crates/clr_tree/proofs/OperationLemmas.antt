@@ -13,8 +13,8 @@ use Rattle.clr_rows.specs.Contents.{Content, Changes, row_at, set_cell, over, ro
 use Rattle.clr_rows.proofs.ChangeLemmas.{taken_over-own}
 use Rattle.clr_differences.specs.Differences.{Differences, Rows, no_differences, seen_over, put_each, cells_in, HasEntry, HasEntries}
 use Rattle.clr_differences.proofs.DifferenceLemmas.{seen_over-none, seen_over-fresh, seen_over-insert, seen_over-put_each, seen_over-remove, seen_outside, over_outside, hidden, set_outside}
-use Rattle.clr_layers.specs.Marks.{Name, Mark, Saved, ChildMark, mark_at, is_child_mark, is_saved, is_saved_as, is_mark_of, saved_content, saved_count, mark_count, find_mark, is_held, without_saved, without_mark_of, mark_last}
-use Rattle.clr_layers.specs.Workspaces.{Workspace, workspace_at, parent_of}
+use Rattle.clr_workspaces.specs.Marks.{Name, Mark, Saved, ChildMark, mark_at, is_child_mark, is_saved, is_saved_as, is_mark_of, saved_content, saved_count, mark_count, find_mark, is_held, without_saved, without_mark_of, mark_last}
+use Rattle.clr_workspaces.specs.Workspaces.{Workspace, workspace_at, parent_of}
 use Rattle.clr_layers.specs.Layers.{Layer, layer_at, layer_changed, whole_of, whole_mark, wholes, top, above_at, IsUnder, stored_at, saved_differences, is_stored_child, is_stored_saved, is_stored_saved_as, is_stored_mark_of, stored_without_mark_of, EachMarkPins}
 use Rattle.clr_layers.specs.declared.stored_marks.StoredMark.{StoredMark}
 use Rattle.clr_layers.specs.declared.stored_marks.StoredMark.TheVariants as stored
@@ -22,9 +22,9 @@ use Rattle.clr_layers.proofs.Meaning.{wholes-live}
 use Rattle.clr_layers.proofs.Places.{moved_live}
 use Rattle.clr_contents.specs.Pinning.{ChildrenPin}
 use Rattle.clr_tree.specs.Moves.{put_into, row_moved}
-use Rattle.clr_tree.specs.Operations.{change_at, with_marks, with_current, with_kept, roll_all, own_changes, with_base_merged, after_mark, after_unmark, after_roll_to, after_roll_all, set_kept, after_write, after_merge, after_resolve}
-use Rattle.clr_contents.specs.Roots.{IsRooted}
-use Rattle.clr_tree.specs.declared.rebases.Keep.TheVariants as keeps
+use Rattle.clr_workspaces.specs.Operations.{change_at, with_marks, with_current, with_kept, roll_all, own_changes, with_base_merged, after_mark, after_unmark, after_roll_to, after_roll_all, set_kept, after_write, after_merge, after_resolve}
+use Rattle.clr_workspaces.specs.Roots.{IsRooted}
+use Rattle.clr_workspaces.specs.declared.rebases.Keep.TheVariants as keeps
 use Rattle.clr_tree.proofs.RootLemmas.{later_stays}
 use Rattle.clr_contents.proofs.ReadLemmas.{above_parent, current-wholes}
 use Rattle.clr_contents.proofs.MarkLemmas.{saved_there}

@@ -5,10 +5,10 @@ use Rattle.clr_rows.specs.Contents.{Content}
 use Rattle.clr_layers.specs.Layers.{Layer, wholes}
 use Rattle.clr_layers.proofs.Answered.{on_ok, on_err}
 use Rattle.clr_contents.proofs.ReadLemmas.{within_wholes}
-use Rattle.clr_tree.specs.Operations.{after_rebase}
-use Rattle.clr_tree.specs.Soundness.{IsSound}
+use Rattle.clr_workspaces.specs.Operations.{after_rebase}
+use Rattle.clr_workspaces.specs.Soundness.{IsSound}
 use Rattle.clr_tree.specs.Trees.{Tree, tree_of}
-use Rattle.clr_tree.specs.declared.rebases.Rebase.{Rebase}
+use Rattle.clr_workspaces.specs.declared.rebases.Rebase.{Rebase}
 use Rattle.clr_tree.proofs.ModelLemmas.{became, either, within_tree}
 use Rattle.clr_tree.proofs.TreeLemmas.{sound_rebased}
 

@@ -6,10 +6,10 @@ use Rattle.std.proofs.lemmas.List.{length-set, length-append}
 use Rattle.std.proofs.Math.ListN.{get_or, get_or-append, get_or-map}
 use Rattle.std.proofs.Math.Seq.{get_or-append_seam, map-set_same}
 use Rattle.clr_rows.specs.Names.{is_good_name}
-use Rattle.clr_layers.specs.Marks.{Name}
-use Rattle.clr_layers.specs.Workspaces.{Workspace, no_workspace, workspace_at, find, parent_of}
+use Rattle.clr_workspaces.specs.Marks.{Name}
+use Rattle.clr_workspaces.specs.Workspaces.{Workspace, no_workspace, workspace_at, find, parent_of}
 use Rattle.clr_layers.proofs.FindLemmas.{find_set, find_more, find_last, find_within}
-use Rattle.clr_contents.specs.Roots.{IsRooted}
+use Rattle.clr_workspaces.specs.Roots.{IsRooted}
 use Rattle.clr_contents.proofs.RootLemmas.{no_parent, split}
 
 -- a field that a new workspace shares with the one that it replaces is as it was everywhere

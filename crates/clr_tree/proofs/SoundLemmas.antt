@@ -5,9 +5,9 @@ use Rattle.std.specs.Cmp.Lexicographic.{bytes_decides}
 use Rattle.std.proofs.lemmas.Bool.{cases_eq}
 use Rattle.std.proofs.lemmas.List.{length-set, get_or-set_same, get_or-set_other}
 use Rattle.clr_rows.specs.Contents.{no_rows}
-use Rattle.clr_layers.specs.Marks.{Name, Mark, Saved, ChildMark, is_saved, is_mark_of, mark_at, mark_count, saved_names, without_saved, without_mark_of}
-use Rattle.clr_layers.specs.Workspaces.{Workspace, no_workspace, workspace_at, is_child_named, child_count}
-use Rattle.clr_tree.specs.Soundness.{are_good_savepoints, IsSound}
+use Rattle.clr_workspaces.specs.Marks.{Name, Mark, Saved, ChildMark, is_saved, is_mark_of, mark_at, mark_count, saved_names, without_saved, without_mark_of}
+use Rattle.clr_workspaces.specs.Workspaces.{Workspace, no_workspace, workspace_at, is_child_named, child_count}
+use Rattle.clr_workspaces.specs.Soundness.{are_good_savepoints, IsSound}
 use Rattle.clr_tree.proofs.CountLemmas.{tally, count-tally, count-append, count-set}
 use Rattle.clr_tree.proofs.RootLemmas.{rooted_set, parent_set}
 use Rattle.clr_contents.proofs.DepthLemmas.{depth_same}

@@ -8,13 +8,13 @@ use Rattle.clr_rows.proofs.CellOrder.{cell_cmp_total, cell_cmp_exact}
 use Rattle.clr_rows.proofs.Entries.{from_no_entries}
 use Rattle.clr_differences.specs.Differences.{Differences, Rows, no_differences, without_neutral}
 use Rattle.clr_differences.proofs.SweepLemmas.{count-swept}
-use Rattle.clr_layers.specs.Marks.{Mark}
-use Rattle.clr_layers.specs.Workspaces.{Workspace, workspace_at}
+use Rattle.clr_workspaces.specs.Marks.{Mark}
+use Rattle.clr_workspaces.specs.Workspaces.{Workspace, workspace_at}
 use Rattle.clr_layers.specs.Layers.{Layer, layer_at, whole_mark, wholes, entries_of_mark}
 use Rattle.clr_layers.specs.declared.stored_marks.StoredMark.{StoredMark}
 use Rattle.clr_layers.specs.declared.stored_marks.StoredMark.TheVariants as kinds
 use Rattle.clr_contents.specs.Lean.{content_of_parent, swept_marks}
-use Rattle.clr_contents.specs.Roots.{IsRooted}
+use Rattle.clr_workspaces.specs.Roots.{IsRooted}
 use Rattle.clr_contents.proofs.ReadLemmas.{current-wholes, marks-wholes}
 use Rattle.clr_contents.proofs.SweepLemmas.{base_is}
 use Rattle.clr_tree.specs.Trees.{change_count, needed, needed_of_mark, needed_of_marks, stored_of_marks}

@@ -9,20 +9,20 @@ use Rattle.std.specs.Str.{bytes_eq}
 use Rattle.std.specs.Cmp.Lexicographic.{bytes_decides}
 use Rattle.clr_rows.specs.Contents.{Content}
 use Rattle.clr_rows.specs.Names.{is_good_name, live_name}
-use Rattle.clr_layers.specs.Marks.{Name, Mark, ChildMark, Saved, is_mark_of, is_saved, mark_at, mark_count, saved_names, without_saved, without_mark_of, mark_last}
+use Rattle.clr_workspaces.specs.Marks.{Name, Mark, ChildMark, Saved, is_mark_of, is_saved, mark_at, mark_count, saved_names, without_saved, without_mark_of, mark_last}
 use Rattle.clr_layers.specs.Layers.{leaf as stored_leaf, wholes, top, grow}
-use Rattle.clr_layers.specs.Workspaces.{Workspace, no_workspace, live_workspace, workspace_at, find, parent_of, is_child_named, child_count, depth_within, depth_of}
+use Rattle.clr_workspaces.specs.Workspaces.{Workspace, no_workspace, live_workspace, workspace_at, find, parent_of, is_child_named, child_count, depth_within, depth_of}
 use Rattle.clr_layers.proofs.FindLemmas.{find_set, find_more, find_named}
 use Rattle.clr_layers.proofs.Meaning.{not_from}
-use Rattle.clr_tree.specs.Operations.{change_at, with_marks, with_mark_of, with_kept, with_current, change_marks, new_leaf, save, roll_to, own_changes, at_position, after_create, after_write, after_resolve, after_rebase, after_rebase_under, after_remove_under}
-use Rattle.clr_tree.specs.declared.rebases.Keep.{Keep}
-use Rattle.clr_tree.specs.declared.rebases.Keep.TheVariants as keeps
-use Rattle.clr_tree.specs.declared.rebases.Rebase.{Rebase}
-use Rattle.clr_tree.specs.declared.rebases.Rebase.TheVariants.{Refresh, Merge, OneRow}
+use Rattle.clr_workspaces.specs.Operations.{change_at, with_marks, with_mark_of, with_kept, with_current, change_marks, new_leaf, save, roll_to, own_changes, at_position, after_create, after_write, after_resolve, after_rebase, after_rebase_under, after_remove_under}
+use Rattle.clr_workspaces.specs.declared.rebases.Keep.{Keep}
+use Rattle.clr_workspaces.specs.declared.rebases.Keep.TheVariants as keeps
+use Rattle.clr_workspaces.specs.declared.rebases.Rebase.{Rebase}
+use Rattle.clr_workspaces.specs.declared.rebases.Rebase.TheVariants.{Refresh, Merge, OneRow}
 use Rattle.clr_rows.specs.declared.cells.CellId.{CellId}
-use Rattle.clr_tree.specs.Soundness.{are_good_savepoints, IsSound}
-use Rattle.clr_contents.specs.Roots.{IsRooted}
-use Rattle.clr_tree.specs.declared.limits.TheConstants.{MOST_WORKSPACES, MOST_LEVELS}
+use Rattle.clr_workspaces.specs.Soundness.{are_good_savepoints, IsSound}
+use Rattle.clr_workspaces.specs.Roots.{IsRooted}
+use Rattle.clr_workspaces.specs.declared.limits.TheConstants.{MOST_WORKSPACES, MOST_LEVELS}
 use Rattle.clr_tree.proofs.RootLemmas.{rooted_set, rooted_more, parent_set, stays_at, at_old, at_last, placed}
 use Rattle.clr_contents.proofs.RootLemmas.{split}
 use Rattle.clr_contents.proofs.DepthLemmas.{depth_step, depth_zero, depth_same, depth_more}

@@ -8,17 +8,17 @@ use Rattle.clr_rows.specs.Contents.{Content, no_rows}
 use Rattle.clr_rows.specs.Names.{is_good_name}
 use Rattle.clr_layers.specs.Entries.{stored_layer}
 use Rattle.clr_layers.specs.Layers.{whole_mark, workspaces_over}
-use Rattle.clr_layers.specs.Marks.{Name, Mark, Saved, ChildMark, mark_count, saved_names}
-use Rattle.clr_layers.specs.Workspaces.{Workspace, workspace_at, find, live_workspace, depth_of}
+use Rattle.clr_workspaces.specs.Marks.{Name, Mark, Saved, ChildMark, mark_count, saved_names}
+use Rattle.clr_workspaces.specs.Workspaces.{Workspace, workspace_at, find, live_workspace, depth_of}
 use Rattle.clr_layers.specs.declared.stored_marks.StoredMark.{StoredMark}
 use Rattle.clr_layers.specs.declared.stored_parts.StoredPart.{StoredPart}
-use Rattle.clr_tree.specs.declared.limits.TheConstants.{MOST_WORKSPACES, MOST_LEVELS}
+use Rattle.clr_workspaces.specs.declared.limits.TheConstants.{MOST_WORKSPACES, MOST_LEVELS}
 use Rattle.clr_tree.specs.declared.parts.MarkPart.{MarkPart}
 use Rattle.clr_tree.specs.declared.parts.MarkPart.TheVariants as part
 use Rattle.clr_tree.specs.declared.parts.Part.{Part}
 use Rattle.clr_tree.specs.declared.parts.PartFault.{PartFault}
 use Rattle.clr_tree.specs.declared.parts.PartFault.TheVariants as fault
-use Rattle.clr_tree.specs.Soundness.{are_good_savepoints}
+use Rattle.clr_workspaces.specs.Soundness.{are_good_savepoints}
 
 -- what parts mean ----------------------------------------------------------------------------------
 

@@ -3,8 +3,8 @@ use Rattle.std.specs.Prelude.{ℕ, ◌+◌, List, [], Option, length, map, slice
 use Rattle.std.specs.FinMap as finite
 use Rattle.std.specs.Coded.{Coded, code_by, coded×, coded_list, coded_ℕ}
 use Rattle.clr_rows.specs.Contents.{Content, changes}
-use Rattle.clr_layers.specs.Marks.{Mark, Saved, ChildMark}
-use Rattle.clr_layers.specs.Workspaces.{Workspace, coded_workspace, workspace_at}
+use Rattle.clr_workspaces.specs.Marks.{Mark, Saved, ChildMark}
+use Rattle.clr_workspaces.specs.Workspaces.{Workspace, coded_workspace, workspace_at}
 use Rattle.clr_layers.specs.Differing.{layer_from}
 use Rattle.clr_layers.specs.Layers.{Layer, coded_layer, wholes, stored_in, entries_of_mark}
 use Rattle.clr_contents.specs.Lean as lean

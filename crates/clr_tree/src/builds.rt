@@ -3,10 +3,10 @@ ghost use Rattle.clr_rows.specs.Names.{live_name};
 ghost use Rattle.clr_differences.specs.Differences.{seen_over};
 ghost use Rattle.clr_layers.specs.Entries.{layer_of};
 ghost use Rattle.clr_layers.specs.Layers.{leaf, whole_mark, whole_of, wholes};
-ghost use Rattle.clr_layers.specs.Workspaces.{workspace_at, find};
+ghost use Rattle.clr_workspaces.specs.Workspaces.{workspace_at, find};
 ghost use Rattle.clr_tree.specs.Parts.{mark_of, marks_of, workspace_of, list_of, name_fault_at, first_name_fault, IsFault, IsRefused, number_of};
 ghost use Rattle.clr_tree.specs.declared.parts.PartFault.TheVariants.{OutOfMemory};
-ghost use Rattle.clr_contents.specs.Roots.{IsRooted};
+ghost use Rattle.clr_workspaces.specs.Roots.{IsRooted};
 
 use crate::operations::live_alone;
 use crate::part_checks::judge_place;

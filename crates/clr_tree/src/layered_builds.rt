@@ -1,9 +1,9 @@
 ghost use Rattle.std.specs.Prelude.{◌≡◌, ◌++◌, [], ◌∷◌, None, OnOk, IfOk, IfErr};
 ghost use Rattle.clr_layers.specs.Entries.{stored_layer};
 ghost use Rattle.clr_layers.specs.Layers.{above_in, whole_of, wholes};
-ghost use Rattle.clr_layers.specs.Workspaces.{live_workspace};
+ghost use Rattle.clr_workspaces.specs.Workspaces.{live_workspace};
 ghost use Rattle.clr_tree.specs.Parts.{spaces_of, place_fault, first_name_fault, IsFault, IsRefused};
-ghost use Rattle.clr_contents.specs.Roots.{IsRooted};
+ghost use Rattle.clr_workspaces.specs.Roots.{IsRooted};
 
 use crate::builds::{number_of, start};
 use crate::part_checks::judge_place;

@@ -3,20 +3,19 @@ ghost use Rattle.clr_rows.specs.Names.{is_good_name, live_name};
 ghost use Rattle.clr_differences.specs.Differences.{cells_in};
 ghost use Rattle.std.specs.FinMap as finite;
 ghost use Rattle.clr_layers.specs.Layers.{layer_at, find_layer, leaf, saved_differences, stored_at, wholes};
-ghost use Rattle.clr_layers.specs.Marks.{is_saved, is_held, mark_at};
-ghost use Rattle.clr_layers.specs.Workspaces.{workspace_at, find, parent_of as position_of_parent, children_of};
+ghost use Rattle.clr_workspaces.specs.Marks.{is_saved, is_held, mark_at};
+ghost use Rattle.clr_workspaces.specs.Workspaces.{workspace_at, find, parent_of as position_of_parent, children_of};
 ghost use Rattle.clr_contents.specs.Pinning.{Extends, ChildrenPin, StayOwnButChildren};
 ghost use Rattle.clr_tree.specs.Moves.{put_into, row_moved, mark_moved};
-ghost use Rattle.clr_tree.specs.Operations.{after_create, after_remove, after_mark, after_roll_to, after_roll_all};
-ghost use Rattle.clr_tree.specs.Operations.{after_refresh, after_merge, after_resolve, after_rebase};
-ghost use Rattle.clr_tree.specs.Operations.{own_changes};
+ghost use Rattle.clr_workspaces.specs.Operations.{after_create, after_remove, after_mark, after_roll_to, after_roll_all};
+ghost use Rattle.clr_workspaces.specs.Operations.{after_refresh, after_merge, after_resolve, after_rebase};
+ghost use Rattle.clr_workspaces.specs.Operations.{own_changes};
 ghost use Rattle.clr_contents.specs.Lean.{IsLean, IsLeanBut, StayOwnButNear};
 ghost use Rattle.clr_rows.specs.Contents.{rows_after};
-ghost use Rattle.clr_contents.specs.Roots.{IsRooted};
-ghost use Rattle.clr_tree.specs.declared.rebases.Keep.TheVariants.{Child};
-ghost use Rattle.clr_tree.specs.declared.rebases.Rebase.TheVariants.{Merge, Refresh};
+ghost use Rattle.clr_workspaces.specs.Roots.{IsRooted};
+ghost use Rattle.clr_workspaces.specs.declared.rebases.Keep.TheVariants.{Child};
+ghost use Rattle.clr_workspaces.specs.declared.rebases.Rebase.TheVariants.{Merge, Refresh};
 
-use crate::rebases::{Keep, Rebase};
 use clr_change::{ChangeSet, copy_row};
 use clr_contents::{
     base_row_of, cells_of, changes_of, parent_of, pin_children, pin_current, pin_own, pin_saved,
@@ -25,6 +24,7 @@ use clr_contents::{
 use clr_differences::Differences;
 use clr_layers::{Layer, StoredMark, WorkspaceMap};
 use clr_rows::{CellId, LIVE, Row, Sheet, Words};
+use clr_workspaces::{Keep, Rebase};
 use std::alloc::{AllocError, Global};
 
 // Each function here fails for want of memory alone, and changes no content, mark or flag then: all

@@ -2,18 +2,18 @@ ghost use Rattle.std.specs.Prelude.{◌≡◌, ◌<◌, ◌-◌, length, None, S
 ghost use Rattle.std.specs.List.{list_all, list_any};
 ghost use Rattle.std.specs.Str.{bytes_eq};
 ghost use Rattle.clr_layers.specs.Layers.{wholes};
-ghost use Rattle.clr_layers.specs.Marks.{saved_names};
-ghost use Rattle.clr_layers.specs.Workspaces.{workspace_at, find};
+ghost use Rattle.clr_workspaces.specs.Marks.{saved_names};
+ghost use Rattle.clr_workspaces.specs.Workspaces.{workspace_at, find};
 ghost use Rattle.clr_tree.specs.Parts.{bare_mark, bare_marks, place_fault, has_new_name, is_childs, is_marked_once};
 ghost use Rattle.clr_tree.specs.Parts.{has_good_marks, marks_fault_at, first_below, IsRefused};
-ghost use Rattle.clr_contents.specs.Roots.{IsRooted};
-ghost use Rattle.clr_tree.specs.Soundness.{are_good_savepoints};
+ghost use Rattle.clr_workspaces.specs.Roots.{IsRooted};
+ghost use Rattle.clr_workspaces.specs.Soundness.{are_good_savepoints};
 
-use crate::limits::{MOST_LEVELS, MOST_SAVEPOINTS, MOST_WORKSPACES};
 use crate::parts::PartFault;
 use clr_contents::depth_at;
 use clr_layers::{StoredMark, WorkspaceMap, count_marks_of, count_saved, find_saved};
 use clr_rows::{Sheet, good_name};
+use clr_workspaces::{MOST_LEVELS, MOST_SAVEPOINTS, MOST_WORKSPACES};
 
 /// The position of the parent, which has the second name, of a workspace of the first name that
 /// comes after those of a map, or why it can't come.

@@ -1,8 +1,8 @@
 ghost use Rattle.std.specs.Prelude.{◌≡◌, ◌<◌, length, IfOk};
 ghost use Rattle.clr_layers.specs.Layers.{wholes, whole_mark};
-ghost use Rattle.clr_layers.specs.Workspaces.{workspace_at, live_workspace};
+ghost use Rattle.clr_workspaces.specs.Workspaces.{workspace_at, live_workspace};
 ghost use Rattle.clr_tree.specs.Parts.{mark_of, marks_of, workspace_of};
-ghost use Rattle.clr_contents.specs.Roots.{IsRooted};
+ghost use Rattle.clr_workspaces.specs.Roots.{IsRooted};
 
 use crate::parts::{MarkPart, Part};
 use clr_contents::{base_rows, whole_rows};

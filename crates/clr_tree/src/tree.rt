@@ -3,18 +3,17 @@ ghost use Rattle.std.specs.Option.{option_copied};
 ghost use Rattle.clr_rows.specs.Contents.{row_at, changes};
 ghost use Rattle.clr_rows.specs.Names.{is_good_name};
 ghost use Rattle.clr_layers.specs.Layers.{layer_at, whole_mark, wholes};
-ghost use Rattle.clr_layers.specs.Marks.{find_mark, is_held, is_saved, mark_at, saved_content, saved_count};
-ghost use Rattle.clr_layers.specs.Workspaces.{workspace_at, find, parent_of as position_of_parent, children_of, depth_of, live_workspace};
-ghost use Rattle.clr_tree.specs.Operations.{after_create, after_remove, after_write, after_mark, after_unmark};
-ghost use Rattle.clr_tree.specs.Operations.{after_roll_to, after_roll_all, after_rebase, own_changes, set_kept};
+ghost use Rattle.clr_workspaces.specs.Marks.{find_mark, is_held, is_saved, mark_at, saved_content, saved_count};
+ghost use Rattle.clr_workspaces.specs.Workspaces.{workspace_at, find, parent_of as position_of_parent, children_of, depth_of, live_workspace};
+ghost use Rattle.clr_workspaces.specs.Operations.{after_create, after_remove, after_write, after_mark, after_unmark};
+ghost use Rattle.clr_workspaces.specs.Operations.{after_roll_to, after_roll_all, after_rebase, own_changes, set_kept};
 ghost use Rattle.clr_tree.specs.Parts.{workspace_of, list_of, spaces_of, first_fault, workspaces_fault, IsRefused};
-ghost use Rattle.clr_tree.specs.Soundness.{IsSound};
-ghost use Rattle.clr_tree.specs.declared.rebases.Rebase.TheVariants as rebase;
+ghost use Rattle.clr_workspaces.specs.Soundness.{IsSound};
+ghost use Rattle.clr_workspaces.specs.declared.rebases.Rebase.TheVariants as rebase;
 ghost use Rattle.clr_tree.specs.Trees.{tree_of, stored_at, saved_at, needed, needed_layer, needed_of_marks};
 
 use crate::builds::push_parts;
 use crate::layered_builds::push_layers;
-use crate::limits::{MOST_LEVELS, MOST_SAVEPOINTS, MOST_WORKSPACES};
 use crate::operations::{
     create, live_alone, mark, merge_changes, rebase, refresh_changes, remove, roll_all, roll_to,
     write_rows,
@@ -22,7 +21,6 @@ use crate::operations::{
 use crate::part_checks::judge_marks;
 use crate::part_reads::{live_part, part_at};
 use crate::parts::{Part, PartFault};
-use crate::rebases::Rebase;
 use clr_change::ChangeSet;
 use clr_contents::{
     View, base_row_of, base_rows, changes_of, depth_at, row_of, saved_rows, sweep, whole_rows,
@@ -31,6 +29,7 @@ use clr_layers::{
     LayerView, StoredMark, StoredPart, WorkspaceMap, count_saved, find_saved, has_child_after,
 };
 use clr_rows::{CellId, Row, Sheet};
+use clr_workspaces::{MOST_LEVELS, MOST_SAVEPOINTS, MOST_WORKSPACES, Rebase};
 use std::alloc::{AllocError, Global};
 use std::marker::Model;
 
@@ -48,7 +47,7 @@ pub struct Tree {
 
 impl Model for Tree {
     ghost use Rattle.clr_tree.specs.Trees.{Tree as Whole, coded_tree, tree_of};
-    ghost use Rattle.clr_tree.specs.Soundness.{IsSound};
+    ghost use Rattle.clr_workspaces.specs.Soundness.{IsSound};
     ghost use Rattle.clr_layers.specs.Layers.{wholes};
     ghost use Rattle.clr_contents.specs.Lean.{IsLean};
     ghost use Rattle.std.specs.Prelude.{◌≡◌, true};

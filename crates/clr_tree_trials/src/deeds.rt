@@ -1,6 +1,6 @@
 ghost use Rattle.std.specs.Prelude.{◌≡◌, ◌<◌, true, length, IfSome};
-ghost use Rattle.clr_layers.specs.Marks.{is_saved, mark_at};
-ghost use Rattle.clr_layers.specs.Workspaces.{workspace_at};
+ghost use Rattle.clr_workspaces.specs.Marks.{is_saved, mark_at};
+ghost use Rattle.clr_workspaces.specs.Workspaces.{workspace_at};
 
 use crate::fixtures::{cell, row_of};
 use clr_change::ChangeSet;

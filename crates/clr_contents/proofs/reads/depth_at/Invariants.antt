@@ -1,6 +1,6 @@
 use Rattle.std.proofs.Common.{◌≡◌, ◌+◌, ◌<◌, ◌≤◌, length}
 use Rattle.clr_layers.specs.Layers.{wholes}
-use Rattle.clr_layers.specs.Workspaces.{depth_of}
+use Rattle.clr_workspaces.specs.Workspaces.{depth_of}
 use Rattle.clr_contents.proofs.reads.depth_at.Given as goal
 
 abbrev pub invariant-loop-at : goal.invariant-loop-at

@@ -2,8 +2,8 @@ use Rattle.std.proofs.Common.{◌≡◌, ◌≢◌, ℕ, ⊎_elim, List, length,
 use Rattle.std.proofs.lemmas.Bool.{cases_eq}
 use Rattle.std.proofs.lemmas.List.{length-set, get_or-set_other}
 use Rattle.clr_layers.specs.Layers.{Layer, no_layer, layer_at, wholes}
-use Rattle.clr_layers.specs.Workspaces.{Workspace}
-use Rattle.clr_contents.specs.Roots.{IsRooted}
+use Rattle.clr_workspaces.specs.Workspaces.{Workspace}
+use Rattle.clr_workspaces.specs.Roots.{IsRooted}
 use Rattle.clr_contents.specs.Lean.{IsLeanBeside, IsLeanOver}
 use Rattle.clr_contents.proofs.sweeps.sweep_at.Goals as goal
 

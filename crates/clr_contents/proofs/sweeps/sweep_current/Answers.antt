@@ -1,8 +1,8 @@
 use Rattle.std.proofs.Common.{◌≡◌, List, refl, ap, sym, subst, ◌∙◌, slice_set}
 use Rattle.clr_differences.specs.Differences.{Differences, without_neutral}
 use Rattle.clr_layers.specs.Layers.{Layer, layer_at, layer_changed, wholes}
-use Rattle.clr_layers.specs.Workspaces.{workspace_at}
-use Rattle.clr_contents.specs.Roots.{IsRooted}
+use Rattle.clr_workspaces.specs.Workspaces.{workspace_at}
+use Rattle.clr_workspaces.specs.Roots.{IsRooted}
 use Rattle.clr_contents.proofs.SweepLemmas.{rooted_still, set_again, base_stays}
 use Rattle.clr_contents.proofs.sweeps.sweep_current.Goals as goal
 

@@ -1,9 +1,9 @@
 use Rattle.std.proofs.Common.{◌≡◌, List, refl, ap, sym, subst, ◌∙◌, slice_set}
 use Rattle.clr_layers.specs.Layers.{Layer, layer_at, layer_changed, wholes}
-use Rattle.clr_layers.specs.Workspaces.{workspace_at}
+use Rattle.clr_workspaces.specs.Workspaces.{workspace_at}
 use Rattle.clr_layers.specs.declared.stored_marks.StoredMark.{StoredMark}
 use Rattle.clr_contents.specs.Lean.{swept_marks_at}
-use Rattle.clr_contents.specs.Roots.{IsRooted}
+use Rattle.clr_workspaces.specs.Roots.{IsRooted}
 use Rattle.clr_contents.proofs.SweepLemmas.{rooted_still, set_again, base_stays}
 use Rattle.clr_contents.proofs.sweeps.sweep_saved_at.Goals as goal
 

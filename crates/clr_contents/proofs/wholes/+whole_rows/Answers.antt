@@ -4,7 +4,7 @@ use Rattle.std.specs.FinMap as finite
 use Rattle.clr_rows.specs.Contents.{Content, over}
 use Rattle.clr_differences.specs.Differences.{Differences}
 use Rattle.clr_layers.specs.Layers.{wholes}
-use Rattle.clr_layers.specs.Workspaces.{workspace_at}
+use Rattle.clr_workspaces.specs.Workspaces.{workspace_at}
 use Rattle.clr_layers.proofs.Meaning.{live-wholes}
 use Rattle.clr_contents.proofs.ReadLemmas.{current_parts}
 use Rattle.clr_contents.proofs.wholes.+whole_rows.Goals as goal

@@ -3,7 +3,7 @@ use Rattle.std.specs.FinMap as finite
 use Rattle.clr_rows.specs.Contents.{changes, no_changes}
 use Rattle.clr_differences.specs.Differences.{Differences, Rows}
 use Rattle.clr_layers.specs.Layers.{layer_at, wholes}
-use Rattle.clr_layers.specs.Workspaces.{workspace_at}
+use Rattle.clr_workspaces.specs.Workspaces.{workspace_at}
 use Rattle.clr_contents.specs.Pinning.{set_each}
 use Rattle.clr_contents.proofs.ChangeLemmas.{changes_found}
 use Rattle.clr_contents.proofs.ReadLemmas.{current-wholes}

@@ -3,8 +3,8 @@ use Rattle.std.specs.FinMap as finite
 use Rattle.clr_rows.specs.Contents.{over}
 use Rattle.clr_differences.specs.Differences.{Differences, seen_over}
 use Rattle.clr_layers.specs.Layers.{wholes, layer_at, stored_at, saved_differences}
-use Rattle.clr_layers.specs.Marks.{Mark, is_saved, mark_at, saved_content}
-use Rattle.clr_layers.specs.Workspaces.{workspace_at}
+use Rattle.clr_workspaces.specs.Marks.{Mark, is_saved, mark_at, saved_content}
+use Rattle.clr_workspaces.specs.Workspaces.{workspace_at}
 use Rattle.clr_rows.specs.Contents.{Content}
 use Rattle.clr_contents.proofs.MarkLemmas.{length-marks, saved_there, saved_within}
 use Rattle.clr_contents.proofs.ReadLemmas.{marks-wholes}

@@ -1,7 +1,7 @@
 use Rattle.std.proofs.Common.{◌≤◌, length, map, refl, arith}
 use Rattle.std.proofs.lemmas.List.{length-map}
 use Rattle.clr_layers.specs.Entries.{stored_layer}
-use Rattle.clr_tree.specs.declared.limits.TheConstants.{MOST_WORKSPACES}
+use Rattle.clr_workspaces.specs.declared.limits.TheConstants.{MOST_WORKSPACES}
 use Rattle.clr_office_text.specs.Offices.{office_read}
 use Rattle.clr_drafts.specs.Drafts.{whole_office}
 use Rattle.clr_drafts.proofs.Standing.{too_many}

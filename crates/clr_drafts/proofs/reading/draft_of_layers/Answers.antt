@@ -1,5 +1,5 @@
 use Rattle.std.proofs.Common.{Ok, ◌∷◌, List, subst, sym, ap, ◌∙◌}
-use Rattle.clr_layers.specs.Workspaces.{Workspace, live_workspace}
+use Rattle.clr_workspaces.specs.Workspaces.{Workspace, live_workspace}
 use Rattle.clr_tree.specs.Parts.{spaces_of}
 use Rattle.clr_steps.specs.Offices.{office_of}
 use Rattle.clr_engine.specs.Drafts.{IsFitting}

@@ -3,10 +3,10 @@ use Rattle.std.specs.Option.{option_map}
 use Rattle.clr_rows.specs.Contents.{Content, changes, taken_over}
 use Rattle.clr_change.specs.Edits.{after_edits, first_bad_edit}
 use Rattle.clr_layers.proofs.Answered.{on_ok}
-use Rattle.clr_layers.specs.Workspaces.{workspace_at}
+use Rattle.clr_workspaces.specs.Workspaces.{workspace_at}
 use Rattle.clr_steps.specs.Laws.{refused}
 use Rattle.clr_steps.specs.declared.commands.Reply.TheVariants.{RuleBroken}
-use Rattle.clr_tree.specs.Operations.{after_write, with_current}
+use Rattle.clr_workspaces.specs.Operations.{after_write, with_current}
 use Rattle.clr_engine.specs.Trees.{FitBoth}
 use Rattle.clr_engine.proofs.Answered.{edits_break, ends}
 use Rattle.clr_engine.proofs.Contents.{reached}

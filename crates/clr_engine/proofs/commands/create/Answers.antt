@@ -1,5 +1,5 @@
 use Rattle.std.proofs.Common.{List, sym, subst, ap, ◌∙◌}
-use Rattle.clr_layers.specs.Workspaces.{Workspace}
+use Rattle.clr_workspaces.specs.Workspaces.{Workspace}
 use Rattle.clr_engine.specs.Finders.{AreFinders, kept_contents}
 use Rattle.clr_engine.proofs.Served.{after_adding, undone, was_ok}
 use Rattle.clr_engine.proofs.commands.create.Goals as goal

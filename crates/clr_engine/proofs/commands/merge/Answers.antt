@@ -1,6 +1,6 @@
 use Rattle.std.proofs.Common.{◌≡◌, ◌<◌, ◌∙◌, length, subst, sym}
 use Rattle.clr_rows.specs.Contents.{Changes, taken_over}
-use Rattle.clr_layers.specs.Workspaces.{workspace_at}
+use Rattle.clr_workspaces.specs.Workspaces.{workspace_at}
 use Rattle.clr_engine.specs.Finders.{IsPrepared}
 use Rattle.clr_engine.proofs.Fits.{fit_taken}
 use Rattle.clr_engine.proofs.Prepared.{along_mid, where_none}

@@ -1,5 +1,5 @@
 use Rattle.std.proofs.Common.{sym, ap, subst, ◌∙◌}
-use Rattle.clr_layers.specs.Workspaces.{find}
+use Rattle.clr_workspaces.specs.Workspaces.{find}
 use Rattle.clr_steps.specs.Steps.{TakesNoMemory}
 use Rattle.clr_engine.specs.Finders.{AreFinders}
 use Rattle.clr_engine.proofs.Dispatch as below

@@ -1,6 +1,6 @@
 use Rattle.std.proofs.Common.{◌≡◌, ◌∙◌, ap, subst, sym}
 use Rattle.clr_rows.specs.Contents.{Content}
-use Rattle.clr_layers.specs.Workspaces.{workspace_at}
+use Rattle.clr_workspaces.specs.Workspaces.{workspace_at}
 use Rattle.clr_engine.specs.Finders.{kept_contents}
 use Rattle.clr_engine.specs.Trees.{FitBoth}
 use Rattle.clr_engine.proofs.Fits.{fit_kept}

@@ -1,7 +1,7 @@
 use Rattle.std.proofs.Common.{◌≡◌, ◌∙◌, sym, refl}
-use Rattle.clr_layers.specs.Marks.{mark_at, saved_content}
-use Rattle.clr_layers.specs.Workspaces.{workspace_at}
-use Rattle.clr_tree.specs.Operations.{roll_to}
+use Rattle.clr_workspaces.specs.Marks.{mark_at, saved_content}
+use Rattle.clr_workspaces.specs.Workspaces.{workspace_at}
+use Rattle.clr_workspaces.specs.Operations.{roll_to}
 use Rattle.clr_engine.proofs.Kept.{other_content}
 use Rattle.clr_engine.proofs.Positions.{found_saved}
 use Rattle.clr_engine.proofs.Prepared.{finished, where_none, within_mid}

@@ -1,5 +1,5 @@
 use Rattle.std.proofs.Common.{List, sym, subst}
-use Rattle.clr_layers.specs.Workspaces.{Workspace}
+use Rattle.clr_workspaces.specs.Workspaces.{Workspace}
 use Rattle.clr_engine.specs.Finders.{AreFinders, kept_contents}
 use Rattle.clr_engine.proofs.Served.{after_taking}
 use Rattle.clr_engine.proofs.commands.take_away.Goals as goal

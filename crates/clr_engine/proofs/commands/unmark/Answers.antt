@@ -1,5 +1,5 @@
 use Rattle.std.proofs.Common.{sym, ◌∙◌}
-use Rattle.clr_layers.specs.Workspaces.{workspace_at}
+use Rattle.clr_workspaces.specs.Workspaces.{workspace_at}
 use Rattle.clr_engine.proofs.Positions.{found_saved}
 use Rattle.clr_engine.proofs.commands.unmark.Goals as goal
 

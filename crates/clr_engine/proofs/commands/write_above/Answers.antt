@@ -1,6 +1,6 @@
 use Rattle.std.proofs.Common.{ap, sym, subst, ◌∙◌, List, Option}
 use Rattle.clr_grid.specs.RowMaps.{Rows}
-use Rattle.clr_layers.specs.Workspaces.{Workspace, children_of, workspace_at}
+use Rattle.clr_workspaces.specs.Workspaces.{Workspace, children_of, workspace_at}
 use Rattle.clr_engine.specs.Finders.{AreFinders, kept_contents}
 use Rattle.clr_engine.proofs.Kept.{after_merging}
 use Rattle.clr_engine.proofs.Positions.{leaf_after_merge}

@@ -1,6 +1,6 @@
 use Rattle.std.proofs.Common.{◌≡◌, suc, ◌++◌, ◌∷◌, [], List, take, ap, sym, ◌∙◌, arith}
 use Rattle.clr_layers.specs.Layers.{wholes}
-use Rattle.clr_layers.specs.Workspaces.{Workspace, workspace_at}
+use Rattle.clr_workspaces.specs.Workspaces.{Workspace, workspace_at}
 use Rattle.clr_tree.specs.Parts.{workspace_of, list_of, place_fault, name_fault, name_fault_at}
 use Rattle.clr_tree.proofs.FaultLemmas.{part_at, take_next, length-parts}
 use Rattle.clr_tree.proofs.BuildLemmas.{is_fault}

@@ -2,7 +2,7 @@ use Rattle.std.proofs.Common.{◌≡◌, ℕ, suc, ◌+◌, ◌<◌, take, lengt
 use Rattle.std.proofs.lemmas.List.{length-map}
 use Rattle.clr_layers.specs.Layers.{wholes}
 use Rattle.clr_tree.specs.Parts.{workspace_of, list_of, name_fault_at, first_name_fault, IsRefused}
-use Rattle.clr_contents.specs.Roots.{IsRooted}
+use Rattle.clr_workspaces.specs.Roots.{IsRooted}
 use Rattle.clr_tree.proofs.TreeLemmas.{root_made}
 use Rattle.clr_tree.proofs.FaultLemmas.{below_none, below_next, below_all, length-parts, shaped_take}
 use Rattle.clr_tree.proofs.BuildLemmas.{refused_at}

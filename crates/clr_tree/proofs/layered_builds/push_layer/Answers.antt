@@ -1,7 +1,7 @@
 use Rattle.std.proofs.Common.{◌≡◌, ◌++◌, ◌∷◌, [], ap, sym, ◌∙◌, arith}
 use Rattle.clr_layers.specs.Entries.{layer_of, layer_under, stored_layer}
 use Rattle.clr_layers.specs.Layers.{Layer, find_layer, wholes}
-use Rattle.clr_layers.specs.Marks.{Name}
+use Rattle.clr_workspaces.specs.Marks.{Name}
 use Rattle.clr_layers.proofs.Meaning.{find-wholes, length-wholes}
 use Rattle.clr_layers.proofs.Places.{wholes-push}
 use Rattle.clr_tree.specs.Parts.{place_fault}

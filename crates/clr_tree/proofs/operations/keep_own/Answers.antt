@@ -1,10 +1,10 @@
 use Rattle.std.proofs.Common.{◌≡◌, Some, ap, sym, subst, ◌∙◌, ◌∷◌, [], arith, length, List}
 use Rattle.std.proofs.lemmas.List.{length-set}
 use Rattle.clr_layers.specs.Layers.{Layer, wholes}
-use Rattle.clr_layers.specs.Workspaces.{Workspace, parent_of}
-use Rattle.clr_tree.specs.Operations.{after_resolve}
-use Rattle.clr_contents.specs.Roots.{IsRooted}
-use Rattle.clr_tree.specs.declared.rebases.Keep.TheVariants.{Child}
+use Rattle.clr_workspaces.specs.Workspaces.{Workspace, parent_of}
+use Rattle.clr_workspaces.specs.Operations.{after_resolve}
+use Rattle.clr_workspaces.specs.Roots.{IsRooted}
+use Rattle.clr_workspaces.specs.declared.rebases.Keep.TheVariants.{Child}
 use Rattle.clr_contents.proofs.PinLemmas.{extends_both, but_both}
 use Rattle.clr_contents.specs.Pinning.{StayOwnBut}
 use Rattle.clr_tree.proofs.LeanLemmas.{near_at, but_base_taken}

@@ -3,13 +3,13 @@ use Rattle.std.proofs.lemmas.List.{length-set}
 use Rattle.clr_rows.specs.Contents.{over, rows_after}
 use Rattle.clr_differences.specs.Differences.{Rows, no_differences, put_each, cells_in, HasEntries}
 use Rattle.clr_layers.specs.Layers.{Layer, wholes, layer_at, layer_changed, is_stored_child, IsUnder}
-use Rattle.clr_layers.specs.Workspaces.{workspace_at}
+use Rattle.clr_workspaces.specs.Workspaces.{workspace_at}
 use Rattle.clr_contents.specs.Pinning.{StayOwnBut}
-use Rattle.clr_contents.specs.Roots.{IsRooted}
+use Rattle.clr_workspaces.specs.Roots.{IsRooted}
 use Rattle.clr_contents.proofs.ReadLemmas.{under_its_parent}
 use Rattle.clr_contents.specs.Lean.{StayOwnButNear}
 use Rattle.clr_tree.specs.Moves.{put_into}
-use Rattle.clr_tree.specs.Operations.{own_changes, with_current}
+use Rattle.clr_workspaces.specs.Operations.{own_changes, with_current}
 use Rattle.clr_tree.proofs.LeanLemmas.{but_taken_over, near_child}
 use Rattle.clr_tree.proofs.OperationLemmas.{merged_is}
 use Rattle.clr_tree.proofs.RootLemmas.{rooted_set}

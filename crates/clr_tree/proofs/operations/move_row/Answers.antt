@@ -1,11 +1,11 @@
 use Rattle.std.proofs.Common.{◌≡◌, Some, refl, ap, sym, subst, ◌∙◌, ◌∷◌, [], arith, length, List}
 use Rattle.std.proofs.lemmas.List.{length-set}
 use Rattle.clr_layers.specs.Layers.{Layer, wholes, layer_at}
-use Rattle.clr_layers.specs.Workspaces.{Workspace, parent_of}
+use Rattle.clr_workspaces.specs.Workspaces.{Workspace, parent_of}
 use Rattle.clr_contents.specs.Pinning.{ChildrenPin, StayOwnBut}
 use Rattle.clr_tree.proofs.LeanLemmas.{near_children, near_own, but_row_moved}
 use Rattle.clr_tree.specs.Moves.{row_moved}
-use Rattle.clr_contents.specs.Roots.{IsRooted}
+use Rattle.clr_workspaces.specs.Roots.{IsRooted}
 use Rattle.clr_contents.proofs.PinLemmas.{extends_both, children_keep}
 use Rattle.clr_tree.proofs.OperationLemmas.{row_set}
 use Rattle.clr_tree.proofs.operations.move_row.Goals as goal

@@ -5,7 +5,7 @@ use Rattle.clr_differences.specs.Differences.{cells_in, HasEntries}
 use Rattle.clr_layers.specs.Layers.{wholes, layer_at}
 use Rattle.clr_contents.specs.Pinning.{Extends, ChildrenPin}
 use Rattle.clr_tree.specs.Moves.{put_into}
-use Rattle.clr_contents.specs.Roots.{IsRooted}
+use Rattle.clr_workspaces.specs.Roots.{IsRooted}
 use Rattle.clr_contents.proofs.PinLemmas.{extends_both, extends_put, children_keep}
 use Rattle.clr_tree.proofs.OperationLemmas.{live_put, put}
 use Rattle.clr_contents.proofs.PinLemmas.{but_put}

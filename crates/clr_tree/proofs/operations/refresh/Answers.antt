@@ -4,12 +4,12 @@ use Rattle.clr_rows.specs.declared.cells.CellId.{CellId}
 use Rattle.clr_rows.specs.Contents.{Changes, rows_after}
 use Rattle.clr_differences.specs.Differences.{Differences, cells_in, is_among}
 use Rattle.clr_layers.specs.Layers.{layer_at, wholes}
-use Rattle.clr_layers.specs.Marks.{mark_last}
-use Rattle.clr_layers.specs.Workspaces.{workspace_at}
+use Rattle.clr_workspaces.specs.Marks.{mark_last}
+use Rattle.clr_workspaces.specs.Workspaces.{workspace_at}
 use Rattle.clr_layers.proofs.Answered.{on_ok, on_err}
-use Rattle.clr_contents.specs.Roots.{IsRooted}
+use Rattle.clr_workspaces.specs.Roots.{IsRooted}
 use Rattle.clr_contents.specs.Lean.{IsLeanBut, StayOwnButNear}
-use Rattle.clr_tree.specs.Operations.{change_marks, own_changes, refresh}
+use Rattle.clr_workspaces.specs.Operations.{change_marks, own_changes, refresh}
 use Rattle.clr_tree.proofs.CreateLemmas.{below_rooted}
 use Rattle.clr_tree.proofs.LeanLemmas.{among_neither, lean_refreshed, lean_still, no_entry}
 use Rattle.clr_tree.proofs.ModelLemmas.{either}

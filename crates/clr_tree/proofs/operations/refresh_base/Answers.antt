@@ -3,16 +3,16 @@ use Rattle.std.specs.FinMap as finite
 use Rattle.clr_rows.specs.declared.cells.CellId.{CellId}
 use Rattle.clr_differences.specs.Differences.{Differences, no_differences, cells_in, is_among}
 use Rattle.clr_layers.specs.Layers.{Layer, wholes, layer_at, layer_changed, is_stored_child}
-use Rattle.clr_layers.specs.Marks.{mark_last}
+use Rattle.clr_workspaces.specs.Marks.{mark_last}
 use Rattle.clr_layers.proofs.Meaning.{name-wholes}
 use Rattle.clr_contents.specs.Pinning.{Extends, ChildrenPin}
-use Rattle.clr_tree.specs.Operations.{change_marks, own_changes}
-use Rattle.clr_layers.specs.Workspaces.{workspace_at}
+use Rattle.clr_workspaces.specs.Operations.{change_marks, own_changes}
+use Rattle.clr_workspaces.specs.Workspaces.{workspace_at}
 use Rattle.clr_contents.specs.Lean.{StayOwnButNear}
 use Rattle.clr_contents.specs.Pinning.{StayOwnBut}
 use Rattle.clr_tree.proofs.LeanLemmas.{among_neither, but_mark_moved, near_children, near_none, near_restarted, no_entry}
 use Rattle.std.proofs.lemmas.List.{length-set}
-use Rattle.clr_contents.specs.Roots.{IsRooted}
+use Rattle.clr_workspaces.specs.Roots.{IsRooted}
 use Rattle.clr_contents.proofs.PinLemmas.{children_keep}
 use Rattle.clr_tree.proofs.CreateLemmas.{moved_is, moved_extends, refreshed_is}
 use Rattle.clr_tree.proofs.OperationLemmas.{children_both}

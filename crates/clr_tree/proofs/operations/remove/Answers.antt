@@ -2,7 +2,7 @@ use Rattle.std.proofs.Common.{◌<◌, ◌∙◌, ap, sym, subst, List, length, 
 use Rattle.clr_layers.specs.Layers.{Layer, wholes, layer_changed, stored_without_mark_of}
 use Rattle.clr_layers.proofs.Meaning.{name-wholes}
 use Rattle.clr_tree.proofs.LeafLemmas.{parent_left, removed_is, gone, no_child_whole, rooted_removed}
-use Rattle.clr_contents.specs.Roots.{IsRooted}
+use Rattle.clr_workspaces.specs.Roots.{IsRooted}
 use Rattle.clr_contents.proofs.ReadLemmas.{within_wholes}
 use Rattle.clr_contents.specs.Lean.{IsLean}
 use Rattle.clr_tree.proofs.LeanLemmas.{lean_dropped, lean_removed}

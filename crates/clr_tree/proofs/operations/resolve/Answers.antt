@@ -1,7 +1,7 @@
 use Rattle.std.proofs.Common.{◌∙◌, ◌∷◌, [], sym, subst, arith}
 use Rattle.clr_layers.specs.Layers.{wholes}
 use Rattle.clr_layers.proofs.Answered.{on_ok, on_err}
-use Rattle.clr_contents.specs.Roots.{IsRooted}
+use Rattle.clr_workspaces.specs.Roots.{IsRooted}
 use Rattle.clr_contents.specs.Lean.{IsLeanBut}
 use Rattle.clr_tree.proofs.LeanLemmas.{lean_resolved, lean_still, rooted_resolved}
 use Rattle.clr_tree.proofs.ModelLemmas.{either}

@@ -3,10 +3,10 @@ use Rattle.std.specs.FinMap as finite
 use Rattle.clr_rows.specs.declared.cells.CellId.{CellId}
 use Rattle.clr_differences.specs.Differences.{Differences, seen_over}
 use Rattle.clr_layers.specs.Layers.{Layer, wholes, layer_at, layer_changed, stored_at, saved_differences}
-use Rattle.clr_layers.specs.Workspaces.{Workspace, workspace_at}
+use Rattle.clr_workspaces.specs.Workspaces.{Workspace, workspace_at}
 use Rattle.clr_contents.specs.Pinning.{ChildrenPin}
-use Rattle.clr_tree.specs.Operations.{change_at}
-use Rattle.clr_contents.specs.Roots.{IsRooted}
+use Rattle.clr_workspaces.specs.Operations.{change_at}
+use Rattle.clr_workspaces.specs.Roots.{IsRooted}
 use Rattle.clr_contents.proofs.ReadLemmas.{current-wholes}
 use Rattle.clr_contents.proofs.MarkLemmas.{length-marks, saved_within}
 use Rattle.clr_contents.proofs.ReadLemmas.{marks-wholes}

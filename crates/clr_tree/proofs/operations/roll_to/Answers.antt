@@ -3,12 +3,12 @@ use Rattle.std.specs.FinMap as finite
 use Rattle.clr_rows.specs.declared.cells.CellId.{CellId}
 use Rattle.clr_differences.specs.Differences.{Differences, is_among}
 use Rattle.clr_layers.specs.Layers.{layer_at, saved_differences, stored_at, wholes}
-use Rattle.clr_layers.specs.Workspaces.{workspace_at}
+use Rattle.clr_workspaces.specs.Workspaces.{workspace_at}
 use Rattle.clr_layers.proofs.Answered.{on_ok, on_err}
-use Rattle.clr_contents.specs.Roots.{IsRooted}
+use Rattle.clr_workspaces.specs.Roots.{IsRooted}
 use Rattle.clr_contents.proofs.MarkLemmas.{length-marks, saved_within}
 use Rattle.clr_contents.specs.Lean.{IsLeanBut, StayOwnButNear}
-use Rattle.clr_tree.specs.Operations.{roll_to}
+use Rattle.clr_workspaces.specs.Operations.{roll_to}
 use Rattle.clr_tree.proofs.LeanLemmas.{among_neither, lean_rolled, lean_still, no_entry}
 use Rattle.clr_tree.proofs.ModelLemmas.{either}
 use Rattle.clr_tree.proofs.RootLemmas.{rooted_set}

@@ -1,7 +1,7 @@
 use Rattle.std.proofs.Common.{◌≡◌, suc, ◌+◌, true, take, ap, sym, ◌∙◌, subst, arith}
 use Rattle.std.specs.List.{list_all}
 use Rattle.clr_layers.specs.Layers.{wholes}
-use Rattle.clr_layers.specs.Workspaces.{no_workspace}
+use Rattle.clr_workspaces.specs.Workspaces.{no_workspace}
 use Rattle.clr_layers.proofs.Meaning.{length-wholes}
 use Rattle.clr_tree.specs.Parts.{bare_marks, is_marked_once}
 use Rattle.clr_tree.proofs.PartLemmas.{all_next, all_fails, take_all}

@@ -2,13 +2,13 @@ use Rattle.std.proofs.Common.{◌≡◌, ℕ, ◌<◌, ◌&&◌, List, length, a
 use Rattle.std.specs.List.{list_all}
 use Rattle.clr_rows.specs.Contents.{Content, no_rows}
 use Rattle.clr_layers.specs.Layers.{Layer, layer_at, wholes}
-use Rattle.clr_layers.specs.Marks.{Mark, Name, saved_names}
-use Rattle.clr_layers.specs.Workspaces.{workspace_at}
+use Rattle.clr_workspaces.specs.Marks.{Mark, Name, saved_names}
+use Rattle.clr_workspaces.specs.Workspaces.{workspace_at}
 use Rattle.clr_layers.specs.declared.stored_marks.StoredMark.{StoredMark}
 use Rattle.clr_layers.proofs.Meaning.{name-wholes}
 use Rattle.clr_contents.proofs.ReadLemmas.{marks-wholes}
 use Rattle.clr_tree.specs.Parts.{bare_mark, bare_marks, is_childs, is_marked_once, has_child_marks, has_good_marks}
-use Rattle.clr_tree.specs.Soundness.{are_good_savepoints}
+use Rattle.clr_workspaces.specs.Soundness.{are_good_savepoints}
 use Rattle.std.proofs.Math.Bool.{and-false}
 use Rattle.clr_tree.proofs.PartLemmas.{all_map, good_alike}
 use Rattle.clr_tree.proofs.part_checks.has_good_marks.Goals as goal

@@ -2,9 +2,9 @@ use Rattle.std.proofs.Common.{◌≡◌, ℕ, suc, ◌+◌, ◌<◌, ◌≤◌, 
 use Rattle.std.proofs.Math.Bool.{and-false}
 use Rattle.std.proofs.lemmas.Grind.{common_steps}
 use Rattle.clr_rows.specs.Contents.{no_rows}
-use Rattle.clr_layers.specs.Marks.{saved_count}
+use Rattle.clr_workspaces.specs.Marks.{saved_count}
 use Rattle.clr_tree.specs.Parts.{bare_mark, bare_marks, has_new_name}
-use Rattle.clr_tree.specs.declared.limits.TheConstants.{MOST_SAVEPOINTS}
+use Rattle.clr_workspaces.specs.declared.limits.TheConstants.{MOST_SAVEPOINTS}
 use Rattle.clr_layers.specs.declared.stored_marks.StoredMark.{StoredMark}
 use Rattle.clr_tree.proofs.PartLemmas.{drop_at, rest_is, past_all, are_new, new_skip, not_new, good_from}
 use Rattle.clr_tree.proofs.OperationLemmas.{saved_as_stored}

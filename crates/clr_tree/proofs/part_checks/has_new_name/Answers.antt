@@ -2,7 +2,7 @@ use Rattle.std.proofs.Common.{◌&&◌, not, ap, sym, ◌∙◌}
 use Rattle.std.specs.List.{list_any}
 use Rattle.std.specs.Str.{bytes_eq}
 use Rattle.clr_rows.specs.Names.{is_good_name}
-use Rattle.clr_layers.specs.Marks.{saved_names}
+use Rattle.clr_workspaces.specs.Marks.{saved_names}
 use Rattle.clr_tree.specs.Parts.{bare_mark, bare_marks, has_new_name}
 use Rattle.clr_tree.proofs.part_checks.has_new_name.Goals as goal
 

@@ -1,9 +1,9 @@
 use Rattle.std.proofs.Common.{◌||◌, ◌==◌, not, ap, sym, ◌∙◌}
 use Rattle.std.specs.Str.{bytes_eq}
 use Rattle.clr_rows.specs.Contents.{no_rows}
-use Rattle.clr_layers.specs.Marks.{mark_count}
+use Rattle.clr_workspaces.specs.Marks.{mark_count}
 use Rattle.clr_layers.specs.Layers.{wholes}
-use Rattle.clr_layers.specs.Workspaces.{workspace_at}
+use Rattle.clr_workspaces.specs.Workspaces.{workspace_at}
 use Rattle.clr_layers.proofs.Meaning.{name-wholes, parent-wholes}
 use Rattle.clr_tree.specs.Parts.{bare_marks}
 use Rattle.clr_tree.proofs.OperationLemmas.{marks_as_stored}

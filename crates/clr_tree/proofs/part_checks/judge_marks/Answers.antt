@@ -1,6 +1,6 @@
 use Rattle.std.proofs.Common.{◌≡◌, suc, ◌+◌, ◌-◌, cond, Some, None, length, ap, sym, ◌∙◌, arith}
 use Rattle.clr_layers.specs.Layers.{wholes}
-use Rattle.clr_layers.specs.Workspaces.{workspace_at}
+use Rattle.clr_workspaces.specs.Workspaces.{workspace_at}
 use Rattle.clr_tree.specs.Parts.{has_good_marks, marks_fault_at}
 use Rattle.clr_tree.specs.declared.parts.PartFault.TheVariants.{BadMarks}
 use Rattle.clr_tree.proofs.FaultLemmas.{below_none, below_next, below_found, below_all}

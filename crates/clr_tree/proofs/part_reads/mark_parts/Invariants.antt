@@ -1,6 +1,6 @@
 use Rattle.std.proofs.Common.{◌≡◌, map, take}
 use Rattle.clr_layers.specs.Layers.{wholes, whole_mark, layer_at}
-use Rattle.clr_layers.specs.Workspaces.{workspace_at}
+use Rattle.clr_workspaces.specs.Workspaces.{workspace_at}
 use Rattle.clr_tree.specs.Parts.{marks_of}
 use Rattle.clr_tree.proofs.part_reads.mark_parts.Given as goal
 

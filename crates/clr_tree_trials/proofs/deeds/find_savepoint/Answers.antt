@@ -1,8 +1,8 @@
 use Rattle.std.proofs.Common.{◌≡◌, ℕ, true, List, [], Option, None, Some, refl, sym}
 use Rattle.std.specs.Prelude.{IfSome}
 use Rattle.std.proofs.lemmas.List.Quantifiers.{position-Some}
-use Rattle.clr_layers.specs.Marks.{Name, Mark, Saved, ChildMark, is_saved, is_saved_as, find_mark, mark_at}
-use Rattle.clr_layers.specs.Workspaces.{workspace_at}
+use Rattle.clr_workspaces.specs.Marks.{Name, Mark, Saved, ChildMark, is_saved, is_saved_as, find_mark, mark_at}
+use Rattle.clr_workspaces.specs.Workspaces.{workspace_at}
 use Rattle.clr_tree_trials.proofs.deeds.find_savepoint.Goals as goal
 
 saved_as : (name : Name) (mark : Mark) → is_saved_as name mark ≡ true → is_saved mark ≡ true

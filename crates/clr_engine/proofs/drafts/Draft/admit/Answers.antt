@@ -1,6 +1,6 @@
 use Rattle.std.proofs.Common.{List, ap, subst, sym, ◌∙◌}
 use Rattle.clr_steps.proofs.UnheldLemmas.{unheld_law}
-use Rattle.clr_layers.specs.Workspaces.{Workspace}
+use Rattle.clr_workspaces.specs.Workspaces.{Workspace}
 use Rattle.clr_steps.specs.Offices.{office_of}
 use Rattle.clr_engine.specs.Drafts.{IsAdmitted}
 use Rattle.clr_engine.specs.Finders.{AreFinders, kept_contents}

@@ -1,7 +1,7 @@
 use Rattle.std.proofs.Common.{◌≡◌, ◌∙◌, ◌++◌, ◌∷◌, [], List, length, map, Bor, ap, sym, subst}
 use Rattle.clr_rows.specs.Contents.{Changes, row_at}
 use Rattle.clr_change.specs.declared.change_sets.ChangeSet.{ChangeSet}
-use Rattle.clr_layers.specs.Workspaces.{workspace_at}
+use Rattle.clr_workspaces.specs.Workspaces.{workspace_at}
 use Rattle.clr_grid.specs.RowMaps.{Rows}
 use Rattle.clr_rules.specs.Needs.{Holds}
 use Rattle.clr_foot.specs.Scenes.{IsReady, SceneModel}

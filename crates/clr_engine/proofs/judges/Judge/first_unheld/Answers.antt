@@ -1,5 +1,5 @@
 use Rattle.std.proofs.Common.{◌<◌, ◌≤◌, length, Some, None, ap, sym, subst, ◌∙◌}
-use Rattle.clr_layers.specs.Workspaces.{workspace_at}
+use Rattle.clr_workspaces.specs.Workspaces.{workspace_at}
 use Rattle.clr_steps.specs.Refusals.{broken_where}
 use Rattle.clr_engine.proofs.Fits.{fit_current}
 use Rattle.clr_engine.proofs.Unheld.{need_is, none_past, unheld_here}

@@ -1,5 +1,5 @@
 use Rattle.std.proofs.Common.{◌∙◌, sym, subst}
-use Rattle.clr_layers.specs.Workspaces.{workspace_at}
+use Rattle.clr_workspaces.specs.Workspaces.{workspace_at}
 use Rattle.clr_engine.specs.Trees.{FitBoth}
 use Rattle.clr_engine.proofs.Fits.{fit_base}
 use Rattle.clr_engine.proofs.Prepared.{not_kept}

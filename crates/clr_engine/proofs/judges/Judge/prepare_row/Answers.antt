@@ -3,7 +3,7 @@ use Rattle.std.specs.Prelude.{IfOk, MatchOption}
 use Rattle.std.specs.Option.{option_copied, option_map}
 use Rattle.clr_rows.specs.Contents.{Content}
 use Rattle.clr_change.specs.ChangeSets.{set_change}
-use Rattle.clr_layers.specs.Workspaces.{workspace_at}
+use Rattle.clr_workspaces.specs.Workspaces.{workspace_at}
 use Rattle.clr_steps.specs.Refusals.{broken_where}
 use Rattle.clr_steps.specs.declared.commands.Reply.TheVariants.{RuleBroken}
 use Rattle.clr_engine.specs.Finders.{IsPrepared}

@@ -1,6 +1,6 @@
 use Rattle.std.proofs.Common.{◌∙◌, sym, subst}
 use Rattle.clr_rules.specs.Books.{FitsContent}
-use Rattle.clr_layers.specs.Workspaces.{workspace_at}
+use Rattle.clr_workspaces.specs.Workspaces.{workspace_at}
 use Rattle.clr_engine.specs.Finders.{IsFinderOf}
 use Rattle.clr_engine.proofs.Fits.{fit_current}
 use Rattle.clr_engine.proofs.Prepared.{within}

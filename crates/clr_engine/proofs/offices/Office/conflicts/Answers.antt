@@ -1,6 +1,6 @@
 use Rattle.std.proofs.Common.{ℕ, refl, sym, subst, ap, ◌∙◌, Option, Some}
 use Rattle.std.specs.Prelude.{IsSome}
-use Rattle.clr_layers.specs.Workspaces.{workspace_at}
+use Rattle.clr_workspaces.specs.Workspaces.{workspace_at}
 use Rattle.clr_rows.specs.Contents.{conflicts}
 use Rattle.clr_steps.specs.Readings.{conflicts_in}
 use Rattle.clr_engine.proofs.Readings.{conflicts_is, live_is, no_conflicts_is, seen_in, shown, unknown, zero_of}

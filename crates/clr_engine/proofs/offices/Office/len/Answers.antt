@@ -1,7 +1,7 @@
 use Rattle.std.proofs.Common.{ℕ, ap, subst, sym, arith}
 use Rattle.std.specs.Prelude.{◌≡◌, List, [], ◌∷◌}
-use Rattle.clr_layers.specs.Workspaces.{Workspace, live_workspace, workspace_at}
-use Rattle.clr_tree.specs.Soundness.{IsSound}
+use Rattle.clr_workspaces.specs.Workspaces.{Workspace, live_workspace, workspace_at}
+use Rattle.clr_workspaces.specs.Soundness.{IsSound}
 use Rattle.clr_steps.specs.Offices.{Office, below_live}
 use Rattle.clr_engine.proofs.offices.Office.len.Goals as goal
 

@@ -1,5 +1,5 @@
 use Rattle.std.proofs.Common.{List, subst, sym}
-use Rattle.clr_layers.specs.Workspaces.{Workspace}
+use Rattle.clr_workspaces.specs.Workspaces.{Workspace}
 use Rattle.clr_steps.specs.Offices.{Office, office_of}
 use Rattle.clr_steps.specs.Steps.{IsAnswer}
 use Rattle.clr_steps.proofs.StepLemmas.{answer_law}

@@ -1,6 +1,6 @@
 use Rattle.std.proofs.Common.{ap, sym, ◌∙◌}
 use Rattle.clr_layers.specs.Layers.{wholes}
-use Rattle.clr_layers.specs.Workspaces.{workspace_at, children_of}
+use Rattle.clr_workspaces.specs.Workspaces.{workspace_at, children_of}
 use Rattle.clr_layers.proofs.Meaning.{name-wholes}
 use Rattle.clr_tree.specs.Trees.{Tree}
 use Rattle.clr_tree.proofs.LeafLemmas.{children-wholes}

@@ -1,11 +1,11 @@
 use Rattle.std.proofs.Common.{◌≡◌, ◌<◌, None, length, sym, subst}
 use Rattle.clr_tree.specs.Trees.{Tree}
-use Rattle.clr_layers.specs.Workspaces.{find, depth_of}
-use Rattle.clr_tree.specs.Operations.{after_create}
-use Rattle.clr_tree.specs.declared.limits.TheConstants.{MOST_WORKSPACES, MOST_LEVELS}
+use Rattle.clr_workspaces.specs.Workspaces.{find, depth_of}
+use Rattle.clr_workspaces.specs.Operations.{after_create}
+use Rattle.clr_workspaces.specs.declared.limits.TheConstants.{MOST_WORKSPACES, MOST_LEVELS}
 use Rattle.clr_tree.proofs.TreeLemmas.{sound_created}
 use Rattle.clr_layers.specs.Layers.{wholes}
-use Rattle.clr_tree.specs.Soundness.{IsSound}
+use Rattle.clr_workspaces.specs.Soundness.{IsSound}
 use Rattle.clr_contents.proofs.ReadLemmas.{within_wholes}
 use Rattle.clr_tree.proofs.ModelLemmas.{within_tree, became, either}
 use Rattle.clr_layers.proofs.Answered.{on_ok, on_err}

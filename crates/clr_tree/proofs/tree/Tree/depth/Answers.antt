@@ -1,5 +1,5 @@
 use Rattle.std.proofs.Common.{ap, ◌∙◌}
-use Rattle.clr_layers.specs.Workspaces.{depth_of}
+use Rattle.clr_workspaces.specs.Workspaces.{depth_of}
 use Rattle.clr_tree.specs.Trees.{Tree}
 use Rattle.clr_tree.proofs.ModelLemmas.{within_tree}
 use Rattle.clr_tree.proofs.tree.Tree.depth.Goals as goal

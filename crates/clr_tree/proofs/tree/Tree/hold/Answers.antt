@@ -1,7 +1,7 @@
 use Rattle.std.proofs.Common.{true, ap, sym, subst, ◌∙◌}
 use Rattle.clr_layers.specs.Layers.{wholes}
-use Rattle.clr_tree.specs.Operations.{set_kept}
-use Rattle.clr_tree.specs.Soundness.{IsSound}
+use Rattle.clr_workspaces.specs.Operations.{set_kept}
+use Rattle.clr_workspaces.specs.Soundness.{IsSound}
 use Rattle.clr_contents.proofs.ReadLemmas.{within_wholes}
 use Rattle.clr_tree.proofs.ModelLemmas.{within_tree, became}
 use Rattle.clr_tree.proofs.OperationLemmas.{kept_set}

@@ -1,5 +1,5 @@
 use Rattle.std.proofs.Common.{ap, sym, ◌∙◌}
-use Rattle.clr_layers.specs.Workspaces.{workspace_at}
+use Rattle.clr_workspaces.specs.Workspaces.{workspace_at}
 use Rattle.clr_layers.proofs.Meaning.{live-wholes}
 use Rattle.clr_tree.specs.Trees.{Tree}
 use Rattle.clr_contents.proofs.ReadLemmas.{within_layers}

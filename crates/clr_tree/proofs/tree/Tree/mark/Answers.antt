@@ -1,13 +1,13 @@
 use Rattle.std.proofs.Common.{◌≡◌, ◌<◌, None, sym, subst}
 use Rattle.clr_tree.specs.Trees.{Tree}
-use Rattle.clr_layers.specs.Workspaces.{workspace_at}
-use Rattle.clr_layers.specs.Marks.{find_mark, saved_count}
-use Rattle.clr_tree.specs.Operations.{after_mark}
-use Rattle.clr_tree.specs.declared.limits.TheConstants.{MOST_SAVEPOINTS}
+use Rattle.clr_workspaces.specs.Workspaces.{workspace_at}
+use Rattle.clr_workspaces.specs.Marks.{find_mark, saved_count}
+use Rattle.clr_workspaces.specs.Operations.{after_mark}
+use Rattle.clr_workspaces.specs.declared.limits.TheConstants.{MOST_SAVEPOINTS}
 use Rattle.clr_tree.proofs.NameLemmas.{good_more, absent_name, count_names}
 use Rattle.clr_tree.proofs.TreeLemmas.{sound_saved}
 use Rattle.clr_layers.specs.Layers.{wholes}
-use Rattle.clr_tree.specs.Soundness.{IsSound}
+use Rattle.clr_workspaces.specs.Soundness.{IsSound}
 use Rattle.clr_contents.proofs.ReadLemmas.{within_wholes}
 use Rattle.clr_tree.proofs.ModelLemmas.{within_tree, became, either}
 use Rattle.clr_layers.proofs.Answered.{on_ok, on_err}

@@ -1,4 +1,4 @@
-use Rattle.clr_tree.specs.declared.rebases.Rebase.TheVariants as rebase
+use Rattle.clr_workspaces.specs.declared.rebases.Rebase.TheVariants as rebase
 use Rattle.clr_tree.proofs.ModelLemmas.{within_tree}
 use Rattle.clr_tree.proofs.RebaseLemmas.{list_rebased, list_stays, rebased_sound}
 use Rattle.clr_tree.proofs.tree.Tree.merge_changes.Goals as goal

@@ -1,6 +1,6 @@
 use Rattle.std.proofs.Common.{◌≡◌, ap, sym, ◌∙◌}
 use Rattle.clr_layers.specs.Layers.{find_layer, wholes}
-use Rattle.clr_layers.specs.Workspaces.{parent_of}
+use Rattle.clr_workspaces.specs.Workspaces.{parent_of}
 use Rattle.clr_tree.specs.Trees.{Tree}
 use Rattle.clr_contents.proofs.ReadLemmas.{parent_here, within_wholes}
 use Rattle.clr_tree.proofs.RootLemmas.{parent_earlier, parent_found}

@@ -1,11 +1,11 @@
 use Rattle.std.proofs.Common.{◌≡◌, ap, sym, subst}
 use Rattle.clr_tree.specs.Trees.{Tree}
-use Rattle.clr_layers.specs.Workspaces.{workspace_at, children_of}
-use Rattle.clr_tree.specs.Operations.{after_remove, after_remove_under, at_position}
+use Rattle.clr_workspaces.specs.Workspaces.{workspace_at, children_of}
+use Rattle.clr_workspaces.specs.Operations.{after_remove, after_remove_under, at_position}
 use Rattle.clr_tree.proofs.LeafLemmas.{no_child_whole}
 use Rattle.clr_tree.proofs.TreeLemmas.{sound_removed}
 use Rattle.clr_layers.specs.Layers.{wholes}
-use Rattle.clr_tree.specs.Soundness.{IsSound}
+use Rattle.clr_workspaces.specs.Soundness.{IsSound}
 use Rattle.clr_contents.proofs.ReadLemmas.{within_wholes}
 use Rattle.clr_tree.proofs.ModelLemmas.{within_tree, became}
 use Rattle.clr_tree.proofs.tree.Tree.remove.Goals as goal

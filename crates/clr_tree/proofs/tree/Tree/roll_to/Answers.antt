@@ -1,11 +1,11 @@
 use Rattle.std.proofs.Common.{◌≡◌, true, false, sym, subst}
 use Rattle.clr_tree.specs.Trees.{Tree}
-use Rattle.clr_layers.specs.Workspaces.{workspace_at}
-use Rattle.clr_layers.specs.Marks.{is_saved, is_held, mark_at}
-use Rattle.clr_tree.specs.Operations.{after_roll_to}
+use Rattle.clr_workspaces.specs.Workspaces.{workspace_at}
+use Rattle.clr_workspaces.specs.Marks.{is_saved, is_held, mark_at}
+use Rattle.clr_workspaces.specs.Operations.{after_roll_to}
 use Rattle.clr_tree.proofs.TreeLemmas.{sound_rolled_to}
 use Rattle.clr_layers.specs.Layers.{wholes}
-use Rattle.clr_tree.specs.Soundness.{IsSound}
+use Rattle.clr_workspaces.specs.Soundness.{IsSound}
 use Rattle.clr_contents.proofs.ReadLemmas.{within_wholes}
 use Rattle.clr_tree.proofs.ModelLemmas.{within_tree, became, either}
 use Rattle.clr_layers.proofs.Answered.{on_ok, on_err}

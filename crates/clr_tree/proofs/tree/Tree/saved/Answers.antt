@@ -1,5 +1,5 @@
 use Rattle.std.proofs.Common.{List, ap, sym, ◌∙◌}
-use Rattle.clr_layers.specs.Marks.{Mark, saved_count}
+use Rattle.clr_workspaces.specs.Marks.{Mark, saved_count}
 use Rattle.clr_tree.proofs.OperationLemmas.{saved_as_stored}
 use Rattle.clr_tree.proofs.tree.Tree.saved.Goals as goal
 

@@ -1,7 +1,7 @@
 use Rattle.std.proofs.Common.{◌≡◌, true, sym, subst}
 use Rattle.clr_tree.specs.Trees.{Tree}
-use Rattle.clr_layers.specs.Workspaces.{workspace_at}
-use Rattle.clr_layers.specs.Marks.{is_saved, mark_at}
+use Rattle.clr_workspaces.specs.Workspaces.{workspace_at}
+use Rattle.clr_workspaces.specs.Marks.{is_saved, mark_at}
 use Rattle.clr_tree.proofs.LiveLemmas.{saved_below}
 use Rattle.clr_tree.proofs.ModelLemmas.{within_tree}
 use Rattle.clr_tree.proofs.tree.Tree.saved_rows.Goals as goal

@@ -1,6 +1,6 @@
 use Rattle.std.proofs.Common.{◌≡◌, ◌<◌, ◌∙◌, ℕ, [], sym, subst, length}
 use Rattle.clr_contents.proofs.ReadLemmas.{within_layers}
-use Rattle.clr_contents.specs.Roots.{IsRooted}
+use Rattle.clr_workspaces.specs.Roots.{IsRooted}
 use Rattle.clr_layers.specs.Layers.{layer_at, stored_in}
 use Rattle.clr_tree.specs.Trees.{Tree, needed, needed_layer, needed_of_marks, saved_at, stored_at, stored_of_marks}
 use Rattle.clr_tree.proofs.LeanLemmas.{lean_count, lean_layer, lean_saved}

@@ -1,9 +1,9 @@
 use Rattle.std.proofs.Common.{◌≡◌, ◌<◌, true, ap, sym, subst, ◌∙◌}
 use Rattle.clr_layers.specs.Layers.{wholes}
-use Rattle.clr_layers.specs.Marks.{is_saved, mark_at}
-use Rattle.clr_layers.specs.Workspaces.{workspace_at}
-use Rattle.clr_tree.specs.Operations.{after_unmark}
-use Rattle.clr_tree.specs.Soundness.{IsSound}
+use Rattle.clr_workspaces.specs.Marks.{is_saved, mark_at}
+use Rattle.clr_workspaces.specs.Workspaces.{workspace_at}
+use Rattle.clr_workspaces.specs.Operations.{after_unmark}
+use Rattle.clr_workspaces.specs.Soundness.{IsSound}
 use Rattle.clr_tree.specs.Trees.{Tree}
 use Rattle.clr_contents.proofs.ReadLemmas.{within_wholes}
 use Rattle.clr_tree.proofs.ModelLemmas.{within_tree, became}

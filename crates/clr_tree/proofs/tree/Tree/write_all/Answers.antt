@@ -1,10 +1,10 @@
 use Rattle.std.proofs.Common.{ap, sym, subst, ◌∙◌}
 use Rattle.clr_differences.specs.Differences.{Rows}
 use Rattle.clr_tree.specs.Moves.{put_into}
-use Rattle.clr_tree.specs.Operations.{after_write}
+use Rattle.clr_workspaces.specs.Operations.{after_write}
 use Rattle.clr_tree.proofs.TreeLemmas.{sound_current}
 use Rattle.clr_layers.specs.Layers.{wholes}
-use Rattle.clr_tree.specs.Soundness.{IsSound}
+use Rattle.clr_workspaces.specs.Soundness.{IsSound}
 use Rattle.clr_contents.proofs.ReadLemmas.{within_wholes}
 use Rattle.clr_tree.proofs.ModelLemmas.{within_tree, became, either}
 use Rattle.clr_layers.proofs.Answered.{on_ok, on_err}

@@ -4,10 +4,10 @@ use Rattle.std.specs.List.{list_all}
 use Rattle.clr_rows.specs.Contents.{no_rows}
 use Rattle.clr_rows.specs.Names.{is_good_name}
 use Rattle.clr_rows.specs.Schemas.{are_distinct}
-use Rattle.clr_layers.specs.Marks.{Name, mark_count, saved_names}
-use Rattle.clr_layers.specs.Workspaces.{Workspace, workspace_at, child_count, depth_of}
-use Rattle.clr_contents.specs.Roots.{IsRooted}
-use Rattle.clr_tree.specs.declared.limits.TheConstants.{MOST_WORKSPACES, MOST_LEVELS, MOST_SAVEPOINTS}
+use Rattle.clr_workspaces.specs.Marks.{Name, mark_count, saved_names}
+use Rattle.clr_workspaces.specs.Workspaces.{Workspace, workspace_at, child_count, depth_of}
+use Rattle.clr_workspaces.specs.Roots.{IsRooted}
+use Rattle.clr_workspaces.specs.declared.limits.TheConstants.{MOST_WORKSPACES, MOST_LEVELS, MOST_SAVEPOINTS}
 
 -- names of savepoints: good, different, and not too many
 abbrev pub are_good_savepoints : List Name → Bool

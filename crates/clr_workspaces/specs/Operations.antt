@@ -2,12 +2,12 @@
 use Rattle.std.specs.Prelude.{ℕ, zero, suc, Bool, false, List, [], ◌∷◌, ◌++◌, Option, Some, None, take, drop, remove, slice_set}
 use Rattle.clr_rows.specs.declared.cells.CellId.{CellId}
 use Rattle.clr_rows.specs.Contents.{Content, row_at, set_cell, Changes, changes, taken_over}
-use Rattle.clr_layers.specs.Marks.{Name, Mark, Saved, ChildMark, mark_at, saved_content, without_saved, without_mark_of, mark_last}
-use Rattle.clr_layers.specs.Workspaces.{Workspace, workspace_at, parent_of}
-use Rattle.clr_tree.specs.declared.rebases.Keep.{Keep}
-use Rattle.clr_tree.specs.declared.rebases.Keep.TheVariants as keeps
-use Rattle.clr_tree.specs.declared.rebases.Rebase.{Rebase}
-use Rattle.clr_tree.specs.declared.rebases.Rebase.TheVariants.{Refresh, Merge, OneRow}
+use Rattle.clr_workspaces.specs.Marks.{Name, Mark, Saved, ChildMark, mark_at, saved_content, without_saved, without_mark_of, mark_last}
+use Rattle.clr_workspaces.specs.Workspaces.{Workspace, workspace_at, parent_of}
+use Rattle.clr_workspaces.specs.declared.rebases.Keep.{Keep}
+use Rattle.clr_workspaces.specs.declared.rebases.Keep.TheVariants as keeps
+use Rattle.clr_workspaces.specs.declared.rebases.Rebase.{Rebase}
+use Rattle.clr_workspaces.specs.declared.rebases.Rebase.TheVariants.{Refresh, Merge, OneRow}
 
 -- what becomes of one workspace ------------------------------------------------------------------
 

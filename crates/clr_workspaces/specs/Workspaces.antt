@@ -4,7 +4,7 @@ use Rattle.std.specs.Coded.{Coded, code_by, coded×, coded_list, coded_bool}
 use Rattle.std.specs.Str.{bytes_eq}
 use Rattle.clr_rows.specs.Contents.{Content, coded_content, no_rows}
 use Rattle.clr_rows.specs.Names.{live_name}
-use Rattle.clr_layers.specs.Marks.{Name, Mark, coded_name, coded_mark}
+use Rattle.clr_workspaces.specs.Marks.{Name, Mark, coded_name, coded_mark}
 
 -- a workspace: what it took over from its parent, what it sees now, its marks in order, and whether every rule is to hold in it
 pub record Workspace : Type 0 where

@@ -1,7 +1,7 @@
 -- Workspaces that form a tree.
 use Rattle.std.specs.Prelude.{◌≡◌, ℕ, ◌<◌, true, List, [], length, Some}
 use Rattle.clr_rows.specs.Names.{is_good_name, live_name}
-use Rattle.clr_layers.specs.Workspaces.{Workspace, workspace_at, find, parent_of}
+use Rattle.clr_workspaces.specs.Workspaces.{Workspace, workspace_at, find, parent_of}
 
 -- LIVE is first; names are good, and each finds its own position; the parent of each later workspace stands before it
 pub record IsRooted (ws : List Workspace) : Type 0 where

@@ -1,0 +1,5 @@
+pub mod Marks
+pub mod Workspaces
+pub mod Roots
+pub mod Operations
+pub mod Soundness
