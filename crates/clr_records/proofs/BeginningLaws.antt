@@ -50,13 +50,13 @@ pub begun_behind : {A : Type 0} (old front more mid new : List A) → mid ≡ ol
 begun_behind old front more mid new is begun = then_begun old (front ++ more) mid new front more [] is (ap (λ xs. front ++ xs) (sym (append-nil more))) begun
 
 -- where what was to be added of the items before it was added
-pub begun_at : {X A : Type 0} (f : X → List A) (xs : List X) (at : ℕ) (x : X) (old mid new : List A)
-    → at < length xs → x ≡ get_or xs at x → mid ≡ old ++ flat_map f (take at xs) → IsBegun mid (f x) new → IsBegun old (flat_map f xs) new
-begun_at f xs at x old mid new lt is before begun =
+pub begun_at : {X A : Type 0} (f : X → List A) (xs : List X) (at : ℕ) (unread : X) (old mid new : List A)
+    → at < length xs → mid ≡ old ++ flat_map f (take at xs) → IsBegun mid (f (get_or xs at unread)) new → IsBegun old (flat_map f xs) new
+begun_at f xs at unread old mid new lt before begun =
+    let x = get_or xs at unread in
     let rest = drop (at + 1) xs in
-    let item : drop at xs ≡ x ∷ rest = drop_more xs at x lt ∙ ap (λ first. first ∷ rest) (sym is) in
     then_begun old (flat_map f xs) mid new (flat_map f (take at xs)) (f x) (flat_map f rest) before
-    (ap (flat_map f) (sym (take-append-drop at xs)) ∙ flat_map-append f (take at xs) (drop at xs) ∙ ap (λ ys. flat_map f (take at xs) ++ flat_map f ys) item) begun
+    (ap (flat_map f) (sym (take-append-drop at xs)) ∙ flat_map-append f (take at xs) (drop at xs) ∙ ap (λ ys. flat_map f (take at xs) ++ flat_map f ys) (drop_more xs at unread lt)) begun
 
 -- where the last piece was added, or nothing of it
 pub last_begun : {A : Type 0} (done : Bool) (old more mid new front last : List A) → new ≡ (if done then mid ++ last else mid) → mid ≡ old ++ front → more ≡ front ++ last → IsBegun old more new
