@@ -1,8 +1,8 @@
 ghost use Rattle.std.specs.Prelude.{◌≡◌, None, Some, IfOk};
 ghost use Rattle.serde_json.specs.View.{view};
-ghost use Rattle.clr_office_data.specs.CellData.{coordinates_of, live_data, named_cell, named_cell_data, named_row, named_row_data, row_data, shape_data};
+ghost use Rattle.clr_office_json.specs.CellData.{coordinates_of, live_data, named_cell, named_cell_data, named_row, named_row_data, row_data, shape_data};
 ghost use Rattle.clr_rows.specs.Schemas.{name_of_table};
-ghost use Rattle.clr_office_data.specs.Values.{list_data, number_data, value_data};
+ghost use Rattle.clr_office_json.specs.Values.{list_data, number_data, value_data};
 
 use crate::names::value_json;
 use clr_rows::{CellId, Place, Row, Schema, Shape, Sheet, Value};

@@ -1,7 +1,7 @@
 ghost use Rattle.std.specs.Prelude.{◌≡◌, IfOk};
 ghost use Rattle.serde_json.specs.View.{view};
-ghost use Rattle.clr_office_data.specs.RuleData.{name_of_column, name_of_number};
-ghost use Rattle.clr_office_data.specs.Values.{value_data};
+ghost use Rattle.clr_office_json.specs.RuleData.{name_of_column, name_of_number};
+ghost use Rattle.clr_office_json.specs.Values.{value_data};
 
 use clr_rows::{KEY, Schema, Value};
 use clr_rules::Col;

@@ -1,9 +1,9 @@
 ghost use Rattle.std.specs.Prelude.{◌≡◌, map, IfOk};
 ghost use Rattle.serde_json.specs.View.{view};
 ghost use Rattle.clr_rules.specs.declared.rules.Rule.TheVariants.{Unique, Partner, EndNode, Crossing, Near};
-ghost use Rattle.clr_office_data.specs.RuleData.{literal_data, name_of_number, named_columns, named_literal, named_rule, named_rule_data};
-ghost use Rattle.clr_office_data.specs.RuleData.{named_side, names_data, rules_data, side_data, tip_word};
-ghost use Rattle.clr_office_data.specs.Values.{list_data};
+ghost use Rattle.clr_office_json.specs.RuleData.{literal_data, name_of_number, named_columns, named_literal, named_rule, named_rule_data};
+ghost use Rattle.clr_office_json.specs.RuleData.{named_side, names_data, rules_data, side_data, tip_word};
+ghost use Rattle.clr_office_json.specs.Values.{list_data};
 
 use crate::names::{column_name, numbered_name, value_json};
 use clr_rows::{Schema, Value};

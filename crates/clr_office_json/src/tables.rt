@@ -1,7 +1,7 @@
 ghost use Rattle.std.specs.Prelude.{◌≡◌, IfOk};
 ghost use Rattle.serde_json.specs.View.{view};
-ghost use Rattle.clr_office_data.specs.TableData.{column_data, form_word, kind_word, table_data};
-ghost use Rattle.clr_office_data.specs.Values.{list_data};
+ghost use Rattle.clr_office_json.specs.TableData.{column_data, form_word, kind_word, table_data};
+ghost use Rattle.clr_office_json.specs.Values.{list_data};
 
 use clr_rows::{Form, Kind, Schema, TableDef, Words};
 use serde_json::{Value as Json, json};

@@ -1,8 +1,8 @@
 ghost use Rattle.std.specs.Prelude.{◌≡◌, IfOk};
 ghost use Rattle.std.specs.Option.{option_copied};
 ghost use Rattle.serde_json.specs.View.{view};
-ghost use Rattle.clr_office_data.specs.CellData.{differences_data, named_cell, named_cell_data};
-ghost use Rattle.clr_office_data.specs.WorkspaceData.{layer_data, marks_data, named_mark, named_mark_data};
+ghost use Rattle.clr_office_json.specs.CellData.{differences_data, named_cell, named_cell_data};
+ghost use Rattle.clr_office_json.specs.WorkspaceData.{layer_data, marks_data, named_mark, named_mark_data};
 
 use crate::cells::{gone_json, row_json};
 use clr_differences::Differences;

@@ -12,7 +12,7 @@ use Rattle.clr_layers.specs.Layers.{Layer}
 use Rattle.clr_workspaces.specs.Workspaces.{Workspace}
 use Rattle.clr_steps.specs.Offices.{Office}
 use Rattle.clr_engine.specs.Drafts.{layer_in, part_at}
-use Rattle.clr_office_data.specs.WorkspaceData.{layer_data}
+use Rattle.clr_office_json.specs.WorkspaceData.{layer_data}
 
 -- a workspace by what is stored of it
 pub one_written : (o : Office) (position : ℕ) (l : Layer) (r : Result Json AllocError) → Some l ≡ option_map (layer_in o) (part_at o position)

@@ -23,7 +23,7 @@ use Rattle.clr_steps.proofs.SeenLemmas.{name_law}
 use Rattle.clr_engine.specs.Drafts.{layer_in}
 use Rattle.clr_office_text.specs.Fits.{FitsLayer}
 use Rattle.clr_office_text.specs.Workspaces.{stands_in}
-use Rattle.clr_office_data.specs.Laws.{HaveParents}
+use Rattle.clr_office_json.specs.Laws.{HaveParents}
 use Rattle.clr_office_writer.proofs.Differences.{layer_fits, layer_made}
 
 -- a name that is found stands there

@@ -11,8 +11,8 @@ use Rattle.clr_steps.specs.Offices.{Office}
 use Rattle.clr_engine.specs.Drafts.{IsFitting}
 use Rattle.clr_office_text.specs.Fits.{FitsOffice}
 use Rattle.clr_office_text.specs.Offices.{office_in}
-use Rattle.clr_office_data.specs.OfficeData.{office_data}
-use Rattle.clr_office_data.proofs.OfficesRead.{offices_read}
+use Rattle.clr_office_json.specs.OfficeData.{office_data}
+use Rattle.clr_office_json.proofs.OfficesRead.{offices_read}
 use Rattle.clr_drafts.specs.Drafts.{draft_in, if_standing, whole_office}
 use Rattle.clr_drafts.proofs.Standing.{stands}
 use Rattle.clr_office_writer.specs.Writing.{text_of}

@@ -2,9 +2,9 @@ ghost use Rattle.std.specs.Prelude.{◌≡◌, Some, Ok, map, IfOk};
 ghost use Rattle.serde_json.specs.View.{view};
 ghost use Rattle.clr_workspaces.specs.Workspaces.{Workspace as OneWorkspace};
 ghost use Rattle.clr_engine.specs.Drafts.{layer_in, part_at};
-ghost use Rattle.clr_office_data.specs.OfficeData.{office_data};
-ghost use Rattle.clr_office_data.specs.Values.{list_data};
-ghost use Rattle.clr_office_data.specs.WorkspaceData.{layer_data};
+ghost use Rattle.clr_office_json.specs.OfficeData.{office_data};
+ghost use Rattle.clr_office_json.specs.Values.{list_data};
+ghost use Rattle.clr_office_json.specs.WorkspaceData.{layer_data};
 ghost use Rattle.clr_drafts.specs.Drafts.{draft_in};
 ghost use Rattle.clr_office_writer.specs.Writing.{text_of, bytes_of};
 
@@ -42,7 +42,7 @@ fn workspaces_json(alloc: Global, office: &Office) -> Result<Json, AllocError>
     Ok(Json::Array(json_of_each(alloc, office)?))
 }
 
-#[tactic(auto, unfolding(clr_office_data::specs::OfficeData::office_data))]
+#[tactic(auto, unfolding(clr_office_json::specs::OfficeData::office_data))]
 fn office_json(alloc: Global, office: &Office) -> Result<Json, AllocError>
     ensures { IfOk result (λ json. view json ≡ office_data (text_of office.now)) }
 {

@@ -1,7 +1,7 @@
 use Rattle.std.proofs.Common.{◌≡◌, ◌++◌, drop, map}
 use Rattle.serde_json.specs.View.{view}
-use Rattle.clr_office_data.specs.CellData.{coordinates_of}
-use Rattle.clr_office_data.specs.Values.{number_data}
+use Rattle.clr_office_json.specs.CellData.{coordinates_of}
+use Rattle.clr_office_json.specs.Values.{number_data}
 use Rattle.clr_office_json.proofs.cells.coordinates_json.Given as goal
 
 -- the numbers so far, with those of the places that are left, are all

@@ -1,6 +1,6 @@
 use Rattle.std.proofs.Common.{◌≡◌, map, take}
 use Rattle.serde_json.specs.View.{view}
-use Rattle.clr_office_data.specs.Values.{value_data}
+use Rattle.clr_office_json.specs.Values.{value_data}
 use Rattle.clr_office_json.proofs.cells.values_json.Given as goal
 
 abbrev pub invariant-loop-value : goal.invariant-loop-value

@@ -1,7 +1,7 @@
 use Rattle.std.proofs.Common.{◌≡◌, map, take}
 use Rattle.serde_json.specs.Data.{string}
 use Rattle.serde_json.specs.View.{view}
-use Rattle.clr_office_data.specs.RuleData.{name_of_column}
+use Rattle.clr_office_json.specs.RuleData.{name_of_column}
 use Rattle.clr_office_json.proofs.rules.columns_json.Given as goal
 
 abbrev pub invariant-loop-column : goal.invariant-loop-column

@@ -1,6 +1,6 @@
 use Rattle.std.proofs.Common.{◌≡◌, map, take}
 use Rattle.serde_json.specs.View.{view}
-use Rattle.clr_office_data.specs.RuleData.{literal_data, named_literal}
+use Rattle.clr_office_json.specs.RuleData.{literal_data, named_literal}
 use Rattle.clr_office_json.proofs.rules.filter_json.Given as goal
 
 abbrev pub invariant-loop-column : goal.invariant-loop-column

@@ -1,6 +1,6 @@
 use Rattle.std.proofs.Common.{◌≡◌, map, take}
 use Rattle.serde_json.specs.View.{view}
-use Rattle.clr_office_data.specs.TableData.{column_data}
+use Rattle.clr_office_json.specs.TableData.{column_data}
 use Rattle.clr_office_json.proofs.tables.columns_json.Given as goal
 
 abbrev pub invariant-loop-column : goal.invariant-loop-column

@@ -1,6 +1,6 @@
 use Rattle.std.proofs.Common.{◌≡◌, map, take}
 use Rattle.serde_json.specs.View.{view}
-use Rattle.clr_office_data.specs.TableData.{table_data}
+use Rattle.clr_office_json.specs.TableData.{table_data}
 use Rattle.clr_office_json.proofs.tables.tables_json.Given as goal
 
 abbrev pub invariant-loop-table : goal.invariant-loop-table

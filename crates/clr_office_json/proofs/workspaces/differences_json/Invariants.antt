@@ -1,6 +1,6 @@
 use Rattle.std.proofs.Common.{◌≡◌, ◌++◌, map}
 use Rattle.serde_json.specs.View.{view}
-use Rattle.clr_office_data.specs.CellData.{named_cell, named_cell_data, named_cells}
+use Rattle.clr_office_json.specs.CellData.{named_cell, named_cell_data, named_cells}
 use Rattle.clr_office_json.proofs.workspaces.differences_json.Given as goal
 
 -- the cells so far, with those that are left, are all

@@ -1,6 +1,6 @@
 use Rattle.std.proofs.Common.{◌<◌, ◌≤◌, length, map, ap, ◌∙◌, arith}
 use Rattle.std.proofs.lemmas.List.{take_all}
-use Rattle.clr_office_data.specs.WorkspaceData.{layer_data}
+use Rattle.clr_office_json.specs.WorkspaceData.{layer_data}
 use Rattle.clr_engine.specs.Drafts.{layer_in}
 use Rattle.clr_office_writer.proofs.Listed.{next_written}
 use Rattle.clr_office_writer.proofs.writing.json_of_each.Goals as goal

@@ -1,6 +1,6 @@
 use Rattle.std.proofs.Common.{◌≡◌, map, take}
 use Rattle.serde_json.specs.View.{view}
-use Rattle.clr_office_data.specs.WorkspaceData.{layer_data}
+use Rattle.clr_office_json.specs.WorkspaceData.{layer_data}
 use Rattle.clr_engine.specs.Drafts.{layer_in}
 use Rattle.clr_office_writer.proofs.writing.json_of_each.Given as goal
 

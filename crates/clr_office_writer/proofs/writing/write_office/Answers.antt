@@ -5,7 +5,7 @@ use Rattle.serde_json.specs.Data.{depth}
 use Rattle.serde_json.specs.View.{view}
 use Rattle.serde_json.specs.Written.{compact_text, has_float}
 use Rattle.clr_rows.specs.Schemas.{schema_fault}
-use Rattle.clr_office_data.proofs.Plainness.{plain}
+use Rattle.clr_office_json.proofs.Plainness.{plain}
 use Rattle.clr_office_writer.specs.Writing.{text_of}
 use Rattle.clr_office_writer.proofs.Texts.{drafted_again}
 use Rattle.clr_office_writer.proofs.writing.write_office.Goals as goal

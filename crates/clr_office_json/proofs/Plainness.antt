@@ -16,13 +16,13 @@ use Rattle.clr_office_text.specs.declared.named_rules.NamedRule.{NamedRule}
 use Rattle.clr_office_text.specs.declared.named_rules.NamedRule.TheVariants.{Unique, Partner, EndNode, Crossing, Near}
 use Rattle.clr_office_text.specs.declared.named_sides.NamedSide.{NamedSide}
 use Rattle.clr_office_text.specs.Offices.{OfficeText}
-use Rattle.clr_office_data.specs.CellData.{coordinates_of, named_cell_data, named_cells, named_row_data, named_rows, row_data, row_or_gone_data}
-use Rattle.clr_office_data.specs.Laws.{IsPlain}
-use Rattle.clr_office_data.specs.OfficeData.{office_data}
-use Rattle.clr_office_data.specs.RuleData.{literal_data, named_rule, named_rule_data, side_data}
-use Rattle.clr_office_data.specs.TableData.{column_data, table_data}
-use Rattle.clr_office_data.specs.Values.{number_data, value_data}
-use Rattle.clr_office_data.specs.WorkspaceData.{layer_data, named_mark, named_mark_data}
+use Rattle.clr_office_json.specs.CellData.{coordinates_of, named_cell_data, named_cells, named_row_data, named_rows, row_data, row_or_gone_data}
+use Rattle.clr_office_json.specs.Laws.{IsPlain}
+use Rattle.clr_office_json.specs.OfficeData.{office_data}
+use Rattle.clr_office_json.specs.RuleData.{literal_data, named_rule, named_rule_data, side_data}
+use Rattle.clr_office_json.specs.TableData.{column_data, table_data}
+use Rattle.clr_office_json.specs.Values.{number_data, value_data}
+use Rattle.clr_office_json.specs.WorkspaceData.{layer_data, named_mark, named_mark_data}
 
 -- depth --------------------------------------------------------------------------------------
 

@@ -1,4 +1,4 @@
-ghost use Rattle.clr_office_data.specs.Laws.{IsPlain, ReadsBack};
+ghost use Rattle.clr_office_json.specs.Laws.{IsPlain, ReadsBack};
 
 /// What is written of an office text is read as the same office text: its schema, its rules, LIVE
 /// and the differences, marks and flags of its workspaces. Its rows and rules fit the schema, and

@@ -2,11 +2,11 @@
 use Rattle.std.specs.Prelude.{pos, codes}
 use Rattle.serde_json.specs.Data.{Data, object, member, no_members}
 use Rattle.clr_office_text.specs.Offices.{OfficeText}
-use Rattle.clr_office_data.specs.CellData.{live_data}
-use Rattle.clr_office_data.specs.RuleData.{rules_data}
-use Rattle.clr_office_data.specs.TableData.{table_data}
-use Rattle.clr_office_data.specs.Values.{list_data, number_data}
-use Rattle.clr_office_data.specs.WorkspaceData.{layer_data}
+use Rattle.clr_office_json.specs.CellData.{live_data}
+use Rattle.clr_office_json.specs.RuleData.{rules_data}
+use Rattle.clr_office_json.specs.TableData.{table_data}
+use Rattle.clr_office_json.specs.Values.{list_data, number_data}
+use Rattle.clr_office_json.specs.WorkspaceData.{layer_data}
 
 unfoldable pub office_data : OfficeText → Data
 office_data o =

@@ -31,8 +31,8 @@ use Rattle.clr_office_text.specs.Fields.{each, each_in, or_fault, words_of}
 use Rattle.clr_office_text.specs.Rules.{column_number, column_over, columns_over, crossing_of, end_node_of, filter_of, literal_of, literal_over, literal_pair, named_rule_of, names_at, near_of, partner_of}
 use Rattle.clr_office_text.specs.Rules.{crossing_over, end_node_over, near_over, partner_over, rule_over, side_at, side_of, side_over, tip_named, tip_of, unique_of, unique_over}
 use Rattle.clr_rules.proofs.FittingLemmas.{literal_within, no_fault}
-use Rattle.clr_office_data.specs.RuleData.{literal_data, name_of_column, name_of_number, named_columns, named_literal, named_rule, named_rule_data, named_side, side_data, tip_word}
-use Rattle.clr_office_data.proofs.ListsRead.{all_mapped, all_pass, any_read, each_found, each_read, number_read, value_read}
+use Rattle.clr_office_json.specs.RuleData.{literal_data, name_of_column, name_of_number, named_columns, named_literal, named_rule, named_rule_data, named_side, side_data, tip_word}
+use Rattle.clr_office_json.proofs.ListsRead.{all_mapped, all_pass, any_read, each_found, each_read, number_read, value_read}
 
 -- with names ---------------------------------------------------------------------------------
 

@@ -14,10 +14,10 @@ use Rattle.clr_office_text.specs.Fields.{each, each_in}
 use Rattle.clr_office_text.specs.Fits.{FitsLayer, FitsMark}
 use Rattle.clr_office_text.specs.Patches.{differences_at, named_cells_at}
 use Rattle.clr_office_text.specs.Workspaces.{head_of, layer_of, layers_after, mark_over, marks_of, named_mark_of, named_marks_of, saved_of, stands_in}
-use Rattle.clr_office_data.specs.Laws.{HaveParents}
-use Rattle.clr_office_data.specs.WorkspaceData.{layer_data, named_mark, named_mark_data}
-use Rattle.clr_office_data.proofs.ListsRead.{all_mapped, each_found, each_read}
-use Rattle.clr_office_data.proofs.CellsRead.{cells_again, cells_read}
+use Rattle.clr_office_json.specs.Laws.{HaveParents}
+use Rattle.clr_office_json.specs.WorkspaceData.{layer_data, named_mark, named_mark_data}
+use Rattle.clr_office_json.proofs.ListsRead.{all_mapped, each_found, each_read}
+use Rattle.clr_office_json.proofs.CellsRead.{cells_again, cells_read}
 
 module _ (tables : List TableDef) (schema : schema_fault tables ≡ None) where
   -- marks ------------------------------------------------------------------------------------

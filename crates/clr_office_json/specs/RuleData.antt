@@ -16,7 +16,7 @@ use Rattle.clr_rules.specs.declared.sides.Side.{Side}
 use Rattle.clr_office_text.specs.declared.named_rules.NamedRule.{NamedRule}
 use Rattle.clr_office_text.specs.declared.named_rules.NamedRule.TheVariants.{Unique, Partner, EndNode, Crossing, Near}
 use Rattle.clr_office_text.specs.declared.named_sides.NamedSide.{NamedSide}
-use Rattle.clr_office_data.specs.Values.{list_data, number_data, value_data}
+use Rattle.clr_office_json.specs.Values.{list_data, number_data, value_data}
 
 -- with names ---------------------------------------------------------------------------------
 

@@ -6,7 +6,7 @@ use Rattle.clr_rows.specs.declared.tables.Kind.TheVariants as kind
 use Rattle.clr_rows.specs.declared.tables.Form.{Form}
 use Rattle.clr_rows.specs.declared.tables.Form.TheVariants as form
 use Rattle.clr_rows.specs.declared.tables.TableDef.{TableDef}
-use Rattle.clr_office_data.specs.Values.{list_data}
+use Rattle.clr_office_json.specs.Values.{list_data}
 
 abbrev pub kind_word : Kind → List ℕ
 kind_word kind.Int = codes "INT"

@@ -28,11 +28,11 @@ use Rattle.clr_office_text.specs.Cells.{cell_of, has_paths, is_path_form, named_
 use Rattle.clr_office_text.specs.Fields.{each}
 use Rattle.clr_office_text.specs.Fits.{FitsDifferences}
 use Rattle.clr_office_text.specs.Patches.{named_cell_of, put_fault, with_cell, with_cells}
-use Rattle.clr_office_data.specs.CellData.{coordinates_of, named_cell, named_cell_data, named_cells, named_row, named_row_data, named_rows, row_data, row_or_gone_data}
-use Rattle.clr_office_data.specs.Values.{number_data, value_data}
-use Rattle.clr_office_data.proofs.ListsRead.{all_mapped, all_pass, each_read, key_within, number_read, value_read}
+use Rattle.clr_office_json.specs.CellData.{coordinates_of, named_cell, named_cell_data, named_cells, named_row, named_row_data, named_rows, row_data, row_or_gone_data}
+use Rattle.clr_office_json.specs.Values.{number_data, value_data}
+use Rattle.clr_office_json.proofs.ListsRead.{all_mapped, all_pass, each_read, key_within, number_read, value_read}
 use Rattle.clr_rows.proofs.Tests.{first, second}
-use Rattle.clr_office_data.proofs.PutAgain.{AreFree, all_entries, all_put, all_put_again, free_after, free_at_first}
+use Rattle.clr_office_json.proofs.PutAgain.{AreFree, all_entries, all_put, all_put_again, free_after, free_at_first}
 
 -- rows ---------------------------------------------------------------------------------------
 

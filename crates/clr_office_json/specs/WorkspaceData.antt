@@ -7,8 +7,8 @@ use Rattle.clr_layers.specs.declared.stored_marks.StoredMark.{StoredMark}
 use Rattle.clr_layers.specs.declared.stored_marks.StoredMark.TheVariants as stored
 use Rattle.clr_office_text.specs.declared.named_marks.NamedMark.{NamedMark}
 use Rattle.clr_office_text.specs.declared.named_marks.NamedMark.TheVariants as named
-use Rattle.clr_office_data.specs.CellData.{differences_data, named_cell_data, named_cells}
-use Rattle.clr_office_data.specs.Values.{list_data}
+use Rattle.clr_office_json.specs.CellData.{differences_data, named_cell_data, named_cells}
+use Rattle.clr_office_json.specs.Values.{list_data}
 
 abbrev pub named_mark : List TableDef → StoredMark → NamedMark
 named_mark tables (stored.Child name) = named.Child name

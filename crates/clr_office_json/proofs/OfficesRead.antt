@@ -13,13 +13,13 @@ use Rattle.clr_office_text.specs.Offices.{format_of, office_of, schema_of}
 use Rattle.clr_office_text.specs.Rules.{named_rules_of, rules_of}
 use Rattle.clr_office_text.specs.Tables.{column_of, columns_of, form_named, kind_named, pair_of, table_of, tables_of}
 use Rattle.clr_office_text.specs.Workspaces.{layers_of}
-use Rattle.clr_office_data.specs.Laws.{ReadsBack}
-use Rattle.clr_office_data.specs.OfficeData.{office_data}
-use Rattle.clr_office_data.specs.TableData.{column_data, form_word, kind_word, table_data}
-use Rattle.clr_office_data.proofs.ListsRead.{any_read}
-use Rattle.clr_office_data.proofs.CellsRead.{rows_again, rows_read}
-use Rattle.clr_office_data.proofs.RulesRead.{rules_found, rules_read}
-use Rattle.clr_office_data.proofs.WorkspacesRead.{layers_read}
+use Rattle.clr_office_json.specs.Laws.{ReadsBack}
+use Rattle.clr_office_json.specs.OfficeData.{office_data}
+use Rattle.clr_office_json.specs.TableData.{column_data, form_word, kind_word, table_data}
+use Rattle.clr_office_json.proofs.ListsRead.{any_read}
+use Rattle.clr_office_json.proofs.CellsRead.{rows_again, rows_read}
+use Rattle.clr_office_json.proofs.RulesRead.{rules_found, rules_read}
+use Rattle.clr_office_json.proofs.WorkspacesRead.{layers_read}
 
 kind_read : (k : Kind) → kind_named (kind_word k) ≡ Ok k
 kind_read kind.Int = refl

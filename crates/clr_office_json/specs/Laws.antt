@@ -6,7 +6,7 @@ use Rattle.clr_layers.specs.Layers.{Layer}
 use Rattle.clr_office_text.specs.Fits.{FitsOffice}
 use Rattle.clr_office_text.specs.Offices.{OfficeText, office_of}
 use Rattle.clr_office_text.specs.Workspaces.{stands_in}
-use Rattle.clr_office_data.specs.OfficeData.{office_data}
+use Rattle.clr_office_json.specs.OfficeData.{office_data}
 
 -- each workspace has its parent among those before it
 abbrev pub HaveParents : List Layer → List Layer → Type 0

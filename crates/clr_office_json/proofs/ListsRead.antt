@@ -11,7 +11,7 @@ use Rattle.clr_rows.specs.Schemas.{is_key, is_number}
 use Rattle.clr_office_text.specs.declared.faults.TextFault.{TextFault}
 use Rattle.clr_office_text.specs.Cells.{value_of}
 use Rattle.clr_office_text.specs.Fields.{each, each_in, number_of}
-use Rattle.clr_office_data.specs.Values.{number_data, value_data}
+use Rattle.clr_office_json.specs.Values.{number_data, value_data}
 
 -- what holds of each element is asked for its reading
 pub each_read : {A : Type 0} (P : A → Type 0) (f : Data → Result A TextFault) (g : A → Data) → ((x : A) → P x → f (g x) ≡ Ok x) → (xs : List A) → AllByRecursion P xs → each f (items_of (map g xs)) ≡ Ok xs

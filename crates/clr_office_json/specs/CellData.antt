@@ -13,7 +13,7 @@ use Rattle.clr_rows.specs.Schemas.{name_of_table}
 use Rattle.clr_differences.specs.Differences.{Differences}
 use Rattle.clr_office_text.specs.declared.cells.NamedRow.{NamedRow}
 use Rattle.clr_office_text.specs.declared.named_cells.NamedCell.{NamedCell}
-use Rattle.clr_office_data.specs.Values.{list_data, number_data, value_data}
+use Rattle.clr_office_json.specs.Values.{list_data, number_data, value_data}
 
 -- with names ---------------------------------------------------------------------------------
 
