@@ -1,4 +1,5 @@
 pub mod CaseTexts
+pub mod LeftLemmas
 pub mod Lines
 pub mod OneOutcome
 pub mod OneSession
