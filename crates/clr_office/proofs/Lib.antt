@@ -1,5 +1,4 @@
 pub mod CaseTexts
-pub mod LeftLemmas
 pub mod Lines
 pub mod OneOutcome
 pub mod OneSession

@@ -2,7 +2,6 @@ pub mod Answers
 pub mod Clearances
 pub mod Devices
 pub mod Input
-pub mod Left
 pub mod OneSession
 pub mod Outcomes
 pub mod Printing

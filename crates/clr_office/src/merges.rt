@@ -1,11 +1,10 @@
 //! Merges that a certificate clears.
-ghost use Rattle.std.specs.Prelude.{◌≡◌, ◌||◌, is_some, false, IfOk, OnErr};
+ghost use Rattle.std.specs.Prelude.{◌≡◌, ◌||◌, is_some, false, IfOk};
 ghost use Rattle.std.specs.List.{flat_map, list_any};
 ghost use Rattle.clr_steps.specs.Steps.{is_lost};
 ghost use Rattle.clr_clearance.specs.Plans.{merges};
 ghost use Rattle.clr_lines.specs.Replies.{reply_text};
 ghost use Rattle.clr_office.specs.Clearances.{IsMergeOutcome, merge_text, stop_text};
-ghost use Rattle.clr_office.specs.Left.{IsLeftByMerges};
 ghost use Rattle.clr_office.specs.Outcomes.{is_refused, outcome_of};
 
 use crate::certificates::verdict_output;
@@ -78,15 +77,14 @@ fn run_output(alloc: Global, office: &Office, run: &ClearedRun) -> Result<Output
 /// Merges workspaces in the order of their names, as far as that is quiet for a certificate, where it is
 /// clear: a line for each merge that was performed, one that says where it stopped, and the text of
 /// the office. Where the certificate isn't clear the verdict stands alone. It fails for want of memory,
-/// where none is found for the commands or for a line; then the merges are performed, or none is.
+/// where none is found for the commands or for a line.
 pub fn merge_members(
     alloc: Global,
     office: &mut Office,
     certificate: &Certificate,
     names: &[Words],
 ) -> Result<Output, AllocError>
-    ensures ok { IfOk result (λ o. IsMergeOutcome office.old certificate.now names.now (outcome_of o office.new)) }
-    ensures err { OnErr result (IsLeftByMerges office.old certificate.now names.now office.new) }
+    ensures { IfOk result (λ o. IsMergeOutcome office.old certificate.now names.now (outcome_of o office.new)) }
 {
     let commands = merges(alloc, names)?;
     match perform_cleared(alloc, office, certificate, commands.as_slice()) {

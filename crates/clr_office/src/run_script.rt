@@ -1,7 +1,6 @@
 //! The steps of a script, performed one after another, and the lines that they print.
-ghost use Rattle.std.specs.Prelude.{◌≡◌, drop, Ok, IfOk, IfErr, OnErr};
+ghost use Rattle.std.specs.Prelude.{◌≡◌, drop, Ok, IfOk, IfErr};
 ghost use Rattle.clr_scripts.specs.Scripts.{script_in_text};
-ghost use Rattle.clr_office.specs.Left.{IsLeftByCommand, IsLeftByScript, IsLeftByStep, IsLeftBySteps};
 ghost use Rattle.clr_office.specs.Outcomes.{IsCommandOutcome, IsOutcome, IsScriptOutcome, first_name as first_of_names, outcome_of};
 ghost use Rattle.clr_office.specs.Printing.{IsMade, IsScriptFault, IsScriptPrint};
 
@@ -17,11 +16,9 @@ use clr_scripts::{RecordFault, Step, Word, read_script};
 use clr_steps::Command;
 use std::alloc::{AllocError, Global};
 
-/// Performs a command. Its line is that of the reply. It fails where the line finds no memory; the
-/// command is performed then, or lost.
+/// Performs a command. Its line is that of the reply.
 fn perform(alloc: Global, office: &mut Office, command: &Command) -> Result<Output, AllocError>
-    ensures ok { IfOk result (λ o. IsCommandOutcome office.old command.now (outcome_of o office.new)) }
-    ensures err { OnErr result (IsLeftByCommand office.old command.now office.new) }
+    ensures { IfOk result (λ o. IsCommandOutcome office.old command.now (outcome_of o office.new)) }
 {
     let reply = office.perform(command);
     reply_output(alloc, office.schema(), &reply)
@@ -46,10 +43,8 @@ fn later_names(names: &Names) -> &[Words]
     }
 }
 
-/// Takes a step. Where it fails a command is performed, or lost, and a report leaves the office.
 fn run_step(alloc: Global, office: &mut Office, step: &Step) -> Result<Output, AllocError>
-    ensures ok { IfOk result (λ o. IsOutcome office.old step.now (outcome_of o office.new)) }
-    ensures err { OnErr result (IsLeftByStep office.old step.now office.new) }
+    ensures { IfOk result (λ o. IsOutcome office.old step.now (outcome_of o office.new)) }
 {
     match step {
         Step::Act(command) => perform(alloc, office, command),
@@ -73,11 +68,9 @@ fn run_step(alloc: Global, office: &mut Office, step: &Step) -> Result<Output, A
 }
 
 /// Performs the steps of a script one after another. It fails where a line, or what a report shows,
-/// finds no memory; then some of the steps were taken, from the first on, and no others. A plan that
-/// finds no memory has its line.
+/// finds no memory; a plan that finds none has its line.
 pub fn run_script(alloc: Global, office: &mut Office, steps: &[Step]) -> Result<Output, AllocError>
-    ensures ok { IfOk result (λ o. IsScriptOutcome office.old steps.now (outcome_of o office.new)) }
-    ensures err { OnErr result (IsLeftBySteps office.old steps.now office.new) }
+    ensures { IfOk result (λ o. IsScriptOutcome office.old steps.now (outcome_of o office.new)) }
 {
     let mut all = Output::of_lines(Vec::new(alloc));
     for step in steps {
@@ -102,10 +95,9 @@ fn steps_of(alloc: Global, schema: &Schema, script: &[u8]) -> Result<Vec<Step>, 
 
 /// Performs the script of a text, all of which is read before its first step. Fails with `BadScript`
 /// where it is none, and with `OutOfMemory` where no memory is found for it, for a line, or for what a
-/// report other than a plan shows; then some of the steps were taken, from the first on, and no others.
+/// report other than a plan shows.
 pub fn run_text(alloc: Global, office: &mut Office, script: &[u8]) -> Result<Output, RunFault>
-    ensures made { IsMade (IsScriptPrint script.now office.old) result }
-    ensures err { OnErr result (IsLeftByScript office.old (script_in_text office.old.schema script.now) office.new) }
+    ensures { IsMade (IsScriptPrint script.now office.old) result }
 {
     let steps = match steps_of(alloc, office.schema(), script) {
         Ok(steps) => steps,
