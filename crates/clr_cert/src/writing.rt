@@ -1,6 +1,7 @@
 ghost use Rattle.std.specs.Prelude.{◌≡◌, ◌++◌, Ok, None, IfOk, OnOk, MatchOption, IfSome, map};
 ghost use Rattle.std.specs.List.{All};
 ghost use Rattle.csv.specs.Writing.{default_writer, row_text};
+ghost use Rattle.clr_records.specs.Beginnings.{IsBegun};
 ghost use Rattle.clr_rows.specs.Schemas.{schema_fault};
 ghost use Rattle.clr_cert.specs.Certificates.{certificate_in};
 ghost use Rattle.clr_cert.specs.Texts.{IsBetween, IsReadBackWhereNamed, IsWellFormed, certificate_text, entry_fields, member_fields, name_fields};
@@ -20,9 +21,11 @@ fn fresh_text(fresh: bool) -> &'static str
     if fresh { "new" } else { "old" }
 }
 
-/// Adds a version, as `main/20/new`. It fails for want of memory alone.
+/// Adds a version, as `main/20/new`. It fails for want of memory alone; then what stood in the text
+/// stands there, with a beginning of the version behind it.
 fn add_version(text: &mut Vec<u8>, schema: &Schema, version: VersionId) -> Result<(), AllocError>
     ensures added { OnOk result (text.new.items ≡ text.old.items ++ version_text schema.now version) }
+    ensures begun { IsBegun text.old.items (version_text schema.now version) text.new.items }
     ensures sound { OnOk result (schema_fault schema.now ≡ None) }
 {
     text.extend_from_slice(schema.name_of_table(version.cell.table).as_bytes())?;
@@ -33,7 +36,8 @@ fn add_version(text: &mut Vec<u8>, schema: &Schema, version: VersionId) -> Resul
 }
 
 fn add_part(text: &mut Vec<u8>, part: u16) -> Result<(), AllocError>
-    ensures { OnOk result (text.new.items ≡ text.old.items ++ part_text part) }
+    ensures ok { OnOk result (text.new.items ≡ text.old.items ++ part_text part) }
+    ensures begun { IsBegun text.old.items (part_text part) text.new.items }
 {
     if part == 1 {
         return Ok(());
@@ -43,14 +47,16 @@ fn add_part(text: &mut Vec<u8>, part: u16) -> Result<(), AllocError>
 }
 
 /// Adds a subject, as `main/20/old/3`: its version, and its part where that isn't 1. The name of a
-/// table that the schema hasn't is empty. It fails for want of memory alone.
+/// table that the schema hasn't is empty. It fails for want of memory alone; then what stood in the
+/// text stands there, with a beginning of the subject behind it.
 pub fn add_subject(
     text: &mut Vec<u8>,
     schema: &Schema,
     version: VersionId,
     part: u16,
 ) -> Result<(), AllocError>
-    ensures { OnOk result (text.new.items ≡ text.old.items ++ subject_text schema.now version part) }
+    ensures ok { OnOk result (text.new.items ≡ text.old.items ++ subject_text schema.now version part) }
+    ensures begun { IsBegun text.old.items (subject_text schema.now version part) text.new.items }
 {
     add_version(text, schema, version)?;
     add_part(text, part)

@@ -1,15 +1,10 @@
 -- What lines are made of: cells, and needs that no row serves.
 use Rattle.std.specs.Prelude.{ℕ, List, [], ◌++◌, codes, nat_lt, Option, Some, None, if◌then◌else◌}
 use Rattle.std.specs.Fmt.{decimal, signed_decimal}
-use Rattle.std.specs.Io.{StartsWith}
 use Rattle.clr_rows.specs.declared.cells.CellId.{CellId}
 use Rattle.clr_rows.specs.declared.tables.TableDef.{TableDef}
 use Rattle.clr_rows.specs.Schemas.{name_of_table}
 use Rattle.clr_rules.specs.declared.needs.Broken.{Broken}
-
--- what stood in a line stands there, and behind it at most a text, or a beginning of it
-abbrev pub IsBegun : List ℕ → List ℕ → List ℕ → Type 0
-IsBegun old text new = StartsWith new old × StartsWith (old ++ text) new
 
 -- a cell is written as `main/20`
 abbrev pub cell_text : List TableDef → CellId → List ℕ

@@ -55,7 +55,12 @@ abbrev pub kept_text : Bool → List ℕ
 kept_text true = codes " kept"
 kept_text false = codes ""
 
+abbrev pub names_text : List ℕ → List ℕ → List ℕ
+names_text name parent = name ++ codes " " ++ parent
+
+abbrev pub counts_text : ℕ → ℕ → List ℕ
+counts_text changed conflicts = codes " " ++ decimal changed ++ codes " " ++ decimal conflicts
+
 -- a workspace: its name, its parent, how many changes it has and how many cells are in conflict, and whether it is kept
 abbrev pub workspace_text : List ℕ → List ℕ → ℕ → ℕ → Bool → List ℕ
-workspace_text name parent changed conflicts kept =
-    name ++ codes " " ++ parent ++ codes " " ++ decimal changed ++ codes " " ++ decimal conflicts ++ kept_text kept ++ codes "\n"
+workspace_text name parent changed conflicts kept = names_text name parent ++ counts_text changed conflicts ++ kept_text kept ++ codes "\n"

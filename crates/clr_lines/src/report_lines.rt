@@ -1,7 +1,8 @@
-ghost use Rattle.std.specs.Prelude.{◌≡◌, ◌++◌, codes, decimal, IfOk, OnOk};
+ghost use Rattle.std.specs.Prelude.{◌≡◌, ◌++◌, IfOk, OnOk};
 ghost use Rattle.std.specs.Option.{option_copied};
-ghost use Rattle.clr_lines.specs.Reports.{audit_text, cell_line, change_line, changes_text, conflicts_text, count_line as count_text};
-ghost use Rattle.clr_lines.specs.Reports.{kept_text, need_line, unheld_name, unheld_text, verb_name, workspace_text};
+ghost use Rattle.clr_records.specs.Beginnings.{IsBegun};
+ghost use Rattle.clr_lines.specs.Reports.{audit_text, cell_line, change_line, changes_text, conflicts_text, count_line as count_text, counts_text};
+ghost use Rattle.clr_lines.specs.Reports.{kept_text, names_text, need_line, unheld_name, unheld_text, verb_name, workspace_text};
 
 use crate::pieces::{add_cell, add_count, add_need};
 use clr_change::ChangeSet;
@@ -38,7 +39,8 @@ fn add_change(
     cell: CellId,
     change: &Change,
 ) -> Result<(), AllocError>
-    ensures { OnOk result (lines.new.items ≡ lines.old.items ++ change_line schema.now (cell, change.now)) }
+    ensures ok { OnOk result (lines.new.items ≡ lines.old.items ++ change_line schema.now (cell, change.now)) }
+    ensures begun { IsBegun lines.old.items (change_line schema.now (cell, change.now)) lines.new.items }
 {
     let verb = verb(change.before.as_ref(), change.after.as_ref());
     lines.extend_from_slice(verb.as_bytes())?;
@@ -65,7 +67,8 @@ pub fn changes_lines(
 }
 
 fn add_cell_line(lines: &mut Vec<u8>, schema: &Schema, cell: CellId) -> Result<(), AllocError>
-    ensures { OnOk result (lines.new.items ≡ lines.old.items ++ cell_line schema.now cell) }
+    ensures ok { OnOk result (lines.new.items ≡ lines.old.items ++ cell_line schema.now cell) }
+    ensures begun { IsBegun lines.old.items (cell_line schema.now cell) lines.new.items }
 {
     add_cell(lines, schema, cell)?;
     lines.extend_from_slice(b"\n")
@@ -89,7 +92,8 @@ pub fn conflicts_lines(
 }
 
 fn add_need_line(lines: &mut Vec<u8>, schema: &Schema, need: &Broken) -> Result<(), AllocError>
-    ensures { OnOk result (lines.new.items ≡ lines.old.items ++ need_line schema.now need.now) }
+    ensures ok { OnOk result (lines.new.items ≡ lines.old.items ++ need_line schema.now need.now) }
+    ensures begun { IsBegun lines.old.items (need_line schema.now need.now) lines.new.items }
 {
     add_need(lines, schema, need)?;
     lines.extend_from_slice(b"\n")
@@ -110,7 +114,8 @@ pub fn audit_lines(alloc: Global, schema: &Schema, needs: &[Broken]) -> Result<V
 }
 
 fn add_unheld_name(line: &mut Vec<u8>, name: Option<&str>) -> Result<(), AllocError>
-    ensures { OnOk result (line.new.items ≡ line.old.items ++ unheld_name (option_copied name.entry)) }
+    ensures ok { OnOk result (line.new.items ≡ line.old.items ++ unheld_name (option_copied name.entry)) }
+    ensures begun { IsBegun line.old.items (unheld_name (option_copied name.entry)) line.new.items }
 {
     match name {
         Some(name) => {
@@ -144,7 +149,8 @@ fn kept_word(is_kept: bool) -> &'static str
 }
 
 fn add_names(lines: &mut Vec<u8>, name: &str, parent: &str) -> Result<(), AllocError>
-    ensures { OnOk result (lines.new.items ≡ lines.old.items ++ name.now ++ codes " " ++ parent.now) }
+    ensures ok { OnOk result (lines.new.items ≡ lines.old.items ++ names_text name.now parent.now) }
+    ensures begun { IsBegun lines.old.items (names_text name.now parent.now) lines.new.items }
 {
     lines.extend_from_slice(name.as_bytes())?;
     lines.extend_from_slice(b" ")?;
@@ -153,7 +159,8 @@ fn add_names(lines: &mut Vec<u8>, name: &str, parent: &str) -> Result<(), AllocE
 
 /// Adds two counts, each behind a space.
 fn add_counts(lines: &mut Vec<u8>, changes: usize, conflicts: usize) -> Result<(), AllocError>
-    ensures { OnOk result (lines.new.items ≡ lines.old.items ++ codes " " ++ decimal changes ++ codes " " ++ decimal conflicts) }
+    ensures ok { OnOk result (lines.new.items ≡ lines.old.items ++ counts_text changes conflicts) }
+    ensures begun { IsBegun lines.old.items (counts_text changes conflicts) lines.new.items }
 {
     lines.extend_from_slice(b" ")?;
     add_count(lines, changes)?;
@@ -162,7 +169,8 @@ fn add_counts(lines: &mut Vec<u8>, changes: usize, conflicts: usize) -> Result<(
 }
 
 /// Adds the line of a workspace: its name, its parent, how many changes it has and how many cells
-/// are in conflict, and `kept` where it is. It ends with `\n`. It fails for want of memory alone.
+/// are in conflict, and `kept` where it is. It ends with `\n`. It fails for want of memory alone; then
+/// what stood in the lines stands there, with a beginning of the line behind it.
 pub fn add_workspace(
     lines: &mut Vec<u8>,
     name: &str,
@@ -171,7 +179,8 @@ pub fn add_workspace(
     conflicts: usize,
     is_kept: bool,
 ) -> Result<(), AllocError>
-    ensures { OnOk result (lines.new.items ≡ lines.old.items ++ workspace_text name.now parent.now changes conflicts is_kept) }
+    ensures ok { OnOk result (lines.new.items ≡ lines.old.items ++ workspace_text name.now parent.now changes conflicts is_kept) }
+    ensures begun { IsBegun lines.old.items (workspace_text name.now parent.now changes conflicts is_kept) lines.new.items }
 {
     add_names(lines, name, parent)?;
     add_counts(lines, changes, conflicts)?;

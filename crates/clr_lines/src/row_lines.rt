@@ -1,8 +1,9 @@
-ghost use Rattle.std.specs.Prelude.{◌≡◌, ◌++◌, ◌∷◌, [], map, IfOk, OnOk};
+ghost use Rattle.std.specs.Prelude.{◌≡◌, ◌++◌, ◌∷◌, [], map, IfOk, OnErr, OnOk};
 ghost use Rattle.std.specs.Fmt.{signed_decimal};
 ghost use Rattle.std.specs.List.{flat_map};
 ghost use Rattle.csv.specs.Records.{fields_of, partial_of};
 ghost use Rattle.csv.specs.Writing.{writer_pending, writer_under};
+ghost use Rattle.clr_records.specs.Beginnings.{IsBegun};
 ghost use Rattle.clr_lines.specs.Rows.{IsBetween, place_fields, row_fields, row_line, rows_text, shape_fields, value_field};
 
 use crate::pieces::add_count;
@@ -11,11 +12,13 @@ use csv::{ByteRecord, Writer, WriterBuilder};
 use itoa::Buffer;
 use std::alloc::{AllocError, Global};
 
-/// Adds a field to a record that ends with a whole field.
+/// Adds a field to a record that ends with a whole field. It fails for want of memory alone, and the
+/// fields stay then.
 fn add(fields: &mut ByteRecord, field: &[u8]) -> Result<(), AllocError>
     requires { partial_of fields.old ≡ [] }
     ensures added { OnOk result (fields_of fields.new ≡ fields_of fields.old ++ field.now ∷ []) }
     ensures whole { OnOk result (partial_of fields.new ≡ []) }
+    ensures err { OnErr result (fields_of fields.new ≡ fields_of fields.old) }
 {
     fields.push_field(field)
 }
@@ -24,6 +27,7 @@ fn add_number(fields: &mut ByteRecord, number: i64) -> Result<(), AllocError>
     requires { partial_of fields.old ≡ [] }
     ensures added { OnOk result (fields_of fields.new ≡ fields_of fields.old ++ signed_decimal number ∷ []) }
     ensures whole { OnOk result (partial_of fields.new ≡ []) }
+    ensures err { OnErr result (fields_of fields.new ≡ fields_of fields.old) }
 {
     add(fields, Buffer::new().format(number).as_bytes())
 }
@@ -32,6 +36,7 @@ fn add_value(fields: &mut ByteRecord, value: &Value) -> Result<(), AllocError>
     requires { partial_of fields.old ≡ [] }
     ensures added { OnOk result (fields_of fields.new ≡ fields_of fields.old ++ value_field value.now ∷ []) }
     ensures whole { OnOk result (partial_of fields.new ≡ []) }
+    ensures err { OnErr result (fields_of fields.new ≡ fields_of fields.old) }
 {
     match value {
         Value::Int(number) => add_number(fields, *number),
@@ -43,6 +48,7 @@ fn add_values(fields: &mut ByteRecord, values: &[Value]) -> Result<(), AllocErro
     requires { partial_of fields.old ≡ [] }
     ensures added { OnOk result (fields_of fields.new ≡ fields_of fields.old ++ map value_field values.now) }
     ensures whole { OnOk result (partial_of fields.new ≡ []) }
+    ensures begun { IsBegun (fields_of fields.old) (map value_field values.now) (fields_of fields.new) }
 {
     for value in values {
         add_value(fields, value)?;
@@ -54,6 +60,7 @@ fn add_place(fields: &mut ByteRecord, place: Place) -> Result<(), AllocError>
     requires { partial_of fields.old ≡ [] }
     ensures added { OnOk result (fields_of fields.new ≡ fields_of fields.old ++ place_fields place) }
     ensures whole { OnOk result (partial_of fields.new ≡ []) }
+    ensures begun { IsBegun (fields_of fields.old) (place_fields place) (fields_of fields.new) }
 {
     add_number(fields, place.x)?;
     add_number(fields, place.y)
@@ -63,6 +70,7 @@ fn add_vertices(fields: &mut ByteRecord, vertices: &[Place]) -> Result<(), Alloc
     requires { partial_of fields.old ≡ [] }
     ensures added { OnOk result (fields_of fields.new ≡ fields_of fields.old ++ flat_map place_fields vertices.now) }
     ensures whole { OnOk result (partial_of fields.new ≡ []) }
+    ensures begun { IsBegun (fields_of fields.old) (flat_map place_fields vertices.now) (fields_of fields.new) }
 {
     for vertex in vertices {
         add_place(fields, *vertex)?;
@@ -74,6 +82,7 @@ fn add_shape(fields: &mut ByteRecord, shape: &Shape) -> Result<(), AllocError>
     requires { partial_of fields.old ≡ [] }
     ensures added { OnOk result (fields_of fields.new ≡ fields_of fields.old ++ shape_fields shape.now) }
     ensures whole { OnOk result (partial_of fields.new ≡ []) }
+    ensures begun { IsBegun (fields_of fields.old) (shape_fields shape.now) (fields_of fields.new) }
 {
     match shape {
         Shape::Bare => Ok(()),

@@ -1,4 +1,4 @@
-ghost use Rattle.std.specs.Prelude.{◌≡◌, IfOk};
+ghost use Rattle.std.specs.Prelude.{◌≡◌, IfOk, OnErr};
 ghost use Rattle.serde_json.specs.View.{view};
 ghost use Rattle.clr_rows.specs.Contents.{no_rows};
 ghost use Rattle.clr_rows.specs.Schemas.{FitsSchema};
@@ -22,9 +22,11 @@ pub fn cell(schema: &Schema, table: &Words, key: i64) -> Result<CellId, TextFaul
     }
 }
 
+/// Puts a row that is named into a sheet, which stays where it fails.
 #[tactic(auto, unfolding(crate::specs::Cells::with_row))]
 fn put_row(schema: &Schema, sheet: &mut Sheet, named: NamedRow) -> Result<(), TextFault>
-    ensures { Gives (λ _. sheet.new) result (with_row schema.now sheet.old named) }
+    ensures value { Gives (λ _. sheet.new) result (with_row schema.now sheet.old named) }
+    ensures err { OnErr result (sheet.new ≡ sheet.old) }
 {
     let cell = cell(schema, &named.table, named.key)?;
     if schema.fits(cell, &named.row).is_err() {

@@ -1,4 +1,4 @@
-ghost use Rattle.std.specs.Prelude.{◌≡◌, is_none};
+ghost use Rattle.std.specs.Prelude.{◌≡◌, is_none, OnErr};
 ghost use Rattle.std.specs.Option.{option_copied};
 ghost use Rattle.serde_json.specs.View.{view};
 ghost use Rattle.clr_differences.specs.Differences.{no_differences};
@@ -23,13 +23,15 @@ fn can_put(schema: &Schema, cell: CellId, row: &Option<Row>) -> bool
     }
 }
 
+/// Puts a cell that is named into the differences, which stay where it fails.
 #[tactic(auto, unfolding(crate::specs::Patches::with_cell))]
 fn put_cell(
     schema: &Schema,
     differences: &mut Differences,
     named: NamedCell,
 ) -> Result<(), TextFault>
-    ensures { Gives (λ _. differences.new) result (with_cell schema.now differences.old named) }
+    ensures value { Gives (λ _. differences.new) result (with_cell schema.now differences.old named) }
+    ensures err { OnErr result (differences.new ≡ differences.old) }
 {
     let cell = cell(schema, &named.table, named.key)?;
     if !can_put(schema, cell, &named.row) {

@@ -1,3 +1,4 @@
+pub mod BeginningLaws
 pub mod Decimals
 pub mod InTurn
 pub mod RecordTurns

@@ -1,4 +1,4 @@
-ghost use Rattle.std.specs.Prelude.{◌≡◌, ◌+◌, ◌<◌, ◌^◌, ◌++◌, ◌∷◌, [], IfErr, OnOk, length, map};
+ghost use Rattle.std.specs.Prelude.{◌≡◌, ◌+◌, ◌<◌, ◌^◌, ◌++◌, ◌∷◌, [], IfErr, OnErr, OnOk, length, map};
 ghost use Rattle.csv.specs.Records.{fields_of};
 ghost use Rattle.clr_scripts.specs.Records.{GivesAt};
 ghost use Rattle.clr_scripts.specs.Scripts.{apply_of, edit_count, edits_in, script_in_text, script_of, step_of};
@@ -88,9 +88,11 @@ fn edits_within(step: &Step) -> usize
     }
 }
 
+/// Adds a step behind the others. It fails for want of memory alone, and changes nothing then.
 fn add(list: &mut Vec<Step>, step: Step) -> Result<(), (usize, RecordFault)>
     ensures ok { OnOk result (list.new.items ≡ list.old.items ++ step ∷ []) }
-    ensures err { IfErr result (λ e. e ≡ (0, fault.OutOfMemory)) }
+    ensures err { OnErr result (list.new.items ≡ list.old.items) }
+    ensures fault { IfErr result (λ e. e ≡ (0, fault.OutOfMemory)) }
 {
     match list.push(step) {
         Ok(()) => Ok(()),

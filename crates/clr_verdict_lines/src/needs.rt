@@ -1,4 +1,5 @@
 ghost use Rattle.std.specs.Prelude.{◌≡◌, ◌++◌, decimal, OnOk};
+ghost use Rattle.clr_records.specs.Beginnings.{IsBegun};
 ghost use Rattle.clr_verdict_lines.specs.Verdicts.{need_text, second_text};
 
 use clr_cert::add_subject;
@@ -13,7 +14,8 @@ fn add_second(
     version: Option<VersionId>,
     part: u16,
 ) -> Result<(), AllocError>
-    ensures { OnOk result (line.new.items ≡ line.old.items ++ second_text schema.now version part) }
+    ensures ok { OnOk result (line.new.items ≡ line.old.items ++ second_text schema.now version part) }
+    ensures begun { IsBegun line.old.items (second_text schema.now version part) line.new.items }
 {
     match version {
         Some(version) => {
@@ -25,9 +27,11 @@ fn add_second(
 }
 
 /// Adds a need, as `rule 1 main/20/old/3 main/21/new`: the number of the rule and its subjects, each
-/// with its part where that isn't 1.
+/// with its part where that isn't 1. It fails for want of memory alone; then what stood in the line
+/// stands there, with a beginning of the need behind it.
 pub(crate) fn add_need(line: &mut Vec<u8>, schema: &Schema, need: &Need) -> Result<(), AllocError>
-    ensures { OnOk result (line.new.items ≡ line.old.items ++ need_text schema.now need.now) }
+    ensures ok { OnOk result (line.new.items ≡ line.old.items ++ need_text schema.now need.now) }
+    ensures begun { IsBegun line.old.items (need_text schema.now need.now) line.new.items }
 {
     line.extend_from_slice(b"rule ")?;
     line.extend_from_slice(Buffer::new().format(need.rule).as_bytes())?;
