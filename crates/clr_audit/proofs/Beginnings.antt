@@ -4,12 +4,13 @@ use Rattle.std.specs.Prelude.{Result, Ok, Err, OnErr}
 use Rattle.std.specs.List.{flat_map}
 use Rattle.std.proofs.lemmas.Grind.{flat_map-append}
 use Rattle.std.proofs.lemmas.List.{take-append-drop}
-use Rattle.std.proofs.Math.Seq.{take-append_seam}
 use Rattle.clr_rules.specs.declared.roles.Roles.{Roles}
 use Rattle.clr_spots.specs.declared.spots.Spot.{Spot}
 use Rattle.clr_audit.specs.declared.spot_maps.FiledPart.{FiledPart}
 use Rattle.clr_audit.specs.declared.role_index.RoleIndex.{RoleIndex}
-use Rattle.clr_audit.specs.Filing.{Filed, IsBegun, entries_at, near}
+use Rattle.clr_rows.specs.Beginnings.{IsBegun}
+use Rattle.clr_rows.proofs.BeginningLaws.{some_begun, then_begun}
+use Rattle.clr_audit.specs.Filing.{Filed, entries_at, near}
 use Rattle.clr_audit.specs.RoleFiling.{partners}
 
 -- what holds, holds after an error
@@ -18,17 +19,6 @@ on_err (Ok x) p = tt
 on_err (Err e) p = p
 
 module _ {X : Type 0} where
-  -- as much was added as the front
-  pub some_begun : (old more new front rest : List X) → new ≡ old ++ front → more ≡ front ++ rest → IsBegun old more new
-  some_begun old more new front rest is parts = (length front, is ∙ ap (λ xs. old ++ xs) (sym (ap (take (length front)) parts ∙ take-append_seam front rest)))
-
-  -- the front was added, and then a beginning of what follows it
-  pub then_begun : (old more mid new front next rest : List X) → mid ≡ old ++ front → more ≡ front ++ (next ++ rest) → IsBegun mid next new → IsBegun old more new
-  then_begun old more mid new front next rest is parts (k, begun) = some_begun old more new (front ++ take k next) (drop k next ++ rest)
-      (begun ∙ ap (λ xs. xs ++ take k next) is ∙ append_assoc old front (take k next))
-      (parts ∙ ap (λ xs. front ++ (xs ++ rest)) (sym (take-append-drop k next)) ∙ ap (λ xs. front ++ xs) (append_assoc (take k next) (drop k next) rest)
-      ∙ sym (append_assoc front (take k next) (drop k next ++ rest)))
-
   -- one element was added, if there is to be one
   pub one_begun : (b : Bool) (old : List X) (x : X) (new : List X) → new ≡ cond b (old ++ x ∷ []) old → IsBegun old (cond b (x ∷ []) []) new
   one_begun true old x new is = (1, is)

@@ -5,7 +5,7 @@ use Rattle.clr_rules.specs.declared.needs.Broken.{Broken}
 use Rattle.clr_rules.specs.declared.rules.Rule.{Rule}
 use Rattle.clr_rows.specs.Held.{Held}
 use Rattle.clr_rules.proofs.Elements.{Among, among, contained, among_left, among_right, among_either}
-use Rattle.clr_audit.specs.Filing.{IsBegun}
+use Rattle.clr_rows.specs.Beginnings.{IsBegun}
 use Rattle.clr_audit.specs.Searches.{Gains, IsBrokenAmong}
 
 module _ (rules : List Rule) (rows : List Held) where

@@ -23,7 +23,8 @@ use Rattle.clr_spots.proofs.SharedSpots.{Common}
 use Rattle.clr_audit.specs.declared.role_index.RoleIndex.{RoleIndex}
 use Rattle.clr_audit.specs.declared.searching.Search.{Search}
 use Rattle.clr_audit.specs.declared.spot_maps.FiledPart.{FiledPart}
-use Rattle.clr_audit.specs.Filing.{IsBegun, near}
+use Rattle.clr_rows.specs.Beginnings.{IsBegun}
+use Rattle.clr_audit.specs.Filing.{near}
 use Rattle.clr_audit.specs.RoleFiling.{filed_rows, no_rows_filed, partners}
 use Rattle.clr_audit.specs.Searches.{serves_if, serves_at, need_if_broken, need_with, need_beside, IsBeside, IsBrokenAmong, Gains, GainsSome, IsAlone, IsOfPart, IsOfRow, IsPaired}
 use Rattle.clr_audit.proofs.Filed.{found_near}

@@ -4,6 +4,7 @@ use Rattle.std.specs.BTreeMap.{is_at}
 use Rattle.std.specs.Coded.{Coded, code_by, coded×, coded_list, coded_ℕ}
 use Rattle.std.specs.FinMap as finite
 use Rattle.std.specs.List.{flat_map}
+use Rattle.clr_rows.specs.Beginnings.{IsBegun}
 use Rattle.clr_spots.specs.declared.spots.Spot.{Spot}
 use Rattle.clr_spots.specs.contracts.spots.Spot as spot_type
 use Rattle.clr_spots.specs.SpotOrder.{spot_cmp}
@@ -53,10 +54,6 @@ filed_entry m e xs wide = record {
 -- the entries that may stand in a need with a row of these spots, wide or not
 abbrev pub near : Filed → List Spot → Bool → List FiledPart
 near m xs wide = if wide then m.all else m.wide ++ flat_map (entries_at m.by_spot) xs
-
--- the later list is the earlier one, with the first of some elements behind it, or all of them, or none
-abbrev pub IsBegun : {X : Type 0} → List X → List X → List X → Type 0
-IsBegun {X} old more new = (k : ℕ) × (new ≡ old ++ take k more)
 
 -- the entry of a row is filed where it is to be, at the first of these places or at none; all that was filed stays
 pub record IsPartlyFiled (m : Filed) (e : FiledPart) (xs : List Spot) (many : Bool) (n : Filed) : Type 0 where

@@ -3,7 +3,7 @@
 ghost use Rattle.std.specs.Prelude.{◌≡◌, ◌<◌, ◌++◌, ◌∷◌, [], length, map, IfOk, OnErr, OnOk};
 ghost use Rattle.clr_rows.specs.Held.{held_of};
 ghost use Rattle.clr_rules.specs.Books.{FitTogether};
-ghost use Rattle.clr_audit.specs.Filing.{IsBegun};
+ghost use Rattle.clr_rows.specs.Beginnings.{IsBegun};
 ghost use Rattle.clr_audit.specs.RoleFiling.{no_rows_filed, with_subject, with_pairs, with_server, filed_rows, partners};
 
 use crate::spot_maps::{FiledPart, SpotMap};

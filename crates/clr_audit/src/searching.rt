@@ -8,7 +8,7 @@ ghost use Rattle.clr_rows.specs.Held.{held_of};
 ghost use Rattle.clr_rules.specs.Books.{FitTogether};
 ghost use Rattle.clr_rules.specs.Calls.{plain_ask};
 ghost use Rattle.clr_rules.specs.Roles.{roles_under};
-ghost use Rattle.clr_audit.specs.Filing.{IsBegun};
+ghost use Rattle.clr_rows.specs.Beginnings.{IsBegun};
 ghost use Rattle.clr_audit.specs.Searches.{AreRowsFiled, GainsAll, GainsSome, IsAlone, IsOfPart, IsOfRow, IsOfRule, IsPaired};
 ghost use Rattle.clr_audit.specs.Searches.{need_if_broken, need_beside, rows_of, serves_among, serves_at, servers_at_spots, servers_near};
 

@@ -4,7 +4,8 @@ ghost use Rattle.std.specs.Prelude.{◌≡◌, ◌++◌, ◌∷◌, [], IsSome, 
 ghost use Rattle.std.specs.BTreeMap.{get};
 ghost use Rattle.clr_spots.specs.SpotOrder.{spot_cmp};
 ghost use Rattle.clr_spots.specs.declared.spots.Spot.{Spot as OneSpot};
-ghost use Rattle.clr_audit.specs.Filing.{no_entries, entries_at, filed_at, filed_entry, near, HasMore, IsBegun, IsPartlyFiled};
+ghost use Rattle.clr_rows.specs.Beginnings.{IsBegun};
+ghost use Rattle.clr_audit.specs.Filing.{no_entries, entries_at, filed_at, filed_entry, near, HasMore, IsPartlyFiled};
 
 use clr_spots::{Spot, Spots};
 use std::alloc::{AllocError, Global};

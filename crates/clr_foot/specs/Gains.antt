@@ -1,5 +1,5 @@
 -- What a call adds to a list.
-use Rattle.std.specs.Prelude.{◌≡◌, ℕ, List, ◌++◌, ◌⊎◌, Contains, take}
+use Rattle.std.specs.Prelude.{List, ◌⊎◌, Contains}
 
 -- the later list has the earlier one, besides it allowed elements alone, and all that are wanted
 pub record Gains {X : Type 0} (allowed wanted : X → Type 0) (old new : List X) : Type 0 where
@@ -10,10 +10,6 @@ pub record Gains {X : Type 0} (allowed wanted : X → Type 0) (old new : List X)
 -- the later list has the earlier one, and besides it allowed elements alone
 abbrev pub GainsSome : {X : Type 0} → (X → Type 0) → List X → List X → Type 0
 GainsSome allowed old new = Gains allowed (λ _. ⊥) old new
-
--- the later list is the earlier one, with the first of some elements behind it, or all of them, or none
-abbrev pub IsBegun : {X : Type 0} → List X → List X → List X → Type 0
-IsBegun {X} old more new = (k : ℕ) × (new ≡ old ++ take k more)
 
 -- what is made of one of some things
 abbrev pub OfSome : {X Y : Type 0} → (Y → X → Type 0) → List Y → X → Type 0

@@ -1,5 +1,5 @@
 ghost use Rattle.std.specs.Prelude.{◌≡◌, ◌++◌, decimal, OnOk, OnErr};
-ghost use Rattle.clr_records.specs.Beginnings.{IsBegun};
+ghost use Rattle.clr_rows.specs.Beginnings.{IsBegun};
 ghost use Rattle.clr_lines.specs.Pieces.{cell_text, need_text, part_text, second_text, subject_text};
 
 use clr_rows::{CellId, Schema};

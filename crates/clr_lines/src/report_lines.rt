@@ -1,6 +1,6 @@
 ghost use Rattle.std.specs.Prelude.{◌≡◌, ◌++◌, IfOk, OnOk};
 ghost use Rattle.std.specs.Option.{option_copied};
-ghost use Rattle.clr_records.specs.Beginnings.{IsBegun};
+ghost use Rattle.clr_rows.specs.Beginnings.{IsBegun};
 ghost use Rattle.clr_lines.specs.Reports.{audit_text, cell_line, change_line, changes_text, conflicts_text, count_line as count_text, counts_text};
 ghost use Rattle.clr_lines.specs.Reports.{kept_text, names_text, need_line, unheld_name, unheld_text, verb_name, workspace_text};
 

@@ -3,7 +3,7 @@ ghost use Rattle.std.specs.Fmt.{signed_decimal};
 ghost use Rattle.std.specs.List.{flat_map};
 ghost use Rattle.csv.specs.Records.{fields_of, partial_of};
 ghost use Rattle.csv.specs.Writing.{writer_pending, writer_under};
-ghost use Rattle.clr_records.specs.Beginnings.{IsBegun};
+ghost use Rattle.clr_rows.specs.Beginnings.{IsBegun};
 ghost use Rattle.clr_lines.specs.Rows.{IsBetween, place_fields, row_fields, row_line, rows_text, shape_fields, value_field};
 
 use crate::pieces::add_count;

@@ -1,4 +1,3 @@
-pub mod BeginningLaws
 pub mod Decimals
 pub mod InTurn
 pub mod RecordTurns

@@ -1,3 +1,4 @@
+pub mod BeginningLaws
 pub mod CellOrder
 pub mod ChangeLemmas
 pub mod Entries

@@ -2,7 +2,7 @@
 ghost use Rattle.std.specs.Prelude.{◌≡◌, ◌++◌, [], true, IfOk, OnOk, unwrap_or};
 ghost use Rattle.clr_steps.specs.Offices.{stands};
 ghost use Rattle.clr_steps.specs.Readings.{parent_in};
-ghost use Rattle.clr_records.specs.Beginnings.{IsBegun};
+ghost use Rattle.clr_rows.specs.Beginnings.{IsBegun};
 ghost use Rattle.clr_texts.specs.Workspaces.{workspace_line, workspaces_text};
 
 use clr_engine::Office;

@@ -1,5 +1,5 @@
 ghost use Rattle.std.specs.Prelude.{◌≡◌, ◌++◌, decimal, OnOk};
-ghost use Rattle.clr_records.specs.Beginnings.{IsBegun};
+ghost use Rattle.clr_rows.specs.Beginnings.{IsBegun};
 ghost use Rattle.clr_verdict_lines.specs.Verdicts.{need_text, second_text};
 
 use clr_cert::add_subject;

@@ -1,7 +1,7 @@
 use Rattle.std.proofs.Common.{rules, ◌≡◌, ◌++◌, codes, append_assoc}
 use Rattle.std.specs.Fmt.{signed_decimal}
 use Rattle.clr_rows.specs.Schemas.{name_of_table}
-use Rattle.clr_records.proofs.BeginningLaws.{last_begun, some_begun}
+use Rattle.clr_rows.proofs.BeginningLaws.{last_begun, some_begun}
 use Rattle.clr_cert.specs.Texts.{fresh_word}
 use Rattle.clr_cert.proofs.writing.add_version.Goals as goal
 

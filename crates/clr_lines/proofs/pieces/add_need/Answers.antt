@@ -1,7 +1,7 @@
 use Rattle.std.proofs.Common.{rules, ◌≡◌, ℕ, List, ◌++◌, codes, append_assoc, refl}
 use Rattle.std.specs.Fmt.{decimal}
 use Rattle.clr_lines.specs.Pieces.{second_text, subject_text}
-use Rattle.clr_records.proofs.BeginningLaws.{begun_before, begun_behind, some_begun}
+use Rattle.clr_rows.proofs.BeginningLaws.{begun_before, begun_behind, some_begun}
 use Rattle.clr_lines.proofs.pieces.add_need.Goals as goal
 
 four_pieces : (a b c d : List ℕ) → a ++ b ++ c ++ d ≡ a ++ (b ++ c ++ d)

@@ -1,7 +1,7 @@
 use Rattle.std.proofs.Common.{rules, ◌≡◌, ◌++◌, codes}
 use Rattle.clr_lines.specs.Pieces.{cell_text}
 use Rattle.clr_lines.specs.Reports.{verb_name}
-use Rattle.clr_records.proofs.BeginningLaws.{begun_before, begun_behind}
+use Rattle.clr_rows.proofs.BeginningLaws.{begun_before, begun_behind}
 use Rattle.clr_lines.proofs.report_lines.add_change.Goals as goal
 
 pub returns-in_err-add_cell-clause-begun : goal.returns-in_err-add_cell-clause-begun

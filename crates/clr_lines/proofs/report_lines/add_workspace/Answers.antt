@@ -1,7 +1,7 @@
 use Rattle.std.proofs.Common.{rules, ◌≡◌, ◌∙◌, ℕ, List, ◌++◌, Result, Ok, Err, OnOk, codes, append_assoc, ap, sym, refl}
 use Rattle.std.specs.Prelude.{if◌then◌else◌, is_ok}
 use Rattle.clr_lines.specs.Reports.{counts_text, kept_text, names_text}
-use Rattle.clr_records.proofs.BeginningLaws.{begun_before, begun_behind, last_begun, some_begun}
+use Rattle.clr_rows.proofs.BeginningLaws.{begun_before, begun_behind, last_begun, some_begun}
 use Rattle.clr_lines.proofs.report_lines.add_workspace.Goals as goal
 
 -- where the last piece was added

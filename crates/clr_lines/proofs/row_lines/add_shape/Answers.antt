@@ -1,4 +1,4 @@
-use Rattle.clr_records.proofs.BeginningLaws.{begun_before}
+use Rattle.clr_rows.proofs.BeginningLaws.{begun_before}
 use Rattle.clr_lines.specs.Rows.{place_fields}
 use Rattle.clr_lines.proofs.row_lines.add_shape.Goals as goal
 

@@ -1,5 +1,5 @@
 use Rattle.clr_lines.specs.Rows.{value_field}
-use Rattle.clr_records.proofs.BeginningLaws.{begun_before_item}
+use Rattle.clr_rows.proofs.BeginningLaws.{begun_before_item}
 use Rattle.clr_lines.proofs.row_lines.add_values.Goals as goal
 
 pub returns-in_err-add_value-clause-begun : goal.returns-in_err-add_value-clause-begun

@@ -1,6 +1,6 @@
 use Rattle.std.proofs.Common.{rules, ◌≡◌, ℕ, List, ◌++◌, codes, append_assoc, refl}
 use Rattle.std.specs.Fmt.{decimal}
-use Rattle.clr_records.proofs.BeginningLaws.{begun_before, begun_behind, some_begun}
+use Rattle.clr_rows.proofs.BeginningLaws.{begun_before, begun_behind, some_begun}
 use Rattle.clr_cert.specs.Texts.{subject_text}
 use Rattle.clr_verdict_lines.specs.Verdicts.{second_text}
 use Rattle.clr_verdict_lines.proofs.needs.add_need.Goals as goal
