@@ -4,5 +4,6 @@ pub mod MapLemmas
 pub mod SetLemmas
 pub mod SpotLemmas
 pub mod FilingLemmas
+pub mod GainLemmas
 pub mod IndexLemmas
 pub mod SharingLemmas

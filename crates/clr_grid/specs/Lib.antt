@@ -1,5 +1,6 @@
 pub mod CellSets
 pub mod Filing
+pub mod Gains
 pub mod Laws
 pub mod RowMaps
 pub mod Sharing

@@ -4,6 +4,7 @@ ghost use Rattle.std.specs.List.Sorted.{IsStrictlySortedBy};
 ghost use Rattle.clr_rows.specs.Cells.{cell_cmp};
 ghost use Rattle.clr_rows.specs.declared.cells.CellId.{CellId as Cell};
 ghost use Rattle.clr_grid.specs.CellSets.{is_one, is_one_of};
+ghost use Rattle.clr_grid.specs.Gains.{GainsCells};
 
 use clr_rows::CellId;
 use std::alloc::{AllocError, Global};
@@ -86,7 +87,8 @@ impl CellSet {
 
     /// Adds the cells of another set.
     fn add_each(&mut self, other: &CellSet) -> Result<(), AllocError>
-        ensures { OnOk result ((q : Cell) → set.contains self.new q ≡ (set.contains self.old q || set.contains other.now q)) }
+        ensures ok { OnOk result ((q : Cell) → set.contains self.new q ≡ (set.contains self.old q || set.contains other.now q)) }
+        ensures err { OnErr result (GainsCells (λ q. set.contains other.now q ≡ true) self.old self.new) }
     {
         for cell in &other.cells {
             self.add(*cell)?;
@@ -94,9 +96,11 @@ impl CellSet {
         Ok(())
     }
 
-    /// Adds the cells of another set, where a test says so. It fails for want of memory alone.
+    /// Adds the cells of another set, where a test says so. It fails for want of memory alone; then
+    /// its own cells stay, and besides them it has cells of the other one alone.
     pub(crate) fn add_all(&mut self, test: bool, other: &CellSet) -> Result<(), AllocError>
-        ensures { OnOk result ((q : Cell) → set.contains self.new q ≡ (set.contains self.old q || (test && set.contains other.now q))) }
+        ensures ok { OnOk result ((q : Cell) → set.contains self.new q ≡ (set.contains self.old q || (test && set.contains other.now q))) }
+        ensures err { OnErr result (GainsCells (λ q. (test && set.contains other.now q) ≡ true) self.old self.new) }
     {
         if test {
             self.add_each(other)?;

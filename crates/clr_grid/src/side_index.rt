@@ -7,6 +7,7 @@ ghost use Rattle.clr_rows.specs.declared.cells.CellId.{CellId as Cell};
 ghost use Rattle.clr_spots.specs.SpotOrder.{same_spot, spot_cmp};
 ghost use Rattle.clr_spots.specs.declared.spots.Spot.{Spot as OneSpot};
 ghost use Rattle.clr_grid.specs.CellSets.{is_one};
+ghost use Rattle.clr_grid.specs.Gains.{GainsCells, IsFoundFor};
 ghost use Rattle.clr_grid.specs.Filing.{HoldCells, Key, has_cell, has_key, has_key_of, has_spot, is_filed, is_looked_at, keeps_role, keeps_wide, stays};
 
 use crate::cell_sets::CellSet;
@@ -230,7 +231,8 @@ impl SideIndex {
 
     /// Adds the cells at a spot.
     fn add_cells_at(&self, spot: &Spot, cells: &mut CellSet) -> Result<(), AllocError>
-        ensures { OnOk result ((q : Cell) → set.contains cells.new q ≡ (set.contains cells.old q || has_cell (get spot_cmp self.now.by_spot spot.now) q)) }
+        ensures ok { OnOk result ((q : Cell) → set.contains cells.new q ≡ (set.contains cells.old q || has_cell (get spot_cmp self.now.by_spot spot.now) q)) }
+        ensures err { OnErr result (GainsCells (λ q. has_cell (get spot_cmp self.now.by_spot spot.now) q ≡ true) cells.old cells.new) }
     {
         match self.by_spot.get(spot) {
             Some(more) => cells.add_all(true, more),
@@ -240,8 +242,9 @@ impl SideIndex {
 
     /// Adds the cells at some spots.
     fn add_cells_at_each(&self, spots: &[Spot], cells: &mut CellSet) -> Result<(), AllocError>
-        ensures { OnOk result ((q : Cell) → set.contains cells.new q
+        ensures ok { OnOk result ((q : Cell) → set.contains cells.new q
             ≡ (set.contains cells.old q || list_any (λ x. has_cell (get spot_cmp self.now.by_spot x) q) spots.now)) }
+        ensures err { OnErr result (GainsCells (λ q. list_any (λ x. has_cell (get spot_cmp self.now.by_spot x) q) spots.now ≡ true) cells.old cells.new) }
     {
         for spot in spots {
             self.add_cells_at(spot, cells)?;
@@ -249,10 +252,12 @@ impl SideIndex {
         Ok(())
     }
 
-    /// Adds the cells that are looked at for a row. It fails for want of memory alone.
+    /// Adds the cells that are looked at for a row. It fails for want of memory alone; then the set's
+    /// own cells stay, and besides them it has such cells alone.
     pub(crate) fn add_near(&self, spots: &RuleSpots, cells: &mut CellSet) -> Result<(), AllocError>
         ensures kept { OnOk result ((q : Cell) → set.contains cells.old q ≡ true → set.contains cells.new q ≡ true) }
         ensures near { OnOk result ((k : Key) (q : Cell) → is_looked_at spots.now k ≡ true → is_filed self.now k q ≡ true → set.contains cells.new q ≡ true) }
+        ensures err { OnErr result (GainsCells (IsFoundFor self.now spots.now) cells.old cells.new) }
     {
         cells.add_all(spots.spots.wide, &self.all)?;
         cells.add_all(spots.has_role, &self.wide)?;

@@ -6,7 +6,8 @@ use Rattle.std.specs.List.{list_any}
 use Rattle.clr_spots.specs.declared.spots.Spot.{Spot}
 use Rattle.clr_spots.specs.SpotOrder.{spot_cmp}
 use Rattle.clr_grid.specs.Filing.{has_cell}
-use Rattle.clr_grid.proofs.FilingLemmas.{added_more}
+use Rattle.clr_grid.proofs.FilingLemmas.{added_more, on_err}
+use Rattle.clr_grid.proofs.GainLemmas.{spots_gain}
 use Rattle.clr_grid.proofs.SetLemmas.{or_none}
 use Rattle.clr_grid.proofs.side_index.SideIndex.add_cells_at_each.Goals as goal
 
@@ -14,7 +15,12 @@ pub loop-spot-init : goal.loop-spot-init
 loop-spot-init c q = or_none _
 
 pub loop-spot-preserved : goal.loop-spot-preserved
-loop-spot-preserved c q = added_more (λ x. has_cell (get spot_cmp c.args.self.now.by_spot x) q) c.args.spots.now c.loop-spot.spot-index c.spot-item.result _ _ _ c.loop-spot-test.true c.spot-item.is (c.loop-spot.invariant q) (c.in_ok-add_cells_at.ensures q)
+loop-spot-preserved c q = added_more (λ x. has_cell (get spot_cmp c.args.self.now.by_spot x) q) c.args.spots.now c.loop-spot.spot-index c.spot-item.result _ _ _ c.loop-spot-test.true c.spot-item.is (c.loop-spot.invariant q) (c.in_ok-add_cells_at.ensures.ok q)
 
-pub returns : goal.returns
-returns c q = c.loop-spot.invariant q ∙ ap (λ xs. set.contains c.args.cells.now q || list_any (λ (x : Spot). has_cell (get spot_cmp c.args.self.now.by_spot x) q) xs) (take_all c.loop-spot.spot-index c.args.spots.now c.loop-spot-test.false)
+pub returns-clause-ok : goal.returns-clause-ok
+returns-clause-ok c q = c.loop-spot.invariant q ∙ ap (λ xs. set.contains c.args.cells.now q || list_any (λ (x : Spot). has_cell (get spot_cmp c.args.self.now.by_spot x) q) xs) (take_all c.loop-spot.spot-index c.args.spots.now c.loop-spot-test.false)
+
+pub returns-in_err-add_cells_at-clause-err : goal.returns-in_err-add_cells_at-clause-err
+returns-in_err-add_cells_at-clause-err c =
+    on_err _ (spots_gain (λ q x. has_cell (get spot_cmp c.args.self.now.by_spot x) q) c.args.spots.now c.loop-spot.spot-index c.spot-item.result c.args.cells.now c.loop-spot.cells c.add_cells_at.new.cells
+    c.loop-spot-test.true c.spot-item.is c.loop-spot.invariant c.in_err-add_cells_at.ensures.err)

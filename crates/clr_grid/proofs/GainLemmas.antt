@@ -1,0 +1,110 @@
+-- Sets that gain cells until there is no memory.
+use Rattle.std.proofs.Common.{◌≡◌, ◌⊎◌, ◌∙◌, ◌<◌, ◌+◌, inl, inr, ℕ, Bool, true, ◌&&◌, ◌||◌, List, [], ◌∷◌, ◌++◌, append_assoc, ap, drop, get_or, length, refl, subst, sym, take}
+use Rattle.std.proofs.lemmas.Bool.{and_parts, or_cases, or_left, or_right}
+use Rattle.std.proofs.lemmas.List.{take-append-drop}
+use Rattle.std.proofs.lemmas.List.Folds.{list_any-append}
+use Rattle.std.specs.BTreeMap.{get}
+use Rattle.std.specs.FinSet as set
+use Rattle.std.specs.List.{list_any}
+use Rattle.std.specs.Ordering.{eq_by_cmp}
+use Rattle.clr_rows.specs.declared.cells.CellId.{CellId}
+use Rattle.clr_rows.specs.Cells.{cell_cmp}
+use Rattle.clr_rules.proofs.Elements.{any_by, some_of}
+use Rattle.clr_spots.specs.declared.spots.Spot.{Spot}
+use Rattle.clr_spots.specs.SpotOrder.{same_spot, spot_cmp}
+use Rattle.clr_spots.specs.SpotOrderLaws.{same_spot_itself}
+use Rattle.clr_grid.specs.declared.row_spots.RuleSpots.{RuleSpots}
+use Rattle.clr_grid.specs.declared.side_index.SideIndex.{SideIndex}
+use Rattle.clr_grid.specs.CellSets.{Cells, is_one_of, with_cells}
+use Rattle.clr_grid.specs.Filing.{All, At, Wide, has_cell}
+use Rattle.clr_grid.specs.Gains.{GainsCells, IsFoundFor}
+use Rattle.clr_grid.proofs.FilingLemmas.{any_more}
+use Rattle.clr_grid.proofs.SetLemmas.{has_with_cells}
+
+module _ (allowed : CellId → Type 0) where
+  pub gains_as : (less : CellId → Type 0) (m n : Cells) → ((q : CellId) → less q → allowed q) → GainsCells less m n → GainsCells allowed m n
+  gains_as less m n may g = record { kept = g.kept; only = λ q e. by q (g.only q e) }
+    where
+      by : (q : CellId) → (set.contains m q ≡ true) ⊎ less q → (set.contains m q ≡ true) ⊎ allowed q
+      by q (inl e) = inl e
+      by q (inr a) = inr (may q a)
+
+  pub gains_then : (m n o : Cells) → GainsCells allowed m n → GainsCells allowed n o → GainsCells allowed m o
+  gains_then m n o g h = record { kept = λ q e. h.kept q (g.kept q e); only = λ q e. by q (h.only q e) }
+    where
+      by : (q : CellId) → (set.contains n q ≡ true) ⊎ allowed q → (set.contains m q ≡ true) ⊎ allowed q
+      by q (inl e) = g.only q e
+      by q (inr a) = inr a
+
+-- all that pass a test are added
+pub gains_exact : (p : CellId → Bool) (m n : Cells) → ((q : CellId) → set.contains n q ≡ (set.contains m q || p q)) → GainsCells (λ q. p q ≡ true) m n
+gains_exact p m n is = record {
+  kept = λ q e. is q ∙ or_left (set.contains m q) (p q) e;
+  only = λ q e. or_cases (set.contains m q) (p q) (sym (is q) ∙ e);
+}
+
+-- ---- cell after cell
+
+-- of a list of cells all but those that are left are added
+abbrev pub IsAddedTo : Cells → List CellId → Cells → List CellId → Type 0
+IsAddedTo m all n left = (done : List CellId) × (n ≡ with_cells m done) × (done ++ left ≡ all)
+
+with_last : (m : Cells) (done : List CellId) (q : CellId) → with_cells m (done ++ q ∷ []) ≡ set.insert (with_cells m done) q
+with_last m [] q = refl
+with_last m (c ∷ done) q = with_last (set.insert m c) done q
+
+pub added_none : (m : Cells) (all : List CellId) → IsAddedTo m all m all
+added_none m all = ([], refl, refl)
+
+pub added_next : (m : Cells) (all : List CellId) (n : Cells) (q : CellId) (left : List CellId) → IsAddedTo m all n (q ∷ left) → IsAddedTo m all (set.insert n q) left
+added_next m all n q left (done, is, whole) = (done ++ q ∷ [], ap (λ (o : Cells). set.insert o q) is ∙ sym (with_last m done q), append_assoc done (q ∷ []) left ∙ whole)
+
+pub added_gains : (m : Cells) (all : List CellId) (n : Cells) (left : List CellId) (p : CellId → Bool) → ((q : CellId) → is_one_of all q ≡ p q) → IsAddedTo m all n left → GainsCells (λ q. p q ≡ true) m n
+added_gains m all n left p told (done, is, whole) = gains_as (λ q. p q ≡ true) (λ q. is_one_of done q ≡ true) m n
+    (λ q e. sym (told q) ∙ ap (λ cells. is_one_of cells q) (sym whole) ∙ list_any-append (eq_by_cmp cell_cmp q) done left ∙ or_left (is_one_of done q) (is_one_of left q) e)
+    (gains_exact (is_one_of done) m n (λ q. ap (λ (o : Cells). set.contains o q) is ∙ has_with_cells done m q))
+
+-- ---- spot after spot
+
+module _ (p : CellId → Spot → Bool) (xs : List Spot) where
+  pub spots_gain : (k : ℕ) (x : Spot) (m n o : Cells) → k < length xs → x ≡ get_or xs k x
+      → ((q : CellId) → set.contains n q ≡ (set.contains m q || list_any (p q) (take k xs)))
+      → GainsCells (λ q. p q x ≡ true) n o
+      → GainsCells (λ q. list_any (p q) xs ≡ true) m o
+  spots_gain k x m n o less read before here = gains_then (λ q. list_any (p q) xs ≡ true) m n o
+      (gains_as (λ q. list_any (p q) xs ≡ true) (λ q. list_any (p q) (take k xs) ≡ true) m n (λ q e. of_more q k e) (gains_exact (λ q. list_any (p q) (take k xs)) m n before))
+      (gains_as (λ q. list_any (p q) xs ≡ true) (λ q. p q x ≡ true) n o
+      (λ q e. of_more q (k + 1) (any_more (p q) xs k x less read ∙ or_right (list_any (p q) (take k xs)) (p q x) e)) here)
+    where
+      of_more : (q : CellId) (j : ℕ) → list_any (p q) (take j xs) ≡ true → list_any (p q) xs ≡ true
+      of_more q j e = ap (list_any (p q)) (sym (take-append-drop j xs)) ∙ list_any-append (p q) (take j xs) (drop j xs) ∙ or_left (list_any (p q) (take j xs)) (list_any (p q) (drop j xs)) e
+
+-- ---- the cells that are found for a row: among all rows, among the wide ones, at its spots
+
+module _ (i : SideIndex) (x : RuleSpots) where
+  found_all : (q : CellId) → (x.spots.wide && set.contains i.all q) ≡ true → IsFoundFor i x q
+  found_all q e = let parts = and_parts x.spots.wide (set.contains i.all q) e in (All, parts.0, parts.1)
+
+  found_wide : (q : CellId) → (x.has_role && set.contains i.wide q) ≡ true → IsFoundFor i x q
+  found_wide q e = let parts = and_parts x.has_role (set.contains i.wide q) e in (Wide, parts.0, parts.1)
+
+  found_at : (ys : List Spot) → ys ≡ x.spots.list → (q : CellId) → list_any (λ y. has_cell (get spot_cmp i.by_spot y) q) ys ≡ true → IsFoundFor i x q
+  found_at ys same q e =
+      let (y, among, has) = some_of (λ y. has_cell (get spot_cmp i.by_spot y) q) ys e in
+      (At y, ap (list_any (same_spot y)) (sym same) ∙ any_by (same_spot y) y ys among (same_spot_itself y), has)
+
+  pub all_gain : (m n : Cells) → GainsCells (λ q. (x.spots.wide && set.contains i.all q) ≡ true) m n → GainsCells (IsFoundFor i x) m n
+  all_gain m n g = gains_as (IsFoundFor i x) (λ q. (x.spots.wide && set.contains i.all q) ≡ true) m n found_all g
+
+  pub wide_gain : (m n o : Cells) → ((q : CellId) → set.contains n q ≡ (set.contains m q || (x.spots.wide && set.contains i.all q)))
+      → GainsCells (λ q. (x.has_role && set.contains i.wide q) ≡ true) n o → GainsCells (IsFoundFor i x) m o
+  wide_gain m n o before here = gains_then (IsFoundFor i x) m n o (all_gain m n (gains_exact (λ q. x.spots.wide && set.contains i.all q) m n before))
+      (gains_as (IsFoundFor i x) (λ q. (x.has_role && set.contains i.wide q) ≡ true) n o found_wide here)
+
+  pub spot_gain : (m n o r : Cells) (ys : List Spot) → ys ≡ x.spots.list
+      → ((q : CellId) → set.contains n q ≡ (set.contains m q || (x.spots.wide && set.contains i.all q)))
+      → ((q : CellId) → set.contains o q ≡ (set.contains n q || (x.has_role && set.contains i.wide q)))
+      → GainsCells (λ q. list_any (λ y. has_cell (get spot_cmp i.by_spot y) q) ys ≡ true) o r → GainsCells (IsFoundFor i x) m r
+  spot_gain m n o r ys same first second here = gains_then (IsFoundFor i x) m o r
+      (wide_gain m n o first (gains_exact (λ q. x.has_role && set.contains i.wide q) n o second))
+      (gains_as (IsFoundFor i x) (λ q. list_any (λ y. has_cell (get spot_cmp i.by_spot y) q) ys ≡ true) o r (found_at ys same) here)
