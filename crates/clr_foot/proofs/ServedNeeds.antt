@@ -1,12 +1,13 @@
 -- The needs of versions that a server serves, one version after another.
 use Rattle.std.proofs.Common.{◌≡◌, ◌∙◌, ◌<◌, ◌≤◌, ◌+◌, ℕ, List, ◌⊎◌, inl, inr, Some, None, Contains, get_or, length, take, sym, subst}
 use Rattle.clr_rules.specs.declared.rules.Rule.{Rule}
-use Rattle.clr_foot.specs.declared.needs.Need.{Need}
+use Rattle.clr_needs.specs.declared.needs.Need.{Need}
 use Rattle.clr_foot.specs.declared.versions.Version.{Version}
 use Rattle.clr_foot.specs.Candidates.{IsNeedAmong, IsNeedOf}
 use Rattle.clr_foot.specs.Gains.{Gains}
 use Rattle.clr_foot.specs.Touches.{IsNeedServedAmong}
-use Rattle.clr_foot.proofs.Gaining.{all_taken, gains_as, gains_both, gains_none, item_in, none_taken, one_more}
+use Rattle.clr_needs.proofs.Reading.{all_taken, item_in, none_taken, one_more}
+use Rattle.clr_foot.proofs.Gaining.{gains_as, gains_both, gains_none}
 
 module _ (rules : List Rule) (number : ℕ) (r : Version) (near : List Version) where
   abbrev Served : List Version → Need → Type 0

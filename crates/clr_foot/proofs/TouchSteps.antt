@@ -17,22 +17,23 @@ use Rattle.clr_rules.specs.declared.rules.Rule.{Rule}
 use Rattle.clr_rules.proofs.AskLemmas.{rule_there}
 use Rattle.clr_rules.proofs.Elements.{Among, among, any_by, among_either, contained}
 use Rattle.clr_grid.specs.Sharing.{may_serve_under}
-use Rattle.clr_foot.specs.declared.needs.Need.{Need}
-use Rattle.clr_foot.specs.declared.needs.VersionId.{VersionId}
+use Rattle.clr_needs.specs.declared.needs.Need.{Need}
+use Rattle.clr_needs.specs.declared.needs.VersionId.{VersionId}
 use Rattle.clr_foot.specs.declared.versions.Version.{Version}
 use Rattle.clr_foot.specs.Candidates.{IsNeedAmong, IsNeedAt, IsNeedOf, IsNeedServedBy, IsNeedWith, is_of_two_under}
 use Rattle.clr_foot.specs.Gains.{Gains}
-use Rattle.clr_foot.specs.Members.{ChangesCell, after_in, changed_cells, setting}
-use Rattle.clr_foot.specs.Needs.{IsBesideToo, IsChanged, IsTouched, IsTouchedBy, ask_of, held_too, is_fresh}
-use Rattle.clr_foot.specs.Settings.{Setting, Lived, changer, held_row, new_version, old_life, old_version, version}
+use Rattle.clr_needs.specs.Members.{ChangesCell, after_in, changed_cells, setting}
+use Rattle.clr_needs.specs.Needs.{IsBesideToo, IsChanged, IsTouched, IsTouchedBy, ask_of, held_too, is_fresh}
+use Rattle.clr_needs.specs.Settings.{Setting, Lived, changer, held_row, new_version, old_life, old_version, version}
 use Rattle.clr_foot.specs.Touches.{IsNear, IsNeedAtCells, IsNeedServedAmong, IsTouchedOf}
 use Rattle.clr_foot.specs.Versions.{FindsAll, FitsSetting, IsAt, row_of, version_of}
 use Rattle.clr_foot.proofs.ChangerSteps.{changed_key}
-use Rattle.clr_foot.proofs.Gaining.{all_taken, gains_as, gains_both, gains_none, none_taken, one_more}
-use Rattle.clr_foot.proofs.Lives.{new_is, old_is}
-use Rattle.clr_foot.proofs.Merges.{IsChanger, changer_is}
+use Rattle.clr_needs.proofs.Reading.{all_taken, none_taken, one_more}
+use Rattle.clr_foot.proofs.Gaining.{gains_as, gains_both, gains_none}
+use Rattle.clr_needs.proofs.Lives.{new_is, old_is}
+use Rattle.clr_needs.proofs.Merges.{IsChanger, changer_is}
 use Rattle.clr_foot.proofs.NewRows.{brought_is_listed}
-use Rattle.clr_foot.proofs.PositionLaws.{range_has}
+use Rattle.clr_needs.proofs.PositionLaws.{range_has}
 use Rattle.clr_foot.proofs.SharedCells.{changed_is_listed}
 use Rattle.clr_foot.proofs.TouchLaws.{alone_of_one, alone_with, among_served, among_with, not_served, served_found, with_found}
 

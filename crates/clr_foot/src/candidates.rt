@@ -4,14 +4,14 @@
 ghost use Rattle.std.specs.Prelude.{◌≡◌, ◌<◌, length, None, Some, OnOk};
 ghost use Rattle.clr_foot.specs.Candidates.{IsNeedAmong, IsNeedOf, IsNeedOfAsk, IsNeedOfPair, IsNeedOfPart, IsServerAmong, are_opposed, serves_too};
 ghost use Rattle.clr_foot.specs.Gains.{Gains};
-ghost use Rattle.clr_foot.specs.Members.{lifetime};
+ghost use Rattle.clr_needs.specs.Members.{lifetime};
 ghost use Rattle.clr_foot.specs.Scenes.{setting_in};
 ghost use Rattle.clr_foot.specs.Versions.{AreAt, FitsSetting, IsAt, IsAtToo};
 
-use crate::needs::{Life, Need, VersionId};
 use crate::scenes::Scene;
 use crate::versions::{Version, held_if_any};
 use clr_grid::RowFinder;
+use clr_needs::{Life, Need, VersionId};
 use clr_rows::RowView;
 use clr_rules::Ask;
 use std::alloc::AllocError;

@@ -5,28 +5,21 @@ ghost use Rattle.std.specs.BTreeMap.{get};
 ghost use Rattle.std.specs.FinMap as finite;
 ghost use Rattle.clr_rows.specs.Cells.{cell_cmp};
 ghost use Rattle.clr_rows.specs.declared.cells.CellId.{CellId as Cell};
-ghost use Rattle.clr_foot.specs.declared.limits.TheConstants.{MOST_MEMBERS};
-ghost use Rattle.clr_foot.specs.Members.{AreApart, AreFirstTwo, IsApart, IsLeastShared, after_of, changed_cells, changers_at, lesser, positions};
-ghost use Rattle.clr_foot.specs.Settings.{first_changer};
+ghost use Rattle.clr_needs.specs.declared.limits.TheConstants.{MOST_MEMBERS};
+ghost use Rattle.clr_needs.specs.Members.{AreApart, AreFirstTwo, IsApart, IsLeastShared, after_of, changed_cells, positions};
+ghost use Rattle.clr_foot.specs.Changers.{changers_at, lesser};
+ghost use Rattle.clr_needs.specs.Settings.{first_changer};
 ghost use Rattle.clr_foot.specs.Versions.{AreNewRowsFiled, FitNewRows, new_version_at, row_and_life, version_of};
 
 use crate::changers::{Changers, changers_of};
-use crate::needs::{Life, VersionId};
 use crate::versions::Version;
 use clr_change::ChangeSet;
 use clr_grid::{RowFinder, SpotIndex};
+use clr_needs::{Life, SharedCell, VersionId};
 use clr_rows::CellId;
 use clr_rules::RuleBook;
 use std::alloc::{AllocError, Global};
 use std::collections::BTreeMap;
-
-/// A cell with the first two members that change it.
-#[derive(Clone, Copy, Debug)]
-pub(crate) struct SharedCell {
-    pub(crate) cell: CellId,
-    pub(crate) first: u16,
-    pub(crate) second: u16,
-}
 
 /// Change sets, the cells that they change, and the first two that change each.
 #[derive(Drop)]

@@ -7,15 +7,15 @@ ghost use Rattle.clr_rows.specs.Held.{held_of};
 ghost use Rattle.clr_rules.specs.Books.{FitTogether};
 ghost use Rattle.clr_foot.specs.Candidates.{IsNeedAt, IsNeedServedBy, IsNeedWith};
 ghost use Rattle.clr_foot.specs.Gains.{Gains};
-ghost use Rattle.clr_foot.specs.Needs.{AreTouchedNeeds, IsTouched};
+ghost use Rattle.clr_needs.specs.Needs.{AreTouchedNeeds, IsTouched};
 ghost use Rattle.clr_foot.specs.Scenes.{IsReady, model_of, setting_in, setting_of};
 ghost use Rattle.clr_foot.specs.Touches.{IsInCells, IsNear, IsNeedServedAmong, IsTouchedOf};
 ghost use Rattle.clr_foot.specs.Versions.{AreAt, Finds, FindsAll, FitsSetting, IsAt, row_of};
 
-use crate::needs::{Need, VersionId};
 use crate::scenes::Scene;
 use crate::versions::Version;
 use clr_grid::RowFinder;
+use clr_needs::{Need, VersionId};
 use clr_rows::{CellId, Held, RowView};
 use clr_rules::RuleBook;
 use clr_spots::put_in_order;

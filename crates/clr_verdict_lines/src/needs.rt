@@ -2,7 +2,7 @@ ghost use Rattle.std.specs.Prelude.{◌≡◌, ◌++◌, decimal, OnOk};
 ghost use Rattle.clr_verdict_lines.specs.Verdicts.{need_text, second_text};
 
 use clr_cert::add_subject;
-use clr_foot::{Need, VersionId};
+use clr_needs::{Need, VersionId};
 use clr_rows::Schema;
 use itoa::Buffer;
 use std::alloc::AllocError;

@@ -1,4 +1,4 @@
-use Rattle.clr_foot.proofs.Gaining.{item_in}
+use Rattle.clr_needs.proofs.Reading.{item_in}
 use Rattle.clr_foot.proofs.ServedNeeds.{all_served, none_served, one_served}
 use Rattle.clr_foot.proofs.scenes.Scene.add_served.Goals as goal
 
