@@ -20,7 +20,7 @@ use Rattle.clr_rows.specs.Names.{is_good_name, is_name_byte}
 use Rattle.clr_rows.specs.Numbers.{is_i64}
 use Rattle.clr_rows.specs.Schemas.{cell_fault, schema_fault, table_named, name_of_table}
 use Rattle.clr_rows.proofs.SchemaLemmas.{cell_parts, good_table_name, key_of, table_of_name}
-use Rattle.clr_foot.specs.declared.needs.VersionId.{VersionId}
+use Rattle.clr_needs.specs.declared.needs.VersionId.{VersionId}
 use Rattle.clr_records.specs.Decimals.{number_of}
 use Rattle.clr_records.proofs.Decimals.{number_again}
 use Rattle.clr_cert.specs.declared.certificates.Entry.{Entry}

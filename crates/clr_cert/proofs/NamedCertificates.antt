@@ -11,7 +11,7 @@ use Rattle.clr_rows.specs.declared.faults.RowFault.{RowFault}
 use Rattle.clr_rows.specs.declared.tables.TableDef.{TableDef}
 use Rattle.clr_rows.specs.Names.{is_good_name, live_name}
 use Rattle.clr_rows.specs.Schemas.{cell_fault, table_named}
-use Rattle.clr_foot.specs.declared.needs.VersionId.{VersionId}
+use Rattle.clr_needs.specs.declared.needs.VersionId.{VersionId}
 use Rattle.clr_records.specs.Decimals.{number_of}
 use Rattle.clr_records.specs.Records.{◌>>=◌, at_record, field_of, or_fault}
 use Rattle.clr_cert.specs.declared.certificates.Certificate.{Certificate}

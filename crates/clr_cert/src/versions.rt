@@ -5,7 +5,7 @@ ghost use Rattle.clr_cert.specs.Versions.{rule_of, second_of, subject_of, two_of
 
 use crate::certificates::Entry;
 use crate::limits::GREATEST_PART;
-use clr_foot::{Need, VersionId};
+use clr_needs::{Need, VersionId};
 use clr_records::{field, read_number};
 use clr_rows::{CellId, Schema};
 use csv::StringRecord;

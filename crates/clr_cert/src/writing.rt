@@ -9,7 +9,7 @@ ghost use Rattle.clr_cert.specs.Texts.{fresh_word, part_text, records_text, root
 ghost use Rattle.clr_cert.specs.Texts.{second_text, subject_text, text_of, two_text, version_text};
 
 use crate::certificates::{Certificate, Entry};
-use clr_foot::VersionId;
+use clr_needs::VersionId;
 use clr_rows::{LIVE, Schema, Words};
 use csv::{Writer, WriterBuilder};
 use itoa::Buffer;

@@ -1,4 +1,4 @@
-use clr_foot::VersionId;
+use clr_needs::VersionId;
 use clr_rows::{CellId, Columns, Form, Schema, TableDef, Words};
 use std::alloc::{AllocError, Global};
 use std::test::Fail;

@@ -1,6 +1,6 @@
 use crate::network::{network, version};
 use clr_cert::{Certificate, Entry, read_certificate, write_certificate};
-use clr_foot::Need;
+use clr_needs::Need;
 use std::test::Fail;
 
 /// Records in an order of their own, with quotes that CSV takes away.

@@ -1,11 +1,11 @@
 -- What the scene of a site tells of its verdict.
 use Rattle.std.proofs.Common.{◌≡◌, ℕ, List, None, refl, subst}
-use Rattle.clr_foot.specs.declared.faults.SceneFault.{SceneFault}
-use Rattle.clr_foot.specs.declared.faults.SceneFault.TheVariants as scene
-use Rattle.clr_foot.specs.declared.needs.Need.{Need}
-use Rattle.clr_foot.specs.Covers.{AreCovered, Entry}
-use Rattle.clr_foot.specs.Members.{AreApart, IsSceneFault}
-use Rattle.clr_foot.specs.Settings.{Setting}
+use Rattle.clr_needs.specs.declared.faults.SceneFault.{SceneFault}
+use Rattle.clr_needs.specs.declared.faults.SceneFault.TheVariants as scene
+use Rattle.clr_needs.specs.declared.needs.Need.{Need}
+use Rattle.clr_needs.specs.Covers.{AreCovered, Entry}
+use Rattle.clr_needs.specs.Members.{AreApart, IsSceneFault}
+use Rattle.clr_needs.specs.Settings.{Setting}
 use Rattle.clr_steps.specs.Offices.{Office}
 use Rattle.clr_steps.specs.Quiet.{Site}
 use Rattle.clr_clearance.specs.declared.verdicts.Verdict.TheVariants as verdict

@@ -2,16 +2,16 @@
 use Rattle.std.proofs.Common.{◌≡◌, ℕ, ◌+◌, ◌<◌, ◌≤◌, ◌⊎◌, inl, inr, Bool, false, ◌||◌, ◌==◌, List, Contains, get_or, length, take, refl, sym, ap, ◌∙◌, subst, Option, Some, None}
 use Rattle.std.specs.Option.{option_map}
 use Rattle.std.proofs.lemmas.Bool.Decides.{Decides-eqb}
-use Rattle.clr_foot.specs.declared.needs.Need.{Need}
-use Rattle.clr_foot.specs.declared.needs.VersionId.{VersionId}
-use Rattle.clr_foot.specs.Blocking.{same_life}
+use Rattle.clr_needs.specs.declared.needs.Need.{Need}
+use Rattle.clr_needs.specs.declared.needs.VersionId.{VersionId}
+use Rattle.clr_needs.specs.Blocking.{same_life}
 use Rattle.clr_foot.specs.Candidates.{are_opposed}
-use Rattle.clr_foot.specs.Covers.{CoverTogether, CoversAlone, IsLifeOf, Lasts, WitnessesCover}
-use Rattle.clr_foot.specs.Needs.{AreOpposed, AreServers, IsBesideToo, IsPossible, Serves}
-use Rattle.clr_foot.specs.Settings.{Setting, Lifetime, Always, With, Without, Lived, version}
-use Rattle.clr_foot.proofs.NeedSubjects.{subjects_once}
-use Rattle.clr_foot.proofs.Gaining.{none_taken, one_more, all_taken}
-use Rattle.clr_foot.proofs.PickLaws.{listed_serves, serving_listed}
+use Rattle.clr_needs.specs.Covers.{CoverTogether, CoversAlone, IsLifeOf, Lasts, WitnessesCover}
+use Rattle.clr_needs.specs.Needs.{AreOpposed, AreServers, IsBesideToo, IsPossible, Serves}
+use Rattle.clr_needs.specs.Settings.{Setting, Lifetime, Always, With, Without, Lived, version}
+use Rattle.clr_needs.proofs.NeedSubjects.{subjects_once}
+use Rattle.clr_needs.proofs.Reading.{none_taken, one_more, all_taken}
+use Rattle.clr_needs.proofs.PickLaws.{listed_serves, serving_listed}
 use Rattle.clr_clearance.proofs.CheckLemmas.{one_lived}
 use Rattle.clr_check.specs.Entries.{HasCover, IsTold, lasts, same_too}
 use Rattle.clr_cert.specs.declared.certificates.Entry.{Entry}

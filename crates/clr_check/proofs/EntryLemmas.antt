@@ -11,10 +11,10 @@ use Rattle.std.proofs.lemmas.List.{get_or-drop, get_or-take, length-drop, length
 use Rattle.std.proofs.lemmas.List.Sorted.{ranks_by, sorted_far}
 use Rattle.clr_rules.proofs.Elements.{Among, among, contained}
 use Rattle.clr_rules.proofs.BrokenLemmas.{lt_is}
-use Rattle.clr_foot.specs.declared.needs.Need.{Need}
-use Rattle.clr_foot.specs.Covers.{HasEntry, WitnessesCover}
-use Rattle.clr_foot.specs.Orders.{need_cmp}
-use Rattle.clr_foot.specs.Settings.{Setting, Lived}
+use Rattle.clr_needs.specs.declared.needs.Need.{Need}
+use Rattle.clr_needs.specs.Covers.{HasEntry, WitnessesCover}
+use Rattle.clr_needs.specs.Orders.{need_cmp}
+use Rattle.clr_needs.specs.Settings.{Setting, Lived}
 use Rattle.clr_check.specs.Certificates.{entries_in}
 use Rattle.clr_check.specs.Entries.{HasCover, IsEntryOf, RiseByNeed}
 use Rattle.clr_cert.specs.declared.certificates.Entry.{Entry}

@@ -3,11 +3,11 @@ use Rattle.std.proofs.Common.{◌≡◌, ℕ, ◌+◌, ◌<◌, ◌≤◌, ◌�
 use Rattle.std.specs.Prelude.{slice_get}
 use Rattle.std.proofs.lemmas.Option.{slice_get-get_or}
 use Rattle.clr_cert.specs.declared.certificates.Entry.{Entry}
-use Rattle.clr_foot.specs.declared.needs.Need.{Need}
-use Rattle.clr_foot.specs.declared.needs.VersionId.{VersionId}
-use Rattle.clr_foot.specs.Covers.{AreCovered, Entry as Witnesses}
-use Rattle.clr_foot.specs.Needs.{AreTouchedNeeds, IsPossible, IsPossibleNeed}
-use Rattle.clr_foot.specs.Settings.{Setting, Lived}
+use Rattle.clr_needs.specs.declared.needs.Need.{Need}
+use Rattle.clr_needs.specs.declared.needs.VersionId.{VersionId}
+use Rattle.clr_needs.specs.Covers.{AreCovered, Entry as Witnesses}
+use Rattle.clr_needs.specs.Needs.{AreTouchedNeeds, IsPossible, IsPossibleNeed}
+use Rattle.clr_needs.specs.Settings.{Setting, Lived}
 use Rattle.clr_clearance.specs.CheckLaws.{IsCovered}
 use Rattle.clr_clearance.proofs.CheckLemmas.{all_judged, first_judged}
 use Rattle.clr_check.specs.Certificates.{entries_in}

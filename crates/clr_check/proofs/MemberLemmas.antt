@@ -9,7 +9,7 @@ use Rattle.std.proofs.lemmas.Map.Made.{length-le_from_is_member}
 use Rattle.clr_workspaces.specs.Marks.{Name}
 use Rattle.clr_workspaces.specs.Workspaces.{Workspace, live_workspace}
 use Rattle.clr_workspaces.specs.Soundness.{IsSound}
-use Rattle.clr_foot.specs.declared.limits.TheConstants.{MOST_MEMBERS}
+use Rattle.clr_needs.specs.declared.limits.TheConstants.{MOST_MEMBERS}
 use Rattle.clr_steps.specs.Names.{has, is_live, same_name}
 use Rattle.clr_steps.specs.Offices.{Office, find_name, workspace}
 use Rattle.clr_steps.specs.Quiet.{Site}

@@ -13,11 +13,11 @@ use Rattle.clr_rules.specs.Books.{FitsCell, FitsContent}
 use Rattle.clr_workspaces.specs.Marks.{Name}
 use Rattle.clr_workspaces.specs.Workspaces.{Workspace}
 use Rattle.clr_workspaces.specs.Operations.{own_changes}
-use Rattle.clr_foot.specs.declared.needs.VersionId.{VersionId}
-use Rattle.clr_foot.specs.Members.{after_in, after_of, positions}
-use Rattle.clr_foot.specs.Settings.{Lived, first_changer, held_row, new_version, old_version, version}
+use Rattle.clr_needs.specs.declared.needs.VersionId.{VersionId}
+use Rattle.clr_needs.specs.Members.{after_in, after_of, positions}
+use Rattle.clr_needs.specs.Settings.{Lived, first_changer, held_row, new_version, old_version, version}
 use Rattle.clr_foot.specs.Versions.{FitsSetting}
-use Rattle.clr_foot.proofs.Lives.{new_is, old_is}
+use Rattle.clr_needs.proofs.Lives.{new_is, old_is}
 use Rattle.clr_steps.specs.Names.{is_live}
 use Rattle.clr_steps.specs.Offices.{Office, content_of, current_of, find_name, is_kept, stands, workspace}
 use Rattle.clr_steps.specs.Quiet.{Site, root_content}
@@ -33,7 +33,7 @@ use Rattle.clr_clearance.specs.Sites.{RootHolds, change_sets, setting_by_positio
 use Rattle.clr_clearance.specs.Verdicts.{IsVerdict, first_conflict, member_fault, name_fault}
 use Rattle.clr_clearance.specs.Verdicts.{of_member as member}
 use Rattle.clr_clearance.proofs.ClearLemmas.{clear_covers}
-use Rattle.clr_foot.specs.Covers.{Entry}
+use Rattle.clr_needs.specs.Covers.{Entry}
 use Rattle.clr_clearance.proofs.HeadlineLemmas.{headline}
 use Rattle.clr_clearance.proofs.ReplyLemmas.{quiet_run}
 use Rattle.clr_clearance.proofs.RunLemmas.{clear_is_safe}

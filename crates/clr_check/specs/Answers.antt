@@ -1,8 +1,8 @@
 -- What is answered: the verdict, or want of memory where no test of names fails.
 use Rattle.std.specs.Prelude.{◌≡◌, List, Some, None}
-use Rattle.clr_foot.specs.declared.faults.SceneFault.{SceneFault}
-use Rattle.clr_foot.specs.declared.faults.SceneFault.TheVariants as scene
-use Rattle.clr_foot.specs.Covers.{Entry}
+use Rattle.clr_needs.specs.declared.faults.SceneFault.{SceneFault}
+use Rattle.clr_needs.specs.declared.faults.SceneFault.TheVariants as scene
+use Rattle.clr_needs.specs.Covers.{Entry}
 use Rattle.clr_steps.specs.Offices.{Office}
 use Rattle.clr_steps.specs.Quiet.{Site}
 use Rattle.clr_clearance.specs.declared.verdicts.Verdict.{Verdict}

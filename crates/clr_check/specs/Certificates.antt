@@ -2,7 +2,7 @@
 use Rattle.std.specs.Prelude.{List, map}
 use Rattle.clr_cert.specs.declared.certificates.Certificate.{Certificate}
 use Rattle.clr_cert.specs.declared.certificates.Entry.{Entry}
-use Rattle.clr_foot.specs.Covers.{Entry as Witnesses}
+use Rattle.clr_needs.specs.Covers.{Entry as Witnesses}
 use Rattle.clr_steps.specs.Quiet.{Site}
 
 abbrev pub site_of : Certificate → Site

@@ -2,11 +2,11 @@
 use Rattle.std.specs.Prelude.{◌≡◌, ℕ, Bool, true, false, ◌||◌, List, Option, Some, None, Contains}
 use Rattle.std.specs.List.Sorted.{IsSortedByKey}
 use Rattle.clr_cert.specs.declared.certificates.Entry.{Entry}
-use Rattle.clr_foot.specs.declared.needs.Need.{Need}
-use Rattle.clr_foot.specs.Blocking.{same_life}
-use Rattle.clr_foot.specs.Covers.{Entry as Witnesses, WitnessesCover}
-use Rattle.clr_foot.specs.Orders.{need_cmp}
-use Rattle.clr_foot.specs.Settings.{Setting, Lifetime, Always, Lived}
+use Rattle.clr_needs.specs.declared.needs.Need.{Need}
+use Rattle.clr_needs.specs.Blocking.{same_life}
+use Rattle.clr_needs.specs.Covers.{Entry as Witnesses, WitnessesCover}
+use Rattle.clr_needs.specs.Orders.{need_cmp}
+use Rattle.clr_needs.specs.Settings.{Setting, Lifetime, Always, Lived}
 use Rattle.clr_clearance.specs.Verdicts.{IsFirstUncovered}
 
 -- a test tells whether it is so

@@ -17,7 +17,7 @@ use crate::sites::read_site;
 use clr_cert::{Certificate, Entry};
 use clr_clearance::Verdict;
 use clr_engine::Office;
-use clr_foot::SceneFault;
+use clr_needs::SceneFault;
 use std::alloc::Global;
 
 /// What is said where change sets make no scene.

@@ -2,21 +2,22 @@
 
 ghost use Rattle.std.specs.Prelude.{◌≡◌, ℕ, Contains, IfOk, MatchOption, Option, option_map};
 ghost use Rattle.std.specs.List.Sorted.{IsStrictlySortedBy};
-ghost use Rattle.clr_foot.specs.Blocking.{same_life};
+ghost use Rattle.clr_needs.specs.Blocking.{same_life};
 ghost use Rattle.clr_foot.specs.Candidates.{are_opposed};
-ghost use Rattle.clr_foot.specs.Covers.{AreCovered, CoverTogether, CoversAlone, WitnessesCover};
-ghost use Rattle.clr_foot.specs.Members.{lifetime};
-ghost use Rattle.clr_foot.specs.Needs.{AreServers, IsPossible, IsPossibleNeed};
-ghost use Rattle.clr_foot.specs.Orders.{version_cmp};
+ghost use Rattle.clr_needs.specs.Covers.{AreCovered, CoverTogether, CoversAlone, WitnessesCover};
+ghost use Rattle.clr_needs.specs.Members.{lifetime};
+ghost use Rattle.clr_needs.specs.Needs.{AreServers, IsPossible, IsPossibleNeed};
+ghost use Rattle.clr_needs.specs.Orders.{version_cmp};
 ghost use Rattle.clr_foot.specs.Scenes.{IsReady, model_of, setting_of};
-ghost use Rattle.clr_foot.specs.Settings.{Lived};
+ghost use Rattle.clr_needs.specs.Settings.{Lived};
 ghost use Rattle.clr_check.specs.Certificates.{entries_in};
 ghost use Rattle.clr_check.specs.Entries.{HasCover, IsLeastUncovered, IsTold, lasts, same_too};
 
 use crate::entries::{entries_of, sort_entries};
 use clr_cert::Entry;
-use clr_foot::{Life, Need, Scene, VersionId};
+use clr_foot::Scene;
 use clr_grid::RowFinder;
+use clr_needs::{Life, Need, VersionId};
 use clr_rows::RowView;
 use std::alloc::{AllocError, Global};
 

@@ -5,7 +5,7 @@ ghost use Rattle.clr_cert.specs.declared.certificates.Entry.{Entry as OneEntry};
 ghost use Rattle.clr_check.specs.Entries.{IsEntryOf, RiseByNeed};
 
 use clr_cert::Entry;
-use clr_foot::Need;
+use clr_needs::Need;
 use std::alloc::{AllocError, Global};
 
 /// Entries by need. It fails for want of memory alone.

@@ -1,5 +1,5 @@
 ghost use Rattle.std.specs.Prelude.{◌≤◌, length};
-ghost use Rattle.clr_foot.specs.declared.limits.TheConstants.{MOST_MEMBERS};
+ghost use Rattle.clr_needs.specs.declared.limits.TheConstants.{MOST_MEMBERS};
 
 use clr_change::ChangeSet;
 use clr_grid::SpotIndex;

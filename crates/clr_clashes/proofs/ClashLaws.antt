@@ -6,18 +6,18 @@ use Rattle.clr_rows.specs.Contents.{Changes, Content, row_at}
 use Rattle.clr_rules.specs.declared.rules.Rule.{Rule}
 use Rattle.clr_rules.specs.Needs.{Holds}
 use Rattle.clr_rules.proofs.Elements.{among, contained}
-use Rattle.clr_foot.specs.declared.needs.Need.{Need}
-use Rattle.clr_foot.specs.Covers.{IsBlocker}
-use Rattle.clr_foot.specs.Members.{AreApart, setting}
-use Rattle.clr_foot.specs.Needs.{IsTouchedBy}
-use Rattle.clr_foot.specs.Parts.{setting_at}
-use Rattle.clr_foot.specs.Picks.{Blocks}
-use Rattle.clr_foot.specs.Settings.{Setting, AreDisjoint}
-use Rattle.clr_foot.proofs.BlockerLaws.{AreBlockersTo, all_block, none_blocks_yet, one_blocks, one_blocks_not}
-use Rattle.clr_foot.proofs.NeedSubjects.{subjects_once}
-use Rattle.clr_foot.proofs.PartLaws.{IsPart, possible_up}
-use Rattle.clr_foot.proofs.PartLives.{IsInside}
-use Rattle.clr_foot.proofs.PartPositions.{StandsIn, below_member, is_part, stands_among, stands_of}
+use Rattle.clr_needs.specs.declared.needs.Need.{Need}
+use Rattle.clr_needs.specs.Covers.{IsBlocker}
+use Rattle.clr_needs.specs.Members.{AreApart, setting}
+use Rattle.clr_needs.specs.Needs.{IsTouchedBy}
+use Rattle.clr_needs.specs.Parts.{setting_at}
+use Rattle.clr_needs.specs.Picks.{Blocks}
+use Rattle.clr_needs.specs.Settings.{Setting, AreDisjoint}
+use Rattle.clr_needs.proofs.BlockerLaws.{AreBlockersTo, all_block, none_blocks_yet, one_blocks, one_blocks_not}
+use Rattle.clr_needs.proofs.NeedSubjects.{subjects_once}
+use Rattle.clr_needs.proofs.PartLaws.{IsPart, possible_up}
+use Rattle.clr_needs.proofs.PartLives.{IsInside}
+use Rattle.clr_needs.proofs.PartPositions.{StandsIn, below_member, is_part, stands_among, stands_of}
 use Rattle.clr_clashes.specs.Clashes.{HoldNoClash, IsClash, IsWithin, LeavesNoneUncovered}
 use Rattle.clr_clashes.specs.Laws.{ClashesDecideSubsets}
 use Rattle.clr_clashes.proofs.Lists.{shorter_or_same}

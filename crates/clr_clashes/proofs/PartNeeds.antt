@@ -4,16 +4,16 @@ use Rattle.std.specs.Prelude.{⊤}
 use Rattle.std.proofs.lemmas.Bool.{cases_Bool, false≢true, or_left, or_right}
 use Rattle.clr_rules.specs.Calls.{calls, serves}
 use Rattle.clr_rules.specs.Needs.{Holds}
-use Rattle.clr_foot.specs.declared.needs.Need.{Need}
-use Rattle.clr_foot.specs.declared.needs.VersionId.{VersionId}
-use Rattle.clr_foot.specs.Covers.{CoversAlone, CoverTogether, IsBlocker, IsLifeOf, IsUncovered, Lasts}
-use Rattle.clr_foot.specs.Needs.{AreOpposed, IsBesideToo, IsChanged, IsPossible, IsTouchedBy, Serves, ask_of, held_too, is_fresh}
-use Rattle.clr_foot.specs.Settings.{Setting, AreDisjoint, Lifetime, Always, With, Without, Lived, held_row, version}
-use Rattle.clr_foot.proofs.CoverLaws.{root_server}
-use Rattle.clr_foot.proofs.Lives.{lives}
-use Rattle.clr_foot.proofs.Meetings.{HasServer}
-use Rattle.clr_foot.proofs.PartLaws.{IsPart, opposed_down}
-use Rattle.clr_foot.proofs.PartLives.{IsHidden, IsInside, IsLifeIn, IsSecondIn, IsVersionIn, IsVersionOfPart}
+use Rattle.clr_needs.specs.declared.needs.Need.{Need}
+use Rattle.clr_needs.specs.declared.needs.VersionId.{VersionId}
+use Rattle.clr_needs.specs.Covers.{CoversAlone, CoverTogether, IsBlocker, IsLifeOf, IsUncovered, Lasts}
+use Rattle.clr_needs.specs.Needs.{AreOpposed, IsBesideToo, IsChanged, IsPossible, IsTouchedBy, Serves, ask_of, held_too, is_fresh}
+use Rattle.clr_needs.specs.Settings.{Setting, AreDisjoint, Lifetime, Always, With, Without, Lived, held_row, version}
+use Rattle.clr_needs.proofs.CoverLaws.{root_server}
+use Rattle.clr_needs.proofs.Lives.{lives}
+use Rattle.clr_needs.proofs.Meetings.{HasServer}
+use Rattle.clr_needs.proofs.PartLaws.{IsPart, opposed_down}
+use Rattle.clr_needs.proofs.PartLives.{IsHidden, IsInside, IsLifeIn, IsSecondIn, IsVersionIn, IsVersionOfPart}
 
 module _ {A B : Type 0} (c : Setting B) (d : Setting A) (stands : A → B → Type 0) (part : IsPart c d stands) where
   -- ---- lives

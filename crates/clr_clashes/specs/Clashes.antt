@@ -1,10 +1,10 @@
 -- Clashes: members that break a touched need which nothing covers.
 use Rattle.std.specs.Prelude.{◌≡◌, ℕ, List, Contains}
-use Rattle.clr_foot.specs.declared.needs.Need.{Need}
-use Rattle.clr_foot.specs.Covers.{IsUncoveredNeed}
-use Rattle.clr_foot.specs.Needs.{IsTouched}
-use Rattle.clr_foot.specs.Picks.{Blocks}
-use Rattle.clr_foot.specs.Settings.{Setting}
+use Rattle.clr_needs.specs.declared.needs.Need.{Need}
+use Rattle.clr_needs.specs.Covers.{IsUncoveredNeed}
+use Rattle.clr_needs.specs.Needs.{IsTouched}
+use Rattle.clr_needs.specs.Picks.{Blocks}
+use Rattle.clr_needs.specs.Settings.{Setting}
 
 -- all of one list are in another
 abbrev pub IsWithin : List ℕ → List ℕ → Type 0

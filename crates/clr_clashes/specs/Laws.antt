@@ -5,8 +5,8 @@ use Rattle.std.specs.Ordering.{nat_cmp}
 use Rattle.clr_rows.specs.Contents.{Changes, Content, row_at}
 use Rattle.clr_rules.specs.declared.rules.Rule.{Rule}
 use Rattle.clr_rules.specs.Needs.{Holds}
-use Rattle.clr_foot.specs.Members.{AreApart, setting}
-use Rattle.clr_foot.specs.Parts.{setting_at}
+use Rattle.clr_needs.specs.Members.{AreApart, setting}
+use Rattle.clr_needs.specs.Parts.{setting_at}
 use Rattle.clr_clashes.specs.Clashes.{HoldNoClash, LeavesNoneUncovered}
 
 -- where every rule holds in the root and no cell is changed by two members, some of the members alone leave no touched need uncovered

@@ -7,13 +7,13 @@ use Rattle.clr_rows.specs.declared.rows.Row.{Row}
 use Rattle.clr_rows.specs.Cells.{cell_cmp}
 use Rattle.clr_rows.specs.Held.{Held}
 use Rattle.clr_rules.specs.Calls.{calls, serves}
-use Rattle.clr_foot.specs.declared.needs.Need.{Need}
-use Rattle.clr_foot.specs.declared.needs.VersionId.{VersionId}
-use Rattle.clr_foot.specs.Covers.{AreCovered, CoversAlone, Entry, HasEntry, IsLifeOf, Lasts, WitnessesCover}
-use Rattle.clr_foot.specs.Needs.{AreOpposed, IsBesideToo, IsChanged, IsPossible, IsTouchedBy, Serves, ask_of, held_too, is_fresh}
-use Rattle.clr_foot.specs.Settings.{Setting, AreDisjoint, Lifetime, Always, With, Without, Lived, changer, has, held_row, new_row, new_version, old_version, version}
-use Rattle.clr_foot.proofs.Lives.{new_is, old_is, opposed_too, version_by, version_by_changer}
-use Rattle.clr_foot.proofs.Merges.{IsChanger, changer_is}
+use Rattle.clr_needs.specs.declared.needs.Need.{Need}
+use Rattle.clr_needs.specs.declared.needs.VersionId.{VersionId}
+use Rattle.clr_needs.specs.Covers.{AreCovered, CoversAlone, Entry, HasEntry, IsLifeOf, Lasts, WitnessesCover}
+use Rattle.clr_needs.specs.Needs.{AreOpposed, IsBesideToo, IsChanged, IsPossible, IsTouchedBy, Serves, ask_of, held_too, is_fresh}
+use Rattle.clr_needs.specs.Settings.{Setting, AreDisjoint, Lifetime, Always, With, Without, Lived, changer, has, held_row, new_row, new_version, old_version, version}
+use Rattle.clr_needs.proofs.Lives.{new_is, old_is, opposed_too, version_by, version_by_changer}
+use Rattle.clr_needs.proofs.Merges.{IsChanger, changer_is}
 
 -- what becomes of a member: the root takes its changes over, it goes with them, or it stays
 pub data Fate (B : Type 0) : Type 0 where

@@ -4,13 +4,13 @@ use Rattle.std.specs.List.Sorted.{IsStrictlySortedBy}
 use Rattle.std.specs.declared.cmp.Ordering.TheVariants.{Less}
 use Rattle.clr_rules.specs.Needs.{broken_needs, broken_below}
 use Rattle.clr_rules.proofs.Elements.{Among, among, contained, each_of, not_both, not_itself}
-use Rattle.clr_foot.specs.declared.needs.Need.{Need}
-use Rattle.clr_foot.specs.declared.needs.VersionId.{VersionId}
-use Rattle.clr_foot.specs.Covers.{Entry, HasEntry}
-use Rattle.clr_foot.specs.Needs.{IsBesideToo, IsPossible}
-use Rattle.clr_foot.specs.Orders.{need_cmp}
-use Rattle.clr_foot.specs.Settings.{Setting, Lived, version}
-use Rattle.clr_foot.proofs.NeedOrder.{need_total}
+use Rattle.clr_needs.specs.declared.needs.Need.{Need}
+use Rattle.clr_needs.specs.declared.needs.VersionId.{VersionId}
+use Rattle.clr_needs.specs.Covers.{Entry, HasEntry}
+use Rattle.clr_needs.specs.Needs.{IsBesideToo, IsPossible}
+use Rattle.clr_needs.specs.Orders.{need_cmp}
+use Rattle.clr_needs.specs.Settings.{Setting, Lived, version}
+use Rattle.clr_needs.proofs.NeedOrder.{need_total}
 use Rattle.clr_steps.specs.declared.commands.Command.{Command}
 use Rattle.clr_steps.specs.declared.commands.Reply.{Reply}
 use Rattle.clr_steps.specs.Names.{same_name, is_live}

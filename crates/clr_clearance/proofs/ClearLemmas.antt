@@ -10,10 +10,10 @@ use Rattle.clr_rows.specs.declared.cells.CellId.{CellId}
 use Rattle.clr_rows.specs.Contents.{least_and_count}
 use Rattle.clr_workspaces.specs.Marks.{Name}
 use Rattle.clr_workspaces.specs.Workspaces.{Workspace}
-use Rattle.clr_foot.specs.Covers.{Entry}
-use Rattle.clr_foot.specs.Members.{AreApart, after_of}
-use Rattle.clr_foot.specs.Positions.{after_member}
-use Rattle.clr_foot.specs.Settings.{AreDisjoint}
+use Rattle.clr_needs.specs.Covers.{Entry}
+use Rattle.clr_needs.specs.Members.{AreApart, after_of}
+use Rattle.clr_needs.specs.Positions.{after_member}
+use Rattle.clr_needs.specs.Settings.{AreDisjoint}
 use Rattle.clr_steps.specs.Names.{same_name, has, is_live}
 use Rattle.clr_steps.specs.Offices.{Office, find_name, is_kept, stands, workspace}
 use Rattle.clr_steps.specs.Quiet.{Site, is_member}

@@ -5,7 +5,7 @@ use Rattle.clr_rows.specs.declared.cells.CellId.{CellId}
 use Rattle.clr_rows.specs.Contents.{row_at}
 use Rattle.clr_rules.specs.Needs.{Holds}
 use Rattle.clr_workspaces.specs.Marks.{Name}
-use Rattle.clr_foot.specs.Settings.{AreAmong}
+use Rattle.clr_needs.specs.Settings.{AreAmong}
 use Rattle.clr_steps.specs.declared.commands.Command.{Command}
 use Rattle.clr_steps.specs.Names.{has}
 use Rattle.clr_steps.specs.Offices.{Office}

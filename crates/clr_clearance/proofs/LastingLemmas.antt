@@ -11,11 +11,11 @@ use Rattle.clr_rules.specs.Needs.{Holds}
 use Rattle.clr_workspaces.specs.Marks.{Name}
 use Rattle.clr_workspaces.specs.Workspaces.{Workspace}
 use Rattle.clr_workspaces.specs.Operations.{own_changes}
-use Rattle.clr_foot.specs.Covers.{AreCovered, Entry}
-use Rattle.clr_foot.specs.Positions.{after_member, by_position}
-use Rattle.clr_foot.specs.Settings.{Setting, changer, has as has_by}
-use Rattle.clr_foot.proofs.Merges.{IsChanger, changer_is, standing_row, taken_is, taken_over}
-use Rattle.clr_foot.proofs.PositionLaws.{range_has}
+use Rattle.clr_needs.specs.Covers.{AreCovered, Entry}
+use Rattle.clr_needs.specs.Positions.{after_member, by_position}
+use Rattle.clr_needs.specs.Settings.{Setting, changer, has as has_by}
+use Rattle.clr_needs.proofs.Merges.{IsChanger, changer_is, standing_row, taken_is, taken_over}
+use Rattle.clr_needs.proofs.PositionLaws.{range_has}
 use Rattle.clr_steps.specs.Names.{same_name, has}
 use Rattle.clr_steps.specs.declared.commands.Command.{Command}
 use Rattle.clr_steps.specs.Offices.{Office, content_of, workspace}

@@ -9,8 +9,8 @@ use Rattle.clr_rows.proofs.ChangeLemmas.{row-merged}
 use Rattle.clr_workspaces.specs.Marks.{Name}
 use Rattle.clr_workspaces.specs.Workspaces.{Workspace}
 use Rattle.clr_workspaces.specs.Operations.{own_changes}
-use Rattle.clr_foot.specs.Settings.{AreAmong, has as has_by}
-use Rattle.clr_foot.proofs.Merges.{taken_over as taken_cons}
+use Rattle.clr_needs.specs.Settings.{AreAmong, has as has_by}
+use Rattle.clr_needs.proofs.Merges.{taken_over as taken_cons}
 use Rattle.clr_steps.specs.Names.{same_name, has}
 use Rattle.clr_steps.specs.Offices.{Office, content_of, workspace}
 use Rattle.clr_steps.specs.Effects.{after_merge, after_refresh, after_remove, merged_content}

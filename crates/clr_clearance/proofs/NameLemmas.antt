@@ -2,7 +2,7 @@
 use Rattle.std.proofs.Common.{◌≡◌, Bool, true, false, ◌||◌, List, [], ◌∷◌, ◌++◌, refl, sym, ap, ◌∙◌}
 use Rattle.std.proofs.Math.Bool.{or-false, or_assoc}
 use Rattle.clr_workspaces.specs.Marks.{Name}
-use Rattle.clr_foot.specs.Settings.{has as has_by}
+use Rattle.clr_needs.specs.Settings.{has as has_by}
 use Rattle.clr_steps.specs.Names.{same_name, has}
 
 -- one word for both

@@ -8,14 +8,14 @@ use Rattle.std.specs.Cmp.{IsTotalOrder}
 use Rattle.std.specs.List.{list_any}
 use Rattle.std.specs.declared.cmp.Ordering.{Ordering}
 use Rattle.clr_rules.proofs.Elements.{Among, among, among_mapped, contained, same_rising}
-use Rattle.clr_foot.specs.declared.needs.Need.{Need}
-use Rattle.clr_foot.specs.declared.needs.VersionId.{VersionId}
-use Rattle.clr_foot.specs.Covers.{Entry}
-use Rattle.clr_foot.specs.Needs.{IsTouched, Lists}
-use Rattle.clr_foot.specs.Picks.{Blocks, HasBoth, IsLeastVersion, IsPick, Picks, ServesAs}
-use Rattle.clr_foot.specs.Settings.{Setting, With, Without, Lived}
-use Rattle.clr_foot.proofs.NeedOrder.{need_exact, need_total, version_exact}
-use Rattle.clr_foot.proofs.VersionOrder.{version_total}
+use Rattle.clr_needs.specs.declared.needs.Need.{Need}
+use Rattle.clr_needs.specs.declared.needs.VersionId.{VersionId}
+use Rattle.clr_needs.specs.Covers.{Entry}
+use Rattle.clr_needs.specs.Needs.{IsTouched, Lists}
+use Rattle.clr_needs.specs.Picks.{Blocks, HasBoth, IsLeastVersion, IsPick, Picks, ServesAs}
+use Rattle.clr_needs.specs.Settings.{Setting, With, Without, Lived}
+use Rattle.clr_needs.proofs.NeedOrder.{need_exact, need_total, version_exact}
+use Rattle.clr_needs.proofs.VersionOrder.{version_total}
 use Rattle.clr_steps.specs.declared.commands.Command.{Command}
 use Rattle.clr_steps.specs.declared.commands.Reply.{Reply}
 use Rattle.clr_steps.specs.Offices.{Office}

@@ -3,14 +3,14 @@ use Rattle.std.proofs.Common.{◌≡◌, ◌∙◌, ℕ, true, List, [], ◌∷�
 use Rattle.std.proofs.lemmas.Bool.{false≢true, or_cases, or_left, or_right}
 use Rattle.std.specs.Ordering.{nat_cmp}
 use Rattle.clr_rules.proofs.Elements.{Among, among, among_mapped, contained}
-use Rattle.clr_foot.specs.declared.needs.Need.{Need}
-use Rattle.clr_foot.specs.declared.needs.VersionId.{VersionId}
-use Rattle.clr_foot.specs.Covers.{AreBlockers, AreCovered, CoverTogether, Entry, HasEntry, IsBlocker, IsLifeOf, IsUncovered, WitnessesCover}
-use Rattle.clr_foot.specs.Independence.{Names}
-use Rattle.clr_foot.specs.Needs.{AreOpposed, IsBesideToo, IsPossible, Lists}
-use Rattle.clr_foot.specs.Picks.{HasBoth, IsPick, Picks, ServesAs}
-use Rattle.clr_foot.specs.Settings.{Setting, Lifetime, With, Without, Lived, has}
-use Rattle.clr_foot.proofs.Lives.{names_member}
+use Rattle.clr_needs.specs.declared.needs.Need.{Need}
+use Rattle.clr_needs.specs.declared.needs.VersionId.{VersionId}
+use Rattle.clr_needs.specs.Covers.{AreBlockers, AreCovered, CoverTogether, Entry, HasEntry, IsBlocker, IsLifeOf, IsUncovered, WitnessesCover}
+use Rattle.clr_needs.specs.Independence.{Names}
+use Rattle.clr_needs.specs.Needs.{AreOpposed, IsBesideToo, IsPossible, Lists}
+use Rattle.clr_needs.specs.Picks.{HasBoth, IsPick, Picks, ServesAs}
+use Rattle.clr_needs.specs.Settings.{Setting, Lifetime, With, Without, Lived, has}
+use Rattle.clr_needs.proofs.Lives.{names_member}
 use Rattle.clr_clearance.specs.Plans.{ArePicked}
 
 module _ (c : Setting ℕ) (n : Need) (a : Lived ℕ) (b : Option (Lived ℕ)) where

@@ -11,12 +11,12 @@ use Rattle.clr_rules.specs.Needs.{Holds}
 use Rattle.clr_workspaces.specs.Marks.{Name}
 use Rattle.clr_workspaces.specs.Workspaces.{Workspace}
 use Rattle.clr_workspaces.specs.Operations.{own_changes}
-use Rattle.clr_foot.specs.Covers.{AreBlockers, IsUncovered}
-use Rattle.clr_foot.proofs.BrokenLaws.{uncovered_breaks}
+use Rattle.clr_needs.specs.Covers.{AreBlockers, IsUncovered}
+use Rattle.clr_needs.proofs.BrokenLaws.{uncovered_breaks}
 use Rattle.clr_steps.specs.Readings.{conflicts_in}
-use Rattle.clr_foot.specs.Positions.{after_member, by_position}
-use Rattle.clr_foot.specs.Settings.{AreAmong, view_with, has as has_by}
-use Rattle.clr_foot.proofs.Merges.{root_is, taken_over as taken_cons}
+use Rattle.clr_needs.specs.Positions.{after_member, by_position}
+use Rattle.clr_needs.specs.Settings.{AreAmong, view_with, has as has_by}
+use Rattle.clr_needs.proofs.Merges.{root_is, taken_over as taken_cons}
 use Rattle.clr_steps.specs.declared.commands.Command.{Command}
 use Rattle.clr_steps.specs.declared.commands.Command.TheVariants as command
 use Rattle.clr_steps.specs.declared.commands.Reply.{Reply}

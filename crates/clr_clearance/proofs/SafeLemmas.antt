@@ -6,7 +6,7 @@ use Rattle.std.proofs.lemmas.List.{append-nil, append_assoc}
 use Rattle.clr_rows.specs.Contents.{row_at}
 use Rattle.clr_rules.specs.Needs.{Holds}
 use Rattle.clr_workspaces.specs.Marks.{Name}
-use Rattle.clr_foot.proofs.Merges.{root_is}
+use Rattle.clr_needs.proofs.Merges.{root_is}
 use Rattle.clr_steps.specs.declared.commands.Command.{Command}
 use Rattle.clr_steps.specs.declared.commands.Command.TheVariants as command
 use Rattle.clr_steps.specs.declared.commands.Reply.{Reply}

@@ -11,9 +11,9 @@ use Rattle.clr_rows.proofs.SameLemmas.{same_is, same_itself}
 use Rattle.clr_workspaces.specs.Marks.{Name}
 use Rattle.clr_workspaces.specs.Workspaces.{Workspace}
 use Rattle.clr_workspaces.specs.Operations.{own_changes}
-use Rattle.clr_foot.specs.declared.faults.SceneFault.TheVariants as scene
-use Rattle.clr_foot.specs.Members.{IsSceneFault}
-use Rattle.clr_foot.specs.Positions.{after_member}
+use Rattle.clr_needs.specs.declared.faults.SceneFault.TheVariants as scene
+use Rattle.clr_needs.specs.Members.{IsSceneFault}
+use Rattle.clr_needs.specs.Positions.{after_member}
 use Rattle.clr_steps.specs.Names.{same_name}
 use Rattle.clr_steps.specs.Offices.{Office, content_of, is_kept, workspace}
 use Rattle.clr_steps.specs.Effects.{after_merge, merged_content}

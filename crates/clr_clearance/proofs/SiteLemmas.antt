@@ -12,9 +12,9 @@ use Rattle.clr_rows.proofs.SameLemmas.{same_itself}
 use Rattle.clr_workspaces.specs.Marks.{Name}
 use Rattle.clr_workspaces.specs.Workspaces.{Workspace}
 use Rattle.clr_workspaces.specs.Operations.{own_changes}
-use Rattle.clr_foot.specs.Members.{after_in}
-use Rattle.clr_foot.specs.Settings.{Setting, AreDisjoint, AreAmong, changer, view_with, has as has_by}
-use Rattle.clr_foot.proofs.Merges.{IsMerge, taken_is, standing_row, root_is, taken_over as taken_cons}
+use Rattle.clr_needs.specs.Members.{after_in}
+use Rattle.clr_needs.specs.Settings.{Setting, AreDisjoint, AreAmong, changer, view_with, has as has_by}
+use Rattle.clr_needs.proofs.Merges.{IsMerge, taken_is, standing_row, root_is, taken_over as taken_cons}
 use Rattle.clr_steps.specs.Names.{same_name, has}
 use Rattle.clr_steps.specs.Offices.{Office, workspace, content_of}
 use Rattle.clr_steps.specs.Quiet.{Site, is_root, is_member, root_content}

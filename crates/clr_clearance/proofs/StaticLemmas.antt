@@ -11,13 +11,13 @@ use Rattle.clr_rows.specs.Contents.{conflicts, row_at}
 use Rattle.clr_workspaces.specs.Marks.{Name}
 use Rattle.clr_workspaces.specs.Workspaces.{Workspace}
 use Rattle.clr_workspaces.specs.Operations.{own_changes}
-use Rattle.clr_foot.specs.Covers.{Entry}
-use Rattle.clr_foot.specs.Laws.{SayTheSame}
-use Rattle.clr_foot.specs.Members.{AreApart, after_at, after_of}
-use Rattle.clr_foot.specs.Positions.{after_member, by_position}
-use Rattle.clr_foot.specs.Settings.{Setting, AreDisjoint, has as has_by}
-use Rattle.clr_foot.proofs.CoverLaws.{covered_holds}
-use Rattle.clr_foot.proofs.PositionLaws.{say_the_same}
+use Rattle.clr_needs.specs.Covers.{Entry}
+use Rattle.clr_needs.specs.Laws.{SayTheSame}
+use Rattle.clr_needs.specs.Members.{AreApart, after_at, after_of}
+use Rattle.clr_needs.specs.Positions.{after_member, by_position}
+use Rattle.clr_needs.specs.Settings.{Setting, AreDisjoint, has as has_by}
+use Rattle.clr_needs.proofs.CoverLaws.{covered_holds}
+use Rattle.clr_needs.proofs.PositionLaws.{say_the_same}
 use Rattle.clr_steps.specs.Names.{same_name}
 use Rattle.clr_steps.specs.Offices.{Office, workspace, content_of}
 use Rattle.clr_steps.specs.Quiet.{Site, is_root, is_member, root_content}

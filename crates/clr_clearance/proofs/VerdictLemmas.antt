@@ -2,17 +2,17 @@
 use Rattle.std.proofs.Common.{◌≡◌, ℕ, ◌<◌, inl, inr, List, Option, Some, None, sym, ap, ◌∙◌, subst, arith}
 use Rattle.clr_rows.specs.declared.cells.CellId.{CellId}
 use Rattle.clr_rows.proofs.CellOrder.{cell_cmp_total, cell_cmp_exact}
-use Rattle.clr_foot.specs.declared.faults.SceneFault.TheVariants as scene
-use Rattle.clr_foot.specs.declared.needs.Need.{Need}
-use Rattle.clr_foot.specs.Covers.{AreCovered, Entry}
-use Rattle.clr_foot.specs.Members.{ChangesCell, IsApart, IsSceneFault}
-use Rattle.clr_foot.specs.Settings.{Setting, Lived}
+use Rattle.clr_needs.specs.declared.faults.SceneFault.TheVariants as scene
+use Rattle.clr_needs.specs.declared.needs.Need.{Need}
+use Rattle.clr_needs.specs.Covers.{AreCovered, Entry}
+use Rattle.clr_needs.specs.Members.{ChangesCell, IsApart, IsSceneFault}
+use Rattle.clr_needs.specs.Settings.{Setting, Lived}
 use Rattle.clr_rows.specs.Contents.{Changes}
 use Rattle.clr_clearance.specs.declared.verdicts.Verdict.TheVariants as verdict
 use Rattle.clr_clearance.specs.Laws.{OneVerdictLaw}
 use Rattle.clr_clearance.specs.Verdicts.{IsFirstUncovered, member_fault, of_cell, of_member, of_need, of_none}
 use Rattle.clr_clearance.proofs.ClearLemmas.{order}
-use Rattle.clr_foot.proofs.NeedOrder.{need_exact, need_total}
+use Rattle.clr_needs.proofs.NeedOrder.{need_exact, need_total}
 use Rattle.clr_clearance.proofs.OrderLemmas.{in_order}
 
 pub one_some : {X : Type 0} (r : Option X) (x y : X) → r ≡ Some x → r ≡ Some y → x ≡ y

@@ -1,9 +1,9 @@
 -- How a verdict and a run come about one need, and one command, after another.
 use Rattle.std.specs.Prelude.{◌≡◌, ℕ, ◌<◌, true, List, [], ◌∷◌, ◌++◌, Option, Some, Contains, slice_get}
-use Rattle.clr_foot.specs.declared.needs.Need.{Need}
-use Rattle.clr_foot.specs.Covers.{AreCovered, Entry, HasEntry}
-use Rattle.clr_foot.specs.Needs.{AreTouchedNeeds, IsPossible}
-use Rattle.clr_foot.specs.Settings.{Setting, Lived}
+use Rattle.clr_needs.specs.declared.needs.Need.{Need}
+use Rattle.clr_needs.specs.Covers.{AreCovered, Entry, HasEntry}
+use Rattle.clr_needs.specs.Needs.{AreTouchedNeeds, IsPossible}
+use Rattle.clr_needs.specs.Settings.{Setting, Lived}
 use Rattle.clr_steps.specs.declared.commands.Command.{Command}
 use Rattle.clr_steps.specs.declared.commands.Reply.{Reply}
 use Rattle.clr_steps.specs.Offices.{Office}

@@ -4,7 +4,7 @@ use Rattle.clr_rows.specs.declared.cells.CellId.{CellId}
 use Rattle.clr_rows.specs.Contents.{row_at}
 use Rattle.clr_rules.specs.Needs.{View}
 use Rattle.clr_workspaces.specs.Marks.{Name}
-use Rattle.clr_foot.specs.Covers.{Entry}
+use Rattle.clr_needs.specs.Covers.{Entry}
 use Rattle.clr_steps.specs.declared.commands.Command.{Command}
 use Rattle.clr_steps.specs.declared.commands.Reply.{Reply}
 use Rattle.clr_steps.specs.Names.{has}

@@ -4,7 +4,7 @@ use Rattle.std.specs.Option.{option_map}
 use Rattle.clr_rows.specs.declared.cells.CellId.{CellId}
 use Rattle.clr_rows.specs.Contents.{change_at, row_at}
 use Rattle.clr_workspaces.specs.Marks.{Name}
-use Rattle.clr_foot.specs.Settings.{AreAmong}
+use Rattle.clr_needs.specs.Settings.{AreAmong}
 use Rattle.clr_steps.specs.Names.{has}
 use Rattle.clr_steps.specs.Offices.{Office, workspace}
 use Rattle.clr_steps.specs.Quiet.{IsRootKept, Member, Site, is_member, is_root, member_of, root_content}

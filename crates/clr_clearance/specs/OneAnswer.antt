@@ -1,7 +1,7 @@
 -- No site has two plans, and no list of commands two quiet starts, memory aside.
 use Rattle.std.specs.Prelude.{◌≡◌, ℕ, false, List, Option}
 use Rattle.std.specs.List.{list_any}
-use Rattle.clr_foot.specs.Covers.{Entry}
+use Rattle.clr_needs.specs.Covers.{Entry}
 use Rattle.clr_steps.specs.declared.commands.Command.{Command}
 use Rattle.clr_steps.specs.declared.commands.Reply.{Reply}
 use Rattle.clr_steps.specs.Offices.{Office}

@@ -1,11 +1,11 @@
 -- What a plan promises, by definitions alone.
 use Rattle.std.specs.Prelude.{◌≡◌, ℕ, Bool, true, false, List, None}
 use Rattle.clr_workspaces.specs.Marks.{Name}
-use Rattle.clr_foot.specs.declared.needs.Need.{Need}
-use Rattle.clr_foot.specs.Covers.{Entry}
-use Rattle.clr_foot.specs.Needs.{IsTouched}
-use Rattle.clr_foot.specs.Picks.{Blocks, Picks}
-use Rattle.clr_foot.specs.Settings.{AreAmong}
+use Rattle.clr_needs.specs.declared.needs.Need.{Need}
+use Rattle.clr_needs.specs.Covers.{Entry}
+use Rattle.clr_needs.specs.Needs.{IsTouched}
+use Rattle.clr_needs.specs.Picks.{Blocks, Picks}
+use Rattle.clr_needs.specs.Settings.{AreAmong}
 use Rattle.clr_steps.specs.declared.commands.Command.{Command}
 use Rattle.clr_steps.specs.Offices.{Office}
 use Rattle.clr_steps.specs.Quiet.{Site}

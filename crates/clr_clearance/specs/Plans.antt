@@ -4,15 +4,15 @@ use Rattle.std.specs.List.{filter_map, list_any}
 use Rattle.std.specs.declared.cmp.Ordering.TheVariants.{Less}
 use Rattle.clr_rows.specs.declared.cells.CellId.{CellId}
 use Rattle.clr_workspaces.specs.Marks.{Name}
-use Rattle.clr_foot.specs.declared.faults.SceneFault.TheVariants as scene
-use Rattle.clr_foot.specs.declared.needs.Need.{Need}
-use Rattle.clr_foot.specs.declared.needs.VersionId.{VersionId}
-use Rattle.clr_foot.specs.Covers.{Entry}
-use Rattle.clr_foot.specs.Members.{AreApart, IsSceneFault}
-use Rattle.clr_foot.specs.Needs.{AreTouchedNeeds, IsTouched}
-use Rattle.clr_foot.specs.Orders.{need_cmp}
-use Rattle.clr_foot.specs.Picks.{Blocks, Picks}
-use Rattle.clr_foot.specs.Settings.{Setting}
+use Rattle.clr_needs.specs.declared.faults.SceneFault.TheVariants as scene
+use Rattle.clr_needs.specs.declared.needs.Need.{Need}
+use Rattle.clr_needs.specs.declared.needs.VersionId.{VersionId}
+use Rattle.clr_needs.specs.Covers.{Entry}
+use Rattle.clr_needs.specs.Members.{AreApart, IsSceneFault}
+use Rattle.clr_needs.specs.Needs.{AreTouchedNeeds, IsTouched}
+use Rattle.clr_needs.specs.Orders.{need_cmp}
+use Rattle.clr_needs.specs.Picks.{Blocks, Picks}
+use Rattle.clr_needs.specs.Settings.{Setting}
 use Rattle.clr_steps.specs.declared.commands.Command.{Command}
 use Rattle.clr_steps.specs.declared.commands.Command.TheVariants as command
 use Rattle.clr_steps.specs.Offices.{Office, workspace}

@@ -7,10 +7,10 @@ use Rattle.clr_rows.specs.declared.rows.Row.{Row}
 use Rattle.clr_rows.specs.Contents.{Changes, Content, is_changed, row_at}
 use Rattle.clr_rules.specs.Needs.{Holds, View}
 use Rattle.clr_workspaces.specs.Marks.{Name}
-use Rattle.clr_foot.specs.Covers.{AreCovered, Entry}
-use Rattle.clr_foot.specs.Members.{after_in, setting}
-use Rattle.clr_foot.specs.Positions.{AreDistinct}
-use Rattle.clr_foot.specs.Settings.{Setting, AreDisjoint, AreAmong, view_with}
+use Rattle.clr_needs.specs.Covers.{AreCovered, Entry}
+use Rattle.clr_needs.specs.Members.{after_in, setting}
+use Rattle.clr_needs.specs.Positions.{AreDistinct}
+use Rattle.clr_needs.specs.Settings.{Setting, AreDisjoint, AreAmong, view_with}
 use Rattle.clr_steps.specs.Names.{same_name}
 use Rattle.clr_steps.specs.Offices.{Office, workspace}
 use Rattle.clr_steps.specs.Quiet.{Site, IsRootKept, is_member, is_root, root_content}

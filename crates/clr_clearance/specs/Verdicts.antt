@@ -6,13 +6,13 @@ use Rattle.std.specs.declared.cmp.Ordering.TheVariants.{Less}
 use Rattle.clr_rows.specs.Contents.{least_and_count}
 use Rattle.clr_workspaces.specs.Marks.{Name}
 use Rattle.clr_rows.specs.declared.cells.CellId.{CellId}
-use Rattle.clr_foot.specs.declared.faults.SceneFault.TheVariants as scene
-use Rattle.clr_foot.specs.declared.needs.Need.{Need}
-use Rattle.clr_foot.specs.Covers.{AreCovered, Entry, HasEntry}
-use Rattle.clr_foot.specs.Members.{AreApart, IsSceneFault}
-use Rattle.clr_foot.specs.Needs.{IsPossible, IsTouchedBy}
-use Rattle.clr_foot.specs.Orders.{need_cmp}
-use Rattle.clr_foot.specs.Settings.{Setting, Lived}
+use Rattle.clr_needs.specs.declared.faults.SceneFault.TheVariants as scene
+use Rattle.clr_needs.specs.declared.needs.Need.{Need}
+use Rattle.clr_needs.specs.Covers.{AreCovered, Entry, HasEntry}
+use Rattle.clr_needs.specs.Members.{AreApart, IsSceneFault}
+use Rattle.clr_needs.specs.Needs.{IsPossible, IsTouchedBy}
+use Rattle.clr_needs.specs.Orders.{need_cmp}
+use Rattle.clr_needs.specs.Settings.{Setting, Lived}
 use Rattle.clr_steps.specs.Names.{has}
 use Rattle.clr_steps.specs.Offices.{Office, is_kept, stands}
 use Rattle.clr_steps.specs.Quiet.{Site}

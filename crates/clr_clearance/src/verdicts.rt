@@ -1,4 +1,4 @@
-use clr_foot::Need;
+use clr_needs::Need;
 use clr_rows::CellId;
 
 /// What a check says of a root, of members that are to be merged into it, and of the entries of a

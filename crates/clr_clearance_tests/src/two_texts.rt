@@ -2,7 +2,7 @@ use clr_cert::CertFault;
 use clr_check::Verdict;
 use clr_check_texts::{Checked, TextFault, check_texts, judge_texts};
 use clr_clearance_trials::line_of;
-use clr_foot::{Need, VersionId};
+use clr_needs::{Need, VersionId};
 use clr_rows::CellId;
 use clr_rules::{Ask, Broken};
 use std::alloc::Global;

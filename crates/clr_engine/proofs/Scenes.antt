@@ -12,15 +12,15 @@ use Rattle.clr_rules.specs.Books.{FitsCell}
 use Rattle.clr_rules.specs.Needs.{IsFirstBroken}
 use Rattle.clr_rules.specs.declared.needs.Broken.{Broken}
 use Rattle.clr_grid.specs.Sharing.{IsSettledFor}
-use Rattle.clr_foot.proofs.AuditLaws.{first_listed}
-use Rattle.clr_foot.specs.Broken.{view_after_merge}
+use Rattle.clr_needs.proofs.AuditLaws.{first_listed}
+use Rattle.clr_needs.specs.Broken.{view_after_merge}
 use Rattle.clr_foot.specs.Scenes.{IsReady, SceneModel, setting_of}
 use Rattle.clr_steps.specs.Refusals.{first_broken}
 use Rattle.clr_rules.specs.declared.rules.Rule.{Rule}
 use Rattle.clr_grid.specs.RowMaps.{Rows}
-use Rattle.clr_foot.specs.declared.needs.VersionId.{VersionId}
-use Rattle.clr_foot.specs.Members.{after_in, after_of, setting}
-use Rattle.clr_foot.specs.Settings.{Lived, changer, held_row, new_row, new_version, old_version, version}
+use Rattle.clr_needs.specs.declared.needs.VersionId.{VersionId}
+use Rattle.clr_needs.specs.Members.{after_in, after_of, setting}
+use Rattle.clr_needs.specs.Settings.{Lived, changer, held_row, new_row, new_version, old_version, version}
 use Rattle.clr_foot.specs.Versions.{FitsSetting}
 use Rattle.clr_workspaces.specs.Workspaces.{Workspace}
 use Rattle.clr_engine.specs.Finders.{IsFinderAt, IsFinderOf, kept_content}

@@ -13,8 +13,8 @@ use Rattle.clr_rules.specs.declared.rules.Rule.{Rule}
 use Rattle.clr_rules.specs.Calls.{ask_of_parts, calls, part_count, plain_ask, serves}
 use Rattle.clr_spots.proofs.RoleLaws.{alone_parts, first_part_there, second_part_there}
 use Rattle.clr_rules.proofs.Elements.{not_both}
-use Rattle.clr_foot.specs.declared.needs.Need.{Need}
-use Rattle.clr_foot.specs.declared.needs.VersionId.{VersionId}
+use Rattle.clr_needs.specs.declared.needs.Need.{Need}
+use Rattle.clr_needs.specs.declared.needs.VersionId.{VersionId}
 use Rattle.clr_foot.specs.declared.versions.Version.{Version}
 use Rattle.clr_foot.specs.Candidates.{IsNeedAmong, IsServerAmong, IsNeedOf, IsNeedOfAsk, IsNeedOfPair, IsNeedOfPart, are_opposed, id_of, is_asked, is_of_two_under, serves_too}
 use Rattle.clr_foot.specs.Gains.{Gains, GainsSome}

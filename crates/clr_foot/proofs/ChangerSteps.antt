@@ -17,8 +17,9 @@ use Rattle.clr_rows.proofs.CellOrder.{cell_cmp_total, cell_cmp_exact}
 use Rattle.clr_rows.proofs.ChangeLemmas.{tied_self}
 use Rattle.clr_rules.proofs.Elements.{Among, any_by}
 use Rattle.clr_foot.specs.declared.changers.Changers.{Changers}
-use Rattle.clr_foot.specs.Members.{AreChangersAt, ChangesCell, IsFirstChanger, IsFound, NoneChanges, after_at, after_in, after_of, changers_at, changers_from, positions, with_member, with_second}
-use Rattle.clr_foot.specs.Settings.{first_changer}
+use Rattle.clr_foot.specs.Changers.{AreChangersAt, changers_at, changers_from, with_member, with_second}
+use Rattle.clr_needs.specs.Members.{ChangesCell, IsFirstChanger, IsFound, NoneChanges, after_at, after_in, after_of, positions}
+use Rattle.clr_needs.specs.Settings.{first_changer}
 use Rattle.clr_foot.proofs.Searches.{found_is, none_behind, search, search_finds}
 use Rattle.clr_foot.proofs.SharedCells.{changes_mapped, key_among}
 

@@ -6,13 +6,6 @@ use Rattle.clr_rules.proofs.Elements.{Among, among, contained}
 use Rattle.clr_foot.specs.Gains.{Gains, GainsSome, OfSome}
 
 module _ {X : Type 0} where
-  alone : (x y : X) → Contains (x ∷ []) y → y ≡ x
-  alone x y h = by (among y (x ∷ []) h)
-    where
-      by : (x ≡ y) ⊎ ⊥ → y ≡ x
-      by (inl e) = sym e
-      by (inr h) = absurd h
-
   module _ (allowed wanted : X → Type 0) where
     -- nothing is wanted
     pub gains_none : (list : List X) → ((x : X) → wanted x → ⊥) → Gains allowed wanted list list

@@ -9,22 +9,23 @@ use Rattle.clr_rows.specs.Contents.{Changes, Content}
 use Rattle.clr_rules.specs.declared.rules.Rule.{Rule}
 use Rattle.clr_rules.proofs.AskLemmas.{rule_there}
 use Rattle.clr_rules.proofs.Elements.{among, contained}
-use Rattle.clr_foot.specs.declared.needs.Need.{Need}
-use Rattle.clr_foot.specs.declared.needs.VersionId.{VersionId}
+use Rattle.clr_needs.specs.declared.needs.Need.{Need}
+use Rattle.clr_needs.specs.declared.needs.VersionId.{VersionId}
 use Rattle.clr_foot.specs.declared.versions.Version.{Version}
 use Rattle.clr_foot.specs.Candidates.{IsNeedServedBy, IsNeedWith, IsSubject}
 use Rattle.clr_foot.specs.Gains.{Gains, OfSome}
-use Rattle.clr_foot.specs.Independence.{AreDependent, Involves, Names, NamesToo}
+use Rattle.clr_needs.specs.Independence.{AreDependent, Involves, Names, NamesToo}
 use Rattle.clr_foot.specs.Involvement.{IsInvolvedAt, IsInvolvedBy, IsInvolving, IsToldInvolving, names, names_at, names_by}
-use Rattle.clr_foot.specs.Members.{after_at, setting}
-use Rattle.clr_foot.specs.Needs.{AreServers, IsBesideToo, IsPossible, IsPossibleNeed, Lists, Serves, ask_of, held_too}
-use Rattle.clr_foot.specs.Orders.{need_cmp}
-use Rattle.clr_foot.specs.Settings.{Setting, Lifetime, Always, With, Without, Lived, changer, held_row, version}
+use Rattle.clr_needs.specs.Members.{after_at, setting}
+use Rattle.clr_needs.specs.Needs.{AreServers, IsBesideToo, IsPossible, IsPossibleNeed, Lists, Serves, ask_of, held_too}
+use Rattle.clr_needs.specs.Orders.{need_cmp}
+use Rattle.clr_needs.specs.Settings.{Setting, Lifetime, Always, With, Without, Lived, changer, held_row, version}
 use Rattle.clr_foot.specs.Versions.{IsAt, row_and_life, version_of}
-use Rattle.clr_foot.proofs.NeedSubjects.{subjects_once}
-use Rattle.clr_foot.proofs.Gaining.{all_taken, gains_as, gains_both, gains_none, one_more, read_of}
-use Rattle.clr_foot.proofs.Lives.{named_by_old, new_is, old_is, version_by, version_by_changer}
-use Rattle.clr_foot.proofs.Merges.{IsChanger, changer_is}
+use Rattle.clr_needs.proofs.NeedSubjects.{subjects_once}
+use Rattle.clr_needs.proofs.Reading.{all_taken, one_more, read_of}
+use Rattle.clr_foot.proofs.Gaining.{gains_as, gains_both, gains_none}
+use Rattle.clr_needs.proofs.Lives.{named_by_old, new_is, old_is, version_by, version_by_changer}
+use Rattle.clr_needs.proofs.Merges.{IsChanger, changer_is}
 use Rattle.clr_foot.proofs.SharedCells.{key_among}
 use Rattle.clr_foot.proofs.TouchLaws.{lived_is}
 

@@ -13,10 +13,10 @@ use Rattle.clr_rules.specs.declared.rules.Rule.{Rule}
 use Rattle.clr_rules.proofs.Elements.{contained}
 use Rattle.clr_grid.specs.declared.row_spots.RuleSpots.{RuleSpots}
 use Rattle.clr_grid.specs.Sharing.{Pending, Settled, next_at, next_of, row_spots}
-use Rattle.clr_foot.specs.Members.{ChangesCell, after_of, changed_cells, positions}
-use Rattle.clr_foot.specs.Settings.{Lived, first_changer, new_row, new_version}
+use Rattle.clr_needs.specs.Members.{ChangesCell, after_of, changed_cells, positions}
+use Rattle.clr_needs.specs.Settings.{Lived, first_changer, new_row, new_version}
 use Rattle.clr_foot.specs.Versions.{AreNewRowsFiled, new_version_at}
-use Rattle.clr_foot.proofs.Gaining.{none_taken, one_more, all_taken}
+use Rattle.clr_needs.proofs.Reading.{none_taken, one_more, all_taken}
 use Rattle.clr_foot.proofs.SharedCells.{changed_is_listed}
 
 -- ---- cells with a new version are changed

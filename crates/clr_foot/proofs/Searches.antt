@@ -8,8 +8,8 @@ use Rattle.std.proofs.lemmas.Bool.{cases_lt, false≢true}
 use Rattle.std.proofs.lemmas.Option.{slice_get-map, slice_get_past, slice_get_read}
 use Rattle.clr_rows.specs.declared.cells.CellId.{CellId}
 use Rattle.clr_rows.specs.Contents.{Changes}
-use Rattle.clr_foot.specs.Members.{ChangesCell, IsFound, NoneChanges, after_at, after_of}
-use Rattle.clr_foot.specs.Settings.{first_changer}
+use Rattle.clr_needs.specs.Members.{ChangesCell, IsFound, NoneChanges, after_at, after_of}
+use Rattle.clr_needs.specs.Settings.{first_changer}
 
 -- what the borrowed change sets are
 abbrev pub sets_of : List (Bor Changes) → List Changes

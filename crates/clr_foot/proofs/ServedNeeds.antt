@@ -1,7 +1,7 @@
 -- The needs of versions that a server serves, one version after another.
 use Rattle.std.proofs.Common.{◌≡◌, ◌∙◌, ◌<◌, ◌≤◌, ◌+◌, ℕ, List, ◌⊎◌, inl, inr, Some, None, Contains, get_or, length, take, sym, subst}
 use Rattle.clr_rules.specs.declared.rules.Rule.{Rule}
-use Rattle.clr_foot.specs.declared.needs.Need.{Need}
+use Rattle.clr_needs.specs.declared.needs.Need.{Need}
 use Rattle.clr_foot.specs.declared.versions.Version.{Version}
 use Rattle.clr_foot.specs.Candidates.{IsNeedAmong, IsNeedOf}
 use Rattle.clr_foot.specs.Gains.{Gains, GainsSome}

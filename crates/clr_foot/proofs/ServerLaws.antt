@@ -6,13 +6,13 @@ use Rattle.clr_rules.specs.declared.needs.Ask.{Ask}
 use Rattle.clr_rules.specs.Calls.{calls, serves}
 use Rattle.clr_rules.proofs.AskLemmas.{rule_there}
 use Rattle.clr_rules.proofs.Elements.{among}
-use Rattle.clr_foot.specs.declared.needs.Need.{Need}
-use Rattle.clr_foot.specs.declared.needs.VersionId.{VersionId}
+use Rattle.clr_needs.specs.declared.needs.Need.{Need}
+use Rattle.clr_needs.specs.declared.needs.VersionId.{VersionId}
 use Rattle.clr_foot.specs.declared.versions.Version.{Version}
 use Rattle.clr_foot.specs.Candidates.{IsServerAmong}
 use Rattle.clr_foot.specs.Gains.{Gains}
-use Rattle.clr_foot.specs.Needs.{IsBesideToo, IsPossible, IsPossibleNeed, IsServing, ask_of, held_too}
-use Rattle.clr_foot.specs.Settings.{Setting, Lived, held_row, version}
+use Rattle.clr_needs.specs.Needs.{IsBesideToo, IsPossible, IsPossibleNeed, IsServing, ask_of, held_too}
+use Rattle.clr_needs.specs.Settings.{Setting, Lived, held_row, version}
 use Rattle.clr_foot.specs.Touches.{IsNear, IsServerOf}
 use Rattle.clr_foot.specs.Versions.{AreAt, Finds, HasVersion, IsAtToo, IsNamed, IsNamedToo, row_and_life, row_of, version_of}
 use Rattle.clr_foot.proofs.SharingLaws.{may_serve_there, near_server, server_near}

@@ -18,8 +18,9 @@ use Rattle.clr_rules.proofs.Elements.{Among, among_left, among_right, not_itself
 use Rattle.clr_rules.proofs.BrokenLemmas.{lt_is}
 use Rattle.clr_grid.proofs.EntryLemmas.{one_among}
 use Rattle.clr_foot.specs.declared.changers.Changers.{Changers}
-use Rattle.clr_foot.specs.declared.members.SharedCell.{SharedCell}
-use Rattle.clr_foot.specs.Members.{AreApart, AreChangersAt, AreFirstTwo, ChangesCell, IsApart, IsFirstChanger, IsFound, IsLeastShared, after_in, changed_cells, lesser}
+use Rattle.clr_needs.specs.declared.shared_cells.SharedCell.{SharedCell}
+use Rattle.clr_needs.specs.Members.{AreApart, AreFirstTwo, ChangesCell, IsApart, IsFirstChanger, IsFound, IsLeastShared, after_in, changed_cells}
+use Rattle.clr_foot.specs.Changers.{AreChangersAt, lesser}
 
 -- ---- one cell
 

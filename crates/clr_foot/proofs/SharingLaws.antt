@@ -29,7 +29,7 @@ use Rattle.clr_grid.specs.Sharing.{IsSettledFor, Settled, found_cells, is_met_at
 use Rattle.clr_grid.proofs.EntryLemmas.{in_passes, passes_in}
 use Rattle.clr_grid.proofs.SharingLemmas.{found_servers, found_sharing}
 use Rattle.clr_foot.specs.Candidates.{is_of_two, is_of_two_by, is_of_two_under}
-use Rattle.clr_foot.specs.Settings.{Setting}
+use Rattle.clr_needs.specs.Settings.{Setting}
 use Rattle.clr_foot.specs.Touches.{IsNear}
 use Rattle.clr_foot.specs.Versions.{FitsSetting}
 

@@ -7,12 +7,12 @@ use Rattle.clr_spots.specs.Spots.{are_sharing}
 use Rattle.clr_grid.specs.Sharing.{may_serve_under}
 use Rattle.clr_rows.specs.Held.{Held}
 use Rattle.clr_rows.specs.Cells.{cell_cmp}
-use Rattle.clr_foot.specs.declared.needs.Need.{Need}
-use Rattle.clr_foot.specs.declared.needs.VersionId.{VersionId}
+use Rattle.clr_needs.specs.declared.needs.Need.{Need}
+use Rattle.clr_needs.specs.declared.needs.VersionId.{VersionId}
 use Rattle.clr_foot.specs.declared.versions.Version.{Version}
 use Rattle.clr_foot.specs.Candidates.{IsNeedAmong, IsNeedBetween, IsNeedOf, IsNeedOfPair, IsNeedServedBy, IsNeedWith, id_of, is_of_two_under, serves_too}
-use Rattle.clr_foot.specs.Needs.{AreOpposed, IsBeside, IsBesideToo, IsPossible, Serves, ask_of, held_too}
-use Rattle.clr_foot.specs.Settings.{Setting, Lived, held_row, version}
+use Rattle.clr_needs.specs.Needs.{AreOpposed, IsBeside, IsBesideToo, IsPossible, Serves, ask_of, held_too}
+use Rattle.clr_needs.specs.Settings.{Setting, Lived, held_row, version}
 use Rattle.clr_foot.specs.Touches.{IsNear, IsNeedServedAmong}
 use Rattle.clr_foot.specs.Versions.{AreAt, FindsAll, FitsSetting, HasVersion, IsAt, row_and_life, row_of}
 use Rattle.clr_foot.proofs.CandidateLaws.{they_call}

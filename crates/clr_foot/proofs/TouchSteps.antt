@@ -17,8 +17,8 @@ use Rattle.clr_rules.specs.declared.rules.Rule.{Rule}
 use Rattle.clr_rules.proofs.AskLemmas.{rule_there}
 use Rattle.clr_rules.proofs.Elements.{Among, among, any_by, among_either, contained}
 use Rattle.clr_grid.specs.Sharing.{may_serve_under}
-use Rattle.clr_foot.specs.declared.needs.Need.{Need}
-use Rattle.clr_foot.specs.declared.needs.VersionId.{VersionId}
+use Rattle.clr_needs.specs.declared.needs.Need.{Need}
+use Rattle.clr_needs.specs.declared.needs.VersionId.{VersionId}
 use Rattle.clr_foot.specs.declared.versions.Version.{Version}
 use Rattle.clr_foot.specs.Candidates.{IsNeedAmong, IsNeedAt, IsNeedOf, IsNeedServedBy, IsNeedWith, is_of_two_under}
 use Rattle.clr_foot.specs.Gains.{Gains, GainsSome}
@@ -32,7 +32,7 @@ use Rattle.clr_foot.proofs.Gaining.{all_taken, gains_as, gains_both, gains_none,
 use Rattle.clr_foot.proofs.Lives.{new_is, old_is}
 use Rattle.clr_foot.proofs.Merges.{IsChanger, changer_is}
 use Rattle.clr_foot.proofs.NewRows.{brought_is_listed}
-use Rattle.clr_foot.proofs.PositionLaws.{range_has}
+use Rattle.clr_needs.proofs.PositionLaws.{range_has}
 use Rattle.clr_foot.proofs.SharedCells.{changed_is_listed}
 use Rattle.clr_foot.proofs.TouchLaws.{alone_of_one, alone_with, among_served, among_with, not_served, served_found, with_found}
 

@@ -7,8 +7,8 @@ use Rattle.clr_rows.specs.Held.{Held}
 use Rattle.clr_rules.specs.declared.rules.Rule.{Rule}
 use Rattle.clr_rules.specs.Books.{FitTogether, FitsCell}
 use Rattle.clr_foot.specs.declared.versions.Version.{Version}
-use Rattle.clr_foot.specs.Members.{setting}
-use Rattle.clr_foot.specs.Settings.{Setting, version}
+use Rattle.clr_needs.specs.Members.{setting}
+use Rattle.clr_needs.specs.Settings.{Setting, version}
 use Rattle.clr_foot.specs.Versions.{FitNewRows, FitsSetting, IsAt, IsAtToo, row_and_life, row_of, version_of}
 
 module _ (c : Setting ℕ) (fits : FitsSetting c) where

@@ -9,13 +9,13 @@ use Rattle.clr_rules.specs.declared.rules.Rule.{Rule}
 use Rattle.clr_rules.proofs.Elements.{among, contained}
 use Rattle.clr_grid.specs.Sharing.{IsSettledFor, Settled, found_cells, row_spots, rule_spots}
 use Rattle.clr_foot.specs.declared.versions.Version.{Version}
-use Rattle.clr_foot.specs.declared.needs.VersionId.{VersionId}
-use Rattle.clr_foot.specs.Members.{setting}
-use Rattle.clr_foot.specs.Settings.{Setting, Lived, changer, held_row, version}
+use Rattle.clr_needs.specs.declared.needs.VersionId.{VersionId}
+use Rattle.clr_needs.specs.Members.{setting}
+use Rattle.clr_needs.specs.Settings.{Setting, Lived, changer, held_row, version}
 use Rattle.clr_foot.specs.Touches.{IsInCells, IsNear}
 use Rattle.clr_foot.specs.Versions.{AreAt, AreNewRowsFiled, Finds, FindsAll, HasVersion, IsAt, IsNamed, version_of}
-use Rattle.clr_foot.proofs.Gaining.{all_taken, none_taken, one_more}
-use Rattle.clr_foot.proofs.Lives.{old_is}
+use Rattle.clr_needs.proofs.Reading.{all_taken, none_taken, one_more}
+use Rattle.clr_needs.proofs.Lives.{old_is}
 use Rattle.clr_foot.proofs.SharingLaws.{found_near}
 
 module _ (c : Setting ℕ) (fresh : Bool) (cells : List CellId) where

@@ -8,11 +8,11 @@ use Rattle.clr_rules.specs.declared.needs.Ask.{Ask}
 use Rattle.clr_rules.specs.declared.rules.Rule.{Rule}
 use Rattle.clr_rules.specs.declared.rules.Rule.TheVariants.{Partner, EndNode}
 use Rattle.clr_rules.specs.Calls.{calls, serves}
-use Rattle.clr_foot.specs.declared.needs.Need.{Need}
-use Rattle.clr_foot.specs.declared.needs.VersionId.{VersionId}
+use Rattle.clr_needs.specs.declared.needs.Need.{Need}
+use Rattle.clr_needs.specs.declared.needs.VersionId.{VersionId}
 use Rattle.clr_foot.specs.declared.versions.Version.{Version}
-use Rattle.clr_foot.specs.Needs.{AreOpposed, IsPossible, Serves, ask_of}
-use Rattle.clr_foot.specs.Settings.{Setting, Lifetime, With, Without, Lived}
+use Rattle.clr_needs.specs.Needs.{AreOpposed, IsPossible, Serves, ask_of}
+use Rattle.clr_needs.specs.Settings.{Setting, Lifetime, With, Without, Lived}
 use Rattle.clr_foot.specs.Versions.{row_and_life, row_of, version_of}
 
 abbrev pub are_opposed : Lifetime ℕ → Lifetime ℕ → Bool

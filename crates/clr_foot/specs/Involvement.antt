@@ -1,12 +1,12 @@
 -- Possible needs that involve a member, and the versions by which they do.
 use Rattle.std.specs.Prelude.{◌≡◌, ℕ, Bool, true, false, ◌==◌, ◌||◌, ◌⊎◌, Option, Some, None}
 use Rattle.clr_rows.specs.declared.cells.CellId.{CellId}
-use Rattle.clr_foot.specs.declared.needs.Need.{Need}
-use Rattle.clr_foot.specs.declared.needs.VersionId.{VersionId}
+use Rattle.clr_needs.specs.declared.needs.Need.{Need}
+use Rattle.clr_needs.specs.declared.needs.VersionId.{VersionId}
 use Rattle.clr_foot.specs.Candidates.{IsSubject}
-use Rattle.clr_foot.specs.Independence.{Involves, Names}
-use Rattle.clr_foot.specs.Needs.{IsPossible, Serves}
-use Rattle.clr_foot.specs.Settings.{Setting, Lifetime, Always, With, Without, Lived, version}
+use Rattle.clr_needs.specs.Independence.{Involves, Names}
+use Rattle.clr_needs.specs.Needs.{IsPossible, Serves}
+use Rattle.clr_needs.specs.Settings.{Setting, Lifetime, Always, With, Without, Lived, version}
 use Rattle.clr_foot.specs.Versions.{version_of}
 
 -- a life names the member

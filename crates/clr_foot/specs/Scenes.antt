@@ -4,8 +4,9 @@ use Rattle.clr_rows.specs.Contents.{Changes, Content}
 use Rattle.clr_rules.specs.declared.rules.Rule.{Rule}
 use Rattle.clr_grid.specs.Sharing.{IsSettledFor, Settled}
 use Rattle.clr_foot.specs.declared.scenes.Scene.{Scene}
-use Rattle.clr_foot.specs.Members.{setting}
-use Rattle.clr_foot.specs.Settings.{Setting}
+use Rattle.clr_needs.specs.Members.{setting}
+use Rattle.clr_needs.specs.Parts.{sets_at}
+use Rattle.clr_needs.specs.Settings.{Setting}
 use Rattle.clr_foot.specs.Versions.{FitsSetting}
 
 pub record SceneModel (F : Type 0) : Type 0 where
@@ -35,3 +36,12 @@ setting_in content scene = setting_of (model_of content scene)
 pub record IsReady {F : Type 0} (settled : F → Settled) (m : SceneModel F) : Type 0 where
   pub fit : FitsSetting (setting_of m)
   pub is_settled : IsSettledFor (settled m.finder) m.rules m.root
+
+-- the same rules, root and finder, with the change sets at some positions
+abbrev pub model_at : {F : Type 0} → SceneModel F → List ℕ → SceneModel F
+model_at m positions = record {
+  rules = m.rules;
+  root = m.root;
+  sets = sets_at m.sets positions;
+  finder = m.finder;
+}

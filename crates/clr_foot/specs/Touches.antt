@@ -8,12 +8,12 @@ use Rattle.clr_rules.specs.declared.needs.Ask.{Ask}
 use Rattle.clr_rules.specs.Calls.{serves}
 use Rattle.clr_spots.specs.Spots.{are_sharing}
 use Rattle.clr_grid.specs.Sharing.{may_serve_under}
-use Rattle.clr_foot.specs.declared.needs.Need.{Need}
-use Rattle.clr_foot.specs.declared.needs.VersionId.{VersionId}
+use Rattle.clr_needs.specs.declared.needs.Need.{Need}
+use Rattle.clr_needs.specs.declared.needs.VersionId.{VersionId}
 use Rattle.clr_foot.specs.declared.versions.Version.{Version}
 use Rattle.clr_foot.specs.Candidates.{IsNeedAmong, IsNeedAt, IsNeedOf}
-use Rattle.clr_foot.specs.Needs.{IsTouched}
-use Rattle.clr_foot.specs.Settings.{Setting, Lived, held_row, version}
+use Rattle.clr_needs.specs.Needs.{IsTouched}
+use Rattle.clr_needs.specs.Settings.{Setting, Lived, held_row, version}
 use Rattle.clr_foot.specs.Versions.{row_of}
 
 abbrev pub IsInCells : List CellId → Held → Type 0

@@ -9,10 +9,10 @@ use Rattle.clr_rows.specs.Held.{Held}
 use Rattle.clr_rules.specs.declared.rules.Rule.{Rule}
 use Rattle.clr_rules.specs.Books.{FitTogether, FitsBook, FitsCell}
 use Rattle.clr_grid.specs.Sharing.{Settled, row_spots}
-use Rattle.clr_foot.specs.declared.needs.VersionId.{VersionId}
+use Rattle.clr_needs.specs.declared.needs.VersionId.{VersionId}
 use Rattle.clr_foot.specs.declared.versions.Version.{Version}
-use Rattle.clr_foot.specs.Members.{after_of, lifetime, positions}
-use Rattle.clr_foot.specs.Settings.{Setting, Lived, first_changer, held_row, new_version, version}
+use Rattle.clr_needs.specs.Members.{after_of, lifetime, positions}
+use Rattle.clr_needs.specs.Settings.{Setting, Lived, first_changer, held_row, new_version, version}
 
 abbrev pub version_of : Bool → CellId → VersionId
 version_of fresh q = record { cell = q; fresh = fresh }

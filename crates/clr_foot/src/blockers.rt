@@ -2,18 +2,18 @@
 
 ghost use Rattle.std.specs.Prelude.{◌≡◌, IfOk};
 ghost use Rattle.std.specs.List.Sorted.{IsStrictlySortedBy};
-ghost use Rattle.clr_foot.specs.Blocking.{IsToldBlocker, has_life, has_life_too, same_life};
-ghost use Rattle.clr_foot.specs.Members.{lifetime};
-ghost use Rattle.clr_foot.specs.Needs.{AreServers, IsPossibleNeed};
-ghost use Rattle.clr_foot.specs.Orders.{version_cmp};
-ghost use Rattle.clr_foot.specs.Picks.{Blocks};
+ghost use Rattle.clr_needs.specs.Blocking.{IsToldBlocker, has_life, has_life_too, same_life};
+ghost use Rattle.clr_needs.specs.Members.{lifetime};
+ghost use Rattle.clr_needs.specs.Needs.{AreServers, IsPossibleNeed};
+ghost use Rattle.clr_needs.specs.Orders.{version_cmp};
+ghost use Rattle.clr_needs.specs.Picks.{Blocks};
 ghost use Rattle.clr_foot.specs.Scenes.{IsReady, model_of, setting_in, setting_of};
-ghost use Rattle.clr_foot.specs.Settings.{version};
-ghost use Rattle.clr_foot.specs.Witnesses.{IsLeastPassing, has_life_at};
+ghost use Rattle.clr_needs.specs.Settings.{version};
+ghost use Rattle.clr_needs.specs.Witnesses.{IsLeastPassing, has_life_at};
 
-use crate::needs::{Life, Need, VersionId};
 use crate::scenes::Scene;
 use clr_grid::RowFinder;
+use clr_needs::{Life, Need, VersionId};
 use clr_rows::RowView;
 use std::alloc::AllocError;
 

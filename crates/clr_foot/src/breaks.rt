@@ -3,16 +3,16 @@
 ghost use Rattle.std.specs.Prelude.{◌≡◌, ℕ, length, true, Contains, IfOk, MatchOption, Option};
 ghost use Rattle.clr_rows.specs.Contents.{row_at};
 ghost use Rattle.clr_rules.specs.Needs.{Holds, IsFirstBroken};
-ghost use Rattle.clr_foot.specs.Broken.{IsJudged, are_living, broken_of, is_living, is_living_at, view_after_merge};
-ghost use Rattle.clr_foot.specs.Members.{lifetime};
-ghost use Rattle.clr_foot.specs.Needs.{IsPossible, IsPossibleNeed};
+ghost use Rattle.clr_needs.specs.Broken.{IsJudged, are_living, broken_of, is_living, is_living_at, view_after_merge};
+ghost use Rattle.clr_needs.specs.Members.{lifetime};
+ghost use Rattle.clr_needs.specs.Needs.{IsPossible, IsPossibleNeed};
 ghost use Rattle.clr_foot.specs.Scenes.{IsReady, model_of, setting_in, setting_of};
-ghost use Rattle.clr_foot.specs.Settings.{Lived, version};
-ghost use Rattle.clr_foot.specs.declared.needs.VersionId.{VersionId as Id};
+ghost use Rattle.clr_needs.specs.Settings.{Lived, version};
+ghost use Rattle.clr_needs.specs.declared.needs.VersionId.{VersionId as Id};
 
-use crate::needs::{Life, Need, VersionId};
 use crate::scenes::Scene;
 use clr_grid::RowFinder;
+use clr_needs::{Life, Need, VersionId};
 use clr_rows::RowView;
 use clr_rules::Broken;
 use std::alloc::AllocError;

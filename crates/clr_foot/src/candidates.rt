@@ -8,10 +8,10 @@ ghost use Rattle.clr_foot.specs.Members.{lifetime};
 ghost use Rattle.clr_foot.specs.Scenes.{setting_in};
 ghost use Rattle.clr_foot.specs.Versions.{AreAt, FitsSetting, IsAt, IsAtToo};
 
-use crate::needs::{Life, Need, VersionId};
 use crate::scenes::Scene;
 use crate::versions::{Version, held_if_any};
 use clr_grid::RowFinder;
+use clr_needs::{Life, Need, VersionId};
 use clr_rows::RowView;
 use clr_rules::Ask;
 use std::alloc::AllocError;

@@ -1,8 +1,8 @@
 //! The first two members that change each cell.
 
 ghost use Rattle.std.specs.Prelude.{◌≤◌, ◌<◌, ◌+◌, ◌≡◌, length, map, IfOk, OnOk};
-ghost use Rattle.clr_foot.specs.declared.limits.TheConstants.{MOST_MEMBERS};
-ghost use Rattle.clr_foot.specs.Members.{AreChangersBelow, with_member};
+ghost use Rattle.clr_needs.specs.declared.limits.TheConstants.{MOST_MEMBERS};
+ghost use Rattle.clr_foot.specs.Changers.{AreChangersBelow, with_member};
 
 use clr_change::ChangeSet;
 use clr_rows::CellId;

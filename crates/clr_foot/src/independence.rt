@@ -1,17 +1,17 @@
 //! Members that no possible need ties to one another.
 
 ghost use Rattle.std.specs.Prelude.{◌≡◌, ◌<◌, true, length, Contains, IfOk, MatchOption};
-ghost use Rattle.clr_foot.specs.Independence.{IsIndependence};
+ghost use Rattle.clr_needs.specs.Independence.{IsIndependence};
 ghost use Rattle.clr_foot.specs.Involvement.{IsToldInvolving, names_at, names_by};
-ghost use Rattle.clr_foot.specs.Needs.{IsPossibleNeed};
+ghost use Rattle.clr_needs.specs.Needs.{IsPossibleNeed};
 ghost use Rattle.clr_foot.specs.Scenes.{IsReady, model_of, setting_in, setting_of};
-ghost use Rattle.clr_foot.specs.Settings.{version};
-ghost use Rattle.clr_foot.specs.declared.needs.VersionId.{VersionId as Id};
+ghost use Rattle.clr_needs.specs.Settings.{version};
+ghost use Rattle.clr_needs.specs.declared.needs.VersionId.{VersionId as Id};
 
 use crate::involvement::is_named;
-use crate::needs::{Need, VersionId};
 use crate::scenes::Scene;
 use clr_grid::RowFinder;
+use clr_needs::{Need, VersionId};
 use clr_rows::RowView;
 use std::alloc::AllocError;
 

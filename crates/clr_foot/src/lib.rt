@@ -1,6 +1,8 @@
-//! Versions of rows over a root and its members' changes, and the needs that the changes touch.
+//! Versions of rows over a root and its members' changes, and how the needs that the changes touch
+//! are found.
 //!
-//! Members are sets of changes over a root's rows. The program uses `Scene::new` and `first_broken`
+//! Which needs are touched, what covers one, and the laws of both stand in `clr_needs`; its types
+//! and laws are handed on. Members are sets of changes over a root's rows. The program uses `Scene::new` and `first_broken`
 //! for the one member that a command is, and `Scene::new`, `life`, `touched_needs`, `servers`,
 //! `pick` and `blockers` for checks and plans; which members are independent it tells by the needs
 //! that involve each, and not pair by pair by `independent`.
@@ -24,15 +26,7 @@
 //!   memory aside. `len`: how many members there are, at most `MOST_MEMBERS`.
 //! - `first_broken`, for one member over rows where every rule holds: none exactly where every rule
 //!   holds after its changes, and else the least need that they break.
-//!   `first_broken_is_listed_first`: that is what an audit of the changed content lists first.
-//! - `covered_members_keep_rules`: where no cell is changed by two members, each touched need is
-//!   covered and every rule holds in the root, every rule holds in the root with the changes of any
-//!   of the members over it. `uncovered_needs_are_broken`: a need that nothing covers is broken
-//!   where the changes of its blockers are over the root.
-//! - `positions_stand_for_names`: members by position and by name, whatever names them, have the
-//!   same versions, with the lives of the same members, and the same possible, touched and
-//!   uncovered needs, servers and covering entries; the same witnesses are picked, the same members
-//!   block a need, each for itself and as a list in their order, and the same pairs are dependent.
+//!   By `first_broken_is_listed_first` that is what an audit of the changed content lists first.
 #![tactic(auto)]
 
 mod asks;
@@ -40,13 +34,9 @@ mod blockers;
 mod breaks;
 mod candidates;
 mod changers;
-mod faults;
 mod independence;
 mod involvement;
-mod laws;
-mod limits;
 mod members;
-mod needs;
 mod parts;
 mod picks;
 mod scene_versions;
@@ -55,11 +45,8 @@ mod servers;
 mod touches;
 mod versions;
 
-pub use faults::SceneFault;
-pub use laws::{
-    covered_members_keep_rules, first_broken_is_listed_first, positions_stand_for_names,
-    uncovered_needs_are_broken,
+pub use clr_needs::{
+    Life, MOST_MEMBERS, Need, SceneFault, VersionId, covered_members_keep_rules,
+    first_broken_is_listed_first, positions_stand_for_names, uncovered_needs_are_broken,
 };
-pub use limits::MOST_MEMBERS;
-pub use needs::{Life, Need, VersionId};
 pub use scenes::Scene;

@@ -12,22 +12,14 @@ ghost use Rattle.clr_foot.specs.Settings.{first_changer};
 ghost use Rattle.clr_foot.specs.Versions.{AreNewRowsFiled, FitNewRows, new_version_at, row_and_life, version_of};
 
 use crate::changers::{Changers, changers_of};
-use crate::needs::{Life, VersionId};
 use crate::versions::Version;
 use clr_change::ChangeSet;
 use clr_grid::{RowFinder, SpotIndex};
+use clr_needs::{Life, SharedCell, VersionId};
 use clr_rows::CellId;
 use clr_rules::RuleBook;
 use std::alloc::{AllocError, Global};
 use std::collections::BTreeMap;
-
-/// A cell with the first two members that change it.
-#[derive(Clone, Copy, Debug)]
-pub(crate) struct SharedCell {
-    pub(crate) cell: CellId,
-    pub(crate) first: u16,
-    pub(crate) second: u16,
-}
 
 /// Change sets, the cells that they change, and the first two that change each.
 #[derive(Drop)]

@@ -2,16 +2,16 @@
 
 ghost use Rattle.std.specs.Prelude.{◌≡◌, IfOk, length};
 ghost use Rattle.std.specs.List.Sorted.{IsStrictlySortedBy};
-ghost use Rattle.clr_foot.specs.Needs.{AreServers, IsPossibleNeed};
-ghost use Rattle.clr_foot.specs.Orders.{version_cmp};
-ghost use Rattle.clr_foot.specs.Picks.{Picks};
+ghost use Rattle.clr_needs.specs.Needs.{AreServers, IsPossibleNeed};
+ghost use Rattle.clr_needs.specs.Orders.{version_cmp};
+ghost use Rattle.clr_needs.specs.Picks.{Picks};
 ghost use Rattle.clr_foot.specs.Scenes.{IsReady, model_of, setting_in, setting_of};
-ghost use Rattle.clr_foot.specs.Witnesses.{IsFirstPair, IsLeastPassing, IsPairOf, lasts_at};
+ghost use Rattle.clr_needs.specs.Witnesses.{IsFirstPair, IsLeastPassing, IsPairOf, lasts_at};
 
 use crate::blockers::are_same;
-use crate::needs::{Life, Need, VersionId};
 use crate::scenes::Scene;
 use clr_grid::RowFinder;
+use clr_needs::{Life, Need, VersionId};
 use clr_rows::RowView;
 use std::alloc::AllocError;
 

@@ -2,19 +2,18 @@
 
 ghost use Rattle.std.specs.Prelude.{◌≡◌, ◌≤◌, false, length, map, option_map, Some, None, IfOk, MatchOption, MatchResult};
 ghost use Rattle.std.specs.Option.{option_copied};
-ghost use Rattle.clr_foot.specs.declared.limits.TheConstants.{MOST_MEMBERS};
-ghost use Rattle.clr_foot.specs.Members.{AreApart, IsSceneFault, lifetime, setting};
+ghost use Rattle.clr_needs.specs.declared.limits.TheConstants.{MOST_MEMBERS};
+ghost use Rattle.clr_needs.specs.Members.{AreApart, IsSceneFault, lifetime, setting};
 ghost use Rattle.clr_foot.specs.Scenes.{model_of, setting_in, setting_of};
-ghost use Rattle.clr_foot.specs.Settings.{old_version, version};
+ghost use Rattle.clr_needs.specs.Settings.{old_version, version};
 ghost use Rattle.clr_foot.specs.Versions.{FitsSetting, IsNamed, row_and_life, version_of};
 
-use crate::faults::SceneFault;
 use crate::members::Members;
-use crate::needs::{Life, VersionId};
 use crate::scenes::Scene;
 use crate::versions::Version;
 use clr_change::ChangeSet;
 use clr_grid::RowFinder;
+use clr_needs::{Life, SceneFault, VersionId};
 use clr_rows::{CellId, Row, RowView};
 use clr_rules::RuleBook;
 use std::alloc::Global;
@@ -79,7 +78,7 @@ impl<'a, V: RowView, F: RowFinder> Scene<'a, V, F> {
     }
 
     /// The version of a name, if there is one.
-    #[tactic(auto, unfolding(crate::specs::Settings::version))]
+    #[tactic(auto, unfolding(clr_needs::specs::Settings::version))]
     pub(crate) fn version(&self, id: VersionId) -> Option<Version<'_>>
         ensures { MatchOption result (version (setting_in V.content self.now) id ≡ None) (IsNamed (setting_in V.content self.now) id) }
     {

@@ -2,16 +2,16 @@
 
 ghost use Rattle.std.specs.Prelude.{◌≡◌, ◌<◌, true, length, option_map, IfOk};
 ghost use Rattle.clr_rules.specs.Calls.{calls};
-ghost use Rattle.clr_foot.specs.Needs.{AreServers, IsPossibleNeed, Lists};
-ghost use Rattle.clr_foot.specs.Orders.{version_cmp};
+ghost use Rattle.clr_needs.specs.Needs.{AreServers, IsPossibleNeed, Lists};
+ghost use Rattle.clr_needs.specs.Orders.{version_cmp};
 ghost use Rattle.clr_foot.specs.Scenes.{IsReady, model_of, setting_in, setting_of};
 ghost use Rattle.clr_foot.specs.Touches.{IsServerOf};
 ghost use Rattle.clr_foot.specs.Versions.{IsAt, IsAtToo, IsNamedToo, row_of};
 
-use crate::needs::{Need, VersionId};
 use crate::scenes::Scene;
 use crate::versions::Version;
 use clr_grid::RowFinder;
+use clr_needs::{Need, VersionId};
 use clr_rows::RowView;
 use clr_rules::Ask;
 use clr_spots::put_in_order;

@@ -12,10 +12,10 @@ ghost use Rattle.clr_foot.specs.Scenes.{IsReady, model_of, setting_in, setting_o
 ghost use Rattle.clr_foot.specs.Touches.{IsInCells, IsNear, IsNeedServedAmong, IsTouchedOf};
 ghost use Rattle.clr_foot.specs.Versions.{AreAt, Finds, FindsAll, FitsSetting, IsAt, row_of};
 
-use crate::needs::{Need, VersionId};
 use crate::scenes::Scene;
 use crate::versions::Version;
 use clr_grid::RowFinder;
+use clr_needs::{Need, VersionId};
 use clr_rows::{CellId, Held, RowView};
 use clr_rules::RuleBook;
 use clr_spots::put_in_order;

@@ -2,7 +2,7 @@ ghost use Rattle.std.specs.Prelude.{◌≡◌, option_map};
 ghost use Rattle.clr_rows.specs.Held.{held_of};
 ghost use Rattle.clr_foot.specs.Versions.{row_of};
 
-use crate::needs::{Life, VersionId};
+use clr_needs::{Life, VersionId};
 use clr_rows::{Held, Row};
 
 /// A version with its row and life.

@@ -5,8 +5,8 @@ use Rattle.std.proofs.lemmas.List.FromFn.{length-range_with_len}
 use Rattle.clr_rows.specs.Contents.{Changes, Content, row_at}
 use Rattle.clr_rules.specs.declared.rules.Rule.{Rule}
 use Rattle.clr_rules.specs.Needs.{Holds}
-use Rattle.clr_foot.specs.Members.{setting}
-use Rattle.clr_foot.specs.Settings.{Setting}
+use Rattle.clr_needs.specs.Members.{setting}
+use Rattle.clr_needs.specs.Settings.{Setting}
 use Rattle.clr_steps.specs.Offices.{Office}
 use Rattle.clr_steps.specs.Quiet.{Site}
 use Rattle.clr_steps.specs.Readings.{changes_in}

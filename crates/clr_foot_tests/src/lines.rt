@@ -1,11 +1,12 @@
 //! What a scene says of the needs that are touched, as lines.
 
-ghost use Rattle.clr_foot.specs.Needs.{IsPossibleNeed};
+ghost use Rattle.clr_needs.specs.Needs.{IsPossibleNeed};
 ghost use Rattle.clr_foot.specs.Scenes.{IsReady, model_of, setting_of};
 
 use crate::memory::Memory;
-use clr_foot::{Life, Need, Scene, VersionId};
+use clr_foot::Scene;
 use clr_grid::RowFinder;
+use clr_needs::{Life, Need, VersionId};
 use clr_rows::{RowView, Schema};
 use std::alloc::{AllocError, Global};
 

@@ -1,7 +1,7 @@
 -- Chains of dependent pairs.
 use Rattle.std.proofs.Common.{◌≡◌, ℕ, List, [], ◌∷◌, refl, sym, subst}
-use Rattle.clr_foot.specs.Independence.{AreDependent}
-use Rattle.clr_foot.specs.Settings.{Setting}
+use Rattle.clr_needs.specs.Independence.{AreDependent}
+use Rattle.clr_needs.specs.Settings.{Setting}
 use Rattle.clr_groups.specs.Groups.{AreJoined, IsChain}
 
 module _ (c : Setting ℕ) where

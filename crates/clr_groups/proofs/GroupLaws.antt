@@ -9,22 +9,22 @@ use Rattle.clr_rows.specs.Contents.{Changes, Content}
 use Rattle.clr_rules.specs.declared.rules.Rule.{Rule}
 use Rattle.clr_rules.proofs.AskLemmas.{less_number}
 use Rattle.clr_rules.proofs.Elements.{Among, all_by, among, among_mapped, contained, each_of, mapped_among}
-use Rattle.clr_foot.specs.declared.needs.Need.{Need}
-use Rattle.clr_foot.specs.declared.needs.VersionId.{VersionId}
-use Rattle.clr_foot.specs.Covers.{IsBlocker}
-use Rattle.clr_foot.specs.Independence.{AreDependent, Involves}
+use Rattle.clr_needs.specs.declared.needs.Need.{Need}
+use Rattle.clr_needs.specs.declared.needs.VersionId.{VersionId}
+use Rattle.clr_needs.specs.Covers.{IsBlocker}
+use Rattle.clr_needs.specs.Independence.{AreDependent, Involves}
 use Rattle.clr_foot.specs.Involvement.{IsInvolving}
-use Rattle.clr_foot.specs.Members.{AreApart, setting}
-use Rattle.clr_foot.specs.Needs.{IsPossible, IsTouched, IsTouchedBy, Lists}
-use Rattle.clr_foot.specs.Parts.{setting_at}
-use Rattle.clr_foot.specs.Picks.{Blocks, IsLesser, IsPick, Picks}
-use Rattle.clr_foot.specs.Settings.{Setting, Lived, has}
-use Rattle.clr_foot.proofs.Agreement.{Agree, blocker_to, other_way, pick_to, touched_to, turned_one, turned_order, turned_round}
+use Rattle.clr_needs.specs.Members.{AreApart, setting}
+use Rattle.clr_needs.specs.Needs.{IsPossible, IsTouched, IsTouchedBy, Lists}
+use Rattle.clr_needs.specs.Parts.{setting_at}
+use Rattle.clr_needs.specs.Picks.{Blocks, IsLesser, IsPick, Picks}
+use Rattle.clr_needs.specs.Settings.{Setting, Lived, has}
+use Rattle.clr_needs.proofs.Agreement.{Agree, blocker_to, other_way, pick_to, touched_to, turned_one, turned_order, turned_round}
 use Rattle.clr_foot.proofs.InvolvedLaws.{both_depend}
-use Rattle.clr_foot.proofs.NeedSubjects.{involved_member, subjects_once, touched_involves}
-use Rattle.clr_foot.proofs.PartLaws.{IsClosedPart, IsPart, IsTouchedInside, agreeing, all_inside, touched_inside}
-use Rattle.clr_foot.proofs.PartPositions.{StandsIn, in_one_order, is_part, stands_among, stands_of}
-use Rattle.clr_foot.proofs.PositionLaws.{number_less}
+use Rattle.clr_needs.proofs.NeedSubjects.{involved_member, subjects_once, touched_involves}
+use Rattle.clr_needs.proofs.PartLaws.{IsClosedPart, IsPart, IsTouchedInside, agreeing, all_inside, touched_inside}
+use Rattle.clr_needs.proofs.PartPositions.{StandsIn, in_one_order, is_part, stands_among, stands_of}
+use Rattle.clr_needs.proofs.PositionLaws.{number_less}
 use Rattle.clr_groups.specs.Groups.{AreGroups, position_of}
 use Rattle.clr_groups.specs.Laws.{GroupsSplitNeeds, IsSameNeed, SplitNeeds}
 use Rattle.clr_groups.proofs.Chains.{joined_by}

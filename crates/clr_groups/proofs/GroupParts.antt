@@ -5,14 +5,13 @@ use Rattle.std.proofs.lemmas.Map.Views.{length-le_from_below}
 use Rattle.clr_rules.specs.Books.{FitsCell}
 use Rattle.clr_rules.proofs.Elements.{Among, contained}
 use Rattle.clr_grid.specs.Sharing.{Settled}
-use Rattle.clr_foot.specs.declared.limits.TheConstants.{MOST_MEMBERS}
-use Rattle.clr_foot.specs.Members.{AreApart}
-use Rattle.clr_foot.specs.Parts.{model_at}
-use Rattle.clr_foot.specs.Scenes.{IsReady, SceneModel, setting_of}
+use Rattle.clr_needs.specs.declared.limits.TheConstants.{MOST_MEMBERS}
+use Rattle.clr_needs.specs.Members.{AreApart}
+use Rattle.clr_foot.specs.Scenes.{model_at, IsReady, SceneModel, setting_of}
 use Rattle.clr_foot.specs.Versions.{FitsSetting}
-use Rattle.clr_foot.proofs.BlockerLaws.{member_below}
-use Rattle.clr_foot.proofs.PartLaws.{IsPart, up}
-use Rattle.clr_foot.proofs.PartPositions.{StandsIn, is_part}
+use Rattle.clr_needs.proofs.BlockerLaws.{member_below}
+use Rattle.clr_needs.proofs.PartLaws.{IsPart, up}
+use Rattle.clr_needs.proofs.PartPositions.{StandsIn, is_part}
 use Rattle.clr_groups.specs.Groups.{AreGroups}
 
 all_of : (P : ℕ → Type 0) (xs : List ℕ) → ((x : ℕ) → Among x xs → P x) → All P xs

@@ -11,13 +11,13 @@ use Rattle.clr_rows.specs.Contents.{Changes, Content}
 use Rattle.clr_rules.specs.declared.rules.Rule.{Rule}
 use Rattle.clr_rules.proofs.AskLemmas.{less_number}
 use Rattle.clr_rules.proofs.Elements.{Among, among, contained, rising_joined}
-use Rattle.clr_foot.specs.Members.{setting}
-use Rattle.clr_foot.specs.Needs.{Lists}
-use Rattle.clr_foot.specs.Settings.{Setting, has}
+use Rattle.clr_needs.specs.Members.{setting}
+use Rattle.clr_needs.specs.Needs.{Lists}
+use Rattle.clr_needs.specs.Settings.{Setting, has}
 use Rattle.clr_groups.specs.Groups.{AreGroups, AreJoined}
 use Rattle.clr_groups.specs.Labels.{AreGroupsBy, AreLabels, IsLabelled, label}
-use Rattle.clr_foot.proofs.BlockerLaws.{member_below}
-use Rattle.clr_foot.proofs.PartPositions.{below_member}
+use Rattle.clr_needs.proofs.BlockerLaws.{member_below}
+use Rattle.clr_needs.proofs.PartPositions.{below_member}
 
 -- numbers of which something holds, one after another ----------------------------------------
 

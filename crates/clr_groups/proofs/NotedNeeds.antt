@@ -5,16 +5,16 @@ use Rattle.std.specs.BTreeMap.{BTreeMap, get, is_at}
 use Rattle.std.specs.Cmp.{Equal-is, tied_itself}
 use Rattle.std.proofs.lemmas.Bool.{cases_Bool, cases_lt, false≢true}
 use Rattle.std.proofs.lemmas.Bool.Decides.{Decides-eqb}
-use Rattle.clr_foot.specs.declared.needs.Need.{Need}
-use Rattle.clr_foot.specs.Independence.{AreDependent, Involves}
+use Rattle.clr_needs.specs.declared.needs.Need.{Need}
+use Rattle.clr_needs.specs.Independence.{AreDependent, Involves}
 use Rattle.clr_foot.specs.Involvement.{IsInvolving}
-use Rattle.clr_foot.specs.Needs.{IsPossible, Lists}
-use Rattle.clr_foot.specs.Orders.{need_cmp}
-use Rattle.clr_foot.specs.Settings.{Setting, Lived, has}
-use Rattle.clr_foot.proofs.Gaining.{all_taken, none_taken, one_more, read_of}
+use Rattle.clr_needs.specs.Needs.{IsPossible, Lists}
+use Rattle.clr_needs.specs.Orders.{need_cmp}
+use Rattle.clr_needs.specs.Settings.{Setting, Lived, has}
+use Rattle.clr_needs.proofs.Reading.{all_taken, none_taken, one_more, read_of}
 use Rattle.clr_foot.proofs.InvolvedLaws.{both_depend}
-use Rattle.clr_foot.proofs.NeedOrder.{need_exact, need_total}
-use Rattle.clr_foot.proofs.NeedSubjects.{involved_member}
+use Rattle.clr_needs.proofs.NeedOrder.{need_exact, need_total}
+use Rattle.clr_needs.proofs.NeedSubjects.{involved_member}
 use Rattle.clr_groups.specs.Groups.{AreJoined, IsChain}
 use Rattle.clr_groups.specs.Labels.{AreBelow, AreLabels, AreNoted, AreNotedBelow, AreMoved, IsNoted, IsNotedBy, label, moved_label}
 use Rattle.clr_groups.proofs.Chains.{joined_by, joined_itself, joined_through}

@@ -2,8 +2,8 @@
 use Rattle.std.specs.Prelude.{◌≡◌, ◌↔◌, ℕ, true, List, [], ◌∷◌, Some, get_or, slice_get, Contains}
 use Rattle.std.specs.List.Sorted.{IsStrictlySortedBy}
 use Rattle.std.specs.Ordering.{nat_cmp}
-use Rattle.clr_foot.specs.Independence.{AreDependent}
-use Rattle.clr_foot.specs.Settings.{Setting, has}
+use Rattle.clr_needs.specs.Independence.{AreDependent}
+use Rattle.clr_needs.specs.Settings.{Setting, has}
 
 -- the position among all members of the one that stands at a position of a group
 abbrev pub position_of : List ℕ → ℕ → ℕ

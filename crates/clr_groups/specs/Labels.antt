@@ -2,11 +2,11 @@
 use Rattle.std.specs.Prelude.{◌≡◌, ◌↔◌, ◌<◌, ◌==◌, ℕ, List, Option, Some, None, Contains, get_or, length, slice_get, if◌then◌else◌}
 use Rattle.std.specs.BTreeMap.{BTreeMap, get, is_at}
 use Rattle.std.specs.Ordering.{nat_cmp}
-use Rattle.clr_foot.specs.declared.needs.Need.{Need}
+use Rattle.clr_needs.specs.declared.needs.Need.{Need}
 use Rattle.clr_foot.specs.Involvement.{IsInvolving}
-use Rattle.clr_foot.specs.Needs.{Lists}
-use Rattle.clr_foot.specs.Orders.{need_cmp}
-use Rattle.clr_foot.specs.Settings.{Setting}
+use Rattle.clr_needs.specs.Needs.{Lists}
+use Rattle.clr_needs.specs.Orders.{need_cmp}
+use Rattle.clr_needs.specs.Settings.{Setting}
 use Rattle.clr_groups.specs.Groups.{AreJoined}
 
 -- the label of a member

@@ -2,13 +2,13 @@
 use Rattle.std.specs.Prelude.{◌≡◌, ◌↔◌, ℕ, List, Option, Some, map, slice_get}
 use Rattle.clr_rows.specs.Contents.{Changes, Content}
 use Rattle.clr_rules.specs.declared.rules.Rule.{Rule}
-use Rattle.clr_foot.specs.declared.needs.Need.{Need}
-use Rattle.clr_foot.specs.declared.needs.VersionId.{VersionId}
-use Rattle.clr_foot.specs.Members.{AreApart, setting}
-use Rattle.clr_foot.specs.Needs.{IsTouched}
-use Rattle.clr_foot.specs.Parts.{setting_at}
-use Rattle.clr_foot.specs.Picks.{Blocks, Picks}
-use Rattle.clr_foot.specs.Settings.{Setting}
+use Rattle.clr_needs.specs.declared.needs.Need.{Need}
+use Rattle.clr_needs.specs.declared.needs.VersionId.{VersionId}
+use Rattle.clr_needs.specs.Members.{AreApart, setting}
+use Rattle.clr_needs.specs.Needs.{IsTouched}
+use Rattle.clr_needs.specs.Parts.{setting_at}
+use Rattle.clr_needs.specs.Picks.{Blocks, Picks}
+use Rattle.clr_needs.specs.Settings.{Setting}
 use Rattle.clr_groups.specs.Groups.{AreGroups, position_of}
 
 -- a need is touched among all members, is picked the same witnesses in a group's setting, and is broken by the same members, told by their positions among all

@@ -2,13 +2,13 @@
 use Rattle.std.proofs.Common.{◌≡◌, ◌∙◌, ◌<◌, ◌≤◌, ◌+◌, ℕ, zero, suc, Bool, true, false, List, [], ◌∷◌, ◌++◌, Contains, Option, Some, get_or, length, map, refl, sym, ap, subst, arith, take, inl, inr, ◌⊎◌}
 use Rattle.std.specs.Prelude.{slice_get}
 use Rattle.std.proofs.lemmas.List.{length-append}
-use Rattle.clr_foot.specs.declared.needs.Need.{Need}
-use Rattle.clr_foot.specs.Independence.{AreDependent, IsIndependence}
+use Rattle.clr_needs.specs.declared.needs.Need.{Need}
+use Rattle.clr_needs.specs.Independence.{AreDependent, IsIndependence}
 use Rattle.clr_foot.specs.Involvement.{IsInvolving}
-use Rattle.clr_foot.specs.Needs.{Lists}
-use Rattle.clr_foot.specs.Orders.{need_cmp}
-use Rattle.clr_foot.specs.Settings.{Setting}
-use Rattle.clr_foot.proofs.Gaining.{all_taken, one_more, read_in}
+use Rattle.clr_needs.specs.Needs.{Lists}
+use Rattle.clr_needs.specs.Orders.{need_cmp}
+use Rattle.clr_needs.specs.Settings.{Setting}
+use Rattle.clr_needs.proofs.Reading.{all_taken, one_more, read_in}
 use Rattle.clr_check.specs.Entries.{IsTold}
 use Rattle.clr_check.proofs.SearchLemmas.{it_is, it_is_not}
 use Rattle.clr_foot.proofs.InvolvedLaws.{both_depend}

@@ -1,8 +1,8 @@
 -- What is said of the independence of a site's members.
 use Rattle.std.specs.Prelude.{◌≡◌, ℕ, Option, Some, None, length}
 use Rattle.clr_rows.specs.declared.cells.CellId.{CellId}
-use Rattle.clr_foot.specs.declared.faults.SceneFault.TheVariants as scene
-use Rattle.clr_foot.specs.Members.{AreApart, IsSceneFault}
+use Rattle.clr_needs.specs.declared.faults.SceneFault.TheVariants as scene
+use Rattle.clr_needs.specs.Members.{AreApart, IsSceneFault}
 use Rattle.clr_steps.specs.Offices.{Office}
 use Rattle.clr_steps.specs.Quiet.{Site}
 use Rattle.clr_clearance.specs.declared.verdicts.Verdict.{Verdict}

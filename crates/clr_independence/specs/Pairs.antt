@@ -2,12 +2,12 @@
 use Rattle.std.specs.Prelude.{◌≡◌, ◌+◌, ◌-◌, ◌<◌, ◌++◌, ◌⊎◌, ℕ, Bool, true, false, List, Option, Some, Contains, length, map, slice_get}
 use Rattle.std.specs.List.{flat_map, range_with_len}
 use Rattle.std.specs.List.Sorted.{IsStrictlySortedBy}
-use Rattle.clr_foot.specs.declared.needs.Need.{Need}
-use Rattle.clr_foot.specs.Independence.{IsIndependence}
+use Rattle.clr_needs.specs.declared.needs.Need.{Need}
+use Rattle.clr_needs.specs.Independence.{IsIndependence}
 use Rattle.clr_foot.specs.Involvement.{IsInvolving}
-use Rattle.clr_foot.specs.Needs.{Lists}
-use Rattle.clr_foot.specs.Orders.{need_cmp}
-use Rattle.clr_foot.specs.Settings.{Setting}
+use Rattle.clr_needs.specs.Needs.{Lists}
+use Rattle.clr_needs.specs.Orders.{need_cmp}
+use Rattle.clr_needs.specs.Settings.{Setting}
 use Rattle.clr_independence.specs.declared.member_pairs.Pair.{Pair}
 
 -- the pairs of a member with each one behind it, and those of all, in the order of the list

@@ -1,7 +1,7 @@
 //! Which members of a site are independent.
 
 ghost use Rattle.std.specs.Prelude.{◌≡◌, None, map, IfOk};
-ghost use Rattle.clr_foot.specs.Members.{IsSceneFault};
+ghost use Rattle.clr_needs.specs.Members.{IsSceneFault};
 ghost use Rattle.clr_steps.specs.Offices.{Office};
 ghost use Rattle.clr_steps.specs.Quiet.{Site};
 ghost use Rattle.clr_clearance.specs.Sites.{change_sets};
@@ -15,7 +15,7 @@ use crate::member_pairs::{Pair, pairs};
 use clr_check::{SiteParts, read_site};
 use clr_clearance::Verdict;
 use clr_engine::Office;
-use clr_foot::SceneFault;
+use clr_needs::SceneFault;
 use std::alloc::{AllocError, Global};
 
 /// Which members of a root are independent, or why it can't be said.

@@ -2,13 +2,14 @@
 
 ghost use Rattle.std.specs.Prelude.{◌≡◌, ◌<◌, ◌≤◌, length, map, Contains, IfOk};
 ghost use Rattle.std.specs.List.Sorted.{IsStrictlySortedBy};
-ghost use Rattle.clr_foot.specs.Orders.{need_cmp};
+ghost use Rattle.clr_needs.specs.Orders.{need_cmp};
 ghost use Rattle.clr_foot.specs.Scenes.{IsReady, model_of, setting_of};
 ghost use Rattle.clr_check.specs.Entries.{IsTold};
 ghost use Rattle.clr_independence.specs.Pairs.{AreNeedsOf, ShareOne};
 
-use clr_foot::{Need, Scene};
+use clr_foot::Scene;
 use clr_grid::RowFinder;
+use clr_needs::Need;
 use clr_rows::RowView;
 use std::alloc::{AllocError, Global};
 

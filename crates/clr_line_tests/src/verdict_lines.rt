@@ -1,8 +1,8 @@
 //! Verdicts as lines.
 
 use clr_clearance::Verdict;
-use clr_foot::{Need, VersionId};
 use clr_line_trials::{MAIN, NODE, ROUTE, are_lines, main_at, schema};
+use clr_needs::{Need, VersionId};
 use clr_rows::CellId;
 use clr_verdict_lines::verdict_line;
 use std::alloc::Global;

@@ -6,9 +6,9 @@ use Rattle.std.specs.List.{flat_map, list_any}
 use Rattle.clr_rows.specs.Names.{live_name}
 use Rattle.clr_rows.specs.declared.tables.TableDef.{TableDef}
 use Rattle.clr_rules.proofs.Elements.{Among, contained}
-use Rattle.clr_foot.specs.Independence.{IsIndependence}
-use Rattle.clr_foot.specs.Members.{AreApart}
-use Rattle.clr_foot.specs.Settings.{Setting}
+use Rattle.clr_needs.specs.Independence.{IsIndependence}
+use Rattle.clr_needs.specs.Members.{AreApart}
+use Rattle.clr_needs.specs.Settings.{Setting}
 use Rattle.clr_workspaces.specs.Marks.{Name}
 use Rattle.clr_steps.specs.declared.commands.Command.{Command}
 use Rattle.clr_steps.specs.Offices.{Office}

@@ -62,7 +62,7 @@ pub use clr_cert::{CertFault, Certificate, Entries, Entry};
 pub use clr_check_texts::{Checked, check_texts};
 pub use clr_clearance::Verdict;
 pub use clr_command_line::{Ask, AskFault, ask_of};
-pub use clr_foot::{Need, VersionId};
+pub use clr_needs::{Need, VersionId};
 pub use clr_plan::Plan;
 pub use clr_rows::{CellId, Names, Words};
 pub use clr_rules::Broken;

@@ -5,18 +5,18 @@ use Rattle.std.proofs.lemmas.List.{map-append, take_all, take_more}
 use Rattle.std.proofs.lemmas.List.Elements.{Contains-append_cases}
 use Rattle.clr_rules.proofs.Elements.{among, among_mapped, contained, not_both, not_itself}
 use Rattle.clr_cert.specs.declared.certificates.Entry.{Entry}
-use Rattle.clr_foot.specs.declared.needs.Need.{Need}
-use Rattle.clr_foot.specs.declared.needs.VersionId.{VersionId}
-use Rattle.clr_foot.specs.Covers.{Entry as Witnesses}
-use Rattle.clr_foot.specs.Needs.{AreTouchedNeeds}
-use Rattle.clr_foot.specs.Orders.{need_cmp}
-use Rattle.clr_foot.specs.Picks.{Picks}
-use Rattle.clr_foot.specs.Settings.{Setting}
-use Rattle.clr_foot.proofs.Gaining.{read_in}
-use Rattle.clr_foot.proofs.Placing.{PlaceOf, after, before, here, place_of}
+use Rattle.clr_needs.specs.declared.needs.Need.{Need}
+use Rattle.clr_needs.specs.declared.needs.VersionId.{VersionId}
+use Rattle.clr_needs.specs.Covers.{Entry as Witnesses}
+use Rattle.clr_needs.specs.Needs.{AreTouchedNeeds}
+use Rattle.clr_needs.specs.Orders.{need_cmp}
+use Rattle.clr_needs.specs.Picks.{Picks}
+use Rattle.clr_needs.specs.Settings.{Setting}
+use Rattle.clr_needs.proofs.Reading.{read_in}
+use Rattle.clr_needs.proofs.Placing.{PlaceOf, after, before, here, place_of}
 use Rattle.clr_clearance.specs.Plans.{ArePicked, IsFirstUnpicked}
-use Rattle.clr_foot.proofs.VersionOrder.{unread as unread_version}
-use Rattle.clr_foot.proofs.NeedOrder.{need_total}
+use Rattle.clr_needs.proofs.VersionOrder.{unread as unread_version}
+use Rattle.clr_needs.proofs.NeedOrder.{need_total}
 use Rattle.clr_check.specs.Certificates.{entries_in, witnesses_of}
 
 -- what a read past the end would give

@@ -11,16 +11,15 @@ use Rattle.std.proofs.lemmas.List.{length-map}
 use Rattle.std.proofs.lemmas.Option.{get_or_from_slice_get, slice_get-map, slice_get_read, slice_get_within}
 use Rattle.clr_grid.specs.Sharing.{Settled}
 use Rattle.clr_rules.proofs.Elements.{Among, all_by, among, among_mapped, contained, each_of, mapped_among, not_itself}
-use Rattle.clr_foot.specs.declared.needs.Need.{Need}
-use Rattle.clr_foot.specs.declared.needs.VersionId.{VersionId}
-use Rattle.clr_foot.specs.Members.{AreApart}
-use Rattle.clr_foot.specs.Needs.{AreTouchedNeeds, IsPossibleNeed, IsTouched, Lists}
-use Rattle.clr_foot.specs.Orders.{need_cmp}
-use Rattle.clr_foot.specs.Parts.{model_at}
-use Rattle.clr_foot.specs.Picks.{Picks}
-use Rattle.clr_foot.specs.Scenes.{IsReady, SceneModel, setting_of}
-use Rattle.clr_foot.proofs.Gaining.{read_in}
-use Rattle.clr_foot.proofs.NeedOrder.{need_exact, unread as unread_need}
+use Rattle.clr_needs.specs.declared.needs.Need.{Need}
+use Rattle.clr_needs.specs.declared.needs.VersionId.{VersionId}
+use Rattle.clr_needs.specs.Members.{AreApart}
+use Rattle.clr_needs.specs.Needs.{AreTouchedNeeds, IsPossibleNeed, IsTouched, Lists}
+use Rattle.clr_needs.specs.Orders.{need_cmp}
+use Rattle.clr_foot.specs.Scenes.{model_at, IsReady, SceneModel, setting_of}
+use Rattle.clr_needs.specs.Picks.{Picks}
+use Rattle.clr_needs.proofs.Reading.{read_in}
+use Rattle.clr_needs.proofs.NeedOrder.{need_exact, unread as unread_need}
 use Rattle.clr_groups.specs.Groups.{AreGroups}
 use Rattle.clr_groups.specs.Laws.{SplitNeeds}
 use Rattle.clr_groups.proofs.GroupLaws.{groups_split}

@@ -9,14 +9,13 @@ use Rattle.std.proofs.lemmas.List.Elements.{Contains-append_cases, Contains-appe
 use Rattle.std.proofs.lemmas.Map.Lookups.{exact_unsigned}
 use Rattle.std.proofs.lemmas.Option.{slice_get-map, slice_get_read, slice_get_within}
 use Rattle.clr_rules.proofs.Elements.{among, contained, mapped_among}
-use Rattle.clr_foot.specs.declared.needs.Need.{Need}
-use Rattle.clr_foot.specs.Needs.{AreTouchedNeeds, IsTouched}
-use Rattle.clr_foot.specs.Orders.{need_cmp}
-use Rattle.clr_foot.specs.Parts.{model_at}
-use Rattle.clr_foot.specs.Scenes.{SceneModel, setting_of}
-use Rattle.clr_foot.specs.Settings.{Setting}
-use Rattle.clr_foot.proofs.Gaining.{all_taken, item_in, none_taken, one_more}
-use Rattle.clr_foot.proofs.NeedOrder.{both_tie, need_exact}
+use Rattle.clr_needs.specs.declared.needs.Need.{Need}
+use Rattle.clr_needs.specs.Needs.{AreTouchedNeeds, IsTouched}
+use Rattle.clr_needs.specs.Orders.{need_cmp}
+use Rattle.clr_foot.specs.Scenes.{model_at, SceneModel, setting_of}
+use Rattle.clr_needs.specs.Settings.{Setting}
+use Rattle.clr_needs.proofs.Reading.{all_taken, item_in, none_taken, one_more}
+use Rattle.clr_needs.proofs.NeedOrder.{both_tie, need_exact}
 use Rattle.clr_plan.specs.declared.group_needs.GroupNeed.{GroupNeed}
 use Rattle.clr_plan.specs.GroupNeeds.{IsOf, IsTouchedIn, group_need_cmp, models_at}
 

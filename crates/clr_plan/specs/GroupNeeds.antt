@@ -3,11 +3,10 @@ use Rattle.std.specs.Prelude.{◌≡◌, ℕ, List, Some, map, slice_get}
 use Rattle.std.specs.Ordering.{nat_cmp, ordering_then}
 use Rattle.std.specs.declared.cmp.Ordering.{Ordering}
 use Rattle.clr_grid.specs.Sharing.{Settled}
-use Rattle.clr_foot.specs.Needs.{IsTouched}
-use Rattle.clr_foot.specs.Orders.{need_cmp}
-use Rattle.clr_foot.specs.Parts.{model_at}
-use Rattle.clr_foot.specs.Scenes.{IsReady, SceneModel, setting_of}
-use Rattle.clr_foot.specs.Settings.{Setting}
+use Rattle.clr_needs.specs.Needs.{IsTouched}
+use Rattle.clr_needs.specs.Orders.{need_cmp}
+use Rattle.clr_foot.specs.Scenes.{model_at, IsReady, SceneModel, setting_of}
+use Rattle.clr_needs.specs.Settings.{Setting}
 use Rattle.clr_plan.specs.declared.group_needs.GroupNeed.{GroupNeed}
 
 -- by need, then by group

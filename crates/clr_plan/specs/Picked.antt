@@ -1,6 +1,6 @@
 -- What is picked for the touched needs of a setting.
 use Rattle.std.specs.Prelude.{ℕ}
-use Rattle.clr_foot.specs.Settings.{Setting}
+use Rattle.clr_needs.specs.Settings.{Setting}
 use Rattle.clr_clearance.specs.Plans.{ArePicked, IsFirstUnpicked}
 use Rattle.clr_check.specs.Certificates.{entries_in}
 use Rattle.clr_plan.specs.declared.picked.Picked.{Picked}

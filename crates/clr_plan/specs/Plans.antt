@@ -1,9 +1,9 @@
 -- What is planned for a site.
 use Rattle.std.specs.Prelude.{◌≡◌, ℕ, List, None}
 use Rattle.clr_cert.specs.declared.certificates.Certificate.{Certificate}
-use Rattle.clr_foot.specs.declared.needs.Need.{Need}
-use Rattle.clr_foot.specs.Picks.{Blocks}
-use Rattle.clr_foot.specs.Settings.{Setting}
+use Rattle.clr_needs.specs.declared.needs.Need.{Need}
+use Rattle.clr_needs.specs.Picks.{Blocks}
+use Rattle.clr_needs.specs.Settings.{Setting}
 use Rattle.clr_steps.specs.Offices.{Office}
 use Rattle.clr_steps.specs.Quiet.{Site}
 use Rattle.clr_clearance.specs.declared.verdicts.Verdict.{Verdict}

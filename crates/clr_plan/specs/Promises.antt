@@ -1,7 +1,7 @@
 -- What plans promise.
 use Rattle.std.specs.Prelude.{◌≡◌, ◌↔◌, ℕ, Bool, true, false, List, None}
 use Rattle.clr_cert.specs.declared.certificates.Certificate.{Certificate}
-use Rattle.clr_foot.specs.Covers.{Entry}
+use Rattle.clr_needs.specs.Covers.{Entry}
 use Rattle.clr_steps.specs.declared.commands.Command.{Command}
 use Rattle.clr_steps.specs.Offices.{Office}
 use Rattle.clr_steps.specs.Quiet.{Site}

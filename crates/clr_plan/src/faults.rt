@@ -1,7 +1,7 @@
 //! The plans that faults found before the tests of needs decide.
 
 ghost use Rattle.std.specs.Prelude.{◌≡◌, None};
-ghost use Rattle.clr_foot.specs.Members.{IsSceneFault};
+ghost use Rattle.clr_needs.specs.Members.{IsSceneFault};
 ghost use Rattle.clr_steps.specs.Offices.{Office};
 ghost use Rattle.clr_steps.specs.Quiet.{Site};
 ghost use Rattle.clr_clearance.specs.Sites.{change_sets};
@@ -11,7 +11,7 @@ ghost use Rattle.clr_plan.specs.Plans.{IsBlockedIn, IsPlan};
 
 use crate::plans::Plan;
 use clr_clearance::Verdict;
-use clr_foot::SceneFault;
+use clr_needs::SceneFault;
 use std::alloc::Global;
 
 /// A blocked plan, or `OutOfMemory` where no memory is found for its order.

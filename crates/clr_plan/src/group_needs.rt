@@ -1,13 +1,14 @@
 //! The touched needs of the scenes of groups.
 
 ghost use Rattle.std.specs.Prelude.{◌≡◌, ◌⊎◌, ◌↔◌, map, Contains, IfOk, OnOk};
-ghost use Rattle.clr_foot.specs.Needs.{Lists};
+ghost use Rattle.clr_needs.specs.Needs.{Lists};
 ghost use Rattle.clr_foot.specs.Scenes.{IsReady, model_of, setting_of};
 ghost use Rattle.clr_plan.specs.GroupNeeds.{AreReady, IsOf, IsTouchedIn, group_need_cmp};
 ghost use Rattle.clr_plan.specs.declared.group_needs.GroupNeed.{GroupNeed as Touched};
 
-use clr_foot::{Need, Scene};
+use clr_foot::Scene;
 use clr_grid::RowFinder;
+use clr_needs::Need;
 use clr_rows::RowView;
 use clr_spots::put_in_order;
 use std::alloc::{AllocError, Global};

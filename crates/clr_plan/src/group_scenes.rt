@@ -1,7 +1,7 @@
 //! The scenes of groups.
 
 ghost use Rattle.std.specs.Prelude.{◌≡◌, map, IfOk};
-ghost use Rattle.clr_foot.specs.Members.{AreApart};
+ghost use Rattle.clr_needs.specs.Members.{AreApart};
 ghost use Rattle.clr_foot.specs.Scenes.{IsReady, model_of, setting_of};
 ghost use Rattle.clr_groups.specs.Groups.{AreGroups};
 ghost use Rattle.clr_plan.specs.GroupNeeds.{models_at};

@@ -1,15 +1,16 @@
 //! The witnesses of the touched needs of a scene.
 
 ghost use Rattle.std.specs.Prelude.{IfOk};
-ghost use Rattle.clr_foot.specs.Members.{AreApart};
+ghost use Rattle.clr_needs.specs.Members.{AreApart};
 ghost use Rattle.clr_foot.specs.Scenes.{IsReady, model_of, setting_of};
 ghost use Rattle.clr_plan.specs.Picked.{ArePickedFor};
 
 use crate::group_picks::pick_by_group;
 use clr_cert::{Entries, Entry};
-use clr_foot::{Need, Scene};
+use clr_foot::Scene;
 use clr_grid::RowFinder;
 use clr_groups::groups;
+use clr_needs::Need;
 use clr_rows::RowView;
 use std::alloc::{AllocError, Global};
 

@@ -3,7 +3,7 @@ ghost use Rattle.clr_rows.specs.Beginnings.{IsBegun};
 ghost use Rattle.clr_verdict_lines.specs.Verdicts.{need_text, second_text};
 
 use clr_cert::add_subject;
-use clr_foot::{Need, VersionId};
+use clr_needs::{Need, VersionId};
 use clr_rows::Schema;
 use itoa::Buffer;
 use std::alloc::AllocError;

@@ -4,8 +4,8 @@ ghost use Rattle.clr_verdict_lines.specs.Verdicts.{conflict_text, member_name as
 
 use crate::needs::add_need;
 use clr_clearance::Verdict;
-use clr_foot::Need;
 use clr_lines::{add_cell, add_count};
+use clr_needs::Need;
 use clr_rows::{CellId, Schema};
 use std::alloc::{AllocError, Global};
 

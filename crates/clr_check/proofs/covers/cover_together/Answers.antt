@@ -1,4 +1,4 @@
-use Rattle.clr_foot.specs.Members.{lifetime}
+use Rattle.clr_needs.specs.Members.{lifetime}
 use Rattle.clr_foot.specs.Scenes.{setting_in}
 use Rattle.clr_check.proofs.CoverLemmas.{one_unlisted, other_unlisted, together_told}
 use Rattle.clr_check.proofs.SearchLemmas.{it_is, it_is_not}

@@ -1,5 +1,5 @@
 use Rattle.std.proofs.Common.{◌∙◌, ap, sym}
-use Rattle.clr_foot.specs.Members.{lifetime}
+use Rattle.clr_needs.specs.Members.{lifetime}
 use Rattle.clr_foot.specs.Scenes.{setting_in}
 use Rattle.clr_check.proofs.CoverLemmas.{alone_told, life_at_too, unlisted}
 use Rattle.clr_check.proofs.SearchLemmas.{it_is, it_is_not}

@@ -1,9 +1,9 @@
 use Rattle.std.proofs.Common.{ℕ, Bool, true, false, List, Contains, Option, ◌↔◌, get_or, subst, sym}
-use Rattle.clr_foot.specs.Needs.{IsPossible}
+use Rattle.clr_needs.specs.Needs.{IsPossible}
 use Rattle.clr_foot.specs.Scenes.{setting_in}
-use Rattle.clr_foot.specs.Settings.{Lived}
-use Rattle.clr_foot.proofs.BreakLaws.{touched_possible}
-use Rattle.clr_foot.proofs.Gaining.{read_of}
+use Rattle.clr_needs.specs.Settings.{Lived}
+use Rattle.clr_needs.proofs.BreakLaws.{touched_possible}
+use Rattle.clr_needs.proofs.Reading.{read_of}
 use Rattle.clr_check.specs.Certificates.{entries_in}
 use Rattle.clr_check.specs.Entries.{HasCover, IsTold}
 use Rattle.clr_cert.specs.declared.certificates.Entry.{Entry}

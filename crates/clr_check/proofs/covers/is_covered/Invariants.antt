@@ -1,7 +1,7 @@
 use Rattle.std.proofs.Common.{ℕ, Option, take}
-use Rattle.clr_foot.specs.Needs.{IsPossible}
+use Rattle.clr_needs.specs.Needs.{IsPossible}
 use Rattle.clr_foot.specs.Scenes.{setting_in}
-use Rattle.clr_foot.specs.Settings.{Lived}
+use Rattle.clr_needs.specs.Settings.{Lived}
 use Rattle.clr_check.proofs.CoverLemmas.{NoneCovers}
 use Rattle.clr_check.proofs.covers.is_covered.Given as goal
 

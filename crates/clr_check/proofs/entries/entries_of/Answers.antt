@@ -1,7 +1,7 @@
 use Rattle.std.proofs.Common.{◌≡◌, ◌-◌, ◌∙◌, true, false, Contains, ap, drop, rules, subst, sym, take}
 use Rattle.std.specs.List.Sorted.{IsPartitionPoint}
 use Rattle.std.proofs.lemmas.List.Sorted.{IsPartitionPoint-from_clause}
-use Rattle.clr_foot.proofs.NeedOrder.{need_exact, need_total}
+use Rattle.clr_needs.proofs.NeedOrder.{need_exact, need_total}
 use Rattle.clr_check.proofs.EntryLemmas.{in_turn, is_before, is_part, is_up_to, part_is, parted_before, parted_up_to}
 use Rattle.clr_check.proofs.JudgeLemmas.{no_entry}
 use Rattle.clr_check.proofs.entries.entries_of.Goals as goal

@@ -1,4 +1,4 @@
-use Rattle.clr_foot.specs.Members.{AreChangersBelow}
+use Rattle.clr_foot.specs.Changers.{AreChangersBelow}
 use Rattle.clr_foot.proofs.Searches.{sets_of}
 use Rattle.clr_foot.proofs.changers.changers_of.Given as goal
 

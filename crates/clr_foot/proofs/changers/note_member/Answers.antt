@@ -7,7 +7,7 @@ use Rattle.clr_rows.specs.declared.cells.CellId.{CellId}
 use Rattle.clr_rows.specs.declared.cells.Change.{Change}
 use Rattle.clr_rows.specs.Cells.{cell_cmp}
 use Rattle.clr_foot.specs.declared.changers.Changers.{Changers}
-use Rattle.clr_foot.specs.Members.{with_member}
+use Rattle.clr_foot.specs.Changers.{with_member}
 use Rattle.clr_foot.proofs.ChangedCells.{cells_of}
 use Rattle.clr_foot.proofs.ChangerSteps.{IsNoting, all_noted, first_noting, noting_further}
 use Rattle.clr_foot.proofs.Searches.{set_at, sets_of}

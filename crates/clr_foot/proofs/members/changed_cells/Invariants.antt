@@ -1,5 +1,5 @@
 use Rattle.std.proofs.Common.{◌≡◌, ◌++◌}
-use Rattle.clr_foot.specs.Members.{changed_cells}
+use Rattle.clr_needs.specs.Members.{changed_cells}
 use Rattle.clr_foot.proofs.ChangedCells.{cells_left}
 use Rattle.clr_foot.proofs.Searches.{sets_of}
 use Rattle.clr_foot.proofs.members.changed_cells.Given as goal

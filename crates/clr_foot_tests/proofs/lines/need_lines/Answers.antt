@@ -1,7 +1,7 @@
 use Rattle.std.proofs.Common.{get_or}
 use Rattle.clr_foot.specs.Scenes.{model_of, setting_of}
-use Rattle.clr_foot.proofs.BreakLaws.{touched_possible}
-use Rattle.clr_foot.proofs.Gaining.{read_of}
+use Rattle.clr_needs.proofs.BreakLaws.{touched_possible}
+use Rattle.clr_needs.proofs.Reading.{read_of}
 use Rattle.clr_check.proofs.JudgeLemmas.{no_need}
 use Rattle.clr_foot_tests.proofs.lines.need_lines.Goals as goal
 

@@ -1,9 +1,9 @@
 use Rattle.std.proofs.Common.{◌∙◌, ap, ◌≡◌, ◌<◌, ◌≤◌, length, subst, sym, arith}
 use Rattle.std.specs.BTreeMap.{get, is_at}
 use Rattle.std.specs.Map.{lookup}
-use Rattle.clr_foot.specs.Orders.{need_cmp}
+use Rattle.clr_needs.specs.Orders.{need_cmp}
 use Rattle.clr_foot.specs.Scenes.{model_of, setting_of}
-use Rattle.clr_foot.proofs.BlockerLaws.{member_below}
+use Rattle.clr_needs.proofs.BlockerLaws.{member_below}
 use Rattle.clr_groups.proofs.NotedNeeds.{all_labelled, none_noted}
 use Rattle.clr_groups.proofs.labels.labels_of.Goals as goal
 

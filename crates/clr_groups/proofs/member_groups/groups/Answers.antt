@@ -4,7 +4,7 @@ use Rattle.std.specs.declared.result.Result.{Result}
 use Rattle.std.specs.declared.result.Result.TheVariants.{Ok, Err}
 use Rattle.clr_rows.specs.Contents.{Changes, Content}
 use Rattle.clr_rules.specs.declared.rules.Rule.{Rule}
-use Rattle.clr_foot.specs.Members.{setting}
+use Rattle.clr_needs.specs.Members.{setting}
 use Rattle.clr_foot.specs.Scenes.{model_of}
 use Rattle.clr_groups.specs.Groups.{AreGroups}
 use Rattle.clr_groups.specs.Labels.{AreGroupsBy, AreLabels}

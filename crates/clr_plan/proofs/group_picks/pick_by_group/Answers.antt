@@ -1,7 +1,7 @@
 use Rattle.std.proofs.Common.{◌≡◌, ◌∙◌, ◌<◌, ℕ, Global, List, Vec, Some, None, ap, arith, get_or, length, map, subst, sym}
 use Rattle.std.proofs.lemmas.List.{length-map}
 use Rattle.std.proofs.Math.ListN.{get_or-map}
-use Rattle.clr_foot.specs.Picks.{Picks}
+use Rattle.clr_needs.specs.Picks.{Picks}
 use Rattle.clr_foot.specs.Scenes.{model_of, setting_of}
 use Rattle.clr_clearance.specs.Plans.{ArePicked, IsFirstUnpicked}
 use Rattle.clr_check.specs.Certificates.{entries_in}

@@ -3,7 +3,8 @@ use Rattle.std.specs.BTreeMap.{get}
 use Rattle.std.proofs.lemmas.List.{length-map}
 use Rattle.clr_rows.specs.Cells.{cell_cmp}
 use Rattle.clr_rows.specs.Contents.{Changes}
-use Rattle.clr_foot.specs.Members.{AreChangersAt, changed_cells}
+use Rattle.clr_foot.specs.Changers.{AreChangersAt}
+use Rattle.clr_needs.specs.Members.{changed_cells}
 use Rattle.clr_foot.proofs.ChangerSteps.{changers_exact}
 use Rattle.clr_foot.proofs.Searches.{sets_of}
 use Rattle.clr_foot.proofs.members.Members.new.Goals as goal

@@ -1,7 +1,7 @@
 use Rattle.std.proofs.Common.{◌∙◌, ap, None}
 use Rattle.clr_rules.specs.Calls.{calls, plain_ask}
 use Rattle.clr_foot.specs.Candidates.{serves_too}
-use Rattle.clr_foot.specs.Needs.{need_of}
+use Rattle.clr_needs.specs.Needs.{need_of}
 use Rattle.clr_foot.specs.Scenes.{setting_in}
 use Rattle.clr_foot.proofs.CandidateLaws.{add_alone, both_told, none_alone, asked_without_call, asked_without_server}
 use Rattle.clr_foot.proofs.VersionFits.{fit_one}

@@ -1,7 +1,7 @@
 use Rattle.std.proofs.Common.{ap, subst, Contains}
 use Rattle.clr_foot.specs.Gains.{Gains}
 use Rattle.clr_foot.specs.Candidates.{IsNeedWith}
-use Rattle.clr_foot.specs.Needs.{IsTouched}
+use Rattle.clr_needs.specs.Needs.{IsTouched}
 use Rattle.clr_foot.specs.Scenes.{setting_in}
 use Rattle.clr_foot.specs.Versions.{version_of}
 use Rattle.std.proofs.Common.{true}

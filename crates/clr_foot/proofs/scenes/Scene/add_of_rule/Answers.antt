@@ -1,6 +1,6 @@
 use Rattle.std.proofs.Common.{◌∙◌, pos}
 use Rattle.clr_foot.specs.Scenes.{setting_in}
-use Rattle.clr_foot.proofs.Gaining.{read_of}
+use Rattle.clr_needs.proofs.Reading.{read_of}
 use Rattle.clr_foot.proofs.Searches.{sets_of}
 use Rattle.clr_foot.proofs.TouchSteps.{no_cell_yet, one_cell_more, rule_gains}
 use Rattle.clr_foot.proofs.scenes.Scene.add_of_rule.Goals as goal

@@ -1,6 +1,6 @@
 use Rattle.std.proofs.Common.{take}
 use Rattle.clr_foot.specs.Gains.{Gains}
-use Rattle.clr_foot.specs.Needs.{IsTouched}
+use Rattle.clr_needs.specs.Needs.{IsTouched}
 use Rattle.clr_foot.specs.Scenes.{setting_in}
 use Rattle.clr_foot.specs.Touches.{IsNeedAtCells}
 use Rattle.clr_foot.proofs.scenes.Scene.add_of_rule.Given as goal

@@ -1,5 +1,5 @@
 use Rattle.clr_foot.specs.Scenes.{setting_in}
-use Rattle.clr_foot.proofs.BlockerLaws.{AreBlockersTo}
+use Rattle.clr_needs.proofs.BlockerLaws.{AreBlockersTo}
 use Rattle.clr_foot.proofs.scenes.Scene.blockers.Given as goal
 
 -- the blockers among the members so far

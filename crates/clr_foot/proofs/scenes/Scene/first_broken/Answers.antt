@@ -1,8 +1,8 @@
 use Rattle.std.proofs.Common.{get_or, refl}
 use Rattle.clr_foot.specs.Scenes.{setting_in}
-use Rattle.clr_foot.proofs.BreakLaws.{first_is_least, kept_more, none_is_lost, touched_possible}
-use Rattle.clr_foot.proofs.Gaining.{read_of}
-use Rattle.clr_foot.proofs.NeedOrder.{unread}
+use Rattle.clr_needs.proofs.BreakLaws.{first_is_least, kept_more, none_is_lost, touched_possible}
+use Rattle.clr_needs.proofs.Reading.{read_of}
+use Rattle.clr_needs.proofs.NeedOrder.{unread}
 use Rattle.clr_foot.proofs.Searches.{sets_of}
 use Rattle.clr_foot.proofs.scenes.Scene.first_broken.Goals as goal
 

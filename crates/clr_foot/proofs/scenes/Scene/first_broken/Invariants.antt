@@ -1,6 +1,6 @@
 use Rattle.std.proofs.Common.{take, Contains}
-use Rattle.clr_foot.specs.declared.needs.Need.{Need}
-use Rattle.clr_foot.specs.Broken.{IsServedAfterMerge}
+use Rattle.clr_needs.specs.declared.needs.Need.{Need}
+use Rattle.clr_needs.specs.Broken.{IsServedAfterMerge}
 use Rattle.clr_foot.specs.Scenes.{setting_in}
 use Rattle.clr_foot.proofs.scenes.Scene.first_broken.Given as goal
 

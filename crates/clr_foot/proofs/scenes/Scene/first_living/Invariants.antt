@@ -1,8 +1,8 @@
 use Rattle.std.proofs.Common.{◌≡◌, true, take, Contains}
-use Rattle.clr_foot.specs.declared.needs.VersionId.{VersionId}
-use Rattle.clr_foot.specs.Broken.{is_living_at}
+use Rattle.clr_needs.specs.declared.needs.VersionId.{VersionId}
+use Rattle.clr_needs.specs.Broken.{is_living_at}
 use Rattle.clr_foot.specs.Scenes.{setting_in}
-use Rattle.clr_foot.specs.Settings.{version}
+use Rattle.clr_needs.specs.Settings.{version}
 use Rattle.clr_foot.proofs.scenes.Scene.first_living.Given as goal
 
 -- none of the versions so far stands

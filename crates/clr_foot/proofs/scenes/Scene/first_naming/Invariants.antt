@@ -1,8 +1,8 @@
 use Rattle.std.proofs.Common.{◌≡◌, true, take, Contains}
-use Rattle.clr_foot.specs.declared.needs.VersionId.{VersionId}
+use Rattle.clr_needs.specs.declared.needs.VersionId.{VersionId}
 use Rattle.clr_foot.specs.Involvement.{names_at}
 use Rattle.clr_foot.specs.Scenes.{setting_in}
-use Rattle.clr_foot.specs.Settings.{version}
+use Rattle.clr_needs.specs.Settings.{version}
 use Rattle.clr_foot.proofs.scenes.Scene.first_naming.Given as goal
 
 -- the life of none of the versions so far names the member

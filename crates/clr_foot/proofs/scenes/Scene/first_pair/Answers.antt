@@ -1,7 +1,7 @@
 use borrow.Author.Count.{below_more}
 use Rattle.std.proofs.Common.{arith}
 use Rattle.clr_foot.specs.Scenes.{setting_in}
-use Rattle.clr_foot.specs.Witnesses.{HasPair}
+use Rattle.clr_needs.specs.Witnesses.{HasPair}
 use Rattle.clr_foot.proofs.scenes.Scene.first_pair.Goals as goal
 
 pub loop-position-preserved : goal.loop-position-preserved

@@ -1,6 +1,6 @@
 use Rattle.std.proofs.Common.{ℕ, ◌<◌}
 use Rattle.clr_foot.specs.Scenes.{setting_in}
-use Rattle.clr_foot.specs.Witnesses.{HasPair}
+use Rattle.clr_needs.specs.Witnesses.{HasPair}
 use Rattle.clr_foot.proofs.scenes.Scene.first_pair.Given as goal
 
 -- none of the members so far has a pair

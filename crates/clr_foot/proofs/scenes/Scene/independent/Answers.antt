@@ -1,7 +1,7 @@
 use Rattle.std.proofs.Common.{get_or, refl}
 use Rattle.clr_foot.specs.Scenes.{setting_in}
 use Rattle.clr_foot.proofs.InvolvedLaws.{all_apart, dependent_at, is_possible_at, one_apart_more}
-use Rattle.clr_foot.proofs.NeedOrder.{unread}
+use Rattle.clr_needs.proofs.NeedOrder.{unread}
 use Rattle.clr_foot.proofs.scenes.Scene.independent.Goals as goal
 
 pub involves-requires-clause-possible : goal.involves-requires-clause-possible

@@ -1,5 +1,5 @@
 use Rattle.std.proofs.Common.{take, Contains}
-use Rattle.clr_foot.specs.declared.needs.Need.{Need}
+use Rattle.clr_needs.specs.declared.needs.Need.{Need}
 use Rattle.clr_foot.specs.Involvement.{IsInvolving}
 use Rattle.clr_foot.specs.Scenes.{setting_in}
 use Rattle.clr_foot.proofs.scenes.Scene.independent.Given as goal

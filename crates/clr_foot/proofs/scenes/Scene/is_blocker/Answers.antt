@@ -1,5 +1,5 @@
 use Rattle.clr_foot.specs.Scenes.{setting_in}
-use Rattle.clr_foot.proofs.BlockerLaws.{brings_is_blocker, neither_is_blocker, takes_is_blocker}
+use Rattle.clr_needs.proofs.BlockerLaws.{brings_is_blocker, neither_is_blocker, takes_is_blocker}
 use Rattle.clr_foot.proofs.scenes.Scene.is_blocker.Goals as goal
 
 pub returns-then-has_subject_with : goal.returns-then-has_subject_with

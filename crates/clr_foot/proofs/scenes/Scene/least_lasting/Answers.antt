@@ -1,6 +1,6 @@
 use Rattle.clr_foot.specs.Scenes.{setting_in}
-use Rattle.clr_foot.specs.Witnesses.{lasts_at}
-use Rattle.clr_foot.proofs.VersionOrder.{first_is_least, none_at_all, none_more, unread}
+use Rattle.clr_needs.specs.Witnesses.{lasts_at}
+use Rattle.clr_needs.proofs.VersionOrder.{first_is_least, none_at_all, none_more, unread}
 use Rattle.clr_foot.proofs.scenes.Scene.least_lasting.Goals as goal
 
 pub returns-then-is_lasting : goal.returns-then-is_lasting

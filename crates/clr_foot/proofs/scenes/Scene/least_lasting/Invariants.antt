@@ -1,6 +1,6 @@
 use Rattle.clr_foot.specs.Scenes.{setting_in}
-use Rattle.clr_foot.specs.Witnesses.{lasts_at}
-use Rattle.clr_foot.proofs.VersionOrder.{NonePasses}
+use Rattle.clr_needs.specs.Witnesses.{lasts_at}
+use Rattle.clr_needs.proofs.VersionOrder.{NonePasses}
 use Rattle.clr_foot.proofs.scenes.Scene.least_lasting.Given as goal
 
 -- none of the versions so far lasts

@@ -1,7 +1,7 @@
 use Rattle.clr_foot.specs.Scenes.{setting_in}
-use Rattle.clr_foot.specs.Members.{lifetime}
-use Rattle.clr_foot.specs.Witnesses.{has_life_at}
-use Rattle.clr_foot.proofs.VersionOrder.{first_is_least, none_at_all, none_more, unread}
+use Rattle.clr_needs.specs.Members.{lifetime}
+use Rattle.clr_needs.specs.Witnesses.{has_life_at}
+use Rattle.clr_needs.proofs.VersionOrder.{first_is_least, none_at_all, none_more, unread}
 use Rattle.clr_foot.proofs.scenes.Scene.least_with_life.Goals as goal
 
 pub returns-then-has_life : goal.returns-then-has_life

@@ -1,7 +1,7 @@
-use Rattle.clr_foot.specs.Members.{lifetime}
+use Rattle.clr_needs.specs.Members.{lifetime}
 use Rattle.clr_foot.specs.Scenes.{setting_in}
-use Rattle.clr_foot.specs.Witnesses.{has_life_at}
-use Rattle.clr_foot.proofs.VersionOrder.{NonePasses}
+use Rattle.clr_needs.specs.Witnesses.{has_life_at}
+use Rattle.clr_needs.proofs.VersionOrder.{NonePasses}
 use Rattle.clr_foot.proofs.scenes.Scene.least_with_life.Given as goal
 
 -- none of the versions so far has the life

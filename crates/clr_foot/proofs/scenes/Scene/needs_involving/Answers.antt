@@ -6,7 +6,7 @@ use Rattle.clr_foot.specs.Gains.{Gains}
 use Rattle.clr_foot.specs.Involvement.{IsInvolving}
 use Rattle.clr_foot.specs.Scenes.{setting_in}
 use Rattle.clr_foot.proofs.InvolvedLaws.{IsInvolvingBelow, all_involved, no_rule_involved, one_rule_involved}
-use Rattle.clr_foot.proofs.NeedOrder.{need_exact}
+use Rattle.clr_needs.proofs.NeedOrder.{need_exact}
 use Rattle.clr_foot.proofs.Searches.{set_at, sets_of}
 use Rattle.clr_foot.proofs.scenes.Scene.needs_involving.Goals as goal
 

@@ -1,10 +1,10 @@
 use Rattle.std.proofs.Common.{length, sym, subst, ◌<◌, ℕ}
 use Rattle.std.proofs.lemmas.List.{length-map}
-use Rattle.clr_foot.specs.Picks.{Picks}
+use Rattle.clr_needs.specs.Picks.{Picks}
 use Rattle.clr_foot.specs.Scenes.{setting_in}
-use Rattle.clr_foot.specs.Witnesses.{HasPair}
+use Rattle.clr_needs.specs.Witnesses.{HasPair}
 use Rattle.clr_foot.proofs.Searches.{sets_of}
-use Rattle.clr_foot.proofs.PickLaws.{picks_alone, picks_none, picks_two}
+use Rattle.clr_needs.proofs.PickLaws.{picks_alone, picks_none, picks_two}
 use Rattle.clr_foot.proofs.scenes.Scene.pick_of.Goals as goal
 
 pub returns-in-Some : goal.returns-in-Some

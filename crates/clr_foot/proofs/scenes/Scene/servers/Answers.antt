@@ -1,9 +1,9 @@
 use Rattle.std.proofs.Common.{◌∙◌, ◌<◌, ap, sym, subst, length}
 use Rattle.std.specs.Option.{option_map}
 use Rattle.clr_rules.specs.Calls.{calls}
-use Rattle.clr_foot.specs.declared.needs.VersionId.{VersionId}
-use Rattle.clr_foot.specs.Needs.{Lists}
-use Rattle.clr_foot.specs.Orders.{version_cmp}
+use Rattle.clr_needs.specs.declared.needs.VersionId.{VersionId}
+use Rattle.clr_needs.specs.Needs.{Lists}
+use Rattle.clr_needs.specs.Orders.{version_cmp}
 use Rattle.clr_foot.specs.Scenes.{setting_in}
 use Rattle.clr_foot.specs.Touches.{IsServerOf}
 use Rattle.clr_foot.specs.Versions.{row_of}

@@ -1,9 +1,9 @@
 use Rattle.std.proofs.Common.{true, false, subst, sym}
-use Rattle.clr_foot.specs.declared.needs.VersionId.{VersionId}
+use Rattle.clr_needs.specs.declared.needs.VersionId.{VersionId}
 use Rattle.clr_foot.specs.Scenes.{setting_in}
 use Rattle.clr_foot.specs.Touches.{IsNear}
 use Rattle.clr_foot.specs.Versions.{AreAt, Finds, row_of}
-use Rattle.clr_foot.proofs.NeedOrder.{version_exact}
+use Rattle.clr_needs.proofs.NeedOrder.{version_exact}
 use Rattle.clr_foot.proofs.ServerLaws.{servers_exactly}
 use Rattle.clr_foot.proofs.scenes.Scene.servers_of.Goals as goal
 

@@ -1,8 +1,8 @@
 use Rattle.std.proofs.Common.{[], ◌≤◌, subst, sym, refl}
 use Rattle.clr_foot.specs.Gains.{Gains}
-use Rattle.clr_foot.specs.Needs.{IsTouched}
+use Rattle.clr_needs.specs.Needs.{IsTouched}
 use Rattle.clr_foot.specs.Scenes.{setting_in}
-use Rattle.clr_foot.proofs.NeedOrder.{need_exact}
+use Rattle.clr_needs.proofs.NeedOrder.{need_exact}
 use Rattle.clr_foot.proofs.Searches.{sets_of}
 use Rattle.clr_foot.proofs.TouchSteps.{IsTouchedBelow, all_touched, no_rule_yet, one_rule_more}
 use Rattle.clr_foot.proofs.scenes.Scene.touched_needs.Goals as goal

@@ -1,8 +1,0 @@
-use Rattle.clr_foot.proofs.CoverLaws.{covered_holds}
-use Rattle.clr_foot.proofs.laws.covered_members_keep_rules.Goals as goal
-
-pub returns : goal.returns
-returns c = record {
-  by_position = λ s es apart covered holds. covered_holds s es (record { apart = apart; covered = covered; holds = holds });
-  by_name = λ s es apart covered holds. covered_holds s es (record { apart = apart; covered = covered; holds = holds });
-}

@@ -1,5 +1,0 @@
-use Rattle.clr_foot.proofs.PositionLaws.{say_the_same}
-use Rattle.clr_foot.proofs.laws.positions_stand_for_names.Goals as goal
-
-pub returns : goal.returns
-returns g c s = say_the_same s

@@ -1,8 +1,0 @@
-use Rattle.clr_foot.proofs.BrokenLaws.{uncovered_breaks}
-use Rattle.clr_foot.proofs.laws.uncovered_needs_are_broken.Goals as goal
-
-pub returns : goal.returns
-returns c = record {
-  by_position = λ s ts n a b apart uncovered blockers. uncovered_breaks s n a b ts uncovered blockers apart;
-  by_name = λ s ts n a b apart uncovered blockers. uncovered_breaks s n a b ts uncovered blockers apart;
-}

@@ -1,0 +1,14 @@
+pub mod Blocking
+pub mod Broken
+pub mod Covers
+pub mod Independence
+pub mod Laws
+pub mod Members
+pub mod Needs
+pub mod Orders
+pub mod Parts
+pub mod Picks
+pub mod Positions
+pub mod Renamings
+pub mod Settings
+pub mod Witnesses
