@@ -18,11 +18,12 @@ use Rattle.clr_needs.specs.declared.needs.VersionId.{VersionId}
 use Rattle.clr_foot.specs.declared.versions.Version.{Version}
 use Rattle.clr_foot.specs.Candidates.{IsNeedAmong, IsServerAmong, IsNeedOf, IsNeedOfAsk, IsNeedOfPair, IsNeedOfPart, are_opposed, id_of, is_asked, is_of_two_under, serves_too}
 use Rattle.clr_foot.specs.Gains.{Gains, GainsSome}
-use Rattle.clr_foot.specs.Needs.{AreOpposed, ask_of, need_of}
-use Rattle.clr_foot.specs.Settings.{Lifetime, With, Without}
+use Rattle.clr_needs.specs.Needs.{AreOpposed, ask_of, need_of}
+use Rattle.clr_needs.specs.Settings.{Lifetime, With, Without}
 use Rattle.clr_foot.specs.Versions.{row_and_life, row_of}
 use Rattle.clr_foot.proofs.SharingLaws.{two_asked}
-use Rattle.clr_foot.proofs.Gaining.{all_taken, gains_as, gains_both, gains_none, gains_one, item_in, none_taken, one_more, some_as, then_some}
+use Rattle.clr_needs.proofs.Reading.{all_taken, item_in, none_taken, one_more}
+use Rattle.clr_foot.proofs.Gaining.{gains_as, gains_both, gains_none, gains_one, some_as, then_some}
 
 -- ---- opposed lives
 

@@ -9,7 +9,7 @@ use Rattle.clr_rows.specs.declared.cells.CellId.{CellId}
 use Rattle.clr_rows.specs.declared.cells.Change.{Change}
 use Rattle.clr_rows.specs.Contents.{Changes}
 use Rattle.clr_rows.specs.Beginnings.{IsBegun}
-use Rattle.clr_foot.specs.Members.{changed_cells}
+use Rattle.clr_needs.specs.Members.{changed_cells}
 use Rattle.clr_foot.proofs.Searches.{sets_of}
 
 -- the cells of entries

@@ -22,15 +22,16 @@ use Rattle.clr_needs.specs.declared.needs.VersionId.{VersionId}
 use Rattle.clr_foot.specs.declared.versions.Version.{Version}
 use Rattle.clr_foot.specs.Candidates.{IsNeedAmong, IsNeedAt, IsNeedOf, IsNeedServedBy, IsNeedWith, is_of_two_under}
 use Rattle.clr_foot.specs.Gains.{Gains, GainsSome}
-use Rattle.clr_foot.specs.Members.{ChangesCell, after_in, changed_cells, setting}
-use Rattle.clr_foot.specs.Needs.{IsBesideToo, IsChanged, IsTouched, IsTouchedBy, ask_of, held_too, is_fresh}
-use Rattle.clr_foot.specs.Settings.{Setting, Lived, changer, held_row, new_version, old_life, old_version, version}
+use Rattle.clr_needs.specs.Members.{ChangesCell, after_in, changed_cells, setting}
+use Rattle.clr_needs.specs.Needs.{IsBesideToo, IsChanged, IsTouched, IsTouchedBy, ask_of, held_too, is_fresh}
+use Rattle.clr_needs.specs.Settings.{Setting, Lived, changer, held_row, new_version, old_life, old_version, version}
 use Rattle.clr_foot.specs.Touches.{IsNear, IsNeedAtCells, IsNeedServedAmong, IsTouchedOf}
 use Rattle.clr_foot.specs.Versions.{FindsAll, FitsSetting, IsAt, row_of, version_of}
 use Rattle.clr_foot.proofs.ChangerSteps.{changed_key}
-use Rattle.clr_foot.proofs.Gaining.{all_taken, gains_as, gains_both, gains_none, none_taken, one_more, some_as, then_none, then_some}
-use Rattle.clr_foot.proofs.Lives.{new_is, old_is}
-use Rattle.clr_foot.proofs.Merges.{IsChanger, changer_is}
+use Rattle.clr_needs.proofs.Reading.{all_taken, none_taken, one_more}
+use Rattle.clr_foot.proofs.Gaining.{gains_as, gains_both, gains_none, some_as, then_none, then_some}
+use Rattle.clr_needs.proofs.Lives.{new_is, old_is}
+use Rattle.clr_needs.proofs.Merges.{IsChanger, changer_is}
 use Rattle.clr_foot.proofs.NewRows.{brought_is_listed}
 use Rattle.clr_needs.proofs.PositionLaws.{range_has}
 use Rattle.clr_foot.proofs.SharedCells.{changed_is_listed}

@@ -4,7 +4,7 @@
 ghost use Rattle.std.specs.Prelude.{◌≡◌, ◌<◌, length, None, Some, OnErr, OnOk};
 ghost use Rattle.clr_foot.specs.Candidates.{IsNeedAmong, IsNeedOf, IsNeedOfAsk, IsNeedOfPair, IsNeedOfPart, IsServerAmong, are_opposed, serves_too};
 ghost use Rattle.clr_foot.specs.Gains.{Gains, GainsSome};
-ghost use Rattle.clr_foot.specs.Members.{lifetime};
+ghost use Rattle.clr_needs.specs.Members.{lifetime};
 ghost use Rattle.clr_foot.specs.Scenes.{setting_in};
 ghost use Rattle.clr_foot.specs.Versions.{AreAt, FitsSetting, IsAt, IsAtToo};
 

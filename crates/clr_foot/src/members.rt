@@ -5,10 +5,11 @@ ghost use Rattle.std.specs.BTreeMap.{get};
 ghost use Rattle.std.specs.FinMap as finite;
 ghost use Rattle.clr_rows.specs.Cells.{cell_cmp};
 ghost use Rattle.clr_rows.specs.declared.cells.CellId.{CellId as Cell};
-ghost use Rattle.clr_foot.specs.declared.limits.TheConstants.{MOST_MEMBERS};
+ghost use Rattle.clr_needs.specs.declared.limits.TheConstants.{MOST_MEMBERS};
 ghost use Rattle.clr_rows.specs.Beginnings.{IsBegun};
-ghost use Rattle.clr_foot.specs.Members.{AreApart, AreFirstTwo, IsApart, IsLeastShared, after_of, changed_cells, changers_at, lesser, positions};
-ghost use Rattle.clr_foot.specs.Settings.{first_changer};
+ghost use Rattle.clr_needs.specs.Members.{AreApart, AreFirstTwo, IsApart, IsLeastShared, after_of, changed_cells, positions};
+ghost use Rattle.clr_foot.specs.Changers.{changers_at, lesser};
+ghost use Rattle.clr_needs.specs.Settings.{first_changer};
 ghost use Rattle.clr_foot.specs.Versions.{AreNewRowsFiled, FitNewRows, new_version_at, row_and_life, version_of};
 
 use crate::changers::{Changers, changers_of};

@@ -7,7 +7,7 @@ ghost use Rattle.clr_rows.specs.Held.{held_of};
 ghost use Rattle.clr_rules.specs.Books.{FitTogether};
 ghost use Rattle.clr_foot.specs.Candidates.{IsNeedAt, IsNeedServedBy, IsNeedWith};
 ghost use Rattle.clr_foot.specs.Gains.{Gains, GainsSome};
-ghost use Rattle.clr_foot.specs.Needs.{AreTouchedNeeds, IsTouched};
+ghost use Rattle.clr_needs.specs.Needs.{AreTouchedNeeds, IsTouched};
 ghost use Rattle.clr_foot.specs.Scenes.{IsReady, model_of, setting_in, setting_of};
 ghost use Rattle.clr_foot.specs.Touches.{IsInCells, IsNear, IsNeedServedAmong, IsTouchedOf};
 ghost use Rattle.clr_foot.specs.Versions.{AreAt, Finds, FindsAll, FitsSetting, IsAt, row_of};

@@ -1,6 +1,6 @@
 use Rattle.clr_grid.proofs.FilingLemmas.{on_err}
 use Rattle.clr_foot.proofs.CandidateLaws.{all_pairs, no_pair_yet, no_pairs, one_pair_more, some_pairs}
-use Rattle.clr_foot.proofs.Gaining.{item_in}
+use Rattle.clr_needs.proofs.Reading.{item_in}
 use Rattle.clr_foot.proofs.scenes.Scene.add_pairs.Goals as goal
 
 pub add_pair-requires-clause-other : goal.add_pair-requires-clause-other
