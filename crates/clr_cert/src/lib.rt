@@ -8,6 +8,8 @@
 //! - `write_certificate` [`written`, `read_back`]: the exact bytes of every certificate; and
 //!   reading them gives the same one where the names are good, the schema names the cells, and the
 //!   parts are 1 to 31, and 1 where there is no second subject.
+//! - `add_subject` [`ok`, `begun`] adds the bytes of a subject to a text. Where it finds no memory,
+//!   what stood in the text stands there, and behind it at most a beginning of these bytes.
 #![tactic(auto)]
 
 mod certificates;

@@ -3,7 +3,6 @@
 ghost use Rattle.std.specs.Prelude.{◌≡◌, ◌++◌, codes, map, IfOk, OnOk};
 ghost use Rattle.std.specs.List.{flat_map};
 ghost use Rattle.clr_check.specs.SiteNames.{site};
-ghost use Rattle.clr_rows.specs.Beginnings.{IsBegun};
 ghost use Rattle.clr_verdict_lines.specs.Verdicts.{verdict_text};
 ghost use Rattle.clr_independence.specs.Lines.{AreIndependenceLines, independence_text, pair_text};
 
@@ -15,11 +14,9 @@ use clr_rows::Schema;
 use clr_verdict_lines::{member_name, verdict_line};
 use std::alloc::{AllocError, Global};
 
-/// Adds the line of a pair. It fails for want of memory alone; then what stood in the lines stands
-/// there, with a beginning of the line behind it.
+/// Adds the line of a pair. It fails for want of memory alone.
 fn add_pair(lines: &mut Vec<u8>, members: &[&str], pair: Pair) -> Result<(), AllocError>
-    ensures ok { OnOk result (lines.new.items ≡ lines.old.items ++ pair_text (map (λ name. name.now) members.now) pair) }
-    ensures begun { IsBegun lines.old.items (pair_text (map (λ name. name.now) members.now) pair) lines.new.items }
+    ensures { OnOk result (lines.new.items ≡ lines.old.items ++ pair_text (map (λ name. name.now) members.now) pair) }
 {
     let word = if pair.independent {
         "independent "

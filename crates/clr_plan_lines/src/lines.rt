@@ -1,5 +1,4 @@
 ghost use Rattle.std.specs.Prelude.{◌≡◌, ◌++◌, codes, map, IfOk, OnOk};
-ghost use Rattle.clr_rows.specs.Beginnings.{IsBegun};
 ghost use Rattle.clr_verdict_lines.specs.Verdicts.{verdict_text};
 ghost use Rattle.clr_plan_lines.specs.Plans.{blocked_text, cleared_text, order_name, order_text, plan_text};
 
@@ -25,11 +24,9 @@ fn cleared_lines(
     Ok(lines)
 }
 
-/// Adds the name of the member at a position, behind a space. It fails for want of memory alone; then
-/// what stood in the lines stands there, with a beginning of that behind it.
+/// Adds the name of the member at a position, behind a space.
 fn add_order_name(lines: &mut Vec<u8>, members: &[&str], at: usize) -> Result<(), AllocError>
-    ensures ok { OnOk result (lines.new.items ≡ lines.old.items ++ order_name (map (λ name. name.now) members.now) at) }
-    ensures begun { IsBegun lines.old.items (order_name (map (λ name. name.now) members.now) at) lines.new.items }
+    ensures { OnOk result (lines.new.items ≡ lines.old.items ++ order_name (map (λ name. name.now) members.now) at) }
 {
     lines.extend_from_slice(b" ")?;
     lines.extend_from_slice(member_name(members, at).as_bytes())
@@ -48,8 +45,7 @@ fn order_line(alloc: Global, members: &[&str], order: &[usize]) -> Result<Vec<u8
     Ok(line)
 }
 
-/// Adds a word and the line of a verdict. It fails for want of memory alone; then what stood in the
-/// lines stands there, with a beginning of that behind it.
+/// Adds a word and the line of a verdict.
 fn add_verdict(
     lines: &mut Vec<u8>,
     alloc: Global,
@@ -59,8 +55,7 @@ fn add_verdict(
     word: &str,
     verdict: &Verdict,
 ) -> Result<(), AllocError>
-    ensures ok { OnOk result (lines.new.items ≡ lines.old.items ++ word.now ++ verdict_text schema.now (map (λ name. name.now) members.now) root.now verdict.now) }
-    ensures begun { IsBegun lines.old.items (word.now ++ verdict_text schema.now (map (λ name. name.now) members.now) root.now verdict.now) lines.new.items }
+    ensures { OnOk result (lines.new.items ≡ lines.old.items ++ word.now ++ verdict_text schema.now (map (λ name. name.now) members.now) root.now verdict.now) }
 {
     lines.extend_from_slice(word.as_bytes())?;
     let line = verdict_line(alloc, schema, members, root, verdict)?;

@@ -1,15 +1,17 @@
 -- Laws of lists to which something was to be added: from the pieces that were added to the whole.
-use Rattle.std.proofs.Common.{◌≡◌, Bool, true, false, ℕ, ◌+◌, ◌<◌, List, [], ◌∷◌, ◌++◌, append-nil, length, map, get_or, take, drop, ap, sym, refl, ◌∙◌, append_assoc}
+use Rattle.std.proofs.Common.{◌≡◌, Bool, true, false, ℕ, ◌+◌, ◌<◌, List, [], ◌∷◌, ◌++◌, append-nil, length, map, get_or, take, drop, ap, sym, refl, ◌∙◌}
 use Rattle.std.specs.Prelude.{if◌then◌else◌}
 use Rattle.std.specs.List.{flat_map}
 use Rattle.std.proofs.lemmas.Grind.{flat_map-append}
-use Rattle.std.proofs.lemmas.List.{drop_more, map-append, take-append-drop}
-use Rattle.std.proofs.Math.Seq.{take-append_seam}
+use Rattle.std.proofs.lemmas.List.{append_assoc, append_cancel_left, drop_more, map-append, take-append-drop, take_at}
 use Rattle.clr_rows.specs.Beginnings.{IsBegun}
 
 -- a front of what was to be added was added
 pub some_begun : {A : Type 0} (old more new front back : List A) → new ≡ old ++ front → more ≡ front ++ back → IsBegun old more new
-some_begun old more new front back is parts = (length front, is ∙ ap (λ xs. old ++ xs) (sym (ap (take (length front)) parts ∙ take-append_seam front back)))
+some_begun old more new front back is parts = record {
+  stands = ap (take (length old)) is ∙ take_at old front (length old) refl;
+  beginning = rw parts (ap (take (length new)) (sym (append_assoc old front back) ∙ ap (λ xs. xs ++ back) (sym is)) ∙ take_at new back (length new) refl);
+}
 
 -- nothing was added
 pub none_begun : {A : Type 0} (old more new : List A) → new ≡ old → IsBegun old more new
@@ -19,12 +21,25 @@ none_begun old more new is = some_begun old more new [] more (is ∙ sym (append
 pub all_begun : {A : Type 0} (old more new : List A) → new ≡ old ++ more → IsBegun old more new
 all_begun old more new is = some_begun old more new more [] is (sym (append-nil more))
 
+-- what was added
+added_is : {A : Type 0} (old more new : List A) → IsBegun old more new → new ≡ old ++ drop (length old) new
+added_is old more new begun = sym (take-append-drop (length old) new) ∙ ap (λ xs. xs ++ drop (length old) new) begun.stands
+
+-- what was added, and what is left of what was to be added
+parts_of : {A : Type 0} (old more new : List A) → IsBegun old more new → more ≡ drop (length old) new ++ drop (length new) (old ++ more)
+parts_of old more new begun =
+    let left = drop (length new) (old ++ more) in
+    append_cancel_left old more (drop (length old) new ++ left)
+    (sym (take-append-drop (length new) (old ++ more)) ∙ ap (λ xs. xs ++ left) (begun.beginning ∙ added_is old more new begun) ∙ append_assoc old (drop (length old) new) left)
+
 -- a front of what was to be added was added, and then a beginning of what follows it
 pub then_begun : {A : Type 0} (old more mid new front next back : List A) → mid ≡ old ++ front → more ≡ front ++ (next ++ back) → IsBegun mid next new → IsBegun old more new
-then_begun old more mid new front next back is parts (k, begun) = some_begun old more new (front ++ take k next) (drop k next ++ back)
-    (begun ∙ ap (λ xs. xs ++ take k next) is ∙ append_assoc old front (take k next))
-    (parts ∙ ap (λ xs. front ++ (xs ++ back)) (sym (take-append-drop k next)) ∙ ap (λ xs. front ++ xs) (append_assoc (take k next) (drop k next) back)
-    ∙ sym (append_assoc front (take k next) (drop k next ++ back)))
+then_begun old more mid new front next back is parts begun =
+    let added = drop (length mid) new in
+    let left = drop (length new) (mid ++ next) in
+    some_begun old more new (front ++ added) (left ++ back)
+    (added_is mid next new begun ∙ ap (λ xs. xs ++ added) is ∙ append_assoc old front added)
+    (parts ∙ ap (λ xs. front ++ (xs ++ back)) (parts_of mid next new begun) ∙ ap (λ xs. front ++ xs) (append_assoc added left back) ∙ sym (append_assoc front added (left ++ back)))
 
 -- where more was to be added behind it
 pub begun_before : {A : Type 0} (old more back new : List A) → IsBegun old more new → IsBegun old (more ++ back) new

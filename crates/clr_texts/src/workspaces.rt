@@ -2,7 +2,6 @@
 ghost use Rattle.std.specs.Prelude.{◌≡◌, ◌++◌, [], true, IfOk, OnOk, unwrap_or};
 ghost use Rattle.clr_steps.specs.Offices.{stands};
 ghost use Rattle.clr_steps.specs.Readings.{parent_in};
-ghost use Rattle.clr_rows.specs.Beginnings.{IsBegun};
 ghost use Rattle.clr_texts.specs.Workspaces.{workspace_line, workspaces_text};
 
 use clr_engine::Office;
@@ -19,12 +18,10 @@ fn parent_name<'a>(office: &'a Office, name: &str) -> &'a str
     }
 }
 
-/// Adds the line of a workspace. It fails for want of memory alone; then what stood in the lines
-/// stands there, with a beginning of the line behind it.
+/// Adds the line of a workspace.
 fn add_workspace_line(lines: &mut Vec<u8>, office: &Office, name: &str) -> Result<(), AllocError>
     requires { stands office.now name.now ≡ true }
-    ensures ok { OnOk result (lines.new.items ≡ lines.old.items ++ workspace_line office.now name.now) }
-    ensures begun { IsBegun lines.old.items (workspace_line office.now name.now) lines.new.items }
+    ensures { OnOk result (lines.new.items ≡ lines.old.items ++ workspace_line office.now name.now) }
 {
     let changes = office.changes(name)?.unwrap();
     let conflicts = office.conflicts(name)?.unwrap();
