@@ -9,7 +9,7 @@ use Rattle.clr_spots.specs.declared.spots.Spot.{Spot}
 use Rattle.clr_audit.specs.declared.spot_maps.FiledPart.{FiledPart}
 use Rattle.clr_audit.specs.declared.role_index.RoleIndex.{RoleIndex}
 use Rattle.clr_rows.specs.Beginnings.{IsBegun}
-use Rattle.clr_rows.proofs.BeginningLaws.{some_begun, then_begun}
+use Rattle.clr_rows.proofs.BeginningLaws.{all_begun, none_begun, some_begun, then_begun}
 use Rattle.clr_audit.specs.Filing.{Filed, entries_at, near}
 use Rattle.clr_audit.specs.RoleFiling.{partners}
 
@@ -21,8 +21,8 @@ on_err (Err e) p = p
 module _ {X : Type 0} where
   -- one element was added, if there is to be one
   pub one_begun : (b : Bool) (old : List X) (x : X) (new : List X) → new ≡ cond b (old ++ x ∷ []) old → IsBegun old (cond b (x ∷ []) []) new
-  one_begun true old x new is = (1, is)
-  one_begun false old x new is = (0, is ∙ sym (append-nil old))
+  one_begun true old x new is = all_begun old (x ∷ []) new is
+  one_begun false old x new is = none_begun old [] new is
 
 module _ {X Y : Type 0} (f : Y → List X) where
   -- what is made of the first of some things, and of the others

@@ -1,11 +1,11 @@
 -- Lists that gain broken needs, one step after another.
-use Rattle.std.proofs.Common.{◌≡◌, ◌⊎◌, inl, inr, List, ◌++◌, Contains, drop, sym, subst, take}
-use Rattle.std.proofs.lemmas.List.{take-append-drop}
+use Rattle.std.proofs.Common.{◌≡◌, ◌⊎◌, inl, inr, List, ◌++◌, Contains, drop, length, sym, subst}
 use Rattle.clr_rules.specs.declared.needs.Broken.{Broken}
 use Rattle.clr_rules.specs.declared.rules.Rule.{Rule}
 use Rattle.clr_rows.specs.Held.{Held}
 use Rattle.clr_rules.proofs.Elements.{Among, among, contained, among_left, among_right, among_either}
 use Rattle.clr_rows.specs.Beginnings.{IsBegun}
+use Rattle.clr_rows.proofs.BeginningLaws.{added_is, parts_of}
 use Rattle.clr_audit.specs.Searches.{Gains, IsBrokenAmong}
 
 module _ (rules : List Rule) (rows : List Held) where
@@ -45,8 +45,10 @@ module _ (rules : List Rule) (rows : List Held) where
 
   -- a beginning of a list of broken needs is added
   pub gains_begun : (xs ys more : List Broken) → IsBegun xs more ys → ((b : Broken) → Among b more → IsBrokenAmong rules rows b) → Gains rules rows (λ b h. ⊥) xs ys
-  gains_begun xs ys more (k, is) each = gains_listed (λ b h. ⊥) xs ys (take k more) is
-      (λ b h. each b (subst (Among b) (take-append-drop k more) (among_left b (take k more) (drop k more) h)))
+  gains_begun xs ys more begun each =
+      let added = drop (length xs) ys in
+      gains_listed (λ b h. ⊥) xs ys added (added_is xs more ys begun)
+      (λ b h. each b (subst (Among b) (sym (parts_of xs more ys begun)) (among_left b added (drop (length ys) (xs ++ more)) h)))
       (λ b h w. absurd w)
 
   -- one step is made, and some of the next one

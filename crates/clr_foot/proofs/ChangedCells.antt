@@ -1,14 +1,14 @@
 -- The list of the cells that members change, read one set at a time.
-use Rattle.std.proofs.Common.{◌≡◌, ◌∙◌, ◌<◌, ◌≤◌, ◌+◌, ℕ, List, [], ◌∷◌, ◌++◌, Bor, drop, length, map, refl, sym, ap, append-nil, append_assoc, take}
+use Rattle.std.proofs.Common.{◌≡◌, ◌∙◌, ◌<◌, ◌≤◌, ◌+◌, ℕ, List, [], ◌∷◌, ◌++◌, Bor, drop, length, map, refl, sym, ap, append-nil, append_assoc}
 use Rattle.std.specs.FinMap as finite
 use Rattle.std.specs.List.{slice_index_or}
 use Rattle.std.proofs.Math.ListN.{drop_of_length-le}
 use Rattle.std.proofs.lemmas.List.{drop_more}
-use Rattle.std.proofs.Math.Seq.{take-append_seam}
 use Rattle.clr_rows.specs.declared.cells.CellId.{CellId}
 use Rattle.clr_rows.specs.declared.cells.Change.{Change}
 use Rattle.clr_rows.specs.Contents.{Changes}
 use Rattle.clr_rows.specs.Beginnings.{IsBegun}
+use Rattle.clr_rows.proofs.BeginningLaws.{some_begun}
 use Rattle.clr_needs.specs.Members.{changed_cells}
 use Rattle.clr_foot.proofs.Searches.{sets_of}
 
@@ -38,8 +38,7 @@ pub all_read : (old all cells : List CellId) → AreReadTo old all cells [] → 
 all_read old all cells (read, is, whole) = is ∙ ap (λ qs. old ++ qs) (sym (append-nil read) ∙ whole)
 
 pub some_read : (old all cells new : List CellId) (left : List (CellId × Change)) → new ≡ cells → AreReadTo old all cells left → IsBegun old all new
-some_read old all cells new left same (read, is, whole) =
-    (length read, same ∙ is ∙ ap (λ qs. old ++ qs) (sym (take-append_seam read (cells_of left)) ∙ ap (take (length read)) whole))
+some_read old all cells new left same (read, is, whole) = some_begun old all new read (cells_of left) (same ∙ is) (sym whole)
 
 -- the cells of the sets from a position on
 abbrev pub cells_left : List (Bor Changes) → ℕ → List CellId

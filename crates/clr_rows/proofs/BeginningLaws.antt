@@ -22,11 +22,11 @@ pub all_begun : {A : Type 0} (old more new : List A) → new ≡ old ++ more →
 all_begun old more new is = some_begun old more new more [] is (sym (append-nil more))
 
 -- what was added
-added_is : {A : Type 0} (old more new : List A) → IsBegun old more new → new ≡ old ++ drop (length old) new
+pub added_is : {A : Type 0} (old more new : List A) → IsBegun old more new → new ≡ old ++ drop (length old) new
 added_is old more new begun = sym (take-append-drop (length old) new) ∙ ap (λ xs. xs ++ drop (length old) new) begun.stands
 
 -- what was added, and what is left of what was to be added
-parts_of : {A : Type 0} (old more new : List A) → IsBegun old more new → more ≡ drop (length old) new ++ drop (length new) (old ++ more)
+pub parts_of : {A : Type 0} (old more new : List A) → IsBegun old more new → more ≡ drop (length old) new ++ drop (length new) (old ++ more)
 parts_of old more new begun =
     let left = drop (length new) (old ++ more) in
     append_cancel_left old more (drop (length old) new ++ left)
