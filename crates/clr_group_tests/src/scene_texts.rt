@@ -1,7 +1,7 @@
 //! What is said of a scene: how many needs involve each member, and the groups, each with how many needs are touched in its scene.
 
 ghost use Rattle.std.specs.Prelude.{map};
-ghost use Rattle.clr_foot.specs.Members.{AreApart};
+ghost use Rattle.clr_needs.specs.Members.{AreApart};
 ghost use Rattle.clr_foot.specs.Scenes.{IsReady, model_of, setting_of};
 ghost use Rattle.clr_groups.specs.Groups.{AreGroups};
 

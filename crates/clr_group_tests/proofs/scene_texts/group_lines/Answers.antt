@@ -1,6 +1,5 @@
 use Rattle.std.proofs.Common.{◌≡◌, ◌∙◌, ◌≤◌, ℕ, Global, List, Vec, Contains, ap, length, map, subst, sym}
-use Rattle.clr_foot.specs.Parts.{model_at}
-use Rattle.clr_foot.specs.Scenes.{IsReady, model_of, setting_of}
+use Rattle.clr_foot.specs.Scenes.{IsReady, model_at, model_of, setting_of}
 use Rattle.clr_foot.specs.Versions.{FitsSetting}
 use Rattle.clr_groups.proofs.GroupParts.{group_few, group_fits, group_ready, group_within}
 use Rattle.clr_plan.proofs.GroupNeedLaws.{mapped_contains}
