@@ -1,6 +1,8 @@
-use Rattle.std.proofs.Common.{List, rules, subst, sym}
+use Rattle.std.proofs.Common.{List, [], ◌∷◌, rules, subst, sym}
 use Rattle.std.specs.Vec.Iter.{into_iter_items}
+use Rattle.clr_rows.proofs.BeginningLaws.{all_begun, none_begun}
 use Rattle.clr_spots.specs.declared.spots.Spot.{Spot}
+use Rattle.clr_audit.specs.contracts.spot_maps.SpotMap as map_type
 use Rattle.clr_audit.specs.Filing.{Filed, IsPartlyFiled}
 use Rattle.clr_audit.proofs.Beginnings.{on_err, one_begun}
 use Rattle.clr_audit.proofs.MapLemmas.{IsFiledTo, filed_next, filed_some}
@@ -28,5 +30,25 @@ returns-in_err-file_at-clause-err c =
     on_err _ (subst (IsPartlyFiled old e xs c.args.spots.wide) (sym c.in_err-file_at.ensures.err) (record {
       by_spot = filed_some old.by_spot xs e c.loop-spot.self.by_spot (into_iter_items c.loop-spot.spot-iterator) c.loop-spot.invariant.so_far;
       wide = one_begun c.args.spots.wide old.wide e c.loop-spot.self.wide c.loop-spot.invariant.wide;
-      all = (1, c.loop-spot.invariant.all);
+      all = all_begun old.all (e ∷ []) c.loop-spot.self.all c.loop-spot.invariant.all;
     }))
+
+pub returns-in_err-push-clause-err : goal.returns-in_err-push-clause-err
+returns-in_err-push-clause-err c =
+    let filed : IsPartlyFiled c.args.self.now c.args.entry c.args.spots.list c.args.spots.wide
+        (map_type.the_view (record { by_spot = c.self.inside.by_spot; wide = c.self.inside.wide; all = c.push.new.self })) = record {
+      by_spot = (0, search rules);
+      wide = none_begun c.args.self.now.wide _ _ (search rules);
+      all = none_begun c.args.self.now.all _ _ (search rules);
+    } in
+    on_err _ filed
+
+pub returns-in_err-push-2-clause-err : goal.returns-in_err-push-2-clause-err
+returns-in_err-push-2-clause-err c =
+    let filed : IsPartlyFiled c.args.self.now c.args.entry c.args.spots.list c.args.spots.wide
+        (map_type.the_view (record { by_spot = c.self.inside.by_spot; wide = c.push-then-spots.new.self; all = c.push.new.self })) = record {
+      by_spot = (0, search rules);
+      wide = none_begun c.args.self.now.wide _ _ (search rules);
+      all = all_begun c.args.self.now.all _ _ (search rules);
+    } in
+    on_err _ filed
