@@ -1,21 +1,11 @@
-//! Tests of rows, segments and change sets, by their public calls.
+//! Tests of shapes, sheets, needs and the order of spots, by public calls.
 #![tactic(auto)]
 
 #[cfg(test)]
-mod answers;
+mod needs;
 #[cfg(test)]
-mod cases;
-#[cfg(test)]
-mod changes;
-#[cfg(test)]
-mod copies;
-#[cfg(test)]
-mod places;
-#[cfg(test)]
-mod schemas;
-#[cfg(test)]
-mod segments;
+mod shapes;
 #[cfg(test)]
 mod sheets;
 #[cfg(test)]
-mod texts;
+mod spot_order;
