@@ -1,7 +1,7 @@
 //! Certificates as they are read and written.
 
 use clr_cert::{CertFault, Certificate, Entry, read_certificate, write_certificate};
-use clr_foot::{Need, VersionId};
+use clr_needs::{Need, VersionId};
 use clr_rows::{CellId, Columns, Form, Schema, TableDef, Words};
 use std::alloc::{AllocError, Global};
 use std::test::Fail;

@@ -1,7 +1,7 @@
 //! Verdicts as lines.
 
 use clr_clearance::Verdict;
-use clr_foot::{Need, VersionId};
+use clr_needs::{Need, VersionId};
 use clr_rows::CellId;
 use clr_text_test_kit::{MAIN, NODE, ROUTE, are_lines, main_at, schema};
 use clr_verdict_lines::verdict_line;
