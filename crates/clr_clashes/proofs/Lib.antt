@@ -1,3 +1,6 @@
+mod Adding
 mod ClashLaws
+mod Kept
+mod ListedLaws
 mod Lists
 mod PartNeeds

@@ -8,6 +8,7 @@ use Rattle.clr_rules.specs.Needs.{Holds}
 use Rattle.clr_needs.specs.Members.{AreApart, setting}
 use Rattle.clr_needs.specs.Parts.{setting_at}
 use Rattle.clr_clashes.specs.Clashes.{HoldNoClash, LeavesNoneUncovered}
+use Rattle.clr_clashes.specs.ListedClashes.{AreSmallestClashes, HoldNoneOf, ListedClash}
 
 -- where every rule holds in the root and no cell is changed by two members, some of the members alone leave no touched need uncovered
 -- exactly where they hold none of the smallest clashes of all
@@ -18,3 +19,13 @@ ClashesDecideSubsets = (rules : List Rule) (root : Content) (sets : List Changes
     → IsStrictlySortedBy nat_cmp positions
     → ((k : ℕ) → Contains positions k → k < length sets)
     → LeavesNoneUncovered (setting_at rules root sets positions) ↔ HoldNoClash (setting rules root sets) positions
+
+-- so they do exactly where they hold none of a list of them
+abbrev pub ListedClashesDecideSubsets : Type 0
+ListedClashesDecideSubsets = (rules : List Rule) (root : Content) (sets : List Changes) (ks : List ListedClash) (positions : List ℕ)
+    → AreApart sets
+    → Holds rules (row_at root)
+    → AreSmallestClashes (setting rules root sets) ks
+    → IsStrictlySortedBy nat_cmp positions
+    → ((k : ℕ) → Contains positions k → k < length sets)
+    → LeavesNoneUncovered (setting_at rules root sets positions) ↔ HoldNoneOf ks positions

@@ -1,2 +1,4 @@
 pub mod Clashes
+pub mod Keeping
 pub mod Laws
+pub mod ListedClashes

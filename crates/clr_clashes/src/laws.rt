@@ -1,10 +1,16 @@
-//! The law of clashes, proved by a function that does nothing.
+//! The laws of clashes, each proved by a function that does nothing.
 
-ghost use Rattle.clr_clashes.specs.Laws.{ClashesDecideSubsets};
+ghost use Rattle.clr_clashes.specs.Laws.{ClashesDecideSubsets, ListedClashesDecideSubsets};
 
 /// Where every rule holds in the root and no cell is changed by two members, each touched need of
 /// some of the members is covered, in the scene of these alone, exactly where they hold none of the
 /// smallest clashes of all members: so these tell of each subset whether it is covered.
 pub fn clashes_decide_subsets()
     ensures { ClashesDecideSubsets }
+{}
+
+/// The same of a list of the smallest clashes: so one list tells of each subset of the members
+/// whether it is covered.
+pub fn listed_clashes_decide_subsets()
+    ensures { ListedClashesDecideSubsets }
 {}
