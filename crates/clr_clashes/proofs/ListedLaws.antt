@@ -7,15 +7,15 @@ use Rattle.std.specs.declared.cmp.Ordering.TheVariants.{Less, Equal, Greater}
 use Rattle.std.proofs.lemmas.List.{take_more}
 use Rattle.std.proofs.lemmas.List.Elements.{Contains-append_left, Contains-append_right}
 use Rattle.clr_rules.proofs.Elements.{Among, among, contained, each_of}
-use Rattle.clr_foot.specs.declared.needs.Need.{Need}
-use Rattle.clr_foot.specs.declared.needs.VersionId.{VersionId}
-use Rattle.clr_foot.specs.Covers.{CoverTogether, IsUncovered}
-use Rattle.clr_foot.specs.Needs.{AreOpposed, AreTouchedNeeds, IsPossible}
-use Rattle.clr_foot.specs.Orders.{need_cmp}
-use Rattle.clr_foot.specs.Picks.{HasBoth, IsPick, ServesAs}
-use Rattle.clr_foot.specs.Settings.{Setting, Lifetime, With, Without, Lived}
-use Rattle.clr_foot.proofs.Gaining.{all_taken, none_taken, one_more, read_in}
-use Rattle.clr_foot.proofs.NeedOrder.{need_exact, need_total}
+use Rattle.clr_needs.specs.declared.needs.Need.{Need}
+use Rattle.clr_needs.specs.declared.needs.VersionId.{VersionId}
+use Rattle.clr_needs.specs.Covers.{CoverTogether, IsUncovered}
+use Rattle.clr_needs.specs.Needs.{AreOpposed, AreTouchedNeeds, IsPossible}
+use Rattle.clr_needs.specs.Orders.{need_cmp}
+use Rattle.clr_needs.specs.Picks.{HasBoth, IsPick, ServesAs}
+use Rattle.clr_needs.specs.Settings.{Setting, Lifetime, With, Without, Lived}
+use Rattle.clr_needs.proofs.Reading.{all_taken, none_taken, one_more, read_in}
+use Rattle.clr_needs.proofs.NeedOrder.{need_exact, need_total}
 use Rattle.clr_clashes.specs.Clashes.{IsBrokenBy}
 use Rattle.clr_clashes.specs.Keeping.{IsNoted}
 use Rattle.clr_clashes.specs.Laws.{ListedClashesDecideSubsets}

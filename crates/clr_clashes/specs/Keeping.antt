@@ -1,10 +1,10 @@
 -- Of clashes that are found one after another, those that hold no other are kept.
 use Rattle.std.specs.Prelude.{◌≡◌, ◌==◌, ◌⊎◌, ℕ, Bool, not, List, [], ◌∷◌, ◌++◌, Option, Some, None, if◌then◌else◌}
 use Rattle.std.specs.List.{filter, list_all, list_any}
-use Rattle.clr_foot.specs.declared.needs.Need.{Need}
-use Rattle.clr_foot.specs.declared.needs.VersionId.{VersionId}
-use Rattle.clr_foot.specs.Picks.{Blocks, Picks}
-use Rattle.clr_foot.specs.Settings.{Setting}
+use Rattle.clr_needs.specs.declared.needs.Need.{Need}
+use Rattle.clr_needs.specs.declared.needs.VersionId.{VersionId}
+use Rattle.clr_needs.specs.Picks.{Blocks, Picks}
+use Rattle.clr_needs.specs.Settings.{Setting}
 use Rattle.clr_clashes.specs.ListedClashes.{ListedClash}
 
 -- all of one list are in another

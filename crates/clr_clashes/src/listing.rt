@@ -3,12 +3,13 @@
 
 ghost use Rattle.std.specs.Prelude.{◌≡◌, map, IfOk, OnOk};
 ghost use Rattle.std.specs.List.{list_any};
-ghost use Rattle.clr_foot.specs.Needs.{IsPossibleNeed};
+ghost use Rattle.clr_needs.specs.Needs.{IsPossibleNeed};
 ghost use Rattle.clr_foot.specs.Scenes.{IsReady, model_of, setting_of};
 ghost use Rattle.clr_clashes.specs.Keeping.{IsNoted, is_within, with_clash};
 ghost use Rattle.clr_clashes.specs.ListedClashes.{AreSmallestClashes, clash_of};
 
-use clr_foot::{Need, Scene};
+use clr_foot::Scene;
+use clr_needs::Need;
 use clr_grid::RowFinder;
 use clr_rows::RowView;
 use std::alloc::{AllocError, Global};

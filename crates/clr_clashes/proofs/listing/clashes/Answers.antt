@@ -1,8 +1,8 @@
 use Rattle.std.proofs.Common.{ap, get_or, map}
 use Rattle.clr_foot.specs.Scenes.{model_of, setting_of}
-use Rattle.clr_foot.proofs.BreakLaws.{touched_possible}
-use Rattle.clr_foot.proofs.Gaining.{read_of}
-use Rattle.clr_foot.proofs.NeedOrder.{unread}
+use Rattle.clr_needs.proofs.BreakLaws.{touched_possible}
+use Rattle.clr_needs.proofs.Reading.{read_of}
+use Rattle.clr_needs.proofs.NeedOrder.{unread}
 use Rattle.clr_clashes.specs.ListedClashes.{clash_of}
 use Rattle.clr_clashes.proofs.ListedLaws.{all_kept, none_kept_yet, one_noted}
 use Rattle.clr_clashes.proofs.listing.clashes.Goals as goal

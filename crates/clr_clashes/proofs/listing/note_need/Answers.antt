@@ -1,10 +1,10 @@
 use Rattle.std.proofs.Common.{◌≡◌, ℕ, List, None, OnOk, inr, map, subst}
 use Rattle.std.specs.declared.result.Result.{Result}
 use Rattle.std.specs.declared.result.Result.TheVariants.{Ok, Err}
-use Rattle.clr_foot.specs.declared.needs.Need.{Need}
-use Rattle.clr_foot.specs.Picks.{Blocks, Picks}
+use Rattle.clr_needs.specs.declared.needs.Need.{Need}
+use Rattle.clr_needs.specs.Picks.{Blocks, Picks}
 use Rattle.clr_foot.specs.Scenes.{model_of, setting_of}
-use Rattle.clr_foot.specs.Settings.{Setting}
+use Rattle.clr_needs.specs.Settings.{Setting}
 use Rattle.clr_clashes.specs.Keeping.{IsNoted, with_clash}
 use Rattle.clr_clashes.specs.ListedClashes.{ListedClash, clash_of}
 use Rattle.clr_clashes.proofs.listing.note_need.Goals as goal
