@@ -9,8 +9,8 @@ ghost use Rattle.clr_clashes.specs.Keeping.{IsNoted, is_within, with_clash};
 ghost use Rattle.clr_clashes.specs.ListedClashes.{AreSmallestClashes, clash_of};
 
 use clr_foot::Scene;
-use clr_needs::Need;
 use clr_grid::RowFinder;
+use clr_needs::Need;
 use clr_rows::RowView;
 use std::alloc::{AllocError, Global};
 
