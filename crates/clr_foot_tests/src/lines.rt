@@ -4,6 +4,7 @@ ghost use Rattle.clr_needs.specs.Needs.{IsPossibleNeed};
 ghost use Rattle.clr_foot.specs.Scenes.{IsReady, model_of, setting_of};
 
 use crate::memory::Memory;
+use clr_clashes::{Clash, clashes};
 use clr_foot::Scene;
 use clr_grid::RowFinder;
 use clr_needs::{Life, Need, VersionId};
@@ -114,7 +115,7 @@ fn need_line<V: RowView, F: RowFinder>(
 
 /// A line for each need that is touched, by calls that have this memory. It fails where memory makes
 /// a difference.
-pub(crate) fn need_lines<V: RowView, F: RowFinder>(
+fn need_lines<V: RowView, F: RowFinder>(
     alloc: Global,
     schema: &Schema,
     scene: &Scene<'_, V, F>,
@@ -132,4 +133,52 @@ pub(crate) fn need_lines<V: RowView, F: RowFinder>(
         lines.push_str(need_line(alloc, schema, scene, need, memory)?.as_str())?;
     }
     Ok(lines)
+}
+
+/// A smallest clash: its members; the rule of its need, and the subjects and their parts.
+fn clash_line<V: RowView, F: RowFinder>(
+    alloc: Global,
+    schema: &Schema,
+    scene: &Scene<'_, V, F>,
+    clash: &Clash,
+) -> Result<String, AllocError> {
+    let members = member_list(alloc, clash.members.as_slice())?;
+    let need = clash.need;
+    let subjects = one_or_two(alloc, need.first, need.second)?;
+    let subjects = version_list(alloc, schema, scene, subjects.as_slice())?;
+    format!(in alloc;
+        "clash{members} rule {} parts {} {}{subjects}\n",
+        need.rule, need.first_part, need.second_part
+    )
+}
+
+/// A line for each of the smallest clashes, by a call that has this memory.
+fn clash_lines<V: RowView, F: RowFinder>(
+    alloc: Global,
+    schema: &Schema,
+    scene: &Scene<'_, V, F>,
+    memory: &mut Memory,
+) -> Result<String, AllocError>
+    requires ready { IsReady F.settled (model_of V.content scene.now) }
+{
+    let mut lines = String::new(alloc);
+    let list = memory.answer(|| clashes(alloc, scene))?;
+    for clash in &list {
+        lines.push_str(clash_line(alloc, schema, scene, clash)?.as_str())?;
+    }
+    Ok(lines)
+}
+
+/// A line for each need that is touched, and for each of the smallest clashes.
+pub(crate) fn lines_of_scene<V: RowView, F: RowFinder>(
+    alloc: Global,
+    schema: &Schema,
+    scene: &Scene<'_, V, F>,
+    memory: &mut Memory,
+) -> Result<String, AllocError>
+    requires ready { IsReady F.settled (model_of V.content scene.now) }
+{
+    let needs = need_lines(alloc, schema, scene, memory)?;
+    let clashes = clash_lines(alloc, schema, scene, memory)?;
+    format!(in alloc; "{needs}{clashes}")
 }

@@ -34,6 +34,7 @@ const CODES: [SceneOver; 5] = [
         ],
         r#"rule 0 parts 1 1 main/1/old-0 main/30/new+1 served picked blocked 1
 rule 1 parts 1 1 main/1/new+0 main/2/old served node/9/old picked node/9/old blocked 0
+clash 1 rule 0 parts 1 1 main/1/old-0 main/30/new+1
 independent no
 "#,
     ),
@@ -44,6 +45,7 @@ independent no
 {"t":"main","k":41,"v":["C"],"s":[2,4,2,6]}"#,
         ],
         r#"rule 0 parts 1 1 main/2/old main/41/new+0 served picked blocked 0
+clash 0 rule 0 parts 1 1 main/2/old main/41/new+0
 independent
 "#,
     ),
@@ -67,6 +69,7 @@ const NODES: [SceneOver; 6] = [
         r#""#,
         &[r#"{"t":"node","k":9,"gone":true}"#],
         r#"rule 1 parts 1 1 main/1/old main/2/old served node/9/old-0 picked blocked 0
+clash 0 rule 1 parts 1 1 main/1/old main/2/old
 independent
 "#,
     ),
@@ -118,6 +121,7 @@ independent no
             r#"{"t":"node","k":11,"gone":true}"#,
         ],
         r#"rule 1 parts 1 1 main/1/old main/2/old served node/9/old-0 node/10/old-1 node/11/old-2 picked blocked 0 1 2
+clash 0 1 2 rule 1 parts 1 1 main/1/old main/2/old
 independent no no no
 "#,
     ),
@@ -153,6 +157,7 @@ independent
             r#"{"t":"hydrant","k":6,"gone":true}"#,
         ],
         r#"rule 2 parts 1 1 hydrant/6/old-1 served main/5/old-0 picked blocked 0
+clash 0 rule 2 parts 1 1 hydrant/6/old-1
 independent no
 "#,
     ),
@@ -173,6 +178,7 @@ independent no
             r#"{"t":"main","k":22,"v":["F"],"s":[150,5,250,5]}"#,
         ],
         r#"rule 1 parts 1 1 main/21/new+1 main/22/new+2 served picked blocked 1 2
+clash 1 2 rule 1 parts 1 1 main/21/new+1 main/22/new+2
 independent yes yes no
 "#,
     ),
@@ -195,6 +201,7 @@ const PATHS_CROSSING: [SceneOver; 2] = [
         TWO_NODES,
         &[r#"{"t":"node","k":31,"gone":true}"#],
         r#"rule 1 parts 3 1 main/20/old main/21/old served node/31/old-0 picked blocked 0
+clash 0 rule 1 parts 3 1 main/20/old main/21/old
 independent
 "#,
     ),

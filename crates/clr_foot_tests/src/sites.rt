@@ -8,7 +8,7 @@ ghost use Rattle.clr_steps.specs.Quiet.{Site};
 ghost use Rattle.clr_check.specs.SiteNames.{site};
 ghost use Rattle.clr_check.specs.Sites.{AreOfSite, AreParts, IsSceneOf};
 
-use crate::lines::need_lines;
+use crate::lines::lines_of_scene;
 use crate::memory::Memory;
 use crate::networks::{members, network};
 use clr_check::{SiteParts, read_site};
@@ -39,7 +39,8 @@ fn scene_of<'a>(
     })
 }
 
-/// A line for each need that the members of a site touch, or for the cell that two of them change.
+/// A line for each need that the members of a site touch and for each of their smallest clashes, or for
+/// the cell that two of them change.
 fn lines_of_parts(
     alloc: Global,
     office: &Office,
@@ -49,7 +50,7 @@ fn lines_of_parts(
     requires { AreOfSite office.now parts.now }
 {
     match parts.scene(alloc, office) {
-        Ok(scene) => need_lines(alloc, office.schema(), &scene, memory),
+        Ok(scene) => lines_of_scene(alloc, office.schema(), &scene, memory),
         Err(SceneFault::OutOfMemory) => Err(AllocError),
         Err(
             SceneFault::SharedCell {
@@ -201,7 +202,8 @@ fn independence(
     Ok(line)
 }
 
-/// A line for each need that children of LIVE touch, and which of them are independent.
+/// A line for each need that children of LIVE touch, for each of their smallest clashes, and which of
+/// them are independent.
 pub(crate) fn scene_lines(
     alloc: Global,
     office: &Office,

@@ -51,6 +51,7 @@ rule 1 parts 1 1 hydrant/5/old served main/3/old-1 main/3/new+1 picked main/3/ol
 rule 2 parts 1 1 duct/7/new+1 served picked blocked 1
 rule 3 parts 1 1 main/8/old duct/7/new+1 served picked blocked 1
 rule 3 parts 1 2 main/8/old duct/7/new+1 served picked blocked 1
+clash 1 rule 0 parts 1 1 main/3/new+1 main/4/new+1
 independent no yes no
 "#,
     ),
@@ -84,6 +85,8 @@ rule 4 parts 1 1 node/1/old hydrant/7/new+2 served picked blocked 2
 rule 4 parts 1 1 node/7/new+2 hydrant/7/new+2 served picked blocked 2
 rule 4 parts 1 1 node/8/old hydrant/7/new+2 served picked blocked 2
 rule 4 parts 1 1 node/10/new+1 hydrant/2/old-0 served picked blocked 1
+clash 2 rule 2 parts 1 1 duct/5/new+2
+clash 1 rule 4 parts 1 1 node/10/new+1 hydrant/2/old-0
 independent no no no
 "#,
     ),
@@ -114,6 +117,9 @@ rule 3 parts 1 1 main/1/new+1 duct/7/old served picked blocked 1
 rule 3 parts 1 1 main/4/new+1 duct/7/old served picked blocked 1
 rule 4 parts 1 1 node/6/old-0 hydrant/6/new+2 served picked blocked 2
 rule 4 parts 1 1 node/7/old hydrant/6/new+2 served picked blocked 2
+clash 1 rule 0 parts 1 1 main/1/new+1 main/4/new+1
+clash 2 rule 1 parts 1 1 hydrant/6/new+2
+clash 0 rule 1 parts 1 1 hydrant/7/new+0
 independent yes no yes
 "#,
     ),
@@ -140,6 +146,7 @@ rule 3 parts 1 3 main/3/old-1 duct/8/new+0 served picked blocked 0
 rule 3 parts 1 3 main/3/new+1 duct/8/new+0 served picked blocked 0 1
 rule 4 parts 1 1 node/1/old hydrant/6/new+0 served picked blocked 0
 rule 4 parts 1 1 node/5/old hydrant/6/new+0 served picked blocked 0
+clash 0 rule 2 parts 1 1 duct/8/new+0
 independent no yes yes
 "#,
     ),
@@ -173,6 +180,9 @@ rule 2 parts 1 1 duct/6/old served node/4/old-1 node/5/old-2 picked blocked 1 2
 rule 3 parts 1 1 main/1/new+2 duct/6/old served picked blocked 2
 rule 3 parts 1 2 main/1/new+2 duct/6/old served picked blocked 2
 rule 4 parts 1 1 node/3/new+1 hydrant/5/old served picked blocked 1
+clash 0 rule 0 parts 1 1 main/7/old main/11/new+0
+clash 1 rule 1 parts 1 1 hydrant/2/new+1
+clash 2 rule 3 parts 1 1 main/1/new+2 duct/6/old
 independent yes no no
 "#,
     ),
@@ -207,6 +217,9 @@ rule 3 parts 1 2 main/2/new+2 duct/6/new+1 served picked blocked 1 2
 rule 3 parts 1 1 main/12/new+0 duct/6/new+1 served picked blocked 0 1
 rule 3 parts 1 2 main/12/new+0 duct/6/new+1 served picked blocked 0 1
 rule 4 parts 1 1 node/1/old hydrant/9/new+0 served picked blocked 0
+clash 2 rule 0 parts 1 1 main/1/old main/2/new+2
+clash 1 rule 2 parts 1 1 duct/6/new+1
+clash 0 rule 4 parts 1 1 node/1/old hydrant/9/new+0
 independent no no no
 "#,
     ),
@@ -236,6 +249,9 @@ rule 2 parts 1 1 duct/1/new+0 served picked blocked 0
 rule 3 parts 1 1 main/3/new+2 duct/1/new+0 served picked blocked 0 2
 rule 3 parts 1 2 main/3/new+2 duct/1/new+0 served picked blocked 0 2
 rule 4 parts 1 1 node/1/old hydrant/1/new+1 served picked blocked 1
+clash 2 rule 0 parts 1 1 main/3/new+2 main/5/old
+clash 0 rule 2 parts 1 1 duct/1/new+0
+clash 1 rule 4 parts 1 1 node/1/old hydrant/1/new+1
 independent yes no no
 "#,
     ),
@@ -266,6 +282,8 @@ rule 3 parts 1 2 main/4/new+1 duct/5/new+2 served picked blocked 1 2
 rule 3 parts 1 1 main/9/new+0 duct/5/new+2 served node/3/old node/5/old picked node/3/old blocked 0 2
 rule 3 parts 1 2 main/9/new+0 duct/5/new+2 served picked blocked 0 2
 rule 4 parts 1 1 node/9/new+0 hydrant/8/old served picked blocked 0
+clash 0 rule 0 parts 1 1 main/4/old-1 main/9/new+0
+clash 2 rule 1 parts 1 1 hydrant/8/old
 independent no no no
 "#,
     ),
