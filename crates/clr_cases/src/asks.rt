@@ -6,17 +6,15 @@
 //! | `give` | what commands are answered all at once |
 //! | `check` | the verdict on a certificate |
 //! | `read` | with which fault the text of a certificate is read |
-//! | `written` | the text of a certificate, written again |
-//! | `office` | the office, written as a text |
 //! | `plan ROOT NAME..` | a plan; where it is cleared, its certificate is the text |
 //! | `cleared` | what commands are answered under a certificate, and the rows of the root after them |
 //! | `where clear` | what commands are answered all at once, where a certificate is clear, and the rows of LIVE |
 //! | `office after` | what commands are answered under a certificate, where they leave the office of a text |
 
 use crate::cases::Case;
-use crate::checks::{check_line, fault_line, written_lines};
+use crate::checks::{check_line, fault_line};
 use crate::plans::plan_lines;
-use crate::runs::{cleared_lines, lines_where_clear, lines_with_office, office_line};
+use crate::runs::{cleared_lines, lines_where_clear, lines_with_office};
 use crate::steps::script_lines;
 use clr_engine::Office;
 use clr_trials::replies_to;
@@ -31,8 +29,6 @@ pub fn answer(alloc: Global, office: &mut Office, text: &str, case: &Case<'_>) -
         "give" => replies_to(alloc, office, asked),
         "check" => check_line(alloc, office, asked),
         "read" => fault_line(alloc, office, asked),
-        "written" => written_lines(alloc, office, asked),
-        "office" => office_line(alloc, office),
         "cleared" => cleared_lines(alloc, office, asked),
         "where clear" => lines_where_clear(alloc, office, asked),
         "office after" => lines_with_office(alloc, office, (text, case.script), asked),

@@ -1,6 +1,6 @@
 //! What is said of certificates in an office, as lines.
 
-use clr_cert::{read_certificate, write_certificate};
+use clr_cert::read_certificate;
 use clr_check::check;
 use clr_clearance_trials::{certificate_of, line_of};
 use clr_engine::Office;
@@ -18,10 +18,4 @@ pub fn fault_line(alloc: Global, office: &Office, text: &str) -> Option<Vec<u8>>
     let (number, fault) = read_certificate(alloc, office.schema(), text.as_bytes()).err()?;
     let line = format!(in alloc; "{fault:?} at {number}\n").ok()?;
     Vec::from_slice(alloc, line.as_bytes()).ok()
-}
-
-/// The text of a certificate, written again.
-pub fn written_lines(alloc: Global, office: &Office, text: &str) -> Option<Vec<u8>> {
-    let certificate = certificate_of(alloc, office.schema(), text)?;
-    write_certificate(alloc, office.schema(), &certificate).ok()
 }

@@ -1,18 +1,15 @@
-//! Runs the cases of the files that `index` names, and the tables of those that `tables` names, each line of which is a case. Prints
-//! those that are answered otherwise, and how many were run. How a case is written stands in src/cases.rt, what it can ask in
-//! src/asks.rt, and how a table is written in src/tables.rt.
+//! Runs the cases of the files that `index` names, and prints those that are answered otherwise, and how many were run. How a
+//! case is written stands in src/cases.rt, and what it can ask in src/asks.rt.
 #![tactic(auto)]
 
 mod asks;
 mod cases;
 mod checks;
-mod drafts;
 mod offices;
 mod plans;
 mod reports;
 mod runs;
 mod steps;
-mod tables;
 
 use asks::answer;
 use cases::{Case, OfficeText, case_of};
@@ -21,23 +18,12 @@ use std::alloc::Global;
 use std::fs::read_to_string;
 use std::io::Result as IoResult;
 use std::process::ExitCode;
-use tables::is_right;
 
 /// How many cases were run, and how many of them were answered otherwise.
 #[derive(Clone, Copy, Drop)]
 struct Counts {
     cases: u32,
     differ: u32,
-}
-
-impl Counts {
-    /// Counts a case.
-    fn count(&mut self, is_so: bool) {
-        self.cases = self.cases.saturating_add(1);
-        if !is_so {
-            self.differ = self.differ.saturating_add(1);
-        }
-    }
 }
 
 /// The lines that a case is answered over the text of its office; none where its script isn't done, or it can't be asked.
@@ -85,59 +71,36 @@ fn is_so(rt: &HostRuntime, file: &str, case: &Case<'_>) -> IoResult<bool> {
 fn run_file(rt: &HostRuntime, file: &str, counts: &mut Counts) -> IoResult<()> {
     let text = read_to_string(rt, file)?;
     for part in text.as_str().split("== case ").skip(1) {
+        counts.cases = counts.cases.saturating_add(1);
         let is_so = match case_of(part) {
             Some(case) => is_so(rt, file, &case)?,
             None => {
-                println!(rt; "{file}: a part is missing behind case {}", counts.cases)?;
+                println!(rt; "{file}: a part of case {} is missing", counts.cases)?;
                 false
             }
         };
-        counts.count(is_so);
-    }
-    Ok(())
-}
-
-/// Runs the cases of all files.
-fn run_files(rt: &HostRuntime, counts: &mut Counts) -> IoResult<()> {
-    let index = read_to_string(rt, "index")?;
-    for file in index.as_str().split_whitespace() {
-        run_file(rt, file, counts)?;
-    }
-    Ok(())
-}
-
-/// Runs the lines of a table, which is about this.
-fn run_table(rt: &HostRuntime, about: &str, file: &str, counts: &mut Counts) -> IoResult<()> {
-    let text = read_to_string(rt, file)?;
-    for line in text.as_str().lines() {
-        if !line.is_empty() && !line.starts_with("#") {
-            let is_so = is_right(rt.alloc(), about, line);
-            if !is_so {
-                println!(rt; "{file}: it is answered otherwise: {line}")?;
-            }
-            counts.count(is_so);
+        if !is_so {
+            counts.differ = counts.differ.saturating_add(1);
         }
     }
     Ok(())
 }
 
-/// Runs all tables.
-fn run_tables(rt: &HostRuntime, counts: &mut Counts) -> IoResult<()> {
-    let list = read_to_string(rt, "tables")?;
-    for line in list.as_str().lines() {
-        let (about, file) = line.split_once(" ").unwrap_or(("", line));
-        run_table(rt, about, file, counts)?;
-    }
-    Ok(())
-}
-
-fn main(rt: HostRuntime) -> IoResult<ExitCode> {
+/// Runs the cases of all files.
+fn run_files(rt: &HostRuntime, index: &str) -> IoResult<Counts> {
     let mut counts = Counts {
         cases: 0,
         differ: 0,
     };
-    run_files(&rt, &mut counts)?;
-    run_tables(&rt, &mut counts)?;
+    for file in index.split_whitespace() {
+        run_file(rt, file, &mut counts)?;
+    }
+    Ok(counts)
+}
+
+fn main(rt: HostRuntime) -> IoResult<ExitCode> {
+    let index = read_to_string(&rt, "index")?;
+    let counts = run_files(&rt, index.as_str())?;
     println!(rt; "{} cases, {} differ", counts.cases, counts.differ)?;
     Ok(ExitCode::from(u8::from(counts.differ > 0)))
 }

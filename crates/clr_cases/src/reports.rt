@@ -1,8 +1,7 @@
 //! Reports of scripts as lines, by the calls that show what an office has.
 
-use clr_audit::audit;
 use clr_engine::Office;
-use clr_lines::{audit_lines, changes_lines, conflicts_lines, rows_lines};
+use clr_lines::{changes_lines, conflicts_lines, rows_lines};
 use clr_rows::{Sheet, Words};
 use clr_scripts::Word;
 use clr_trials::picture;
@@ -48,17 +47,6 @@ fn conflicts_of(alloc: Global, office: &Office, name: &str) -> Option<Vec<u8>> {
     }
 }
 
-/// The broken needs of LIVE or a workspace.
-fn audit_of(alloc: Global, office: &Office, name: &str) -> Option<Vec<u8>> {
-    match office.rows(name).ok()? {
-        Some(rows) => {
-            let needs = audit(alloc, office.book(), &rows).ok()?;
-            audit_lines(alloc, office.schema(), needs.as_slice()).ok()
-        }
-        None => unknown(alloc),
-    }
-}
-
 /// LIVE or a workspace: its name, its parent, how many entries are stored, and whether it is kept.
 fn workspace_line(alloc: Global, office: &Office, name: &str) -> Option<String> {
     let parent = office.parent_of(name).unwrap_or("nothing");
@@ -86,7 +74,6 @@ fn lines_of(alloc: Global, office: &Office, word: Word, name: &str) -> Option<Ve
         Word::Show => rows_of(alloc, office, name),
         Word::Changes => changes_of(alloc, office, name),
         Word::Conflicts => conflicts_of(alloc, office, name),
-        Word::Audit => audit_of(alloc, office, name),
         _ => None,
     }
 }

@@ -57,13 +57,6 @@ pub fn lines_where_clear(alloc: Global, office: &mut Office, asked: &str) -> Opt
     replies_where_clear(alloc, office, certificate, commands)
 }
 
-/// The office as a text, and a line end.
-pub fn office_line(alloc: Global, office: &Office) -> Option<Vec<u8>> {
-    let mut line = write_office(alloc, office).ok()?;
-    line.push(b'\n').ok()?;
-    Some(line)
-}
-
 /// What commands are answered under a certificate, in the office of a text and of the script before, where they leave the office
 /// of another text. Certificate, commands and that text are parted by lines `--`; without it the office stays as it was.
 pub fn lines_with_office(

@@ -1,11 +1,21 @@
-//! Tests of shapes, sheets, needs and the order of spots, by public calls.
+//! Tests of rows, segments and change sets, by their public calls.
 #![tactic(auto)]
 
 #[cfg(test)]
-mod needs;
+mod answers;
 #[cfg(test)]
-mod shapes;
+mod cases;
+#[cfg(test)]
+mod changes;
+#[cfg(test)]
+mod copies;
+#[cfg(test)]
+mod places;
+#[cfg(test)]
+mod schemas;
+#[cfg(test)]
+mod segments;
 #[cfg(test)]
 mod sheets;
 #[cfg(test)]
-mod spot_order;
+mod texts;

@@ -1,18 +1,15 @@
-//! Tests of the texts that are read and written: edits, scripts, office texts and certificates, and lines of replies, reports,
-//! verdicts and plans, by public calls.
+//! Tests of the texts that are read: edits, scripts, office texts and command lines, by public calls.
 #![tactic(auto)]
 
 #[cfg(test)]
-mod certificates;
+mod command_lines;
 #[cfg(test)]
-mod lines;
+mod office_texts;
 #[cfg(test)]
-mod plan_lines;
+mod questions;
 #[cfg(test)]
-mod report_lines;
+mod script_cases;
+#[cfg(test)]
+mod scripts;
 #[cfg(test)]
 mod texts;
-#[cfg(test)]
-mod two_texts;
-#[cfg(test)]
-mod verdict_lines;

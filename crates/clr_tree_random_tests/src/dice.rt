@@ -1,0 +1,25 @@
+ghost use Rattle.std.specs.Prelude.{◌<◌};
+
+/// Throws of dice, the same ones from the same seed.
+#[derive(Clone, Copy)]
+pub(crate) struct Dice {
+    state: u64,
+}
+
+impl Dice {
+    pub(crate) fn new(seed: u64) -> Dice {
+        Dice { state: seed }
+    }
+
+    /// A number below the count of sides.
+    pub(crate) fn throw(&mut self, sides: u64) -> u64
+        requires { 0 < sides }
+        ensures { result < sides }
+    {
+        self.state = self
+            .state
+            .wrapping_mul(6_364_136_223_846_793_005)
+            .wrapping_add(1_442_695_040_888_963_407);
+        (self.state >> 33) % sides
+    }
+}
