@@ -36,7 +36,7 @@ returns-in_err-file_at-clause-err c =
 pub returns-in_err-push-clause-err : goal.returns-in_err-push-clause-err
 returns-in_err-push-clause-err c =
     let filed : IsPartlyFiled c.args.self.now c.args.entry c.args.spots.list c.args.spots.wide
-        (map_type.the_view (record { by_spot = c.self.inside.by_spot; wide = c.self.inside.wide; all = c.push.new.self })) = record {
+    (map_type.the_view (record { by_spot = c.self.inside.by_spot; wide = c.self.inside.wide; all = c.push.new.self })) = record {
       by_spot = (0, search rules);
       wide = none_begun c.args.self.now.wide _ _ (search rules);
       all = none_begun c.args.self.now.all _ _ (search rules);
@@ -46,7 +46,7 @@ returns-in_err-push-clause-err c =
 pub returns-in_err-push-2-clause-err : goal.returns-in_err-push-2-clause-err
 returns-in_err-push-2-clause-err c =
     let filed : IsPartlyFiled c.args.self.now c.args.entry c.args.spots.list c.args.spots.wide
-        (map_type.the_view (record { by_spot = c.self.inside.by_spot; wide = c.push-then-spots.new.self; all = c.push.new.self })) = record {
+    (map_type.the_view (record { by_spot = c.self.inside.by_spot; wide = c.push-then-spots.new.self; all = c.push.new.self })) = record {
       by_spot = (0, search rules);
       wide = none_begun c.args.self.now.wide _ _ (search rules);
       all = all_begun c.args.self.now.all _ _ (search rules);
