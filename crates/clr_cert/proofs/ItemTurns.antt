@@ -25,7 +25,7 @@ together rooted front c = record { root = cond rooted front.root c.root; members
 abbrev pub after : Bool → Certificate → Result Certificate (ℕ × CertFault) → Result Certificate (ℕ × CertFault)
 after rooted front read = read >>= λ c. Ok (together rooted front c)
 
--- behind a root record there is none
+-- behind a root record there is no other
 root_or_not : (a b c d : Bool) (name : Option (List ℕ)) (entry : Option Entry) (item : Item)
     → cond a (cond b (Err fault.BadReference) (cond c (or_fault fault.BadReference (option_map Member name)) (cond d (or_fault fault.BadReference (option_map Need entry)) (Err fault.BadKind)))) (Err fault.FieldCount) ≡ Ok item → is_root item ≡ false
 root_or_not false b c d name entry item e = absurd cc
@@ -80,7 +80,7 @@ fails_so fault.FieldCount n read total so h = so fault.FieldCount h
 fails_so fault.BadKind n read total so h = so fault.BadKind h
 fails_so fault.BadReference n read total so h = so fault.BadReference h
 
--- the fault of a record is that of the whole
+-- the fault of a record is that of the whole text
 pub stops : (tables : List TableDef) (e : CertFault) (rooted : Bool) (front : Certificate) (n : ℕ) (rows : List Row) (i : ℕ) (row : Row) (total : Result Certificate (ℕ × CertFault)) → i < length rows → row ≡ get_or rows i row → Fails e (item_of tables rooted (fields_of row))
     → after rooted front (certificate_from tables rooted n (map fields_of (drop i rows))) ≡ total → FailsAt (numbered_fault n e).0 (numbered_fault n e).1 total
 stops tables e rooted front n rows i row total lt is h so_far =

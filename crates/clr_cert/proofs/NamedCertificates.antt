@@ -25,7 +25,7 @@ use Rattle.clr_cert.specs.Certificates.{certificate_from, certificate_of, is_liv
 use Rattle.clr_cert.specs.Texts.{IsNamed, IsWellFormed, IsWellFormedEntry, IsPart}
 use Rattle.clr_cert.specs.Versions.{cell_and_rest, cut_of, entry_of, fresh_of, if_named, is_empty, part_behind, part_of, rule_of, second_of, subject_of, two_of, version_of, word_and_part}
 
--- what follows from each step of a reading, and so from the whole
+-- what follows from each step of a reading follows from the whole
 then_so : {A B G : Type 0} (o : Option A) (f : A → Option B) (y : B) → ((x : A) → o ≡ Some x → f x ≡ Some y → G) → option_and_then f o ≡ Some y → G
 then_so None f y so e = absurd cc
 then_so (Some x) f y so e = so x refl e

@@ -37,7 +37,7 @@ item_by_word tables rooted fields =
     else (if bytes_eq (field_of fields 0) (codes "need") then or_fault BadReference (option_map Need (entry_of tables fields))
     else Err BadKind))
 
--- the count of fields, then the first field, and then the others
+-- what a record says: the count of fields is tested first, then the first field, and then the others
 unfoldable pub item_of : List TableDef → Bool → List (List ℕ) → Result Item CertFault
 item_of tables rooted fields = if length fields == RECORD_FIELDS then item_by_word tables rooted fields else Err FieldCount
 
@@ -58,7 +58,7 @@ with_next c (Root name) = record c { root = name }
 with_next c (Member name) = record c { members = c.members ++ name ∷ [] }
 with_next c (Need entry) = record c { entries = c.entries ++ entry ∷ [] }
 
--- what no record says
+-- the certificate of no record
 abbrev pub nothing_said : Certificate
 nothing_said = record { root = live_name; members = []; entries = [] }
 

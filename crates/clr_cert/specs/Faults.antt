@@ -16,7 +16,7 @@ abbrev pub Gives : {A : Type 0} → Result A CertFault → Result A CertFault �
 Gives (Ok x) read = read ≡ Ok x
 Gives (Err e) read = Fails e read
 
--- the same with the number of a record beside the fault, 0 where memory ran out
+-- a fault with the number of its record is the fault of what is read, unless memory ran out, with number 0
 abbrev pub FailsAt : {A : Type 0} → ℕ → CertFault → Result A (ℕ × CertFault) → Type 0
 FailsAt n OutOfMemory read = n ≡ 0
 FailsAt n NotCsv read = read ≡ Err (n, NotCsv)

@@ -110,6 +110,6 @@ pub record IsReadBack (tables : List TableDef) (e : Entry) : Type 0 where
   pub ascii : AllByRecursion IsAscii (entry_fields tables e)
   pub entry : entry_of tables (entry_fields tables e) ≡ Some e
 
--- so it is where the schema names the cells of the entry, and its parts are parts of a path
+-- the record of an entry is read back where the schema names the cells of the entry, and its parts are parts of a path
 abbrev pub IsReadBackWhereNamed : List TableDef → Entry → Type 0
 IsReadBackWhereNamed tables e = IsWellFormedEntry tables e → IsReadBack tables e

@@ -41,7 +41,7 @@ cell_and_rest tables text = do
   cell ← if_named tables (record { table = table; key = key })
   Some (cell, numbered.1)
 
--- the old version of a row, or the new one
+-- whether a word says the new version of a row, or the old one, or neither
 abbrev pub fresh_of : List ℕ → Option Bool
 fresh_of word =
     if bytes_eq word (codes "old") then Some false
@@ -79,7 +79,7 @@ subject_of tables text = do
 abbrev pub is_empty : List ℕ → Bool
 is_empty text = length text == 0
 
--- a second subject, or none, with part 1 then
+-- a second subject with its part, or none, with part 1
 abbrev pub second_of : List TableDef → List ℕ → Option (Option VersionId × ℕ)
 second_of tables text = if is_empty text then Some (None, 1) else option_map (λ subject. (Some subject.0, subject.1)) (subject_of tables text)
 

@@ -1,3 +1,5 @@
+//! Certificates, and their entries.
+
 ghost use Rattle.std.specs.Prelude.{◌≡◌, ◌++◌, ◌∷◌, [], OnOk, OnErr, IfErr};
 
 use clr_needs::{Need, VersionId};
@@ -30,29 +32,29 @@ impl Model for Entries {
 }
 
 impl Entries {
-    /// The entries of this list.
+    /// Returns the entries of this list.
     pub fn new(list: Vec<Entry>) -> Entries
         ensures { result ≡ list.items }
     {
         Entries { list }
     }
 
-    /// The entries as a slice.
+    /// Returns the entries as a slice.
     pub fn as_slice(&self) -> &[Entry]
         ensures { result.now ≡ self.now }
     {
         self.list.as_slice()
     }
 
-    /// The list back again.
+    /// Returns the underlying list.
     pub fn into_vec(self) -> Vec<Entry>
         ensures { result.items ≡ self }
     {
         self.list
     }
 
-    /// Adds an entry behind the others. It fails for want of memory alone, and then it changes
-    /// nothing and gives the entry back.
+    /// Adds an entry behind the others. If memory runs out, nothing changes, and the error gives
+    /// the entry back.
     pub(crate) fn push(&mut self, entry: Entry) -> Result<(), AllocFailed<Entry>>
         ensures ok { OnOk result (self.new ≡ self.old ++ entry ∷ []) }
         ensures err { OnErr result (self.new ≡ self.old) }
@@ -63,8 +65,8 @@ impl Entries {
 }
 
 /// What somebody claims of a set of members: that they are children of the root, which is LIVE or
-/// another kept workspace, and that the entries cover each need that merging them touches. Nothing
-/// that it says is taken for true.
+/// another kept workspace, and that the entries cover each need that merging them touches. None of
+/// it is taken to be true.
 #[derive(Debug, Drop)]
 pub struct Certificate {
     pub root: Words,

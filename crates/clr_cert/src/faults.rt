@@ -1,22 +1,24 @@
+//! Why a certificate can't be read.
+
 ghost use Rattle.std.specs.Prelude.{◌≡◌};
 ghost use Rattle.clr_cert.specs.Faults.{numbered_fault};
 ghost use Rattle.clr_cert.specs.declared.faults.CertFault.TheVariants as fault;
 
 use std::alloc::{AllocError, AllocFailed};
 
-/// Why a record of a certificate can't be read; the first that applies.
+/// Why a record of a certificate can't be read: the first reason that applies.
 #[derive(Clone, Copy, Debug, PartialEq, Eq)]
 pub enum CertFault {
-    /// No memory was found. It may come in place of any other answer.
+    /// No memory was found. This fault may come in place of any other answer.
     OutOfMemory = 0,
     /// The bytes aren't UTF-8.
     NotCsv = 1,
-    /// A record hasn't six fields.
+    /// A record with another number of fields than six.
     FieldCount = 2,
     /// A record begins with none of the three words.
     BadKind = 3,
-    /// A name, a rule, a subject or a witness that can't be, a field that must be empty and isn't,
-    /// or a root that LIVE's name or an earlier record forbids.
+    /// A name, a rule, a subject or a witness of a form that isn't allowed, a field that must be
+    /// empty and isn't, a root record that names LIVE, or a second root record.
     BadReference = 4,
 }
 
@@ -36,7 +38,7 @@ impl<T: Drop> From<AllocFailed<T>> for CertFault {
     }
 }
 
-/// A fault beside the number of its record, or 0 where no memory was found.
+/// Returns a fault beside the number of its record; beside 0 where no memory was found.
 pub(crate) fn numbered_fault(number: usize, fault: CertFault) -> (usize, CertFault)
     ensures { result ≡ numbered_fault number fault }
 {

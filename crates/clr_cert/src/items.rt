@@ -1,3 +1,5 @@
+//! What one record of a certificate says.
+
 ghost use Rattle.std.specs.Prelude.{◌≡◌, IfOk, option_map};
 ghost use Rattle.csv.specs.Records.{fields_of};
 ghost use Rattle.clr_cert.specs.Certificates.{is_empty_behind, is_root, item_by_word, item_of, name_of, root_of};
@@ -28,7 +30,7 @@ impl Item {
     }
 }
 
-/// Whether the fields of a record behind its name are empty.
+/// Returns whether all fields of a record behind its name are empty.
 fn ends_empty(fields: &StringRecord) -> bool
     ensures { result ≡ is_empty_behind (fields_of fields.now) }
 {
@@ -38,7 +40,7 @@ fn ends_empty(fields: &StringRecord) -> bool
         && field(fields, 5).is_empty()
 }
 
-/// The name in a record whose fields behind it are empty.
+/// Returns the name in a record, if it is good and the fields behind it are empty.
 fn name(fields: &StringRecord) -> Option<&str>
     ensures { option_map (λ name. name.now) result ≡ name_of (fields_of fields.now) }
 {
@@ -46,7 +48,8 @@ fn name(fields: &StringRecord) -> Option<&str>
     (good_name(name) && ends_empty(fields)).then_some(name)
 }
 
-/// The root that a record names; `rooted` where a root record stands before it.
+/// Returns the root that a record names, if it may name one. `rooted` says whether a root record
+/// stands before it.
 fn root(rooted: bool, fields: &StringRecord) -> Option<&str>
     ensures { option_map (λ name. name.now) result ≡ root_of rooted (fields_of fields.now) }
 {
@@ -59,14 +62,15 @@ fn root(rooted: bool, fields: &StringRecord) -> Option<&str>
     name(fields)
 }
 
-/// A name as a text of its own.
+/// Returns a copy of a name.
 fn words(alloc: Global, name: &str) -> Result<Words, AllocError>
     ensures { IfOk result (λ words. words ≡ name.now) }
 {
     Ok(Words::new(String::from_str(alloc, name)?))
 }
 
-/// What a record of the right count of fields says; `rooted` where a root record stands before it.
+/// Returns what a record of the right count of fields says. `rooted` says whether a root record
+/// stands before it.
 fn item_of_six(
     alloc: Global,
     schema: &Schema,
@@ -92,7 +96,7 @@ fn item_of_six(
     }
 }
 
-/// What a record says; `rooted` where a root record stands before it.
+/// Returns what a record says. `rooted` says whether a root record stands before it.
 #[tactic(auto, unfolding(crate::specs::Certificates::item_of))]
 pub(crate) fn read_item(
     alloc: Global,

@@ -1,3 +1,5 @@
+//! The limits of certificates.
+
 use clr_rows::MOST_VERTICES;
 
 /// The greatest number of a part: that of the last part of a path of the most vertices.

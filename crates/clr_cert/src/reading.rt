@@ -1,3 +1,5 @@
+//! Reading certificates.
+
 ghost use Rattle.std.specs.Prelude.{◌≡◌, IfErr, IfOk, OnErr, OnOk, map};
 ghost use Rattle.csv.specs.Records.{fields_of};
 ghost use Rattle.clr_cert.specs.Certificates.{certificate_in, certificate_of, nothing_said, with_next};
@@ -13,7 +15,7 @@ use clr_rows::{LIVE, Names, Schema, Words};
 use csv::StringRecord;
 use std::alloc::{AllocError, Global};
 
-/// The certificate of no record.
+/// Returns the certificate that no record makes: its root is LIVE, without members and entries.
 fn empty(alloc: Global) -> Result<Certificate, AllocError>
     ensures { IfOk result (λ certificate. certificate ≡ nothing_said) }
 {
@@ -24,7 +26,7 @@ fn empty(alloc: Global) -> Result<Certificate, AllocError>
     })
 }
 
-/// Adds what the next record says. It fails for want of memory alone, and changes nothing then.
+/// Adds what the next record says. It fails only with `OutOfMemory`, and then nothing changes.
 fn add(certificate: &mut Certificate, item: Item) -> Result<(), CertFault>
     ensures ok { OnOk result (certificate.new ≡ with_next certificate.old item) }
     ensures err { IfErr result (λ e. e ≡ fault.OutOfMemory) }
@@ -38,7 +40,7 @@ fn add(certificate: &mut Certificate, item: Item) -> Result<(), CertFault>
     Ok(())
 }
 
-/// The certificate of all records.
+/// Returns the certificate of all records.
 fn read_records(
     alloc: Global,
     schema: &Schema,
@@ -63,22 +65,22 @@ fn read_records(
     Ok(certificate)
 }
 
-/// Reads a certificate, a CSV record of six fields each, in any order: `root,NAME,,,,` at most
-/// once and never with LIVE, `member,NAME,,,,`, and `need,RULE,FIRST,SECOND,ONE,TWO` with a rule's
+/// Reads a certificate, a CSV record of six fields each, in any order: `root,NAME,,,,` at most once
+/// and never with LIVE, `member,NAME,,,,`, and `need,RULE,FIRST,SECOND,ONE,TWO` with a rule's
 /// number, one or two subjects and one or two witnesses. A version is `TABLE/KEY/old` or
-/// `TABLE/KEY/new`; behind a subject `/` and the number of its part follow where that is above 1.
+/// `TABLE/KEY/new`. Behind a subject `/` and the number of its part follow where that is above 1.
 /// Without a root record the root is LIVE. Members stand in the order of their records, and so do
-/// entries; nothing is asked of them beyond this form. What is read can be written. A fault is that
-/// of the first record that has one, beside the record's number from 1; in each record the count
-/// of fields is tested first, then the first field, and then the others.
+/// entries; nothing is asked of them beyond this form. What is read can be written. The fault is
+/// that of the first record that has one, beside the record's number, counted from 1. In each
+/// record the count of fields is tested first, then the first field, and then the others.
 ///
-/// Fails with `NotCsv` at 1 where the bytes aren't UTF-8, with `FieldCount` where a record hasn't six
-/// fields, with `BadKind` where the first field is none of `root`, `member` and `need`, and with
-/// `BadReference` where a name isn't good, a field that must be empty isn't, a root record is the
-/// second or names LIVE, a rule isn't a number from 0 to 65,535, a version is of another form, of a
-/// table that the schema hasn't or of a key outside 1 to 999,999,999,999,999, a part is outside 2 to
-/// 31 or stands behind a witness, or a number isn't decimal in its one form. Want of memory is
-/// `OutOfMemory` at 0, which may come in place of any other answer.
+/// Fails with `NotCsv` at 1 where the bytes aren't UTF-8, with `FieldCount` where a record hasn't
+/// six fields, with `BadKind` where the first field is none of `root`, `member` and `need`, and
+/// with `BadReference` where a name isn't good, a field that must be empty isn't, a root record is
+/// the second or names LIVE, a rule isn't a number from 0 to 65,535, a version is of another form,
+/// of a table that the schema hasn't or of a key outside 1 to 999,999,999,999,999, a part is
+/// outside 2 to 31 or stands behind a witness, or a number isn't decimal in its one form. Fails
+/// with `OutOfMemory` at 0 if memory runs out, which may come in place of any other answer.
 pub fn read_certificate(
     alloc: Global,
     schema: &Schema,

@@ -1,3 +1,5 @@
+//! The versions, the subjects and the needs that fields name.
+
 ghost use Rattle.std.specs.Prelude.{◌≡◌, option_map};
 ghost use Rattle.csv.specs.Records.{fields_of};
 ghost use Rattle.clr_cert.specs.Versions.{cell_and_rest, cut_of, entry_of, fresh_of, if_named, part_of};
@@ -10,7 +12,7 @@ use clr_records::{field, read_number};
 use clr_rows::{CellId, Schema};
 use csv::StringRecord;
 
-/// What stands before and behind the first `/` of a text.
+/// Returns what stands before and behind the first `/` of a text.
 #[tactic(auto, unfolding(crate::specs::Versions::cut_of))]
 fn cut(text: &str) -> Option<(&str, &str)>
     ensures { option_map (λ parts. (parts.0.now, parts.1.now)) result ≡ cut_of text.now }
@@ -18,7 +20,7 @@ fn cut(text: &str) -> Option<(&str, &str)>
     text.split_once('/')
 }
 
-/// A cell that the schema names.
+/// Returns a cell, if the schema names it.
 fn known_cell(schema: &Schema, cell: CellId) -> Option<CellId>
     ensures { result ≡ if_named schema.now cell }
 {
@@ -28,7 +30,7 @@ fn known_cell(schema: &Schema, cell: CellId) -> Option<CellId>
     }
 }
 
-/// The cell of a text `TABLE/KEY/..`, and what stands behind it.
+/// Returns the cell of a text `TABLE/KEY/..`, and what stands behind it.
 #[tactic(auto, unfolding(crate::specs::Versions::cell_and_rest))]
 fn cell<'a>(schema: &Schema, text: &'a str) -> Option<(CellId, &'a str)>
     ensures { option_map (λ found. (found.0, found.1.now)) result ≡ cell_and_rest schema.now text.now }
@@ -41,6 +43,7 @@ fn cell<'a>(schema: &Schema, text: &'a str) -> Option<(CellId, &'a str)>
     Some((cell, rest))
 }
 
+/// Returns whether a word says the new version, or none for a word that says neither.
 fn fresh(word: &str) -> Option<bool>
     ensures { result ≡ fresh_of word.now }
 {
@@ -51,6 +54,7 @@ fn fresh(word: &str) -> Option<bool>
     }
 }
 
+/// Returns the version that a witness names.
 #[tactic(auto, unfolding(crate::specs::Versions::version_of))]
 fn version(schema: &Schema, text: &str) -> Option<VersionId>
     ensures { result ≡ version_of schema.now text.now }
@@ -60,6 +64,7 @@ fn version(schema: &Schema, text: &str) -> Option<VersionId>
     Some(VersionId { cell, fresh })
 }
 
+/// Returns the part that a number above 1 names, if a path can have it.
 fn part(number: i64) -> Option<u16>
     ensures { result ≡ part_of number }
 {
@@ -70,7 +75,7 @@ fn part(number: i64) -> Option<u16>
     }
 }
 
-/// The word of a version, and the part behind it, which is 1 where none is written.
+/// Returns the word of a version, and the part behind it, which is 1 where none is written.
 fn word_with_part(text: &str) -> Option<(&str, u16)>
     ensures { option_map (λ found. (found.0.now, found.1)) result ≡ word_and_part text.now }
 {
@@ -80,6 +85,7 @@ fn word_with_part(text: &str) -> Option<(&str, u16)>
     }
 }
 
+/// Returns the version that a subject names, and its part.
 #[tactic(auto, unfolding(crate::specs::Versions::subject_of))]
 fn subject(schema: &Schema, text: &str) -> Option<(VersionId, u16)>
     ensures { result ≡ subject_of schema.now text.now }
@@ -90,6 +96,7 @@ fn subject(schema: &Schema, text: &str) -> Option<(VersionId, u16)>
     Some((VersionId { cell, fresh }, part))
 }
 
+/// Returns the version that a second subject names, or none, and its part, which is 1 then.
 fn second(schema: &Schema, text: &str) -> Option<(Option<VersionId>, u16)>
     ensures { result ≡ second_of schema.now text.now }
 {
@@ -100,6 +107,7 @@ fn second(schema: &Schema, text: &str) -> Option<(Option<VersionId>, u16)>
     Some((Some(version), part))
 }
 
+/// Returns the version that a second witness names, or none.
 fn two(schema: &Schema, text: &str) -> Option<Option<VersionId>>
     ensures { result ≡ two_of schema.now text.now }
 {
@@ -110,13 +118,14 @@ fn two(schema: &Schema, text: &str) -> Option<Option<VersionId>>
     }
 }
 
+/// Returns the number of a rule, if it is 0 to 65,535.
 fn rule(number: i64) -> Option<u16>
     ensures { result ≡ rule_of number }
 {
     u16::try_from(number).ok()
 }
 
-/// The need of a record, and its witnesses.
+/// Returns the need of a record, and its witnesses.
 #[tactic(auto, unfolding(crate::specs::Versions::entry_of))]
 pub(crate) fn read_entry(schema: &Schema, fields: &StringRecord) -> Option<Entry>
     ensures { result ≡ entry_of schema.now (fields_of fields.now) }

@@ -1,3 +1,5 @@
+//! Writing certificates.
+
 ghost use Rattle.std.specs.Prelude.{◌≡◌, ◌++◌, Ok, None, IfOk, OnOk, MatchOption, IfSome, map};
 ghost use Rattle.std.specs.List.{All};
 ghost use Rattle.csv.specs.Writing.{default_writer, row_text};
@@ -15,14 +17,15 @@ use csv::{Writer, WriterBuilder};
 use itoa::Buffer;
 use std::alloc::{AllocError, Global};
 
+/// Returns the word of an old version or of a new one.
 fn fresh_text(fresh: bool) -> &'static str
     ensures { result.now ≡ fresh_word fresh }
 {
     if fresh { "new" } else { "old" }
 }
 
-/// Adds a version, as `main/20/new`. It fails for want of memory alone; then what stood in the text
-/// stands there, with a beginning of the version behind it.
+/// Adds a version, as `main/20/new`. If memory runs out, the text keeps what stood in it, with a
+/// beginning of the version behind it.
 fn add_version(text: &mut Vec<u8>, schema: &Schema, version: VersionId) -> Result<(), AllocError>
     ensures added { OnOk result (text.new.items ≡ text.old.items ++ version_text schema.now version) }
     ensures begun { IsBegun text.old.items (version_text schema.now version) text.new.items }
@@ -35,6 +38,7 @@ fn add_version(text: &mut Vec<u8>, schema: &Schema, version: VersionId) -> Resul
     text.extend_from_slice(fresh_text(version.fresh).as_bytes())
 }
 
+/// Adds the part of a subject, where it isn't 1.
 fn add_part(text: &mut Vec<u8>, part: u16) -> Result<(), AllocError>
     ensures ok { OnOk result (text.new.items ≡ text.old.items ++ part_text part) }
     ensures begun { IsBegun text.old.items (part_text part) text.new.items }
@@ -47,8 +51,8 @@ fn add_part(text: &mut Vec<u8>, part: u16) -> Result<(), AllocError>
 }
 
 /// Adds a subject, as `main/20/old/3`: its version, and its part where that isn't 1. The name of a
-/// table that the schema hasn't is empty. It fails for want of memory alone; then what stood in the
-/// text stands there, with a beginning of the subject behind it.
+/// table that the schema hasn't is empty. If memory runs out, the text keeps what stood in it, with
+/// a beginning of the subject behind it.
 pub fn add_subject(
     text: &mut Vec<u8>,
     schema: &Schema,
@@ -62,7 +66,7 @@ pub fn add_subject(
     add_part(text, part)
 }
 
-/// A version as it is written.
+/// Returns a version as it is written.
 fn version_in_text(
     alloc: Global,
     schema: &Schema,
@@ -76,7 +80,7 @@ fn version_in_text(
     Ok(text)
 }
 
-/// A subject as it is written.
+/// Returns a subject as it is written.
 fn subject_in_text(
     alloc: Global,
     schema: &Schema,
@@ -90,6 +94,7 @@ fn subject_in_text(
     Ok(text)
 }
 
+/// Returns a second subject as it is written: nothing where there is none.
 fn second_in_text(
     alloc: Global,
     schema: &Schema,
@@ -104,6 +109,7 @@ fn second_in_text(
     }
 }
 
+/// Returns a second witness as it is written: nothing where there is none.
 fn two_in_text(
     alloc: Global,
     schema: &Schema,
@@ -213,11 +219,10 @@ fn add_entries(
     Ok(())
 }
 
-/// The text of a certificate, a CSV record of six fields on each line, ended by `\n`: the root
-/// where it isn't LIVE, the members in order, and the entries in order. A table that the schema
-/// hasn't has no bytes for a name. Read as a certificate it gives the same one where the names are
+/// Returns the text of a certificate, a CSV record of six fields on each line, ended by `\n`: the
+/// root where it isn't LIVE, the members in order, and the entries in order. The name of a table
+/// that the schema hasn't is empty. Reading the text gives the same certificate where the names are
 /// good, the schema names each cell, and parts are 1 to 31, and 1 where there is no second subject.
-/// It fails for want of memory alone.
 pub fn write_certificate(
     alloc: Global,
     schema: &Schema,

@@ -1,4 +1,4 @@
--- What a change set's entries mean, and changes with that of one more cell.
+-- What the entries of a change set mean, and changes in which that of one cell is set.
 use Rattle.std.specs.Prelude.{◌≡◌, T, false, not, List, Option, Some, None, is_some, if◌then◌else◌}
 use Rattle.std.specs.FinMap as finite
 use Rattle.clr_rows.specs.declared.cells.CellId.{CellId}
@@ -11,11 +11,11 @@ use Rattle.clr_rows.specs.Same.{same}
 abbrev pub changes_of : List (CellId × Change) → Changes
 changes_of entries = finite.from_sorted entries
 
--- no change leaves its row as it was
+-- each change has two rows that differ
 abbrev pub AreDifferent : Changes → Type 0
 AreDifferent changed = (cell : CellId) (change : Change) → finite.get changed cell ≡ Some change → same change.before change.after ≡ false
 
--- in the order of cells, each change a difference
+-- entries in the order of cells, each change with two rows that differ
 pub record IsSound (entries : List (CellId × Change)) : Type 0 where
   pub ascending : T (finite.is_sorted cell_cmp entries)
   pub differ : AreDifferent (changes_of entries)

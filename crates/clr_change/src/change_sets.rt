@@ -1,3 +1,5 @@
+//! Change sets: what changes between two contents, cell by cell.
+
 ghost use Rattle.std.specs.Prelude.{◌≡◌, ◌<◌, ◌^◌, length, slice_get, false, IfOk, IfSome, OnOk, OnErr, IsSome};
 ghost use Rattle.std.specs.BTreeMap.{keys};
 ghost use Rattle.std.specs.FinMap as finite;
@@ -36,7 +38,7 @@ impl Model for ChangeSet {
     ghost invariant = { λ a. IsSound a.changes.entries };
 }
 
-/// Whether two rows are the same, a missing row counting as a value.
+/// Returns whether two rows are the same, a missing row counting as a value.
 pub fn are_same(a: Option<&Row>, b: Option<&Row>) -> bool
     ensures { result ≡ same (option_copied a.entry) (option_copied b.entry) }
 {
@@ -49,7 +51,7 @@ pub fn are_same(a: Option<&Row>, b: Option<&Row>) -> bool
     }
 }
 
-/// A second row that is the same, or none. It fails for want of memory alone.
+/// Returns a copy of a row, or none where there is no row.
 pub fn copy_row(row: Option<&Row>) -> Result<Option<Row>, AllocError>
     ensures { IfOk result (λ copy. copy ≡ option_copied row.entry) }
 {
@@ -66,7 +68,7 @@ fn key_at(changes: &BTreeMap<CellId, Change>, at: usize) -> Option<&CellId>
 }
 
 impl ChangeSet {
-    /// A set of no changes.
+    /// Returns a set of no changes.
     pub fn new(alloc: Global) -> ChangeSet
         ensures { result ≡ finite.empty }
     {
@@ -77,8 +79,8 @@ impl ChangeSet {
     }
 
     /// Sets the change at a cell to the one from the row before, or none, to the row after, or
-    /// none: where they are the same the cell has no change. It fails for want of memory alone, and
-    /// changes nothing then.
+    /// none. Where the two are the same, the cell has no change afterwards. If memory runs out,
+    /// nothing changes.
     pub fn set(
         &mut self,
         cell: CellId,
@@ -116,7 +118,7 @@ impl ChangeSet {
         self.changes.remove(&cell);
     }
 
-    /// The change at a cell, or none.
+    /// Returns the change at a cell, or none.
     pub fn get(&self, cell: CellId) -> Option<&Change>
         ensures change { option_copied result ≡ finite.get self.now cell }
         ensures differ { AreDifferent self.now }
@@ -124,15 +126,15 @@ impl ChangeSet {
         self.changes.get(&cell)
     }
 
-    /// How many cells are changed.
+    /// Returns how many cells are changed.
     pub fn len(&self) -> usize
         ensures { result ≡ length (finite.keys self.now) }
     {
         self.changes.len()
     }
 
-    /// The changed cell at a position in the order of cells, which is found by going over the
-    /// changes before it, or none where there are fewer changes.
+    /// Returns the changed cell at a position in the order of cells, or none where there are fewer
+    /// changes. The cell is found by going over the changes before it.
     pub fn cell_at(&self, at: usize) -> Option<CellId>
         ensures position { result ≡ slice_get (finite.keys self.now) at }
         ensures held { IfSome result (λ cell. IsSome (finite.get self.now cell)) }
@@ -140,7 +142,7 @@ impl ChangeSet {
         key_at(&self.changes, at).copied()
     }
 
-    /// The changed cells with their changes, in the order of cells.
+    /// Returns the changed cells with their changes, in the order of cells.
     pub fn iter(&self) -> Iter<'_, CellId, Change>
         ensures rest { result ≡ finite.entries self.now }
         ensures runs { ShowsInOrder (deref_pair {K = Cell} {X = OneChange}) }
@@ -150,7 +152,7 @@ impl ChangeSet {
         self.changes.iter()
     }
 
-    /// What changes from one content to another. It fails for want of memory alone.
+    /// Returns what changes from one content to another.
     pub fn between(alloc: Global, base: &Sheet, current: &Sheet) -> Result<ChangeSet, AllocError>
         ensures { IfOk result (λ set. set ≡ changes base.now current.now) }
     {
@@ -160,7 +162,7 @@ impl ChangeSet {
         Ok(set)
     }
 
-    /// Notes what changes from one content to another at each cell of a sheet.
+    /// Sets the changes at each cell of a sheet to what changes there from one content to another.
     fn note_all(&mut self, base: &Sheet, current: &Sheet, cells: &Sheet) -> Result<(), AllocError>
         ensures ok { OnOk result (AreNoted base.now current.now cells.now self.old self.new) }
     {
@@ -170,8 +172,7 @@ impl ChangeSet {
         Ok(())
     }
 
-    /// The rows after the changes, by cell, in the order of cells. It fails for want of memory
-    /// alone.
+    /// Returns the rows after the changes, by cell, in the order of cells.
     pub fn rows_after(&self) -> Result<Vec<(CellId, Option<Row>)>, AllocError>
         ensures { IfOk result (λ rows. rows.items ≡ rows_after self.now) }
     {

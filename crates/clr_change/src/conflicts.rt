@@ -1,11 +1,13 @@
+//! Conflicts: changed cells where the parent has another row than the base.
+
 ghost use Rattle.std.specs.Prelude.{◌≡◌};
 ghost use Rattle.clr_rows.specs.Contents.{conflicts, least_and_count};
 
 use crate::change_sets::{ChangeSet, are_same};
 use clr_rows::{CellId, RowView};
 
-/// The least changed cell where the parent's row isn't the row before the change, and how many
-/// such cells there are, or none. It takes no memory.
+/// Returns the least changed cell where the parent's row isn't the row before the change, and the
+/// number of such cells. Returns none where there is no such cell. It takes no memory.
 pub fn first_conflict<V: RowView>(changes: &ChangeSet, parent: &V) -> Option<(CellId, usize)>
     ensures { result ≡ least_and_count (conflicts (V.content parent.now) changes.now) }
 {

@@ -1,3 +1,5 @@
+//! Edits of single rows, and why one can't be made.
+
 ghost use Rattle.std.specs.Prelude.{◌≡◌};
 
 use clr_rows::{CellId, Row, RowFault};
@@ -30,21 +32,21 @@ impl Model for Edits {
 }
 
 impl Edits {
-    /// The edits of this list.
+    /// Returns the edits of this list.
     pub fn new(list: Vec<Edit>) -> Edits
         ensures { result ≡ list.items }
     {
         Edits { list }
     }
 
-    /// The edits as a slice.
+    /// Returns the edits as a slice.
     pub fn as_slice(&self) -> &[Edit]
         ensures { result.now ≡ self.now }
     {
         self.list.as_slice()
     }
 
-    /// The list back again.
+    /// Returns the underlying list.
     pub fn into_vec(self) -> Vec<Edit>
         ensures { result.items ≡ self }
     {

@@ -1,12 +1,12 @@
 //! Edits of a content, and what changes between two contents.
 //!
-//! - `ChangeSet::between`: exactly the cells where two contents differ, with both rows. `get`,
+//! - `ChangeSet::between` gives exactly the cells where two contents differ, with both rows. `get`,
 //!   `len`, `cell_at`, `iter` and `rows_after` show them, in the order of cells. `set` [`ok`,
-//!   `err`]: the change of one cell, from the row before to the row after; none where they are the
-//!   same.
-//! - `stage` [`passed`, `changes`, `refused`]: what edits change, each made over what the one
-//!   before left; or the number of the first that can't be made, and why. `first_conflict`: the
-//!   least cell in conflict and the count, without memory.
+//!   `err`] sets the change of one cell, from the row before to the row after; there is none where
+//!   they are the same.
+//! - `stage` [`passed`, `changes`, `refused`] gives what edits change, each made over what the one
+//!   before left; or the number of the first that can't be made, and why. `first_conflict` gives
+//!   the least cell in conflict and the count, without memory.
 #![tactic(auto)]
 
 mod change_sets;

@@ -1,3 +1,5 @@
+//! Edits made one after another over a view, which itself stays as it is.
+
 ghost use Rattle.std.specs.Prelude.{◌≡◌, ◌<◌, ◌^◌, None, is_some, IfOk, IfErr, OnOk, OnErr};
 ghost use Rattle.std.specs.Option.{option_copied, option_map};
 ghost use Rattle.clr_rows.specs.Contents.{row_at, changes, taken_over};
@@ -12,8 +14,9 @@ use crate::edits::{Edit, EditFault};
 use clr_rows::{CellId, Row, RowView, Schema};
 use std::alloc::Global;
 
-/// What edits change, made one after another over a view. The view itself stays as it is. It
-/// answers the first edit that can't be made, numbered from 1, and why, or 0 and `OutOfMemory`.
+/// Returns what edits change, made one after another over a view. The view itself stays as it is.
+/// Fails with the number of the first edit that can't be made, counted from 1, and why; or with 0
+/// and `OutOfMemory`.
 pub fn stage<V: RowView>(
     alloc: Global,
     schema: &Schema,
@@ -33,7 +36,8 @@ pub fn stage<V: RowView>(
     Ok(staged)
 }
 
-/// The number of the edit at this position, which is refused, or 0 for want of memory.
+/// Returns the number that stands beside a fault of the edit at this position: edits count from 1,
+/// and 0 stands beside `OutOfMemory`.
 fn number(at: usize, fault: EditFault) -> usize
     requires { at < 2 ^ 63 }
     ensures { result ≡ number_of at fault }
@@ -61,6 +65,7 @@ fn make<V: RowView>(
     }
 }
 
+/// Stages a new row at a cell that has none.
 fn insert<V: RowView>(
     staged: &mut ChangeSet,
     schema: &Schema,
@@ -78,6 +83,7 @@ fn insert<V: RowView>(
     set(staged, view, cell, Some(row))
 }
 
+/// Stages another row at a cell that has one.
 fn update<V: RowView>(
     staged: &mut ChangeSet,
     schema: &Schema,
@@ -95,6 +101,7 @@ fn update<V: RowView>(
     set(staged, view, cell, Some(row))
 }
 
+/// Stages that a cell with a row has none.
 fn delete<V: RowView>(
     staged: &mut ChangeSet,
     schema: &Schema,
@@ -111,7 +118,7 @@ fn delete<V: RowView>(
     set(staged, view, cell, None)
 }
 
-/// Whether a row can stand at a cell.
+/// Tests whether a row can stand at a cell.
 fn judge_row(schema: &Schema, cell: CellId, row: &Row) -> Result<(), EditFault>
     ensures { Answers result (option_map Unfit (row_fault schema.now cell row.now)) }
 {
@@ -121,7 +128,7 @@ fn judge_row(schema: &Schema, cell: CellId, row: &Row) -> Result<(), EditFault>
     }
 }
 
-/// Whether a cell can be one of a row.
+/// Tests whether a cell names a row that could stand.
 fn judge_cell(schema: &Schema, cell: CellId) -> Result<(), EditFault>
     ensures { Answers result (option_map Unfit (cell_fault schema.now cell)) }
 {
@@ -131,7 +138,7 @@ fn judge_cell(schema: &Schema, cell: CellId) -> Result<(), EditFault>
     }
 }
 
-/// Whether a cell has a row once the staged edits are made.
+/// Returns whether a cell has a row once the staged edits are made.
 fn has_row<V: RowView>(staged: &ChangeSet, view: &V, cell: CellId) -> bool
     ensures { result ≡ is_some (row_at (taken_over (V.content view.now) staged.now) cell) }
 {

@@ -41,7 +41,8 @@ module _ {A : Type 0} (c : Setting A) where
       by (Some row) e h = (row, record { member = member; after = e })
 
 module _ {A B : Type 0} (c : Setting A) (next : Setting B) (fate : A → Fate B) where
-  -- the same rules; who stays has the changes that it had, and no other has any; the root has those of the merged ones over its rows
+  -- a later setting has the same rules; who stays has the changes that it had, and no other has any; the root has the changes of the merged ones over
+  -- its rows
   pub record IsLater : Type 0 where
     pub rules : next.rules ≡ c.rules
     pub apart : AreDisjoint c

@@ -85,7 +85,7 @@ earlier (n ∷ ns) j zero name less e = absurd (omega (arith, less))
 earlier (n ∷ ns) zero (suc k) name less e = let one : n ≡ name = cc in or_left (same_name n name) (has (take k ns) name) (ap (same_name n) (sym one) ∙ same_itself n)
 earlier (n ∷ ns) (suc j) (suc k) name less e = or_right (same_name n name) (has (take k ns) name) (earlier ns j k name (omega (arith, less)) e)
 
--- and one that stands before is at a lesser position
+-- a name that stands before a position stands at a lesser one
 before : (names : List Name) (k : ℕ) (name : Name) → has (take k names) name ≡ true → (j : ℕ) × (j < k) × (slice_get names j ≡ Some name)
 before [] zero name h = absurd (false≢true h)
 before [] (suc k) name h = absurd (false≢true h)

@@ -185,7 +185,7 @@ module _ (site : Site) (o : Office) (w : Workspace) (kept : IsRootKept o site) (
         others = λ name apart_too apart. left.others name apart ∙ written_shown o site.root (merged_content o w) name (apart_from_root name apart_too);
       })
 
-  -- and where it goes afterwards
+  -- the merge of a workspace after which it is taken away
   pub remove_steps : StepsTo site o (after_remove (after_merge o w) w) w.name (merged_content o w) None
   unfolding after_remove
   remove_steps =

@@ -1,4 +1,4 @@
--- A clearance lasts: after quiet commands entries cover the members that stand, those that covered all of them, carried over.
+-- A clearance lasts: after quiet commands entries cover the members that stand. These are the entries that covered all members, carried over.
 use Rattle.std.proofs.Common.{◌≡◌, ℕ, zero, suc, Bool, true, false, ◌==◌, ◌&&◌, cond, not, List, [], ◌∷◌, filter, inl, inr, refl, sym, ap, ◌∙◌, subst, arith, Option, Some, None, is_some, length, map, slice_get, unwrap_or}
 use Rattle.std.specs.List.{range_with_len}
 use Rattle.std.specs.Option.{option_map, option_map_or}
@@ -173,7 +173,7 @@ module _ (first : Office) (site : Site) (mergeable : AreMergeable first site) (n
   fate_at None = Gone
   fate_at (Some k) = Stays k
 
-  -- it is merged, or at this position among those that stand, or gone
+  -- the member is merged, or stands at this position among those that stand, or is gone
   abbrev fate_of : Option Name → Fate ℕ
   fate_of None = Gone
   fate_of (Some name) = cond (has names name) Merged (fate_at (place (standing now site).members name))

@@ -37,7 +37,7 @@ module _ (first : Office) (site : Site) (mergeable : AreMergeable first site) (n
       | inr other ↦ inv.part k other
     ]
 
-    -- the same set, where the member is merged already
+    -- naming a merged member once more gives the same set
     pub again : has names name ≡ true → (k : Name) → has names k ≡ has (name ∷ names) k
     again merged k = by (same_name name k) refl
       where

@@ -5,7 +5,7 @@ use Rattle.clr_workspaces.specs.Marks.{Name}
 use Rattle.clr_needs.specs.Settings.{has as has_by}
 use Rattle.clr_steps.specs.Names.{same_name, has}
 
--- one word for both
+-- two definitions of membership agree
 pub has_is : (names : List Name) (name : Name) → has_by same_name names name ≡ has names name
 has_is [] name = refl
 has_is (n ∷ ns) name = ap (λ b. same_name n name || b) (has_is ns name)

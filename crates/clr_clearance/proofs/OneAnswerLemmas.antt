@@ -279,7 +279,7 @@ module _ (site : Site) (c : Command) (cs : List Command) where
           let one : c ≡ d = cc in
           ap (is_quiet o site) one ∙ ap (λ p. is_quiet p site d) (sym start.answers) ∙ noisy
 
-  -- so none stops there where another goes on
+  -- no list of replies stops where another goes on
   not_both_ways : (o left rest : Office) (reply : Reply) (replies : List Reply)
       → IsStart o site (c ∷ cs) [] left → IsStart o site (c ∷ cs) (reply ∷ replies) rest → ⊥
   not_both_ways o left rest reply replies one two =

@@ -65,7 +65,7 @@ merges_quiet o site names members at c e = by (slice_get names at) refl (sym (sl
     by None f d = absurd (cc)
     by (Some n) f d = let one : merge_of n ≡ c = cc in ap (is_quiet (office_before o (merges names) none_lost at) site) (sym one) ∙ or_left (is_member site n) _ (members n (has_at names at n f))
 
--- of a safe site: some are merged already
+-- no order of merges of members of a safe site is refused, also where some are merged already
 safe_calm : (o : Office) (site : Site) (ns before : List Name) → Safe o site → AreMembers site before → AreMembers site ns → is_refused (after_merges o before) ns ≡ false
 unfolding AreMembers
 safe_calm o site [] before safe done members = refl

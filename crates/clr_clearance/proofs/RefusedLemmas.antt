@@ -151,7 +151,7 @@ module _ (first : Office) (site : Site) (mergeable : AreMergeable first site) wh
       subst (λ ms. Holds first.book (rows_with first site ms)) (append_assoc names (n ∷ []) ns)
       (all_done ns (names ++ n ∷ []) (step now (merge_of n)).office next.lasts (next.stand stand) (λ k h. part k (or_right (same_name n k) (has_by same_name ns k) h)) both.1 next.holds)
 
-  -- so an order of merges that break a rule is refused
+  -- an order of merges that break a rule is refused
   pub breaking_is_refused : (names : List Name) → AreAmong (setting_of first site) names site.members → RootHolds first site → ¬ (Holds first.book (rows_with first site names)) → is_refused first names ≡ true
   breaking_is_refused names part holds breaking = elim (cases_Bool (is_refused first names)) [
     | inl refused ↦ refused

@@ -38,7 +38,7 @@ taken_twice [] (suc n) (suc k) less = refl
 taken_twice (y ∷ ys) (suc n) zero less = refl
 taken_twice (y ∷ ys) (suc n) (suc k) less = ap (λ zs. y ∷ zs) (taken_twice ys n k (omega (arith, less)))
 
--- are quiet where all are
+-- the first commands of a list are quiet where all are
 pub first_quiet : (o : Office) (site : Site) (commands : List Command) (lost : ℕ → Bool) (n : ℕ)
     → AreQuiet o site commands lost → AreQuiet o site (take n commands) lost
 first_quiet o site commands lost n quiet at c e =

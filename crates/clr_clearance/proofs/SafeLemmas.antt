@@ -26,7 +26,7 @@ use Rattle.clr_clearance.proofs.AnswerLemmas.{merge_claim, refresh_claim}
 use Rattle.clr_clearance.proofs.SiteLemmas.{changed_by-standing}
 use Rattle.clr_clearance.proofs.StaticLemmas.{child_under, keeps_rules, member_agrees}
 
--- so it is at first
+-- the invariant holds before any command
 pub at_first : (first : Office) (site : Site) → AreMergeable first site → Invariant first site [] first
 at_first first site mergeable = record {
   book = refl;

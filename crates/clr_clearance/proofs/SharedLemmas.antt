@@ -48,7 +48,7 @@ shown_some o name m e = by (workspace o name) refl e
     by (Some w) f d = (w, f, let one : member_of w ≡ m = cc in one)
 
 module _ (o : Office) (site : Site) (kept : is_kept o site.root ≡ true) (cell : CellId) (m n : Name) (apart : same_name m n ≡ false) (first : IsChanging o site cell m) (second : IsChanging o site cell n) where
-  -- what the first has there, its merge puts into the root
+  -- the merge of the first member puts into the root what that member has at the cell
   taken_there : row_at (merged_content o first.at) cell ≡ row_at first.at.current cell
   unfolding merged_content
   taken_there =
@@ -56,14 +56,14 @@ module _ (o : Office) (site : Site) (kept : is_kept o site.root ≡ true) (cell 
       ∙ row-merged (root_content o site) first.at.base first.at.current cell
       ∙ ap (λ b. unwrap_or (cond b (Some (row_at first.at.current cell)) None) (row_at (root_content o site) cell)) first.changed
 
-  -- and it isn't what the second took over
+  -- the row that the first member has isn't the one that the second took over
   differs : row_at first.at.current cell ≡ row_at second.at.base cell → ⊥
   differs e =
       let one : row_at first.at.base cell ≡ row_at first.at.current cell = sym (first.agrees cell first.changed) ∙ second.agrees cell second.changed ∙ sym e in
       let same_rows : same (row_at first.at.base cell) (row_at first.at.current cell) ≡ true = ap (λ r. same r (row_at first.at.current cell)) one ∙ same_itself (row_at first.at.current cell) in
       true≢false (sym first.changed ∙ ap not same_rows)
 
-  -- so the second is in conflict then
+  -- the second member is in conflict after the merge of the first
   in_conflict_then : (next : Office) (v : Workspace) → root_content next site ≡ merged_content o first.at → member_of v ≡ member_of second.at → conflict next v ≡ None → ⊥
   unfolding conflict
   in_conflict_then next v root looks none =

@@ -1,4 +1,4 @@
--- How a verdict and a run come about one need, and one command, after another.
+-- How a verdict comes about need by need, and a run command by command.
 use Rattle.std.specs.Prelude.{◌≡◌, ℕ, ◌<◌, true, List, [], ◌∷◌, ◌++◌, Option, Some, Contains, slice_get}
 use Rattle.clr_needs.specs.declared.needs.Need.{Need}
 use Rattle.clr_needs.specs.Covers.{AreCovered, Entry, HasEntry}
@@ -16,14 +16,14 @@ use Rattle.clr_clearance.specs.Verdicts.{IsFirstUncovered}
 abbrev pub IsCovered : Setting ℕ → List Entry → Need → Type 0
 IsCovered c entries n = (a : Lived ℕ) (b : Option (Lived ℕ)) → IsPossible c n a b → HasEntry c n a b entries
 
--- where each need of the list of touched ones is covered, all are
+-- where each of the touched needs, listed, is covered, the entries cover all touched needs
 abbrev pub AllJudgedLaw : Type 0
 AllJudgedLaw = (c : Setting ℕ) (entries : List Entry) (needs : List Need)
     → AreTouchedNeeds c needs
     → ((n : Need) → Contains needs n → IsCovered c entries n)
     → AreCovered c entries
 
--- and the first of the list that isn't covered is the least
+-- the first of the touched needs, listed, that isn't covered is the least such need
 abbrev pub FirstJudgedLaw : Type 0
 FirstJudgedLaw = (c : Setting ℕ) (entries : List Entry) (needs : List Need) (at : ℕ) (n : Need)
     → AreTouchedNeeds c needs
@@ -32,7 +32,7 @@ FirstJudgedLaw = (c : Setting ℕ) (entries : List Entry) (needs : List Need) (a
     → ¬ (IsCovered c entries n)
     → (a : Lived ℕ) × (b : Option (Lived ℕ)) × IsFirstUncovered c entries n a b
 
--- a list of quiet commands that were answered, and one more
+-- a list of quiet commands with the replies to them, and one more, is again such a list
 abbrev pub OneMoreLaw : Type 0
 OneMoreLaw = (o : Office) (site : Site) (commands : List Command) (replies : List Reply) (now : Office) (c : Command) (reply : Reply) (left : Office)
     → AreAnswers o commands replies now

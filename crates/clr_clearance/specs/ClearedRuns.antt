@@ -15,13 +15,14 @@ IsStop site commands replies left (Some number) =
     (number ≡ length replies + 1)
     × ((c : Command) × (slice_get commands (length replies) ≡ Some c) × (is_quiet left site c ≡ false))
 
--- the replies to the first commands of a list, each quiet in the office in which it was given, what is left, and why it stopped there
+-- the replies to the first commands of a list, each quiet in the office in which it was given, the office that is left, and why the replies stop
+-- there
 pub record IsQuietStart (o : Office) (site : Site) (commands : List Command) (replies : List Reply) (left : Office) (stopped : Option ℕ) : Type 0 where
   pub answers : AreAnswers o (take (length replies) commands) replies left
   pub quiet : AreQuiet o site (take (length replies) commands) (lost_in replies)
   pub stop : IsStop site commands replies left stopped
 
--- it is a run in which no merge and no refresh of a member clashes, and that leaves the root as the merge of those that were done
+-- a run in which no merge and no refresh of a member clashes, and that leaves the root as the merge of the members whose merge was done
 pub record IsClearedRun (o : Office) (site : Site) (commands : List Command) (replies : List Reply) (left : Office) : Type 0 where
   pub runs : run o commands (lost_in replies) ≡ record { replies = replies; office = left }
   pub no_clash : NoneClashes site commands replies

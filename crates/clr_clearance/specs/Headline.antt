@@ -1,4 +1,4 @@
--- What a clear verdict promises, in one sentence, and that it goes by which members there are, and not by the order in which they are named.
+-- What a clear verdict promises, in one sentence, and that it depends on which members there are, and not on the order in which they are named.
 use Rattle.std.specs.Prelude.{◌≡◌, ℕ, Bool, true, List, None}
 use Rattle.clr_rows.specs.declared.cells.CellId.{CellId}
 use Rattle.clr_rows.specs.Contents.{row_at}
@@ -20,15 +20,15 @@ use Rattle.clr_clearance.specs.Verdicts.{IsVerdict, repeated_member}
 
 -- a run of a list of commands -----------------------------------------------------------------------
 
--- the members that it merges
+-- the members that a run merges
 abbrev pub merged_after : Office → Site → List Command → (ℕ → Bool) → List Name
 merged_after o site commands lost = merged_in site commands (run o commands lost).replies
 
--- the rows that the root has after it
+-- the rows that the root has after a run
 abbrev pub root_after : Office → Site → List Command → (ℕ → Bool) → View
 root_after o site commands lost = row_at (root_content (run o commands lost).office site)
 
--- every member is merged in it
+-- every member is merged in a run
 abbrev pub AreAllMerged : Office → Site → List Command → (ℕ → Bool) → Type 0
 AreAllMerged o site commands lost = (name : Name) → is_member site name ≡ true → has (merged_after o site commands lost) name ≡ true
 
@@ -47,18 +47,18 @@ pub record Headline (o : Office) (site : Site) : Type 0 where
       → AreAllMerged o site commands lost → AreAllMerged o site others lost_of_others
       → (cell : CellId) → root_after o site commands lost cell ≡ root_after o site others lost_of_others cell
 
--- so it is where the verdict is clear and every rule holds in the root
+-- the headline holds where the verdict is clear and every rule holds in the root
 abbrev pub HeadlineLaw : Type 0
 HeadlineLaw = (o : Office) (site : Site) (entries : List Entry) → IsVerdict o site entries verdict.Clear → RootHolds o site → Headline o site
 
--- of a safe site alone: no reply of a run of quiet commands to a merge or a refresh of a member is a clash
+-- no reply of a run of quiet commands to a merge or a refresh of a member of a safe site is a clash
 abbrev pub QuietReplyLaw : Type 0
 QuietReplyLaw = (o : Office) (site : Site) (commands : List Command) (lost : ℕ → Bool)
     → Safe o site
     → AreQuiet o site commands lost
     → NoneClashes site commands (run o commands lost).replies
 
--- a run of quiet commands, what is lost being read off the replies, is a cleared one
+-- a run of quiet commands, in which those answered OutOfMemory are lost, is a cleared one
 abbrev pub RunsAreCleared : Office → Site → Type 0
 RunsAreCleared o site = (commands : List Command) (replies : List Reply) (left : Office)
     → AreQuiet o site commands (lost_in replies)
@@ -70,16 +70,16 @@ QuietRunLaw = (o : Office) (site : Site) → Safe o site → RunsAreCleared o si
 
 -- the order in which members are named ----------------------------------------------------------------
 
--- the same root, and the same members in whatever order
+-- two sites of the same root and the same members, in whatever order
 pub record NamesTheSame (site other : Site) : Type 0 where
   pub root : other.root ≡ site.root
   pub members : (name : Name) → is_member other name ≡ is_member site name
 
--- the site of the same members is safe too
+-- a site of the same members as a safe one is safe too
 abbrev pub SafeReorderedLaw : Type 0
 SafeReorderedLaw = (o : Office) (site other : Site) → NamesTheSame site other → Safe o site → Safe o other
 
--- and where none is named twice, the same entries cover it
+-- the same entries cover a site of the same members, where none is named twice
 abbrev pub CoversReorderedLaw : Type 0
 CoversReorderedLaw = (o : Office) (site other : Site) (entries : List Entry)
     → NamesTheSame site other

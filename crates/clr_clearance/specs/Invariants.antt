@@ -1,4 +1,4 @@
--- What every list of quiet commands leaves so of a site.
+-- What holds of a site after every list of quiet commands.
 use Rattle.std.specs.Prelude.{◌≡◌, true, List, Some, None, if◌then◌else◌}
 use Rattle.std.specs.Option.{option_map}
 use Rattle.clr_rows.specs.declared.cells.CellId.{CellId}
@@ -10,8 +10,8 @@ use Rattle.clr_steps.specs.Offices.{Office, workspace}
 use Rattle.clr_steps.specs.Quiet.{IsRootKept, Member, Site, is_member, is_root, member_of, root_content}
 use Rattle.clr_clearance.specs.Sites.{AgreesWith, changed_by, rows_with, setting_of}
 
--- a member that stands is a child of the root; once it is merged it has no changes, and until then those that it had; where it has changes, the root
--- has the row that it took over
+-- a member that stands is a child of the root; once it is merged it has no changes, and until then it has those that it had; where it has changes,
+-- the root has the row that the member took over
 pub record IsMemberNow (first : Office) (site : Site) (names : List Name) (now : Office) (name : Name) (m : Member) : Type 0 where
   pub under : is_root site m.parent ≡ true
   pub changes : (cell : CellId) → change_at m.base m.current cell ≡ (if has names name then None else changed_by first name cell)

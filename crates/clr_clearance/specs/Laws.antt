@@ -30,7 +30,7 @@ NumberLaw = (o : Office) (site : Site) → SayTheSame (setting_of o site) (setti
 
 -- without commands between merges -------------------------------------------------------------------
 
--- the changes of the same members give the same rows, in whatever order
+-- the changes of some members give the same rows, in whatever order they are taken over
 abbrev pub OrderLaw : Type 0
 OrderLaw = (o : Office) (site : Site) (names others : List Name)
     → AreMergeable o site
@@ -38,7 +38,7 @@ OrderLaw = (o : Office) (site : Site) (names others : List Name)
     → ((name : Name) → has names name ≡ has others name)
     → (cell : CellId) → rows_with o site names cell ≡ rows_with o site others cell
 
--- every rule holds in what some members give, and no other member is in conflict with it
+-- every rule holds in the rows that some members give, and no other member is in conflict with them
 pub record StaysFree (o : Office) (site : Site) : Type 0 where
   pub keeps : KeepsRules o site
   pub free : (names : List Name) (name : Name) (w : Workspace)
@@ -53,7 +53,7 @@ StaticLaw = (o : Office) (site : Site) (entries : List Entry) → Covers o site 
 
 -- a merge of a member, and a refresh ------------------------------------------------------------------
 
--- no rule is needed for what a merge leaves
+-- a merge of a member keeps the invariant, whatever rules say; where rules are kept, it is a safe answer
 abbrev pub MergeLaw : Type 0
 MergeLaw = (first : Office) (site : Site) (names : List Name) (now : Office) (name : Name) (remove : Bool)
     → AreMergeable first site
@@ -101,7 +101,7 @@ OneVerdictLaw = (o : Office) (site : Site) (entries : List Entry) (v w : Verdict
 abbrev pub ClearIsSafeLaw : Type 0
 ClearIsSafeLaw = (o : Office) (site : Site) (entries : List Entry) → IsVerdict o site entries verdict.Clear → RootHolds o site → StaysFree o site × Safe o site
 
--- the first commands of a list, up to one that isn't quiet, make such a run
+-- the first commands of a list, up to one that isn't quiet, make a cleared run
 abbrev pub ClearedRunLaw : Type 0
 ClearedRunLaw = (o : Office) (site : Site) (entries : List Entry) (commands : List Command) (replies : List Reply) (left : Office) (stopped : Option ℕ)
     → IsVerdict o site entries verdict.Clear

@@ -13,22 +13,22 @@ use Rattle.clr_clearance.specs.Plans.{IsBlocked, IsCleared, IsUnfit}
 
 -- plans ------------------------------------------------------------------------------------------------
 
--- a site isn't unfit, cleared and blocked in two ways
+-- a site isn't two of unfit, cleared and blocked
 abbrev pub OneKindLaw : Type 0
 OneKindLaw = (o : Office) (site : Site) (v : Verdict) (entries : List Entry) (order : List ℕ) (cause : Verdict)
     → (¬ (IsUnfit o site v × IsCleared o site entries))
     × (¬ (IsUnfit o site v × IsBlocked o site order cause))
     × (¬ (IsCleared o site entries × IsBlocked o site order cause))
 
--- nor unfit for two reasons
+-- a site isn't unfit for two reasons
 abbrev pub OneUnfitLaw : Type 0
 OneUnfitLaw = (o : Office) (site : Site) (v w : Verdict) → IsUnfit o site v → IsUnfit o site w → v ≡ w
 
--- nor cleared by two lists of entries
+-- a site isn't cleared by two lists of entries
 abbrev pub OneClearedLaw : Type 0
 OneClearedLaw = (o : Office) (site : Site) (entries others : List Entry) → IsCleared o site entries → IsCleared o site others → entries ≡ others
 
--- nor blocked in two orders, or for two causes
+-- a site isn't blocked in two orders, or for two causes
 abbrev pub OneBlockedLaw : Type 0
 OneBlockedLaw = (o : Office) (site : Site) (order other : List ℕ) (cause reason : Verdict)
     → IsBlocked o site order cause → IsBlocked o site other reason → (order ≡ other) × (cause ≡ reason)

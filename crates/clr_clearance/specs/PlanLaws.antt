@@ -22,7 +22,7 @@ use Rattle.clr_clearance.specs.Verdicts.{member_fault, repeated_member}
 abbrev pub ClearedPlanLaw : Type 0
 ClearedPlanLaw = (o : Office) (site : Site) (entries : List Entry) → IsCleared o site entries → Covers o site entries
 
--- so that the site is safe
+-- a site with a cleared plan is safe where every rule holds in the root
 abbrev pub ClearedIsSafeLaw : Type 0
 ClearedIsSafeLaw = (o : Office) (site : Site) (entries : List Entry) → IsCleared o site entries → RootHolds o site → Safe o site
 
@@ -33,7 +33,7 @@ BlockedPlanLaw = (o : Office) (site : Site) (order : List ℕ) (cause : Verdict)
     → RootHolds o site
     → is_refused o (names_at site order) ≡ true
 
--- so is, of any touched need for which no witnesses are picked, that of the members that break it, as they stand in the list
+-- the members that break a touched need for which no witnesses are picked, as they stand in the list, are an order that is refused
 abbrev pub UnpickedLaw : Type 0
 UnpickedLaw = (o : Office) (site : Site) (n : Need) (order : List ℕ)
     → AreMergeable o site
@@ -43,7 +43,7 @@ UnpickedLaw = (o : Office) (site : Site) (n : Need) (order : List ℕ)
     → Blocks (setting_by_position o site) n order
     → is_refused o (names_at site order) ≡ true
 
--- and no order of merges of members of a safe site is, so that no safe site is blocked
+-- no order of merges of members of a safe site is refused, and so no safe site is blocked
 abbrev pub SafeOrderLaw : Type 0
 SafeOrderLaw = (o : Office) (site : Site) (names : List Name) → Safe o site → AreAmong (setting_of o site) names site.members → is_refused o names ≡ false
 
@@ -57,7 +57,7 @@ LastingCoverLaw = (o : Office) (site : Site) (entries : List Entry) (commands : 
     → AreQuiet o site commands lost
     → let now = (run o commands lost).office in (others : List Entry) × Covers now (standing now site) others
 
--- and where every rule holds in the root, no test of those members fails, every rule holds still, and no plan for them is blocked
+-- no test of the members fails, every rule holds in the root, and no plan for the members is blocked
 pub record StaysClear (now : Office) (site : Site) : Type 0 where
   pub free : member_fault now site ≡ None
   pub mergeable : AreMergeable now site
@@ -71,7 +71,7 @@ LastingLaw = (o : Office) (site : Site) (entries : List Entry) (commands : List 
     → AreQuiet o site commands lost
     → let now = (run o commands lost).office in StaysClear now (standing now site)
 
--- both in whichever order those members are named, each once
+-- both laws hold in whichever order the members that stand are named, each once
 abbrev pub LastingCoverReorderedLaw : Type 0
 LastingCoverReorderedLaw = (o : Office) (site : Site) (entries : List Entry) (commands : List Command) (lost : ℕ → Bool)
     → Covers o site entries

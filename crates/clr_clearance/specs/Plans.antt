@@ -24,11 +24,11 @@ use Rattle.clr_clearance.specs.Safety.{is_clash}
 use Rattle.clr_clearance.specs.Sites.{change_sets, setting_by_position}
 use Rattle.clr_clearance.specs.Verdicts.{first_conflict, member_fault, name_fault}
 
--- merges of some members in order, the workspaces kept
+-- the commands that merge some members in order and keep the workspaces
 abbrev pub merges : List Name → List Command
 merges names = map (λ name. command.Merge name false) names
 
--- where none of them is lost, one meets a conflict or breaks a rule
+-- of these merges, none of which is lost, one meets a conflict or breaks a rule
 abbrev pub is_refused : Office → List Name → Bool
 is_refused o names = list_any is_clash (run o (merges names) (λ at. false)).replies
 
@@ -67,6 +67,6 @@ pub data IsBlocked (o : Office) (site : Site) (order : List ℕ) (cause : Verdic
   of_unpicked : (n : Need) → member_fault o site ≡ None → AreApart (change_sets o site) → IsFirstUnpicked (setting_by_position o site) n
       → Blocks (setting_by_position o site) n order → cause ≡ verdict.Uncovered n → IsBlocked o site order cause
 
--- the members that stand
+-- the site of the members that stand
 abbrev pub standing : Office → Site → Site
 standing now site = record site { members = filter (λ name. is_some (workspace now name)) site.members }

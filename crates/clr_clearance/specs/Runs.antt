@@ -13,11 +13,11 @@ use Rattle.clr_steps.specs.Steps.{run}
 abbrev pub office_before : Office → List Command → (ℕ → Bool) → ℕ → Office
 office_before o commands lost at = (run o (take at commands) lost).office
 
--- each command is quiet there
+-- each command is quiet in the office in which it is given
 abbrev pub AreQuiet : Office → Site → List Command → (ℕ → Bool) → Type 0
 AreQuiet o site commands lost = (at : ℕ) (c : Command) → slice_get commands at ≡ Some c → is_quiet (office_before o commands lost at) site c ≡ true
 
--- the member whose merge was done, if that is what was
+-- the member whose merge was done, if the command was such a merge
 abbrev pub merged_by : Site → Command → Reply → List Name
 merged_by site (command.Merge name remove) Done = if is_member site name then name ∷ [] else []
 merged_by site _ _ = []

@@ -21,13 +21,13 @@ pub record IsMergeOf (o : Office) (site : Site) (names : List Name) (content : C
   pub rows : (cell : CellId) → row_at content cell ≡ rows_with o site names cell
   pub holds : Holds o.book (row_at content)
 
--- a conflict, or a broken rule
+-- a reply that names a conflict or a broken rule
 abbrev pub is_clash : Reply → Bool
 is_clash (Conflict cell count) = true
 is_clash (RuleBroken need) = true
 is_clash _ = false
 
--- of commands and the replies to them, no merge and no refresh of a member clashes
+-- no reply to a merge or a refresh of a member is a clash
 abbrev pub NoneClashes : Site → List Command → List Reply → Type 0
 NoneClashes site commands replies = (at : ℕ) (c : Command) (reply : Reply) → slice_get commands at ≡ Some c → slice_get replies at ≡ Some reply
     → is_of_member site c ≡ true → is_clash reply ≡ false
@@ -38,7 +38,7 @@ is_ready o (command.Merge name remove) = is_some (workspace o name) && not (remo
 is_ready o (command.Refresh name) = is_some (workspace o name)
 is_ready o _ = false
 
--- no clash, and done where the workspace is ready
+-- an answer that is no clash, and that is Done where the workspace is ready
 pub record IsSafeAnswer (o : Office) (c : Command) : Type 0 where
   pub no_clash : is_clash (step o c).reply ≡ false
   pub is_done : is_ready o c ≡ true → (step o c).reply ≡ Done
@@ -52,7 +52,7 @@ pub record IsSafeAt (first : Office) (site : Site) (names : List Name) (now : Of
   pub refreshes : (name : Name) (w : Workspace) → is_member site name ≡ true → (step now (command.Refresh name)).reply ≡ Done
       → workspace (step now (command.Refresh name)).office name ≡ Some w → IsMergeOf first site (name ∷ names) w.current
 
--- so it is after every list of quiet commands
+-- the office is safe in this sense after every list of quiet commands
 abbrev pub Safe : Office → Site → Type 0
 Safe o site = (commands : List Command) (lost : ℕ → Bool) → AreQuiet o site commands lost
     → let done = run o commands lost in IsSafeAt o site (merged_in site commands done.replies) done.office

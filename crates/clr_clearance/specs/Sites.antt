@@ -59,7 +59,7 @@ pub record AreMergeable (o : Office) (site : Site) : Type 0 where
   pub free : (name : Name) → is_member site name ≡ true → conflicts_in o name ≡ []
   pub apart : AreDisjoint (setting_of o site)
 
--- and each need that they touch has an entry that covers it
+-- the members are mergeable, and each need that they touch has an entry that covers it
 pub record Covers (o : Office) (site : Site) (entries : List Entry) : Type 0 where
   pub mergeable : AreMergeable o site
   pub covered : AreCovered (setting_by_position o site) entries

@@ -28,19 +28,19 @@ is_repeated names at = has (take at names) (slice_index_or names at [])
 abbrev pub first_repeated : List Name → Option ℕ
 first_repeated names = position (is_repeated names) (range_with_len 0 (length names))
 
--- the tests of names, in order: the root is kept
+-- the first test of names: the root is kept
 abbrev pub root_fault : Office → Site → Option Verdict
 root_fault o site = if is_kept o site.root then None else Some verdict.NotKept
 
--- no name stands twice
+-- the second test of names: no name stands twice
 abbrev pub repeated_member : Site → Option Verdict
 repeated_member site = option_map verdict.RepeatedMember (first_repeated site.members)
 
--- each is LIVE's or that of a workspace
+-- the third test of names: each is LIVE's or that of a workspace
 abbrev pub missing_member : Office → Site → Option Verdict
 missing_member o site = option_map verdict.NoWorkspace (position (λ name. not (stands o name)) site.members)
 
--- each is that of a child of the root
+-- the fourth test of names: each is that of a child of the root
 abbrev pub stray_member : Office → Site → Option Verdict
 stray_member o site = option_map verdict.NotUnderRoot (position (λ name. not (is_child o site name)) site.members)
 
@@ -64,7 +64,7 @@ pub record IsFirstUncovered (c : Setting ℕ) (entries : List Entry) (n : Need) 
   pub uncovered : ¬ (HasEntry c n a b entries)
   pub first : (m : Need) (d : Lived ℕ) (e : Option (Lived ℕ)) → need_cmp m n ≡ Less → IsPossible c m d e → IsTouchedBy c m d e → HasEntry c m d e entries
 
--- the first test that fails, or clear: tests of each member, then no cell is changed by two, then each touched need is covered
+-- the first test that fails, or clear: first the tests of each member, then that no cell is changed by two, then that each touched need is covered
 pub data IsVerdict (o : Office) (site : Site) (entries : List Entry) (v : Verdict) : Type 0 where
   of_member : member_fault o site ≡ Some v → IsVerdict o site entries v
   of_cell : (cell : CellId) (i j : ℕ) → member_fault o site ≡ None

@@ -3,28 +3,29 @@
 ghost use Rattle.clr_clearance.specs.Laws.{ClearIsSafeLaw, ClearLaw, ClearedRunLaw, MergeLaw, OneVerdictLaw};
 ghost use Rattle.clr_clearance.specs.Laws.{NumberLaw, OrderLaw, QuietListLaw, RefreshLaw, SafeLaw, StaticLaw};
 
-/// Members by name and by position say the same: the same versions, whose lives name the same
-/// members, the same needs, and what serves, covers or breaks them.
+/// Members by name and by position say the same: there are the same versions, whose lives name the
+/// same members, and the same needs, and the same versions serve, cover or break them.
 pub fn numbers_stand_for_names()
     ensures { NumberLaw }
 {}
 
 /// Where entries cover the members and every rule holds in the root, every rule holds in the root
-/// with the changes of any of the members over it, and no other member is in conflict with that.
+/// with the changes of any of the members over it, and no other member is in conflict with those
+/// rows.
 pub fn covered_members_stay_free()
     ensures { StaticLaw }
 {}
 
-/// Where no cell is changed by two members, the changes of the same members give the same rows in
-/// whatever order.
+/// Where no cell is changed by two members, the changes of some members give the same rows in
+/// whatever order they are taken over.
 pub fn order_gives_the_same_rows()
     ensures { OrderLaw }
 {}
 
 /// A merge of a member leaves the root with that member's changes too, and every other member as it
-/// was; a refresh leaves the root and the changes of every member. Neither is answered by a conflict
-/// or a broken rule where every rule holds with the changes of any of the members over the root, and
-/// a member that was refreshed then has the root's rows with its changes over them.
+/// was. A refresh of a member leaves the root and the changes of every member. Where every rule
+/// holds with the changes of any of the members over the root, neither is answered by a conflict or
+/// a broken rule, and a member that was refreshed has the root's rows with its changes over them.
 pub fn merges_and_refreshes_are_safe()
     ensures merge { MergeLaw }
     ensures refresh { RefreshLaw }
@@ -37,29 +38,31 @@ pub fn quiet_lists_leave_merges()
     ensures { QuietListLaw }
 {}
 
-/// Where entries cover the members of a kept root in which every rule holds, then after every list
-/// of quiet commands every rule holds in the root, which has the changes of the merged members over
-/// its first rows, and no merge or refresh of a member is answered by a conflict or a broken rule.
+/// Where entries cover the members of a kept root in which every rule holds, the following is so
+/// after every list of quiet commands. Every rule holds in the root, the root has the changes of
+/// the merged members over its first rows, and no merge or refresh of a member is answered by a
+/// conflict or a broken rule.
 pub fn covered_sites_are_safe()
     ensures { SafeLaw }
 {}
 
-/// The verdict is clear exactly where the entries cover the members, and no members have two.
+/// The verdict is clear exactly where the entries cover the members. No site has two verdicts on
+/// the same entries.
 pub fn clear_is_covered()
     ensures clear { ClearLaw }
     ensures one { OneVerdictLaw }
 {}
 
-/// Where the verdict is clear and every rule holds in the root, every rule holds with the changes of
-/// any of the members over it, no other member is in conflict with that, and all of it stays so over
-/// every list of quiet commands.
+/// Where the verdict is clear and every rule holds in the root, every rule holds with the changes
+/// of any of the members over it, and no other member is in conflict with those rows. All of it
+/// stays so over every list of quiet commands.
 pub fn clear_sites_are_safe()
     ensures { ClearIsSafeLaw }
 {}
 
 /// Where the verdict is clear and every rule holds in the root, the first commands of a list, up to
 /// one that isn't quiet, are a run in which no merge and no refresh of a member is answered by a
-/// conflict or a broken rule, every rule holds in the root afterwards, and the root has the changes
+/// conflict or a broken rule. Afterwards every rule holds in the root, and the root has the changes
 /// of the members whose merge was done over its first rows.
 pub fn cleared_runs_are_safe()
     ensures { ClearedRunLaw }

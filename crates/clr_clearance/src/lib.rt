@@ -5,19 +5,20 @@
 //!
 //! - `covered_members_stay_free`: where entries cover the members and every rule holds in the root,
 //!   every rule holds in the root with the changes of any of them, and no other member is in
-//!   conflict with that. `order_gives_the_same_rows`, `covered_sites_are_safe`.
+//!   conflict with those rows. `order_gives_the_same_rows`: those rows don't depend on the order of
+//!   the members. `covered_sites_are_safe`: a covered site with such a root is safe.
 //! - `quiet_lists_leave_merges`, `merges_and_refreshes_are_safe`: what quiet lists leave of the
 //!   root and of each member; a member that was refreshed has the root's first rows with the
 //!   changes of the merged members and its own over them, in which every rule holds.
-//! - `quiet_runs_are_cleared`: so it is of what `Office::perform_all` answers to quiet commands of
-//!   a safe site.
+//! - `quiet_runs_are_cleared`: what `Office::perform_all` answers to quiet commands of a safe site
+//!   is a cleared run.
 //! - `members_stand_in_any_order`: whether a site is safe, and whether entries cover it, doesn't
-//!   depend on the order in which its members are named. `numbers_stand_for_names`: nor on whether
-//!   they are told by name or by position.
+//!   depend on the order in which its members are named. `numbers_stand_for_names`: it doesn't
+//!   depend either on whether they are named by name or by position.
 //! - `unpicked_needs_are_refused`: of every touched need without witnesses the blockers are an
 //!   order that is refused.
 //! - `sites_have_one_plan`, `lists_have_one_quiet_start`: memory aside, no site has two plans, and
-//!   no list of commands is performed up to its first that isn't quiet in two ways.
+//!   no list of commands is performed in two ways up to its first that isn't quiet.
 #![tactic(auto)]
 
 mod check_laws;

@@ -1,3 +1,5 @@
+//! Verdicts on members that are to be merged.
+
 use clr_needs::Need;
 use clr_rows::CellId;
 
@@ -8,13 +10,14 @@ use clr_rows::CellId;
 pub enum Verdict {
     /// In every order, between other work, no merge of a member meets a conflict or breaks a rule.
     Clear,
-    /// No memory was found. It may come in place of any answer from `Conflict` on, or of a clear one.
+    /// No memory was found. This verdict may come in place of any from `Conflict` on, or of a clear
+    /// one.
     OutOfMemory,
     /// The root doesn't stand, or isn't kept.
     NotKept,
     /// The first member whose name stands earlier in the list.
     RepeatedMember(usize),
-    /// The first member of whose name there is no workspace.
+    /// The first member whose name is that of no workspace.
     NoWorkspace(usize),
     /// The first member that isn't a child of the root.
     NotUnderRoot(usize),

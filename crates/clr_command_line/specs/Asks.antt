@@ -15,7 +15,7 @@ value_of id rows = unwrap_or (first_of id rows) []
 abbrev pub names_of : List Row → List Text
 names_of rows = unwrap_or (all_of (codes "NAME") rows) []
 
--- the file of the office text, and a second file
+-- the file of the office text, and the file of another name
 abbrev pub database_of : List Row → List Text
 database_of rows = value_of (codes "DB") rows ∷ []
 

@@ -3,7 +3,7 @@ use Rattle.std.specs.Prelude.{true, codes, Some}
 use Rattle.clap.specs.Lexer.{usize_max}
 use Rattle.clap.specs.Words.{App, Rule, Text, new_app, new_rule, with_rule, with_subcommand}
 
--- a value that has to be given
+-- a value that is required
 abbrev pub value : Text → Rule
 value id = record (new_rule id) { required = true }
 
@@ -33,11 +33,11 @@ check = with_rule (database_command (codes "check")) (value (codes "CERT"))
 abbrev pub merge : App
 merge = with_rule (with_rule (database_command (codes "merge")) (value (codes "CERT"))) names
 
--- a subcommand is demanded, and there is a version
+-- a command that requires a subcommand, and has a version
 abbrev pub demanding : App
 demanding = let bare = new_app (codes "clr_office") in record bare { top = record bare.top { has_version = true; subcommand_required = true } }
 
--- those that print what stands
+-- the subcommands that print something and change nothing
 abbrev pub reporting : App
 reporting = with_subcommand (with_subcommand (with_subcommand (with_subcommand demanding audit.top) run.top) plan.top) plan_under.top
 

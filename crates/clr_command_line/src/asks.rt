@@ -1,10 +1,12 @@
+//! What the words of a command line can ask for.
+
 ghost use Rattle.std.specs.Prelude.{◌≡◌};
 ghost use Rattle.clr_command_line.specs.declared.asks.AskFault.TheVariants.{OutOfMemory};
 
 use clr_rows::{Names, Words};
 use std::alloc::{AllocError, AllocFailed};
 
-/// What is asked of an office text, and of a second text where there is one.
+/// What words ask of an office text, and of a second text where there is one.
 #[derive(Debug, Drop)]
 pub enum Ask {
     /// The rules that LIVE's rows break.
@@ -22,12 +24,12 @@ pub enum Ask {
     Merge(Names),
 }
 
-/// Why words ask for nothing.
+/// Why the words of a command line ask for nothing.
 #[derive(Drop)]
 pub enum AskFault {
     /// The words are refused, or ask for help or the version: what is to be printed, and where.
     Refused(clap::Error),
-    /// No memory was found. It may come in place of any other answer.
+    /// No memory was found. This fault may come in place of any other answer.
     OutOfMemory,
 }
 

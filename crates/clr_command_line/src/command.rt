@@ -1,4 +1,5 @@
-//! The command line, as `clap` is told of it.
+//! The command line, as it is described to `clap`.
+
 ghost use Rattle.std.specs.Prelude.{◌≡◌, codes, false, IfOk};
 ghost use Rattle.clap.specs.Words.{app_of, with_rule, with_subcommand};
 ghost use Rattle.clap.specs.declared.builder.command.Command.TheViews.{out-Command as fields_of};
@@ -39,7 +40,7 @@ The status is 0 where all merges were done, and 1 where one was refused, or wher
 says nothing of one, which ends the merges. Where the certificate isn't clear, it merges nothing
 and prints the test that fails, with status 1.";
 
-/// A subcommand over an office text, with a line about it and with what it prints.
+/// Returns a subcommand over an office text. Its help has a line about it, and says what it prints.
 fn over_database<'a>(
     alloc: Global,
     name: &'a str,
@@ -58,7 +59,7 @@ fn over_database<'a>(
         .arg(database)
 }
 
-/// The command with one more value, which has to be given.
+/// Returns the command with one more value, which is required.
 fn with_value<'a>(
     alloc: Global,
     command: Command<'a>,
@@ -73,7 +74,7 @@ fn with_value<'a>(
     command.arg(value)
 }
 
-/// The command with names at its end, none or more.
+/// Returns the command with names at its end, none or more.
 fn with_names<'a>(
     alloc: Global,
     command: Command<'a>,
@@ -87,7 +88,7 @@ fn with_names<'a>(
     command.arg(names)
 }
 
-/// The command with a certificate's file, which has to be given.
+/// Returns the command with the file of a certificate, which is required.
 fn with_certificate<'a>(alloc: Global, command: Command<'a>) -> Result<Command<'a>, AllocError>
     requires { (fields_of command).has_globals ≡ false }
     ensures shape { IfOk result (λ c. app_of c ≡ with_rule (app_of command.entry) (value (codes "CERT"))) }
@@ -101,6 +102,7 @@ fn with_certificate<'a>(alloc: Global, command: Command<'a>) -> Result<Command<'
     )
 }
 
+/// Returns the subcommand `audit`.
 fn audit<'a>(alloc: Global) -> Result<Command<'a>, AllocError>
     ensures shape { IfOk result (λ c. app_of c ≡ audit) }
     ensures plain { IfOk result (λ c. (fields_of c).has_globals ≡ false) }
@@ -113,6 +115,7 @@ fn audit<'a>(alloc: Global) -> Result<Command<'a>, AllocError>
     )
 }
 
+/// Returns the subcommand `run`.
 fn run<'a>(alloc: Global) -> Result<Command<'a>, AllocError>
     ensures shape { IfOk result (λ c. app_of c ≡ run) }
     ensures plain { IfOk result (λ c. (fields_of c).has_globals ≡ false) }
@@ -133,6 +136,7 @@ fn run<'a>(alloc: Global) -> Result<Command<'a>, AllocError>
     )
 }
 
+/// Returns the subcommand `plan`.
 fn plan<'a>(alloc: Global) -> Result<Command<'a>, AllocError>
     ensures shape { IfOk result (λ c. app_of c ≡ plan) }
     ensures plain { IfOk result (λ c. (fields_of c).has_globals ≡ false) }
@@ -146,6 +150,7 @@ fn plan<'a>(alloc: Global) -> Result<Command<'a>, AllocError>
     with_names(alloc, command, "The workspaces that are to be merged")
 }
 
+/// Returns the subcommand `planunder`.
 fn plan_under<'a>(alloc: Global) -> Result<Command<'a>, AllocError>
     ensures shape { IfOk result (λ c. app_of c ≡ plan_under) }
     ensures plain { IfOk result (λ c. (fields_of c).has_globals ≡ false) }
@@ -165,6 +170,7 @@ fn plan_under<'a>(alloc: Global) -> Result<Command<'a>, AllocError>
     with_names(alloc, command, "The workspaces that are to be merged")
 }
 
+/// Returns the subcommand `check`.
 fn check<'a>(alloc: Global) -> Result<Command<'a>, AllocError>
     ensures shape { IfOk result (λ c. app_of c ≡ check) }
     ensures plain { IfOk result (λ c. (fields_of c).has_globals ≡ false) }
@@ -178,6 +184,7 @@ fn check<'a>(alloc: Global) -> Result<Command<'a>, AllocError>
     with_certificate(alloc, command)
 }
 
+/// Returns the subcommand `merge`.
 fn merge<'a>(alloc: Global) -> Result<Command<'a>, AllocError>
     ensures shape { IfOk result (λ c. app_of c ≡ merge) }
     ensures plain { IfOk result (λ c. (fields_of c).has_globals ≡ false) }
@@ -192,7 +199,7 @@ fn merge<'a>(alloc: Global) -> Result<Command<'a>, AllocError>
     with_names(alloc, command, "The workspaces to merge, in this order")
 }
 
-/// The command with one more subcommand.
+/// Returns the command with one more subcommand.
 fn add<'a>(command: Command<'a>, subcommand: Command<'a>) -> Result<Command<'a>, AllocError>
     requires command { (fields_of command).has_globals ≡ false }
     requires subcommand { (fields_of subcommand).has_globals ≡ false }
@@ -202,7 +209,7 @@ fn add<'a>(command: Command<'a>, subcommand: Command<'a>) -> Result<Command<'a>,
     command.subcommand(subcommand)
 }
 
-/// The command without its subcommands, of which it demands one.
+/// Returns the command without its subcommands. It requires one.
 fn start<'a>(alloc: Global) -> Command<'a>
     ensures shape { app_of result ≡ demanding }
     ensures plain { (fields_of result).has_globals ≡ false }
@@ -214,7 +221,7 @@ fn start<'a>(alloc: Global) -> Command<'a>
         .subcommand_required(true)
 }
 
-/// The command with the subcommands that print what stands.
+/// Returns the command with the subcommands that print something and change nothing.
 fn with_reports<'a>(alloc: Global) -> Result<Command<'a>, AllocError>
     ensures shape { IfOk result (λ c. app_of c ≡ reporting) }
     ensures plain { IfOk result (λ c. (fields_of c).has_globals ≡ false) }
@@ -225,7 +232,7 @@ fn with_reports<'a>(alloc: Global) -> Result<Command<'a>, AllocError>
     add(command, plan_under(alloc)?)
 }
 
-/// The whole command line. It fails for want of memory alone.
+/// Returns the whole command line.
 pub fn whole_command<'a>(alloc: Global) -> Result<Command<'a>, AllocError>
     ensures { IfOk result (λ c. app_of c ≡ program) }
 {

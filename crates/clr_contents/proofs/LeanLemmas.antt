@@ -1,4 +1,4 @@
--- Where no entry is neutral, after a sweep.
+-- Layers without neutral entries after a sweep.
 use Rattle.std.proofs.Common.{◌≡◌, ◌≢◌, ℕ, ◌<◌, Bool, true, false, nat_eq, ◌||◌, List, [], ◌∷◌, length, map, unwrap_or, refl, ap, sym, subst, ◌∙◌}
 use Rattle.std.specs.declared.option.Option.{Option}
 use Rattle.std.specs.FinMap as finite
@@ -20,7 +20,7 @@ use Rattle.clr_contents.specs.Lean.{content_of_parent, row_above, swept_marks, s
 use Rattle.clr_contents.proofs.ReadLemmas.{under_its_parent}
 use Rattle.clr_contents.proofs.SweepLemmas.{base_is}
 
--- tests that fail
+-- two tests of which neither is passed
 pub neither : (b c : Bool) → (b || c) ≡ false → (b ≡ false) × (c ≡ false)
 neither true c e = absurd (false≢true (sym e))
 neither false c e = (refl, e)

@@ -35,7 +35,7 @@ module _ (live : Content) (ls : List Layer) (at : ℕ) (r : IsRooted (wholes liv
       (λ k k_some k_lt under q none. ap (λ (w : Workspace). row_at w.current q) whole ∙ agree k k_some k_lt under q none ∙ ap (λ (w : Workspace). row_at w.current q) same)
       ∙ ap (slice_set (wholes live ls) at) whole
 
-  -- so where its content stays
+  -- a layer becomes another as its whole does, and its content stays
   pub becomes_still : (m : Layer) (f : Workspace → Workspace) → m.name ≡ (layer_at ls at).name → m.parent ≡ (layer_at ls at).parent → whole_of above m ≡ f (whole_of above (layer_at ls at))
       → (f here).current ≡ here.current → wholes live (slice_set ls at m) ≡ slice_set (wholes live ls) at (f (workspace_at (wholes live ls) at))
   becomes_still m f name parent is still = becomes m f name parent is (λ k k_some k_lt under q none. ap (λ (c : Content). row_at c q) still)

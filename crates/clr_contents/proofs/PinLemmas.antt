@@ -154,7 +154,7 @@ pinned_base ls at k v lt = subst (λ (l : Layer). HasEntry l.base k) (sym (get_o
 pub pinned_current : (ls : List Layer) (at : ℕ) (k : CellId) (v : Option Row) → at < length ls → HasEntry (layer_at (layer_changed ls at (λ l. record l { current = finite.insert l.current k v })) at).current k
 pinned_current ls at k v lt = subst (λ (l : Layer). HasEntry l.current k) (sym (get_or-set_same ls at _ no_layer lt)) (entry_made (layer_at ls at).current k v)
 
--- children still have them pinned where layers have more entries
+-- the children's entries stay pinned where layers get more entries
 pub children_keep : (ls ms : List Layer) (name : Name) (cells : List CellId) → Extends ls ms → ChildrenPin ls name cells → ChildrenPin ms name cells
 children_keep ls ms name cells e pinned k some lt under =
     let one = e.each k in

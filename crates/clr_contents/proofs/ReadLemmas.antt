@@ -59,7 +59,7 @@ module _ (live : Content) (ls : List Layer) (at : ℕ) (some : 0 < at) (lt : at 
   pub none_current : (q : CellId) → finite.get stored.current q ≡ None → row_at here.base q ≡ row_at here.current q
   none_current q e = sym (row-current q ∙ ap (λ o. unwrap_or o (row_at here.base q)) e)
 
-  -- with the position of the parent
+  -- where the position of the parent is known
   module _ (p : ℕ) (e : parent_of (wholes live ls) at ≡ Some p) (up : p < at) where
     abbrev above : Content
     above = (workspace_at (wholes live ls) p).current

@@ -16,22 +16,22 @@ pub record HasEntriesOf (l m : Layer) : Type 0 where
   pub base : (q : CellId) → HasEntry l.base q → HasEntry m.base q
   pub current : (q : CellId) → HasEntry l.current q → HasEntry m.current q
 
--- so is each layer
+-- each layer has the same name and parent as before, and at least the same entries
 pub record Extends (ls ms : List Layer) : Type 0 where
   pub long : length ms ≡ length ls
   pub each : (k : ℕ) → HasEntriesOf (layer_at ls k) (layer_at ms k)
 
--- a layer has the base entry of another at a cell, and besides no entry with the row that it lies over where the other has none
+-- a layer has the base entry of another at a cell, and no other neutral entry there where the other has none
 pub record StaysOwnAt (q : CellId) (l m : Layer) : Type 0 where
   pub base : finite.get m.base q ≡ finite.get l.base q
   pub current : (row : Option Row) → IsOwnOver row (finite.get l.current q) → IsOwnOver row (finite.get m.current q)
   pub saved : (row : Option Row) → AreOwnOver row q l.marks → AreOwnOver row q m.marks
 
--- so it is of each layer at each cell, but for the one at a position at some cells
+-- each layer has no new neutral entry at any cell, but for the one at a position at some cells
 abbrev pub StayOwnBut : ℕ → List CellId → List Layer → List Layer → Type 0
 StayOwnBut at cells ls ms = (k : ℕ) (q : CellId) → (k ≡ at → is_among cells q ≡ false) → StaysOwnAt q (layer_at ls k) (layer_at ms k)
 
--- but for the children of a workspace at some cells
+-- each layer has no new neutral entry at any cell, but for the children of a workspace at some cells
 abbrev pub StayOwnButChildren : Name → List CellId → List Layer → List Layer → Type 0
 StayOwnButChildren name cells ls ms = (k : ℕ) (q : CellId) → (IsUnder name (layer_at ls k) → is_among cells q ≡ false)
     → StaysOwnAt q (layer_at ls k) (layer_at ms k)

@@ -1,10 +1,10 @@
-//! What workspaces see: their contents read by cell or whole, the entries that keep them as they are
-//! before another content changes, and the neutral entries that go after it.
+//! What workspaces see: their contents read by cell or whole, the entries that keep them as they
+//! are before another content changes, and the sweep of neutral entries after it.
 //!
-//! - `row_of`, `base_row_of`, `whole_rows`, `base_rows`, `saved_rows` and `changes_of`: the rows of
-//!   a workspace, by cell or whole, as the differences above one another mean them. `pin_children`,
-//!   `pin_current`, `pin_own` and `pin_saved` make entries before a content below changes [`seen`]:
-//!   no content changes by them, also where no memory is found.
+//! - `row_of`, `base_row_of`, `whole_rows`, `base_rows`, `saved_rows` and `changes_of` read the
+//!   rows of a workspace, by cell or whole, as the differences above one another mean them.
+//!   `pin_children`, `pin_current`, `pin_own` and `pin_saved` make entries before a content below
+//!   changes [`seen`]: no content changes by them, also where memory runs out.
 #![tactic(auto)]
 
 mod pins;

@@ -1,3 +1,5 @@
+//! Entries that are made before a content changes, so that what lies over it stays as it is.
+
 ghost use Rattle.std.specs.Prelude.{◌≡◌, ◌<◌, ◌∷◌, [], length, OnOk};
 ghost use Rattle.std.specs.Str.{bytes_eq};
 ghost use Rattle.clr_differences.specs.Differences.{HasEntry, HasEntries};
@@ -11,8 +13,8 @@ use clr_layers::WorkspaceMap;
 use clr_rows::{CellId, Sheet};
 use std::alloc::AllocError;
 
-// Each function here makes entries with the rows that stand, so that no content changes, and fails
-// for want of memory alone.
+// Each function here makes entries with the rows that are seen. No content changes, also where
+// memory runs out.
 
 /// Makes an entry at a cell of a base that has none there.
 fn pin_base(live: &Sheet, map: &mut WorkspaceMap, at: usize, cell: CellId) -> Result<(), AllocError>
@@ -54,7 +56,7 @@ fn pin_bases(
     Ok(())
 }
 
-/// Whether a workspace is a child of another.
+/// Returns whether a workspace is a child of another.
 fn is_child_of(map: &WorkspaceMap, child: usize, parent: usize) -> bool
     requires child { child < length map.now }
     requires parent { parent < length map.now }

@@ -1,3 +1,5 @@
+//! What a workspace has at a cell, and how deep it is.
+
 ghost use Rattle.std.specs.Prelude.{◌≡◌, ◌<◌, length, Some};
 ghost use Rattle.std.specs.Option.{option_copied};
 ghost use Rattle.clr_rows.specs.Contents.{row_at};
@@ -8,7 +10,7 @@ ghost use Rattle.clr_workspaces.specs.Roots.{IsRooted};
 use clr_layers::WorkspaceMap;
 use clr_rows::{CellId, Row, Sheet};
 
-/// The position of the parent of a workspace other than LIVE.
+/// Returns the position of the parent of a workspace other than LIVE.
 pub fn parent_of(live: &Sheet, map: &WorkspaceMap, at: usize) -> usize
     requires child { 0 < at }
     requires within { at < length map.now }
@@ -20,7 +22,7 @@ pub fn parent_of(live: &Sheet, map: &WorkspaceMap, at: usize) -> usize
     map.find(map.parent_name(at)).unwrap()
 }
 
-/// The row at a cell of a current content, found by going up the tree.
+/// Returns the row at a cell of a current content. It is found by going up the tree.
 pub fn row_of<'a>(
     live: &'a Sheet,
     map: &'a WorkspaceMap,
@@ -43,7 +45,7 @@ pub fn row_of<'a>(
     live.get(cell)
 }
 
-/// The row at a cell of the base of a workspace other than LIVE.
+/// Returns the row at a cell of the base of a workspace other than LIVE.
 pub fn base_row_of<'a>(
     live: &'a Sheet,
     map: &'a WorkspaceMap,
@@ -61,7 +63,7 @@ pub fn base_row_of<'a>(
     row_of(live, map, parent_of(live, map, at), cell)
 }
 
-/// How many workspaces are above one.
+/// Returns how many workspaces are above one.
 pub fn depth_at(live: &Sheet, map: &WorkspaceMap, mut at: usize) -> usize
     requires within { at < length map.now }
     requires rooted { IsRooted (wholes live.now map.now) }

@@ -1,3 +1,5 @@
+//! The sweep of neutral entries: those that have the row of what they lie over.
+
 ghost use Rattle.std.specs.Prelude.{◌≡◌, ◌<◌, ◌||◌, length, nat_eq};
 ghost use Rattle.std.specs.Str.{bytes_eq};
 ghost use Rattle.clr_layers.specs.Layers.{layer_at, layer_changed, wholes};
@@ -12,10 +14,10 @@ use clr_differences::Differences;
 use clr_layers::{WorkspaceMap, sweep_each, sweep_each_at};
 use clr_rows::{CellId, Sheet};
 
-// Each function here changes no content, and takes no memory.
+// No function here changes a content or takes memory.
 
-/// Takes away the entries of a base that have the row of the parent's current content. The base is
-/// taken out for that time, which changes neither the parent nor what is above it.
+/// Takes away the neutral entries of a base. The base is taken out for that time, which changes
+/// neither the parent nor what is above it.
 fn sweep_base(live: &Sheet, map: &mut WorkspaceMap, at: usize)
     requires child { 0 < at }
     requires within { at < length map.old }
@@ -29,8 +31,8 @@ fn sweep_base(live: &Sheet, map: &mut WorkspaceMap, at: usize)
     let _none = map.replace_base(at, base);
 }
 
-/// Takes away the entries of a current content that have the row of the base. The current content
-/// is taken out for that time, which doesn't change the base.
+/// Takes away the neutral entries of a current content. The current content is taken out for that
+/// time, which doesn't change the base.
 fn sweep_current(live: &Sheet, map: &mut WorkspaceMap, at: usize)
     requires child { 0 < at }
     requires within { at < length map.old }
@@ -43,8 +45,8 @@ fn sweep_current(live: &Sheet, map: &mut WorkspaceMap, at: usize)
     let _none = map.replace_current(at, current);
 }
 
-/// Takes away the entries of savepoints that have the row of the base. The marks are taken out for
-/// that time, which doesn't change the base.
+/// Takes away the neutral entries of savepoints. The marks are taken out for that time, which
+/// doesn't change the base.
 fn sweep_saved(live: &Sheet, map: &mut WorkspaceMap, at: usize)
     requires child { 0 < at }
     requires within { at < length map.old }
@@ -57,7 +59,7 @@ fn sweep_saved(live: &Sheet, map: &mut WorkspaceMap, at: usize)
     let _none = map.replace_marks(at, marks);
 }
 
-/// Takes away the entries of a workspace that have the row of what they lie over.
+/// Takes away the neutral entries of a workspace.
 fn sweep_one(live: &Sheet, map: &mut WorkspaceMap, at: usize)
     requires child { 0 < at }
     requires within { at < length map.old }
@@ -71,7 +73,7 @@ fn sweep_one(live: &Sheet, map: &mut WorkspaceMap, at: usize)
     sweep_saved(live, map, at);
 }
 
-/// Takes away every entry that has the row of what it lies over.
+/// Takes away every neutral entry: one that has the row of what it lies over.
 pub fn sweep(live: &Sheet, map: &mut WorkspaceMap)
     requires { IsRooted (wholes live.now map.old) }
     ensures seen { wholes live.now map.new ≡ wholes live.now map.old }
@@ -82,6 +84,7 @@ pub fn sweep(live: &Sheet, map: &mut WorkspaceMap)
     }
 }
 
+/// Takes away the neutral entries of a base at some cells, as `sweep_base` does.
 fn sweep_base_at(live: &Sheet, map: &mut WorkspaceMap, at: usize, cells: &[CellId])
     requires child { 0 < at }
     requires within { at < length map.old }
@@ -95,6 +98,7 @@ fn sweep_base_at(live: &Sheet, map: &mut WorkspaceMap, at: usize, cells: &[CellI
     let _none = map.replace_base(at, base);
 }
 
+/// Takes away the neutral entries of a current content at some cells, as `sweep_current` does.
 fn sweep_current_at(live: &Sheet, map: &mut WorkspaceMap, at: usize, cells: &[CellId])
     requires child { 0 < at }
     requires within { at < length map.old }
@@ -107,6 +111,7 @@ fn sweep_current_at(live: &Sheet, map: &mut WorkspaceMap, at: usize, cells: &[Ce
     let _none = map.replace_current(at, current);
 }
 
+/// Takes away the neutral entries of savepoints at some cells, as `sweep_saved` does.
 fn sweep_saved_at(live: &Sheet, map: &mut WorkspaceMap, at: usize, cells: &[CellId])
     requires child { 0 < at }
     requires within { at < length map.old }
@@ -119,7 +124,7 @@ fn sweep_saved_at(live: &Sheet, map: &mut WorkspaceMap, at: usize, cells: &[Cell
     let _none = map.replace_marks(at, marks);
 }
 
-/// Takes away the entries of a workspace at some cells that have the row of what they lie over.
+/// Takes away the neutral entries of a workspace at some cells.
 fn sweep_one_at(live: &Sheet, map: &mut WorkspaceMap, at: usize, cells: &[CellId])
     requires child { 0 < at }
     requires within { at < length map.old }
@@ -137,7 +142,7 @@ fn sweep_one_at(live: &Sheet, map: &mut WorkspaceMap, at: usize, cells: &[CellId
     sweep_saved_at(live, map, at, cells);
 }
 
-/// Whether a workspace is the one at a position or a child of it.
+/// Returns whether a workspace is the one at a position or a child of it.
 fn is_near(map: &WorkspaceMap, one: usize, at: usize) -> bool
     requires one { one < length map.now }
     requires within { at < length map.now }
@@ -146,8 +151,8 @@ fn is_near(map: &WorkspaceMap, one: usize, at: usize) -> bool
     one == at || map.name_at(at) == map.parent_name(one)
 }
 
-/// Takes away the entries of a workspace at some cells that have the row of what they lie over, if
-/// it is the one at a position or a child of it.
+/// Takes away the neutral entries of a workspace at some cells, if it is the one at a position or a
+/// child of it.
 fn sweep_near(live: &Sheet, map: &mut WorkspaceMap, one: usize, at: usize, cells: &[CellId])
     requires child { 0 < one }
     requires one { one < length map.old }
@@ -164,8 +169,8 @@ fn sweep_near(live: &Sheet, map: &mut WorkspaceMap, one: usize, at: usize, cells
     sweep_one_at(live, map, one, cells);
 }
 
-/// Takes away every entry that has the row of what it lies over, where there is none but in the
-/// workspace at a position and its children at some cells. It looks at no other entry.
+/// Takes away every neutral entry, where each one stands at some cells in the workspace at a
+/// position or in a child of it. It looks at no other entry.
 pub fn sweep_at(live: &Sheet, map: &mut WorkspaceMap, at: usize, cells: &[CellId])
     requires within { at < length map.old }
     requires rooted { IsRooted (wholes live.now map.old) }

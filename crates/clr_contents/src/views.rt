@@ -1,3 +1,5 @@
+//! Current contents and bases of workspaces, seen by cell.
+
 ghost use Rattle.std.specs.Prelude.{◌≡◌, ◌<◌, length};
 ghost use Rattle.clr_layers.specs.Layers.{wholes};
 ghost use Rattle.clr_workspaces.specs.Workspaces.{workspace_at};
@@ -33,7 +35,7 @@ impl<'a> Model for View<'a> {
 }
 
 impl<'a> View<'a> {
-    /// A view of the workspace at a position.
+    /// Returns a view of the workspace at a position.
     pub fn new(live: &'a Sheet, map: &'a WorkspaceMap, at: usize) -> View<'a>
         requires within { at < length map.now }
         requires rooted { IsRooted (wholes live.now map.now) }
@@ -76,7 +78,7 @@ impl<'a> Model for BaseView<'a> {
 }
 
 impl<'a> BaseView<'a> {
-    /// A view of the workspace at a position.
+    /// Returns a view of the workspace at a position.
     pub fn new(live: &'a Sheet, map: &'a WorkspaceMap, at: usize) -> BaseView<'a>
         requires child { 0 < at }
         requires within { at < length map.now }

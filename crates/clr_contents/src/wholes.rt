@@ -1,3 +1,5 @@
+//! Current contents, bases, savepoints and changes of workspaces, made whole.
+
 ghost use Rattle.std.specs.Prelude.{◌≡◌, ◌<◌, true, length, IfOk};
 ghost use Rattle.clr_rows.specs.Contents.{changes, no_changes};
 ghost use Rattle.clr_differences.specs.Differences.{cells_in};
@@ -14,7 +16,7 @@ use clr_layers::{StoredMark, WorkspaceMap};
 use clr_rows::{CellId, Row, Sheet};
 use std::alloc::{AllocError, Global};
 
-/// The current content of a workspace, whole. It fails for want of memory alone.
+/// Returns the current content of a workspace, whole.
 pub fn whole_rows(live: &Sheet, map: &WorkspaceMap, at: usize) -> Result<Sheet, AllocError>
     requires within { at < length map.now }
     requires rooted { IsRooted (wholes live.now map.now) }
@@ -30,7 +32,7 @@ pub fn whole_rows(live: &Sheet, map: &WorkspaceMap, at: usize) -> Result<Sheet, 
     Ok(sheet)
 }
 
-/// The base of a workspace other than LIVE, whole. It fails for want of memory alone.
+/// Returns the base of a workspace other than LIVE, whole.
 pub fn base_rows(live: &Sheet, map: &WorkspaceMap, at: usize) -> Result<Sheet, AllocError>
     requires child { 0 < at }
     requires within { at < length map.now }
@@ -43,6 +45,7 @@ pub fn base_rows(live: &Sheet, map: &WorkspaceMap, at: usize) -> Result<Sheet, A
     Ok(content)
 }
 
+/// Returns the changes from the base of a workspace other than LIVE to these rows.
 #[tactic(auto, unfolding(crate::specs::Pinning::set_each))]
 fn changes_to(
     live: &Sheet,
@@ -62,8 +65,8 @@ fn changes_to(
     Ok(set)
 }
 
-/// What a workspace other than LIVE changed, found among the entries of its current content. It
-/// fails for want of memory alone.
+/// Returns what a workspace other than LIVE changed. It is found among the entries of its current
+/// content.
 pub fn changes_of(live: &Sheet, map: &WorkspaceMap, at: usize) -> Result<ChangeSet, AllocError>
     requires child { 0 < at }
     requires within { at < length map.now }
@@ -75,7 +78,7 @@ pub fn changes_of(live: &Sheet, map: &WorkspaceMap, at: usize) -> Result<ChangeS
     Ok(set)
 }
 
-/// The cells of rows. It fails for want of memory alone.
+/// Returns the cells of rows.
 pub fn cells_of(alloc: Global, rows: &[(CellId, Option<Row>)]) -> Result<Vec<CellId>, AllocError>
     ensures { IfOk result (λ cells. cells.items ≡ cells_in rows.now) }
 {
@@ -86,6 +89,7 @@ pub fn cells_of(alloc: Global, rows: &[(CellId, Option<Row>)]) -> Result<Vec<Cel
     Ok(cells)
 }
 
+/// Returns a copy of a savepoint's differences, or none of the mark of a child.
 fn differences_of(alloc: Global, mark: &StoredMark) -> Result<Differences, AllocError>
     ensures { IfOk result (λ differences. differences ≡ saved_differences mark.now) }
 {
@@ -95,7 +99,7 @@ fn differences_of(alloc: Global, mark: &StoredMark) -> Result<Differences, Alloc
     }
 }
 
-/// The differences of a savepoint from the base. It fails for want of memory alone.
+/// Returns the differences of a savepoint from the base.
 pub fn saved_at(map: &WorkspaceMap, at: usize, mark: usize) -> Result<Differences, AllocError>
     requires within { at < length map.now }
     requires marked { mark < length (layer_at map.now at).marks }
@@ -104,8 +108,7 @@ pub fn saved_at(map: &WorkspaceMap, at: usize, mark: usize) -> Result<Difference
     differences_of(map.allocator(), &map.marks(at)[mark])
 }
 
-/// The content of a savepoint of a workspace other than LIVE, whole. It fails for want of memory
-/// alone.
+/// Returns the content of a savepoint of a workspace other than LIVE, whole.
 pub fn saved_rows(
     live: &Sheet,
     map: &WorkspaceMap,

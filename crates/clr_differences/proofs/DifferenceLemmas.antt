@@ -60,7 +60,7 @@ neutral m d k v is = seen_over-insert m d k v ∙ set_cell-same (seen_over m d) 
 pub neutral_new : (m : Content) (d : Differences) (k : CellId) (v : Option Row) → finite.get d k ≡ None → v ≡ row_at m k → seen_over m (finite.insert d k v) ≡ seen_over m d
 neutral_new m d k v none is = neutral m d k v (is ∙ sym (row-seen_over m d k ∙ ap (λ o. unwrap_or o (row_at m k)) none))
 
--- an entry with the row below taken away
+-- an entry with the row below is taken away
 pub neutral_taken : (m : Content) (d : Differences) (k : CellId) → finite.get d k ≡ Some (row_at m k) → seen_over m (finite.remove d k) ≡ seen_over m d
 neutral_taken m d k is = same_content _ _ (λ q.
     row-seen_over m (finite.remove d k) q ∙ ap (λ o. unwrap_or o (row_at m q)) (finite.get-remove cell_cmp_total d k q) ∙ by q (eq_by_cmp cell_cmp q k) refl ∙ sym (row-seen_over m d q))

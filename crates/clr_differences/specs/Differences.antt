@@ -28,7 +28,7 @@ differences_of entries = finite.from_sorted entries
 abbrev pub no_differences : Differences
 no_differences = finite.empty
 
--- in the order of cells
+-- the entries stand in the order of cells
 abbrev pub IsSound : Rows → Type 0
 IsSound entries = T (finite.is_sorted cell_cmp entries)
 
@@ -36,7 +36,7 @@ IsSound entries = T (finite.is_sorted cell_cmp entries)
 unfoldable pub seen_over : Content → Differences → Content
 seen_over below d = over below (finite.entries d)
 
--- what a content differs in from the one below: at exactly the cells where they differ
+-- the entries that make one content of the one below: at exactly the cells where they differ
 abbrev pub differences_from : Content → Content → Differences
 differences_from below content = differences_of (rows_after (changes below content))
 
@@ -53,7 +53,7 @@ abbrev pub is_neutral_over : Option Row → Option (Option Row) → Bool
 is_neutral_over below None = false
 is_neutral_over below (Some row) = same below row
 
--- an entry, if there is one, hasn't
+-- an entry, if there is one, hasn't the row of the content below
 abbrev pub IsOwnOver : Option Row → Option (Option Row) → Type 0
 IsOwnOver below entry = is_neutral_over below entry ≡ false
 
@@ -66,7 +66,7 @@ is_among (cell ∷ cells) q = if eq_by_cmp cell_cmp q cell then true else is_amo
 unfoldable pub swept_cell : Content → Differences → CellId → Differences
 swept_cell below d cell = if is_neutral_over (row_at below cell) (finite.get d cell) then finite.remove d cell else d
 
--- so at each of some cells
+-- without the entries at some cells that have the row of the content below
 unfoldable pub swept_at : Content → List CellId → Differences → Differences
 swept_at below [] d = d
 swept_at below (cell ∷ cells) d = swept_at below cells (swept_cell below d cell)

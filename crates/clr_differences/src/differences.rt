@@ -1,3 +1,5 @@
+//! Differences of a content from the one below it.
+
 ghost use Rattle.std.specs.Prelude.{◌≡◌, ◌<◌, ◌^◌, ◌∷◌, [], false, length, Option, IfOk, OnOk, OnErr, IsOk};
 ghost use Rattle.std.specs.FinMap as finite;
 ghost use Rattle.std.specs.Map.Iter.{ShowsInOrder, deref_pair};
@@ -35,7 +37,7 @@ impl Model for Differences {
     ghost invariant = { λ d. differences.IsSound d.rows.entries };
 }
 
-/// Whether an entry at a cell has the row of the content below.
+/// Returns whether an entry at a cell has the row of the content below.
 fn is_neutral<V: RowView>(below: &V, cell: CellId, row: &Option<Row>) -> bool
     ensures { result ≡ same (row_at (V.content below.now) cell) row.now }
 {
@@ -43,7 +45,7 @@ fn is_neutral<V: RowView>(below: &V, cell: CellId, row: &Option<Row>) -> bool
 }
 
 impl Differences {
-    /// No differences.
+    /// Returns differences without entries.
     pub fn new(alloc: Global) -> Differences
         ensures { result ≡ no_differences }
     {
@@ -53,14 +55,14 @@ impl Differences {
         }
     }
 
-    /// The entry at a cell: a row, or no row; or none where there is no entry.
+    /// Returns the entry at a cell, which is a row or no row; or none where there is no entry.
     pub fn get(&self, cell: CellId) -> Option<&Option<Row>>
         ensures { option_copied result ≡ finite.get self.now cell }
     {
         self.rows.get(&cell)
     }
 
-    /// How many entries there are.
+    /// Returns how many entries there are.
     pub fn len(&self) -> usize
         ensures count { result ≡ length (finite.keys self.now) }
         ensures small { result < 2 ^ 63 }
@@ -68,7 +70,7 @@ impl Differences {
         self.rows.len()
     }
 
-    /// The entries, in the order of cells, without a copy.
+    /// Returns the entries, in the order of cells, not copied.
     pub fn iter(&self) -> Iter<'_, CellId, Option<Row>>
         ensures rest { result ≡ finite.entries self.now }
         ensures runs { ShowsInOrder (deref_pair {K = Cell} {X = Option OneRow}) }
@@ -76,15 +78,16 @@ impl Differences {
         self.rows.iter()
     }
 
-    /// Takes away each entry with the row of the content below, so that what is seen stays. It
-    /// takes no memory.
+    /// Takes away each neutral entry, one that has the row of the content below. What is seen
+    /// stays. It takes no memory.
     pub fn sweep<V: RowView>(&mut self, below: &V)
         ensures { self.new ≡ without_neutral (V.content below.now) self.old }
     {
         self.rows.retain(|cell, row| !is_neutral(below, *cell, row));
     }
 
-    /// Whether there is an entry at a cell that has the row of the content below.
+    /// Returns whether there is a neutral entry at a cell, one that has the row of the content
+    /// below.
     fn has_neutral<V: RowView>(&self, below: &V, cell: CellId) -> bool
         ensures { result ≡ is_neutral_over (row_at (V.content below.now) cell) (finite.get self.now cell) }
     {
@@ -94,6 +97,7 @@ impl Differences {
         }
     }
 
+    /// Takes the entry at a cell away where it is neutral.
     #[tactic(auto, unfolding(crate::specs::Differences::swept_cell))]
     fn sweep_cell<V: RowView>(&mut self, below: &V, cell: CellId)
         ensures { self.new ≡ swept_cell (V.content below.now) self.old cell }
@@ -103,8 +107,8 @@ impl Differences {
         }
     }
 
-    /// Takes away each entry at some cells that has the row of the content below, so that what is
-    /// seen stays. It takes no memory, and looks at no other entry.
+    /// Takes away each neutral entry at some cells, one that has the row of the content below. What
+    /// is seen stays. It takes no memory, and looks at no other entry.
     pub fn sweep_at<V: RowView>(&mut self, below: &V, cells: &[CellId])
         ensures { self.new ≡ swept_at (V.content below.now) cells.now self.old }
     {
@@ -113,8 +117,8 @@ impl Differences {
         }
     }
 
-    /// Puts an entry at a cell. It fails for want of memory alone, never where the cell has an
-    /// entry, and changes nothing then.
+    /// Puts an entry at a cell. If memory runs out, nothing changes. It never fails where the cell
+    /// has an entry.
     pub fn put(&mut self, cell: CellId, row: Option<Row>) -> Result<(), AllocError>
         ensures ok { OnOk result (self.new ≡ finite.insert self.old cell row) }
         ensures err { OnErr result (self.new ≡ self.old) }
@@ -133,7 +137,7 @@ impl Differences {
         put.unwrap();
     }
 
-    /// Sets entries that are there, one after another.
+    /// Sets entries that are there to rows, or to none, one after another.
     #[tactic(auto, using(crate::proofs::DifferenceLemmas::entries_stay), unfolding(crate::specs::Differences::put_each))]
     pub fn set_each(&mut self, rows: Vec<(CellId, Option<Row>)>)
         requires { HasEntries self.old (cells_in rows.items) }
@@ -151,8 +155,8 @@ impl Differences {
         self.rows.remove(&cell);
     }
 
-    /// Makes an entry at a cell that has none, with the row of the content below, so that what is
-    /// seen stays. It fails for want of memory alone, and what is seen stays then too.
+    /// Makes an entry at a cell that has none, with the row of the content below. What is seen
+    /// stays, also where memory runs out.
     pub fn pin(&mut self, cell: CellId, row: Option<&Row>) -> Result<(), AllocError>
         ensures seen { (below : Content) → row_at below cell ≡ option_copied row.entry → seen_over below self.new ≡ seen_over below self.old }
         ensures pinned { OnOk result (HasEntry self.new cell) }
@@ -166,7 +170,7 @@ impl Differences {
         Ok(())
     }
 
-    /// The cells of the entries, ascending. It fails for want of memory alone.
+    /// Returns the cells of the entries, ascending.
     pub fn cells(&self) -> Result<Vec<CellId>, AllocError>
         ensures { IfOk result (λ cells. cells.items ≡ finite.keys self.now) }
     {
@@ -177,7 +181,7 @@ impl Differences {
         Ok(cells)
     }
 
-    /// The entries, in the order of cells. It fails for want of memory alone.
+    /// Returns the entries, in the order of cells.
     pub fn rows(&self) -> Result<Vec<(CellId, Option<Row>)>, AllocError>
         ensures { IfOk result (λ rows. rows.items ≡ finite.entries self.now) }
     {
@@ -189,7 +193,7 @@ impl Differences {
         Ok(rows)
     }
 
-    /// Differences with these rows, put one after another. It fails for want of memory alone.
+    /// Returns differences with these rows, put one after another.
     #[tactic(auto, unfolding(crate::specs::Differences::put_each))]
     pub fn of_rows(
         alloc: Global,
@@ -204,7 +208,7 @@ impl Differences {
         Ok(differences)
     }
 
-    /// A second set of the same differences. It fails for want of memory alone.
+    /// Returns a copy of the differences.
     pub fn copy(&self) -> Result<Differences, AllocError>
         ensures { IfOk result (λ differences. differences ≡ self.now) }
     {

@@ -1,7 +1,8 @@
 //! Differences from a content: rows, or none, at some cells.
 //!
-//! - What a content differs in from another, by cells. Each call says what becomes of what is
-//!   stored; of `pin` it is said that no content changes, also where no memory is found.
+//! `Differences` says in what one content differs from another that lies below it. The contract of
+//! each call says what becomes of the stored entries; that of `pin` says that no content changes,
+//! also where memory runs out.
 #![tactic(auto)]
 
 mod differences;

@@ -1,4 +1,4 @@
--- One promise about an answer that gives another.
+-- A promise about an answer that follows from another.
 use Rattle.std.specs.Prelude.{Result, Ok, Err, OnOk, OnErr}
 
 pub on_ok : {X E : Type 0} (r : Result X E) (P Q : Type 0) → (P → Q) → OnOk r P → OnOk r Q

@@ -21,7 +21,7 @@ one_changed f xs ys i d is lt =
     let same : suc i ≡ i + 1 = omega arith in
     ap (λ zs. slice_set zs i (f (get_or zs i d))) is ∙ next f xs i d lt ∙ ap (λ j. first f j xs) same
 
--- one of some marks changed, which keeps what is said of it
+-- one of some marks is changed, and keeps what is said of it
 pub own_set : (base : Option Row) (q : CellId) (ms : List StoredMark) (i : ℕ) (m d : StoredMark) → (AreOwnOver base q (get_or ms i d ∷ []) → AreOwnOver base q (m ∷ [])) → AreOwnOver base q ms → AreOwnOver base q (slice_set ms i m)
 own_set base q [] i m d one own = own
 own_set base q (x ∷ ms) zero m d one own = ((one (own.0, tt)).0, own.1)

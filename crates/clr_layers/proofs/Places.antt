@@ -96,7 +96,7 @@ moved_grow ws (l ∷ ls) (suc at) m lt name parent new agree =
     (λ k k_lt under q none. ap (λ (c : Content). row_at (whole_of c m).current q) same ∙ agree (suc k) (omega arith) under q none ∙ sym (ap (λ (c : Content). row_at (whole_of c l_at).current q) same))
     ∙ ap (λ (c : Content). slice_set (grow (ws ++ w ∷ []) ls) at (whole_of c m)) same)
 
--- so has each later one than LIVE
+-- each layer later than LIVE's has entries where two contents differ
 abbrev pub LaterAgree : Name → Content → Content → List Layer → Type 0
 LaterAgree name x y ls = (k : ℕ) → 0 < k → k < length ls → IsUnder name (layer_at ls k) → AgreeOutside (layer_at ls k).base x y
 

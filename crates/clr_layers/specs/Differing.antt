@@ -1,4 +1,4 @@
--- Marks and workspaces by what they differ in from what they lie over: at exactly the cells where they differ.
+-- Marks and workspaces by their differences from what they lie over, at exactly the cells where they differ.
 use Rattle.std.specs.Prelude.{map}
 use Rattle.clr_rows.specs.Contents.{Content}
 use Rattle.clr_differences.specs.Differences.{differences_from}
@@ -12,7 +12,7 @@ abbrev pub mark_from : Content → Mark → StoredMark
 mark_from base (Saved name content) = stored.Saved name (differences_from base content)
 mark_from base (ChildMark name) = stored.Child name
 
--- a workspace whose parent has this content
+-- the layer of a workspace whose parent has this content
 abbrev pub layer_from : Content → Workspace → Layer
 layer_from above w =
     record {

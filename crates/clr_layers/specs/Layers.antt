@@ -15,7 +15,7 @@ use Rattle.clr_workspaces.specs.Workspaces.{Workspace, live_workspace}
 use Rattle.clr_layers.specs.declared.stored_marks.StoredMark.{StoredMark}
 use Rattle.clr_layers.specs.declared.stored_marks.StoredMark.TheVariants as stored
 
--- what is stored of a workspace: its base by differences from its parent's content, its content and savepoints by those from its base
+-- what is stored of a workspace: its base by differences from its parent's content, and its content and savepoints by differences from its base
 pub record Layer : Type 0 where
   pub name : Name
   pub parent : Name
@@ -79,7 +79,7 @@ stored_in l = length (finite.keys l.base) + length (finite.keys l.current)
 
 -- MARKS
 
--- the position of a mark
+-- the mark at a position
 abbrev pub stored_at : List StoredMark → ℕ → StoredMark
 stored_at marks i = slice_index_or marks i (stored.Child [])
 
@@ -111,7 +111,7 @@ abbrev pub swept_mark : Content → StoredMark → StoredMark
 swept_mark base (stored.Saved name d) = stored.Saved name (without_neutral base d)
 swept_mark base (stored.Child name) = stored.Child name
 
--- so where only the entries at some cells are looked at
+-- a mark without the entries at some cells that have the row of the base
 abbrev pub swept_mark_at : Content → List CellId → StoredMark → StoredMark
 swept_mark_at base cells (stored.Saved name d) = stored.Saved name (swept_at base cells d)
 swept_mark_at base cells (stored.Child name) = stored.Child name
@@ -121,7 +121,7 @@ abbrev pub AreOwnOver : Option Row → CellId → List StoredMark → Type 0
 AreOwnOver base q [] = Unit {0}
 AreOwnOver base q (m ∷ ms) = IsOwnOver base (finite.get (saved_differences m) q) × AreOwnOver base q ms
 
--- beside some cells no savepoint has such an entry that had none
+-- at all other cells no savepoint has come to have an entry with the row of the base
 abbrev pub StayOwnBeside : List CellId → List StoredMark → List StoredMark → Type 0
 StayOwnBeside cells old new = (q : CellId) → is_among cells q ≡ false → (base : Option Row) → AreOwnOver base q old → AreOwnOver base q new
 
@@ -152,7 +152,7 @@ abbrev pub whole_mark : Content → StoredMark → Mark
 whole_mark base (stored.Saved name d) = Saved name (seen_over base d)
 whole_mark base (stored.Child name) = ChildMark name
 
--- a workspace whose parent has this content
+-- the workspace that a layer means where its parent has this content
 unfoldable pub whole_of : Content → Layer → Workspace
 whole_of above l =
     let base = seen_over above l.base in

@@ -1,3 +1,5 @@
+//! What is stored of a workspace, seen under its name.
+
 ghost use Rattle.std.specs.Prelude.{◌≡◌};
 ghost use Rattle.clr_layers.specs.Entries.{layer_under};
 
@@ -25,49 +27,49 @@ impl<'a> Model for LayerView<'a> {
 }
 
 impl<'a> LayerView<'a> {
-    /// A layer, seen under a name.
+    /// Returns a layer, seen under a name.
     pub(crate) fn new(name: &'a str, layer: &'a Layer) -> LayerView<'a>
         ensures { result ≡ layer_under name.now layer.now }
     {
         LayerView { name, layer }
     }
 
-    /// The name of the workspace.
+    /// Returns the name of the workspace.
     pub fn name(&self) -> &'a str
         ensures { result.now ≡ self.now.name }
     {
         self.name
     }
 
-    /// The name of its parent.
+    /// Returns the name of the workspace's parent.
     pub fn parent(&self) -> &'a str
         ensures { result.now ≡ self.now.parent }
     {
         self.layer.parent.as_str()
     }
 
-    /// The differences of its base from the content of its parent.
+    /// Returns the differences of the workspace's base from the content of its parent.
     pub fn base(&self) -> &'a Differences
         ensures { result.now ≡ self.now.base }
     {
         &self.layer.base
     }
 
-    /// The differences of its current content from its base.
+    /// Returns the differences of the workspace's current content from its base.
     pub fn current(&self) -> &'a Differences
         ensures { result.now ≡ self.now.current }
     {
         &self.layer.current
     }
 
-    /// Its marks in their order, savepoints by their differences from its base.
+    /// Returns the workspace's marks in their order, savepoints by their differences from the base.
     pub fn marks(&self) -> &'a [StoredMark]
         ensures { result.now ≡ self.now.marks }
     {
         self.layer.marks.as_slice()
     }
 
-    /// Whether every rule is to hold in it.
+    /// Returns whether every rule is to hold in the workspace.
     pub fn is_kept(&self) -> bool
         ensures { result ≡ self.now.kept }
     {

@@ -1,8 +1,8 @@
 //! What is stored of the workspaces of a tree: a map of layers by name, in order of creation.
 //!
-//! - What is stored of a workspace, by differences, and the whole contents that it means. Each call
-//!   says what becomes of what is stored; of `pin_saved` it is said that no content changes, also
-//!   where no memory is found.
+//! A layer is what is stored of a workspace, by differences; specs/ says which whole contents it
+//! means. The contract of each call says what becomes of the layers; that of `pin_saved` says that
+//! no content changes, also where memory runs out.
 #![tactic(auto)]
 
 mod layer_views;

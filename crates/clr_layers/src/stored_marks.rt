@@ -1,3 +1,5 @@
+//! Marks as they are stored.
+
 ghost use Rattle.std.specs.Prelude.{◌≡◌, ◌<◌, ◌++◌, [], ◌∷◌, suc, map, take, drop, filter, remove, length, count_by, position, OnOk, OnErr};
 ghost use Rattle.std.specs.List.{list_any};
 ghost use Rattle.std.specs.Option.{option_copied};
@@ -18,6 +20,7 @@ pub enum StoredMark {
     Child(Words),
 }
 
+/// Makes an entry at a cell in a savepoint that has none there, with the row of the base.
 fn pin(mark: &mut StoredMark, cell: CellId, row: Option<&Row>) -> Result<(), AllocError>
     ensures seen { (base : Content) → row_at base cell ≡ option_copied row.entry → whole_mark base mark.new ≡ whole_mark base mark.old }
     ensures pinned { OnOk result (MarkPins cell mark.new) }
@@ -29,8 +32,8 @@ fn pin(mark: &mut StoredMark, cell: CellId, row: Option<&Row>) -> Result<(), All
     }
 }
 
-/// Makes an entry at a cell in each savepoint that has none there, with the row of the base, so
-/// that no savepoint's content changes. It fails for want of memory alone.
+/// Makes an entry at a cell in each savepoint that has none there, with the row of the base. No
+/// savepoint's content changes, also where memory runs out.
 pub(crate) fn pin_each(
     marks: &mut Vec<StoredMark>,
     cell: CellId,
@@ -46,6 +49,7 @@ pub(crate) fn pin_each(
     Ok(())
 }
 
+/// Takes away each neutral entry of a savepoint.
 fn sweep<V: RowView>(mark: &mut StoredMark, base: &V)
     ensures { mark.new ≡ swept_mark (V.content base.now) mark.old }
 {
@@ -55,8 +59,8 @@ fn sweep<V: RowView>(mark: &mut StoredMark, base: &V)
     }
 }
 
-/// Takes away each entry of a savepoint that has the row of the base, so that no savepoint's
-/// content over that base changes. It takes no memory.
+/// Takes away each neutral entry of each savepoint, one that has the row of the base. No
+/// savepoint's content over that base changes. It takes no memory.
 pub fn sweep_each<V: RowView>(marks: &mut Vec<StoredMark>, base: &V)
     ensures { marks.new.items ≡ map (swept_mark (V.content base.now)) marks.old.items }
 {
@@ -65,6 +69,7 @@ pub fn sweep_each<V: RowView>(marks: &mut Vec<StoredMark>, base: &V)
     }
 }
 
+/// Takes away each neutral entry of a savepoint at some cells.
 fn sweep_at<V: RowView>(mark: &mut StoredMark, base: &V, cells: &[CellId])
     ensures { mark.new ≡ swept_mark_at (V.content base.now) cells.now mark.old }
 {
@@ -74,8 +79,8 @@ fn sweep_at<V: RowView>(mark: &mut StoredMark, base: &V, cells: &[CellId])
     }
 }
 
-/// Takes away each entry of a savepoint at some cells that has the row of the base, so that no
-/// savepoint's content over that base changes. It takes no memory, and looks at no other entry.
+/// Takes away each neutral entry of each savepoint at some cells, one that has the row of the base.
+/// No savepoint's content over that base changes. It takes no memory, and looks at no other entry.
 pub fn sweep_each_at<V: RowView>(marks: &mut Vec<StoredMark>, base: &V, cells: &[CellId])
     ensures { marks.new.items ≡ map (swept_mark_at (V.content base.now) cells.now) marks.old.items }
 {
@@ -117,7 +122,7 @@ fn is_mark_of(mark: &StoredMark, child: &str) -> bool
     }
 }
 
-/// How many savepoints there are.
+/// Returns how many savepoints there are.
 pub fn count_saved(marks: &[StoredMark]) -> usize
     ensures { result ≡ count_by is_stored_saved marks.now }
 {
@@ -130,7 +135,7 @@ pub fn count_saved(marks: &[StoredMark]) -> usize
     count
 }
 
-/// How many marks a child has.
+/// Returns how many marks a child has.
 pub fn count_marks_of(marks: &[StoredMark], child: &str) -> usize
     ensures { result ≡ count_by (is_stored_mark_of child.now) marks.now }
 {
@@ -143,7 +148,7 @@ pub fn count_marks_of(marks: &[StoredMark], child: &str) -> usize
     count
 }
 
-/// The position of the savepoint of a name, or none.
+/// Returns the position of the savepoint of a name, or none.
 pub fn find_saved(marks: &[StoredMark], name: &str) -> Option<usize>
     ensures { result ≡ position (is_stored_saved_as name.now) marks.now }
 {
@@ -156,7 +161,7 @@ fn has_child(marks: &[StoredMark]) -> bool
     marks.iter().any(|mark| is_child(mark))
 }
 
-/// Whether the mark of a child stands after a position.
+/// Returns whether the mark of a child stands after a position.
 pub fn has_child_after(marks: &[StoredMark], at: usize) -> bool
     requires { at < length marks.now }
     ensures { result ≡ list_any is_stored_child (drop (suc at) marks.now) }
@@ -164,7 +169,7 @@ pub fn has_child_after(marks: &[StoredMark], at: usize) -> bool
     has_child(&marks[at + 1..])
 }
 
-/// Puts a mark at the end. It fails for want of memory alone, and changes nothing then.
+/// Puts a mark at the end. If memory runs out, nothing changes.
 pub(crate) fn push_mark(marks: &mut Vec<StoredMark>, mark: StoredMark) -> Result<(), AllocError>
     ensures ok { OnOk result (marks.new.items ≡ marks.old.items ++ mark ∷ []) }
     ensures err { OnErr result (marks.new.items ≡ marks.old.items) }
@@ -173,8 +178,7 @@ pub(crate) fn push_mark(marks: &mut Vec<StoredMark>, mark: StoredMark) -> Result
     Ok(())
 }
 
-/// Moves the mark of a child to the end. It fails for want of memory alone, and changes nothing
-/// then.
+/// Moves the mark of a child to the end. If memory runs out, nothing changes.
 pub(crate) fn move_last(marks: &mut Vec<StoredMark>, child: Words) -> Result<(), AllocError>
     ensures ok { OnOk result (marks.new.items ≡ stored_without_mark_of child marks.old.items ++ Child child ∷ []) }
     ensures err { OnErr result (marks.new.items ≡ marks.old.items) }

@@ -1,7 +1,9 @@
+//! Workspaces as they are stored, outside a map.
+
 use crate::workspace_maps::Layer;
 use clr_rows::Words;
 
-/// A workspace other than LIVE by its differences, apart from a map: its name, and what is stored
+/// A workspace other than LIVE by its differences, outside a map: its name, and what is stored
 /// under it.
 #[derive(Drop)]
 pub struct StoredPart {

@@ -1,3 +1,5 @@
+//! The map of all workspaces, as they are stored.
+
 ghost use Rattle.std.specs.Prelude.{◌≡◌, ◌<◌, ◌++◌, [], ◌∷◌, suc, None, map, take, filter, remove, length, count_by, string_bytes, OnOk, OnErr, IfSome};
 ghost use Rattle.std.specs.FinMap as finite;
 ghost use Rattle.std.specs.Option.{option_copied};
@@ -21,8 +23,8 @@ use std::alloc::{AllocError, Global};
 use std::marker::Model;
 use std::mem;
 
-/// What is stored of a workspace under its name: its base by differences from its parent's
-/// content, its current content and its savepoints by differences from its base.
+/// What is stored of a workspace under its name: its base by differences from its parent's content,
+/// and its current content and its savepoints by differences from its base.
 #[derive(Drop)]
 pub struct Layer {
     pub parent: Words,
@@ -61,7 +63,7 @@ impl Model for WorkspaceMap {
 }
 
 impl WorkspaceMap {
-    /// A map of no workspaces.
+    /// Returns a map of no workspaces.
     pub fn new(alloc: Global) -> WorkspaceMap
         ensures { result ≡ [] }
     {
@@ -70,19 +72,19 @@ impl WorkspaceMap {
         }
     }
 
-    /// The allocator that the map was made with.
+    /// Returns the allocator that the map was made with.
     pub fn allocator(&self) -> Global {
         *self.map.allocator()
     }
 
-    /// How many workspaces there are.
+    /// Returns how many workspaces there are.
     pub fn len(&self) -> usize
         ensures { result ≡ length self.now }
     {
         self.map.len()
     }
 
-    /// The position of a name, or none.
+    /// Returns the position of a name, or none.
     pub fn find(&self, name: &str) -> Option<usize>
         ensures found { result ≡ find_layer self.now name.now }
         ensures within { IfSome result (λ at. at < length self.now) }
@@ -90,7 +92,7 @@ impl WorkspaceMap {
         self.map.get_index_of(name)
     }
 
-    /// The name of the workspace at a position.
+    /// Returns the name of the workspace at a position.
     pub fn name_at(&self, at: usize) -> &str
         requires { at < length self.now }
         ensures { result.now ≡ (layer_at self.now at).name }
@@ -99,7 +101,7 @@ impl WorkspaceMap {
         name.as_str()
     }
 
-    /// The name of the parent of the workspace at a position.
+    /// Returns the name of the parent of the workspace at a position.
     pub fn parent_name(&self, at: usize) -> &str
         requires { at < length self.now }
         ensures { result.now ≡ (layer_at self.now at).parent }
@@ -108,7 +110,7 @@ impl WorkspaceMap {
         layer.parent.as_str()
     }
 
-    /// Whether every rule is to hold in the workspace at a position.
+    /// Returns whether every rule is to hold in the workspace at a position.
     pub fn is_kept(&self, at: usize) -> bool
         requires { at < length self.now }
         ensures { result ≡ (layer_at self.now at).kept }
@@ -117,7 +119,7 @@ impl WorkspaceMap {
         layer.kept
     }
 
-    /// The differences of the base of the workspace at a position.
+    /// Returns the differences of the base of the workspace at a position.
     pub fn base(&self, at: usize) -> &Differences
         requires { at < length self.now }
         ensures { result.now ≡ (layer_at self.now at).base }
@@ -126,7 +128,7 @@ impl WorkspaceMap {
         &layer.base
     }
 
-    /// The differences of the current content of the workspace at a position.
+    /// Returns the differences of the current content of the workspace at a position.
     pub fn current(&self, at: usize) -> &Differences
         requires { at < length self.now }
         ensures { result.now ≡ (layer_at self.now at).current }
@@ -135,7 +137,7 @@ impl WorkspaceMap {
         &layer.current
     }
 
-    /// The marks of the workspace at a position.
+    /// Returns the marks of the workspace at a position.
     pub fn marks(&self, at: usize) -> &[StoredMark]
         requires { at < length self.now }
         ensures { result.now ≡ (layer_at self.now at).marks }
@@ -144,7 +146,7 @@ impl WorkspaceMap {
         layer.marks.as_slice()
     }
 
-    /// What is stored of the workspace at a position, not copied.
+    /// Returns what is stored of the workspace at a position, not copied.
     pub fn layer(&self, at: usize) -> LayerView<'_>
         requires { at < length self.now }
         ensures { result ≡ layer_at self.now at }
@@ -153,15 +155,14 @@ impl WorkspaceMap {
         LayerView::new(name.as_str(), layer)
     }
 
-    /// How many workspaces have this name as that of their parent.
+    /// Returns how many workspaces have this name as that of their parent.
     pub fn children(&self, name: &str) -> usize
         ensures { result ≡ count_by (λ l. bytes_eq name.now l.parent) self.now }
     {
         count_children(&self.map, name)
     }
 
-    /// Puts a layer of a new name at the end. It fails for want of memory alone, and changes
-    /// nothing then.
+    /// Puts a layer of a new name at the end. If memory runs out, nothing changes.
     pub fn push(&mut self, name: String, layer: Layer) -> Result<(), AllocError>
         requires { find_layer self.old (string_bytes name) ≡ None }
         ensures ok { OnOk result (self.new ≡ self.old ++ layer_of (name, layer) ∷ []) }
@@ -171,7 +172,7 @@ impl WorkspaceMap {
         Ok(())
     }
 
-    /// Takes the workspace at a position away, and answers its name.
+    /// Takes the workspace at a position away, and returns its name.
     pub fn remove(&mut self, at: usize) -> String
         requires { at < length self.old }
         ensures name { string_bytes result ≡ (layer_at self.old at).name }
@@ -181,7 +182,7 @@ impl WorkspaceMap {
         name
     }
 
-    /// Puts an entry into a base. It fails for want of memory alone, and changes nothing then.
+    /// Puts an entry into a base. If memory runs out, nothing changes.
     pub fn put_base(&mut self, at: usize, cell: CellId, row: Option<Row>) -> Result<(), AllocError>
         requires { at < length self.old }
         ensures ok { OnOk result (self.new ≡ layer_changed self.old at (λ l. record l { base = finite.insert l.base cell row })) }
@@ -191,8 +192,7 @@ impl WorkspaceMap {
         layer.base.put(cell, row)
     }
 
-    /// Puts an entry into a current content. It fails for want of memory alone, and changes
-    /// nothing then.
+    /// Puts an entry into a current content. If memory runs out, nothing changes.
     pub fn put_current(
         &mut self,
         at: usize,
@@ -207,8 +207,8 @@ impl WorkspaceMap {
         layer.current.put(cell, row)
     }
 
-    /// Makes an entry at a cell in each savepoint that has none there, with the row of the base,
-    /// so that no savepoint's content changes. It fails for want of memory alone.
+    /// Makes an entry at a cell in each savepoint of the workspace at a position that has none
+    /// there, with the row of the base. No savepoint's content changes, also where memory runs out.
     pub fn pin_saved(
         &mut self,
         at: usize,
@@ -236,7 +236,7 @@ impl WorkspaceMap {
         layer.current.set_each(rows);
     }
 
-    /// Sets entries that a base has; the current content becomes the base, and the savepoints go.
+    /// Sets entries that a base has. The current content becomes the base, and the savepoints go.
     pub fn take_over(&mut self, at: usize, rows: Vec<(CellId, Option<Row>)>)
         requires there { at < length self.old }
         requires pinned { HasEntries (layer_at self.old at).base (cells_in rows.items) }
@@ -249,8 +249,8 @@ impl WorkspaceMap {
         drop_saved(&mut layer.marks);
     }
 
-    /// The base becomes the parent's content, and the current content has these differences from
-    /// it; the savepoints go.
+    /// Makes the parent's content the base, and gives the current content these differences from
+    /// it. The savepoints go.
     pub fn restart(&mut self, at: usize, current: Differences)
         requires { at < length self.old }
         ensures { self.new ≡ layer_changed self.old at (restarted_with current) }
@@ -262,7 +262,7 @@ impl WorkspaceMap {
         drop_saved(&mut layer.marks);
     }
 
-    /// The current content becomes the base, and the savepoints go.
+    /// Makes the base the current content. The savepoints go.
     pub fn roll_all(&mut self, at: usize)
         requires { at < length self.old }
         ensures { self.new ≡ layer_changed self.old at (λ l. record l { current = no_differences; marks = filter is_stored_child l.marks }) }
@@ -273,7 +273,7 @@ impl WorkspaceMap {
         drop_saved(&mut layer.marks);
     }
 
-    /// The current content has other differences from the base, and the marks after a position go.
+    /// Gives the current content other differences from the base. The marks after a position go.
     pub fn roll_to(&mut self, at: usize, current: Differences, mark: usize)
         requires there { at < length self.old }
         requires marked { mark < length (layer_at self.old at).marks }
@@ -304,7 +304,8 @@ impl WorkspaceMap {
         layer.current.set(cell, row);
     }
 
-    /// How many entries the base and the current content of the workspace at a position have.
+    /// Returns how many entries the base and the current content of the workspace at a position
+    /// have.
     pub fn count_entries(&self, at: usize) -> usize
         requires { at < length self.now }
         ensures { result ≡ stored_in (layer_at self.now at) }
@@ -313,7 +314,7 @@ impl WorkspaceMap {
         layer.base.len() + layer.current.len()
     }
 
-    /// Replaces the differences of a base, and answers the old ones.
+    /// Replaces the differences of a base, and returns the old ones.
     pub fn replace_base(&mut self, at: usize, base: Differences) -> Differences
         requires { at < length self.old }
         ensures before { result ≡ (layer_at self.old at).base }
@@ -323,7 +324,7 @@ impl WorkspaceMap {
         mem::replace(&mut layer.base, base)
     }
 
-    /// Replaces the differences of a current content, and answers the old ones.
+    /// Replaces the differences of a current content, and returns the old ones.
     pub fn replace_current(&mut self, at: usize, current: Differences) -> Differences
         requires { at < length self.old }
         ensures before { result ≡ (layer_at self.old at).current }
@@ -333,7 +334,7 @@ impl WorkspaceMap {
         mem::replace(&mut layer.current, current)
     }
 
-    /// Replaces the marks of a workspace, and answers the old ones.
+    /// Replaces the marks of a workspace, and returns the old ones.
     pub fn replace_marks(&mut self, at: usize, marks: Vec<StoredMark>) -> Vec<StoredMark>
         requires { at < length self.old }
         ensures before { result.items ≡ (layer_at self.old at).marks }
@@ -343,7 +344,7 @@ impl WorkspaceMap {
         mem::replace(&mut layer.marks, marks)
     }
 
-    /// Puts a mark at the end. It fails for want of memory alone, and changes nothing then.
+    /// Puts a mark at the end. If memory runs out, nothing changes.
     pub fn push_mark(&mut self, at: usize, mark: StoredMark) -> Result<(), AllocError>
         requires { at < length self.old }
         ensures ok { OnOk result (self.new ≡ layer_changed self.old at (λ l. record l { marks = l.marks ++ mark ∷ [] })) }
@@ -353,8 +354,7 @@ impl WorkspaceMap {
         push_mark(&mut layer.marks, mark)
     }
 
-    /// Moves the mark of a child to the end. It fails for want of memory alone, and changes
-    /// nothing then.
+    /// Moves the mark of a child to the end. If memory runs out, nothing changes.
     pub fn move_mark_last(&mut self, at: usize, child: Words) -> Result<(), AllocError>
         requires { at < length self.old }
         ensures ok { OnOk result (self.new ≡ layer_changed self.old at (λ l. record l { marks = stored_without_mark_of child l.marks ++ Child child ∷ [] })) }

@@ -48,6 +48,6 @@ pub record IsBetween {W : Type 0} (writer : Writer W) : Type 0 where
 abbrev pub row_line : List TableDef → CellId × Row → List ℕ
 row_line tables e = row_text rows_writer (row_fields tables e.0 e.1)
 
--- how many rows a content has, and then the rows, ascending
+-- the lines of a content: how many rows it has, and then each of them, ascending
 unfoldable pub rows_text : List TableDef → Content → List ℕ
 rows_text tables content = codes "rows " ++ decimal (length (cells_of content)) ++ codes "\n" ++ flat_map (row_line tables) (finite.entries content)

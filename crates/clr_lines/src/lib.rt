@@ -1,10 +1,10 @@
 //! Lines of replies and reports.
 //!
-//! - `reply_line`, `rows_lines`, `changes_lines`, `conflicts_lines`, `audit_lines` and `unheld_line`:
-//!   each the exact bytes, memory aside.
-//! - `add_count`, `add_cell`, `add_need` and `add_workspace` [`ok`, `begun`] add their bytes to a line
-//!   or to lines. Where they find no memory, what stood there stands there, and behind it at most a
-//!   beginning of these bytes; of a count, nothing.
+//! - `reply_line`, `rows_lines`, `changes_lines`, `conflicts_lines`, `audit_lines` and
+//!   `unheld_line` each give the exact bytes, memory aside.
+//! - `add_count`, `add_cell`, `add_need` and `add_workspace` [`ok`, `begun`] add their bytes to a
+//!   line or to lines. If memory runs out, what stood there still stands there, and behind it at
+//!   most a beginning of these bytes; of a count, nothing.
 #![tactic(auto)]
 
 mod pieces;

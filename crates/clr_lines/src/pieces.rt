@@ -1,3 +1,5 @@
+//! What lines are made of: counts, cells and needs.
+
 ghost use Rattle.std.specs.Prelude.{◌≡◌, ◌++◌, decimal, OnOk, OnErr};
 ghost use Rattle.clr_rows.specs.Beginnings.{IsBegun};
 ghost use Rattle.clr_lines.specs.Pieces.{cell_text, need_text, part_text, second_text, subject_text};
@@ -7,7 +9,7 @@ use clr_rules::Broken;
 use itoa::Buffer;
 use std::alloc::AllocError;
 
-/// Adds a count in decimal digits. It fails for want of memory alone, and changes nothing then.
+/// Adds a count in decimal digits. If memory runs out, nothing changes.
 pub fn add_count(line: &mut Vec<u8>, count: usize) -> Result<(), AllocError>
     ensures ok { OnOk result (line.new.items ≡ line.old.items ++ decimal count) }
     ensures err { OnErr result (line.new.items ≡ line.old.items) }
@@ -15,8 +17,8 @@ pub fn add_count(line: &mut Vec<u8>, count: usize) -> Result<(), AllocError>
     line.extend_from_slice(Buffer::new().format(count).as_bytes())
 }
 
-/// Adds a cell, as `main/20`. The name of a table that the schema hasn't is empty. It fails for want
-/// of memory alone; then what stood in the line stands there, with a beginning of the cell behind it.
+/// Adds a cell, as `main/20`. The name of a table that the schema hasn't is empty. If memory runs
+/// out, the line keeps what stood in it, with a beginning of the cell behind it.
 pub fn add_cell(line: &mut Vec<u8>, schema: &Schema, cell: CellId) -> Result<(), AllocError>
     ensures ok { OnOk result (line.new.items ≡ line.old.items ++ cell_text schema.now cell) }
     ensures begun { IsBegun line.old.items (cell_text schema.now cell) line.new.items }
@@ -26,6 +28,7 @@ pub fn add_cell(line: &mut Vec<u8>, schema: &Schema, cell: CellId) -> Result<(),
     line.extend_from_slice(Buffer::new().format(cell.key).as_bytes())
 }
 
+/// Adds the part of a subject, where it is above 1.
 fn add_part(line: &mut Vec<u8>, part: u16) -> Result<(), AllocError>
     ensures ok { OnOk result (line.new.items ≡ line.old.items ++ part_text part) }
     ensures begun { IsBegun line.old.items (part_text part) line.new.items }
@@ -37,6 +40,7 @@ fn add_part(line: &mut Vec<u8>, part: u16) -> Result<(), AllocError>
     line.extend_from_slice(Buffer::new().format(part).as_bytes())
 }
 
+/// Adds a subject: its cell, and its part where that is above 1.
 fn add_subject(
     line: &mut Vec<u8>,
     schema: &Schema,
@@ -50,6 +54,7 @@ fn add_subject(
     add_part(line, part)
 }
 
+/// Adds the second subject of a need, if it has one.
 fn add_second(
     line: &mut Vec<u8>,
     schema: &Schema,
@@ -69,8 +74,8 @@ fn add_second(
 }
 
 /// Adds a need that no row serves, as `rule 1 main/20/3 main/21`: the number of the rule and the
-/// cells of its subjects, each with its part where that is above 1. It fails for want of memory
-/// alone; then what stood in the line stands there, with a beginning of the need behind it.
+/// cells of its subjects, each with its part where that is above 1. If memory runs out, the line
+/// keeps what stood in it, with a beginning of the need behind it.
 pub fn add_need(line: &mut Vec<u8>, schema: &Schema, need: &Broken) -> Result<(), AllocError>
     ensures ok { OnOk result (line.new.items ≡ line.old.items ++ need_text schema.now need.now) }
     ensures begun { IsBegun line.old.items (need_text schema.now need.now) line.new.items }

@@ -1,3 +1,5 @@
+//! The lines of replies.
+
 ghost use Rattle.std.specs.Prelude.{◌≡◌, ◌++◌, codes, decimal, IfOk};
 ghost use Rattle.clr_lines.specs.Pieces.{cell_text, need_text};
 ghost use Rattle.clr_lines.specs.Replies.{edit_fault_name, reply_text, row_fault_name};
@@ -24,7 +26,7 @@ fn row_fault_word(fault: RowFault) -> &'static str
     }
 }
 
-/// The name of a fault, of a row's fault its own.
+/// Returns the name of an edit's fault. A fault of the row has its own name.
 fn edit_fault_word(fault: EditFault) -> &'static str
     ensures { result.now ≡ edit_fault_name fault }
 {
@@ -36,6 +38,7 @@ fn edit_fault_word(fault: EditFault) -> &'static str
     }
 }
 
+/// Returns the line of an edit that can't be made.
 fn bad_edit_line(alloc: Global, number: usize, fault: EditFault) -> Result<Vec<u8>, AllocError>
     ensures { IfOk result (λ line. line.items ≡ codes "refused 9 BadEdit " ++ decimal number ++ codes " " ++ edit_fault_name fault ++ codes "\n") }
 {
@@ -47,6 +50,7 @@ fn bad_edit_line(alloc: Global, number: usize, fault: EditFault) -> Result<Vec<u
     Ok(line)
 }
 
+/// Returns the line of cells in conflict.
 fn conflict_line(
     alloc: Global,
     schema: &Schema,
@@ -63,6 +67,7 @@ fn conflict_line(
     Ok(line)
 }
 
+/// Returns the line of a broken rule.
 fn broken_line(alloc: Global, schema: &Schema, need: &Broken) -> Result<Vec<u8>, AllocError>
     ensures { IfOk result (λ line. line.items ≡ codes "refused 12 RuleBroken " ++ need_text schema.now need.now ++ codes "\n") }
 {
@@ -72,11 +77,10 @@ fn broken_line(alloc: Global, schema: &Schema, need: &Broken) -> Result<Vec<u8>,
     Ok(line)
 }
 
-/// The line of a reply, ended by `\n`: `done`, or `refused` with the number and the name of the
-/// refusal and then its details, which are the edit's number and its fault's name, the least cell in
-/// conflict and how many there are, or the need that no row would serve, as
-/// `rule 1 main/20/3 main/21`. Where the schema hasn't the table of a cell, no bytes stand for its
-/// name. It fails for want of memory alone.
+/// Returns the line of a reply, ended by `\n`. The line is `done`, or `refused` with the number and
+/// the name of the refusal and then its details: the edit's number and its fault's name, the least
+/// cell in conflict and how many there are, or the need that no row would serve, as `rule 1
+/// main/20/3 main/21`. The name of a table that the schema hasn't is empty.
 pub fn reply_line(alloc: Global, schema: &Schema, reply: &Reply) -> Result<Vec<u8>, AllocError>
     ensures { IfOk result (λ line. line.items ≡ reply_text schema.now reply.now) }
 {

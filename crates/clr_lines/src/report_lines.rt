@@ -1,3 +1,5 @@
+//! The lines of reports: changes, cells in conflict, broken needs and workspaces.
+
 ghost use Rattle.std.specs.Prelude.{◌≡◌, ◌++◌, IfOk, OnOk};
 ghost use Rattle.std.specs.Option.{option_copied};
 ghost use Rattle.clr_rows.specs.Beginnings.{IsBegun};
@@ -10,8 +12,7 @@ use clr_rows::{CellId, Change, Row, Schema};
 use clr_rules::Broken;
 use std::alloc::{AllocError, Global};
 
-/// The first line of a report: its word, and how many lines follow. It fails for want of memory
-/// alone.
+/// Returns the first line of a report: its word, and how many lines follow.
 pub fn count_line(alloc: Global, word: &str, count: usize) -> Result<Vec<u8>, AllocError>
     ensures { IfOk result (λ line. line.items ≡ count_text word.now count) }
 {
@@ -22,7 +23,7 @@ pub fn count_line(alloc: Global, word: &str, count: usize) -> Result<Vec<u8>, Al
     Ok(line)
 }
 
-/// What leads from the row before, or none, to the row after, or none.
+/// Returns the word of the edit that leads from the row before, or none, to the row after, or none.
 fn verb(before: Option<&Row>, after: Option<&Row>) -> &'static str
     ensures { result.now ≡ verb_name (option_copied before.entry) (option_copied after.entry) }
 {
@@ -33,6 +34,7 @@ fn verb(before: Option<&Row>, after: Option<&Row>) -> &'static str
     }
 }
 
+/// Adds the line of one change.
 fn add_change(
     lines: &mut Vec<u8>,
     schema: &Schema,
@@ -48,9 +50,9 @@ fn add_change(
     lines.extend_from_slice(b"\n")
 }
 
-/// The lines of changes: `changes N`, and then each changed cell in order with `insert`, `update`
-/// or `delete` before it, as `insert main/20`. Each line ends with `\n`. The name of a table that
-/// the schema hasn't is empty. It fails for want of memory alone.
+/// Returns the lines of changes: `changes N`, and then each changed cell in order with `insert`,
+/// `update` or `delete` before it, as `insert main/20`. Each line ends with `\n`. The name of a
+/// table that the schema hasn't is empty.
 #[tactic(auto, unfolding(crate::specs::Reports::changes_text))]
 pub fn changes_lines(
     alloc: Global,
@@ -74,8 +76,8 @@ fn add_cell_line(lines: &mut Vec<u8>, schema: &Schema, cell: CellId) -> Result<(
     lines.extend_from_slice(b"\n")
 }
 
-/// The lines of cells in conflict: `conflicts N`, and then each cell, as `main/20`, in the order in
-/// which they are given. Each line ends with `\n`. It fails for want of memory alone.
+/// Returns the lines of cells in conflict: `conflicts N`, and then each cell, as `main/20`, in the
+/// order in which they are given. Each line ends with `\n`.
 #[tactic(auto, unfolding(crate::specs::Reports::conflicts_text))]
 pub fn conflicts_lines(
     alloc: Global,
@@ -99,9 +101,9 @@ fn add_need_line(lines: &mut Vec<u8>, schema: &Schema, need: &Broken) -> Result<
     lines.extend_from_slice(b"\n")
 }
 
-/// The lines of an audit: `broken N`, and then each need that no row serves, as
-/// `rule 1 main/20/3 main/21`, in the order in which they are given. A part stands behind its
-/// subject where it is above 1. Each line ends with `\n`. It fails for want of memory alone.
+/// Returns the lines of an audit: `broken N`, and then each need that no row serves, as `rule 1
+/// main/20/3 main/21`, in the order in which they are given. The part of a subject stands behind it
+/// where it is above 1. Each line ends with `\n`.
 #[tactic(auto, unfolding(crate::specs::Reports::audit_text))]
 pub fn audit_lines(alloc: Global, schema: &Schema, needs: &[Broken]) -> Result<Vec<u8>, AllocError>
     ensures { IfOk result (λ lines. lines.items ≡ audit_text schema.now needs.now) }
@@ -113,6 +115,7 @@ pub fn audit_lines(alloc: Global, schema: &Schema, needs: &[Broken]) -> Result<V
     Ok(lines)
 }
 
+/// Adds the name of a workspace and a space, or nothing for LIVE.
 fn add_unheld_name(line: &mut Vec<u8>, name: Option<&str>) -> Result<(), AllocError>
     ensures ok { OnOk result (line.new.items ≡ line.old.items ++ unheld_name (option_copied name.entry)) }
     ensures begun { IsBegun line.old.items (unheld_name (option_copied name.entry)) line.new.items }
@@ -126,8 +129,8 @@ fn add_unheld_name(line: &mut Vec<u8>, name: Option<&str>) -> Result<(), AllocEr
     }
 }
 
-/// The line which says that a rule doesn't hold: `unheld`, the name of the workspace where it isn't
-/// LIVE, and the need that no row serves. It ends with `\n`. It fails for want of memory alone.
+/// Returns the line which says that a rule doesn't hold: `unheld`, the name of the workspace where
+/// it isn't LIVE, and the need that no row serves. The line ends with `\n`.
 pub fn unheld_line(
     alloc: Global,
     schema: &Schema,
@@ -142,12 +145,14 @@ pub fn unheld_line(
     Ok(line)
 }
 
+/// Returns what stands at the end of the line of a workspace: whether it is kept.
 fn kept_word(is_kept: bool) -> &'static str
     ensures { result.now ≡ kept_text is_kept }
 {
     if is_kept { " kept" } else { "" }
 }
 
+/// Adds the names of a workspace and of its parent.
 fn add_names(lines: &mut Vec<u8>, name: &str, parent: &str) -> Result<(), AllocError>
     ensures ok { OnOk result (lines.new.items ≡ lines.old.items ++ names_text name.now parent.now) }
     ensures begun { IsBegun lines.old.items (names_text name.now parent.now) lines.new.items }
@@ -169,8 +174,8 @@ fn add_counts(lines: &mut Vec<u8>, changes: usize, conflicts: usize) -> Result<(
 }
 
 /// Adds the line of a workspace: its name, its parent, how many changes it has and how many cells
-/// are in conflict, and `kept` where it is. It ends with `\n`. It fails for want of memory alone; then
-/// what stood in the lines stands there, with a beginning of the line behind it.
+/// are in conflict, and `kept` where it is kept. The line ends with `\n`. If memory runs out, the
+/// lines keep what stood in them, with a beginning of the new one behind it.
 pub fn add_workspace(
     lines: &mut Vec<u8>,
     name: &str,

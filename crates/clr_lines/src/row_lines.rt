@@ -1,3 +1,5 @@
+//! The lines of rows, each a CSV record.
+
 ghost use Rattle.std.specs.Prelude.{◌≡◌, ◌++◌, ◌∷◌, [], map, IfOk, OnErr, OnOk};
 ghost use Rattle.std.specs.Fmt.{signed_decimal};
 ghost use Rattle.std.specs.List.{flat_map};
@@ -12,8 +14,8 @@ use csv::{ByteRecord, Writer, WriterBuilder};
 use itoa::Buffer;
 use std::alloc::{AllocError, Global};
 
-/// Adds a field to a record that ends with a whole field. It fails for want of memory alone, and the
-/// fields stay then.
+/// Adds a field to a record that ends with a whole field. If memory runs out, the record keeps its
+/// fields.
 fn add(fields: &mut ByteRecord, field: &[u8]) -> Result<(), AllocError>
     requires { partial_of fields.old ≡ [] }
     ensures added { OnOk result (fields_of fields.new ≡ fields_of fields.old ++ field.now ∷ []) }
@@ -95,7 +97,7 @@ fn add_shape(fields: &mut ByteRecord, shape: &Shape) -> Result<(), AllocError>
     }
 }
 
-/// The record of a row: its table, its key, its values and its coordinates.
+/// Returns the record of a row: its table, its key, its values and its coordinates.
 fn row_record(
     alloc: Global,
     schema: &Schema,
@@ -132,10 +134,9 @@ fn write_row(
     }
 }
 
-/// The lines of a sheet: `rows N` and then each row as a CSV record, in the order of cells, with
-/// the name of its table, its key, its values and its coordinates in millimetres. Each line ends
-/// with `\n`. The name of a table that the schema hasn't is empty. It fails for want of memory
-/// alone.
+/// Returns the lines of a sheet: `rows N` and then each row as a CSV record, in the order of cells,
+/// with the name of its table, its key, its values and its coordinates in millimetres. Each line
+/// ends with `\n`. The name of a table that the schema hasn't is empty.
 pub fn rows_lines(alloc: Global, schema: &Schema, sheet: &Sheet) -> Result<Vec<u8>, AllocError>
     ensures { IfOk result (λ lines. lines.items ≡ rows_text schema.now sheet.now) }
 {

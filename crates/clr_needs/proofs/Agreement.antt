@@ -1,4 +1,5 @@
--- A need whose subjects and servers are the same in two settings, but for the names of members, is touched, covered and broken alike, and involves the same members.
+-- A need whose subjects and servers are the same in two settings, but for the names of members, is touched, covered and broken alike there. It
+-- involves the same members.
 use Rattle.std.proofs.Common.{◌≡◌, ◌∙◌, List, [], ◌∷◌, inl, inr, refl, sym, ap, subst, Option, Some, None}
 use Rattle.clr_needs.specs.declared.needs.Need.{Need}
 use Rattle.clr_needs.specs.declared.needs.VersionId.{VersionId}
@@ -15,7 +16,7 @@ pub record IsOneToOne {A B : Type 0} (stands : A → B → Type 0) : Type 0 wher
   pub one_right : (x : A) (y z : B) → stands x y → stands x z → y ≡ z
   pub one_left : (x z : A) (y : B) → stands x y → stands z y → x ≡ z
 
--- they come in one order
+-- members come in the same order as those that stand for them
 pub record IsInOneOrder {A B : Type 0} (before : A → A → Type 0) (earlier : B → B → Type 0) (stands : A → B → Type 0) : Type 0 where
   pub rising : (x z : A) (y w : B) → stands x y → stands z w → before x z → earlier y w
   pub falling : (x z : A) (y w : B) → stands x y → stands z w → earlier y w → before x z

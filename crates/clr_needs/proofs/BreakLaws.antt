@@ -302,7 +302,7 @@ module _ (rules : List Rule) (root : Content) (sets : List Changes) (one : lengt
           let (m, h) = broken_by holds b broken in
           subst (λ x. is_gt (broken_cmp (broken_of n) x) ≡ false) (sym h.named) (later m h.lost (place_of need_cmp needs k n d m less is ascending (every m h.touched)))
 
-  -- read from a list that is theirs
+  -- the first is read from a list of the touched needs
   pub first_is_least : Holds rules s.root → (needs read : List Need) (k : ℕ) (n d : Need) (lost : Bool) (b : Broken) → AreTouchedNeeds s needs → read ≡ needs → k < length read → n ≡ get_or read k d
       → ((m : Need) → Contains (take k read) m → IsServedAfterMerge s m)
       → IsJudged s n lost

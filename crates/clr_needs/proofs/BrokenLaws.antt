@@ -45,7 +45,7 @@ module _ {A : Type 0} (c : Setting A) where
         by (Some w) None is e = absurd e
         by (Some w) (Some d) is e = names_member c w d x is.is (subst (λ k. Names k x) e names)
 
-  -- a subject With the member, or a serving version Without it
+  -- the member brings a subject, or takes a serving version away
   abbrev Blocking : Need → Lived A → Option (Lived A) → A → Type 0
   Blocking n a b x = IsSubjectLife c a b (With x) ⊎ ((v : VersionId) × (l : Lived A) × Serves c n a b v l × (l.life ≡ Without x))
 

@@ -43,7 +43,7 @@ module _ {A : Type 0} (c : Setting A) where
       touched_is_served : IsTouchedBy c n a b → HasServer c ts n a b
       touched_is_served is = entry_serves c ts n a b need es (setting.covered n a b possible is)
 
-      -- it stays, or a member changes it and so touches the need
+      -- a server of the root stays, or a member changes it and so touches the need
       server_of_root : HasServer c [] n a b → HasServer c ts n a b
       server_of_root s = by s.lived.life refl
         where

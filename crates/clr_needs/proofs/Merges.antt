@@ -16,7 +16,7 @@ module _ {A : Type 0} (c : Setting A) where
 
   -- ---- the changer
 
-  -- it is a member and changes the cell; where there is none, no member does
+  -- the changer of a cell is a member and changes it; where there is none, no member changes the cell
   abbrev pub IsChanger : List A → CellId → Option A → Type 0
   IsChanger ns q None = (n : A) → has c.same ns n ≡ true → c.after n q ≡ None
   IsChanger ns q (Some m) = (has c.same ns m ≡ true) × (is_some (c.after m q) ≡ true)

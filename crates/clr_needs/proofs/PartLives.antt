@@ -10,7 +10,7 @@ module _ {A B : Type 0} (stands : A → B → Type 0) where
   abbrev pub IsInside : B → Type 0
   IsInside y = (x : A) × stands x y
 
-  -- so is each member that a life names
+  -- each member that a life names is one of the part
   abbrev pub AreInside : Lifetime B → Type 0
   AreInside m = (y : B) → Names m y → IsInside y
 
@@ -22,7 +22,7 @@ module _ {A B : Type 0} (stands : A → B → Type 0) where
   IsLifeIn (Without x) (Without y) = stands x y
   IsLifeIn _ _ = ⊥
 
-  -- that of a version which a member outside brings
+  -- the life of a version which a member outside brings
   abbrev pub IsHidden : Lifetime B → Type 0
   IsHidden (With y) = ¬ (IsInside y)
   IsHidden _ = ⊥
@@ -64,7 +64,7 @@ module _ {A B : Type 0} (stands : A → B → Type 0) where
   same_version (Some l) None h inside = absurd h
   same_version (Some l) (Some m) h inside = record { row = h.row; life = same_inside l.life m.life h.life (inside m refl) }
 
-  -- ---- and the same lives are lives in the whole
+  -- ---- the lives of the part are lives in the whole
 
   life_in : (l : Lifetime A) (m : Lifetime B) → IsSameLife stands l m → IsLifeIn l m
   life_in Always Always same = tt

@@ -12,7 +12,7 @@ module _ {X : Type 0} (cmp : X → X → Ordering) where
     here : y ≡ x → PlaceOf xs x k y
     after : cmp y x ≡ Less → PlaceOf xs x k y
 
-  -- the same of elements among
+  -- where another element of the list stands beside the one at k
   at_place : (xs : List X) (k : ℕ) (y d x : X) → k < length xs → y ≡ get_or xs k d → IsStrictlySortedBy cmp xs → Among x xs → Among x (take k xs) ⊎ ((y ≡ x) ⊎ (cmp y x ≡ Less))
   unfolding IsStrictlySortedBy
   at_place [] k y d x less is ascending h = absurd h

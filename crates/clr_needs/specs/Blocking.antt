@@ -17,12 +17,12 @@ abbrev pub has_life : Lifetime ℕ → Option (Lived ℕ) → Bool
 has_life life None = false
 has_life life (Some l) = same_life l.life life
 
--- one of two names, or the only one
+-- the one version that is named, or one of the two, has the life
 abbrev pub has_life_by : Lifetime ℕ → Setting ℕ → VersionId → Option VersionId → Bool
 has_life_by life c v None = has_life life (version c v)
 has_life_by life c v (Some w) = has_life life (version c v) || has_life life (version c w)
 
--- a subject of a need has it
+-- a subject of a need has the life
 abbrev pub has_life_too : Lifetime ℕ → Setting ℕ → Need → Bool
 has_life_too life c n = has_life_by life c n.first n.second
 

@@ -12,7 +12,7 @@ use Rattle.clr_needs.specs.Settings.{Setting, Lifetime, Always, With, Without, L
 abbrev pub view_after_merge : Setting ℕ → View
 view_after_merge c q = unwrap_or (c.after 0 q) (c.root q)
 
--- the one member doesn't take it away
+-- a version with this life stands once the one member is merged
 abbrev pub is_living : Lifetime ℕ → Bool
 is_living Always = true
 is_living (With n) = true
@@ -27,15 +27,15 @@ abbrev pub are_living : Lived ℕ → Option (Lived ℕ) → Bool
 are_living a None = is_living a.life
 are_living a (Some b) = is_living a.life && is_living b.life
 
--- a version that serves the need stands then
+-- a version that serves the need stands after the merge
 abbrev pub HasLivingServer : Setting ℕ → Need → Lived ℕ → Option (Lived ℕ) → Type 0
 HasLivingServer c n a b = (v : VersionId) × (l : Lived ℕ) × Serves c n a b v l × (is_living l.life ≡ true)
 
--- the subjects stand, and no version that serves does
+-- the subjects of the need stand after the merge, and no version that serves it does
 abbrev pub IsUnservedAfterMerge : Setting ℕ → Need → Type 0
 IsUnservedAfterMerge c n = (a : Lived ℕ) × (b : Option (Lived ℕ)) × IsPossible c n a b × (are_living a b ≡ true) × ¬ (HasLivingServer c n a b)
 
--- where the subjects stand, some version that serves does
+-- where the subjects of the need stand after the merge, some version that serves it does
 abbrev pub IsServedAfterMerge : Setting ℕ → Need → Type 0
 IsServedAfterMerge c n = (a : Lived ℕ) (b : Option (Lived ℕ)) → IsPossible c n a b → are_living a b ≡ true → HasLivingServer c n a b
 

@@ -9,7 +9,7 @@ abbrev pub IsLifeOf : {A : Type 0} → Lifetime A → Option (Lived A) → Type 
 IsLifeOf l None = ⊥
 IsLifeOf l (Some b) = l ≡ b.life
 
--- Always, or the life of a subject
+-- the life is Always, or that of a subject
 abbrev pub Lasts : {A : Type 0} → Lifetime A → Lived A → Option (Lived A) → Type 0
 Lasts l a b = (l ≡ Always) ⊎ ((l ≡ a.life) ⊎ IsLifeOf l b)
 
@@ -17,7 +17,7 @@ Lasts l a b = (l ≡ Always) ⊎ ((l ≡ a.life) ⊎ IsLifeOf l b)
 abbrev pub CoversAlone : {A : Type 0} → Setting A → Need → Lived A → Option (Lived A) → VersionId → Type 0
 CoversAlone {A} c n a b v = (l : Lived A) × Serves c n a b v l × Lasts l.life a b
 
--- two serving versions of which one stands always
+-- two serving versions, one of which stands whatever is merged
 abbrev pub CoverTogether : {A : Type 0} → Setting A → Need → Lived A → Option (Lived A) → VersionId → VersionId → Type 0
 CoverTogether {A} c n a b v w = (l m : Lived A) × Serves c n a b v l × Serves c n a b w m × AreOpposed l.life m.life
 
@@ -49,11 +49,11 @@ pub record IsUncovered {A : Type 0} (c : Setting A) (n : Need) (a : Lived A) (b 
 abbrev pub IsUncoveredNeed : {A : Type 0} → Setting A → Need → Type 0
 IsUncoveredNeed {A} c n = (a : Lived A) × (b : Option (Lived A)) × IsUncovered c n a b
 
--- a member with a subject With it, or a serving version Without it
+-- a member that brings a subject, or takes a serving version away
 abbrev pub IsBlocker : {A : Type 0} → Setting A → Need → Lived A → Option (Lived A) → A → Type 0
 IsBlocker {A} c n a b x = (a.life ≡ With x) ⊎ (IsLifeOf (With x) b ⊎ ((v : VersionId) × (l : Lived A) × Serves c n a b v l × (l.life ≡ Without x)))
 
--- the members are exactly these
+-- the members are exactly the blockers
 pub record AreBlockers {A : Type 0} (c : Setting A) (n : Need) (a : Lived A) (b : Option (Lived A)) (ts : List A) : Type 0 where
   pub part : AreAmong c ts c.members
   pub only : (x : A) → has c.same ts x ≡ true → IsBlocker c n a b x

@@ -15,7 +15,7 @@ abbrev pub NamesToo : {A : Type 0} → Option (Lived A) → A → Type 0
 NamesToo None x = ⊥
 NamesToo (Some b) x = Names b.life x
 
--- a subject's life names the member, or that of a version that serves
+-- the life of a subject, or of a version that serves, names the member
 abbrev pub Involves : {A : Type 0} → Setting A → Need → Lived A → Option (Lived A) → A → Type 0
 Involves {A} c n a b x = Names a.life x ⊎ (NamesToo b x ⊎ ((v : VersionId) × (l : Lived A) × Serves c n a b v l × Names l.life x))
 
@@ -23,7 +23,7 @@ Involves {A} c n a b x = Names a.life x ⊎ (NamesToo b x ⊎ ((v : VersionId) �
 abbrev pub AreDependent : {A : Type 0} → Setting A → A → A → Type 0
 AreDependent {A} c x y = (n : Need) × (a : Lived A) × (b : Option (Lived A)) × IsPossible c n a b × Involves c n a b x × Involves c n a b y
 
--- whether no possible need involves both
+-- whether no possible need involves both members
 abbrev pub IsIndependence : {A : Type 0} → Setting A → A → A → Bool → Type 0
 IsIndependence c x y true = ¬ (AreDependent c x y)
 IsIndependence c x y false = AreDependent c x y

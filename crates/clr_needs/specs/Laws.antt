@@ -35,7 +35,7 @@ UncoveredBreaks {A} c = (ts : List A) (n : Need) (a : Lived A) (b : Option (Live
     → AreBlockers c n a b ts
     → ¬ (Holds c.rules (view_with c ts))
 
--- members by position, and by name
+-- the law of covered needs for members by position, over a root and change sets
 abbrev pub CoveredByPosition : Type 0
 CoveredByPosition = (c : Setting ℕ) → CoveredHolds c
 
@@ -48,7 +48,8 @@ UncoveredByPosition = (c : Setting ℕ) → UncoveredBreaks c
 abbrev pub UncoveredByName : Type 0
 UncoveredByName = (c : Setting (List ℕ)) → UncoveredBreaks c
 
--- the members of one setting and their first positions in another: the same versions, the same needs, what covers, breaks and involves them, and what is picked for them
+-- the members of one setting say the same as their first positions in another: there are the same versions and needs; the same entries cover, the
+-- same members break and are involved, and the same witnesses are picked
 pub record SayTheSame {A : Type 0} (c : Setting A) (d : Setting ℕ) : Type 0 where
   pub versions : (v : VersionId) → IsSameVersionToo (StandsAt c) (version c v) (version d v)
   pub possible : (n : Need) → IsPossibleNeed c n ↔ IsPossibleNeed d n
@@ -68,7 +69,7 @@ FirstBrokenAfter = (rules : List Rule) (content : Content) (changes : Changes) (
     → IsFirstBroken rules (view_after_merge (setting rules content (changes ∷ []))) first
     → IsFirstBroken rules (row_at (taken_over content changes)) first
 
--- and an audit of it lists that need first
+-- the least need that the merge of one change set breaks is what an audit of the content with the changes over it lists first
 abbrev pub FirstBrokenIsListed : Type 0
 FirstBrokenIsListed = (rules : List Rule) (content : Content) (changes : Changes) (first : Option Broken)
     → IsFirstBroken rules (view_after_merge (setting rules content (changes ∷ []))) first

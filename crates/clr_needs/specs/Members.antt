@@ -25,7 +25,7 @@ abbrev pub after_at : Option Changes → CellId → Option (Option Row)
 after_at None q = None
 after_at (Some changed) q = after_in changed q
 
--- what the member of a position has there
+-- what the member of a position has at a cell that it changes
 abbrev pub after_of : List Changes → ℕ → CellId → Option (Option Row)
 after_of sets n q = after_at (slice_get sets n) q
 
@@ -57,7 +57,7 @@ ChangesCell sets q n = is_some (after_of sets n q) ≡ true
 abbrev pub IsApart : List Changes → CellId → Type 0
 IsApart sets q = (m n : ℕ) → ChangesCell sets q m → ChangesCell sets q n → m ≡ n
 
--- no cell is changed by two
+-- no cell is changed by two members
 abbrev pub AreApart : List Changes → Type 0
 AreApart sets = (q : CellId) → IsApart sets q
 
@@ -68,7 +68,7 @@ pub record AreFirstTwo (sets : List Changes) (q : CellId) (m n : ℕ) : Type 0 w
   pub second : ChangesCell sets q n
   pub no_other : (k : ℕ) → k < n → ChangesCell sets q k → k ≡ m
 
--- its first two members, and no lesser cell is changed by two
+-- a cell with the first two members that change it; no lesser cell is changed by two
 pub record IsLeastShared (sets : List Changes) (s : SharedCell) : Type 0 where
   pub two : AreFirstTwo sets s.cell s.first s.second
   pub least : (q : CellId) → cell_cmp q s.cell ≡ Less → IsApart sets q
@@ -83,14 +83,14 @@ IsSceneFault sets fault.OutOfMemory = Unit {0}
 abbrev pub NoneChanges : List Changes → CellId → ℕ → ℕ → Type 0
 NoneChanges sets q from end = (k : ℕ) → from ≤ k → k < end → ChangesCell sets q k → ⊥
 
--- the first of them that does
+-- the first of the members from one position to below another that changes the cell
 pub record IsFirstChanger (sets : List Changes) (q : CellId) (from end m : ℕ) : Type 0 where
   pub from_on : from ≤ m
   pub below : m < end
   pub changes : ChangesCell sets q m
   pub passed : NoneChanges sets q from m
 
--- the first of them that does, if one does
+-- the first of the members from one position to below another that changes the cell, if one does
 abbrev pub IsFound : List Changes → CellId → ℕ → ℕ → Option ℕ → Type 0
 IsFound sets q from end None = NoneChanges sets q from end
 IsFound sets q from end (Some m) = IsFirstChanger sets q from end m

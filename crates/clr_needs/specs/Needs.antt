@@ -26,7 +26,7 @@ need_of ask v w = record {
   second_part = ask.second_part;
 }
 
--- one is With(w) and the other Without(w)
+-- one life is With a member, and the other Without it
 abbrev pub AreOpposed : {A : Type 0} → Lifetime A → Lifetime A → Type 0
 AreOpposed (With m) (Without n) = m ≡ n
 AreOpposed (Without m) (With n) = m ≡ n
@@ -84,7 +84,7 @@ IsTouched {A} c n = (a : Lived A) × (b : Option (Lived A)) × IsPossible c n a 
 
 -- lists --------------------------------------------------------------------------------------
 
--- exactly these, ascending, each once
+-- exactly the elements of which P holds, ascending, each once
 pub record Lists {X : Type 0} (cmp : X → X → Ordering) (P : X → Type 0) (xs : List X) : Type 0 where
   pub ascending : IsStrictlySortedBy cmp xs
   pub exactly : (x : X) → Contains xs x ↔ P x

@@ -6,11 +6,11 @@ use Rattle.clr_rows.specs.Cells.{cell_cmp}
 use Rattle.clr_needs.specs.declared.needs.Need.{Need}
 use Rattle.clr_needs.specs.declared.needs.VersionId.{VersionId}
 
--- by cell, old before new
+-- versions are ordered by cell, old before new
 abbrev pub version_cmp : VersionId → VersionId → Ordering
 version_cmp v w = ordering_then (cell_cmp v.cell w.cell) (bool_cmp v.fresh w.fresh)
 
--- by rule, first version, second version, and the part of each
+-- needs are ordered by rule, first version and second version, and then by the part of each
 abbrev pub need_cmp : Need → Need → Ordering
 need_cmp m n = ordering_then (nat_cmp m.rule n.rule)
     (ordering_then (version_cmp m.first n.first)

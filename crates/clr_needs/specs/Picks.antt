@@ -13,7 +13,7 @@ use Rattle.clr_needs.specs.Settings.{Setting, Lifetime, With, Without, Lived}
 abbrev pub IsLeastVersion : (VersionId → Type 0) → VersionId → Type 0
 IsLeastVersion P v = P v × ((w : VersionId) → version_cmp w v ≡ Less → ¬ (P w))
 
--- the version serves, with this life
+-- the version serves the need, and has this life
 abbrev pub ServesAs : {A : Type 0} → Setting A → Need → Lived A → Option (Lived A) → Lifetime A → VersionId → Type 0
 ServesAs {A} c n a b life v = (l : Lived A) × Serves c n a b v l × (l.life ≡ life)
 
@@ -21,7 +21,8 @@ ServesAs {A} c n a b life v = (l : Lived A) × Serves c n a b v l × (l.life ≡
 abbrev pub HasBoth : {A : Type 0} → Setting A → Need → Lived A → Option (Lived A) → A → Type 0
 HasBoth {A} c n a b x = ((v : VersionId) × ServesAs c n a b (Without x) v) × ((w : VersionId) × ServesAs c n a b (With x) w)
 
--- the least version that covers alone; else, for the member with both before which no other has both, its least Without and then its least With; else none
+-- the least version that covers alone. If none does: of the first member that takes a serving version away and brings another, the least that it
+-- takes away, and then the least that it brings. If no member does so: none
 abbrev pub IsPickBy : {A : Type 0} → (A → A → Type 0) → Setting A → Need → Lived A → Option (Lived A) → Option (VersionId × Option VersionId) → Type 0
 IsPickBy before c n a b (Some (v, None)) = IsLeastVersion (CoversAlone c n a b) v
 IsPickBy {A} before c n a b (Some (v, Some w)) = ((u : VersionId) → ¬ (CoversAlone c n a b u))
@@ -32,7 +33,7 @@ IsPickBy {A} before c n a b None = ((u : VersionId) → ¬ (CoversAlone c n a b 
 abbrev pub PicksBy : {A : Type 0} → (A → A → Type 0) → Setting A → Need → Option (VersionId × Option VersionId) → Type 0
 PicksBy {A} before c n pick = (a : Lived A) (b : Option (Lived A)) → IsPossible c n a b → IsPickBy before c n a b pick
 
--- members being positions, the lesser comes before
+-- where members are positions, the lesser one comes before
 abbrev pub IsLesser : ℕ → ℕ → Type 0
 IsLesser y x = y < x
 

@@ -1,4 +1,4 @@
--- The same setting, its members named by their positions in the list.
+-- A setting whose members are named by their positions in the list.
 use Rattle.std.specs.Prelude.{◌≡◌, ◌↔◌, ℕ, ◌<◌, ◌≤◌, ◌==◌, List, [], ◌∷◌, Option, Some, None, ⊤, Contains, length, slice_get}
 use Rattle.std.proofs.lemmas.Bool.Decides.{Decides-eqb}
 use Rattle.std.specs.List.{range_with_len}
@@ -43,12 +43,12 @@ StandAt c [] (k ∷ ks) = ⊥
 StandAt c (m ∷ ms) [] = ⊥
 StandAt c (m ∷ ms) (k ∷ ks) = StandsAt c m k × StandAt c ms ks
 
--- each comes before those after it
+-- each of these members comes before those after it
 abbrev pub AreInOrder : {A : Type 0} → Setting A → List A → Type 0
 AreInOrder c [] = ⊤
 AreInOrder {A} c (m ∷ ms) = ((n : A) → Contains ms n → ComesBefore c m n) × AreInOrder c ms
 
--- exactly these members, in their order, each once
+-- exactly the members of which P holds, in their order, each once
 pub record ListsMembers {A : Type 0} (c : Setting A) (P : A → Type 0) (ms : List A) : Type 0 where
   pub in_order : AreInOrder c ms
   pub exactly : (m : A) → Contains ms m ↔ P m

@@ -9,12 +9,12 @@ IsSameLife stands (With x) (With y) = stands x y
 IsSameLife stands (Without x) (Without y) = stands x y
 IsSameLife stands _ _ = ⊥
 
--- the same row, and the same life
+-- two versions with the same row and the same life
 pub record IsSameVersion {A B : Type 0} (stands : A → B → Type 0) (l : Lived A) (m : Lived B) : Type 0 where
   pub row : l.row ≡ m.row
   pub life : IsSameLife stands l.life m.life
 
--- so are two versions, or there is neither
+-- two versions with the same row and the same life, or neither is there
 abbrev pub IsSameVersionToo : {A B : Type 0} → (A → B → Type 0) → Option (Lived A) → Option (Lived B) → Type 0
 IsSameVersionToo stands None None = ⊤
 IsSameVersionToo stands None (Some m) = ⊥

@@ -17,7 +17,7 @@ pub record Setting (A : Type 0) : Type 0 where
   pub same : A → A → Bool
   pub decides : (a b : A) → Decides (same a b) (a ≡ b)
 
--- the member is one of some
+-- the member is one of a list
 abbrev pub has : {A : Type 0} → (A → A → Bool) → List A → A → Bool
 has same [] n = false
 has same (m ∷ ms) n = same m n || has same ms n
@@ -41,7 +41,7 @@ AreDisjoint {A} c = (m n : A) (q : CellId)
 
 -- versions -----------------------------------------------------------------------------------
 
--- whatever is merged, once a member is, or until then
+-- a version lives whatever is merged, once a member is merged, or until then
 pub data Lifetime (A : Type 0) : Type 0 where
   Always : Lifetime A
   With Without : A → Lifetime A
@@ -63,7 +63,7 @@ abbrev pub old_life : {A : Type 0} → Option A → Lifetime A
 old_life None = Always
 old_life (Some n) = Without n
 
--- the root's row, which the member given, if any, changes
+-- the root's row, which lives until the given member is merged, or always where no member is given
 abbrev pub old_version : {A : Type 0} → Option A → Option Row → Option (Lived A)
 old_version n row = option_map (λ r. record { row = r; life = old_life n }) row
 

@@ -1,3 +1,5 @@
+//! Why change sets make no scene.
+
 ghost use Rattle.std.specs.Prelude.{◌≡◌};
 ghost use Rattle.clr_needs.specs.declared.faults.SceneFault.TheVariants as scene_fault;
 

@@ -17,16 +17,15 @@ pub fn uncovered_needs_are_broken()
     ensures by_name { UncoveredByName }
 {}
 
-/// A setting by the positions of its members says the same as by their names, whatever names them:
-/// the same versions, whose lives name the same members, the same needs, what serves, covers or
-/// breaks them, what is picked for them, and which members depend on one another.
+/// Naming the members of a setting by their positions says the same as naming them otherwise. There
+/// are the same versions, whose lives name the same members; the same needs are possible, served,
+/// covered and broken; the same witnesses are picked; and the same members depend on one another.
 pub fn positions_stand_for_names<N>()
     ensures { (c : Setting N) → SayTheSame c (by_position c) }
 {}
 
-/// The least need that the merge of one change set breaks is the least broken need of the content
-/// with the changes over it, which an audit lists first: there is none exactly where every rule
-/// holds there.
+/// The least need that the merge of one change set breaks is what an audit of the content with the
+/// changes over it lists first. There is none exactly where every rule holds in that content.
 pub fn first_broken_is_listed_first()
     ensures after { FirstBrokenAfter }
     ensures listed { FirstBrokenIsListed }

@@ -1,8 +1,8 @@
-//! Which needs some changes touch, what covers one, and who breaks one that nothing covers, told of
-//! settings and not of how rows are found.
+//! Which needs some changes touch, what covers one, and who breaks one that nothing covers, in
+//! terms of settings and not of how rows are found.
 //!
-//! A setting is rules, the rows of a root, and what each member has where it changes one. A member
-//! is anything that can be told from others: a change set by its position, or a name.
+//! A setting is rules, the rows of a root, and what each member has where it changes a cell. A
+//! member is anything that can be told from others: a change set by its position, or a name.
 //!
 //! - `Settings`, `Needs` and `Covers` in specs/: versions and their lives, possible and touched
 //!   needs, and the witnesses that cover one. `Picks`: the witnesses that a planner names, and the
@@ -12,10 +12,10 @@
 //!   covered and every rule holds in the root, every rule holds in the root with the changes of any
 //!   of the members over it. `uncovered_needs_are_broken`: a need that nothing covers is broken
 //!   where the changes of its blockers are over the root.
-//! - `positions_stand_for_names`: members by position and by name, whatever names them, have the
-//!   same versions, with the lives of the same members, and the same possible, touched and
-//!   uncovered needs, servers and covering entries; the same witnesses are picked, the same members
-//!   block a need, each for itself and as a list in their order, and the same pairs are dependent.
+//! - `positions_stand_for_names`: members by position and by name have the same versions, with the
+//!   lives of the same members, and the same possible, touched and uncovered needs, servers and
+//!   covering entries. The same witnesses are picked, the same members block a need, each for
+//!   itself and as a list in their order, and the same pairs are dependent.
 //! - `first_broken_is_listed_first`: the least need that one change set breaks is what an audit of
 //!   the changed content lists first.
 #![tactic(auto)]

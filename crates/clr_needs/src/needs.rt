@@ -1,11 +1,13 @@
+//! Versions of rows, how long they live, and needs by their versions.
+
 ghost use Rattle.std.specs.Prelude.{◌≡◌};
 ghost use Rattle.clr_needs.specs.Needs.{ask_of, need_of};
 
 use clr_rows::CellId;
 use clr_rules::Ask;
 
-/// How long a version lives: whatever is merged, once a member is merged, or until then. Members
-/// are numbered by position.
+/// How long a version lives: always, once a member is merged (With), or until then (Without).
+/// Members are numbered by position.
 #[derive(Clone, Copy, Debug, PartialEq, Eq)]
 pub enum Life {
     Always,
@@ -13,16 +15,16 @@ pub enum Life {
     Without(u16),
 }
 
-/// The old row of a cell, or the new one. They are ordered by cell, old before new.
+/// The old row of a cell, or the new one. Versions are ordered by cell, old before new.
 #[derive(Clone, Copy, Debug, PartialEq, Eq, PartialOrd, Ord)]
 pub struct VersionId {
     pub cell: CellId,
     pub fresh: bool,
 }
 
-/// A rule with one or two versions that call it, and the parts that it asks of them: 1 in all cases
-/// but a crossing of paths. They are ordered by rule, first version, second version, and by the part
-/// of each.
+/// A rule with one or two versions that call it, and the parts of them that it asks of: both
+/// numbers are 1 but for a crossing of paths. Needs are ordered by rule, first version and second
+/// version, and then by the part of each.
 #[derive(Clone, Copy, Debug, PartialEq, Eq, PartialOrd, Ord)]
 pub struct Need {
     pub rule: u16,
@@ -33,7 +35,7 @@ pub struct Need {
 }
 
 impl Need {
-    /// The need of an ask of these versions.
+    /// Returns the need that an ask makes of these versions.
     pub fn new(ask: Ask, first: VersionId, second: Option<VersionId>) -> Need
         ensures { result ≡ need_of ask first second }
     {
@@ -46,7 +48,7 @@ impl Need {
         }
     }
 
-    /// What the need asks of its subjects.
+    /// Returns what the need asks of its subjects.
     pub fn ask(&self) -> Ask
         ensures { result ≡ ask_of self.now }
     {

@@ -1,3 +1,5 @@
+//! Cells that two members change.
+
 use clr_rows::CellId;
 
 /// A cell with the first two members that change it.

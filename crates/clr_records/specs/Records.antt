@@ -12,13 +12,13 @@ records_in bytes = if is_utf8 bytes then Some (records default_config (strip_bom
 abbrev pub field_of : List (List ℕ) → ℕ → List ℕ
 field_of fields at = unwrap_or (field_at fields at) []
 
--- a first reading, and then another of what it gives, up to the first fault
+-- one reading after another, the second of what the first gives, up to the first fault
 infixl 10 ◌>>=◌
 abbrev pub ◌>>=◌ : {A B E : Type 0} → Result A E → (A → Result B E) → Result B E
 (Ok x) >>= f = f x
 (Err e) >>= f = Err e
 
--- what is there, or a fault
+-- a value that is there, or a fault in its place
 abbrev pub or_fault : {A E : Type 0} → E → Option A → Result A E
 or_fault e None = Err e
 or_fault e (Some x) = Ok x

@@ -1,8 +1,8 @@
 //! The records of a CSV text, and whole numbers in decimal.
 //!
-//! - `records_of`: every record of a text as `csv` reads it, without headers and with any number of
-//!   fields, or none where the bytes aren't UTF-8, memory aside. `field`: a field by its position,
-//!   empty where there is none. `read_number`: decimal in its one form.
+//! - `records_of` gives every record of a text as `csv` reads it, without headers and with any
+//!   number of fields, or none where the bytes aren't UTF-8, memory aside. `field` gives a field by
+//!   its position, empty where there is none. `read_number` reads a decimal in its one form.
 #![tactic(auto)]
 
 mod numbers;

@@ -1,3 +1,5 @@
+//! The records of a CSV text, and their fields.
+
 ghost use Rattle.std.specs.Prelude.{◌≡◌, IfOk, map, option_map};
 ghost use Rattle.std.specs.Str.{is_utf8};
 ghost use Rattle.csv.specs.Reading.{default_config, records, strip_bom};
@@ -7,6 +9,7 @@ ghost use Rattle.clr_records.specs.Records.{field_of, records_in};
 use csv::{ReaderBuilder, StringRecord};
 use std::alloc::{AllocError, Global};
 
+/// Returns whether the bytes are UTF-8.
 fn is_text(bytes: &[u8]) -> bool
     ensures { result ≡ is_utf8 bytes.now }
 {
@@ -16,8 +19,8 @@ fn is_text(bytes: &[u8]) -> bool
     }
 }
 
-/// Every record of a text in UTF-8. The fields of such a text are UTF-8, and a reader that takes
-/// any number of fields refuses nothing else, so it fails for want of memory alone.
+/// Returns every record of a text in UTF-8. It fails only if memory runs out: the fields of such a
+/// text are UTF-8, and a reader that takes any number of fields refuses nothing else.
 fn records_of_text(alloc: Global, text: &[u8]) -> Result<Vec<StringRecord>, AllocError>
     ensures { IfOk result (λ v. records default_config (strip_bom text.now) ≡ map fields_of v.items) }
 {
@@ -35,9 +38,9 @@ fn records_of_text(alloc: Global, text: &[u8]) -> Result<Vec<StringRecord>, Allo
     Ok(rows)
 }
 
-/// Every record of a CSV text, or none where the bytes aren't UTF-8: without headers, with any
-/// number of fields in each, and without the byte order mark that the text may begin with. Blank
-/// lines are no records. It fails for want of memory alone.
+/// Returns every record of a CSV text, or none where the bytes aren't UTF-8. There are no headers,
+/// each record may have any number of fields, and a byte order mark at the beginning is left out.
+/// Blank lines are no records.
 pub fn records_of(alloc: Global, bytes: &[u8]) -> Result<Option<Vec<StringRecord>>, AllocError>
     ensures { IfOk result (λ found. option_map (λ v. map fields_of v.items) found ≡ records_in bytes.now) }
 {
@@ -47,7 +50,7 @@ pub fn records_of(alloc: Global, bytes: &[u8]) -> Result<Option<Vec<StringRecord
     Ok(Some(records_of_text(alloc, bytes)?))
 }
 
-/// The field at a position from 0, or the empty text where there is none.
+/// Returns the field at a position, counted from 0, or the empty text where there is none.
 pub fn field(fields: &StringRecord, at: usize) -> &str
     ensures { result.now ≡ field_of (fields_of fields.now) at }
 {

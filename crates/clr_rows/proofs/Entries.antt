@@ -62,7 +62,7 @@ any_at p (y ∷ ys) (suc i) x e h = or_right (p y) (list_any p ys) (any_at p ys 
 pub held_at : {K X : Type 0} {R : K → K → Ordering} → IsTotalOrder R → (m : FinMap R X) (i : ℕ) (k : K) → slice_get (keys m) i ≡ Some k → is_some (get m k) ≡ true
 held_at {R = R} o m i k e = contains_key-keys m k ∙ any_at (eq_by_cmp R k) (keys m) i k e (ap is_eq (tied_itself o k))
 
--- so has the key there, if there is one
+-- the key at a position, if there is one, has a value
 pub held_where : {K X : Type 0} {R : K → K → Ordering} → IsTotalOrder R → (m : FinMap R X) (i : ℕ) (found : Option K) → found ≡ slice_get (keys m) i → IfSome found (λ k. IsSome (get m k))
 held_where o m i None e = tt
 held_where o m i (Some k) e = held_at o m i k (sym e)

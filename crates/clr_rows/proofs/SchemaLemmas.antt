@@ -243,14 +243,14 @@ pub cell_key : (tables : List TableDef) (cell : CellId) → cell_fault tables ce
 cell_key tables cell h = (cell_parts tables cell h).2
 
 module _ (tables : List TableDef) (cell : CellId) (row : Row) (fit : row_fault tables cell row ≡ None) where
-  -- its table is known, and its key in range
+  -- the row's table is known, and its key in range
   pub row_table : cell.table < length tables
   row_table = let t = fits_table tables cell row fit in slice_get_within tables cell.table t.0 t.1
 
   pub row_key : is_key cell.key ≡ true
   row_key = (fits_table tables cell row fit).2.key
 
-  -- its numbers are within 64 bits, its texts of no more bytes than the most
+  -- the row's numbers are within 64 bits, and its texts have no more bytes than the most
   pub row_numbers : list_all is_number row.values ≡ true
   row_numbers = (fits_table tables cell row fit).2.numbers
 
@@ -260,14 +260,14 @@ module _ (tables : List TableDef) (cell : CellId) (row : Row) (fit : row_fault t
   pub row_text : (i : ℕ) (text : List ℕ) → slice_get row.values i ≡ Some (Words text) → length text ≤ MOST_TEXT_BYTES
   row_text i text is = leb-true (length text) MOST_TEXT_BYTES (at_each is_short row.values i (Words text) (fits_table tables cell row fit).2.short is)
 
-  -- its places are in range, and the ends of each of its parts differ
+  -- the row's places are in range, and the ends of each of its parts differ
   pub row_part : (n : ℕ) (p q : Place) → slice_get (parts_of row.shape) n ≡ Some (p, q) → InRange p × InRange q × Differ p q
   row_part n p q is = let f = (fits_table tables cell row fit).2 in part_ends row.shape n p q f.coordinates f.parts is
 
   pub row_point : (p : Place) → row.shape ≡ At p → InRange p
   row_point p is = place_in_range p (subst (λ s. has_coordinates s ≡ true) is (fits_table tables cell row fit).2.coordinates)
 
-  -- a part fewer than the most vertices, at the most
+  -- the row has fewer parts than a path may have vertices
   pub row_parts : length (parts_of row.shape) < MOST_VERTICES
   row_parts = few_parts row.shape (fits_table tables cell row fit).2.vertices
 
@@ -281,7 +281,7 @@ module _ (tables : List TableDef) (cell : CellId) (row : Row) (fit : row_fault t
   pub row_vertices : (vertices : List Place) → row.shape ≡ Chain vertices → (LEAST_VERTICES ≤ length vertices) × (length vertices ≤ MOST_VERTICES)
   row_vertices vertices is = path_length vertices (subst (λ s. is_bad_path s ≡ false) is (fits_table tables cell row fit).2.vertices)
 
-  -- it has its table's form, and a value of its kind for each column
+  -- the row has its table's form, and a value of its kind for each column
   pub row_fits : (table : TableDef) → slice_get tables cell.table ≡ Some table → Fits table cell row
   row_fits table is =
       let t = fits_table tables cell row fit in
@@ -291,6 +291,6 @@ module _ (tables : List TableDef) (cell : CellId) (row : Row) (fit : row_fault t
   pub row_kind : (table : TableDef) (i : ℕ) (column : List ℕ × Kind) (value : Value) → slice_get tables cell.table ≡ Some table → slice_get table.columns i ≡ Some column → slice_get row.values i ≡ Some value → is_of_kind column.1 value ≡ true
   row_kind table i column value of at is = kind_at table.columns row.values i column value (row_fits table of).kinds at is
 
-  -- its cell names a row that could stand
+  -- the row's cell names a row that could stand
   pub row_names_cell : cell_fault tables cell ≡ None
   row_names_cell = let t = fits_table tables cell row fit in cell_named tables cell t.0 t.1 t.2.key

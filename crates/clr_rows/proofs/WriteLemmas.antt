@@ -126,7 +126,7 @@ named_row m n (e ∷ es) q named = by (named_row (set_cell m e.0 e.1) (set_cell 
         (row-set_cell m e.0 e.1 q ∙ ap (λ t. cond t e.1 (row_at m q)) tie ∙ sym (row-set_cell n e.0 e.1 q ∙ ap (λ t. cond t e.1 (row_at n q)) tie))
     by rest false tie = rest (sym (ap (λ t. t || is_among q (map (λ e. e.0) es)) tie) ∙ named)
 
--- and at any other cell what stood stays
+-- what stood at a cell that isn't named stays
 other_row : (m : Content) (es : List (CellId × Option Row)) (q : CellId) → is_among q (map (λ e. e.0) es) ≡ false → row_at (over m es) q ≡ row_at m q
 unfolding over
 other_row m [] q other = refl
@@ -217,6 +217,6 @@ put_leaves m cell q row there = ap is_some (row-set_cell m cell (Some row) q) �
 pub first_found : (e : CellId × Row) (es : List (CellId × Row)) → is_some (finite.find cell_cmp e.0 (e ∷ es)) ≡ true
 first_found e es = ap (λ t. is_some (cond t (Some e.1) (finite.find cell_cmp e.0 es))) (tied_self e.0)
 
--- and so is each of the others
+-- a row that is among the later ones is among them all
 pub later_found : (q : CellId) (e : CellId × Row) (es : List (CellId × Row)) → is_some (finite.find cell_cmp q es) ≡ true → is_some (finite.find cell_cmp q (e ∷ es)) ≡ true
 later_found q e es there = replaced (finite.find cell_cmp q es) (Some e.1) (eq_by_cmp cell_cmp q e.0) refl there

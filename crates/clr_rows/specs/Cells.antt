@@ -5,7 +5,7 @@ use Rattle.std.specs.declared.cmp.Ordering.{Ordering}
 use Rattle.std.specs.Coded.{Coded, code_by, coded×, coded_ℕ, coded_ℤ}
 use Rattle.clr_rows.specs.declared.cells.CellId.{CellId}
 
--- by table, then by key
+-- cells are ordered by table, then by key
 abbrev pub cell_cmp : CellId → CellId → Ordering
 cell_cmp a b = ordering_then (nat_cmp a.table b.table) (int_cmp a.key b.key)
 

@@ -19,14 +19,14 @@ abbrev pub begins_with_letter : List ℕ → Bool
 begins_with_letter [] = false
 begins_with_letter (c ∷ cs) = is_letter c
 
--- no more bytes than the most: a letter, and then letters, digits or `_`
+-- a good name: no more bytes than the most; first a letter, then letters, digits or `_`
 unfoldable pub is_good_name : List ℕ → Bool
 is_good_name name = begins_with_letter name && nat_le (length name) MOST_NAME_BYTES && list_all is_name_byte name
 
--- a name that a column may have: `KEY` stands for the primary key
+-- the word `KEY`, which stands for the primary key where a column is named
 abbrev pub is_key_word : List ℕ → Bool
 is_key_word name = bytes_eq name KEY.now
 
--- the name of the root of all workspaces
+-- the name of the top workspace
 abbrev pub live_name : List ℕ
 live_name = LIVE.now

@@ -8,6 +8,6 @@ pub record InRange (p : Place) : Type 0 where
   pub in_x : unsigned_abs p.x ≤ GREATEST_COORDINATE
   pub in_y : unsigned_abs p.y ≤ GREATEST_COORDINATE
 
--- two points, not one
+-- two points that aren't one
 abbrev pub Differ : Place → Place → Type 0
 Differ a b = a.x ≡ b.x → a.y ≡ b.y → ⊥

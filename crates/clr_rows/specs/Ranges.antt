@@ -23,6 +23,6 @@ is_shape_within (Chain vertices) = list_all is_place_within vertices
 unfoldable pub is_within : CellId → Row → Bool
 is_within cell row = nat_lt cell.table 65536 && is_i64 cell.key && list_all is_number row.values && is_shape_within row.shape
 
--- so is each row of a content
+-- each row of a content has its numbers within 64 bits
 abbrev pub AreWithin : Content → Type 0
 AreWithin content = (cell : CellId) (row : Row) → row_at content cell ≡ Some row → is_within cell row ≡ true

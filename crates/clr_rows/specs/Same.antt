@@ -40,7 +40,7 @@ same_shape _ _ = false
 abbrev pub same_row : Row → Row → Bool
 same_row a b = same_values a.values b.values && same_shape a.shape b.shape
 
--- a missing row counts as a value of its own
+-- whether two rows are the same, a missing row counting as a value of its own
 unfoldable pub same : Option Row → Option Row → Bool
 same None None = true
 same None (Some b) = false

@@ -28,7 +28,7 @@ use Rattle.clr_rows.specs.Numbers.{is_i64}
 use Rattle.clr_rows.specs.Parts.{parts_of}
 use Rattle.clr_rows.specs.Same.{same_place}
 
--- a call's answer, where a fault answers and none lets pass
+-- what a call returns: the fault, where there is one, and success where there is none
 abbrev pub Answers : {E : Type 0} → Result Unit E → Option E → Type 0
 Answers (Ok _) fault = fault ≡ None
 Answers (Err e) fault = fault ≡ Some e
@@ -88,7 +88,7 @@ is_of_kind _ _ = false
 abbrev pub are_of_kinds : List (List ℕ × Kind) → List Value → Bool
 are_of_kinds columns values = list_all (λ p. is_of_kind p.0.1 p.1) (zip columns values)
 
--- no more bytes than the most
+-- a value that is no text, or one of no more bytes than the most
 abbrev pub is_short : Value → Bool
 is_short (Int n) = true
 is_short (Words text) = nat_le (length text) MOST_TEXT_BYTES

@@ -11,12 +11,12 @@ use Rattle.clr_rows.specs.Ranges.{AreWithin}
 abbrev pub content_of : List (CellId × Row) → Content
 content_of entries = finite.from_sorted entries
 
--- in the order of cells, and each row within 64 bits
+-- entries in the order of cells, each with a row whose numbers are within 64 bits
 pub record IsSound (entries : List (CellId × Row)) : Type 0 where
   pub ascending : T (finite.is_sorted cell_cmp entries)
   pub within : AreWithin (content_of entries)
 
--- the row at a cell that is to get another
+-- the row that stands at a cell until the cell gets its own
 abbrev pub placeholder : Row
 placeholder = record { values = []; shape = Bare }
 

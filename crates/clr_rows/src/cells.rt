@@ -1,3 +1,5 @@
+//! Cells, the rows that stand at them, and what changes at one of them.
+
 use crate::rows::Row;
 
 /// A cell: the number of a table and a primary key in it. Cells are ordered by table, then by key.

@@ -1,3 +1,5 @@
+//! Why tables make no schema, and why a row can't stand at a cell.
+
 /// Why tables make no schema. Each test is made over all tables before the next.
 #[derive(Clone, Copy, Debug, PartialEq, Eq)]
 pub enum SchemaFault {
@@ -9,7 +11,7 @@ pub enum SchemaFault {
     NameTaken = 3,
 }
 
-/// Why a row can't stand at a cell, or why a cell names no row; the first that applies.
+/// Why a row can't stand at a cell, or why a cell names no row: the first reason that applies.
 #[derive(Clone, Copy, Debug, PartialEq, Eq)]
 pub enum RowFault {
     /// No table has this number.
@@ -25,7 +27,7 @@ pub enum RowFault {
     /// A key outside 1 to 999,999,999,999,999, or a coordinate outside -1,000,000,000 to
     /// 1,000,000,000 millimetres.
     OutOfRange = 6,
-    /// A segment whose ends are one point, or a path with two equal vertices in a row.
+    /// A segment whose ends are one point, or a path in which a vertex equals the next one.
     ZeroSegment = 7,
     /// A path of fewer than 2 or more than 32 vertices.
     BadPath = 8,

@@ -1,3 +1,6 @@
+//! The limits of schemas, names, texts, keys, coordinates and paths, and the words `KEY` and
+//! `LIVE`.
+
 /// The most tables of a schema.
 pub const MOST_TABLES: usize = 32;
 
@@ -10,7 +13,7 @@ pub const MOST_NAME_BYTES: usize = 30;
 /// The word that stands for the primary key where a column is named. No column has this name.
 pub const KEY: &str = "KEY";
 
-/// The name of the root of all workspaces.
+/// The name of the top workspace.
 pub const LIVE: &str = "LIVE";
 
 /// The most bytes of a text in a row.

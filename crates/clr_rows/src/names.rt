@@ -1,3 +1,5 @@
+//! Good names, and lists of names.
+
 ghost use Rattle.std.specs.Prelude.{◌≡◌, ◌++◌, ◌∷◌, [], OnOk, OnErr, IfErr};
 ghost use Rattle.std.specs.List.{list_all};
 ghost use Rattle.clr_rows.specs.Names.{is_good_name, is_name_byte};
@@ -19,8 +21,8 @@ fn are_name_bytes(bytes: &[u8]) -> bool
     bytes.iter().all(|byte| is_name_byte(*byte))
 }
 
-/// Whether a text may name a table, a column, a workspace or a savepoint: 1 to 30 bytes, an ASCII
-/// letter first, then ASCII letters, digits or `_`.
+/// Returns whether a text may name a table, a column, a workspace or a savepoint. Such a name has 1
+/// to 30 bytes: an ASCII letter first, then ASCII letters, digits or `_`.
 #[tactic(auto, unfolding(crate::specs::Names::is_good_name))]
 pub fn good_name(name: &str) -> bool
     ensures { result ≡ is_good_name name.now }
@@ -34,7 +36,7 @@ pub fn good_name(name: &str) -> bool
     }
 }
 
-/// Names, in their order.
+/// Names in an order.
 #[derive(Debug, Drop)]
 pub struct Names {
     list: Vec<Words>,
@@ -49,29 +51,29 @@ impl Model for Names {
 }
 
 impl Names {
-    /// The names of this list.
+    /// Returns the names of this list.
     pub fn new(list: Vec<Words>) -> Names
         ensures { result ≡ list.items }
     {
         Names { list }
     }
 
-    /// The names as a slice.
+    /// Returns the names as a slice.
     pub fn as_slice(&self) -> &[Words]
         ensures { result.now ≡ self.now }
     {
         self.list.as_slice()
     }
 
-    /// The list back again.
+    /// Returns the underlying list.
     pub fn into_vec(self) -> Vec<Words>
         ensures { result.items ≡ self }
     {
         self.list
     }
 
-    /// Adds a name behind the others. It fails for want of memory alone, and then it changes nothing
-    /// and gives the name back.
+    /// Adds a name behind the others. If memory runs out, nothing changes, and the error gives the
+    /// name back.
     pub fn push(&mut self, name: Words) -> Result<(), AllocFailed<Words>>
         ensures ok { OnOk result (self.new ≡ self.old ++ name ∷ []) }
         ensures err { OnErr result (self.new ≡ self.old) }

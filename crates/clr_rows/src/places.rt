@@ -1,3 +1,5 @@
+//! Points of the plane, and the shapes of rows.
+
 ghost use Rattle.std.specs.Prelude.{◌≡◌, ◌↔◌, IfOk, IsTrue};
 
 use crate::vertices::Vertices;
@@ -11,7 +13,7 @@ pub struct Place {
 }
 
 impl Place {
-    /// Whether both places are the same.
+    /// Returns whether both places are the same.
     pub fn same(&self, other: &Place) -> bool
         ensures { IsTrue result ↔ (self.now ≡ other.now) }
     {
@@ -29,7 +31,7 @@ pub enum Shape {
 }
 
 impl Shape {
-    /// A second shape that is the same. It fails for want of memory alone.
+    /// Returns a copy of the shape.
     pub fn copy(&self) -> Result<Shape, AllocError>
         ensures { IfOk result (λ shape. shape ≡ self.now) }
     {
@@ -41,8 +43,8 @@ impl Shape {
         }
     }
 
-    /// Whether both shapes are the same, the ends of a segment and the vertices of a path in their
-    /// order.
+    /// Returns whether both shapes are the same. The ends of a segment and the vertices of a path
+    /// are compared in their order.
     pub fn same(&self, other: &Shape) -> bool
         ensures { IsTrue result ↔ (self.now ≡ other.now) }
     {

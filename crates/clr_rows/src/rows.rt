@@ -1,3 +1,5 @@
+//! Rows: their values and their shape.
+
 ghost use Rattle.std.specs.Prelude.{◌≡◌, ◌↔◌, ◌≤◌, length, map, IfOk, IsTrue};
 
 use crate::places::Shape;
@@ -13,7 +15,7 @@ pub enum Value {
 }
 
 impl Value {
-    /// A second value that is the same. It fails for want of memory alone.
+    /// Returns a copy of the value.
     pub fn copy(&self) -> Result<Value, AllocError>
         ensures { IfOk result (λ value. value ≡ self.now) }
     {
@@ -23,7 +25,7 @@ impl Value {
         }
     }
 
-    /// Whether both values are of one kind and the same.
+    /// Returns whether both values are of one kind and the same.
     pub fn same(&self, other: &Value) -> bool
         ensures { IsTrue result ↔ (self.now ≡ other.now) }
     {
@@ -51,28 +53,28 @@ impl Model for Values {
 }
 
 impl Values {
-    /// The values of this list.
+    /// Returns the values of this list.
     pub fn new(list: Vec<Value>) -> Values
         ensures { result ≡ list.items }
     {
         Values { list }
     }
 
-    /// The values as a slice.
+    /// Returns the values as a slice.
     pub fn as_slice(&self) -> &[Value]
         ensures { result.now ≡ self.now }
     {
         self.list.as_slice()
     }
 
-    /// The list back again.
+    /// Returns the underlying list.
     pub fn into_vec(self) -> Vec<Value>
         ensures { result.items ≡ self }
     {
         self.list
     }
 
-    /// A second list of the same values. It fails for want of memory alone.
+    /// Returns a copy of the list.
     pub fn copy(&self) -> Result<Values, AllocError>
         ensures { IfOk result (λ values. values ≡ self.now) }
     {
@@ -84,7 +86,7 @@ impl Values {
         Ok(Values { list })
     }
 
-    /// Whether both lists have the same values in the same order.
+    /// Returns whether both lists have the same values in the same order.
     pub fn same(&self, other: &Values) -> bool
         ensures { IsTrue result ↔ (self.now ≡ other.now) }
     {
@@ -108,7 +110,7 @@ pub struct Row {
 }
 
 impl Row {
-    /// A second row with the same values and shape. It fails for want of memory alone.
+    /// Returns a copy of the row.
     pub fn copy(&self) -> Result<Row, AllocError>
         ensures { IfOk result (λ row. row ≡ self.now) }
     {
@@ -118,7 +120,7 @@ impl Row {
         })
     }
 
-    /// Whether both rows have the same values and shape.
+    /// Returns whether both rows have the same values and shape.
     pub fn same(&self, other: &Row) -> bool
         ensures { IsTrue result ↔ (self.now ≡ other.now) }
     {

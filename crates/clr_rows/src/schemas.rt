@@ -1,3 +1,5 @@
+//! Schemas: tables found by number and by name, and the test whether a row fits.
+
 ghost use Rattle.std.specs.Prelude.{◌≡◌, ◌<◌, ◌≤◌, length, IfOk, IfSome, MatchResult, Some, None, slice_get, option_map};
 ghost use Rattle.std.specs.Option.{option_copied};
 ghost use Rattle.clr_rows.specs.Schemas.{Answers, schema_fault, name_of_table, table_named, named_in, column_named, cell_fault, row_fault};
@@ -36,10 +38,10 @@ impl Model for Schema {
 }
 
 impl Schema {
-    /// The schema of these tables, numbered in their order. Each test is made over all tables before
-    /// the next. Fails with `TooMany` where there are more than 32 tables or a table has more than 16
-    /// columns, with `BadName` where a name isn't good or a column is called `KEY`, and with
-    /// `NameTaken` where a table's name, or a column's in one table, stands twice.
+    /// Returns the schema of these tables, numbered in their order. Each test is made over all
+    /// tables before the next. Fails with `TooMany` where there are more than 32 tables or a table
+    /// has more than 16 columns, with `BadName` where a name isn't good or a column is called
+    /// `KEY`, and with `NameTaken` where a table's name, or a column's in one table, stands twice.
     pub fn new(tables: Vec<TableDef>) -> Result<Schema, SchemaFault>
         ensures made { IfOk result (λ schema. schema ≡ tables.items) }
         ensures judged { MatchResult result (λ _. schema_fault tables.items ≡ None) (λ fault. schema_fault tables.items ≡ Some fault) }
@@ -50,7 +52,7 @@ impl Schema {
         }
     }
 
-    /// The tables in the order of their numbers.
+    /// Returns the tables in the order of their numbers.
     pub fn tables(&self) -> &[TableDef]
         ensures value { result.now ≡ self.now }
         ensures sound { schema_fault self.now ≡ None }
@@ -58,7 +60,7 @@ impl Schema {
         self.tables.as_slice()
     }
 
-    /// The number of the table of this name, or none. Case counts.
+    /// Returns the number of the table of this name, or none. Names are compared with case.
     pub fn table(&self, name: &str) -> Option<u16>
         ensures value { result ≡ table_named self.now name.now }
         ensures small { length self.now ≤ MOST_TABLES }
@@ -69,7 +71,7 @@ impl Schema {
         }
     }
 
-    /// The name of the table of this number, or none.
+    /// Returns the name of the table of this number, or none.
     pub fn table_name(&self, table: u16) -> Option<&str>
         ensures { option_map (λ s. s.now) result ≡ option_map (λ t. t.name) (slice_get self.now table) }
     {
@@ -79,7 +81,7 @@ impl Schema {
         }
     }
 
-    /// The name of the table of this number, or no bytes where there is no such table.
+    /// Returns the name of the table of this number, or no bytes where there is no such table.
     pub fn name_of_table(&self, table: u16) -> &str
         ensures value { result.now ≡ name_of_table self.now table }
         ensures sound { schema_fault self.now ≡ None }
@@ -90,8 +92,9 @@ impl Schema {
         }
     }
 
-    /// The number of the column of this name in a table, counted from 0, or none, also where
-    /// there is no such table. Case counts.
+    /// Returns the number of the column of this name in a table, counted from 0. Returns none where
+    /// the table has no such column, and where there is no such table. Names are compared with
+    /// case.
     pub fn column(&self, table: u16, name: &str) -> Option<u16>
         ensures { result ≡ column_named self.now table name.now }
     {
@@ -102,7 +105,7 @@ impl Schema {
         }
     }
 
-    /// The table of this number, or none.
+    /// Returns the table of this number, or none.
     pub fn def(&self, table: u16) -> Option<&TableDef>
         ensures value { option_copied result ≡ slice_get self.now table }
         ensures sound { schema_fault self.now ≡ None }
@@ -111,8 +114,8 @@ impl Schema {
         self.tables.get(table as usize)
     }
 
-    /// Whether some row could stand at this cell. Fails with `NoTable` where no table has its number,
-    /// and with `OutOfRange` where its key isn't 1 to 999,999,999,999,999.
+    /// Tests whether some row could stand at this cell. Fails with `NoTable` where no table has its
+    /// number, and with `OutOfRange` where its key isn't 1 to 999,999,999,999,999.
     #[tactic(auto, unfolding(crate::specs::Schemas::cell_fault))]
     pub fn names_cell(&self, cell: CellId) -> Result<(), RowFault>
         ensures { Answers result (cell_fault self.now cell) }
@@ -124,14 +127,15 @@ impl Schema {
         }
     }
 
-    /// Whether this row can stand at this cell, by tests in this order. Fails with `NoTable` where no
-    /// table has the cell's number, with `WrongCount` where there is another number of values than
-    /// columns, with `WrongKind` where a value isn't of its column's kind, with `WordsTooLong` where a
-    /// text has more than 200 bytes, with `WrongShape` where the shape isn't of the table's form, with
-    /// `OutOfRange` where the key isn't 1 to 999,999,999,999,999 or a coordinate is beyond
-    /// 1,000,000,000 millimetres either way, with `ZeroSegment` where the ends of a segment are one
-    /// point or two vertices of a path in a row are equal, and with `BadPath` where a path has fewer
-    /// than 2 or more than 32 vertices.
+    /// Tests whether this row can stand at this cell. The tests are made in the order in which the
+    /// faults stand here. Fails with `NoTable` where no table has the cell's number, with
+    /// `WrongCount` where there is another number of values than columns, with `WrongKind` where a
+    /// value isn't of its column's kind, with `WordsTooLong` where a text has more than 200 bytes,
+    /// with `WrongShape` where the shape isn't of the table's form, with `OutOfRange` where the key
+    /// isn't 1 to 999,999,999,999,999 or a coordinate is beyond 1,000,000,000 millimetres either
+    /// way, with `ZeroSegment` where the ends of a segment are one point or a vertex of a path
+    /// equals the next one, and with `BadPath` where a path has fewer than 2 or more than 32
+    /// vertices.
     #[tactic(auto, unfolding(crate::specs::Schemas::row_fault))]
     pub fn fits(&self, cell: CellId, row: &Row) -> Result<(), RowFault>
         ensures { Answers result (row_fault self.now cell row.now) }

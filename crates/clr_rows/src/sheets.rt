@@ -1,3 +1,5 @@
+//! Sheets: finite maps from cells to rows.
+
 ghost use Rattle.std.specs.Prelude.{◌≡◌, length, slice_get, None, IfOk, IfSome, OnOk, OnErr, IsSome, IsOk};
 ghost use Rattle.std.specs.FinMap as finite;
 ghost use Rattle.std.specs.Option.{option_copied};
@@ -47,7 +49,7 @@ fn key_at(rows: &BTreeMap<CellId, Row>, at: usize) -> Option<&CellId>
 }
 
 impl Sheet {
-    /// A sheet with no rows.
+    /// Returns a sheet with no rows.
     pub fn new(alloc: Global) -> Sheet
         ensures { result ≡ no_rows }
     {
@@ -56,15 +58,15 @@ impl Sheet {
         }
     }
 
-    /// The row at a cell, or none.
+    /// Returns the row at a cell, or none.
     pub fn get(&self, cell: CellId) -> Option<&Row>
         ensures { option_copied result ≡ row_at self.now cell }
     {
         self.rows.get(&cell)
     }
 
-    /// Puts a row at a cell, and answers the row that stood there. It fails for want of memory
-    /// alone, never where the cell has a row, and changes nothing then.
+    /// Puts a row at a cell, and returns the row that stood there, or none. If memory runs out,
+    /// nothing changes. It never fails where the cell has a row.
     pub fn put(&mut self, cell: CellId, row: Row) -> Result<Option<Row>, AllocError>
         ensures before { IfOk result (λ before. before ≡ row_at self.old cell) }
         ensures ok { OnOk result (self.new ≡ finite.insert self.old cell row) }
@@ -76,9 +78,9 @@ impl Sheet {
         Ok(before)
     }
 
-    /// Puts rows, or none, over this content at some cells, one after another, all of them or
-    /// nothing: it fails for want of memory alone, and changes nothing then. Its cost goes by the
-    /// rows that it puts.
+    /// Puts rows, or none, over this content at some cells, one after another. If memory runs out,
+    /// nothing changes. The cost depends on the number of rows that are put, and not on the size of
+    /// the sheet.
     pub fn put_all(&mut self, cells: Vec<(CellId, Option<Row>)>) -> Result<(), AllocError>
         ensures ok { OnOk result (self.new ≡ over self.old cells.items) }
         ensures err { OnErr result (self.new ≡ self.old) }
@@ -86,7 +88,7 @@ impl Sheet {
         write_all(self, cells)
     }
 
-    /// Takes the row at a cell away, and answers it, or none.
+    /// Takes the row at a cell away and returns it, or none.
     pub fn take(&mut self, cell: CellId) -> Option<Row>
         ensures before { result ≡ row_at self.old cell }
         ensures removed { self.new ≡ finite.remove self.old cell }
@@ -94,15 +96,15 @@ impl Sheet {
         self.rows.remove(&cell)
     }
 
-    /// How many cells have a row.
+    /// Returns how many cells have a row.
     pub fn len(&self) -> usize
         ensures { result ≡ length (cells_of self.now) }
     {
         self.rows.len()
     }
 
-    /// The cell of the row at a position in the order of cells, which is found by going over the
-    /// rows before it, or none where there are fewer rows.
+    /// Returns the cell of the row at a position in the order of cells, or none where there are
+    /// fewer rows. The cell is found by going over the rows before it.
     pub fn cell_at(&self, at: usize) -> Option<CellId>
         ensures position { result ≡ slice_get (cells_of self.now) at }
         ensures held { IfSome result (λ cell. IsSome (row_at self.now cell)) }
@@ -110,7 +112,7 @@ impl Sheet {
         key_at(&self.rows, at).copied()
     }
 
-    /// The cells with their rows, in the order of cells.
+    /// Returns the cells with their rows, in the order of cells.
     pub fn iter(&self) -> Iter<'_, CellId, Row>
         ensures rest { result ≡ finite.entries self.now }
         ensures runs { ShowsInOrder (deref_pair {K = Cell} {X = OneRow}) }
@@ -119,7 +121,7 @@ impl Sheet {
         self.rows.iter()
     }
 
-    /// The cells with their rows, in the order of cells, by value.
+    /// Returns the cells with their rows, in the order of cells, by value.
     fn into_entries(self) -> IntoIter<CellId, Row>
         ensures rest { result ≡ finite.entries self }
         ensures runs { GivesInOrder (Cell × OneRow) }
@@ -127,7 +129,7 @@ impl Sheet {
         self.rows.into_iter()
     }
 
-    /// A second sheet of the same rows. It fails for want of memory alone.
+    /// Returns a copy of the sheet.
     pub fn copy(&self) -> Result<Sheet, AllocError>
         ensures { IfOk result (λ sheet. sheet ≡ self.now) }
     {

@@ -1,3 +1,5 @@
+//! What a table is: its name, its columns and the form of its rows.
+
 ghost use Rattle.std.specs.Prelude.{◌≡◌};
 
 use crate::texts::Words;
@@ -35,21 +37,21 @@ impl Model for Columns {
 }
 
 impl Columns {
-    /// The columns of this list.
+    /// Returns the columns of this list.
     pub fn new(list: Vec<(Words, Kind)>) -> Columns
         ensures { result ≡ list.items }
     {
         Columns { list }
     }
 
-    /// The columns as a slice.
+    /// Returns the columns as a slice.
     pub fn as_slice(&self) -> &[(Words, Kind)]
         ensures { result.now ≡ self.now }
     {
         self.list.as_slice()
     }
 
-    /// The list back again.
+    /// Returns the underlying list.
     pub fn into_vec(self) -> Vec<(Words, Kind)>
         ensures { result.items ≡ self }
     {

@@ -1,3 +1,5 @@
+//! Texts that are compared by their bytes.
+
 ghost use Rattle.std.specs.Prelude.{◌≡◌, ◌↔◌, string_bytes, IfOk, IsTrue};
 
 use std::alloc::AllocError;
@@ -18,28 +20,28 @@ impl Model for Words {
 }
 
 impl Words {
-    /// A text that holds this string.
+    /// Returns a text that holds this string.
     pub fn new(text: String) -> Words
         ensures { result ≡ string_bytes text }
     {
         Words { text }
     }
 
-    /// The text as a string.
+    /// Returns the text as a string.
     pub fn as_str(&self) -> &str
         ensures { result.now ≡ self.now }
     {
         self.text.as_str()
     }
 
-    /// The string back again.
+    /// Returns the underlying string.
     pub fn into_string(self) -> String
         ensures { string_bytes result ≡ self }
     {
         self.text
     }
 
-    /// A second text of the same bytes. It fails for want of memory alone.
+    /// Returns a copy of the text.
     pub fn copy(&self) -> Result<Words, AllocError>
         ensures { IfOk result (λ text. text ≡ self.now) }
     {
@@ -48,7 +50,7 @@ impl Words {
         })
     }
 
-    /// Whether both texts have the same bytes.
+    /// Returns whether both texts have the same bytes.
     pub fn same(&self, other: &Words) -> bool
         ensures { IsTrue result ↔ (self.now ≡ other.now) }
     {

@@ -1,3 +1,5 @@
+//! The vertices of a path.
+
 ghost use Rattle.std.specs.Prelude.{◌≡◌, ◌↔◌, IfOk, IsTrue};
 
 use crate::places::Place;
@@ -20,28 +22,28 @@ impl Model for Vertices {
 }
 
 impl Vertices {
-    /// The vertices of this list.
+    /// Returns the vertices of this list.
     pub fn new(list: Vec<Place>) -> Vertices
         ensures { result ≡ list.items }
     {
         Vertices { list }
     }
 
-    /// The vertices as a slice.
+    /// Returns the vertices as a slice.
     pub fn as_slice(&self) -> &[Place]
         ensures { result.now ≡ self.now }
     {
         self.list.as_slice()
     }
 
-    /// The list back again.
+    /// Returns the underlying list.
     pub fn into_vec(self) -> Vec<Place>
         ensures { result.items ≡ self }
     {
         self.list
     }
 
-    /// A second list of the same vertices. It fails for want of memory alone.
+    /// Returns a copy of the list.
     pub fn copy(&self) -> Result<Vertices, AllocError>
         ensures { IfOk result (λ vertices. vertices ≡ self.now) }
     {
@@ -53,7 +55,7 @@ impl Vertices {
         Ok(Vertices::new(list))
     }
 
-    /// Whether both lists have the same vertices in the same order.
+    /// Returns whether both lists have the same vertices in the same order.
     pub fn same(&self, other: &Vertices) -> bool
         ensures { IsTrue result ↔ (self.now ≡ other.now) }
     {

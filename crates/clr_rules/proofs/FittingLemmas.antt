@@ -85,7 +85,7 @@ pub rule_fits : (tables : List TableDef) (rules : List Rule) (i : ℕ) (rule : R
 unfolding book_fault
 rule_fits tables rules i rule h is = rule_without_fault tables 0 rules i rule (first_in_book (nat_le (length rules) MOST_RULES) (first_fault tables 0 rules) h) is
 
--- and a distance that `near` takes
+-- a distance in a book that fits is one that `near` takes
 pub distance_fits : (rules : List Rule) (rows : List Held) (i : ℕ) (rule : Rule) → FitTogether rules rows → slice_get rules i ≡ Some rule → has_distance rule ≡ true
 distance_fits rules rows i rule h is = distance_without_fault h.tables rule (rule_fits h.tables rules i rule h.book is)
 

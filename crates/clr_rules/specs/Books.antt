@@ -114,7 +114,7 @@ abbrev pub is_literal_of : Option Kind → Value → Bool
 is_literal_of None v = false
 is_literal_of (Some k) v = is_of_kind k v && is_number v
 
--- each literal is one of its column
+-- each literal of a filter is of its column's kind
 abbrev pub has_filter : List TableDef → Side → Bool
 has_filter tables side = list_all (λ f. is_literal_of (kind_of tables side.table (column.At f.0)) f.1) side.filter
 
@@ -129,7 +129,7 @@ has_filters tables (Near a b d) = has_filter tables a && has_filter tables b
 abbrev pub is_side_within : Side → Bool
 is_side_within side = list_all (λ f. is_number f.1) side.filter
 
--- so is each one of a rule
+-- each literal of a rule that is a number is within 64 bits
 unfoldable pub is_rule_within : Rule → Bool
 is_rule_within (Unique subject columns) = is_side_within subject
 is_rule_within (Partner subject columns server server_columns) = is_side_within subject && is_side_within server

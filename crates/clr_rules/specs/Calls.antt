@@ -53,7 +53,7 @@ abbrev pub are_nearer : ℤ → Option Place → Option Place → Bool
 are_nearer d (Some p) (Some q) = int_lt (squared_distance p q) (d *ℤ d)
 are_nearer d _ _ = false
 
--- one point twice
+-- two points that are there and are one
 abbrev pub are_one_point : Option Place → Option Place → Bool
 are_one_point (Some p) (Some q) = same_place p q
 are_one_point _ _ = false
@@ -73,7 +73,7 @@ are_subjects (Crossing a b server) ask s (Some t) = are_of_sides a b s t && have
 are_subjects (Near a b d) ask s (Some t) = is_plain ask && (are_of_sides a b s t && are_nearer d (point_of s) (point_of t))
 are_subjects _ _ _ _ = false
 
--- whether a row serves such subjects
+-- whether a row serves the subjects of a rule
 unfoldable pub is_server : Rule → Ask → Held → Option Held → Held → Bool
 is_server (Partner subject columns server server_columns) ask s None r =
     is_plain ask && (is_of_side subject s && (is_of_side server r && are_equal_in s columns r server_columns))
@@ -91,7 +91,7 @@ abbrev pub is_server_of : Option Rule → Ask → Held → Option Held → Held 
 is_server_of None ask s t r = false
 is_server_of (Some rule) ask s t r = is_server rule ask s t r
 
--- the same for the rule of the ask; one that isn't there has no subjects
+-- whether rows call the rule of an ask; a rule that isn't there has no subjects
 unfoldable pub calls : List Rule → Ask → Held → Option Held → Bool
 calls rules ask s t = are_subjects_of (slice_get rules ask.rule) ask s t
 

@@ -48,7 +48,7 @@ CrossingSubjects = (tables : List TableDef) (a b server : Side) (ask : Ask) (s t
     → FitsCell tables t
     → (are_subjects (Crossing a b server) ask s (Some t) ≡ true) ↔ (are_of_sides a b s t ≡ true) × PartsMeet ask s t
 
--- and a row of the server's side serves them exactly where it is a point of both
+-- where two rows fit a schema, a row serves them under a crossing exactly where it is of the server's side and a point of both parts parts
 abbrev pub CrossingServers : Type 0
 CrossingServers = (tables : List TableDef) (a b server : Side) (ask : Ask) (s t r : Held)
     → FitsCell tables s
@@ -66,6 +66,6 @@ HasRoleToo rule (Some t) = has_role_in rule t ≡ true
 abbrev pub SubjectsHaveRoles : Type 0
 SubjectsHaveRoles = (rule : Rule) (ask : Ask) (s : Held) (t : Option Held) → are_subjects rule ask s t ≡ true → (has_role_in rule s ≡ true) × HasRoleToo rule t
 
--- and so has a row that serves
+-- a row that serves subjects has a role in their rule
 abbrev pub ServersHaveRoles : Type 0
 ServersHaveRoles = (rule : Rule) (ask : Ask) (s : Held) (t : Option Held) (r : Held) → is_server rule ask s t r ≡ true → has_role_in rule r ≡ true

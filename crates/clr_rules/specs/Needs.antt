@@ -25,7 +25,7 @@ View = CellId → Option Row
 abbrev pub Stands : View → Held → Type 0
 Stands view s = view s.0 ≡ Some s.1
 
--- a second subject stands too, at a greater cell
+-- a second subject, if there is one, stands too, at a greater cell
 abbrev pub StandsBeside : View → Held → Option Held → Type 0
 StandsBeside view s None = ⊤
 StandsBeside view s (Some t) = Stands view t × (cell_cmp s.0 t.0 ≡ Less)
@@ -36,7 +36,7 @@ pub record IsNeed (rules : List Rule) (view : View) (ask : Ask) (first : Held) (
   pub beside : StandsBeside view first second
   pub they_call : calls rules ask first second ≡ true
 
--- some row that stands serves them
+-- some row that stands serves the subjects
 abbrev pub IsMet : List Rule → View → Ask → Held → Option Held → Type 0
 IsMet rules view ask first second = (server : Held) × Stands view server × (serves rules ask first second server ≡ true)
 
@@ -46,7 +46,7 @@ Holds rules view = (ask : Ask) (first : Held) (second : Option Held) → IsNeed 
 
 -- broken needs -------------------------------------------------------------------------------
 
--- by rule, then by the first cell, by the second, and by the part of each
+-- broken needs are ordered by rule, then by the first cell, by the second, and by the part of each
 unfoldable pub broken_cmp : Broken → Broken → Ordering
 broken_cmp a b = ordering_then (nat_cmp a.rule b.rule)
     (ordering_then (cell_cmp a.first b.first)
@@ -100,11 +100,11 @@ pub record IsAudit (rules : List Rule) (view : View) (list : List Broken) : Type
 abbrev pub is_after : Held → Held → Bool
 is_after s t = is_lt (cell_cmp s.0 t.0)
 
--- a row alone, and with each row at a greater cell
+-- a row alone, and beside each row at a greater cell
 abbrev pub choices : Held → List Held → List (Option Held)
 choices s rows = None ∷ map Some (filter (is_after s) rows)
 
--- they call the rule, and none of the rows serves them
+-- the subjects call the rule, and none of the rows serves them
 abbrev pub is_broken : List Rule → Ask → List Held → Held → Option Held → Bool
 is_broken rules ask rows s t = calls rules ask s t && not (list_any (serves rules ask s t) rows)
 
@@ -112,15 +112,15 @@ is_broken rules ask rows s t = calls rules ask s t && not (list_any (serves rule
 abbrev pub broken_between : List Rule → ℕ → List Held → Held → Option Held → List Broken
 broken_between rules number rows s t = map (λ ask. broken_at ask s t) (filter (λ ask. is_broken rules ask rows s t) (asks rules number s t))
 
--- those whose lesser subject is one row
+-- the broken needs of one rule whose lesser subject is one row
 unfoldable pub broken_from : List Rule → ℕ → List Held → Held → List Broken
 broken_from rules number rows s = flat_map (broken_between rules number rows s) (choices s rows)
 
--- those of one rule
+-- the broken needs of one rule
 unfoldable pub broken_of : List Rule → ℕ → List Held → List Broken
 broken_of rules number rows = flat_map (broken_from rules number rows) rows
 
--- those of the rules below a number
+-- the broken needs of the rules below a number
 unfoldable pub broken_below : List Rule → ℕ → List Held → List Broken
 broken_below rules zero rows = []
 broken_below rules (suc number) rows = broken_below rules number rows ++ broken_of rules number rows

@@ -14,7 +14,7 @@ roles (EndNode subject tip server) s = record { alone = is_of_side subject s; fi
 roles (Crossing a b server) s = record { alone = false; first = is_of_side a s; second = is_of_side b s; server = is_of_side server s }
 roles (Near a b d) s = record { alone = false; first = is_of_side a s; second = is_of_side b s; server = false }
 
--- the same for the rule of a number
+-- which sides of the rule of a number the row is of
 abbrev pub roles_by : Option Rule → Held → Roles
 roles_by None s = record { alone = false; first = false; second = false; server = false }
 roles_by (Some rule) s = roles rule s

@@ -17,7 +17,7 @@ use Rattle.clr_rules.specs.declared.rules.Tip.{Tip}
 use Rattle.clr_rules.specs.declared.rules.Tip.TheVariants.{First, Second}
 use Rattle.clr_rules.specs.declared.sides.Side.{Side}
 
--- what a row has in a column, if it has the column: another value, or none, is another
+-- whether what two rows have in a column is the same: one value, or none in both
 abbrev pub same_field : Option Value → Option Value → Bool
 same_field (Some v) (Some w) = same_value v w
 same_field None None = true
@@ -48,7 +48,7 @@ abbrev pub has_role_by : Option Rule → Held → Bool
 has_role_by None s = false
 has_role_by (Some rule) s = has_role_in rule s
 
--- the same for the rule of a number
+-- the row is of some side of the rule of a number
 unfoldable pub has_role : List Rule → ℕ → Held → Bool
 has_role rules number s = has_role_by (slice_get rules number) s
 
@@ -59,7 +59,7 @@ abbrev pub field : Held → Col → Option Value
 field s column.Key = Some (Int s.0.key)
 field s (column.At n) = slice_get s.1.values n
 
--- the one row has in its columns what the other has in its own, in order
+-- one row has in its columns what another row has in its own, in order
 unfoldable pub are_equal_in : Held → List Col → Held → List Col → Bool
 are_equal_in s columns t others = length columns == length others && list_all (λ p. same_field (field s p.0) (field t p.1)) (zip columns others)
 

@@ -1,3 +1,5 @@
+//! Books of rules: the rules of a network that fit its schema.
+
 ghost use Rattle.std.specs.Prelude.{◌≡◌, ◌<◌, ◌≤◌, true, length, IfOk, MatchResult, Some, slice_get};
 ghost use Rattle.clr_rules.specs.declared.limits.TheConstants.{MOST_RULES};
 ghost use Rattle.std.specs.List.{list_all};
@@ -32,15 +34,15 @@ impl Model for RuleBook {
 }
 
 impl RuleBook {
-    /// The book of these rules, numbered in their order, for the rows of this schema. Fails with
-    /// number 64 and `TooMany` where there are more than 64 rules. Else it fails with the number of
-    /// the first rule that fails a test, and with `NoTable` where the table of a side isn't in the
-    /// schema, with `NoColumn` where a list of columns is empty or names a column that its table
-    /// hasn't or `Col::Key` stands in a `Unique`, with `KindsDiffer` where the lists of a `Partner`
-    /// differ in length or kinds, with `WrongShape` where the table of a side hasn't the shape that
-    /// the rule asks for, with `BadDistance` where a distance isn't 1 to 1,000,000 millimetres, and
-    /// with `BadFilter` where a filter names a column that its table hasn't or a literal is of
-    /// another kind than its column. The tests are made in this order.
+    /// Returns the book of these rules, numbered in their order, for the rows of this schema. Fails
+    /// with number 64 and `TooMany` where there are more than 64 rules. Otherwise it fails with the
+    /// number of the first rule that fails a test, and with the first of these faults: `NoTable`
+    /// where the table of a side isn't in the schema, `NoColumn` where a list of columns is empty
+    /// or names a column that its table hasn't or `Col::Key` stands in a `Unique`, `KindsDiffer`
+    /// where the lists of a `Partner` differ in length or kinds, `WrongShape` where the table of a
+    /// side hasn't the shape that the rule asks for, `BadDistance` where a distance isn't 1 to
+    /// 1,000,000 millimetres, and `BadFilter` where a filter names a column that its table hasn't
+    /// or a literal is of another kind than its column.
     #[tactic(auto, unfolding(crate::specs::Books::book_fault))]
     pub fn new(schema: &Schema, rules: Vec<Rule>) -> Result<RuleBook, (u16, RuleFault)>
         ensures made { IfOk result (λ book. book ≡ rules.items) }
@@ -55,7 +57,7 @@ impl RuleBook {
         }
     }
 
-    /// How many rules there are.
+    /// Returns how many rules there are.
     pub fn len(&self) -> usize
         ensures value { result ≡ length self.now }
         ensures small { length self.now ≤ MOST_RULES }
@@ -63,7 +65,7 @@ impl RuleBook {
         self.rules.len()
     }
 
-    /// The rule of a number.
+    /// Returns the rule of a number, which is below `len`.
     pub fn rule(&self, number: u16) -> &Rule
         requires { number < length self.now }
         ensures { slice_get self.now number ≡ Some result.now }
@@ -71,7 +73,7 @@ impl RuleBook {
         &self.rules[number as usize]
     }
 
-    /// The rules, in the order of their numbers.
+    /// Returns the rules, in the order of their numbers.
     pub fn rules(&self) -> &[Rule]
         ensures value { result.now ≡ self.now }
         ensures within { list_all is_rule_within self.now ≡ true }

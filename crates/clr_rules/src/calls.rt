@@ -18,8 +18,9 @@ use clr_rows::Held;
 use clr_segments::parts;
 
 impl RuleBook {
-    /// How many parts of a row a rule is asked of: those of its segment or path for a `Crossing`,
-    /// and 1 for another rule, which is asked of whole rows. The rule's number is below `len`.
+    /// Returns how many parts of a row a rule is asked of: those of its segment or path for a
+    /// `Crossing`, and 1 for another rule, which is asked of whole rows. The rule's number is below
+    /// `len`.
     #[tactic(auto, unfolding(crate::specs::Calls::part_count))]
     pub fn part_count(&self, rule: u16, held: Held) -> u16
         requires number { rule < length self.now }
@@ -32,8 +33,8 @@ impl RuleBook {
         }
     }
 
-    /// Whether a row alone calls a rule: some row that serves it must stand. The rule's number is
-    /// below `len`, and the row fits a schema that the book fits.
+    /// Returns whether a row alone calls a rule, so that some row which serves it must stand. The
+    /// rule's number is below `len`, and the row fits a schema that the book fits.
     #[tactic(auto, unfolding(crate::specs::Calls::calls))]
     pub fn calls_one(&self, rule: u16, held: Held) -> bool
         requires number { rule < length self.now }
@@ -43,10 +44,11 @@ impl RuleBook {
         is_subject(self.rule(rule), rule, held)
     }
 
-    /// Whether two rows call a rule, in either arrangement: some row that serves them must stand.
-    /// For a `Crossing` the parts of the ask have a common point; a part that isn't there doesn't
-    /// call. Under other rules numbers other than 1 don't call. Whether the cells differ isn't
-    /// looked at. The rule's number is below `len`, and the rows fit a schema that the book fits.
+    /// Returns whether two rows call a rule, in either arrangement, so that some row which serves
+    /// them must stand. For a `Crossing` the parts of the ask have a common point; a part that
+    /// isn't there doesn't call. Under other rules part numbers other than 1 don't call. Whether
+    /// the cells differ isn't looked at. The rule's number is below `len`, and the rows fit a
+    /// schema that the book fits.
     #[tactic(auto, unfolding(crate::specs::Calls::calls))]
     pub fn calls_two(&self, ask: Ask, first: Held, second: Held) -> bool
         requires number { ask.rule < length self.now }
@@ -56,11 +58,12 @@ impl RuleBook {
         are_subjects(self.rule(ask.rule), ask, first, second)
     }
 
-    /// Whether a row serves the subjects of a rule. For a `Crossing` it is a point of both parts of
-    /// the ask; a part that isn't there is served by none, nor are parts that overlap. Under other
-    /// rules none serves where the numbers aren't 1. For a `Partner` and an `EndNode` it is looked
-    /// at, too, that the subject is of the subject's side; for a `Crossing` the server's side alone
-    /// is. The rule's number is below `len`, and the rows fit a schema that the book fits.
+    /// Returns whether a row serves the subjects of a rule. For a `Crossing` it is a point of both
+    /// parts of the ask; a part that isn't there is served by none, nor are parts that overlap.
+    /// Under other rules no row serves where a part number isn't 1. For a `Partner` and an
+    /// `EndNode` the subject must be of the subject's side, too; for a `Crossing` only the server's
+    /// side is looked at. The rule's number is below `len`, and the rows fit a schema that the book
+    /// fits.
     #[tactic(auto, unfolding(crate::specs::Calls::serves))]
     pub fn serves(&self, ask: Ask, first: Held, second: Option<Held>, server: Held) -> bool
         requires number { ask.rule < length self.now }

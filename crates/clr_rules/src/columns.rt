@@ -1,8 +1,10 @@
+//! Columns as rules name them.
+
 ghost use Rattle.std.specs.Prelude.{◌≡◌};
 
 use std::marker::Model;
 
-/// A column of a rule: the one of a number, counted from 0, or the primary key.
+/// A column of a rule: the column of a number, counted from 0, or the primary key.
 #[derive(Clone, Copy, Debug, PartialEq, Eq)]
 pub enum Col {
     At(u16),
@@ -25,21 +27,21 @@ impl Model for ColumnList {
 }
 
 impl ColumnList {
-    /// The columns of this list.
+    /// Returns the columns of this list.
     pub fn new(list: Vec<Col>) -> ColumnList
         ensures { result ≡ list.items }
     {
         ColumnList { list }
     }
 
-    /// The columns as a slice.
+    /// Returns the columns as a slice.
     pub fn as_slice(&self) -> &[Col]
         ensures { result.now ≡ self.now }
     {
         self.list.as_slice()
     }
 
-    /// The list back again.
+    /// Returns the underlying list.
     pub fn into_vec(self) -> Vec<Col>
         ensures { result.items ≡ self }
     {

@@ -2,8 +2,8 @@
 
 ghost use Rattle.clr_rules.specs.Laws.{BrokenLaw, CrossingSubjects, CrossingServers, SubjectsHaveRoles, ServersHaveRoles};
 
-/// The broken needs of a content are listed exactly, ascending, each once: every rule holds where
-/// none is listed, and else the first is the least.
+/// The broken needs of a content are listed exactly, ascending, each once. Every rule holds where
+/// none is listed, and otherwise the first of the list is the least.
 pub fn broken_needs_are_listed()
     ensures { BrokenLaw }
 {}
@@ -14,8 +14,8 @@ pub fn crossing_subjects_have_common_points()
     ensures { CrossingSubjects }
 {}
 
-/// Where they fit a schema, a row serves them exactly where it is of the server's side and a point
-/// of both parts, which have no two common points that differ.
+/// Where two rows fit a schema, a row serves them under a crossing exactly where it is of the
+/// server's side and a point of both parts of the ask, which have no two common points that differ.
 pub fn crossing_servers_are_common_points()
     ensures { CrossingServers }
 {}

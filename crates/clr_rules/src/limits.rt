@@ -1,3 +1,5 @@
+//! The limits of a book.
+
 /// The most rules of a book.
 pub const MOST_RULES: usize = 64;
 

@@ -1,3 +1,5 @@
+//! What a rule asks of rows, and needs that no row serves.
+
 ghost use Rattle.std.specs.Prelude.{◌≡◌};
 ghost use Rattle.std.specs.Ordering.{is_lt};
 ghost use Rattle.clr_rules.specs.Calls.{plain_ask, is_plain};
@@ -16,7 +18,7 @@ pub struct Ask {
 }
 
 impl Ask {
-    /// A rule asked of whole rows: both part numbers are 1.
+    /// Returns the ask of whole rows for a rule: both part numbers are 1.
     pub fn plain(rule: u16) -> Ask
         ensures { result ≡ plain_ask rule }
     {
@@ -27,6 +29,7 @@ impl Ask {
         }
     }
 
+    /// Returns whether both part numbers are 1.
     pub(crate) fn is_plain(self) -> bool
         ensures { result ≡ is_plain self }
     {
@@ -34,8 +37,8 @@ impl Ask {
     }
 }
 
-/// A need that no row serves: a rule's number, the cells of its subjects, the lesser one first, and
-/// the part of each. They are ordered by rule, first cell, second cell, first part, second part, a
+/// A broken need: a rule's number, the cells of its subjects, the lesser one first, and the part of
+/// each. Broken needs are ordered by rule, first cell, second cell, first part and second part, a
 /// need of one row before those of two.
 #[derive(Clone, Copy, Debug, PartialEq, Eq, PartialOrd, Ord)]
 pub struct Broken {
@@ -47,7 +50,7 @@ pub struct Broken {
 }
 
 impl Broken {
-    /// The need of an ask of the rows at these cells.
+    /// Returns the need that an ask makes of the rows at these cells.
     pub fn new(ask: Ask, first: CellId, second: Option<CellId>) -> Broken
         ensures { result ≡ need_named ask first second }
     {
@@ -60,7 +63,7 @@ impl Broken {
         }
     }
 
-    /// Whether this need comes before another one.
+    /// Returns whether this need comes before another one.
     #[tactic(auto, unfolding(crate::specs::Needs::broken_cmp))]
     pub fn is_before(&self, other: &Broken) -> bool
         ensures { result ≡ is_lt (broken_cmp self.now other.now) }

@@ -1,3 +1,5 @@
+//! The sides of a rule that a row is of.
+
 ghost use Rattle.std.specs.Prelude.{◌≡◌, ◌<◌, length};
 ghost use Rattle.clr_rows.specs.Held.{held_of};
 ghost use Rattle.clr_rules.specs.Roles.{roles, roles_under};
@@ -17,7 +19,7 @@ pub struct Roles {
     pub server: bool,
 }
 
-/// The roles of a row in needs of this rule.
+/// Returns the roles of a row in needs of this rule.
 #[tactic(auto, unfolding(crate::specs::Roles::roles))]
 fn roles_by_rule(rule: &Rule, held: Held) -> Roles
     ensures { result ≡ roles rule.now (held_of held.entry) }
@@ -61,7 +63,7 @@ fn roles_by_rule(rule: &Rule, held: Held) -> Roles
 }
 
 impl RuleBook {
-    /// Which sides of the rule of a number a row is of. The rule's number is below `len`.
+    /// Returns which sides of the rule of a number a row is of. The rule's number is below `len`.
     #[tactic(auto, unfolding(crate::specs::Roles::roles_under))]
     pub fn roles_of(&self, rule: u16, held: Held) -> Roles
         requires { rule < length self.now }

@@ -1,3 +1,5 @@
+//! The kinds of rules.
+
 use crate::columns::ColumnList;
 use crate::sides::Side;
 
@@ -12,7 +14,7 @@ pub enum Tip {
 /// are one row, or two rows of different cells, in either arrangement.
 #[derive(Debug, Drop)]
 pub enum Rule {
-    /// No two rows of the subject are equal in all columns: none can serve them.
+    /// No two rows of the subject are equal in all columns. No row can serve two that are.
     Unique {
         subject: Side,
         columns: ColumnList,
@@ -31,15 +33,15 @@ pub enum Rule {
         tip: Tip,
         server: Side,
     },
-    /// Where segments of a and b have a common point, a point of the server is on both of them.
-    /// None serves two segments that overlap. A path is taken part by part.
+    /// Where segments of a and b have a common point, a point of the server is on both of them. No
+    /// row serves two segments that overlap. A path is taken part by part.
     Crossing {
         a: Side,
         b: Side,
         server: Side,
     },
-    /// No point of a is nearer than d millimetres to a point of b: none can serve them. The
-    /// distance d is 1 to 1,000,000.
+    /// No point of a is nearer than d millimetres to a point of b. No row can serve two that are.
+    /// The distance d is 1 to 1,000,000.
     Near {
         a: Side,
         b: Side,

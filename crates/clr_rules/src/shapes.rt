@@ -1,3 +1,5 @@
+//! Points and ends of shapes.
+
 ghost use Rattle.std.specs.Prelude.{◌≡◌, true, IfSome};
 ghost use Rattle.clr_rows.specs.Places.{InRange};
 ghost use Rattle.clr_rows.specs.Schemas.{has_coordinates};
@@ -6,7 +8,7 @@ ghost use Rattle.clr_rules.specs.Sides.{point_in, end_in};
 use crate::rules::Tip;
 use clr_rows::{Place, Shape};
 
-/// The point that a shape is, if it is one. Its coordinates are within range.
+/// Returns the point that a shape is, if it is one. Its coordinates are within range.
 pub fn point_in(shape: &Shape) -> Option<Place>
     requires { has_coordinates shape.now ≡ true }
     ensures value { result ≡ point_in shape.now }
@@ -18,7 +20,8 @@ pub fn point_in(shape: &Shape) -> Option<Place>
     }
 }
 
-/// An end of the segment or path that a shape is, if it is one. Its coordinates are within range.
+/// Returns an end of the segment or path that a shape is, if it is one. Its coordinates are within
+/// range.
 pub fn end_in(tip: Tip, shape: &Shape) -> Option<Place>
     requires { has_coordinates shape.now ≡ true }
     ensures value { result ≡ end_in tip shape.now }

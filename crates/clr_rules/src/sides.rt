@@ -1,3 +1,5 @@
+//! Sides of rules: which rows are of one, and what rows have in their columns.
+
 ghost use Rattle.std.specs.Prelude.{◌≡◌, Some, slice_get, option_map};
 ghost use Rattle.std.specs.List.{list_all, zip};
 ghost use Rattle.clr_rows.specs.Held.{held_of};
@@ -7,8 +9,8 @@ use crate::columns::Col;
 use clr_rows::{Held, Row, Value};
 use std::marker::Model;
 
-/// What a side asks of its rows: each row has the literal in the column, for all the pairs of the
-/// list. Columns are numbered from 0.
+/// What a side asks of its rows: for each pair of the list, the row has the literal in the column.
+/// Columns are numbered from 0.
 #[derive(Debug, Drop)]
 pub struct Filter {
     list: Vec<(u16, Value)>,
@@ -24,21 +26,21 @@ impl Model for Filter {
 }
 
 impl Filter {
-    /// The filter of these columns with their literals.
+    /// Returns the filter of these columns with their literals.
     pub fn new(list: Vec<(u16, Value)>) -> Filter
         ensures { result ≡ list.items }
     {
         Filter { list }
     }
 
-    /// The columns with their literals as a slice.
+    /// Returns the columns with their literals as a slice.
     pub fn as_slice(&self) -> &[(u16, Value)]
         ensures { result.now ≡ self.now }
     {
         self.list.as_slice()
     }
 
-    /// The list back again.
+    /// Returns the underlying list.
     pub fn into_vec(self) -> Vec<(u16, Value)>
         ensures { result.items ≡ self }
     {
@@ -53,14 +55,14 @@ pub struct Side {
     pub filter: Filter,
 }
 
-/// The value of a row in a column, if it has the column.
+/// Returns the value of a row in a column, if it has the column.
 fn value_in(row: &Row, column: u16) -> Option<&Value>
     ensures { option_map (λ v. v.now) result ≡ slice_get row.now.values column }
 {
     row.values.as_slice().get(column as usize)
 }
 
-/// Whether a row has a value in a column.
+/// Returns whether a row has a value in a column.
 #[tactic(auto, using(crate::proofs::FieldLemmas::field_told))]
 fn has_value(row: &Row, column: u16, value: &Value) -> bool
     ensures { result ≡ same_field (slice_get row.now.values column) (Some value.now) }
@@ -71,7 +73,7 @@ fn has_value(row: &Row, column: u16, value: &Value) -> bool
     }
 }
 
-/// Whether a row has each literal of a filter in its column.
+/// Returns whether a row has each literal of a filter in its column.
 fn passes(filter: &Filter, row: &Row) -> bool
     ensures { result ≡ passes filter.now row.now }
 {
@@ -81,7 +83,7 @@ fn passes(filter: &Filter, row: &Row) -> bool
         .all(|(column, value)| has_value(row, *column, value))
 }
 
-/// Whether a row is in the side's table and passes its filter.
+/// Returns whether a row is in the side's table and passes its filter.
 #[tactic(auto, unfolding(crate::specs::Sides::is_of_side))]
 pub fn is_of_side(side: &Side, held: Held) -> bool
     ensures { result ≡ is_of_side side.now (held_of held.entry) }
@@ -89,7 +91,7 @@ pub fn is_of_side(side: &Side, held: Held) -> bool
     held.cell.table == side.table && passes(&side.filter, held.row)
 }
 
-/// Whether the one row has in a column what the other has in another.
+/// Returns whether one row has in a column what another row has in another column.
 fn have_same_field(first: Held, column: Col, second: Held, other: Col) -> bool
     ensures { result ≡ same_field (field (held_of first.entry) column) (field (held_of second.entry) other) }
 {
@@ -101,7 +103,8 @@ fn have_same_field(first: Held, column: Col, second: Held, other: Col) -> bool
     }
 }
 
-/// Whether the one row has in a column what the other has in another, or both have none.
+/// Returns whether one row has in a column what another row has in another column: the same value,
+/// or none in both.
 #[tactic(auto, using(crate::proofs::FieldLemmas::field_told))]
 fn have_same_value(first: &Row, column: u16, second: &Row, other: u16) -> bool
     ensures { result ≡ same_field (slice_get first.now.values column) (slice_get second.now.values other) }
@@ -113,7 +116,7 @@ fn have_same_value(first: &Row, column: u16, second: &Row, other: u16) -> bool
     }
 }
 
-/// Whether the one row has in each column what the other has in the one beside it.
+/// Returns whether one row has in each column what another row has in the column beside it.
 fn are_equal_beside(first: Held, columns: &[Col], second: Held, others: &[Col]) -> bool
     ensures { result ≡ list_all (λ p. same_field (field (held_of first.entry) p.0) (field (held_of second.entry) p.1)) (zip columns.now others.now) }
 {
@@ -122,7 +125,7 @@ fn are_equal_beside(first: Held, columns: &[Col], second: Held, others: &[Col]) 
     ))
 }
 
-/// Whether the one row has in its columns what the other has in its own, in order.
+/// Returns whether one row has in its columns what another row has in its own, in order.
 #[tactic(auto, unfolding(crate::specs::Sides::are_equal_in))]
 pub(crate) fn are_equal_in(first: Held, columns: &[Col], second: Held, others: &[Col]) -> bool
     ensures { result ≡ are_equal_in (held_of first.entry) columns.now (held_of second.entry) others.now }

@@ -6,7 +6,7 @@ use Rattle.clr_scripts.specs.declared.faults.RecordFault.{RecordFault}
 use Rattle.clr_scripts.specs.declared.faults.RecordFault.TheVariants as fault
 use Rattle.clr_scripts.specs.Records.{Fails, FailsAt, numbered_fault}
 
--- a fault that a part has, and so the whole
+-- a fault that a part has is that of the whole
 pub passes : {A B : Type 0} (e : RecordFault) (part : Result A RecordFault) (total : Result B RecordFault) → ((f : RecordFault) → part ≡ Err f → total ≡ Err f) → Fails e part → Fails e total
 passes fault.OutOfMemory part total so h = tt
 passes fault.NotCsv part total so h = so fault.NotCsv h

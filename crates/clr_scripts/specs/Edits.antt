@@ -77,7 +77,7 @@ place_in x y = do
 abbrev pub place_of : List (List ℕ) → ℕ → Result Place RecordFault
 place_of fields at = place_in (field_of fields at) (field_of fields (at + 1))
 
--- two fields for each vertex; none is left over
+-- the vertices that fields are, two for each vertex; none is left over
 unfoldable pub vertices_of : List (List ℕ) → Result (List Place) RecordFault
 vertices_of [] = Ok []
 vertices_of (x ∷ []) = Err FieldCount
@@ -105,14 +105,14 @@ edit_at Insert cell table fields = row_of table fields >>= λ row. Ok (edit.Inse
 edit_at Update cell table fields = row_of table fields >>= λ row. Ok (edit.Update cell row)
 edit_at Delete cell table fields = Ok (edit.Delete cell)
 
--- an edit of a known table: the count of fields, and then the numbers from left to right
+-- an edit of a known table: the count of fields is tested first, and then the numbers from left to right
 unfoldable pub edit_in : Verb → ℕ → TableDef → List (List ℕ) → Result Edit RecordFault
 edit_in verb number table fields =
     if can_have_fields verb table (length fields)
     then (whole_number (field_of fields 2) >>= λ key. edit_at verb (record { table = number; key = key }) table fields)
     else Err FieldCount
 
--- the word, three fields at least, the table, and then the rest
+-- the edit that a record is: the word is tested first, then that there are at least three fields, then the table, and then the rest
 unfoldable pub edit_of : List TableDef → List (List ℕ) → Result Edit RecordFault
 edit_of tables fields = do
   verb ← verb_of (field_of fields 0)

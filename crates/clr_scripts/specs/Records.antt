@@ -18,7 +18,7 @@ abbrev pub Gives : {A : Type 0} → Result A RecordFault → Result A RecordFaul
 Gives (Ok x) read = read ≡ Ok x
 Gives (Err e) read = Fails e read
 
--- the same with the number of a record beside the fault, 0 where memory ran out
+-- a fault with the number of its record is the fault of what is read, unless memory ran out, with number 0
 abbrev pub FailsAt : {A : Type 0} → ℕ → RecordFault → Result A (ℕ × RecordFault) → Type 0
 FailsAt n OutOfMemory read = n ≡ 0
 FailsAt n NotCsv read = read ≡ Err (n, NotCsv)
@@ -27,7 +27,7 @@ FailsAt n BadWord read = read ≡ Err (n, BadWord)
 FailsAt n NoTable read = read ≡ Err (n, NoTable)
 FailsAt n BadNumber read = read ≡ Err (n, BadNumber)
 
--- the same, the value seen by a view
+-- a call gives what is read, as a view shows it, unless memory ran out
 abbrev pub GivesAt : {A B : Type 0} → (A → B) → Result A (ℕ × RecordFault) → Result B (ℕ × RecordFault) → Type 0
 GivesAt view (Ok x) read = read ≡ Ok (view x)
 GivesAt view (Err e) read = FailsAt e.0 e.1 read

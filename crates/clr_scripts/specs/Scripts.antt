@@ -21,7 +21,7 @@ use Rattle.clr_records.specs.Records.{field_of, ◌>>=◌, at_record, or_fault}
 use Rattle.clr_scripts.specs.Records.{records_or_fault}
 use Rattle.clr_scripts.specs.Edits.{edits_from, whole_number}
 
--- what a record of so many fields is
+-- what a record is, if it has so many fields
 abbrev pub with_count : {A : Type 0} → ℕ → List (List ℕ) → Result A RecordFault → Result A RecordFault
 with_count n fields read = if length fields == n then read else Err FieldCount
 
@@ -128,7 +128,7 @@ can_have_fields PlanUnder n = nat_le 2 n
 can_have_fields Independence n = true
 can_have_fields IndependenceUnder n = nat_le 2 n
 
--- the names are all fields but the first
+-- a report with its names, which are all fields but the first
 abbrev pub report_of : Word → List (List ℕ) → Result Step RecordFault
 report_of word fields = if can_have_fields word (length fields) then Ok (Report word (drop 1 fields)) else Err FieldCount
 
@@ -141,7 +141,7 @@ step_by_words tables None None fields = Err BadWord
 unfoldable pub plain_step_of : List TableDef → List (List ℕ) → Result Step RecordFault
 plain_step_of tables fields = step_by_words tables (command_word_of (field_of fields 0)) (report_word_of (field_of fields 0)) fields
 
--- a count is no negative number
+-- the count that a number is, if it isn't negative
 abbrev pub count_of : ℤ → Result ℕ RecordFault
 count_of (pos n) = Ok n
 count_of (negsuc n) = Err BadNumber
@@ -150,7 +150,7 @@ count_of (negsuc n) = Err BadNumber
 abbrev pub edit_count : List (List ℕ) → Result ℕ RecordFault
 edit_count fields = with_count 3 fields (whole_number (field_of fields 2) >>= count_of)
 
--- an `apply` at record n, with the records after it: its edits come first, and then whether they are enough
+-- an `apply` at record n, with the records after it: its edits are read first, and then it is tested whether they are enough
 unfoldable pub apply_of : List TableDef → ℕ → List (List ℕ) → List (List (List ℕ)) → Result Step (ℕ × RecordFault)
 apply_of tables n fields rest = do
   count ← at_record n (edit_count fields)
@@ -163,7 +163,7 @@ step_of tables n fields rest =
     if bytes_eq (field_of fields 0) (codes "apply") then apply_of tables n fields rest
     else at_record n (plain_step_of tables fields)
 
--- how many of the records after it are a step's own
+-- how many of the records after a step are its own
 abbrev pub edits_in : Step → ℕ
 edits_in (Act (Apply ws edits)) = length edits
 edits_in (Act (Create name parent)) = 0

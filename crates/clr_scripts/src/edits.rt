@@ -1,3 +1,5 @@
+//! The edits that records are.
+
 ghost use Rattle.std.specs.Prelude.{◌≡◌, ◌+◌, ◌-◌, ◌<◌, ◌^◌, drop, length, map};
 ghost use Rattle.csv.specs.Records.{fields_of};
 ghost use Rattle.clr_scripts.specs.Records.{Gives, GivesAt};
@@ -24,6 +26,7 @@ enum Verb {
     Delete,
 }
 
+/// Returns what the first word of an edit does.
 fn verb_of_word(word: &str) -> Result<Verb, RecordFault>
     ensures { result ≡ verb_of word.now }
 {
@@ -35,13 +38,14 @@ fn verb_of_word(word: &str) -> Result<Verb, RecordFault>
     }
 }
 
-/// The whole number that a field is.
+/// Returns the whole number that a field is.
 pub(crate) fn number(text: &str) -> Result<i64, RecordFault>
     ensures { result ≡ whole_number text.now }
 {
     read_number(text).ok_or(RecordFault::BadNumber)
 }
 
+/// Returns the value of a column that a field is.
 fn value(alloc: Global, kind: Kind, text: &str) -> Result<Value, RecordFault>
     ensures { Gives result (value_of kind text.now) }
 {
@@ -51,7 +55,7 @@ fn value(alloc: Global, kind: Kind, text: &str) -> Result<Value, RecordFault>
     }
 }
 
-/// The values of a row, which are the fields from the fourth on.
+/// Returns the values of a row, which are the fields from the fourth on.
 fn values(
     alloc: Global,
     columns: &[(Words, Kind)],
@@ -66,7 +70,7 @@ fn values(
     Ok(Values::new(list))
 }
 
-/// The place that two fields are, from a position on.
+/// Returns the place that the two fields from a position on are.
 #[tactic(auto, unfolding(crate::specs::Edits::place_in))]
 fn place(fields: &StringRecord, at: usize) -> Result<Place, RecordFault>
     requires { at + 1 < 2 ^ 64 }
@@ -77,8 +81,8 @@ fn place(fields: &StringRecord, at: usize) -> Result<Place, RecordFault>
     Ok(Place { x, y })
 }
 
-/// The vertices of a path, two fields each from a position on. Fails with `FieldCount` where a field
-/// is left over.
+/// Returns the vertices of a path, two fields each from a position on. Fails with `FieldCount`
+/// where a field is left over.
 fn vertices(alloc: Global, fields: &StringRecord, first: usize) -> Result<Vertices, RecordFault>
     requires { first < 2 ^ 64 - 8 }
     ensures { Gives result (vertices_of (drop first (fields_of fields.now))) }
@@ -95,7 +99,7 @@ fn vertices(alloc: Global, fields: &StringRecord, first: usize) -> Result<Vertic
     Ok(Vertices::new(list))
 }
 
-/// The shape of a row, whose coordinates are the fields from a position on.
+/// Returns the shape of a row, whose coordinates are the fields from a position on.
 fn shape(alloc: Global, form: Form, fields: &StringRecord, at: usize) -> Result<Shape, RecordFault>
     requires { at < 2 ^ 64 - 8 }
     ensures { Gives result (shape_of form (fields_of fields.now) at) }
@@ -112,6 +116,7 @@ fn shape(alloc: Global, form: Form, fields: &StringRecord, at: usize) -> Result<
     }
 }
 
+/// Returns the row of an edit: its values, and then its coordinates.
 #[tactic(auto, unfolding(crate::specs::Edits::row_of))]
 fn row(alloc: Global, table: &TableDef, fields: &StringRecord) -> Result<Row, RecordFault>
     ensures { Gives result (row_of table.now (fields_of fields.now)) }
@@ -122,7 +127,7 @@ fn row(alloc: Global, table: &TableDef, fields: &StringRecord) -> Result<Row, Re
     Ok(Row { values, shape })
 }
 
-/// Whether a row of a form can have so many coordinates: those of a path are two for each vertex.
+/// Returns whether a row of a form can have so many coordinates. A path has two for each vertex.
 fn can_have_coordinates(form: Form, count: usize) -> bool
     ensures { result ≡ can_have_so_many form count }
 {
@@ -134,7 +139,7 @@ fn can_have_coordinates(form: Form, count: usize) -> bool
     }
 }
 
-/// Whether an edit can have so many fields, from its word on.
+/// Returns whether an edit can have so many fields, from its word on.
 fn can_have_fields(verb: Verb, table: &TableDef, count: usize) -> bool
     ensures { result ≡ can_have verb table.now count }
 {
@@ -147,7 +152,7 @@ fn can_have_fields(verb: Verb, table: &TableDef, count: usize) -> bool
     }
 }
 
-/// The edit at a cell of this table.
+/// Returns the edit at a cell of this table.
 fn edit_at_cell(
     alloc: Global,
     verb: Verb,
@@ -164,7 +169,8 @@ fn edit_at_cell(
     }
 }
 
-/// The edit of a known table: the count of fields, and then its numbers from left to right.
+/// Returns the edit of a known table. The count of fields is tested first, and then the numbers
+/// from left to right.
 #[tactic(auto, unfolding(crate::specs::Edits::edit_in))]
 fn edit_of_table(
     alloc: Global,
@@ -185,7 +191,7 @@ fn edit_of_table(
     edit_at_cell(alloc, verb, cell, table, fields)
 }
 
-/// The edit that a record is.
+/// Returns the edit that a record is.
 #[tactic(auto, unfolding(crate::specs::Edits::edit_of))]
 fn edit(alloc: Global, schema: &Schema, fields: &StringRecord) -> Result<Edit, RecordFault>
     ensures { Gives result (edit_of schema.now (fields_of fields.now)) }
@@ -203,7 +209,7 @@ fn edit(alloc: Global, schema: &Schema, fields: &StringRecord) -> Result<Edit, R
     edit_of_table(alloc, verb, number_of_table, table, fields)
 }
 
-/// The edits of records that are numbered from `first`.
+/// Returns the edits of records that are numbered from `first`.
 pub(crate) fn edits(
     alloc: Global,
     schema: &Schema,
@@ -228,16 +234,18 @@ pub(crate) fn edits(
 }
 
 /// Reads a text of edits, a CSV record each: `insert,TABLE,KEY,values..,coordinates..`, `update`
-/// alike, or `delete,TABLE,KEY`. A fault is that of the first record that has one, beside the
-/// record's number from 1; in each record the word is tested first, then that it has three fields
-/// at least, the table, the exact count of fields, and the numbers from left to right.
+/// alike, or `delete,TABLE,KEY`. The fault is that of the first record that has one, beside the
+/// record's number, counted from 1. In each record the word is tested first, then that it has at
+/// least three fields, then the table, then the exact count of fields, and then the numbers from
+/// left to right.
 ///
 /// Fails with `NotCsv` at 1 where the bytes aren't UTF-8, with `BadWord` where the first field is
 /// none of the three words, with `FieldCount` where there are fewer than three fields, or a count
 /// that the table's columns and shape don't allow (a path has 4 to 64 coordinates, an even count),
 /// with `NoTable` where the schema has no table of the name, and with `BadNumber` where a key, a
 /// value of a column of numbers or a coordinate isn't decimal in its one form, or isn't within 64
-/// bits. Want of memory is `OutOfMemory` at 0, which may come in place of any other answer.
+/// bits. Fails with `OutOfMemory` at 0 if memory runs out, which may come in place of any other
+/// answer.
 pub fn read_edits(
     alloc: Global,
     schema: &Schema,

@@ -1,12 +1,14 @@
+//! Why a script or a text of edits can't be read.
+
 ghost use Rattle.std.specs.Prelude.{◌≡◌};
 ghost use Rattle.clr_scripts.specs.declared.faults.RecordFault.TheVariants as record_fault;
 
 use std::alloc::{AllocError, AllocFailed};
 
-/// Why a record of a script can't be read; the first that applies.
+/// Why a record of a script can't be read: the first reason that applies.
 #[derive(Clone, Copy, Debug, PartialEq, Eq)]
 pub enum RecordFault {
-    /// No memory was found. It may come in place of any other answer.
+    /// No memory was found. This fault may come in place of any other answer.
     OutOfMemory = 0,
     /// The bytes aren't UTF-8.
     NotCsv = 1,

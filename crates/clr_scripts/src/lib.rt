@@ -1,7 +1,7 @@
 //! Texts of edits and scripts, read from CSV records.
 //!
-//! - `read_script` and `read_edits`: the steps and edits that the records mean, or the first fault
-//!   with its record's number, memory aside.
+//! - `read_script` and `read_edits` give the steps and edits that the records mean, or the first
+//!   fault with its record's number, memory aside.
 #![tactic(auto)]
 
 mod edits;

@@ -1,3 +1,5 @@
+//! The steps of a script but `apply`.
+
 ghost use Rattle.std.specs.Prelude.{◌≡◌, length};
 ghost use Rattle.csv.specs.Records.{fields_of};
 ghost use Rattle.clr_scripts.specs.Records.{Gives};
@@ -14,7 +16,7 @@ use clr_steps::{Command, Keep};
 use csv::StringRecord;
 use std::alloc::Global;
 
-/// The command that a step is asked for, but `apply`.
+/// The command that a step asks for, but `apply`.
 #[derive(Clone, Copy, Debug, PartialEq, Eq)]
 enum CommandWord {
     Create,
@@ -67,7 +69,7 @@ fn report_word(word: &str) -> Option<Word>
     }
 }
 
-/// Whether a merge takes the workspace away.
+/// Returns whether a merge takes the workspace away.
 fn removal(word: &str) -> Result<bool, RecordFault>
     ensures { result ≡ removal_of word.now }
 {
@@ -89,6 +91,7 @@ fn merge(alloc: Global, fields: &StringRecord) -> Result<Command, RecordFault>
     Ok(Command::Merge { ws, remove })
 }
 
+/// Returns whose row a `resolve` keeps.
 fn keep(word: &str) -> Result<Keep, RecordFault>
     ensures { result ≡ keep_of word.now }
 {
@@ -100,7 +103,7 @@ fn keep(word: &str) -> Result<Keep, RecordFault>
     }
 }
 
-/// The cell of a table's name and a key.
+/// Returns the cell that the name of a table and a key are.
 #[tactic(auto, unfolding(crate::specs::Scripts::cell_of))]
 fn cell(schema: &Schema, table: &str, key: &str) -> Result<CellId, RecordFault>
     ensures { result ≡ cell_of schema.now table.now key.now }
@@ -152,7 +155,7 @@ fn roll_to(alloc: Global, fields: &StringRecord) -> Result<Command, RecordFault>
     Ok(Command::RollTo { ws, name })
 }
 
-/// The command of a record that begins with its word.
+/// Returns the command of a record that begins with its word.
 #[tactic(auto, unfolding(crate::specs::Scripts::command_of))]
 fn command(
     alloc: Global,
@@ -187,7 +190,7 @@ fn command(
     }
 }
 
-/// Whether a report can have so many fields, from its word on.
+/// Returns whether a report can have so many fields, from its word on.
 fn can_have_fields(word: Word, count: usize) -> bool
     ensures { result ≡ can_have word count }
 {
@@ -208,7 +211,7 @@ fn report(alloc: Global, word: Word, fields: &StringRecord) -> Result<Step, Reco
     Ok(Step::Report(word, names(alloc, fields)?))
 }
 
-/// The step of a record that is no `apply`.
+/// Returns the step of a record that is no `apply`.
 #[tactic(auto, unfolding(crate::specs::Scripts::plain_step_of))]
 pub fn plain_step(
     alloc: Global,

@@ -1,3 +1,5 @@
+//! Names in the fields of records.
+
 ghost use Rattle.std.specs.Prelude.{◌≡◌, ◌++◌, Ok, drop};
 ghost use Rattle.csv.specs.Records.{fields_of};
 ghost use Rattle.clr_records.specs.Records.{field_of};
@@ -10,14 +12,14 @@ use clr_rows::{Names, Words};
 use csv::StringRecord;
 use std::alloc::Global;
 
-/// A record's field as a text of its own.
+/// Returns a copy of a record's field.
 pub fn words(alloc: Global, fields: &StringRecord, at: usize) -> Result<Words, RecordFault>
     ensures { Gives result (Ok (field_of (fields_of fields.now) at)) }
 {
     Ok(Words::new(String::from_str(alloc, field(fields, at))?))
 }
 
-/// The name of a record of two fields.
+/// Returns the name of a record of two fields.
 pub fn only_name(alloc: Global, fields: &StringRecord) -> Result<Words, RecordFault>
     ensures { Gives result (only_name_of (fields_of fields.now)) }
 {
@@ -27,7 +29,7 @@ pub fn only_name(alloc: Global, fields: &StringRecord) -> Result<Words, RecordFa
     words(alloc, fields, 1)
 }
 
-/// The names of a record of three fields.
+/// Returns the names of a record of three fields.
 pub fn two_names(alloc: Global, fields: &StringRecord) -> Result<(Words, Words), RecordFault>
     ensures { Gives result (two_names_of (fields_of fields.now)) }
 {
@@ -39,7 +41,7 @@ pub fn two_names(alloc: Global, fields: &StringRecord) -> Result<(Words, Words),
     Ok((first, second))
 }
 
-/// The fields of a record behind its first, as names.
+/// Returns the fields of a record behind its first, as names.
 pub fn names(alloc: Global, fields: &StringRecord) -> Result<Names, RecordFault>
     ensures { Gives result (Ok (drop 1 (fields_of fields.now))) }
 {

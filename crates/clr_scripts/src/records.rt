@@ -1,3 +1,5 @@
+//! The records of a text, and faults beside their numbers.
+
 ghost use Rattle.std.specs.Prelude.{◌≡◌, map};
 ghost use Rattle.csv.specs.Records.{fields_of};
 ghost use Rattle.clr_scripts.specs.Records.{GivesAt, numbered_fault, records_or_fault};
@@ -7,7 +9,7 @@ use clr_records::records_of;
 use csv::StringRecord;
 use std::alloc::Global;
 
-/// A fault beside the number of its record, or beside 0 for want of memory.
+/// Returns a fault beside the number of its record; `OutOfMemory` stands beside 0.
 pub(crate) fn with_number(number: usize, fault: RecordFault) -> (usize, RecordFault)
     ensures { result ≡ numbered_fault number fault }
 {
@@ -17,8 +19,8 @@ pub(crate) fn with_number(number: usize, fault: RecordFault) -> (usize, RecordFa
     }
 }
 
-/// Every record of a CSV text. Fails with `NotCsv` at 1 where the bytes aren't UTF-8, and with
-/// `OutOfMemory` at 0 for want of memory.
+/// Returns every record of a CSV text. Fails with `NotCsv` at 1 where the bytes aren't UTF-8, and
+/// with `OutOfMemory` at 0 if memory runs out.
 pub(crate) fn records_in_text(
     alloc: Global,
     bytes: &[u8],

@@ -1,3 +1,5 @@
+//! Scripts, read step by step.
+
 ghost use Rattle.std.specs.Prelude.{◌≡◌, ◌+◌, ◌<◌, ◌^◌, ◌++◌, ◌∷◌, [], IfErr, OnErr, OnOk, length, map};
 ghost use Rattle.csv.specs.Records.{fields_of};
 ghost use Rattle.clr_scripts.specs.Records.{GivesAt};
@@ -16,7 +18,7 @@ use clr_steps::Command;
 use csv::StringRecord;
 use std::alloc::Global;
 
-/// The count of edits that an `apply` gives.
+/// Returns the count of edits that an `apply` gives.
 fn count_of_edits(fields: &StringRecord) -> Result<usize, RecordFault>
     ensures { result ≡ edit_count (fields_of fields.now) }
 {
@@ -30,7 +32,8 @@ fn count_of_edits(fields: &StringRecord) -> Result<usize, RecordFault>
     Ok(count as usize)
 }
 
-/// The `apply` that stands at record `at`, with the records after it, which begin with its edits.
+/// Returns the `apply` that stands at record `at`. It is given the records after it, which begin
+/// with its edits.
 #[tactic(auto, unfolding(crate::specs::Scripts::apply_of))]
 fn apply(
     alloc: Global,
@@ -57,7 +60,7 @@ fn apply(
     }
 }
 
-/// The step that stands at record `at`, with the records after it.
+/// Returns the step that stands at record `at`. It is given the records after it.
 #[tactic(auto, unfolding(crate::specs::Scripts::step_of))]
 fn step(
     alloc: Global,
@@ -78,7 +81,7 @@ fn step(
     }
 }
 
-/// How many of the records after it are a step's own.
+/// Returns how many of the records after a step are its own.
 fn edits_within(step: &Step) -> usize
     ensures { result ≡ edits_in step.now }
 {
@@ -88,7 +91,7 @@ fn edits_within(step: &Step) -> usize
     }
 }
 
-/// Adds a step behind the others. It fails for want of memory alone, and changes nothing then.
+/// Adds a step behind the others. It fails only with `OutOfMemory` at 0, and then nothing changes.
 fn add(list: &mut Vec<Step>, step: Step) -> Result<(), (usize, RecordFault)>
     ensures ok { OnOk result (list.new.items ≡ list.old.items ++ step ∷ []) }
     ensures err { OnErr result (list.new.items ≡ list.old.items) }
@@ -100,7 +103,7 @@ fn add(list: &mut Vec<Step>, step: Step) -> Result<(), (usize, RecordFault)>
     }
 }
 
-/// The steps of all records.
+/// Returns the steps of all records.
 fn steps(
     alloc: Global,
     schema: &Schema,
@@ -122,15 +125,15 @@ fn steps(
     Ok(list)
 }
 
-/// Reads a script, a CSV record for each step: a command, as `create,NAME,PARENT`, `remove,WS`,
-/// `apply,WS,n` with the next n records, which are edits, `mark,WS,SP`, `unmark,WS,SP`,
-/// `rollto,WS,SP`, `rollall,WS`, `refresh,WS`, `merge,WS,keep`, `merge,WS,remove`,
-/// `resolve,WS,TABLE,KEY,KEEP` where KEEP is `PARENT`, `CHILD` or `BASE`, `hold,WS` or `release,WS`,
-/// or a report, as `show,WS`, `changes,WS`, `conflicts,WS`, `audit,WS`, `workspaces`, `dump`,
-/// `plan,NAME..` or `planunder,ROOT,NAME..`, each with none or more names.
-/// Names of workspaces and savepoints are taken as they stand. A fault is that of the first record
-/// that has one, beside the record's number from 1; in each record the word is tested first, then
-/// the count of fields, and then the fields from left to right.
+/// Reads a script, a CSV record for each step. A step is a command, as `create,NAME,PARENT`,
+/// `remove,WS`, `apply,WS,n` with the next n records, which are edits, `mark,WS,SP`,
+/// `unmark,WS,SP`, `rollto,WS,SP`, `rollall,WS`, `refresh,WS`, `merge,WS,keep`, `merge,WS,remove`,
+/// `resolve,WS,TABLE,KEY,KEEP` where KEEP is `PARENT`, `CHILD` or `BASE`, `hold,WS` or
+/// `release,WS`; or a report, as `show,WS`, `changes,WS`, `conflicts,WS`, `audit,WS`, `workspaces`,
+/// `dump`, `plan,NAME..` or `planunder,ROOT,NAME..`, where `NAME..` is none or more names. Names of
+/// workspaces and savepoints are taken as they stand. The fault is that of the first record that
+/// has one, beside the record's number, counted from 1. In each record the word is tested first,
+/// then the count of fields, and then the fields from left to right.
 ///
 /// Fails with `NotCsv` at 1 where the bytes aren't UTF-8, with `BadWord` where the first field is
 /// no step's word, the third field of a `merge` or the last of a `resolve` is none of those that
@@ -138,8 +141,9 @@ fn steps(
 /// `FieldCount` where there is another count of fields than the word asks for, and at an `apply`
 /// where fewer than n records follow and those that are there have no fault, with `NoTable` where a
 /// `resolve` or an edit names a table that the schema hasn't, and with `BadNumber` where n is
-/// negative, or n, a key or another number of an edit isn't decimal in its one form, or isn't within
-/// 64 bits. Want of memory is `OutOfMemory` at 0, which may come in place of any other answer.
+/// negative, or n, a key or another number of an edit isn't decimal in its one form, or isn't
+/// within 64 bits. Fails with `OutOfMemory` at 0 if memory runs out, which may come in place of any
+/// other answer.
 pub fn read_script(
     alloc: Global,
     schema: &Schema,

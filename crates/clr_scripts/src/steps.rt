@@ -1,3 +1,5 @@
+//! The steps of a script: commands and reports.
+
 use clr_rows::Names;
 use clr_steps::Command;
 
@@ -19,19 +21,19 @@ pub enum Word {
     /// Whether children of LIVE can be merged in every order: the members, which are its names, none
     /// or more.
     Plan,
-    /// The same of children of another workspace: the first of its names is the root, and those behind
-    /// it, none or more, are the members.
+    /// Whether children of another workspace can be merged in every order: the first of the names
+    /// is the root, and those behind it, none or more, are the members.
     PlanUnder,
     /// Which children of LIVE are independent, pair by pair: the members, which are its names, none or
     /// more.
     Independence,
-    /// The same of children of another workspace: the first of its names is the root, and those behind
-    /// it, none or more, are the members.
+    /// Which children of another workspace are independent, pair by pair: the first of the names is
+    /// the root, and those behind it, none or more, are the members.
     IndependenceUnder,
 }
 
-/// A step of a script: a command to perform; or a report to print, with the names that it is asked
-/// for, of each kind of report as many as its word says.
+/// A step of a script: a command to perform, or a report to print with the names that it is asked
+/// for. `Word` says how many names each kind of report has.
 #[derive(Debug, Drop)]
 pub enum Step {
     Act(Command),

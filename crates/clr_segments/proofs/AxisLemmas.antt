@@ -81,7 +81,7 @@ same_number x x' p q d s d' s' h k e =
     let both : pos d' *ℤ (pos d *ℤ x) ≡ pos d' *ℤ (pos d *ℤ x') = simp expand (omega (arith, linear, by_d', by_d, simp expand at shares)) in
     cancel_eq d x x' h.positive (cancel_eq d' (pos d *ℤ x) (pos d *ℤ x') k.positive both)
 
--- and one number is one share, where the ends differ
+-- one number is one share, where the ends differ
 one_share : (x p q : ℤ) (d s d' s' : ℕ) → p ≢ q → part_way d s p q ≡ pos d *ℤ x → part_way d' s' p q ≡ pos d' *ℤ x → s * d' ≡ s' * d
 one_share x p q d s d' s' n h k =
     let by_d' = simp expand at (ap (λ (z : ℤ). pos d' *ℤ z) h) in

@@ -81,7 +81,7 @@ pub shared_whole : (b c : Bounds) (d : ℕ) (m n : ℤ) → 0 < d → PointInBox
 shared_whole b c d m n p h k =
     touch_by_ranges b c (range_whole d m b.least.x b.most.x c.least.x c.most.x p h.0 k.0) (range_whole d n b.least.y b.most.y c.least.y c.most.y p h.1 k.1)
 
--- so the boxes of two segments with a common point touch
+-- the boxes of two segments with a common point touch
 pub segments_touch : (p q r u : Place) → SomeCommonPoint p q r u → BoxesTouch (box_between p q) (box_between r u)
 segments_touch p q r u (d, s, t, h) =
     shared_whole (box_between p q) (box_between r u) d (part_way d s p.x q.x) (part_way d s p.y q.y) h.positive

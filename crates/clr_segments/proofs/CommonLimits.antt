@@ -19,7 +19,7 @@ use Rattle.clr_segments.specs.Searches.{axis_distance}
 abbrev pub SomeWithin : ℕ → Place → Place → Place → Place → Type 0
 SomeWithin most p q r u = (d : ℕ) × (s : ℕ) × (t : ℕ) × CommonPoint p q r u d s t × (d ≤ most)
 
--- two that differ
+-- two common points that differ, by a d of at most so many
 pub record TwoWithin (most : ℕ) (p q r u : Place) : Type 0 where
   pub two : TwoCommonPoints p q r u
   pub one_within : two.d ≤ most

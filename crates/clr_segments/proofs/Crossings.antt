@@ -65,7 +65,7 @@ parted_apart a b c d (inr h) k s t p =
     ends_of_first (b.x -ℤ a.x) (b.y -ℤ a.y) (d.x -ℤ c.x) (d.y -ℤ c.y) (c.x -ℤ a.x) (c.y -ℤ a.y) k s t (to_shares a b c d k s t p) (side_of_second a b c d h)
 
 -- ---- neither so, and not of one line: they cross
--- of parallel segments the turns of both ends are equal, so they are 0 or of one sign
+-- the turns of both ends of parallel segments are equal, so they are 0 or of one sign
 not_parallel : (m D : ℤ) → ¬ (SameSign m (m +ℤ D)) → ¬ (m ≡ pos 0 × (m +ℤ D) ≡ pos 0) → D ≢ pos 0
 not_parallel m D h n z = by_lt_z m (pos 0)
     (λ less. h (inr (less, omega (arith, linear))))
@@ -97,7 +97,7 @@ second_long_x a b c d line n l z =
 pub common_x : (a b c d : Place) (k s t : ℕ) → CommonPoint a b c d k s t → CommonNumber a.x b.x c.x d.x k s t
 common_x a b c d k s t h = record { positive = h.positive; on_first = h.on_first; on_second = h.on_second; equal = h.equal_x }
 
--- and a common x is of a common point
+-- a common x is that of a common point
 pub from_common_x : (a b c d : Place) (k s t : ℕ) → AreCollinear a b c d → a.x ≢ b.x → CommonNumber a.x b.x c.x d.x k s t → CommonPoint a b c d k s t
 from_common_x a b c d k s t line n h = record {
   positive = h.positive;

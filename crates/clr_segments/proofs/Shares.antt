@@ -40,7 +40,7 @@ first_share s d t ux uy vx vy wx wy hx hy =
     let by_vx = simp expand at (ap (λ (z : ℤ). z *ℤ vx) hy) in
     simp expand (omega (arith, linear, by_vy, by_vx))
 
--- and against u: the left side falls away
+-- s u = d w + t v, against u: the left side falls away
 pub second_share : (s d t ux uy vx vy wx wy : ℤ) → s *ℤ ux ≡ d *ℤ wx +ℤ t *ℤ vx → s *ℤ uy ≡ d *ℤ wy +ℤ t *ℤ vy → t *ℤ det ux uy vx vy ≡ d *ℤ det wx wy ux uy
 second_share s d t ux uy vx vy wx wy hx hy =
     let by_uy = simp expand at (ap (λ (z : ℤ). z *ℤ uy) hx) in
@@ -189,6 +189,6 @@ other_coordinate ux uy vx vy wx wy s d t long e f h =
     let by_d = simp expand at (ap (λ (z : ℤ). d *ℤ z) f) in
     cancel ux (s *ℤ uy) (d *ℤ wy +ℤ t *ℤ vy) long (simp expand (omega (arith, linear, by_uy, by_t, by_d)))
 
--- and the second vector too has length in that coordinate
+-- the second vector, too, has length in that coordinate
 pub second_long : (ux uy vx vy : ℤ) → ux ≢ pos 0 → det ux uy vx vy ≡ pos 0 → (vx ≡ pos 0 → vy ≡ pos 0 → ⊥) → vx ≢ pos 0
 second_long ux uy vx vy long e h z = h z (cancel ux vy (pos 0) long (omega (arith, linear, product_is ux (pos 0), product_is uy (pos 0), rw z at e)))

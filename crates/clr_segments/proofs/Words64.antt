@@ -32,7 +32,7 @@ two_words f m n h k = ap₂ f (to_z-of_z h) (to_z-of_z k)
 pub four_words : {A : Type 0} (f : ℤ → ℤ → ℤ → ℤ → A) (p q r u : ℤ) → SFits w64 p → SFits w64 q → SFits w64 r → SFits w64 u → f (word_value p) (word_value q) (word_value r) (word_value u) ≡ f p q r u
 four_words f p q r u a b c d = two_words (λ (x y : ℤ). f x y (word_value r) (word_value u)) p q a b ∙ two_words (λ (x y : ℤ). f p q x y) r u c d
 
--- and what holds of the words holds of the numbers
+-- what holds of the words holds of the numbers
 pub holds_of_words : (f : ℤ → ℤ → ℤ → ℤ → Type 0) (p q r u : ℤ) → SFits w64 p → SFits w64 q → SFits w64 r → SFits w64 u → f (word_value p) (word_value q) (word_value r) (word_value u) → f p q r u
 holds_of_words f p q r u a b c d h = subst₂ (λ (x y : ℤ). f p q x y) (to_z-of_z c) (to_z-of_z d) (subst₂ (λ (x y : ℤ). f x y (word_value r) (word_value u)) (to_z-of_z a) (to_z-of_z b) h)
 
@@ -122,7 +122,7 @@ not_so false e h = λ p. clash (h.1 p)
     clash : false ≡ true → ⊥
     clash e = cc
 
--- of `a && b`: where a held b decides, and where a failed both do not hold
+-- in `a && b` b decides where a held; where a failed, both do not hold
 pub second_decides : {A B : Type 0} (a b : Bool) → a ≡ true → IsTrue a ↔ A → IsTrue b ↔ B → IsTrue b ↔ A × B
 second_decides a b e f g = (λ t. (so a e f, g.0 t), λ h. g.1 h.1)
 

@@ -12,18 +12,18 @@ pub record CommonNumber (p q r u : ℤ) (d s t : ℕ) : Type 0 where
   pub on_second : t ≤ d
   pub equal : part_way d s p q ≡ part_way d t r u
 
--- some number does so
+-- some number is common to the ways from p to q and from r to u
 abbrev pub SomeCommonNumber : ℤ → ℤ → ℤ → ℤ → Type 0
 SomeCommonNumber p q r u = (d : ℕ) × (s : ℕ) × (t : ℕ) × CommonNumber p q r u d s t
 
--- one at most does so
+-- at most one number is common to both ways
 abbrev pub OneCommonNumber : ℤ → ℤ → ℤ → ℤ → Type 0
 OneCommonNumber p q r u = (d s t d' s' t' : ℕ)
     → CommonNumber p q r u d s t
     → CommonNumber p q r u d' s' t'
     → s * d' ≡ s' * d
 
--- two numbers that differ do so
+-- two numbers that differ are common to both ways
 pub record TwoCommonNumbers (p q r u : ℤ) : Type 0 where
   pub d : ℕ
   pub s : ℕ

@@ -65,7 +65,7 @@ MeetIsOne = (m n : Meet) → (p q r u : Place)
     → MeetIs n p q r u
     → m ≡ n
 
--- they meet in the same way in either order
+-- two segments meet in the same way whichever of them is named first
 abbrev pub SegmentsInEitherOrder : Type 0
 SegmentsInEitherOrder = (m : Meet) → (p q r u : Place)
     → Differ p q
@@ -73,7 +73,7 @@ SegmentsInEitherOrder = (m : Meet) → (p q r u : Place)
     → MeetIs m p q r u
     → MeetIs m r u p q
 
--- and whichever end of each is named first
+-- two segments meet in the same way whichever end of each is named first
 abbrev pub EndsInEitherOrder : Type 0
 EndsInEitherOrder = (m : Meet) → (p q r u : Place)
     → MeetIs m p q r u → MeetIs m q p r u × MeetIs m p q u r
@@ -89,7 +89,7 @@ CommonPointsAreFound = (p q r u : Place)
     → Differ r u
     → Decides (have_common_point p q r u) (SomeCommonPoint p q r u)
 
--- and two exactly where there are two that differ
+-- a search of two segments' shares finds two common points exactly where there are two that differ
 abbrev pub TwoCommonPointsAreFound : Type 0
 TwoCommonPointsAreFound = (p q r u : Place)
     → Differ p q

@@ -38,7 +38,7 @@ any_common_point p q r u test = any_up_to (axis_distance p q * axis_distance r u
 unfoldable pub have_common_point : Place → Place → Place → Place → Bool
 have_common_point p q r u = any_common_point p q r u (λ d s. true)
 
--- whether they have two that differ
+-- whether the segments p-q and r-u have two common points that differ
 unfoldable pub have_two_common_points : Place → Place → Place → Place → Bool
 have_two_common_points p q r u = any_common_point p q r u
     (λ d s. any_common_point p q r u (λ d' s'. not (nat_eq (s * d') (s' * d))))

@@ -31,18 +31,18 @@ LiesOn x p q = (d : ℕ) × (s : ℕ) × PointAt x p q d s
 abbrev pub NoCommonPoint : Place → Place → Place → Place → Type 0
 NoCommonPoint p q r u = (d s t : ℕ) → CommonPoint p q r u d s t → ⊥
 
--- they have one at least
+-- the segments p-q and r-u have at least one common point
 abbrev pub SomeCommonPoint : Place → Place → Place → Place → Type 0
 SomeCommonPoint p q r u = (d : ℕ) × (s : ℕ) × (t : ℕ) × CommonPoint p q r u d s t
 
--- they have one at most: s / d and s' / d' are the same share of the way from p to q
+-- the segments p-q and r-u have at most one common point: s / d and s' / d' are the same share of the way from p to q
 abbrev pub OneCommonPoint : Place → Place → Place → Place → Type 0
 OneCommonPoint p q r u = (d s t d' s' t' : ℕ)
     → CommonPoint p q r u d s t
     → CommonPoint p q r u d' s' t'
     → s * d' ≡ s' * d
 
--- they have two that differ
+-- the segments p-q and r-u have two common points that differ
 pub record TwoCommonPoints (p q r u : Place) : Type 0 where
   pub d : ℕ
   pub s : ℕ

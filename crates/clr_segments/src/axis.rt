@@ -1,3 +1,5 @@
+//! How the ranges of two segments of one line meet along an axis.
+
 ghost use Rattle.std.specs.Prelude.{◌≡◌, ◌≢◌};
 ghost use Rattle.clr_segments.specs.Axis.{RangesMeet, greater_low, lesser_high};
 
@@ -10,7 +12,7 @@ fn common_start(p: i64, q: i64, r: i64, u: i64) -> i64
     p.min(q).max(r.min(u))
 }
 
-// The lesser of their upper ends.
+// The lesser of the upper ends of the ranges between p and q and between r and u.
 fn common_end(p: i64, q: i64, r: i64, u: i64) -> i64
     ensures { result ≡ lesser_high p q r u }
 {

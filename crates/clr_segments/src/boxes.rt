@@ -1,17 +1,20 @@
+//! Boxes with sides along the axes: those of segments and shapes, and whether two of them touch.
+
 ghost use Rattle.std.specs.Prelude.{◌≡◌, ◌↔◌, ℤ, IsTrue};
 ghost use Rattle.clr_segments.specs.Bounding.{Between, InBox, BoxesTouch, IsLeastBox, box_between, box_with, box_of_path, box_of_shape};
 
 use clr_rows::{Place, Shape};
 
-/// A box with sides along the axes, in millimetres: the places from the least to the most in both
-/// coordinates, its edges counted in.
+/// A box with sides along the axes, in millimetres: all places from the least to the most in both
+/// coordinates, its edges included.
 #[derive(Clone, Copy, Debug, PartialEq, Eq)]
 pub struct Bounds {
     pub least: Place,
     pub most: Place,
 }
 
-/// The least box that holds the segment from a to b. With a twice it is the box of one place.
+/// Returns the least box that holds the segment from a to b. Where a and b are one place, it is the
+/// box of that place.
 pub fn box_of(a: Place, b: Place) -> Bounds
     ensures value { result ≡ box_between a b }
     ensures least { IsLeastBox a b result }
@@ -28,7 +31,7 @@ pub fn box_of(a: Place, b: Place) -> Bounds
     }
 }
 
-// The box widened to hold a place too.
+// The least box that holds a box and a place.
 fn widen(bounds: Bounds, place: Place) -> Bounds
     ensures { result ≡ box_with bounds place }
 {
@@ -50,8 +53,8 @@ fn box_of_path(vertices: &[Place]) -> Option<Bounds>
     Some(bounds)
 }
 
-/// The least box that holds every vertex of a shape, or none of a shape without vertices. It holds
-/// each part of the shape.
+/// Returns the least box that holds every vertex of a shape, and so each of its parts. Returns none
+/// for a shape without vertices.
 pub fn box_of_shape(shape: &Shape) -> Option<Bounds>
     ensures { result ≡ box_of_shape shape.now }
 {
@@ -84,7 +87,7 @@ fn ranges_touch(low: i64, high: i64, other_low: i64, other_high: i64) -> bool
     low.max(other_low) <= high.min(other_high)
 }
 
-/// Whether two boxes have a common point, their edges counted in.
+/// Returns whether two boxes have a common point, their edges included.
 pub fn boxes_touch(b: Bounds, c: Bounds) -> bool
     ensures { IsTrue result ↔ BoxesTouch b c }
 {

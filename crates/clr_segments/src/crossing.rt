@@ -1,3 +1,5 @@
+//! How two segments meet.
+
 ghost use Rattle.std.specs.Prelude.{◌↔◌, IsTrue};
 ghost use Rattle.clr_rows.specs.Places.{InRange, Differ};
 ghost use Rattle.clr_segments.specs.Segments.{MeetIs};
@@ -54,9 +56,9 @@ fn are_collinear(a: Place, b: Place, c: Place, d: Place) -> bool
     turn(a, b, c) == 0 && turn(a, b, d) == 0
 }
 
-/// How the segments from a to b and from c to d meet, their ends counted in. The point where they
-/// meet once may have no whole coordinates. The ends of each segment differ, and coordinates are
-/// millimetres of at most 1,000,000,000 in size.
+/// Returns how the segments from a to b and from c to d meet, their ends included. Where they meet
+/// once, that point may have coordinates that aren't whole. The ends of each segment differ, and
+/// coordinates are millimetres of at most 1,000,000,000 in size.
 pub fn meet(a: Place, b: Place, c: Place, d: Place) -> Meet
     requires a_in { InRange a }
     requires b_in { InRange b }

@@ -1,9 +1,11 @@
+//! Laws of segments and boxes, each proved by a function that does nothing.
+
 ghost use Rattle.clr_segments.specs.Laws.{CommonPointsAreWhole, MeetingBoxesTouch, PointsAreBoxed};
 ghost use Rattle.clr_segments.specs.Laws.{ShapesAreBoxed, PartsAreBoxed, MeetingShapesTouch, NearBoxesTouch};
 ghost use Rattle.clr_segments.specs.Laws.{MeetIsOne, SegmentsInEitherOrder, EndsInEitherOrder};
 ghost use Rattle.clr_segments.specs.Laws.{PointsAreFound, CommonPointsAreFound, TwoCommonPointsAreFound};
 
-/// Two boxes with a common point have one of whole coordinates.
+/// Two boxes with a common point have one with whole coordinates.
 #[tactic(auto, using(crate::proofs::BoxLemmas::shared_whole))]
 pub fn common_points_are_whole()
     ensures { CommonPointsAreWhole }
@@ -41,12 +43,12 @@ pub fn near_boxes_touch()
     ensures { NearBoxesTouch }
 {}
 
-/// Two segments meet in one way alone.
+/// Two segments meet in only one of the three ways.
 pub fn meet_is_one()
     ensures { MeetIsOne }
 {}
 
-/// Two segments meet in the same way in either order.
+/// Two segments meet in the same way whichever of them is named first.
 #[tactic(auto, using(crate::proofs::MeetLaws::segments_swapped))]
 pub fn segments_in_either_order()
     ensures { SegmentsInEitherOrder }
@@ -70,7 +72,8 @@ pub fn common_points_are_found()
     ensures { CommonPointsAreFound }
 {}
 
-/// It finds two exactly where there are two that differ.
+/// A search of two segments' shares finds two common points exactly where there are two that
+/// differ.
 #[tactic(auto, using(crate::proofs::SearchLemmas::two_common_points_found))]
 pub fn two_common_points_are_found()
     ensures { TwoCommonPointsAreFound }

@@ -1,4 +1,6 @@
-/// How two segments meet, ends counted in.
+//! The three ways in which two segments can meet.
+
+/// How two segments meet, their ends included.
 #[derive(Clone, Copy, Debug, PartialEq, Eq)]
 pub enum Meet {
     /// No point is on both.

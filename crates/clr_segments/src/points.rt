@@ -1,3 +1,5 @@
+//! Whether a place is on a segment, and whether two places are near.
+
 ghost use Rattle.std.specs.Prelude.{◌↔◌, ◌≤ℤ◌, ◌<ℤ◌, ◌*ℤ◌, pos, IsTrue};
 ghost use Rattle.clr_rows.specs.Places.{InRange, Differ};
 ghost use Rattle.clr_segments.specs.Segments.{LiesOn};
@@ -8,7 +10,7 @@ use crate::limits::GREATEST_DISTANCE;
 use crate::sides::{difference, product, turn};
 use clr_rows::Place;
 
-/// Whether p is a point of the segment from a to b, its ends counted in. The ends differ, and
+/// Returns whether p is a point of the segment from a to b, its ends included. The ends differ, and
 /// coordinates are millimetres of at most 1,000,000,000 in size.
 pub fn lies_on(p: Place, a: Place, b: Place) -> bool
     requires p_in { InRange p }
@@ -20,8 +22,8 @@ pub fn lies_on(p: Place, a: Place, b: Place) -> bool
     turn(a, b, p) == 0 && is_in_box(p, box_of(a, b))
 }
 
-/// Whether p and q are nearer than d millimetres: two places just d apart are not. The distance d is
-/// 1 to 1,000,000, and coordinates are millimetres of at most 1,000,000,000 in size.
+/// Returns whether p and q are nearer than d millimetres. Two places exactly d apart are not. The
+/// distance d is 1 to 1,000,000, and coordinates are millimetres of at most 1,000,000,000 in size.
 pub fn near(p: Place, q: Place, d: i64) -> bool
     requires p_in { InRange p }
     requires q_in { InRange q }

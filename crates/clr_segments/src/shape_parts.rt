@@ -1,11 +1,13 @@
+//! The parts of a shape: how many it has, and the ends of each.
+
 ghost use Rattle.std.specs.Prelude.{◌≡◌, length, min, slice_get};
 ghost use Rattle.clr_rows.specs.Parts.{path_parts, parts_of, part_of};
 
 use clr_rows::{Place, Shape};
 
-/// How many parts a shape has: a path has one from each vertex to the next, a segment is one part,
-/// and another shape has none. Of a path with more than 65,535 parts, which no row that fits a
-/// schema has, those are counted that have a number.
+/// Returns how many parts a shape has: a path has one from each vertex to the next, a segment is
+/// one part, and another shape has none. A path with more than 65,535 parts, which fits no schema,
+/// is said to have 65,535.
 pub fn parts(shape: &Shape) -> u16
     ensures { result ≡ min (length (parts_of shape.now)) u16.MAX }
 {
@@ -32,8 +34,9 @@ fn part_from(vertices: &[Place], at: u16) -> Option<(Place, Place)>
     }
 }
 
-/// The ends of a part of a shape, or none where the shape has no part of this number. Part n of a
-/// path goes from its vertex n to its vertex n + 1, counted from 1; a segment is its part 1.
+/// Returns the ends of a part of a shape, or none where the shape has no part of this number. Part
+/// n of a path goes from its vertex n to its vertex n + 1, counted from 1. A segment is its own
+/// part 1.
 pub fn part(shape: &Shape, number: u16) -> Option<(Place, Place)>
     ensures { result ≡ part_of shape.now number }
 {

@@ -1,3 +1,5 @@
+//! On which side of a line a place is.
+
 ghost use Rattle.std.specs.Prelude.{◌≡◌, ◌≤◌, ◌-ℤ◌, ◌*ℤ◌, unsigned_abs};
 ghost use Rattle.std.specs.Int.{int_signum};
 ghost use Rattle.clr_rows.specs.declared.limits.TheConstants.{GREATEST_COORDINATE};
@@ -39,9 +41,9 @@ fn doubled_area(a: Place, b: Place, c: Place) -> i64
         - product(difference(b.y, a.y), difference(c.x, a.x))
 }
 
-/// To which side of the line from a to b the place c is: 1 to the left, -1 to the right, 0 on the
-/// line, and 0 where a and b are one place. Coordinates are millimetres of at most 1,000,000,000 in
-/// size.
+/// Returns the side of the line from a to b on which the place c is: 1 to the left, -1 to the
+/// right, 0 on the line, and 0 where a and b are one place. Coordinates are millimetres of at most
+/// 1,000,000,000 in size.
 pub fn turn(a: Place, b: Place, c: Place) -> i64
     requires a_in { InRange a }
     requires b_in { InRange b }

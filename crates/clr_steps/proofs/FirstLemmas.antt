@@ -5,18 +5,18 @@ use Rattle.std.specs.List.{position_or_len}
 use Rattle.std.specs.Option.{option_map}
 use Rattle.std.proofs.lemmas.Bool.{true≢false, ltb-true, lt-ltb, false_from_ne_true}
 
--- none passes
+-- no element passes
 abbrev pub IsNone : {X : Type 0} → (X → Bool) → List X → Type 0
 IsNone p [] = Unit {0}
 IsNone p (x ∷ xs) = (p x ≡ false) × IsNone p xs
 
--- the one at a position passes, and none before it
+-- the element at a position passes, and none before it
 abbrev pub IsFirst : {X : Type 0} → (X → Bool) → List X → ℕ → Type 0
 IsFirst p [] i = ⊥
 IsFirst p (x ∷ xs) zero = p x ≡ true
 IsFirst p (x ∷ xs) (suc i) = (p x ≡ false) × IsFirst p xs i
 
--- the one at a position passes, and no other
+-- the element at a position passes, and no other
 abbrev pub IsOnly : {X : Type 0} → (X → Bool) → List X → ℕ → Type 0
 IsOnly p [] i = ⊥
 IsOnly p (x ∷ xs) zero = (p x ≡ true) × IsNone p xs

@@ -121,7 +121,7 @@ module _ (site : Site) where
   unfolding set_kept
   leaves_hold o w b root = record { live = λ e. refl; root = root; members = λ n k. seen_modify member_of n w.name (with_kept b) (λ v. refl) (λ v p q. refl) o.workspaces }
 
-  -- of another name, and a Hold of the root, which is kept
+  -- a Hold or a Release of another name, and a Hold of the root, which is kept
   hold_other : (o : Office) (n : Name) (w : Workspace) (b : Bool) → w.name ≡ n → is_root site n ≡ false → Leaves site o (set_kept o w b)
   unfolding is_root
   hold_other o n w b e out = leaves_hold o w b (λ live. seen_other root_of site.root w.name (with_kept b) (λ v. refl) (ap (λ m. same_name m site.root) e ∙ out) o.workspaces)

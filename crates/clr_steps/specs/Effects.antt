@@ -15,11 +15,11 @@ use Rattle.clr_steps.specs.Offices.{Office, workspace, content_of, set_content, 
 
 -- contents that would stand ------------------------------------------------------------------------
 
--- after edits, made one after another
+-- a content after edits, made one after another
 unfoldable pub edited_content : Office → Name → List Edit → Content
 edited_content o ws edits = after_edits (content_of o ws) edits
 
--- after a savepoint was rolled back to, where the workspace has one of that name
+-- a content after a savepoint was rolled back to, where the workspace has one of that name
 unfoldable pub rolled_content : Workspace → Name → Content
 rolled_content w savepoint = option_map_or (λ i. saved_content (mark_at w.marks i)) (find_mark w.marks savepoint) w.current
 
@@ -27,7 +27,7 @@ rolled_content w savepoint = option_map_or (λ i. saved_content (mark_at w.marks
 unfoldable pub merged_content : Office → Workspace → Content
 merged_content o w = taken_over (content_of o w.parent) (own_changes w)
 
--- after one cell in conflict was resolved
+-- a workspace's content after one cell in conflict was resolved
 unfoldable pub resolved_content : Office → Workspace → CellId → Keep → Content
 resolved_content o w cell keep = (keep_row cell keep (content_of o w.parent) w).current
 
@@ -64,7 +64,7 @@ after_roll_all o w = with_workspaces o (modify w.name roll_all o.workspaces)
 unfoldable pub after_refresh : Office → Workspace → Office
 after_refresh o w = with_workspaces o (modify_marks w.parent (mark_last w.name) (modify w.name (refresh (content_of o w.parent)) o.workspaces))
 
--- the parent takes the changes over, and so does the base; all savepoints go
+-- the parent and the base take the changes over; all savepoints go
 unfoldable pub after_merge : Office → Workspace → Office
 after_merge o w =
     let above = set_content o w.parent (merged_content o w) in

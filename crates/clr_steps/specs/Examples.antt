@@ -12,7 +12,7 @@ use Rattle.clr_steps.specs.declared.commands.Reply.TheVariants.{TooMany, NoSavep
 use Rattle.clr_steps.specs.Offices.{Office}
 use Rattle.clr_steps.specs.Steps.{run}
 
--- without rows, rules or workspaces
+-- an office without rows, rules or workspaces
 abbrev pub empty_office : Office
 empty_office = record { schema = []; book = []; live = no_rows; workspaces = [] }
 
@@ -29,7 +29,7 @@ second = codes "B"
 abbrev pub savepoint : Name
 savepoint = codes "s"
 
--- names, and LIVE
+-- which names a command is refused, and what LIVE is refused
 abbrev pub NameExample : Type 0
 NameExample =
     replies_to (Create live_name live_name ∷ Create (codes "9a") live_name ∷ Create first second ∷ Create first live_name ∷ Create first live_name
@@ -44,7 +44,7 @@ SavepointExample =
     ∷ RollTo first savepoint ∷ Unmark first savepoint ∷ Unmark first savepoint ∷ RollTo first savepoint ∷ [])
     ≡ Done ∷ Done ∷ NameTaken ∷ BadName ∷ Done ∷ SavepointHeld ∷ NotLeaf ∷ NotLeaf ∷ NotLeaf ∷ Done ∷ Done ∷ Done ∷ NoSavepoint ∷ NoSavepoint ∷ []
 
--- and isn't held by one that was made earlier; rolling back takes the later savepoints alone
+-- a savepoint isn't held by the mark of a child that was made earlier; rolling back takes only the later savepoints
 abbrev pub RollExample : Type 0
 RollExample =
     replies_to (Create first live_name ∷ Create second first ∷ command.Mark first savepoint ∷ command.Mark first second

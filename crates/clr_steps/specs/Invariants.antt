@@ -1,4 +1,4 @@
--- What every step leaves true of an office.
+-- What holds of an office after every step, if it did before.
 use Rattle.std.specs.Prelude.{◌≡◌, ℕ, suc, true, List, [], ◌∷◌, Option, None, if◌then◌else◌}
 use Rattle.std.specs.Option.{option_or, option_map}
 use Rattle.clr_rows.specs.declared.tables.TableDef.{TableDef}
@@ -21,7 +21,7 @@ unfoldable pub unheld_from : List Rule → ℕ → List Workspace → Option (�
 unheld_from book at [] = None
 unheld_from book at (w ∷ ws) = option_or (option_map (λ need. (at, need)) (if w.kept then first_broken book w.current else None)) (unheld_from book (suc at) ws)
 
--- the first of a tree, LIVE having position 0
+-- the first workspace of a tree that is kept and breaks a rule, LIVE having position 0
 abbrev pub first_unheld : List Rule → List Workspace → Option (ℕ × Broken)
 first_unheld book ws = unheld_from book 0 ws
 

@@ -34,7 +34,7 @@ abbrev pub RefusalLaw : Type 0
 RefusalLaw = (schema : List TableDef) (book : List Rule) (ws : List Workspace) → IsSound ws → (c : Command)
     → refusal (office_of schema book ws) c ≡ refusal_at schema book ws c
 
--- where it isn't refused, what it leaves by position makes the office that it leaves by name
+-- where a command isn't refused, what it leaves by position makes the office that it leaves by name
 abbrev pub EffectLaw : Type 0
 EffectLaw = (schema : List TableDef) (book : List Rule) (ws : List Workspace) → IsSound ws → (c : Command)
     → refusal_at schema book ws c ≡ None → office_of schema book (effect_at ws c) ≡ effect (office_of schema book ws) c
@@ -50,21 +50,21 @@ pub data IsPerformed (refusal : Option Reply) (ws next : List Workspace) (reply 
   refused : refusal ≡ Some reply → left ≡ ws → IsPerformed refusal ws next reply left
   done : refusal ≡ None → reply ≡ Done → left ≡ next → IsPerformed refusal ws next reply left
 
--- and so it answers the step by name
+-- what works by position answers the step by name
 abbrev pub AnswerLaw : Type 0
 AnswerLaw = (schema : List TableDef) (book : List Rule) (ws : List Workspace) → IsSound ws → (c : Command) (reply : Reply) (left : List Workspace)
     → IsPerformed (refusal_at schema book ws c) ws (effect_at ws c) reply left → IsAnswer (office_of schema book ws) c reply (office_of schema book left)
 
--- a step is never answered OutOfMemory, so that the commands that are answered so are those that are lost
+-- a step itself is never answered OutOfMemory: the commands that are answered so are those that are lost
 abbrev pub MemoryLaw : Type 0
 MemoryLaw = (o : Office) (c : Command) → is_lost (step o c).reply ≡ false
 
--- answers to commands one after another are those of a run, what is lost being read off them
+-- replies to commands one after another are those of a run in which the commands answered OutOfMemory are lost
 abbrev pub RunLaw : Type 0
 RunLaw = (o : Office) (commands : List Command) (replies : List Reply) (left : Office)
     → AreAnswers o commands replies left → run o commands (lost_in replies) ≡ record { replies = replies; office = left }
 
--- and so is one more answer after them
+-- one more reply goes on with the run
 abbrev pub MoreLaw : Type 0
 MoreLaw = (o : Office) (commands : List Command) (replies : List Reply) (now : Office) (c : Command) (reply : Reply) (left : Office)
     → AreAnswers o commands replies now → IsAnswer now c reply left → AreAnswers o (commands ++ c ∷ []) (replies ++ reply ∷ []) left

@@ -31,7 +31,7 @@ abbrev pub find_name : Name → List Workspace → Option Workspace
 find_name name [] = None
 find_name name (w ∷ ws) = if same_name name w.name then Some w else find_name name ws
 
--- LIVE is no workspace
+-- the workspace of a name under LIVE; LIVE itself is none here
 unfoldable pub workspace : Office → Name → Option Workspace
 workspace o name = if is_live name then None else find_name name o.workspaces
 
@@ -51,9 +51,9 @@ current_of (Some w) = w.current
 unfoldable pub content_of : Office → Name → Content
 content_of o name = if is_live name then o.live else current_of (find_name name o.workspaces)
 
--- with other parts --------------------------------------------------------------------------------
+-- an office with other parts ----------------------------------------------------------------------
 
--- other workspaces
+-- the office with other workspaces
 abbrev pub with_workspaces : Office → List Workspace → Office
 with_workspaces o ws = record o { workspaces = ws }
 
@@ -70,14 +70,14 @@ modify_marks name f = modify name (with_marks f)
 abbrev pub without : Name → List Workspace → List Workspace
 without name = filter (λ w. not (same_name name w.name))
 
--- another current content of LIVE or of a workspace
+-- the office with another current content of LIVE or of a workspace
 unfoldable pub set_content : Office → Name → Content → Office
 set_content o name content =
     if is_live name then record o { live = content } else with_workspaces o (modify name (with_current content) o.workspaces)
 
 -- the office of a tree -----------------------------------------------------------------------------
 
--- all but the first, which is LIVE
+-- all workspaces but the first, which is LIVE
 abbrev pub below_live : List Workspace → List Workspace
 below_live [] = []
 below_live (w ∷ ws) = ws

@@ -30,13 +30,13 @@ is_top None = false
 is_top (Some zero) = true
 is_top (Some (suc k)) = false
 
--- the workspace at a position, which isn't LIVE
+-- the workspace at a position, if that isn't LIVE's
 abbrev pub below_top : List Workspace → Option ℕ → Option Workspace
 below_top ws None = None
 below_top ws (Some zero) = None
 below_top ws (Some (suc k)) = Some (workspace_at ws (suc k))
 
--- its content, whether it is kept, and its depth
+-- the content of the workspace at a position, whether it is kept, and its depth
 abbrev pub content_at : List Workspace → Option ℕ → Content
 content_at ws position = option_map_or (λ at. (workspace_at ws at).current) position no_rows
 
@@ -51,7 +51,7 @@ has_child_at ws at = nat_lt 0 (children_of ws (workspace_at ws at).name)
 
 -- refusals ------------------------------------------------------------------------------------------------
 
--- of a command on the workspace at a position under LIVE, in order
+-- the refusals of a command on the workspace at a position under LIVE, in order
 unfoldable pub refusals_at : List Rule → List Workspace → ℕ → Command → List (Option Reply)
 refusals_at book ws at (command.Remove name) = when (has_child_at ws at) NotLeaf ∷ []
 refusals_at book ws at (command.Mark name savepoint) =
@@ -89,7 +89,7 @@ refusals_at book ws at (command.Resolve name cell keep) =
 refusals_at book ws at (command.Hold name) = let w = workspace_at ws at in broken_where (not w.kept) book w.current ∷ []
 refusals_at book ws at _ = []
 
--- where the position is none, LIVE's, or one under LIVE
+-- the refusal of a command where the position is none, LIVE's, or one under LIVE
 abbrev pub refusal_below : Option ℕ → (ℕ → List (Option Reply)) → Option Reply
 refusal_below None refusals = Some NoWorkspace
 refusal_below (Some zero) refusals = Some LiveIsFixed
@@ -125,7 +125,7 @@ at_name ws name f = at_position ws (find ws name) f
 abbrev pub at_savepoint : List Workspace → ℕ → Name → (ℕ → List Workspace) → List Workspace
 at_savepoint ws at savepoint f = at_position ws (find_mark (workspace_at ws at).marks savepoint) f
 
--- the changes that edits make, written
+-- the changes that edits make, written to the workspace at a position
 abbrev pub edit_at : List Workspace → List Edit → ℕ → List Workspace
 edit_at ws edits at = let content = (workspace_at ws at).current in tree.after_write ws at (changes content (after_edits content edits))
 

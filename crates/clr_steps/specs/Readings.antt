@@ -17,11 +17,11 @@ if_stands o name value = if stands o name then Some value else None
 abbrev pub parent_in : Office → Name → Option Name
 parent_in o name = option_map (λ w. w.parent) (workspace o name)
 
--- what LIVE, which has no base, or a workspace changed
+-- what LIVE or a workspace changed; LIVE, which has no base, changed nothing
 abbrev pub changes_in : Office → Name → Changes
 changes_in o name = option_map_or own_changes (workspace o name) no_changes
 
--- the cells of these changes where the parent has another row than the one that the workspace took over, ascending
+-- the changed cells where the parent has another row than the base, ascending
 abbrev pub conflicts_in : Office → Name → List CellId
 conflicts_in o name = option_map_or (λ w. conflicts (content_of o w.parent) (own_changes w)) (workspace o name) []
 

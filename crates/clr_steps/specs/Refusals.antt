@@ -28,19 +28,19 @@ use Rattle.clr_steps.specs.Effects.{edited_content, rolled_content, merged_conte
 abbrev pub when : Bool → Reply → Option Reply
 when test reply = if test then Some reply else None
 
--- the first that applies
+-- the first refusal that applies
 abbrev pub first_of : List (Option Reply) → Option Reply
 first_of [] = None
 first_of (r ∷ rs) = option_or r (first_of rs)
 
 -- limits -----------------------------------------------------------------------------------------------
 
--- how many steps a name is under LIVE, counted at most so far
+-- how many steps a name is under LIVE, counted up to a limit
 unfoldable pub depth_within : ℕ → Office → Name → ℕ
 depth_within zero o name = 0
 depth_within (suc most) o name = option_map_or (λ w. depth_within most o w.parent + 1) (workspace o name) 0
 
--- the same, which is at most the number of workspaces
+-- how many steps a name is under LIVE; there are no more of them than workspaces
 abbrev pub depth : Office → Name → ℕ
 depth o name = depth_within (length o.workspaces) o name
 
@@ -48,7 +48,7 @@ depth o name = depth_within (length o.workspaces) o name
 abbrev pub is_full : Office → Bool
 is_full o = nat_le MOST_WORKSPACES (length o.workspaces + 1)
 
--- none may stand under the parent
+-- no workspace may stand under the parent, since it is too deep
 abbrev pub is_deep : Office → Name → Bool
 is_deep o parent = nat_le MOST_LEVELS (depth o parent)
 
@@ -66,14 +66,14 @@ edit_refusal o ws edits = option_map bad_edit (first_bad_edit o.schema (content_
 abbrev pub in_conflict : CellId × ℕ → Reply
 in_conflict c = Conflict c.0 c.1
 
--- where a workspace's changes meet another row than the one that it took over: the least cell, and how many there are
+-- a workspace's conflicts with its parent's content: the least cell, and how many there are
 abbrev pub conflict_with : Content → Workspace → Option Reply
 conflict_with above w = option_map in_conflict (least_and_count (conflicts above (own_changes w)))
 
 unfoldable pub conflict : Office → Workspace → Option Reply
 conflict o w = conflict_with (content_of o w.parent) w
 
--- whether a cell is among those
+-- whether a cell of the workspace is in conflict with the content
 abbrev pub is_in_conflict_with : Content → Workspace → CellId → Bool
 is_in_conflict_with above w cell = is_changed w.base w.current cell && is_conflict above (cell, change_of w.base w.current cell)
 
@@ -88,13 +88,13 @@ first_broken book content = slice_get (broken_needs book content) 0
 abbrev pub broken_where : Bool → List Rule → Content → Option Reply
 broken_where kept book content = if kept then option_map RuleBroken (first_broken book content) else None
 
--- of the content that would stand in LIVE or a workspace
+-- the least need that a content breaks, where it would stand in LIVE or a workspace that is kept
 unfoldable pub breaks : Office → Name → Content → Option Reply
 breaks o name content = broken_where (is_kept o name) o.book content
 
 -- refusals ---------------------------------------------------------------------------------------------
 
--- of a command on a workspace that stands; Create and Apply may be on LIVE too
+-- the refusals of a command on a workspace that stands, in order; Create and Apply may be on LIVE too
 unfoldable pub refusals_of : Office → Workspace → Command → List (Option Reply)
 refusals_of o w (command.Remove ws) = when (has_child o w.name) NotLeaf ∷ []
 refusals_of o w (command.Mark ws name) =
@@ -115,7 +115,7 @@ refusals_of o w (command.Resolve ws cell keep) = when (not (is_in_conflict o w c
 refusals_of o w (command.Hold ws) = broken_where (not w.kept) o.book w.current ∷ []
 refusals_of o w _ = []
 
--- the name of the workspace that a command is on; a new one is made on its parent
+-- the name of the workspace that a command is on; for Create it is the parent's
 abbrev pub name_in : Command → Name
 name_in (command.Create name parent) = parent
 name_in (command.Remove ws) = ws
@@ -130,7 +130,7 @@ name_in (command.Resolve ws cell keep) = ws
 name_in (command.Hold ws) = ws
 name_in (command.Release ws) = ws
 
--- LIVE takes new workspaces and edits alone
+-- why a command is refused, if it is; LIVE takes only Create and Apply
 unfoldable pub refusal : Office → Command → Option Reply
 refusal o (command.Create name parent) =
     first_of (

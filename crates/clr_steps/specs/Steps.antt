@@ -16,7 +16,7 @@ pub record Answer : Type 0 where
 abbrev pub answer : Reply → Office → Answer
 answer reply o = record { reply = reply; office = o }
 
--- a refusal leaves the office
+-- a refusal leaves the office as it is
 abbrev pub refused_or_done : Option Reply → Office → Office → Answer
 refused_or_done None o next = answer Done next
 refused_or_done (Some reply) o next = answer reply o
@@ -26,7 +26,7 @@ step o c = refused_or_done (refusal o c) o (effect o c)
 
 -- want of memory ---------------------------------------------------------------------------------------
 
--- a command that finds no memory leaves the office
+-- a command that finds no memory leaves the office as it is
 abbrev pub step_or_lost : Bool → Office → Command → Answer
 step_or_lost true o c = answer OutOfMemory o
 step_or_lost false o c = step o c
@@ -35,7 +35,7 @@ abbrev pub is_lost : Reply → Bool
 is_lost OutOfMemory = true
 is_lost _ = false
 
--- this reply, and what is left, are those of the step, or of a command that found no memory
+-- the reply and the office that is left are those of the step, or of a command that found no memory
 abbrev pub IsAnswer : Office → Command → Reply → Office → Type 0
 IsAnswer o c reply left = answer reply left ≡ step_or_lost (is_lost reply) o c
 
@@ -60,7 +60,7 @@ run o (c ∷ cs) lost =
     let rest = run a.office cs (λ k. lost (k + 1)) in
     record { replies = a.reply ∷ rest.replies; office = rest.office }
 
--- these replies, one after another, and what is left after the last
+-- the replies to commands one after another, and the office that is left after the last
 abbrev pub AreAnswers : Office → List Command → List Reply → Office → Type 0
 AreAnswers o [] [] left = left ≡ o
 AreAnswers o (c ∷ cs) (reply ∷ replies) left = (next : Office) × IsAnswer o c reply next × AreAnswers next cs replies left

@@ -16,7 +16,7 @@ own_change w cell = change_at w.base w.current cell
 abbrev pub ConflictLaw : Type 0
 ConflictLaw = (above : Content) (w : Workspace) → (conflict_with above w ≡ None) ↔ ((cell : CellId) → is_in_conflict_with above w cell ≡ false)
 
--- a merge, and rolling all back, leave no changes
+-- a merge, and a rollback to the base, leave no changes
 abbrev pub MergeLaw : Type 0
 MergeLaw = (w : Workspace) (cell : CellId) → own_change (with_base_merged w) cell ≡ None
 

@@ -1,3 +1,5 @@
+//! Commands, and the replies to them.
+
 use clr_change::{EditFault, Edits};
 use clr_rows::{CellId, Words};
 use clr_rules::Broken;
@@ -16,27 +18,28 @@ pub enum Command {
     Mark { ws: Words, name: Words },
     /// Takes a savepoint away.
     Unmark { ws: Words, name: Words },
-    /// Sets the content back to that of a savepoint; later savepoints go.
+    /// Sets the content back to that of a savepoint. The later savepoints go.
     RollTo { ws: Words, name: Words },
-    /// Sets the content back to the base; all savepoints go.
+    /// Sets the content back to the base. All savepoints go.
     RollAll { ws: Words },
     /// Takes the parent's content over, under the workspace's changes.
     Refresh { ws: Words },
-    /// Writes a workspace's changes to its parent, and takes the workspace away where that is asked.
+    /// Writes a workspace's changes to its parent, and takes the workspace away where `remove` says
+    /// so.
     Merge { ws: Words, remove: bool },
-    /// Settles which row stands at one cell in conflict.
+    /// Decides which row stands at one cell in conflict.
     Resolve { ws: Words, cell: CellId, keep: Keep },
-    /// Keeps every rule in a workspace from now on.
+    /// Keeps the workspace: from now on every rule is to hold in it.
     Hold { ws: Words },
-    /// Keeps the rules in a workspace no longer.
+    /// Keeps the workspace no longer: from now on no rule need hold in it.
     Release { ws: Words },
 }
 
-/// The answer to a command: it is done, or it is refused for the first cause that applies.
+/// The reply to a command: it is done, or it is refused for the first reason that applies.
 #[derive(Clone, Copy, Debug, PartialEq, Eq)]
 pub enum Reply {
     Done,
-    /// No memory was found. It may come in place of any other answer.
+    /// No memory was found. This reply may come in place of any other.
     OutOfMemory,
     /// No workspace has the name.
     NoWorkspace,
@@ -44,23 +47,23 @@ pub enum Reply {
     NameTaken,
     /// The name of the new workspace or savepoint isn't good.
     BadName,
-    /// LIVE is never removed, given savepoints, rolled back, refreshed, merged, resolved, held or
-    /// released.
+    /// The command isn't for LIVE, which is never removed, given savepoints, rolled back,
+    /// refreshed, merged, resolved, held or released.
     LiveIsFixed,
     /// The workspace has children.
     NotLeaf,
-    /// Too many workspaces, too deep a tree, or too many savepoints.
+    /// There would be too many workspaces, too deep a tree, or too many savepoints.
     TooMany,
     /// The workspace has no savepoint of the name.
     NoSavepoint,
-    /// The mark of a child stands later than the savepoint.
+    /// The mark of a child stands behind the savepoint.
     SavepointHeld,
-    /// The number of the first edit that can't be made, from 1, and why.
+    /// An edit can't be made: the number of the first such edit, counted from 1, and why.
     BadEdit(usize, EditFault),
-    /// The least cell in conflict, and how many there are.
+    /// Cells are in conflict: the least of them, and how many there are.
     Conflict(CellId, usize),
     /// The cell isn't in conflict.
     NotInConflict,
-    /// The least broken need of the content that would stand.
+    /// The content that would stand breaks a rule: its least broken need.
     RuleBroken(Broken),
 }

@@ -6,8 +6,9 @@ ghost use Rattle.clr_steps.specs.Laws.{QuietLaw, RefusalLaw, RulesLaw, RunLaw, S
 ghost use Rattle.clr_steps.specs.WorkspaceLaws.{ConflictLaw, MergeLaw, RefreshLaw, ResolveLaw, RollAllLaw};
 
 /// A command by name does to an office what it does by position to the list of workspaces of the
-/// office's tree: a name is found at a position that says the same of it, the command is refused
-/// for the same and leaves the same, and what is answered by position is the step's answer.
+/// office's tree. A name is found at a position that says the same of it, the command is refused
+/// for the same reason and leaves the same workspaces, and what is answered by position is the
+/// step's answer.
 pub fn steps_by_position()
     ensures name { NameLaw }
     ensures refusal { RefusalLaw }
@@ -16,9 +17,9 @@ pub fn steps_by_position()
     ensures answer { AnswerLaw }
 {}
 
-/// No command is refused with `OutOfMemory`. Replies to commands one after another are those of a
-/// run in which the commands answered `OutOfMemory`, and no others, found no memory. One more answer
-/// makes the list one longer.
+/// No step is answered `OutOfMemory`. Replies to commands one after another are those of a run in
+/// which exactly the commands answered `OutOfMemory` found no memory. One more reply makes a run of
+/// one command more.
 pub fn answers_make_a_run()
     ensures found { MemoryLaw }
     ensures run { RunLaw }
@@ -26,17 +27,17 @@ pub fn answers_make_a_run()
 {}
 
 /// No command changes the schema or the rules. Where every rule holds in LIVE and in each workspace
-/// that is kept, it does after each command. Where each row fits the schema, also in the base and
-/// the savepoints of each workspace, it does after each command.
+/// that is kept, this is so after each command. Where each row fits the schema, also in the base
+/// and the savepoints of each workspace, this is so after each command.
 pub fn steps_keep_offices_sound()
     ensures schema { SchemaLaw }
     ensures rules { RulesLaw }
     ensures fit { FitLaw }
 {}
 
-/// A workspace is in conflict with its parent where one of its cells is. After a merge, and after
-/// all is rolled back, it has no changes; after a refresh without a conflict it has the changes that
-/// it had; and a cell that was resolved is in conflict no longer.
+/// A workspace is in conflict with its parent where one of its cells is. After a merge, and after a
+/// rollback to the base, it has no changes. After a refresh without a conflict it has the changes
+/// that it had. A cell that was resolved is in conflict no longer.
 pub fn changes_after_commands()
     ensures conflict { ConflictLaw }
     ensures merge { MergeLaw }
@@ -52,14 +53,14 @@ pub fn none_is_unheld_where_rules_hold()
 {}
 
 /// A command that is quiet for a site, and that is no merge or refresh of a member, leaves the
-/// root's rows, that it is kept, and each member's base, rows and parent, and brings no removed
-/// member back.
+/// root's rows as they are, leaves the root kept, leaves each member's base, rows and parent as
+/// they are, and brings no removed member back.
 pub fn quiet_commands_leave_the_site()
     ensures { QuietLaw }
 {}
 
 /// Runs in an office without rows are answered as their definitions compute: which names are
-/// refused, and for what; when a savepoint is held, and which ones go; and how deep a tree may be.
+/// refused, and why; when a savepoint is held, and which savepoints go; and how deep a tree may be.
 pub fn replies_of_examples()
     ensures names { NameExample }
     ensures savepoints { SavepointExample }

@@ -9,8 +9,9 @@
 //!   rows go on fitting.
 //! - `quiet_commands_leave_the_site`: a quiet command that is no merge or refresh of a member
 //!   leaves the root and the members.
-//! - `answers_make_a_run`, `none_is_unheld_where_rules_hold`, `changes_after_commands`,
-//!   `replies_of_examples`.
+//! - `answers_make_a_run`, `none_is_unheld_where_rules_hold`, `changes_after_commands` and
+//!   `replies_of_examples`: runs that find no memory, the search for a workspace that breaks a
+//!   rule, the changes of one workspace, and runs that are computed.
 #![tactic(auto)]
 
 mod commands;

@@ -196,7 +196,7 @@ pub any_dropped : (live : Content) (ls : List Layer) (p : ℕ) (child : Name) �
 any_dropped live ls zero child r lt = live_dropped live ls child
 any_dropped live ls (suc p) child r lt = mark_dropped live ls (suc p) r (omega arith) lt child
 
--- the same among whole workspaces
+-- no workspace has a leaf as its parent, among whole workspaces
 pub no_child_whole : (live : Content) (ls : List Layer) (at : ℕ) → children_of (wholes live ls) (workspace_at (wholes live ls) at).name ≡ 0
     → (k : ℕ) → 0 < k → k < length (wholes live ls) → bytes_eq (workspace_at (wholes live ls) at).name (workspace_at (wholes live ls) k).parent ≡ true → ⊥
 no_child_whole live ls at none k some lt under =

@@ -51,7 +51,7 @@ marks_as_swept base [] own = refl
 marks_as_swept base (kinds.Saved name d ∷ ms) own = λ i. kinds.Saved name (swept_own base d (λ q. (own q).0) i) ∷ marks_as_swept base ms (λ q. (own q).1) i
 marks_as_swept base (kinds.Child name ∷ ms) own = ap (λ (ns : List StoredMark). kinds.Child name ∷ ns) (marks_as_swept base ms (λ q. (own q).1))
 
--- so marks are what their contents differ in from the base
+-- where no entry is neutral, marks are what their contents differ in from the base
 marks_differing : (base : Content) (ms : List StoredMark) → ((q : CellId) → AreOwnOver (row_at base q) q ms) → ms ≡ map (mark_from base) (map (whole_mark base) ms)
 marks_differing base [] own = refl
 marks_differing base (kinds.Saved name d ∷ ms) own = λ i. kinds.Saved name (own_differences base d (λ q. (own q).0) i) ∷ marks_differing base ms (λ q. (own q).1) i
@@ -348,7 +348,7 @@ rooted_resolved ws at p cell keeps.Parent r = rooted_set ws at (keep_row cell ke
 rooted_resolved ws at p cell keeps.Child r = rooted_set ws at (keep_row cell keeps.Child (workspace_at ws p).current (workspace_at ws at)) refl refl r
 rooted_resolved ws at p cell keeps.Base r = rooted_set ws at (keep_row cell keeps.Base (workspace_at ws p).current (workspace_at ws at)) refl refl r
 
--- one cell settled ---------------------------------------------------------------------------------
+-- one cell resolved --------------------------------------------------------------------------------
 
 pub near_at : (at : ℕ) (cells : List CellId) (ls ms : List Layer) → StayOwnBut at cells ls ms → StayOwnButNear at cells ls ms
 near_at at cells ls ms stay k q other under = stay k q other

@@ -25,7 +25,7 @@ none_after (m ∷ ms) (suc i) le = none_after ms i (omega (arith, le))
 pub held_past : (ms : List Mark) (i : ℕ) → length ms ≤ i → is_held ms i ≡ false
 held_past ms i le = none_after ms (suc i) (omega (arith, le))
 
--- so where the marks are stored
+-- no mark of a child stands past the last mark, as the marks are stored
 pub stored_past : (base : Content) (ms : List Mark) (ns : List StoredMark) (i : ℕ) → ms ≡ map (whole_mark base) ns → length ns ≤ i → false ≡ is_held ms i
 stored_past base ms ns i e le =
     let long : length ms ≡ length ns = ap (λ (ms : List Mark). length ms) e ∙ length-map ns (whole_mark base) in

@@ -13,7 +13,7 @@ use Rattle.clr_tree.proofs.ModelLemmas.{became, either, within_tree}
 use Rattle.clr_tree.proofs.TreeLemmas.{sound_rebased}
 
 module _ {X E : Type 0} (r : Result X E) (live next : Content) (ls ms : List Layer) (t : Tree) (is : tree_of live ls ≡ t) (at : ℕ) (how : Rebase) where
-  -- it is sound
+  -- a tree is sound after a rebase, done or not
   pub rebased_sound : at < length t.list → 0 < at → IsSound (wholes live ls)
       → OnOk r (wholes next ms ≡ after_rebase (wholes live ls) at how) → OnErr r (wholes next ms ≡ wholes live ls) → IsSound (wholes next ms)
   rebased_sound within some s ok err =

@@ -57,11 +57,11 @@ place_fault before name parent =
     else (if is_some (find before name) then Some fault.NameTaken
     else parent_fault before (find before parent))
 
--- the same of a workspace
+-- why a workspace can't stand under its name and its parent after those before it, if it can't
 abbrev pub name_fault : List Workspace → Workspace → Option PartFault
 name_fault before w = place_fault before w.name w.parent
 
--- the workspace found under the name of a child's mark is a child of this one
+-- the workspace found under the name of a child's mark is a child of the one of the given name
 abbrev pub is_under : List Workspace → Name → Option ℕ → Bool
 is_under ws parent None = false
 is_under ws parent (Some at) = bytes_eq parent (workspace_at ws at).parent
@@ -70,7 +70,7 @@ abbrev pub is_childs : List Workspace → Name → Mark → Bool
 is_childs ws parent (Saved name content) = true
 is_childs ws parent (ChildMark name) = is_under ws parent (find ws name)
 
--- a workspace has one mark, if it is a child of this one
+-- a workspace has one mark, if it is a child of the one of the given name
 abbrev pub is_marked_once : Name → List Mark → Workspace → Bool
 is_marked_once parent marks w = not (bytes_eq parent w.parent) || mark_count marks w.name == 1
 
@@ -120,7 +120,7 @@ IsRefused first (n, fault.NoParent) = first ≡ Some (n, fault.NoParent)
 IsRefused first (n, fault.TooMany) = first ≡ Some (n, fault.TooMany)
 IsRefused first (n, fault.BadMarks) = first ≡ Some (n, fault.BadMarks)
 
--- the same of one part: want of memory may come in place of its fault
+-- the fault of one part, in place of which want of memory may come
 abbrev pub IsFault : Option PartFault → PartFault → Type 0
 IsFault found fault.OutOfMemory = Unit {0}
 IsFault found fault.BadName = found ≡ Some fault.BadName
@@ -139,7 +139,7 @@ abbrev pub has_new_name : Mark → List Mark → Bool
 has_new_name (Saved name content) later = is_good_name name && not (list_any (bytes_eq name) (saved_names later))
 has_new_name (ChildMark name) later = true
 
--- marks over no rows, which have their names over any
+-- a mark over no rows; marks have the same names over any base
 abbrev pub bare_mark : StoredMark → Mark
 bare_mark mark = whole_mark no_rows mark
 

@@ -1,3 +1,5 @@
+//! Building the map of a tree from parts with whole contents.
+
 ghost use Rattle.std.specs.Prelude.{◌≡◌, ◌<◌, ◌++◌, [], ◌∷◌, suc, None, Some, map, take, length, OnOk, IfOk, IfErr};
 ghost use Rattle.clr_rows.specs.Names.{live_name};
 ghost use Rattle.clr_differences.specs.Differences.{seen_over};
@@ -17,7 +19,7 @@ use clr_layers::{Layer, StoredMark, WorkspaceMap};
 use clr_rows::Sheet;
 use std::alloc::{AllocError, Global};
 
-/// What differs between a content and the one that it lies over.
+/// Returns the differences between a content and the one that it lies over.
 fn differences_between(
     alloc: Global,
     below: &Sheet,
@@ -30,6 +32,7 @@ fn differences_between(
     Ok(differences)
 }
 
+/// Returns a mark as it is stored over a base.
 fn stored_mark(alloc: Global, base: &Sheet, mark: &MarkPart) -> Result<StoredMark, AllocError>
     ensures { IfOk result (λ stored. whole_mark base.now stored ≡ mark_of mark.now) }
 {
@@ -43,6 +46,7 @@ fn stored_mark(alloc: Global, base: &Sheet, mark: &MarkPart) -> Result<StoredMar
     }
 }
 
+/// Returns marks as they are stored over a base.
 fn stored_marks(
     alloc: Global,
     base: &Sheet,
@@ -57,7 +61,7 @@ fn stored_marks(
     Ok(stored)
 }
 
-/// What is stored of a part whose parent has this content.
+/// Returns what is stored of a part whose parent has this content.
 fn entry_of(alloc: Global, above: &Sheet, part: &Part) -> Result<(String, Layer), AllocError>
     ensures { IfOk result (λ entry. whole_of above.now (layer_of entry) ≡ workspace_of part.now) }
 {
@@ -76,7 +80,7 @@ fn entry_of(alloc: Global, above: &Sheet, part: &Part) -> Result<(String, Layer)
     Ok((name.into_string(), layer))
 }
 
-/// The current content of LIVE or of a part, by the position of its workspace.
+/// Returns the current content of LIVE or of a part, by the position of its workspace.
 fn content_of<'a>(live: &'a Sheet, parts: &'a [Part], at: usize) -> &'a Sheet
     requires { at < length (list_of live.now parts.now) }
     ensures { result.now ≡ (workspace_at (list_of live.now parts.now) at).current }
@@ -109,7 +113,8 @@ fn push_entry(
     Ok(())
 }
 
-/// Puts the part at a position after those before it.
+/// Puts the part at a position behind those before it. Fails with the part's first fault of name or
+/// place, or with `OutOfMemory`.
 fn push_part(
     live: &Sheet,
     map: &mut WorkspaceMap,
@@ -135,7 +140,8 @@ fn push_part(
     }
 }
 
-/// The position in the answer to the fault of a part.
+/// Returns the number that stands beside a fault of the part at a position: 0 beside `OutOfMemory`,
+/// and else the position.
 pub fn number_of(at: usize, fault: PartFault) -> usize
     ensures { result ≡ number_of at fault }
 {
@@ -145,7 +151,7 @@ pub fn number_of(at: usize, fault: PartFault) -> usize
     }
 }
 
-/// The map of LIVE alone, or position 0 and want of memory.
+/// Returns the map of LIVE alone. Fails with `OutOfMemory`, at 0.
 pub fn start(alloc: Global) -> Result<WorkspaceMap, (usize, PartFault)>
     ensures made { IfOk result (λ map. map ≡ leaf live_name [] ∷ []) }
     ensures refused { IfErr result (λ refused. refused ≡ (0, OutOfMemory)) }
@@ -157,7 +163,8 @@ pub fn start(alloc: Global) -> Result<WorkspaceMap, (usize, PartFault)>
     }
 }
 
-/// The map of LIVE and of parts, or the first fault of a name or a place.
+/// Returns the map of LIVE and of parts. Fails with the position of the first part whose name or
+/// place has a fault, and with that fault; or with `OutOfMemory`, at 0.
 pub fn push_parts(
     alloc: Global,
     live: &Sheet,

@@ -1,3 +1,5 @@
+//! Building the map of a tree from parts by their differences.
+
 ghost use Rattle.std.specs.Prelude.{◌≡◌, ◌++◌, [], ◌∷◌, None, OnOk, IfOk, IfErr};
 ghost use Rattle.clr_layers.specs.Entries.{stored_layer};
 ghost use Rattle.clr_layers.specs.Layers.{above_in, whole_of, wholes};
@@ -12,7 +14,8 @@ use clr_layers::{StoredPart, WorkspaceMap};
 use clr_rows::Sheet;
 use std::alloc::Global;
 
-/// Puts a part at the end, as it is stored.
+/// Puts a part at the end, as it is stored. Fails with the part's first fault of name or place, or
+/// with `OutOfMemory`.
 fn push_layer(live: &Sheet, map: &mut WorkspaceMap, part: StoredPart) -> Result<(), PartFault>
     requires { IsRooted (wholes live.now map.old) }
     ensures ok { OnOk result (wholes live.now map.new
@@ -30,8 +33,9 @@ fn push_layer(live: &Sheet, map: &mut WorkspaceMap, part: StoredPart) -> Result<
     }
 }
 
-/// The map of LIVE and of parts that are written by their differences, or the first fault of a name
-/// or a place. No content is made whole.
+/// Returns the map of LIVE and of parts by their differences. No content is made whole. Fails with
+/// the position of the first part whose name or place has a fault, and with that fault; or with
+/// `OutOfMemory`, at 0.
 pub fn push_layers(
     alloc: Global,
     live: &Sheet,

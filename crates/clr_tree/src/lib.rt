@@ -1,26 +1,26 @@
 //! Workspaces in a tree under LIVE, stored by their differences and seen with whole contents.
 //!
 //! - `Tree::new`, `create`, `write_all`, `mark`, `roll_to`, `rebase`, and `merge_changes` and
-//!   `refresh_changes`, which are given the changes [`ok`, `err`]: the whole list of workspaces
-//!   after each call, with all names, parents, contents, marks and flags; want of memory leaves all
-//!   as it was. `remove`, `unmark`, `roll_all`, `hold` and `release` take no memory. `find`, `len`,
-//!   `name_at`, `parent`, `children`, `depth`, `saved`, `find_mark`, `held`, `kept`, `read`,
-//!   `base`, `view`, `live`, `changes`, `rows`, `base_rows`, `saved_rows` and `part` show it
-//!   exactly.
-//! - `Tree::build` [`made`, `passed`, `refused`]: the tree of just these parts, or the first fault
-//!   of their list with its position, or want of memory. `Tree::of_layers` [`made`, `passed`,
-//!   `refused`]: the same of parts by their differences, said of the whole workspaces that these
-//!   mean.
+//!   `refresh_changes`, which are given the changes [`ok`, `err`]: the contract tells the whole
+//!   list of workspaces after each call, with all names, parents, contents, marks and flags. If
+//!   memory runs out, all stays as it was. `remove`, `unmark`, `roll_all`, `hold` and `release`
+//!   take no memory. `find`, `len`, `name_at`, `parent`, `children`, `depth`, `saved`, `find_mark`,
+//!   `held`, `kept`, `read`, `base`, `view`, `live`, `changes`, `rows`, `base_rows`, `saved_rows`
+//!   and `part` show the tree exactly.
+//! - `Tree::build` [`made`, `passed`, `refused`] gives the tree of just these parts, or the first
+//!   fault of their list with its position, or want of memory. `Tree::of_layers` [`made`, `passed`,
+//!   `refused`] does so for parts by their differences; its contract speaks of the whole workspaces
+//!   that they mean.
 //! - `Tree::sweep` [`contents`, `layers`, `counts`, `saved`] takes no memory and changes no
-//!   content; afterwards what is stored of a workspace, which `layer` shows without a copy, is
-//!   exactly what it differs in from its parent's content (`clr_layers: Differing`), and `stored`
-//!   of it is the number of cells where its base isn't as its parent's current content, and of
-//!   those that it changed, and of each savepoint as many entries are left as cells where its
-//!   content isn't as the base.
-//! - That no entry is neutral after an operation where none was before is an invariant of `Tree`
-//!   from its first sweep on, and so is a later sweep's promise given without a look at any entry.
+//!   content. Afterwards what is stored of a workspace, which `layer` shows without a copy, is
+//!   exactly what it differs in from its parent's content (`clr_layers: Differing`). Then `stored`
+//!   is the number of cells where its base isn't as its parent's current content, and of those that
+//!   it changed; and each savepoint has as many entries as there are cells where its content isn't
+//!   as the base.
+//! - No operation makes an entry neutral where none was before: this is an invariant of `Tree` from
+//!   its first sweep on. So a later sweep keeps its promise without a look at any entry.
 //!   `clr_contents::sweep_at` [`seen`, `lean`] and `clr_differences::Differences::sweep_at` take
-//!   the neutral entries at some cells away, exactly.
+//!   exactly the neutral entries at some cells away.
 #![tactic(auto)]
 
 mod builds;

@@ -1,3 +1,5 @@
+//! The operations on the workspaces of a tree, as they are stored.
+
 ghost use Rattle.std.specs.Prelude.{◌≡◌, ◌<◌, ◌++◌, [], ◌∷◌, string_bytes, false, None, Some, true, length, OnOk, OnErr, IfOk};
 ghost use Rattle.clr_rows.specs.Names.{is_good_name, live_name};
 ghost use Rattle.clr_differences.specs.Differences.{cells_in};
@@ -27,10 +29,10 @@ use clr_rows::{CellId, LIVE, Row, Sheet, Words};
 use clr_workspaces::{Keep, Rebase};
 use std::alloc::{AllocError, Global};
 
-// Each function here fails for want of memory alone, and changes no content, mark or flag then: all
-// that can fail comes first, and then contents change without memory.
+// Where a function here runs out of memory, no content, mark or flag has changed: all that can fail
+// comes first, and then contents change without memory.
 
-/// Puts rows into a current content, one after another. Neutral entries that it makes stay.
+/// Puts rows into a current content, one after another. Neutral entries that this makes stay.
 fn put_rows(
     live: &mut Sheet,
     map: &mut WorkspaceMap,
@@ -90,7 +92,7 @@ pub fn mark(live: &Sheet, map: &mut WorkspaceMap, at: usize, name: &str) -> Resu
     map.push_mark(at, StoredMark::Saved(name, differences))
 }
 
-/// The cells of two lists.
+/// Returns the cells of one list, and then those of another.
 fn join_cells(alloc: Global, first: &[CellId], others: &[CellId]) -> Result<Vec<CellId>, AllocError>
     ensures { IfOk result (λ cells. cells.items ≡ first.now ++ others.now) }
 {
@@ -100,8 +102,8 @@ fn join_cells(alloc: Global, first: &[CellId], others: &[CellId]) -> Result<Vec<
     Ok(cells)
 }
 
-/// Makes differences of a savepoint those of the current content, at the cells of both; later
-/// savepoints go. Neutral entries that it makes stay.
+/// Makes the content of a savepoint the current one, given its differences and the cells of these
+/// and of the current content. The later savepoints go. Neutral entries that this makes stay.
 fn roll_back(
     live: &Sheet,
     map: &mut WorkspaceMap,
@@ -127,7 +129,7 @@ fn roll_back(
     Ok(())
 }
 
-/// Makes the content of a savepoint the current one; later savepoints go.
+/// Makes the content of a savepoint the current one. The later savepoints go.
 pub fn roll_to(
     live: &Sheet,
     map: &mut WorkspaceMap,
@@ -152,7 +154,7 @@ pub fn roll_to(
     done
 }
 
-/// Makes the base of a leaf its current content; its savepoints go.
+/// Makes the base of a leaf its current content. Its savepoints go.
 pub fn roll_all(live: &Sheet, map: &mut WorkspaceMap, at: usize)
     requires child { 0 < at }
     requires within { at < length map.old }
@@ -165,7 +167,7 @@ pub fn roll_all(live: &Sheet, map: &mut WorkspaceMap, at: usize)
     map.roll_all(at);
 }
 
-/// Merges a workspace into its parent, by the rows that it changed. Neutral entries that it makes
+/// Merges a workspace into its parent, by the rows that it changed. Neutral entries that this makes
 /// stay.
 fn merge_rows(
     live: &mut Sheet,
@@ -231,8 +233,8 @@ fn move_mark(map: &mut WorkspaceMap, above: usize, child: Words) -> Result<(), A
     Ok(())
 }
 
-/// Refreshes a workspace from its parent, by the rows that it changed, at the cells of these and of
-/// the entries of its base and its current content. Neutral entries that it makes stay.
+/// Refreshes a workspace from its parent, by the rows that it changed, given the cells of these and
+/// of the entries of its base and its current content. Neutral entries that this makes stay.
 fn refresh_base(
     live: &Sheet,
     map: &mut WorkspaceMap,
@@ -292,7 +294,8 @@ fn refresh(
     done
 }
 
-/// Makes the base of a workspace take its parent's row over at one cell.
+/// Moves the base of a workspace to its parent's row at one cell, where the workspace keeps its own
+/// row.
 fn keep_own(
     live: &Sheet,
     map: &mut WorkspaceMap,
@@ -316,6 +319,7 @@ fn keep_own(
     Ok(())
 }
 
+/// Makes an entry at a cell of the base of each child of a workspace that has none there.
 fn pin_cell(live: &Sheet, map: &mut WorkspaceMap, at: usize, cell: CellId) -> Result<(), AllocError>
     requires within { at < length map.old }
     requires rooted { IsRooted (wholes live.now map.old) }
@@ -327,8 +331,8 @@ fn pin_cell(live: &Sheet, map: &mut WorkspaceMap, at: usize, cell: CellId) -> Re
     pin_children(live, map, at, &[cell])
 }
 
-/// Makes the base of a workspace take its parent's row over at one cell, and its current content
-/// another row.
+/// Moves the base of a workspace to its parent's row at one cell, and gives the workspace another
+/// row there.
 fn move_row(
     live: &Sheet,
     map: &mut WorkspaceMap,
@@ -354,7 +358,7 @@ fn move_row(
     Ok(())
 }
 
-/// Settles one cell of a workspace. Neutral entries that it makes stay.
+/// Resolves one cell of a workspace. Neutral entries that this makes stay.
 fn settle(
     live: &Sheet,
     map: &mut WorkspaceMap,
@@ -386,6 +390,8 @@ fn settle(
     }
 }
 
+/// Takes away every neutral entry, where each one stands at a cell in the workspace at a position
+/// or in a child of it.
 fn sweep_cell(live: &Sheet, map: &mut WorkspaceMap, at: usize, cell: CellId)
     requires within { at < length map.old }
     requires rooted { IsRooted (wholes live.now map.old) }
@@ -395,7 +401,7 @@ fn sweep_cell(live: &Sheet, map: &mut WorkspaceMap, at: usize, cell: CellId)
     sweep_at(live, map, at, &[cell]);
 }
 
-/// Settles one cell of a workspace.
+/// Resolves one cell of a workspace.
 fn resolve(
     live: &Sheet,
     map: &mut WorkspaceMap,
@@ -486,6 +492,7 @@ pub fn rebase(
     }
 }
 
+/// Puts a leaf at the end of the map, without its mark.
 fn push_leaf(map: &mut WorkspaceMap, name: String, parent: Words) -> Result<(), AllocError>
     requires { find_layer map.old (string_bytes name) ≡ None }
     ensures ok { OnOk result (map.new ≡ map.old ++ leaf (string_bytes name) parent ∷ []) }
@@ -502,7 +509,7 @@ fn push_leaf(map: &mut WorkspaceMap, name: String, parent: Words) -> Result<(), 
     map.push(name, layer)
 }
 
-/// The map of LIVE alone.
+/// Returns the map of LIVE alone.
 pub fn live_alone(alloc: Global) -> Result<WorkspaceMap, AllocError>
     ensures { IfOk result (λ map. map ≡ leaf live_name [] ∷ []) }
 {
@@ -513,7 +520,7 @@ pub fn live_alone(alloc: Global) -> Result<WorkspaceMap, AllocError>
     Ok(map)
 }
 
-/// Makes a leaf under the workspace at a position.
+/// Makes a leaf under the workspace at a position, and its mark there.
 pub fn create(
     live: &Sheet,
     map: &mut WorkspaceMap,
@@ -545,7 +552,7 @@ pub fn create(
     Ok(())
 }
 
-/// Takes a leaf away, and its mark.
+/// Takes a leaf and its mark away.
 pub fn remove(live: &Sheet, map: &mut WorkspaceMap, at: usize)
     requires child { 0 < at }
     requires within { at < length map.old }

@@ -1,3 +1,5 @@
+//! The tests of parts: names and places, and then marks.
+
 ghost use Rattle.std.specs.Prelude.{◌≡◌, ◌<◌, ◌-◌, length, None, Some, OnOk, IfOk, IfErr};
 ghost use Rattle.std.specs.List.{list_all, list_any};
 ghost use Rattle.std.specs.Str.{bytes_eq};
@@ -15,8 +17,9 @@ use clr_layers::{StoredMark, WorkspaceMap, count_marks_of, count_saved, find_sav
 use clr_rows::{Sheet, good_name};
 use clr_workspaces::{MOST_LEVELS, MOST_SAVEPOINTS, MOST_WORKSPACES};
 
-/// The position of the parent, which has the second name, of a workspace of the first name that
-/// comes after those of a map, or why it can't come.
+/// Tests whether a workspace of the first name can stand after those of a map, under the one of the
+/// second name. Returns the position of that parent. Fails with `BadName`, `NameTaken`, `NoParent`
+/// or `TooMany`, whichever applies first.
 pub fn judge_place(
     live: &Sheet,
     map: &WorkspaceMap,
@@ -54,7 +57,7 @@ fn has_savepoint(marks: &[StoredMark], name: &str) -> bool
     find_saved(marks, name).is_some()
 }
 
-/// Whether a mark has a good name that no later savepoint has, if it is a savepoint.
+/// Returns whether a mark has a good name that no later savepoint has, if it is a savepoint.
 fn has_new_name(mark: &StoredMark, later: &[StoredMark]) -> bool
     ensures { result ≡ has_new_name (bare_mark mark.now) (bare_marks later.now) }
 {
@@ -66,8 +69,8 @@ fn has_new_name(mark: &StoredMark, later: &[StoredMark]) -> bool
     }
 }
 
-/// Whether the savepoints aren't too many, and have good and different names. They are counted first:
-/// else each of a great many would be held against the others.
+/// Returns whether the savepoints aren't too many, and have good and different names. They are
+/// counted first, since each name is compared with all later ones.
 fn has_good_savepoints(marks: &[StoredMark]) -> bool
     ensures { result ≡ are_good_savepoints (saved_names (bare_marks marks.now)) }
 {
@@ -82,7 +85,7 @@ fn has_good_savepoints(marks: &[StoredMark]) -> bool
     true
 }
 
-/// Whether a mark is that of a child of the workspace of a name, if it isn't a savepoint.
+/// Returns whether a mark that isn't a savepoint is that of a child of the workspace of a name.
 fn is_childs(live: &Sheet, map: &WorkspaceMap, parent: &str, mark: &StoredMark) -> bool
     ensures { result ≡ is_childs (wholes live.now map.now) parent.now (bare_mark mark.now) }
 {
@@ -96,13 +99,15 @@ fn is_childs(live: &Sheet, map: &WorkspaceMap, parent: &str, mark: &StoredMark) 
     }
 }
 
+/// Returns whether each mark that isn't a savepoint is that of a child of the workspace of a name.
 fn are_childrens(live: &Sheet, map: &WorkspaceMap, parent: &str, marks: &[StoredMark]) -> bool
     ensures { result ≡ list_all (λ m. is_childs (wholes live.now map.now) parent.now (bare_mark m)) marks.now }
 {
     marks.iter().all(|mark| is_childs(live, map, parent, mark))
 }
 
-/// Whether the workspace at a position has one mark, if it is a child of the one of a name.
+/// Returns whether the workspace at a position has exactly one mark, if it is a child of the one of
+/// a name.
 fn is_marked_once(
     live: &Sheet,
     map: &WorkspaceMap,
@@ -117,6 +122,7 @@ fn is_marked_once(
     parent != map.parent_name(at) || count_marks_of(marks, map.name_at(at)) == 1
 }
 
+/// Returns whether each child of the workspace of a name has exactly one mark.
 fn are_marked_once(live: &Sheet, map: &WorkspaceMap, parent: &str, marks: &[StoredMark]) -> bool
     ensures { result ≡ list_all (is_marked_once parent.now (bare_marks marks.now)) (wholes live.now map.now) }
 {
@@ -128,7 +134,7 @@ fn are_marked_once(live: &Sheet, map: &WorkspaceMap, parent: &str, marks: &[Stor
     true
 }
 
-/// Whether the workspace at a position, which isn't LIVE, has good marks.
+/// Returns whether the workspace at a position, which isn't LIVE, has good marks.
 fn has_good_marks(live: &Sheet, map: &WorkspaceMap, at: usize) -> bool
     requires child { 0 < at }
     requires within { at < length map.now }
@@ -145,8 +151,8 @@ fn has_good_marks(live: &Sheet, map: &WorkspaceMap, at: usize) -> bool
     are_marked_once(live, map, name, marks)
 }
 
-/// Finds the first workspace under LIVE whose marks aren't good: fails with its position, without
-/// LIVE, and `BadMarks`.
+/// Tests whether each workspace under LIVE has good marks. Fails with `BadMarks` and the position
+/// of the first that hasn't, counted without LIVE.
 pub fn judge_marks(live: &Sheet, map: &WorkspaceMap) -> Result<(), (usize, PartFault)>
     requires { 0 < length map.now }
     ensures passed { OnOk result (first_below (marks_fault_at (wholes live.now map.now)) (length map.now - 1) ≡ None) }

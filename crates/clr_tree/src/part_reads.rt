@@ -1,3 +1,5 @@
+//! Workspaces handed out with whole contents.
+
 ghost use Rattle.std.specs.Prelude.{◌≡◌, ◌<◌, length, IfOk};
 ghost use Rattle.clr_layers.specs.Layers.{wholes, whole_mark};
 ghost use Rattle.clr_workspaces.specs.Workspaces.{workspace_at, live_workspace};
@@ -10,7 +12,7 @@ use clr_layers::{StoredMark, WorkspaceMap};
 use clr_rows::{LIVE, Sheet, Words};
 use std::alloc::{AllocError, Global};
 
-/// A mark of a workspace other than LIVE, with its content.
+/// Returns a mark of a workspace other than LIVE. A savepoint has its whole content.
 #[tactic(auto, unfolding(clr_differences::specs::Differences::seen_over))]
 fn mark_part(
     live: &Sheet,
@@ -35,6 +37,7 @@ fn mark_part(
     }
 }
 
+/// Returns the marks of a workspace other than LIVE.
 fn mark_parts(live: &Sheet, map: &WorkspaceMap, at: usize) -> Result<Vec<MarkPart>, AllocError>
     requires child { 0 < at }
     requires within { at < length map.now }
@@ -48,7 +51,7 @@ fn mark_parts(live: &Sheet, map: &WorkspaceMap, at: usize) -> Result<Vec<MarkPar
     Ok(parts)
 }
 
-/// LIVE with this content. It fails for want of memory alone.
+/// Returns LIVE with this content, as a part.
 pub fn live_part(alloc: Global, live: &Sheet) -> Result<Part, AllocError>
     ensures { IfOk result (λ part. workspace_of part ≡ live_workspace live.now) }
 {
@@ -68,7 +71,7 @@ pub fn live_part(alloc: Global, live: &Sheet) -> Result<Part, AllocError>
     })
 }
 
-/// A workspace other than LIVE, with whole contents. It fails for want of memory alone.
+/// Returns a workspace other than LIVE, with whole contents, as a part.
 pub fn part_at(live: &Sheet, map: &WorkspaceMap, at: usize) -> Result<Part, AllocError>
     requires child { 0 < at }
     requires within { at < length map.now }

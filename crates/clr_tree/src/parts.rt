@@ -1,3 +1,5 @@
+//! Parts of a tree: workspaces handed in or out with whole contents.
+
 use clr_rows::{Sheet, Words};
 
 /// A mark of a part: a savepoint with the content that it saved, or the mark of a child.
@@ -7,7 +9,7 @@ pub enum MarkPart {
     ChildMark(Words),
 }
 
-/// A workspace other than LIVE with whole contents, apart from a tree: its name and that of its
+/// A workspace other than LIVE with whole contents, outside a tree: its name and that of its
 /// parent, what it took over from its parent, what it sees now, its marks in order, and whether
 /// every rule is to hold in it.
 #[derive(Drop)]
@@ -20,7 +22,7 @@ pub struct Part {
     pub kept: bool,
 }
 
-/// Why parts make no tree; the first that applies.
+/// Why parts make no tree: the first reason that applies.
 #[derive(Clone, Copy, Debug, PartialEq, Eq)]
 pub enum PartFault {
     /// No memory was found.

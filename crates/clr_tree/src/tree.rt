@@ -1,3 +1,5 @@
+//! The tree of all workspaces.
+
 ghost use Rattle.std.specs.Prelude.{ℕ, ◌≡◌, ◌<◌, ◌↔◌, [], ◌∷◌, None, false, true, length, map, OnOk, OnErr, IfOk, IfErr, IfSome, IsSome};
 ghost use Rattle.std.specs.Option.{option_copied};
 ghost use Rattle.clr_rows.specs.Contents.{row_at, changes};
@@ -34,10 +36,10 @@ use std::alloc::{AllocError, Global};
 use std::marker::Model;
 
 /// The workspaces in order of creation, LIVE first, each with whole contents. A workspace is named
-/// by its position, which is below `len`. LIVE is stored whole; of every other workspace the base is
-/// stored by its differences from the parent's current content, and the current content and the
-/// savepoints by theirs from the base. A difference that is none comes in with the parts of a tree
-/// alone; where there is one may be told before a sweep, and after it there is none again.
+/// by its position, which is below `len`. LIVE is stored whole. Of every other workspace the base
+/// is stored by its differences from the parent's current content, and the current content and the
+/// savepoints by their differences from the base. Neutral entries, which have the row of what they
+/// lie over, come only from the parts that a tree is made of; after a sweep there are none.
 #[derive(Drop)]
 pub struct Tree {
     live: Sheet,
@@ -62,7 +64,8 @@ impl Model for Tree {
 }
 
 impl Tree {
-    /// A tree of LIVE with this content and of what is stored of all workspaces, never swept.
+    /// Returns a tree of LIVE with this content and of what is stored of all workspaces. It counts
+    /// as never swept.
     fn of_map(live: Sheet, map: WorkspaceMap) -> Tree
         requires { IsSound (wholes live map) }
         ensures { result ≡ tree_of live map }
@@ -74,7 +77,7 @@ impl Tree {
         }
     }
 
-    /// A tree of LIVE alone, with this content. It fails for want of memory alone.
+    /// Returns a tree of LIVE alone, with this content.
     pub fn new(alloc: Global, live: Sheet) -> Result<Tree, AllocError>
         ensures { IfOk result (λ tree. tree.list ≡ live_workspace live ∷ []) }
     {
@@ -82,9 +85,10 @@ impl Tree {
         Ok(Tree::of_map(live, map))
     }
 
-    /// A tree of LIVE with this content and of these parts, or the position of the first part with a
-    /// fault and which fault: `BadName`, `NameTaken`, `NoParent` or `TooMany` part by part, and only
-    /// then `BadMarks` part by part. Want of memory is `OutOfMemory`, at 0.
+    /// Returns a tree of LIVE with this content and of these parts. Fails with the position of the
+    /// first part with a fault and which fault: `BadName`, `NameTaken`, `NoParent` or `TooMany`
+    /// part by part, and only then `BadMarks` part by part. Fails with `OutOfMemory` at 0 if memory
+    /// runs out.
     pub fn build(alloc: Global, live: Sheet, parts: Vec<Part>) -> Result<Tree, (usize, PartFault)>
         ensures made { IfOk result (λ tree. tree.list ≡ list_of live parts.items) }
         ensures passed { OnOk result (first_fault live parts.items ≡ None) }
@@ -95,11 +99,11 @@ impl Tree {
         Ok(Tree::of_map(live, map))
     }
 
-    /// A tree of LIVE with this content and of these parts by their differences, each base over the
-    /// current content of its parent, or the position of the first part with a fault and which
-    /// fault: `BadName`, `NameTaken`, `NoParent` or `TooMany` part by part, and only then `BadMarks`
-    /// part by part. No content is made whole; differences that are none stay until a sweep. Want of
-    /// memory is `OutOfMemory`, at 0.
+    /// Returns a tree of LIVE with this content and of these parts by their differences, each base
+    /// over the current content of its parent. No content is made whole, and neutral entries stay
+    /// until a sweep. Fails with the position of the first part with a fault and which fault:
+    /// `BadName`, `NameTaken`, `NoParent` or `TooMany` part by part, and only then `BadMarks` part
+    /// by part. Fails with `OutOfMemory` at 0 if memory runs out.
     pub fn of_layers(
         alloc: Global,
         live: Sheet,
@@ -114,14 +118,14 @@ impl Tree {
         Ok(Tree::of_map(live, map))
     }
 
-    /// LIVE's current content.
+    /// Returns LIVE's current content.
     pub fn live(&self) -> &Sheet
         ensures { result.now ≡ (workspace_at self.now.list 0).current }
     {
         &self.live
     }
 
-    /// How many workspaces there are, with LIVE.
+    /// Returns how many workspaces there are, with LIVE.
     pub fn len(&self) -> usize
         ensures count { result ≡ length self.now.list }
         ensures sound { IsSound self.now.list }
@@ -129,7 +133,7 @@ impl Tree {
         self.map.len()
     }
 
-    /// The position of the workspace of this name, or none.
+    /// Returns the position of the workspace of this name, or none.
     pub fn find(&self, name: &str) -> Option<usize>
         ensures found { result ≡ find self.now.list name.now }
         ensures within { IfSome result (λ at. at < length self.now.list) }
@@ -138,7 +142,7 @@ impl Tree {
         self.map.find(name)
     }
 
-    /// The name of the workspace at a position.
+    /// Returns the name of the workspace at a position.
     pub fn name_at(&self, at: usize) -> &str
         requires { at < length self.now.list }
         ensures { result.now ≡ (workspace_at self.now.list at).name }
@@ -146,8 +150,8 @@ impl Tree {
         self.map.name_at(at)
     }
 
-    /// The position of the parent of the workspace at a position, which comes earlier, or none for
-    /// LIVE.
+    /// Returns the position of the parent of the workspace at a position, or none for LIVE. A
+    /// parent comes before its children.
     pub fn parent(&self, at: usize) -> Option<usize>
         requires { at < length self.now.list }
         ensures found { result ≡ position_of_parent self.now.list at }
@@ -157,7 +161,7 @@ impl Tree {
         self.map.find(self.map.parent_name(at))
     }
 
-    /// How many children the workspace at a position has.
+    /// Returns how many children the workspace at a position has.
     pub fn children(&self, at: usize) -> usize
         requires { at < length self.now.list }
         ensures { result ≡ children_of self.now.list (workspace_at self.now.list at).name }
@@ -165,7 +169,7 @@ impl Tree {
         self.map.children(self.map.name_at(at))
     }
 
-    /// How many workspaces are above the one at a position.
+    /// Returns how many workspaces are above the one at a position.
     pub fn depth(&self, at: usize) -> usize
         requires { at < length self.now.list }
         ensures { result ≡ depth_of self.now.list at }
@@ -173,7 +177,7 @@ impl Tree {
         depth_at(&self.live, &self.map, at)
     }
 
-    /// Whether every rule is to hold in the workspace at a position.
+    /// Returns whether every rule is to hold in the workspace at a position.
     pub fn kept(&self, at: usize) -> bool
         requires { at < length self.now.list }
         ensures { result ≡ (workspace_at self.now.list at).kept }
@@ -181,7 +185,7 @@ impl Tree {
         at == 0 || self.map.is_kept(at)
     }
 
-    /// What is stored of the marks of the workspace at a position. LIVE has none.
+    /// Returns what is stored of the marks of the workspace at a position. LIVE has none.
     fn stored_marks(&self, at: usize) -> &[StoredMark]
         requires { at < length self.now.list }
         ensures { let w = workspace_at self.now.list at in w.marks ≡ map (whole_mark w.base) result.now }
@@ -193,7 +197,7 @@ impl Tree {
         map.marks(at)
     }
 
-    /// How many savepoints the workspace at a position has, 0 for LIVE.
+    /// Returns how many savepoints the workspace at a position has. LIVE has none.
     pub fn saved(&self, at: usize) -> usize
         requires within { at < length self.now.list }
         ensures { result ≡ saved_count (workspace_at self.now.list at).marks }
@@ -201,8 +205,8 @@ impl Tree {
         count_saved(self.stored_marks(at))
     }
 
-    /// The position of a savepoint among the marks of the workspace at a position, or none, as for
-    /// LIVE.
+    /// Returns the position of a savepoint among the marks of the workspace at a position, or none.
+    /// LIVE has no savepoints.
     pub fn find_mark(&self, at: usize, name: &str) -> Option<usize>
         requires within { at < length self.now.list }
         ensures { result ≡ find_mark (workspace_at self.now.list at).marks name.now }
@@ -210,8 +214,8 @@ impl Tree {
         find_saved(self.stored_marks(at), name)
     }
 
-    /// Whether the mark of a child stands after a position among the marks of the workspace at a
-    /// position. There is none in LIVE, nor past the last mark.
+    /// Returns whether the mark of a child stands after a position among the marks of the workspace
+    /// at a position. It is false for LIVE, and past the last mark.
     pub fn held(&self, at: usize, mark: usize) -> bool
         requires within { at < length self.now.list }
         ensures { result ≡ is_held (workspace_at self.now.list at).marks mark }
@@ -223,7 +227,7 @@ impl Tree {
         has_child_after(marks, mark)
     }
 
-    /// The row at a cell in the current content of the workspace at a position, or none.
+    /// Returns the row at a cell in the current content of the workspace at a position, or none.
     pub fn read(&self, at: usize, cell: CellId) -> Option<&Row>
         requires { at < length self.now.list }
         ensures { option_copied result ≡ row_at (workspace_at self.now.list at).current cell }
@@ -231,8 +235,8 @@ impl Tree {
         row_of(&self.live, &self.map, at, cell)
     }
 
-    /// The row at a cell in the base of the workspace at a position, or none, as for LIVE, which has
-    /// no base.
+    /// Returns the row at a cell in the base of the workspace at a position, or none. LIVE has no
+    /// base, and so no row there.
     pub fn base(&self, at: usize, cell: CellId) -> Option<&Row>
         requires within { at < length self.now.list }
         ensures { option_copied result ≡ row_at (workspace_at self.now.list at).base cell }
@@ -244,8 +248,8 @@ impl Tree {
         base_row_of(&self.live, map, at, cell)
     }
 
-    /// How many entries are stored of the base and of the current content of the workspace at a
-    /// position, which isn't LIVE.
+    /// Returns how many entries are stored of the base and of the current content of the workspace
+    /// at a position, which isn't LIVE.
     pub fn stored(&self, at: usize) -> usize
         requires child { 0 < at }
         requires within { at < length self.now.list }
@@ -254,7 +258,7 @@ impl Tree {
         self.map.count_entries(at)
     }
 
-    /// What is stored of the workspace at a position, which isn't LIVE, not copied.
+    /// Returns what is stored of the workspace at a position, which isn't LIVE, not copied.
     pub fn layer(&self, at: usize) -> LayerView<'_>
         requires child { 0 < at }
         requires within { at < length self.now.list }
@@ -263,7 +267,7 @@ impl Tree {
         self.map.layer(at)
     }
 
-    /// The current content of the workspace at a position, seen by cell.
+    /// Returns the current content of the workspace at a position, seen by cell.
     pub fn view(&self, at: usize) -> View<'_>
         requires { at < length self.now.list }
         ensures { result ≡ (workspace_at self.now.list at).current }
@@ -271,8 +275,7 @@ impl Tree {
         View::new(&self.live, &self.map, at)
     }
 
-    /// The current content of the workspace at a position, whole. It fails for want of memory
-    /// alone.
+    /// Returns the current content of the workspace at a position, whole.
     pub fn rows(&self, at: usize) -> Result<Sheet, AllocError>
         requires { at < length self.now.list }
         ensures { IfOk result (λ sheet. sheet ≡ (workspace_at self.now.list at).current) }
@@ -280,8 +283,8 @@ impl Tree {
         whole_rows(&self.live, &self.map, at)
     }
 
-    /// The workspace at a position with whole contents; LIVE has no parent, no base and no marks. It
-    /// fails for want of memory alone.
+    /// Returns the workspace at a position with whole contents. LIVE has no parent, no base and no
+    /// marks.
     pub fn part(&self, at: usize) -> Result<Part, AllocError>
         requires within { at < length self.now.list }
         ensures { IfOk result (λ part. workspace_of part ≡ workspace_at self.now.list at) }
@@ -292,8 +295,7 @@ impl Tree {
         part_at(&self.live, &self.map, at)
     }
 
-    /// The base of the workspace at a position, whole; it has no row for LIVE. It fails for want of
-    /// memory alone.
+    /// Returns the base of the workspace at a position, whole. For LIVE it has no rows.
     pub fn base_rows(&self, at: usize) -> Result<Sheet, AllocError>
         requires within { at < length self.now.list }
         ensures { IfOk result (λ sheet. sheet ≡ (workspace_at self.now.list at).base) }
@@ -304,8 +306,7 @@ impl Tree {
         base_rows(&self.live, &self.map, at)
     }
 
-    /// The content of a savepoint of the workspace at a position, whole. It fails for want of memory
-    /// alone.
+    /// Returns the content of a savepoint of the workspace at a position, whole.
     pub fn saved_rows(&self, at: usize, mark: usize) -> Result<Sheet, AllocError>
         requires within { at < length self.now.list }
         requires saved { is_saved (mark_at (workspace_at self.now.list at).marks mark) ≡ true }
@@ -314,8 +315,7 @@ impl Tree {
         saved_rows(&self.live, &self.map, at, mark)
     }
 
-    /// What the workspace at a position, which isn't LIVE, changed. It fails for want of memory
-    /// alone.
+    /// Returns what the workspace at a position, which isn't LIVE, changed.
     pub fn changes(&self, at: usize) -> Result<ChangeSet, AllocError>
         requires child { 0 < at }
         requires within { at < length self.now.list }
@@ -324,8 +324,8 @@ impl Tree {
         changes_of(&self.live, &self.map, at)
     }
 
-    /// Makes a workspace of a new name under the one at a position, whose base and current content
-    /// are that one's. It fails for want of memory alone, and changes nothing then.
+    /// Makes a workspace of a new name under the one at a position. Its base and its current
+    /// content are that one's current content. If memory runs out, nothing changes.
     pub fn create(&mut self, name: &str, parent: usize) -> Result<(), AllocError>
         requires within { parent < length self.old.list }
         requires good { is_good_name name.now ≡ true }
@@ -338,7 +338,7 @@ impl Tree {
         create(&self.live, &mut self.map, name, parent)
     }
 
-    /// Takes the leaf at a position, which isn't LIVE, away, and its mark.
+    /// Takes the leaf at a position, which isn't LIVE, and its mark away.
     pub fn remove(&mut self, at: usize)
         requires child { 0 < at }
         requires within { at < length self.old.list }
@@ -348,8 +348,8 @@ impl Tree {
         remove(&self.live, &mut self.map, at);
     }
 
-    /// Takes changes over into the current content of the workspace at a position, all of them or
-    /// none. It fails for want of memory alone, and changes nothing then.
+    /// Takes changes over into the current content of the workspace at a position. If memory runs
+    /// out, nothing changes.
     pub fn write_all(&mut self, at: usize, changed: &ChangeSet) -> Result<(), AllocError>
         requires { at < length self.old.list }
         ensures ok { OnOk result (self.new.list ≡ after_write self.old.list at changed.now) }
@@ -360,8 +360,7 @@ impl Tree {
     }
 
     /// Puts a savepoint of a new name, with the current content, at the end of the marks of the
-    /// workspace at a position, which isn't LIVE. It fails for want of memory alone, and changes
-    /// nothing then.
+    /// workspace at a position, which isn't LIVE. If memory runs out, nothing changes.
     pub fn mark(&mut self, at: usize, name: &str) -> Result<(), AllocError>
         requires child { 0 < at }
         requires within { at < length self.old.list }
@@ -374,7 +373,7 @@ impl Tree {
         mark(&self.live, &mut self.map, at, name)
     }
 
-    /// Takes the savepoint at a position of the marks of a workspace, which isn't LIVE, away.
+    /// Takes away the savepoint at a position of the marks of a workspace, which isn't LIVE.
     pub fn unmark(&mut self, at: usize, mark: usize)
         requires child { 0 < at }
         requires within { at < length self.old.list }
@@ -384,8 +383,8 @@ impl Tree {
         self.map.drop_mark(at, mark);
     }
 
-    /// Makes the content of a savepoint of a workspace, which isn't LIVE, its current content; the
-    /// later savepoints go. It fails for want of memory alone, and changes nothing then.
+    /// Makes the content of a savepoint of a workspace, which isn't LIVE, its current content. The
+    /// later savepoints go. If memory runs out, nothing changes.
     pub fn roll_to(&mut self, at: usize, mark: usize) -> Result<(), AllocError>
         requires child { 0 < at }
         requires within { at < length self.old.list }
@@ -397,7 +396,7 @@ impl Tree {
         roll_to(&self.live, &mut self.map, at, mark)
     }
 
-    /// Makes the base of a leaf, which isn't LIVE, its current content; its savepoints go.
+    /// Makes the base of a leaf, which isn't LIVE, its current content. Its savepoints go.
     pub fn roll_all(&mut self, at: usize)
         requires child { 0 < at }
         requires within { at < length self.old.list }
@@ -407,8 +406,8 @@ impl Tree {
         roll_all(&self.live, &mut self.map, at);
     }
 
-    /// Merges the workspace at a position, which isn't LIVE, into its parent, by its changes, as
-    /// `changes` gives them. It fails for want of memory alone, and changes nothing then.
+    /// Merges the workspace at a position, which isn't LIVE, into its parent. The changes given are
+    /// those that `changes` gives of it. If memory runs out, nothing changes.
     pub fn merge_changes(&mut self, at: usize, changed: &ChangeSet) -> Result<(), AllocError>
         requires child { 0 < at }
         requires within { at < length self.old.list }
@@ -419,8 +418,8 @@ impl Tree {
         merge_changes(&mut self.live, &mut self.map, at, changed)
     }
 
-    /// Refreshes the workspace at a position, which isn't LIVE, from its parent, by its changes, as
-    /// `changes` gives them. It fails for want of memory alone, and changes nothing then.
+    /// Refreshes the workspace at a position, which isn't LIVE, from its parent. The changes given
+    /// are those that `changes` gives of it. If memory runs out, nothing changes.
     pub fn refresh_changes(&mut self, at: usize, changed: &ChangeSet) -> Result<(), AllocError>
         requires child { 0 < at }
         requires within { at < length self.old.list }
@@ -431,8 +430,8 @@ impl Tree {
         refresh_changes(&self.live, &mut self.map, at, changed)
     }
 
-    /// Moves the base of the workspace at a position, which isn't LIVE. It fails for want of
-    /// memory alone, and changes nothing then.
+    /// Moves the base of the workspace at a position, which isn't LIVE. If memory runs out, nothing
+    /// changes.
     pub fn rebase(&mut self, at: usize, how: Rebase) -> Result<(), AllocError>
         requires child { 0 < at }
         requires within { at < length self.old.list }
@@ -442,7 +441,8 @@ impl Tree {
         rebase(&mut self.live, &mut self.map, at, how)
     }
 
-    /// From now on every rule is to hold in the workspace at a position, which isn't LIVE.
+    /// Says that from now on every rule is to hold in the workspace at a position, which isn't
+    /// LIVE.
     pub fn hold(&mut self, at: usize)
         requires child { 0 < at }
         requires within { at < length self.old.list }
@@ -451,7 +451,7 @@ impl Tree {
         self.map.set_kept(at, true);
     }
 
-    /// From now on no rule need hold in the workspace at a position, which isn't LIVE.
+    /// Says that from now on no rule need hold in the workspace at a position, which isn't LIVE.
     pub fn release(&mut self, at: usize)
         requires child { 0 < at }
         requires within { at < length self.old.list }
@@ -460,11 +460,9 @@ impl Tree {
         self.map.set_kept(at, false);
     }
 
-    /// Takes away every entry of a base, a current content or a savepoint that has the row of what
-    /// it lies over, without memory. No content changes. Then a base has an entry at just the cells
-    /// at which it isn't as the parent's current content, and a current content and a savepoint at
-    /// just those at which they aren't as the base: what is stored of a workspace is exactly what it
-    /// differs in from its parent's current content, and its current content and savepoints from its base.
+    /// Takes away every neutral entry, without memory. No content changes. Afterwards a base has an
+    /// entry at exactly the cells where it isn't as the parent's current content, and a current
+    /// content and a savepoint at exactly the cells where they aren't as the base.
     pub fn sweep(&mut self)
         ensures contents { self.new.list ≡ self.old.list }
         ensures layers { (at : ℕ) → 0 < at → at < length self.new.list → layer_at self.new.layers at ≡ needed_layer self.new.list at }

@@ -19,7 +19,7 @@ abbrev pub second_text : List TableDef → Option VersionId → ℕ → List ℕ
 second_text tables None part = []
 second_text tables (Some v) part = codes " " ++ subject_text tables v part
 
--- a need is written as `rule 1 main/20/old/3 main/21/new`
+-- a need, as `rule 1 main/20/old/3 main/21/new`
 abbrev pub need_text : List TableDef → Need → List ℕ
 need_text tables need =
     codes "rule " ++ decimal need.rule ++ codes " " ++ subject_text tables need.first need.first_part ++ second_text tables need.second need.second_part

@@ -1,6 +1,6 @@
-//! The line of a verdict on members of a certificate or of a plan.
+//! The line of a verdict on the members of a certificate or of a plan.
 //!
-//! - `verdict_line`: exactly the bytes, with names of members and cells, memory aside.
+//! - `verdict_line` gives exactly its bytes, with the names of members and cells, memory aside.
 #![tactic(auto)]
 
 mod needs;

@@ -1,3 +1,5 @@
+//! Needs, as they are written in lines.
+
 ghost use Rattle.std.specs.Prelude.{◌≡◌, ◌++◌, decimal, OnOk};
 ghost use Rattle.clr_rows.specs.Beginnings.{IsBegun};
 ghost use Rattle.clr_verdict_lines.specs.Verdicts.{need_text, second_text};
@@ -8,6 +10,7 @@ use clr_rows::Schema;
 use itoa::Buffer;
 use std::alloc::AllocError;
 
+/// Adds the second subject of a need, if it has one.
 fn add_second(
     line: &mut Vec<u8>,
     schema: &Schema,
@@ -26,9 +29,9 @@ fn add_second(
     }
 }
 
-/// Adds a need, as `rule 1 main/20/old/3 main/21/new`: the number of the rule and its subjects, each
-/// with its part where that isn't 1. It fails for want of memory alone; then what stood in the line
-/// stands there, with a beginning of the need behind it.
+/// Adds a need, as `rule 1 main/20/old/3 main/21/new`: the number of the rule and its subjects,
+/// each with its part where that isn't 1. If memory runs out, the line keeps what stood in it, with
+/// a beginning of the need behind it.
 pub(crate) fn add_need(line: &mut Vec<u8>, schema: &Schema, need: &Need) -> Result<(), AllocError>
     ensures ok { OnOk result (line.new.items ≡ line.old.items ++ need_text schema.now need.now) }
     ensures begun { IsBegun line.old.items (need_text schema.now need.now) line.new.items }

@@ -1,3 +1,5 @@
+//! The lines of verdicts.
+
 ghost use Rattle.std.specs.Prelude.{◌≡◌, ◌++◌, codes, map, IfOk};
 ghost use Rattle.clr_lines.specs.Pieces.{cell_text};
 ghost use Rattle.clr_verdict_lines.specs.Verdicts.{conflict_text, member_name as name_of_member, name_text, shared_text, uncovered_text, verdict_text};
@@ -9,7 +11,7 @@ use clr_needs::Need;
 use clr_rows::{CellId, Schema};
 use std::alloc::{AllocError, Global};
 
-/// The name of the member at a position, or no bytes past the end.
+/// Returns the name of the member at a position, or no bytes past the end.
 pub fn member_name<'a>(members: &'a [&'a str], at: usize) -> &'a str
     ensures { result.now ≡ name_of_member (map (λ name. name.now) members.entry.now) at }
 {
@@ -19,7 +21,7 @@ pub fn member_name<'a>(members: &'a [&'a str], at: usize) -> &'a str
     }
 }
 
-/// A line that ends with a name.
+/// Returns a line that ends with a name.
 fn name_line(alloc: Global, front: &str, name: &str) -> Result<Vec<u8>, AllocError>
     ensures { IfOk result (λ line. line.items ≡ name_text front.now name.now) }
 {
@@ -29,6 +31,7 @@ fn name_line(alloc: Global, front: &str, name: &str) -> Result<Vec<u8>, AllocErr
     Ok(line)
 }
 
+/// Returns the line of a member in conflict.
 fn conflict_line(
     alloc: Global,
     schema: &Schema,
@@ -48,6 +51,7 @@ fn conflict_line(
     Ok(line)
 }
 
+/// Returns the line of a cell that two members change.
 fn shared_line(
     alloc: Global,
     schema: &Schema,
@@ -67,6 +71,7 @@ fn shared_line(
     Ok(line)
 }
 
+/// Returns the line of a need that no entry covers.
 fn uncovered_line(alloc: Global, schema: &Schema, need: &Need) -> Result<Vec<u8>, AllocError>
     ensures { IfOk result (λ line. line.items ≡ uncovered_text schema.now need.now) }
 {
@@ -76,12 +81,12 @@ fn uncovered_line(alloc: Global, schema: &Schema, need: &Need) -> Result<Vec<u8>
     Ok(line)
 }
 
-/// The line of a verdict on members of a root, ended by `\n`: `clear`, or the number and the name of
-/// what it says with its details, which are the name of the member or of the root; the member, the
-/// least cell in conflict, as `main/20`, and how many there are; the shared cell and the members that
-/// change it; or the need that no entry covers, as `rule 1 main/20/old/3 main/21/new`. A position
-/// past the members, and a table that the schema hasn't, have no bytes for a name. It fails for want
-/// of memory alone.
+/// Returns the line of a verdict on members of a root, ended by `\n`. The line is `clear`, or the
+/// number and the name of the verdict with its details: the name of the member or of the root; the
+/// member, the least cell in conflict, as `main/20`, and how many there are; the shared cell and
+/// the members that change it; or the need that no entry covers, as `rule 1 main/20/old/3
+/// main/21/new`. A position past the members, and a table that the schema hasn't, have an empty
+/// name.
 pub fn verdict_line(
     alloc: Global,
     schema: &Schema,

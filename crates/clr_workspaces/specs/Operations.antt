@@ -24,7 +24,7 @@ with_current content w = record w { current = content }
 abbrev pub with_kept : Bool → Workspace → Workspace
 with_kept kept w = record w { kept = kept }
 
--- the mark of a child at the end
+-- marks with the mark of a child at the end
 abbrev pub with_mark_of : Name → List Mark → List Mark
 with_mark_of child marks = marks ++ ChildMark child ∷ []
 
@@ -85,7 +85,7 @@ under_parent ws at f = at_position ws (parent_of ws at) f
 abbrev pub after_create : List Workspace → Name → ℕ → List Workspace
 after_create ws name at = let above = workspace_at ws at in change_marks ws at (with_mark_of name) ++ new_leaf name above.name above.current ∷ []
 
--- the workspace at a position goes, and its mark; its parent stands earlier, so its position stays
+-- the workspace at a position goes, and its mark; its parent stands earlier, and keeps its position
 abbrev pub after_remove_under : List Workspace → ℕ → ℕ → List Workspace
 after_remove_under ws at above = change_at (without_at ws at) above (with_marks (without_mark_of (workspace_at ws at).name))
 

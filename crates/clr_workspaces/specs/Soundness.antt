@@ -1,4 +1,4 @@
--- What is so of the workspaces of every tree.
+-- What holds of the workspaces of every tree.
 use Rattle.std.specs.Prelude.{◌≡◌, ℕ, ◌<◌, ◌≤◌, Bool, true, ◌&&◌, List, [], length, nat_le}
 use Rattle.std.specs.List.{list_all}
 use Rattle.clr_rows.specs.Contents.{no_rows}
@@ -13,7 +13,7 @@ use Rattle.clr_workspaces.specs.declared.limits.TheConstants.{MOST_WORKSPACES, M
 abbrev pub are_good_savepoints : List Name → Bool
 are_good_savepoints names = list_all is_good_name names && are_distinct names && nat_le (length names) MOST_SAVEPOINTS
 
--- the child marks are the children, each once: a name stands among the marks as often as among the children
+-- the child marks are the children, each once: a name stands as often among the marks as among the children
 abbrev pub HasChildMarks : List Workspace → Workspace → Type 0
 HasChildMarks ws w = (name : Name) → mark_count w.marks name ≡ child_count ws w.name name
 

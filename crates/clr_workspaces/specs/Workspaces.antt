@@ -49,7 +49,7 @@ children_of ws name = count_by (λ w. bytes_eq name w.parent) ws
 abbrev pub is_child_named : Name → Name → Workspace → Bool
 is_child_named parent name w = bytes_eq parent w.parent && bytes_eq name w.name
 
--- how many of them have this name
+-- how many children of a workspace have this name
 abbrev pub child_count : List Workspace → Name → Name → ℕ
 child_count ws parent name = count_by (is_child_named parent name) ws
 

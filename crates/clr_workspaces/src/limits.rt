@@ -1,8 +1,10 @@
-/// At most this many workspaces, LIVE counted.
+//! The limits of workspaces, of their levels and of their savepoints.
+
+/// The most workspaces, LIVE included.
 pub const MOST_WORKSPACES: usize = 256;
 
-/// At most this many workspaces are above one.
+/// The most workspaces that may be above one.
 pub const MOST_LEVELS: usize = 8;
 
-/// At most this many savepoints in a workspace.
+/// The most savepoints of a workspace.
 pub const MOST_SAVEPOINTS: usize = 64;

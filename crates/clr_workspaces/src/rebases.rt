@@ -1,13 +1,15 @@
+//! The ways in which the base of a workspace moves.
+
 use clr_rows::CellId;
 
 /// Whose row a workspace has at a cell from now on.
 #[derive(Clone, Copy, Debug, PartialEq, Eq)]
 pub enum Keep {
-    /// The parent's.
+    /// The parent's row.
     Parent,
-    /// Its own.
+    /// Its own row.
     Child,
-    /// That of its old base.
+    /// The row of its old base.
     Base,
 }
 

@@ -1,3 +1,5 @@
+//! The tests that a row must pass to stand at a cell of a table.
+
 ghost use Rattle.std.specs.Prelude.{◌≡◌, ◌&&◌, List, nat_le, length};
 ghost use Rattle.std.specs.List.{list_all, list_any};
 ghost use Rattle.clr_rows.specs.Parts.{path_parts};
@@ -16,7 +18,7 @@ use crate::rows::{Row, Value};
 use crate::tables::{Form, Kind, TableDef};
 use crate::texts::Words;
 
-/// Whether a primary key is one that a row may have.
+/// Returns whether a primary key is one that a row may have.
 pub(super) fn is_key(key: i64) -> bool
     ensures { result ≡ is_key key }
 {
@@ -46,20 +48,21 @@ fn has_coordinates(shape: &Shape) -> bool
     }
 }
 
-/// Whether a key and the coordinates of a shape are in range.
+/// Returns whether a key and the coordinates of a shape are in range.
 fn is_within(key: i64, shape: &Shape) -> bool
     ensures { result ≡ (is_key key && has_coordinates shape.now) }
 {
     is_key(key) && has_coordinates(shape)
 }
 
+/// Returns whether two places are one.
 fn are_one(first: &Place, second: &Place) -> bool
     ensures { result ≡ same_place first.now second.now }
 {
     first.x == second.x && first.y == second.y
 }
 
-/// Whether two neighbours are one place.
+/// Returns whether a vertex equals the next one.
 fn have_repeat(vertices: &[Place]) -> bool
     ensures { result ≡ list_any (λ part. same_place part.0 part.1) (path_parts vertices.now) }
 {
@@ -69,6 +72,7 @@ fn have_repeat(vertices: &[Place]) -> bool
         .any(|(first, second)| are_one(first, second))
 }
 
+/// Returns whether a part of the shape ends where it begins.
 fn has_zero_part(shape: &Shape) -> bool
     ensures { result ≡ has_zero_part shape.now }
 {
@@ -80,6 +84,7 @@ fn has_zero_part(shape: &Shape) -> bool
     }
 }
 
+/// Returns whether the shape is a path of too few or too many vertices.
 fn is_bad_path(shape: &Shape) -> bool
     ensures { result ≡ is_bad_path shape.now }
 {
@@ -123,6 +128,7 @@ fn are_of_kinds(columns: &[(Words, Kind)], values: &[Value]) -> bool
         .all(|(column, value)| is_of_kind(column.1, value))
 }
 
+/// Returns whether a value is no text of more than 200 bytes.
 fn is_short(value: &Value) -> bool
     ensures { result ≡ is_short value.now }
 {
@@ -138,7 +144,8 @@ fn are_short(values: &[Value]) -> bool
     values.iter().all(is_short)
 }
 
-/// Whether a row can stand at a cell of this table, or the first test that it fails.
+/// Tests whether a row can stand at a cell of this table. Fails with the fault of the first test
+/// that the row doesn't pass.
 pub(super) fn check_row(table: &TableDef, cell: CellId, row: &Row) -> Result<(), RowFault>
     ensures { Answers result (fault_in table.now cell row.now) }
 {

@@ -1,3 +1,5 @@
+//! The tests that tables must pass to make a schema.
+
 ghost use Rattle.std.specs.Prelude.{◌≡◌, ◌&&◌, length, map, nat_le};
 ghost use Rattle.std.specs.List.{list_all, list_any};
 ghost use Rattle.std.specs.Str.{bytes_eq};
@@ -9,18 +11,21 @@ use crate::names::good_name;
 use crate::tables::{Kind, TableDef};
 use crate::texts::Words;
 
+/// Returns whether a table has at most 16 columns.
 fn has_room(table: &TableDef) -> bool
     ensures { result ≡ has_room table.now }
 {
     table.columns.as_slice().len() <= MOST_COLUMNS
 }
 
+/// Returns whether each table has at most 16 columns.
 fn have_room(tables: &[TableDef]) -> bool
     ensures { result ≡ list_all has_room tables.now }
 {
     tables.iter().all(has_room)
 }
 
+/// Returns whether there are at most 32 tables, each of at most 16 columns.
 fn are_few(tables: &[TableDef]) -> bool
     ensures { result ≡ (nat_le (length tables.now) MOST_TABLES && list_all has_room tables.now) }
 {
@@ -41,12 +46,14 @@ fn have_good_names(columns: &[(Words, Kind)]) -> bool
         .all(|column| is_column_name(column.0.as_str()))
 }
 
+/// Returns whether the names of a table and of its columns are good.
 fn has_good_names(table: &TableDef) -> bool
     ensures { result ≡ has_good_names table.now }
 {
     good_name(table.name.as_str()) && have_good_names(table.columns.as_slice())
 }
 
+/// Returns whether all names of tables and columns are good.
 fn are_well_named(tables: &[TableDef]) -> bool
     ensures { result ≡ list_all has_good_names tables.now }
 {
@@ -94,14 +101,15 @@ fn have_distinct_columns(tables: &[TableDef]) -> bool
     tables.iter().all(has_distinct_columns)
 }
 
+/// Returns whether no table's name stands twice, nor a column's in one table.
 fn are_distinctly_named(tables: &[TableDef]) -> bool
     ensures { result ≡ (are_distinct (map (λ t. t.name) tables.now) && list_all has_distinct_columns tables.now) }
 {
     have_distinct_names(tables) && have_distinct_columns(tables)
 }
 
-/// Whether these tables make a schema, or the first test that they fail, each made over all
-/// tables before the next.
+/// Tests whether these tables make a schema. Each test is made over all tables before the next.
+/// Fails with the fault of the first test that they don't pass.
 #[tactic(auto, unfolding(crate::specs::Schemas::schema_fault))]
 pub(super) fn check_tables(tables: &[TableDef]) -> Result<(), SchemaFault>
     ensures { Answers result (schema_fault tables.now) }

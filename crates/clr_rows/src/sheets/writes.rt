@@ -1,4 +1,4 @@
-//! Writing many rows at once, all of them or nothing, at a cost by the rows that are written.
+//! Writing many rows at once, all of them or none, at a cost that depends on how many are written.
 
 ghost use Rattle.std.specs.Prelude.{◌≡◌, true, is_some, IfOk, OnOk, OnErr};
 ghost use Rattle.std.specs.FinMap as finite;
@@ -12,8 +12,8 @@ use crate::rows::{Row, Values};
 use crate::sheets::Sheet;
 use std::alloc::{AllocError, Global};
 
-/// Puts rows, or none, over the content of a sheet at some cells, one after another, all of them or
-/// nothing.
+/// Puts rows, or none, over the content of a sheet at some cells, one after another. If memory runs
+/// out, nothing changes.
 pub(super) fn write_all(
     sheet: &mut Sheet,
     cells: Vec<(CellId, Option<Row>)>,
@@ -27,8 +27,9 @@ pub(super) fn write_all(
     Ok(())
 }
 
-/// Does all of a write that takes memory: it gives the rows that are given last, and those of the
-/// cells that are given none last, and puts a placeholder at each cell that has none.
+/// Does all of a write that takes memory. Returns the last row that is given for each cell, and the
+/// cells for which none is given last, and puts a placeholder at each cell that has no row. If
+/// memory runs out, nothing changes.
 fn prepare(
     sheet: &mut Sheet,
     cells: Vec<(CellId, Option<Row>)>,
@@ -47,7 +48,7 @@ fn prepare(
     Ok((last, cleared))
 }
 
-/// The cells of a list.
+/// Returns the cells of a list.
 fn list_cells(alloc: Global, cells: &[(CellId, Option<Row>)]) -> Result<Vec<CellId>, AllocError>
     ensures { IfOk result (λ list. list.items ≡ named_cells cells.now) }
 {
@@ -58,7 +59,7 @@ fn list_cells(alloc: Global, cells: &[(CellId, Option<Row>)]) -> Result<Vec<Cell
     Ok(list)
 }
 
-/// The rows that stand once these are put, one after another, over no rows.
+/// Returns the rows that stand once these are put over no rows, one after another.
 #[tactic(auto, unfolding(crate::specs::Contents::over))]
 fn last_rows(alloc: Global, cells: Vec<(CellId, Option<Row>)>) -> Result<Sheet, AllocError>
     ensures { IfOk result (λ sheet. sheet ≡ over no_rows cells.items) }
@@ -70,7 +71,7 @@ fn last_rows(alloc: Global, cells: Vec<(CellId, Option<Row>)>) -> Result<Sheet, 
     Ok(sheet)
 }
 
-/// Sets a cell to a row, or to none. It fails for want of memory alone, and changes nothing then.
+/// Sets a cell to a row, or to none. If memory runs out, nothing changes.
 fn set(sheet: &mut Sheet, cell: CellId, row: Option<Row>) -> Result<(), AllocError>
     ensures ok { OnOk result (sheet.new ≡ set_cell sheet.old cell row) }
     ensures err { OnErr result (sheet.new ≡ sheet.old) }
@@ -86,7 +87,7 @@ fn set(sheet: &mut Sheet, cell: CellId, row: Option<Row>) -> Result<(), AllocErr
     Ok(())
 }
 
-/// Those of these cells that have no row.
+/// Returns those of some cells that have no row.
 fn list_missing(alloc: Global, sheet: &Sheet, cells: &[CellId]) -> Result<Vec<CellId>, AllocError>
     ensures { IfOk result (λ list. list.items ≡ missing sheet.now cells.now) }
 {
@@ -99,7 +100,8 @@ fn list_missing(alloc: Global, sheet: &Sheet, cells: &[CellId]) -> Result<Vec<Ce
     Ok(list)
 }
 
-/// Puts a placeholder at each of these cells, or takes their rows away and fails for want of memory.
+/// Puts a placeholder at each of these cells. If memory runs out, it takes all rows at these cells
+/// away.
 fn make_room(alloc: Global, sheet: &mut Sheet, cells: &[CellId]) -> Result<(), AllocError>
     ensures ok { OnOk result (sheet.new ≡ over sheet.old (with_placeholders cells.now)) }
     ensures err { OnErr result (sheet.new ≡ over sheet.old (with_none cells.now)) }
@@ -126,7 +128,7 @@ fn take_all(sheet: &mut Sheet, cells: &[CellId])
     }
 }
 
-/// Puts a row at a cell that has one, which takes no memory.
+/// Puts a row at a cell that has one. No memory is needed.
 fn replace(sheet: &mut Sheet, cell: CellId, row: Row)
     requires { is_some (row_at sheet.old cell) ≡ true }
     ensures { sheet.new ≡ finite.insert sheet.old cell row }
@@ -134,7 +136,7 @@ fn replace(sheet: &mut Sheet, cell: CellId, row: Row)
     let _before = sheet.put(cell, row);
 }
 
-/// Moves rows to their cells, which all have one.
+/// Moves rows to their cells, each of which has a row.
 fn move_rows(sheet: &mut Sheet, rows: Sheet)
     requires { (cell : Cell) → is_some (row_at rows cell) ≡ true → is_some (row_at sheet.old cell) ≡ true }
     ensures { sheet.new ≡ over sheet.old (with_rows (finite.entries rows)) }

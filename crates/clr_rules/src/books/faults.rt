@@ -1,4 +1,6 @@
-/// Why rules make no book. Of each rule the first that applies is answered.
+//! Why rules make no book.
+
+/// Why rules make no book: the first reason that applies to the first rule that fails a test.
 #[derive(Clone, Copy, Debug, PartialEq, Eq)]
 pub enum RuleFault {
     /// The table of a side isn't in the schema.
@@ -7,7 +9,7 @@ pub enum RuleFault {
     /// a `Unique`.
     NoColumn = 2,
     /// The columns of a `Partner` and those of its server differ in number or kinds. A primary key
-    /// is a whole number.
+    /// counts as a whole number.
     KindsDiffer = 3,
     /// The table of a side hasn't the shape that the rule asks for.
     WrongShape = 4,

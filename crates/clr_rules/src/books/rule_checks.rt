@@ -1,3 +1,5 @@
+//! The tests that rules must pass to stand over a schema.
+
 ghost use Rattle.std.specs.Prelude.{◌≡◌, ◌≤◌, not, length};
 ghost use Rattle.std.specs.List.{list_all, zip};
 ghost use Rattle.clr_rows.specs.Schemas.{Answers};
@@ -20,6 +22,7 @@ fn has_table(schema: &Schema, side: &Side) -> bool
     schema.def(side.table).is_some()
 }
 
+/// Returns whether the schema has the table of each side of a rule.
 fn has_tables(schema: &Schema, rule: &Rule) -> bool
     ensures { result ≡ has_tables schema.now rule.now }
 {
@@ -42,7 +45,7 @@ fn has_tables(schema: &Schema, rule: &Rule) -> bool
     }
 }
 
-/// The kind of a column of a table, or none where there is no such column.
+/// Returns the kind of a column of a table, or none where there is no such column.
 fn kind_of(schema: &Schema, table: u16, column: Col) -> Option<Kind>
     ensures { result ≡ kind_of schema.now table column }
 {
@@ -95,6 +98,8 @@ fn have_no_primary_key(columns: &ColumnList) -> bool
         .all(|column| !is_primary_key(*column))
 }
 
+/// Returns whether each list of columns of a rule isn't empty and has columns of its side's table
+/// alone, and whether a `Unique` names no primary key.
 fn has_columns(schema: &Schema, rule: &Rule) -> bool
     ensures { result ≡ has_columns schema.now rule.now }
 {
@@ -125,7 +130,8 @@ fn same_kind(one: Option<Kind>, other: Option<Kind>) -> bool
     }
 }
 
-/// Whether each column of the subject is of the same kind as the server's in its place.
+/// Returns whether each column of the subject is of the same kind as the server's at the same
+/// position.
 fn are_of_same_kinds(
     schema: &Schema,
     subject: &Side,
@@ -144,6 +150,7 @@ fn are_of_same_kinds(
     })
 }
 
+/// Returns whether the two lists of a `Partner` have the same length and the same kinds.
 fn has_same_kinds(schema: &Schema, rule: &Rule) -> bool
     ensures { result ≡ has_same_kinds schema.now rule.now }
 {
@@ -199,6 +206,7 @@ fn has_lines(schema: &Schema, side: &Side) -> bool
     }
 }
 
+/// Returns whether each side of a rule has the shape that the rule asks for.
 fn has_forms(schema: &Schema, rule: &Rule) -> bool
     ensures { result ≡ has_forms schema.now rule.now }
 {
@@ -231,8 +239,8 @@ fn has_distance(rule: &Rule) -> bool
     }
 }
 
-/// Whether a value is of the kind of a column that is there. Reading a number shows that it is
-/// within 64 bits.
+/// Returns whether there is a column of this kind and a value is of it. Reading a number shows that
+/// it is within 64 bits.
 fn is_literal_of(kind: Option<Kind>, value: &Value) -> bool
     ensures { result ≡ is_literal_of kind value.now }
 {
@@ -246,6 +254,7 @@ fn is_literal_of(kind: Option<Kind>, value: &Value) -> bool
     }
 }
 
+/// Returns whether each literal of a side's filter is of its column's kind.
 fn has_filter(schema: &Schema, side: &Side) -> bool
     ensures { result ≡ has_filter schema.now side.now }
 {
@@ -255,6 +264,7 @@ fn has_filter(schema: &Schema, side: &Side) -> bool
     ))
 }
 
+/// Returns whether each literal of a rule's filters is of its column's kind.
 fn has_filters(schema: &Schema, rule: &Rule) -> bool
     ensures { result ≡ has_filters schema.now rule.now }
 {
@@ -277,7 +287,8 @@ fn has_filters(schema: &Schema, rule: &Rule) -> bool
     }
 }
 
-/// Whether a rule can stand over the schema, or the first test that it fails.
+/// Tests whether a rule can stand over the schema. Fails with the fault of the first test that it
+/// doesn't pass.
 #[tactic(auto, unfolding(crate::specs::Books::rule_fault))]
 fn check_rule(schema: &Schema, rule: &Rule) -> Result<(), RuleFault>
     ensures { Answers result (rule_fault schema.now rule.now) }
@@ -299,8 +310,8 @@ fn check_rule(schema: &Schema, rule: &Rule) -> Result<(), RuleFault>
     }
 }
 
-/// Whether each of at most 64 rules can stand over the schema, or the number of the first that
-/// can't with its fault.
+/// Tests whether each of at most 64 rules can stand over the schema. Fails with the number of the
+/// first that can't, and with its fault.
 pub(super) fn check_rules(schema: &Schema, rules: &[Rule]) -> Result<(), (u16, RuleFault)>
     requires { length rules.now ≤ MOST_RULES }
     ensures { Answers result (first_fault schema.now 0 rules.now) }

@@ -1,3 +1,5 @@
+//! Tests of common points of segments that may not be there.
+
 ghost use Rattle.std.specs.Prelude.{◌≡◌, ◌&&◌, IfSome};
 ghost use Rattle.clr_segments.specs.Searches.{lies_on, have_common_point, have_two_common_points};
 ghost use Rattle.clr_rows.specs.Places.{InRange};
@@ -7,7 +9,7 @@ ghost use Rattle.clr_rules.specs.Fitting.{IsSoundSegment};
 use clr_rows::Place;
 use clr_segments::{Meet, lies_on, meet};
 
-/// Whether two segments have a common point.
+/// Returns whether two segments have a common point.
 fn have_common_point(one: (Place, Place), other: (Place, Place)) -> bool
     requires one { IsSoundSegment one }
     requires other { IsSoundSegment other }
@@ -19,7 +21,7 @@ fn have_common_point(one: (Place, Place), other: (Place, Place)) -> bool
     }
 }
 
-/// Whether two segments have more than one common point.
+/// Returns whether two segments have more than one common point.
 fn overlap(one: (Place, Place), other: (Place, Place)) -> bool
     requires one { IsSoundSegment one }
     requires other { IsSoundSegment other }
@@ -31,7 +33,7 @@ fn overlap(one: (Place, Place), other: (Place, Place)) -> bool
     }
 }
 
-/// Whether a place is a point of a segment.
+/// Returns whether a place is a point of a segment.
 fn is_on(place: Place, segment: (Place, Place)) -> bool
     requires place { InRange place }
     requires segment { IsSoundSegment segment }
@@ -40,7 +42,7 @@ fn is_on(place: Place, segment: (Place, Place)) -> bool
     lies_on(place, segment.0, segment.1)
 }
 
-/// Whether a place is a point of two segments.
+/// Returns whether a place is a point of two segments.
 fn is_on_both(place: Place, one: (Place, Place), other: (Place, Place)) -> bool
     requires place { InRange place }
     requires one { IsSoundSegment one }
@@ -50,7 +52,7 @@ fn is_on_both(place: Place, one: (Place, Place), other: (Place, Place)) -> bool
     is_on(place, one) && is_on(place, other)
 }
 
-/// Whether both segments are there and have a common point.
+/// Returns whether both segments are there and have a common point.
 pub(super) fn have_meeting(one: Option<(Place, Place)>, other: Option<(Place, Place)>) -> bool
     requires one { IfSome one IsSoundSegment }
     requires other { IfSome other IsSoundSegment }
@@ -62,7 +64,7 @@ pub(super) fn have_meeting(one: Option<(Place, Place)>, other: Option<(Place, Pl
     }
 }
 
-/// Whether a place is a point of two segments that are there and don't overlap.
+/// Returns whether a place is a point of two segments that are there and don't overlap.
 pub(super) fn is_crossing_at(
     one: Option<(Place, Place)>,
     other: Option<(Place, Place)>,

@@ -1,3 +1,5 @@
+//! Which rows serve the subjects of a rule.
+
 ghost use Rattle.std.specs.Prelude.{◌≡◌, ◌&&◌, true, Some, None};
 ghost use Rattle.clr_rows.specs.Held.{held_of};
 ghost use Rattle.clr_rows.specs.Parts.{part_of};
@@ -15,7 +17,7 @@ use crate::sides::{Side, are_equal_in, is_of_side};
 use clr_rows::{Held, Place};
 use clr_segments::part;
 
-/// Whether both places are there and the same.
+/// Returns whether both places are there and the same.
 #[tactic(auto, using(crate::proofs::FieldLemmas::place_told))]
 fn are_one_point(p: Option<Place>, q: Option<Place>) -> bool
     ensures { result ≡ are_one_point p q }
@@ -26,7 +28,7 @@ fn are_one_point(p: Option<Place>, q: Option<Place>) -> bool
     }
 }
 
-/// Whether a row of a side has in its columns what the first row has in others.
+/// Returns whether a row of a side has in its columns what the first row has in others.
 fn is_partner(
     first: Held,
     columns: &ColumnList,
@@ -39,7 +41,7 @@ fn is_partner(
     is_of_side(side, server) && are_equal_in(first, columns.as_slice(), server, others.as_slice())
 }
 
-/// Whether a row of a side is a point at an end of the first row.
+/// Returns whether a row of a side is a point at an end of the first row.
 fn is_end_node(first: Held, tip: Tip, side: &Side, server: Held) -> bool
     requires first { has_coordinates first.row.now.shape ≡ true }
     requires server { has_coordinates server.row.now.shape ≡ true }
@@ -49,7 +51,7 @@ fn is_end_node(first: Held, tip: Tip, side: &Side, server: Held) -> bool
         && are_one_point(end_in(tip, &first.row.shape), point_in(&server.row.shape))
 }
 
-/// Whether a row is a point of the parts of an ask, which are there and don't overlap.
+/// Returns whether a row is a point of the parts of an ask, which are there and don't overlap.
 fn is_at_crossing(ask: Ask, first: Held, second: Held, server: Held) -> bool
     requires first { IsSound first.row.now.shape }
     requires second { IsSound second.row.now.shape }
@@ -64,7 +66,7 @@ fn is_at_crossing(ask: Ask, first: Held, second: Held, server: Held) -> bool
     )
 }
 
-/// Whether a row serves one row of this rule.
+/// Returns whether a row serves one subject of this rule.
 #[tactic(auto, unfolding(crate::specs::Calls::is_server))]
 pub(super) fn serves_one(rule: &Rule, ask: Ask, first: Held, server: Held) -> bool
     requires first { IsSound first.row.now.shape }
@@ -93,7 +95,7 @@ pub(super) fn serves_one(rule: &Rule, ask: Ask, first: Held, server: Held) -> bo
     }
 }
 
-/// Whether a row serves two rows of this rule.
+/// Returns whether a row serves two subjects of this rule.
 #[tactic(auto, unfolding(crate::specs::Calls::is_server))]
 pub(super) fn serves_two(rule: &Rule, ask: Ask, first: Held, second: Held, server: Held) -> bool
     requires first { IsSound first.row.now.shape }

@@ -1,3 +1,5 @@
+//! Which rows call a rule.
+
 ghost use Rattle.std.specs.Prelude.{◌≡◌, ◌&&◌, true, Some, None, IfSome};
 ghost use Rattle.clr_rows.specs.Held.{held_of};
 ghost use Rattle.clr_rows.specs.Parts.{part_of};
@@ -16,7 +18,7 @@ use crate::sides::{Side, are_equal_in, is_of_side};
 use clr_rows::{Held, Place};
 use clr_segments::{near, part};
 
-/// Whether one row is of the one side and one of the other, in either arrangement.
+/// Returns whether one row is of the one side and one of the other, in either arrangement.
 fn are_of_sides(a: &Side, b: &Side, first: Held, second: Held) -> bool
     ensures { result ≡ are_of_sides a.now b.now (held_of first.entry) (held_of second.entry) }
 {
@@ -27,7 +29,7 @@ fn are_of_sides(a: &Side, b: &Side, first: Held, second: Held) -> bool
     }
 }
 
-/// Whether both rows are of one side, and equal in some columns.
+/// Returns whether both rows are of one side, and equal in some columns.
 fn are_equal_rows(side: &Side, columns: &ColumnList, first: Held, second: Held) -> bool
     ensures { result ≡ (is_of_side side.now (held_of first.entry) && (is_of_side side.now (held_of second.entry)
         && are_equal_in (held_of first.entry) columns.now (held_of second.entry) columns.now)) }
@@ -37,7 +39,7 @@ fn are_equal_rows(side: &Side, columns: &ColumnList, first: Held, second: Held) 
         && are_equal_in(first, columns.as_slice(), second, columns.as_slice())
 }
 
-/// Whether the parts of an ask are there and have a common point.
+/// Returns whether the parts of an ask are there and have a common point.
 fn have_meeting_parts(ask: Ask, first: Held, second: Held) -> bool
     requires first { IsSound first.row.now.shape }
     requires second { IsSound second.row.now.shape }
@@ -49,7 +51,7 @@ fn have_meeting_parts(ask: Ask, first: Held, second: Held) -> bool
     )
 }
 
-/// Whether both points are there, nearer than d.
+/// Returns whether both points are there and nearer than d.
 fn are_nearer(d: i64, p: Option<Place>, q: Option<Place>) -> bool
     requires distance { is_distance d ≡ true }
     requires p_in { IfSome p InRange }
@@ -62,7 +64,7 @@ fn are_nearer(d: i64, p: Option<Place>, q: Option<Place>) -> bool
     }
 }
 
-/// Whether two rows of these sides are points nearer than d.
+/// Returns whether two rows of these sides are points nearer than d.
 fn are_near_rows(a: &Side, b: &Side, d: i64, first: Held, second: Held) -> bool
     requires distance { is_distance d ≡ true }
     requires first { IsSound first.row.now.shape }
@@ -74,7 +76,7 @@ fn are_near_rows(a: &Side, b: &Side, d: i64, first: Held, second: Held) -> bool
         && are_nearer(d, point_in(&first.row.shape), point_in(&second.row.shape))
 }
 
-/// Whether a row alone calls this rule.
+/// Returns whether a row alone calls this rule.
 #[tactic(auto, unfolding(crate::specs::Calls::are_subjects))]
 pub(super) fn is_subject(rule: &Rule, number: u16, held: Held) -> bool
     ensures { result ≡ are_subjects rule.now (plain_ask number) (held_of held.entry) None }
@@ -85,7 +87,7 @@ pub(super) fn is_subject(rule: &Rule, number: u16, held: Held) -> bool
     }
 }
 
-/// Whether two rows call this rule.
+/// Returns whether two rows call this rule.
 #[tactic(auto, unfolding(crate::specs::Calls::are_subjects))]
 pub(super) fn are_subjects(rule: &Rule, ask: Ask, first: Held, second: Held) -> bool
     requires distance { has_distance rule.now ≡ true }
