@@ -27,7 +27,7 @@ serves_at rules ask rows s t e = serves_if rules ask s t (slice_get rows e.posit
 abbrev pub rows_of : Search → List Held
 rows_of search = map held_of search.rows.now
 
--- all of them are filed under its rule
+-- all rows of a search are filed under its rule
 abbrev pub AreRowsFiled : Search → Type 0
 AreRowsFiled search = search.index.now ≡ filed_rows search.book.now search.rule no_rows_filed 0 (rows_of search)
 
@@ -83,27 +83,27 @@ pub record Gains (rules : List Rule) (rows : List Held) (Wanted : WantedOf rules
   pub only : (b : Broken) → Contains after b → Contains before b ⊎ IsBrokenAmong rules rows b
   pub found : (b : Broken) (h : IsBrokenAmong rules rows b) → Wanted b h → Contains after b
 
--- of one rule
+-- the broken needs of one rule are wanted
 abbrev pub IsOfRule : {rules : List Rule} {rows : List Held} → ℕ → (b : Broken) → IsBrokenAmong rules rows b → Type 0
 IsOfRule n b h = b.rule ≡ n
 
--- whose first subject is this row
+-- the broken needs whose first subject is this row are wanted
 abbrev pub IsOfRow : {rules : List Rule} {rows : List Held} → ℕ → Held → (b : Broken) → IsBrokenAmong rules rows b → Type 0
 IsOfRow n s b h = (b.rule ≡ n) × (h.first ≡ s)
 
--- of this row alone
+-- the broken needs of this row alone are wanted
 abbrev pub IsAlone : {rules : List Rule} {rows : List Held} → ℕ → Held → (b : Broken) → IsBrokenAmong rules rows b → Type 0
 IsAlone n s b h = (b.rule ≡ n) × (h.first ≡ s) × (h.second ≡ None)
 
--- of this row and another
+-- the broken needs of this row and another are wanted
 abbrev pub IsPaired : {rules : List Rule} {rows : List Held} → ℕ → Held → (b : Broken) → IsBrokenAmong rules rows b → Type 0
 IsPaired n s b h = (b.rule ≡ n) × (h.first ≡ s) × IsSome h.second
 
--- of this part of the row and another row
+-- the broken needs of this part of the row and another row are wanted
 abbrev pub IsOfPart : {rules : List Rule} {rows : List Held} → ℕ → Held → ℕ → (b : Broken) → IsBrokenAmong rules rows b → Type 0
 IsOfPart n s part b h = (b.rule ≡ n) × (h.first ≡ s) × IsSome h.second × (b.first_part ≡ part)
 
--- the same among the rows of a search
+-- the later list has the earlier one, besides it broken needs of a search's rows alone, and of those all that are wanted
 abbrev pub GainsAll : (search : Search) → WantedOf search.book.now (rows_of search) → List Broken → List Broken → Type 0
 GainsAll search Wanted before after = Gains search.book.now (rows_of search) Wanted before after
 

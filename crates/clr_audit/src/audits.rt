@@ -46,10 +46,9 @@ fn add_of_rule(
     Ok(())
 }
 
-/// The broken needs of a content, ascending by rule, first cell, second cell, first
-/// part, second part, each once. Every rule
-/// holds where there is none, and else the first is the least. The book and the rows fit one
-/// schema. It fails for want of memory alone.
+/// Returns the broken needs of a content, each once, ascending by rule, first cell, second cell,
+/// first part and second part. Every rule holds where there is none. The book and the rows fit one
+/// schema.
 pub fn audit(alloc: Global, book: &RuleBook, sheet: &Sheet) -> Result<Vec<Broken>, AllocError>
     requires { FitsContent book.now sheet.now }
     ensures list { IfOk result (λ list. list.items ≡ broken_needs book.now sheet.now) }

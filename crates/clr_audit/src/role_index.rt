@@ -99,7 +99,7 @@ impl RoleIndex {
         Ok(())
     }
 
-    /// The rows filed under a rule, by their positions. It fails for want of memory alone.
+    /// The rows filed under a rule, by their positions.
     pub(crate) fn of_rows(
         alloc: Global,
         book: &RuleBook,
@@ -119,9 +119,8 @@ impl RoleIndex {
         Ok(index)
     }
 
-    /// Adds the entries of the subjects that may stand beside a row of these roles and spots. It
-    /// fails for want of memory alone; then what stood in the list stands there, with the first of
-    /// these behind it.
+    /// Adds the entries of the subjects that may stand beside a row of these roles and spots. If
+    /// memory runs out, the list keeps what stood in it, with the first of these entries behind it.
     pub(crate) fn add_partners(
         &self,
         roles: Roles,

@@ -276,8 +276,8 @@ impl<'a> Search<'a> {
         Ok(())
     }
 
-    /// Adds the broken needs of the rule. It fails for want of memory alone; then what stood in the
-    /// list stands there, and besides it broken needs alone.
+    /// Adds the broken needs of the rule. If memory runs out, the list keeps what stood in it, and
+    /// besides that it has only broken needs.
     pub(crate) fn add_all(&self, alloc: Global, list: &mut Vec<Broken>) -> Result<(), AllocError>
         requires number { self.now.rule < length self.now.book.now }
         requires fit { FitTogether self.now.book.now (rows_of self.now) }

@@ -119,8 +119,8 @@ impl SpotMap {
         Ok(())
     }
 
-    /// Files an entry at the spots of its row, or as that of a wide one. It fails for want of
-    /// memory alone; then all that was filed stays, and the entry may be filed at some of them.
+    /// Files an entry at the spots of its row, or as that of a wide one. If memory runs out, all
+    /// that was filed stays, and the entry may be filed at some of the spots.
     pub(crate) fn file(
         &mut self,
         alloc: Global,
@@ -164,9 +164,9 @@ impl SpotMap {
         self.all.as_slice()
     }
 
-    /// Adds the entries that may stand in a need with a row of these spots: all where it is wide,
-    /// and else those of its spots and the wide ones. It fails for want of memory alone; then what
-    /// stood in the list stands there, with the first of these behind it.
+    /// Adds the entries that may stand in a need with a row of these spots: all where the row is
+    /// wide, and otherwise those at its spots and the wide ones. If memory runs out, the list keeps
+    /// what stood in it, with the first of these entries behind it.
     pub(crate) fn add_near(
         &self,
         spots: &Spots,

@@ -13,12 +13,12 @@ pub data IsAnswer (o : Office) (s : Site) (entries : List Entry) (v : Verdict) :
   of_verdict : IsVerdict o s entries v → IsAnswer o s entries v
   of_memory : name_fault o s ≡ None → v ≡ verdict.OutOfMemory → IsAnswer o s entries v
 
--- it isn't clear
+-- the verdict isn't clear
 pub record IsRefusal (o : Office) (s : Site) (entries : List Entry) (v : Verdict) : Type 0 where
   pub answer : IsAnswer o s entries v
   pub not_clear : ¬ (v ≡ verdict.Clear)
 
--- of the tests that look at one member at a time
+-- the first that fails of the tests that look at one member at a time
 pub data IsFault (o : Office) (s : Site) (v : Verdict) : Type 0 where
   of_member : member_fault o s ≡ Some v → IsFault o s v
   without_memory : name_fault o s ≡ None → v ≡ verdict.OutOfMemory → IsFault o s v

@@ -16,7 +16,7 @@ pub record AreParts (o : Office) (s : Site) (parts : SiteParts) : Type 0 where
   pub filed : IsSettledFor parts.finder.now.settled o.book parts.rows
   pub sets : parts.sets.items ≡ change_sets o s
 
--- they are the parts of some site
+-- these are the parts of some site
 abbrev pub AreOfSite : Office → SiteParts → Type 0
 AreOfSite o parts = (s : Site) × AreParts o s parts
 

@@ -53,14 +53,17 @@ fn judge_parts(alloc: Global, office: &Office, parts: &SiteParts, entries: &[Ent
     }
 }
 
-/// The verdict on a certificate in an office: clear, or the first test that fails. `OutOfMemory` may
-/// come in its place where no test of names fails, and only where a growth was refused. Where the
-/// answer is `Clear`, every rule holds in the root with the changes of any of the members over it and
-/// no other member is in conflict with that; and in every list of quiet commands no merge or refresh
-/// of a member is answered by a conflict or a broken rule, every rule holds in the root after each
-/// command, and once the same members are merged, all of them for one, the root has the same rows. So
-/// what `Office::perform_all` answers to quiet commands is a cleared run.
-/// Nothing that the certificate says is taken for true.
+/// Returns the verdict on a certificate in an office: clear, or the first test that fails.
+/// `OutOfMemory` may come in its place where no test of names fails, and only where a growth was
+/// refused.
+///
+/// Where the verdict is `Clear`, every rule holds in the root with the changes of any of the
+/// members over it, and no other member is in conflict with those rows. In every list of quiet
+/// commands no merge or refresh of a member is answered by a conflict or a broken rule, and every
+/// rule holds in the root after each command. After any two such lists that merge the same members,
+/// and so after any two that merge all, the root has the same rows. What `Office::perform_all`
+/// answers to quiet commands is then a cleared run. Nothing that the certificate says is taken to
+/// be true.
 pub fn check(alloc: Global, office: &Office, certificate: &Certificate) -> Verdict
     ensures answer { IsAnswer office.now (site_of certificate.now) (entries_in certificate.now.entries) result }
     ensures free { result ≡ verdict.Clear → StaysFree office.now (site_of certificate.now) }

@@ -136,7 +136,7 @@ fn covers<V: RowView, F: RowFinder>(
     }
 }
 
-/// Whether one of some entries covers a possible need. It fails for want of memory alone.
+/// Whether one of some entries covers a possible need.
 fn is_covered<V: RowView, F: RowFinder>(
     scene: &Scene<'_, V, F>,
     need: &Need,
@@ -159,8 +159,7 @@ fn is_covered<V: RowView, F: RowFinder>(
     Ok(false)
 }
 
-/// The least touched need of a scene that no entry covers, if there is one. It fails for want of
-/// memory alone.
+/// The least touched need of a scene that no entry covers, if there is one.
 pub(crate) fn first_uncovered<V: RowView, F: RowFinder>(
     alloc: Global,
     scene: &Scene<'_, V, F>,

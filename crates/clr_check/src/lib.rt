@@ -1,22 +1,23 @@
 //! The checker of certificates: whether children of a kept workspace may be merged into it in every
 //! order, between other work, and runs of commands where it says so.
 //!
-//! - `check` [`answer`, `free`, `safe`, `headline`, `runs`]: the verdict on the certificate's root,
-//!   members and entries, or want of memory; it is never want of memory where the root isn't kept
-//!   or a test of names fails. Where it is Clear, every rule holds with the changes of any of the
-//!   members over the root, no other member is in conflict with that, the members are *safe*, and
-//!   the headline holds of them: in every list of commands that are quiet for them no merge or
-//!   refresh of a member meets a conflict or breaks a rule, every rule holds in the root after each
-//!   command, and once the same members are merged the root has the same rows; so what
-//!   `Office::perform_all` answers to quiet commands is a cleared run. Nothing is asked of the
-//!   certificate: an entry that fits no need, or names no version, covers nothing and does no harm.
+//! - `check` [`answer`, `free`, `safe`, `headline`, `runs`] gives the verdict on the certificate's
+//!   root, members and entries, or want of memory; it is never want of memory where the root isn't
+//!   kept or a test of names fails. Where it is Clear, every rule holds with the changes of any of
+//!   the members over the root, no other member is in conflict with those rows, the members are
+//!   *safe*, and the headline holds of them: in every list of commands that are quiet for them no
+//!   merge or refresh of a member meets a conflict or breaks a rule, every rule holds in the root
+//!   after each command, and after any two such lists that merge the same members the root has the
+//!   same rows. What `Office::perform_all` answers to quiet commands is then a cleared run. Nothing
+//!   is asked of the certificate: an entry that fits no need, or names no version, covers nothing
+//!   and does no harm.
 //! - `perform_cleared` [`refused`, `unchanged`, `clear`, `start`, `run`]: an error is an answer of
-//!   the check that isn't Clear, and the office is unchanged. Else the verdict was Clear; `stopped`
-//!   is the number of the first command that isn't quiet in the office in which it would be given,
-//!   or none; the commands before it are performed, it and the rest aren't; no merge or refresh of
-//!   a member among them is answered Conflict or RuleBroken, and the root has the changes of the
-//!   merged members over its first rows. It promises nothing of commands after one that isn't
-//!   quiet.
+//!   the check that isn't Clear, and the office is unchanged. Otherwise the verdict was Clear.
+//!   `stopped` is the number of the first command that isn't quiet in the office in which it would
+//!   be given, or none. The commands before it are performed; that command and the rest aren't. No
+//!   merge or refresh of a member among them is answered Conflict or RuleBroken, and the root has
+//!   the changes of the merged members over its first rows. Nothing is promised of commands after
+//!   one that isn't quiet.
 //! - `name_fault`, `read_site` and `SiteParts::scene`: the tests of names, without memory, the
 //!   parts that a check and a plan look at, and the scene that they make.
 #![tactic(auto)]

@@ -1,16 +1,18 @@
+//! Lists of names that checks and plans look at.
+
 ghost use Rattle.std.specs.Prelude.{◌≡◌, ◌<◌, ℕ, List, Some, length, map, slice_get};
 
 use clr_rows::Names;
 
-/// Names of workspaces in an order, seen as their list.
+/// Names of workspaces in an order.
 pub trait NameList {
     ghost names: { Self → List (List ℕ) };
 
-    /// How many names there are.
+    /// Returns how many names there are.
     fn len(&self) -> usize
         ensures { result ≡ length (names self.now) };
 
-    /// The name at a position below `len`.
+    /// Returns the name at a position below `len`.
     fn name_at(&self, position: usize) -> &str
         requires { position < length (names self.now) }
         ensures { slice_get (names self.now) position ≡ Some result.now };

@@ -57,7 +57,7 @@ fn first_stray<N: NameList>(office: &Office, root: &str, members: &N) -> Option<
     None
 }
 
-/// Whether every rule is to hold in a root, which it is not where there is none.
+/// Whether a root stands and every rule is to hold in it.
 fn is_kept(office: &Office, root: &str) -> bool
     ensures value { result ≡ is_kept office.now root.now }
     ensures admitted { IsAdmitted office.now }
@@ -68,9 +68,9 @@ fn is_kept(office: &Office, root: &str) -> bool
     }
 }
 
-/// The first test of names that a root and members fail, each made over the whole list before the
-/// next: the root stands and is kept, no name stands twice, each is that of a workspace, and each is
-/// a child of the root. It is never answered by want of memory.
+/// Returns the first test of names that a root and members fail, or none. Each test is made over
+/// the whole list before the next: the root stands and is kept, no name stands twice, each is that
+/// of a workspace, and each is a child of the root. The answer is never want of memory.
 #[tactic(auto, unfolding(clr_clearance::specs::Verdicts::name_fault))]
 pub fn name_fault<N: NameList>(
     alloc: Global,

@@ -21,7 +21,7 @@ fn stands_earlier<N: NameList>(names: &N, position: usize) -> bool
     false
 }
 
-/// The first repeated name, found by holding each name against those before it. It takes no memory.
+/// The first repeated name, found by comparing each name with those before it. It takes no memory.
 fn first_repeated_by_pairs<N: NameList>(names: &N) -> Option<usize>
     ensures { result ≡ first_repeated (N.names names.now) }
 {
@@ -34,7 +34,7 @@ fn first_repeated_by_pairs<N: NameList>(names: &N) -> Option<usize>
 }
 
 /// The position of the first name that stands earlier in the list. The names are gathered in a set;
-/// where no memory is found for it, each is held against those before it.
+/// where no memory is found for it, each name is compared with those before it.
 pub(crate) fn first_repeated<N: NameList>(alloc: Global, names: &N) -> Option<usize>
     ensures { result ≡ first_repeated (N.names names.now) }
 {

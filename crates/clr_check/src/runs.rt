@@ -14,8 +14,9 @@ use clr_clearance::Verdict;
 use clr_engine::{Command, Office, Reply};
 use std::alloc::Global;
 
-/// What was performed of a list of commands: the replies to the first of them, and the number, from
-/// 1, of the first that isn't quiet in the office in which it would be given, if there is one.
+/// What was performed of a list of commands: the replies to the first of them, and the number,
+/// counted from 1, of the first that isn't quiet in the office in which it would be given, if there
+/// is one.
 #[derive(Debug, Drop)]
 pub struct ClearedRun {
     pub replies: Vec<Reply>,
@@ -51,12 +52,12 @@ fn perform_quiet(
     }
 }
 
-/// Performs commands one after another where `check` of a certificate is clear, up to the first that
-/// isn't quiet for its root and members in the office in which it would be given. So no merge or
-/// refresh of a member among them is answered by a conflict or a broken rule, every rule holds in
+/// Performs commands one after another where `check` of a certificate is clear, up to the first
+/// that isn't quiet for its root and members in the office in which it would be given. No merge or
+/// refresh of a member among them is answered by a conflict or a broken rule. Every rule holds in
 /// the root afterwards, and the root has the changes of the members whose merge was done over the
-/// rows that it had. It fails with a verdict that isn't clear, or with `OutOfMemory` where no memory
-/// is found for the check or the replies, and changes nothing then.
+/// rows that it had. Fails with a verdict that isn't clear, or with `OutOfMemory` where no memory
+/// is found for the check or the replies; then nothing changes.
 pub fn perform_cleared(
     alloc: Global,
     office: &mut Office,

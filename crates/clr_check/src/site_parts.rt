@@ -1,3 +1,5 @@
+//! The parts of a site that a check and a plan look at.
+
 ghost use Rattle.std.specs.Prelude.{◌≤◌, length};
 ghost use Rattle.clr_needs.specs.declared.limits.TheConstants.{MOST_MEMBERS};
 
@@ -5,8 +7,8 @@ use clr_change::ChangeSet;
 use clr_grid::SpotIndex;
 use clr_tree::View;
 
-/// The rows of a root as its office shows them, the office's finder of these, and what each member
-/// changed, in the order of members. No row of the root is copied.
+/// The rows of a root as its office shows them, the office's finder of those rows, and what each
+/// member changed, in the order of the members. No row of the root is copied.
 #[derive(Drop)]
 pub struct SiteParts<'a> {
     pub(crate) rows: View<'a>,

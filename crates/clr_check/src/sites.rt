@@ -40,7 +40,7 @@ fn least_and_count(cells: Option<Vec<CellId>>) -> Option<(CellId, usize)>
     }
 }
 
-/// What a workspace changed, and nothing where there is none. It fails for want of memory alone.
+/// What a workspace changed, and nothing where there is none.
 fn changes(alloc: Global, office: &Office, name: &str) -> Result<ChangeSet, AllocError>
     ensures { IfOk result (λ set. set ≡ changes_in office.now name.now) }
 {
@@ -62,8 +62,7 @@ fn root_rows<'a>(office: &'a Office, root: &str) -> (View<'a>, &'a SpotIndex)
     (rows, finder)
 }
 
-/// The first member in conflict with the root, its least cell in conflict and how many there are. It
-/// fails for want of memory alone.
+/// The first member in conflict with the root, its least cell in conflict and how many there are.
 fn first_conflict<N: NameList>(office: &Office, members: &N) -> Result<Option<Verdict>, AllocError>
     ensures { IfOk result (λ fault. fault ≡ first_conflict office.now 0 (N.names members.now)) }
 {
@@ -80,7 +79,7 @@ fn first_conflict<N: NameList>(office: &Office, members: &N) -> Result<Option<Ve
     Ok(None)
 }
 
-/// What each member changed, in their order. It fails for want of memory alone.
+/// What each member changed, in their order.
 fn change_sets<N: NameList>(
     alloc: Global,
     office: &Office,
@@ -95,7 +94,7 @@ fn change_sets<N: NameList>(
     Ok(sets)
 }
 
-/// The root's rows and what each member changed. It fails for want of memory alone.
+/// The root's rows and what each member changed.
 fn read_parts<'a, N: NameList>(
     alloc: Global,
     office: &'a Office,
@@ -111,7 +110,7 @@ fn read_parts<'a, N: NameList>(
     Ok(SiteParts { rows, finder, sets })
 }
 
-/// References to change sets, in their order. It fails for want of memory alone.
+/// References to change sets, in their order.
 fn references(alloc: Global, sets: &[ChangeSet]) -> Result<Vec<&ChangeSet>, AllocError>
     ensures { IfOk result (λ list. map (λ set. set.now) list.items ≡ sets.entry.now) }
 {
@@ -122,8 +121,9 @@ fn references(alloc: Global, sets: &[ChangeSet]) -> Result<Vec<&ChangeSet>, Allo
     Ok(list)
 }
 
-/// The parts of a root and its members where no test of names and no test for conflicts fails; else
-/// the first that does. `OutOfMemory` may come in place of any answer but a test of names.
+/// Returns the parts of a root and its members where no test of names and no test for conflicts
+/// fails. Fails with the first test that fails. `OutOfMemory` may come in place of any answer but a
+/// test of names.
 pub fn read_site<'a, N: NameList>(
     alloc: Global,
     office: &'a Office,
@@ -149,8 +149,8 @@ pub fn read_site<'a, N: NameList>(
 }
 
 impl<'a> SiteParts<'a> {
-    /// The scene of the root's rows and the members' changes. It fails with the least cell that two
-    /// members change, or with `OutOfMemory` for want of memory.
+    /// Returns the scene of the root's rows and the members' changes. Fails with the least cell
+    /// that two members change, or with `OutOfMemory` if memory runs out.
     pub fn scene<'b>(
         &'b self,
         alloc: Global,

@@ -14,22 +14,22 @@ use std::alloc::Global;
 pub enum CaseFault {
     /// The office text is no office.
     BadOffice(TextFault),
-    /// A rule doesn't hold in the draft of the office text: the position of the first workspace that
-    /// breaks one, LIVE having position 0 and then those that are kept in order of creation, and its
-    /// least broken need.
+    /// A rule doesn't hold in the draft of the office text: the position of the first workspace
+    /// that breaks one, and its least broken need. LIVE has position 0, and then come those that
+    /// are kept, in order of creation.
     Unheld {
         draft: Draft,
         position: usize,
         need: Broken,
     },
-    /// The text of the certificate is none: the number of the first record that can't be read, from
-    /// 1, and why.
+    /// The second text is no certificate: the number of the first record that can't be read,
+    /// counted from 1, and why.
     BadCertificate(usize, CertFault),
-    /// No memory was found. It may come in place of any other answer.
+    /// No memory was found. This fault may come in place of any other answer.
     OutOfMemory,
 }
 
-/// An office with the certificate of a text.
+/// Returns an office with the certificate of a text.
 fn with_certificate(
     alloc: Global,
     office: Office,
@@ -45,7 +45,7 @@ fn with_certificate(
     }
 }
 
-/// The office of a draft, whose rules may not hold, with the certificate of a text.
+/// Returns the office of a draft, whose rules may not hold, with the certificate of a text.
 fn admit_with(alloc: Global, draft: Draft, text: &[u8]) -> Result<(Office, Certificate), CaseFault>
     ensures case { IfOk result (λ given. where_held draft text.now (unheld_in draft) ≡ Ok (given.0, given.1)) }
     ensures fault { IfErr result (IsCaseFault (where_held draft text.now (unheld_in draft))) }
@@ -63,9 +63,9 @@ fn admit_with(alloc: Global, draft: Draft, text: &[u8]) -> Result<(Office, Certi
     }
 }
 
-/// Reads an office text, in which every rule is to hold in LIVE and in each workspace that is kept, and
-/// the text of a certificate of it. It fails for the first that fails of the office text, the rules and
-/// the certificate's text, or for want of memory.
+/// Reads an office text, in which every rule is to hold in LIVE and in each workspace that is kept,
+/// and the text of a certificate of it. Fails with the first of `BadOffice`, `Unheld` and
+/// `BadCertificate` that applies, or with `OutOfMemory`.
 #[tactic(auto, unfolding(crate::specs::Cases::case_of))]
 pub fn read_case(
     alloc: Global,

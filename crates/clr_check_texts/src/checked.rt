@@ -1,3 +1,5 @@
+//! What is said of an office and of a certificate, both given as texts.
+
 use clr_cert::CertFault;
 use clr_check::Verdict;
 use clr_drafts::TextFault;
@@ -10,13 +12,13 @@ pub enum Checked {
     Answer(Verdict),
     /// The office text is no office.
     BadOffice(TextFault),
-    /// The text of the certificate is none: the number of the first record that can't be read, from
-    /// 1, and why.
+    /// The second text is no certificate: the number of the first record that can't be read,
+    /// counted from 1, and why.
     BadCertificate(usize, CertFault),
-    /// A rule doesn't hold: the position of the first workspace that breaks one, LIVE having position
-    /// 0 and then those that are kept in order of creation, and its least broken need.
+    /// A rule doesn't hold: the position of the first workspace that breaks one, and its least
+    /// broken need. LIVE has position 0, and then come those that are kept, in order of creation.
     Unheld { position: usize, need: Broken },
-    /// No memory was found before there was something to check. It may come in place of any other
+    /// No memory was found before there was something to check. This may come in place of any other
     /// answer.
     OutOfMemory,
 }

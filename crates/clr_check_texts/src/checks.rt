@@ -1,3 +1,5 @@
+//! Checks of certificates in offices, both given as texts.
+
 ghost use Rattle.std.specs.Prelude.{◌≡◌, Ok, IfOk, IfErr};
 ghost use Rattle.clr_check_texts.specs.Cases.{IsCaseFault, case_of};
 ghost use Rattle.clr_check_texts.specs.Checks.{IsChecked, IsJudged, said_of};
@@ -17,9 +19,10 @@ pub struct TextCheck {
     pub verdict: Verdict,
 }
 
-/// The check of a certificate in an office, both given as texts, with what its line names. It fails as
-/// `read_case` does. The verdict may be want of memory; where it is clear, all holds that `check`
-/// promises of a clear one. Nothing that the certificate says is taken for true.
+/// Returns the check of a certificate in an office, both given as texts, with the office and the
+/// certificate that its line names. Fails as `read_case` does. The verdict may be want of memory;
+/// where it is clear, all holds that `check` promises of a clear one. Nothing that the certificate
+/// says is taken to be true.
 pub fn judge_texts(alloc: Global, office: &[u8], certificate: &[u8]) -> Result<TextCheck, CaseFault>
     ensures case { IfOk result (λ check. case_of office.now certificate.now ≡ Ok (check.office, check.certificate)) }
     ensures verdict { IfOk result (λ check. IsJudged check.office check.certificate check.verdict) }
@@ -38,7 +41,7 @@ pub fn judge_texts(alloc: Global, office: &[u8], certificate: &[u8]) -> Result<T
     }
 }
 
-/// What is said where two texts don't give an office with a certificate.
+/// Returns what is said where two texts don't give an office with a certificate.
 fn said_of(fault: CaseFault) -> Checked
     ensures { result ≡ said_of fault }
 {
@@ -50,14 +53,11 @@ fn said_of(fault: CaseFault) -> Checked
     }
 }
 
-/// What is said of an office and of a certificate, both given as texts: the first that fails of the
-/// office text, the rules and the certificate's text, and else the verdict. `Answer` comes only where
-/// the texts are an office and a certificate, and every rule holds in LIVE and in each workspace that
-/// is kept; its verdict may be want of memory. Where it is clear, every rule holds in the root with
-/// the changes of any of the members over it and no other member is in conflict with that; and in every
-/// list of quiet commands no merge or refresh of a member is answered by a conflict or a broken rule,
-/// every rule holds in the root after each command, and once the same members are merged, all of them
-/// for one, the root has the same rows. Nothing that the certificate says is taken for true.
+/// Returns what is said of an office and of a certificate, both given as texts: the first of the
+/// office text, the rules and the certificate's text that fails, or the verdict. `Answer` comes
+/// only where the texts are an office and a certificate, and every rule holds in LIVE and in each
+/// workspace that is kept; its verdict may be want of memory. Where the verdict is clear, all holds
+/// that `check` promises of a clear one. Nothing that the certificate says is taken to be true.
 pub fn check_texts(alloc: Global, office: &[u8], certificate: &[u8]) -> Checked
     ensures { IsChecked (case_of office.now certificate.now) result }
 {

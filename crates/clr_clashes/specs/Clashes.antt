@@ -16,7 +16,7 @@ pub record IsBrokenBy (c : Setting ℕ) (n : Need) (list : List ℕ) : Type 0 wh
   pub uncovered : IsUncoveredNeed c n
   pub blockers : Blocks c n list
 
--- members that break such a need
+-- exactly the members that break some touched need which nothing covers
 abbrev pub IsClash : Setting ℕ → List ℕ → Type 0
 IsClash c list = (n : Need) × IsBrokenBy c n list
 

@@ -20,7 +20,7 @@ ClashesDecideSubsets = (rules : List Rule) (root : Content) (sets : List Changes
     → ((k : ℕ) → Contains positions k → k < length sets)
     → LeavesNoneUncovered (setting_at rules root sets positions) ↔ HoldNoClash (setting rules root sets) positions
 
--- so they do exactly where they hold none of a list of them
+-- some of the members alone leave no touched need uncovered exactly where they hold none of a list of the smallest clashes of all
 abbrev pub ListedClashesDecideSubsets : Type 0
 ListedClashesDecideSubsets = (rules : List Rule) (root : Content) (sets : List Changes) (ks : List ListedClash) (positions : List ℕ)
     → AreApart sets

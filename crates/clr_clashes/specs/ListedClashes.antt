@@ -17,7 +17,7 @@ pub record ListedClash : Type 0 where
 abbrev pub clash_of : Clash → ListedClash
 clash_of k = record { members = k.members.items; need = k.need }
 
--- by need
+-- listed clashes are ordered by need
 abbrev pub listed_cmp : ListedClash → ListedClash → Ordering
 listed_cmp j k = need_cmp j.need k.need
 
@@ -27,7 +27,7 @@ pub record IsListedClash (c : Setting ℕ) (k : ListedClash) : Type 0 where
   pub broken : IsBrokenBy c k.need k.members
   pub least : (n : Need) → IsBrokenBy c n k.members → ¬ (need_cmp n k.need ≡ Less)
 
--- exactly these, each once, in the order of their needs; and each clash holds one of them
+-- exactly the smallest clashes, each once, in the order of their needs; and each clash holds one of them
 pub record AreSmallestClashes (c : Setting ℕ) (ks : List ListedClash) : Type 0 where
   pub lists : Lists listed_cmp (IsListedClash c) ks
   pub every : (list : List ℕ) → IsClash c list → (k : ListedClash) × Contains ks k × IsWithin k.members list

@@ -1,15 +1,16 @@
-//! Clashes: members that can't all be merged, since together they break a need which nothing covers.
+//! Clashes: members that can't all be merged, since together they break a need which nothing
+//! covers.
 //!
-//! - `clashes` [`AreSmallestClashes`]: exactly the smallest clashes of a scene's members, by
+//! - `clashes` [`AreSmallestClashes`] gives exactly the smallest clashes of a scene's members, by
 //!   position. A clash is the members that break a touched need of all which nothing covers, and it
-//!   is a smallest one where it holds no other. Each is listed once, with the least need that just
-//!   its members break, in the order of these needs; and each clash holds one that is listed.
-//!   Memory is the only refusal. The touched needs are gone over once; no subset of the members is
-//!   tried.
+//!   is a smallest one where it holds no other. Each is listed once, with the least need that
+//!   exactly its members break, in the order of these needs; and each clash holds one that is
+//!   listed. It fails only if memory runs out. The touched needs are gone over once; no subset of
+//!   the members is tried.
 //! - `clashes_decide_subsets`: where every rule holds in the root and no cell is changed by two
 //!   members, each touched need of some of the members, in the scene of these alone, is covered
-//!   exactly where they hold none of the smallest clashes. `listed_clashes_decide_subsets`: so it is
-//!   exactly where they hold none of a list of them.
+//!   exactly where they hold none of the smallest clashes. `listed_clashes_decide_subsets`: each is
+//!   covered exactly where they hold none of a list of the smallest clashes.
 #![tactic(auto)]
 
 mod laws;

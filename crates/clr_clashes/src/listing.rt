@@ -37,8 +37,7 @@ fn hold_clash(clashes: &[Clash], members: &[u16]) -> bool
         .any(|clash| is_within(clash.members.as_slice(), members))
 }
 
-/// Adds a clash, unless it holds one that is there, and drops those that hold it. It fails for want
-/// of memory alone.
+/// Adds a clash, unless it holds one that is there, and drops those that hold it.
 fn add_clash(clashes: &mut Vec<Clash>, clash: Clash) -> Result<(), AllocError>
     ensures { OnOk result (map clash_of clashes.new.items ≡ with_clash (map clash_of clashes.old.items) (clash_of clash)) }
 {
@@ -50,8 +49,7 @@ fn add_clash(clashes: &mut Vec<Clash>, clash: Clash) -> Result<(), AllocError>
     Ok(())
 }
 
-/// Adds the members that break a possible need, where no witnesses are picked for it. It fails for
-/// want of memory alone.
+/// Adds the members that break a possible need, where no witnesses are picked for it.
 fn note_need<V: RowView, F: RowFinder>(
     scene: &Scene<'_, V, F>,
     need: &Need,
@@ -76,9 +74,9 @@ fn note_need<V: RowView, F: RowFinder>(
     }
 }
 
-/// The smallest sets of a scene's members that can't all be merged, since together they break a
-/// touched need which nothing covers: each set once, with the least need that its members break, in
-/// the order of these needs. It fails for want of memory alone.
+/// Returns the smallest sets of a scene's members that can't all be merged, since together they
+/// break a touched need which nothing covers: each set once, with the least need that its members
+/// break, in the order of these needs.
 pub fn clashes<V: RowView, F: RowFinder>(
     alloc: Global,
     scene: &Scene<'_, V, F>,

@@ -13,7 +13,7 @@ use clap::error::ErrorKind;
 use clr_rows::{Names, Words};
 use std::alloc::{AllocError, Global};
 
-/// Returns the value of a name.
+/// The value of a name.
 fn value(alloc: Global, matches: &ArgMatches, id: &str) -> Result<Words, AllocError>
     ensures { IfOk result (λ text. text ≡ value_of id.now (rows_of (found_of matches.now))) }
 {
@@ -23,7 +23,7 @@ fn value(alloc: Global, matches: &ArgMatches, id: &str) -> Result<Words, AllocEr
     }
 }
 
-/// Returns copies of texts, as names.
+/// Texts as names of their own.
 fn owned_names(alloc: Global, texts: &[&str]) -> Result<Names, AllocError>
     ensures { IfOk result (λ names. names ≡ map (λ text. text.now) texts.now) }
 {
@@ -34,7 +34,7 @@ fn owned_names(alloc: Global, texts: &[&str]) -> Result<Names, AllocError>
     Ok(Names::new(list))
 }
 
-/// Returns the names that the words give, none or more.
+/// The names that are given.
 fn names(alloc: Global, matches: &ArgMatches) -> Result<Names, AllocError>
     ensures { IfOk result (λ names. names ≡ names_of (rows_of (found_of matches.now))) }
 {
@@ -44,7 +44,7 @@ fn names(alloc: Global, matches: &ArgMatches) -> Result<Names, AllocError>
     }
 }
 
-/// Returns the file of the office text.
+/// The file of the office text.
 fn database(alloc: Global, matches: &ArgMatches) -> Result<Vec<Words>, AllocError>
     ensures { IfOk result (λ files. files.items ≡ database_of (rows_of (found_of matches.now))) }
 {
@@ -53,7 +53,7 @@ fn database(alloc: Global, matches: &ArgMatches) -> Result<Vec<Words>, AllocErro
     Ok(files)
 }
 
-/// Returns the file of the office text, and the file of another name.
+/// The file of the office text, and a second file.
 fn database_with(alloc: Global, matches: &ArgMatches, id: &str) -> Result<Vec<Words>, AllocError>
     ensures { IfOk result (λ files. files.items ≡ database_and id.now (rows_of (found_of matches.now))) }
 {
@@ -62,7 +62,7 @@ fn database_with(alloc: Global, matches: &ArgMatches, id: &str) -> Result<Vec<Wo
     Ok(files)
 }
 
-/// Returns what `planunder` asks for.
+/// What `planunder` asks for.
 fn plan_under(alloc: Global, matches: &ArgMatches) -> Result<Ask, AllocError>
     ensures { IfOk result (λ ask. ask
         ≡ PlanUnder (value_of (codes "ROOT") (rows_of (found_of matches.now))) (names_of (rows_of (found_of matches.now)))) }
@@ -72,7 +72,7 @@ fn plan_under(alloc: Global, matches: &ArgMatches) -> Result<Ask, AllocError>
     Ok(Ask::PlanUnder(root, names))
 }
 
-/// Returns what a subcommand asks for, and its files.
+/// What a subcommand asks for, and its files.
 #[tactic(auto, unfolding(crate::specs::Asks::ask_by_name))]
 fn ask_of_subcommand(
     alloc: Global,
@@ -97,7 +97,6 @@ fn ask_of_subcommand(
     Ok(found)
 }
 
-/// Returns the fault that an error of `clap` means.
 fn ask_fault(error: clap::Error) -> AskFault
     ensures { kind_of error ≡ ErrorKind.OutOfMemory → IsMemory result }
 {
@@ -108,15 +107,15 @@ fn ask_fault(error: clap::Error) -> AskFault
     }
 }
 
-/// Returns what the words of a command line ask for, and the names of the files that it is asked
-/// of. The first word is the program's name. The first file is that of the office text; a second
-/// one is that of the script or of the certificate. The subcommands are `audit DB`, `run DB
-/// SCRIPT`, `plan DB NAME..`, `planunder DB ROOT NAME..`, `check DB CERT` and `merge DB CERT
-/// NAME..`, where `NAME..` is none or more names.
+/// What the words of a command line ask for, with the program's name first, and the names of the
+/// files that it is asked of: that of the office text, and then that of the script or the
+/// certificate where there is one. The subcommands are `audit DB`, `run DB SCRIPT`, `plan DB NAME..`,
+/// `planunder DB ROOT NAME..`, `check DB CERT` and `merge DB CERT NAME..`, each with none or more
+/// names.
 ///
 /// Fails with `Refused` where the words name no subcommand or another count of values than it has,
-/// or ask for help, as `help`, `--help` and `-h`, or for the version, as `--version` and `-V`.
-/// Fails with `OutOfMemory` if memory runs out, which may come in place of any other answer.
+/// or ask for help, as `help`, `--help` and `-h`, or for the version, as `--version` and `-V`; and
+/// with `OutOfMemory` for want of memory, which may come in place of any other answer.
 pub fn ask_of<'a>(alloc: Global, words: &'a [&'a str]) -> Result<(Ask, Vec<Words>), AskFault>
     ensures asks { IfOk result (λ r. ask_of (subcommand_of program (map (λ s. s.now) words.entry.now)) ≡ Some (r.0, r.1.items)) }
     ensures takes { takes program (map (λ s. s.now) words.entry.now) ≡ true → IfErr result IsMemory }

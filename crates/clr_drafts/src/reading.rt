@@ -1,3 +1,5 @@
+//! Reading office texts as drafts.
+
 ghost use Rattle.std.specs.Prelude.{◌≡◌, ◌∷◌, IfOk};
 ghost use Rattle.clr_workspaces.specs.Workspaces.{live_workspace};
 ghost use Rattle.clr_tree.specs.Parts.{spaces_of};
@@ -60,10 +62,10 @@ fn draft_of(alloc: Global, read: OfficeParts) -> Result<Draft, TextFault>
 }
 
 /// Reads an office text of format 1, 2 or 3 as a draft: its schema, its rules, LIVE and the
-/// workspaces under LIVE with whole contents, in order of creation. Whether the rules hold is tested
-/// when the draft is admitted. The first fault answers, over the parts of the text in the order
+/// workspaces under LIVE with whole contents, in order of creation. Whether the rules hold is
+/// tested when the draft is admitted. The fault is the first of the parts of the text, in the order
 /// format, tables, rules, live, and then each workspace in turn (its name, its parent and its flag,
-/// then its base, its rows and its marks), and at last over the workspaces as a whole. In each of
+/// then its base, its rows and its marks), and at last of the workspaces as a whole. In each of
 /// these parts `BadField` comes before the other faults, and at one cell `BadRow` before
 /// `RepeatedCell`.
 ///
@@ -72,12 +74,12 @@ fn draft_of(alloc: Global, read: OfficeParts) -> Result<Draft, TextFault>
 /// rows, marks or literals that is missing is empty), with `BadSchema` where the tables make no
 /// schema, with `BadRule` where a rule names a table or a column that the schema hasn't, or the
 /// rules make no book over it, with `BadRow` where a cell's table isn't known, the row doesn't fit
-/// it, or no row could stand where one is gone, with `RepeatedCell` where a cell stands twice in one
-/// list, and with `BadPart` where the parent of a workspace is neither LIVE nor an earlier one, as it
-/// is met, or where the workspaces as a whole can't stand: a name that isn't good or is taken, more
-/// than 255 workspaces or 8 levels, or marks that aren't exactly the children and savepoints with
-/// good, different names, at most 64. Want of memory is `OutOfMemory`, which may come in place of any
-/// other answer.
+/// it, or no row could stand where one is gone, with `RepeatedCell` where a cell stands twice in
+/// one list, and with `BadPart` where the parent of a workspace is neither LIVE nor an earlier one,
+/// as it is met, or where the workspaces as a whole can't stand: a name that isn't good or is
+/// taken, more than 255 workspaces or 8 levels, or marks that aren't exactly the children and
+/// savepoints with good, different names, at most 64. Fails with `OutOfMemory` if memory runs out,
+/// which may come in place of any other answer.
 #[tactic(auto, unfolding(crate::specs::Drafts::draft_in))]
 pub fn read_office(alloc: Global, bytes: &[u8]) -> Result<Draft, TextFault>
     ensures { Gives (λ draft. draft) result (draft_in bytes.now) }

@@ -17,7 +17,7 @@ use Rattle.clr_steps.specs.Invariants.{HoldsWhereKept, OfficeFits, unheld_from}
 use Rattle.clr_steps.specs.Offices.{Office, content_of}
 use Rattle.clr_steps.specs.Refusals.{first_broken}
 
--- of a schema, rules, LIVE's content and parts
+-- the office that a schema, rules, LIVE's content and parts make
 abbrev pub office_of_parts : List TableDef → List Rule → Content → List Part → Office
 office_of_parts schema book live parts = record { schema = schema; book = book; live = live; workspaces = map workspace_of parts }
 
@@ -35,7 +35,7 @@ pub record IsFitting (o : Office) : Type 0 where
   pub book : FitsBook o.schema o.book
   pub rows : OfficeFits o
 
--- so they do, and every rule holds in LIVE and in each workspace that is kept
+-- the rules and each row fit the schema, and every rule holds in LIVE and in each workspace that is kept
 pub record IsAdmitted (o : Office) : Type 0 where
   pub fit : IsFitting o
   pub holds : HoldsWhereKept o

@@ -51,7 +51,7 @@ pub record IsServed (book : List Rule) (ws : List Workspace) (finders : List (Op
   pub holds : HoldInKept book ws
   pub are : AreFinders book (kept_contents ws) finders
 
--- of each workspace just what it differs in is stored, so that there are as many entries as it needs
+-- what is stored of each workspace is just what it differs in, so there are as many entries as it needs
 pub record IsSwept (t : Tree) : Type 0 where
   pub layers : (at : ℕ) → 0 < at → at < length t.list → layer_at t.layers at ≡ needed_layer t.list at
   pub counts : (at : ℕ) → 0 < at → at < length t.list → stored_at t.stored at ≡ needed t.list at

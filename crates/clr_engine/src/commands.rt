@@ -1,3 +1,5 @@
+//! The twelve commands, each on the workspace at a position.
+
 ghost use Rattle.std.specs.Prelude.{◌≡◌, ◌<◌, List, [], ◌∷◌, None, ◌||◌, true, false, length, nat_le, is_some, not, Some, OnOk, OnErr};
 ghost use Rattle.std.specs.Option.{option_copied, option_map};
 ghost use Rattle.clr_rows.specs.Contents.{set_cell, taken_over};
@@ -32,7 +34,7 @@ use std::alloc::AllocError;
 // Each function here that is handed a tree to change performs a command on the workspace at a
 // position, whole or not at all.
 
-/// What a call is answered that can fail for want of memory alone.
+/// The reply to a command whose last call may find no memory.
 fn end_command(done: Result<(), AllocError>) -> Reply
     ensures ok { OnOk done (result ≡ Done) }
     ensures err { OnErr done (result ≡ OutOfMemory) }
@@ -43,8 +45,8 @@ fn end_command(done: Result<(), AllocError>) -> Reply
     }
 }
 
-/// What a call is answered that changed the content of a workspace or found no memory. The finder of
-/// the workspace takes over what it noted, or drops it.
+/// The reply to a command whose last call changed the content of a workspace or found no memory.
+/// The finder of the workspace takes over what it noted, or drops it.
 fn finish(finders: &mut Finders, at: usize, done: Result<(), AllocError>) -> Reply
     requires { at < length finders.old }
     ensures ok { OnOk done (result ≡ Done) }
@@ -275,7 +277,7 @@ fn refresh(judge: &Judge, tree: &mut Tree, finders: &mut Finders, at: usize) -> 
 }
 
 /// Writes the changes of a workspace, which the finder of its parent has noted, to its parent, and
-/// takes the workspace away where that is asked.
+/// takes the workspace away where `remove` says so.
 fn write_above(
     tree: &mut Tree,
     finders: &mut Finders,
@@ -437,7 +439,7 @@ fn release(tree: &mut Tree, finders: &mut Finders, at: usize) -> Reply
     Reply::Done
 }
 
-/// The name of the workspace that a command is on; a new one is made on its parent.
+/// The name of the workspace that a command is on; for Create it is the parent's.
 fn name_in(command: &Command) -> &str
     ensures { result.now ≡ name_in command.now }
 {
@@ -457,7 +459,7 @@ fn name_in(command: &Command) -> &str
     }
 }
 
-/// Performs a command on LIVE, which takes new workspaces and edits alone.
+/// Performs a command on LIVE, which takes only Create and Apply.
 #[tactic(auto, unfolding(clr_steps::specs::Positions::refusal_at, clr_steps::specs::Positions::effect_at))]
 fn perform_on_live(
     schema: &Schema,

@@ -1,3 +1,5 @@
+//! The cells of a workspace in conflict with its parent.
+
 ghost use Rattle.std.specs.Prelude.{◌≡◌, IfOk};
 ghost use Rattle.clr_rows.specs.Contents.{conflicts};
 
@@ -7,7 +9,6 @@ use clr_tree::View;
 use std::alloc::{AllocError, Global};
 
 /// The changed cells where the parent's row isn't the row before the change, in the order of cells.
-/// It fails for want of memory alone.
 pub(crate) fn conflicting_cells(
     alloc: Global,
     changes: &ChangeSet,

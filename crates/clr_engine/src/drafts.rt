@@ -1,3 +1,5 @@
+//! Drafts of offices, and how they are admitted.
+
 ghost use Rattle.std.specs.Prelude.{◌≡◌, None, option_map, IfOk, IfErr, OnOk};
 ghost use Rattle.clr_steps.specs.Offices.{office_of};
 ghost use Rattle.clr_steps.specs.Readings.{name_at};
@@ -39,13 +41,13 @@ impl Model for Draft {
 pub enum AdmitFault {
     /// No memory was found.
     OutOfMemory,
-    /// The position of the first workspace that breaks a rule, LIVE having position 0 and then those
-    /// that are kept in order of creation, and its least broken need.
+    /// A rule is broken: the position of the first workspace that breaks one, and its least broken
+    /// need. LIVE has position 0, and then come those that are kept, in order of creation.
     Broken { position: usize, need: Broken },
 }
 
 impl Draft {
-    /// A draft of a tree. The rules and each row fit the schema.
+    /// Returns a draft of a tree. The rules and each row fit the schema.
     pub fn of_tree(alloc: Global, schema: Schema, book: RuleBook, tree: Tree) -> Draft
         requires { IsFitting (office_of schema book tree.list) }
         ensures { result ≡ office_of schema book tree.list }
@@ -57,10 +59,11 @@ impl Draft {
         }
     }
 
-    /// A draft of LIVE and of parts, each a workspace, in order of creation. The rules and each row
-    /// fit the schema. It fails with the position of the first part that can't stand, from 0, and
-    /// why: part by part for its name, its parent, and for too many workspaces or levels, and only
-    /// then part by part for its marks; or with 0 and `OutOfMemory`.
+    /// Returns a draft of LIVE and of parts, each a workspace, in order of creation. The rules and
+    /// each row fit the schema. Fails with the position of the first part that can't stand, counted
+    /// from 0, and why: part by part for its name, its parent, and for too many workspaces or
+    /// levels, and only then part by part for its marks. Fails with 0 and `OutOfMemory` if memory
+    /// runs out.
     pub fn build(
         alloc: Global,
         schema: Schema,
@@ -77,7 +80,7 @@ impl Draft {
         Ok(Draft::of_tree(alloc, schema, book, tree))
     }
 
-    /// The schema of every row and rule.
+    /// Returns the schema of every row and rule.
     pub fn schema(&self) -> &Schema
         ensures value { result.now ≡ self.now.schema }
         ensures fit { IsFitting self.now }
@@ -85,7 +88,7 @@ impl Draft {
         &self.schema
     }
 
-    /// The rules, which aren't yet known to hold.
+    /// Returns the rules, which aren't yet known to hold.
     pub fn book(&self) -> &RuleBook
         ensures value { result.now ≡ self.now.book }
         ensures fit { IsFitting self.now }
@@ -93,7 +96,7 @@ impl Draft {
         self.judge.book()
     }
 
-    /// LIVE's content.
+    /// Returns LIVE's content.
     pub fn live(&self) -> &Sheet
         ensures value { result.now ≡ self.now.live }
         ensures fit { IsFitting self.now }
@@ -101,8 +104,8 @@ impl Draft {
         self.tree.live()
     }
 
-    /// The name of the workspace at a position in order of creation, LIVE having position 0, or none
-    /// past the end.
+    /// Returns the name of the workspace at a position in order of creation, LIVE having position
+    /// 0, or none past the end.
     pub fn name_at(&self, position: usize) -> Option<&str>
         ensures { option_map (λ name. name.now) result ≡ name_at self.now position }
     {
@@ -113,9 +116,9 @@ impl Draft {
         }
     }
 
-    /// The office that has all that the draft has, where every rule holds in LIVE and in each
-    /// workspace that is kept; else the draft back, and the first of these that breaks a rule, or
-    /// want of memory.
+    /// Returns the office that has all that the draft has, where every rule holds in LIVE and in
+    /// each workspace that is kept. Otherwise it fails and gives the draft back: with `Broken` and
+    /// the first of these that breaks a rule, or with `OutOfMemory`.
     pub fn admit(self) -> Result<Office, (Draft, AdmitFault)>
         ensures office { IfOk result (λ office. office ≡ self) }
         ensures held { OnOk result (unheld_in self ≡ None) }

@@ -1,3 +1,5 @@
+//! The finders of an office's contents in which rules are to hold.
+
 ghost use Rattle.std.specs.Prelude.{◌≡◌, ◌<◌, ◌++◌, ◌-◌, [], ◌∷◌, None, Some, length, remove, slice_index_or, slice_set, take};
 ghost use Rattle.std.specs.Prelude.{IfOk, OnOk, OnErr, MatchOption, ⊤};
 ghost use Rattle.std.specs.FinMap as finite;
@@ -119,7 +121,7 @@ fn forget(finder: &mut Option<SpotIndex>)
 }
 
 impl Finders {
-    /// No positions.
+    /// Returns the finders of no positions.
     pub fn new(alloc: Global) -> Finders
         ensures { result ≡ [] }
     {
@@ -128,7 +130,7 @@ impl Finders {
         }
     }
 
-    /// The finder at a position, or none.
+    /// Returns the finder at a position, or none.
     pub fn get(&self, at: usize) -> Option<&SpotIndex>
         ensures { option_copied result ≡ slice_index_or self.now at None }
     {
@@ -138,8 +140,7 @@ impl Finders {
         }
     }
 
-    /// Adds changes to the finder at a position, if there is one, all of them or none. It fails for
-    /// want of memory alone.
+    /// Adds changes to the finder at a position, if there is one, all of them or none.
     pub fn note(
         &mut self,
         book: &RuleBook,
@@ -179,8 +180,7 @@ impl Finders {
         self.list[at] = finder;
     }
 
-    /// Adds a position at the end, with a finder or none. It fails for want of memory alone, and
-    /// changes nothing then.
+    /// Adds a position at the end, with a finder or none. If memory runs out, nothing changes.
     pub fn push(&mut self, finder: Option<SpotIndex>) -> Result<(), AllocError>
         ensures ok { OnOk result (self.new ≡ self.old ++ finder ∷ []) }
         ensures err { OnErr result (self.new ≡ self.old) }

@@ -1,3 +1,5 @@
+//! Judging, by the rules, what commands would leave.
+
 ghost use Rattle.std.specs.Prelude.{◌≡◌, ◌<◌, true, length, None, IfOk, OnOk, OnErr, MatchOption};
 ghost use Rattle.std.specs.Option.{option_copied, option_map};
 ghost use Rattle.clr_rows.specs.Contents.{Content, row_at, set_cell, taken_over};
@@ -95,8 +97,8 @@ impl Judge {
         Ok(needs.as_slice().first().copied())
     }
 
-    /// The least broken need of the content that a workspace has, where the rules are to hold in it
-    /// from now on.
+    /// Returns the least broken need of the content that a workspace has, where the rules are to
+    /// hold in it from now on.
     pub fn first_broken_if_kept(
         &self,
         tree: &Tree,
@@ -284,8 +286,8 @@ impl Judge {
         Ok(())
     }
 
-    /// The position of the first workspace in which the rules are to hold, and one doesn't, LIVE
-    /// having position 0, and its least broken need.
+    /// Returns the position of the first workspace in which the rules are to hold, and one doesn't,
+    /// LIVE having position 0, and its least broken need.
     pub fn first_unheld(&self, tree: &Tree) -> Result<Option<(usize, Broken)>, AllocError>
         requires fit { FitSome self.now tree.now.list }
         ensures first { IfOk result (λ first. first ≡ first_unheld self.now tree.now.list) }
@@ -315,7 +317,7 @@ impl Judge {
         Ok(Some(finder_of(self.alloc, &self.book, &rows)?))
     }
 
-    /// The finders of the workspaces of a tree. It fails for want of memory alone.
+    /// Returns the finders of the workspaces of a tree.
     pub fn finders(&self, tree: &Tree) -> Result<Finders, AllocError>
         requires { FitSome self.now tree.now.list }
         ensures { IfOk result (AreFinders self.now (kept_contents tree.now.list)) }

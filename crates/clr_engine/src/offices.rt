@@ -1,3 +1,5 @@
+//! Offices, and what is read of them.
+
 ghost use Rattle.std.specs.Prelude.{◌≡◌, ◌+◌, ◌∷◌, false, length, is_some, option_map, IfOk, IfSome, OnErr};
 ghost use Rattle.std.specs.Option.{option_copied};
 ghost use Rattle.clr_rows.specs.Contents.{row_at};
@@ -65,7 +67,7 @@ impl Office {
         }
     }
 
-    /// The schema of every row and rule.
+    /// Returns the schema of every row and rule.
     pub fn schema(&self) -> &Schema
         ensures value { result.now ≡ self.now.schema }
         ensures admitted { IsAdmitted self.now }
@@ -73,7 +75,7 @@ impl Office {
         &self.schema
     }
 
-    /// The rules, which hold in LIVE and in each workspace that is kept.
+    /// Returns the rules, which hold in LIVE and in each workspace that is kept.
     pub fn book(&self) -> &RuleBook
         ensures value { result.now ≡ self.now.book }
         ensures admitted { IsAdmitted self.now }
@@ -81,7 +83,7 @@ impl Office {
         self.judge.book()
     }
 
-    /// LIVE's content.
+    /// Returns LIVE's content.
     pub fn live(&self) -> &Sheet
         ensures value { result.now ≡ self.now.live }
         ensures admitted { IsAdmitted self.now }
@@ -89,7 +91,7 @@ impl Office {
         self.tree.live()
     }
 
-    /// How many workspaces there are, LIVE counted.
+    /// Returns how many workspaces there are, LIVE included.
     pub fn len(&self) -> usize
         ensures count { result ≡ length self.now.workspaces + 1 }
         ensures sound { IsSound (live_workspace self.now.live ∷ self.now.workspaces) }
@@ -97,8 +99,8 @@ impl Office {
         self.tree.len()
     }
 
-    /// The name of the workspace at a position in order of creation, LIVE having position 0, or none
-    /// past the end.
+    /// Returns the name of the workspace at a position in order of creation, LIVE having position
+    /// 0, or none past the end.
     pub fn name_at(&self, position: usize) -> Option<&str>
         ensures { option_map (λ name. name.now) result ≡ name_at self.now position }
     {
@@ -109,7 +111,7 @@ impl Office {
         }
     }
 
-    /// The name of a workspace's parent, or none for LIVE and for an unknown name.
+    /// Returns the name of a workspace's parent, or none for LIVE and for an unknown name.
     pub fn parent_of(&self, ws: &str) -> Option<&str>
         ensures { option_map (λ name. name.now) result ≡ parent_in self.now ws.now }
     {
@@ -122,7 +124,7 @@ impl Office {
         }
     }
 
-    /// The position of LIVE or a workspace, or none for an unknown name.
+    /// Returns the position of LIVE or a workspace, or none for an unknown name.
     pub fn find(&self, ws: &str) -> Option<usize>
         ensures stands { is_some result ≡ stands self.now ws.now }
         ensures found { IfSome result (IsPositionOf self.now ws.now) }
@@ -130,7 +132,7 @@ impl Office {
         self.tree.find(ws)
     }
 
-    /// The current content at a position, seen by cell, or none past the end.
+    /// Returns the current content at a position, seen by cell, or none past the end.
     pub fn view(&self, position: usize) -> Option<View<'_>>
         ensures { result ≡ current_at self.now position }
     {
@@ -141,8 +143,9 @@ impl Office {
         }
     }
 
-    /// The finder of the rows of LIVE, which has position 0, or of the workspace at a position, if it
-    /// is kept: it has settled just these rows, and nothing is pending in it.
+    /// Returns the finder of the rows of LIVE, which has position 0, or of the workspace at a
+    /// position, if it is kept. The finder has settled exactly these rows, and nothing is pending
+    /// in it.
     pub fn finder(&self, position: usize) -> Option<&SpotIndex>
         ensures { IsFinderAt self.now.book (kept_at self.now position) (option_copied result) }
     {
@@ -150,8 +153,8 @@ impl Office {
         self.finders.get(position)
     }
 
-    /// Whether every rule is to hold in LIVE or a workspace, and so it does; or none for an unknown
-    /// name.
+    /// Returns whether LIVE or a workspace is kept, so that every rule holds in it; or none for an
+    /// unknown name.
     pub fn kept(&self, ws: &str) -> Option<bool>
         ensures value { result ≡ if_stands self.now ws.now (is_kept self.now ws.now) }
         ensures admitted { IsAdmitted self.now }
@@ -162,8 +165,8 @@ impl Office {
         }
     }
 
-    /// The row at a cell in the current content of LIVE or a workspace, or none, also for an unknown
-    /// name.
+    /// Returns the row at a cell in the current content of LIVE or a workspace, or none. It is
+    /// none, too, for an unknown name.
     pub fn read(&self, ws: &str, cell: CellId) -> Option<&Row>
         ensures { option_copied result ≡ row_at (content_of self.now ws.now) cell }
     {
@@ -173,9 +176,9 @@ impl Office {
         }
     }
 
-    /// How many entries are stored of a workspace: one for each cell where its base differs from its
-    /// parent's current content, and one for each cell that it changed; none for LIVE; or none for an
-    /// unknown name.
+    /// Returns how many entries are stored of a workspace, or none for an unknown name: one for
+    /// each cell where its base differs from its parent's current content, and one for each cell
+    /// that it changed. LIVE has 0.
     pub fn stored(&self, ws: &str) -> Option<usize>
         ensures { result ≡ if_stands self.now ws.now (stored_in self.now ws.now) }
     {
@@ -186,8 +189,7 @@ impl Office {
         }
     }
 
-    /// A copy of the current content of LIVE or a workspace, or none for an unknown name. It fails
-    /// for want of memory alone.
+    /// Returns a copy of the current content of LIVE or a workspace, or none for an unknown name.
     pub fn rows(&self, ws: &str) -> Result<Option<Sheet>, AllocError>
         ensures { IfOk result (λ rows. rows ≡ if_stands self.now ws.now (content_of self.now ws.now)) }
     {
@@ -197,8 +199,8 @@ impl Office {
         }
     }
 
-    /// What a workspace changed: the cells where its base and its current content differ, none for
-    /// LIVE; or none for an unknown name. It fails for want of memory alone.
+    /// Returns what a workspace changed, or none for an unknown name: the cells where its base and
+    /// its current content differ. LIVE changed nothing.
     pub fn changes(&self, ws: &str) -> Result<Option<ChangeSet>, AllocError>
         ensures { IfOk result (λ set. set ≡ if_stands self.now ws.now (changes_in self.now ws.now)) }
     {
@@ -209,9 +211,8 @@ impl Office {
         }
     }
 
-    /// The cells that a workspace changed and where its parent has another row than the one that it
-    /// took over, in the order of cells, none for LIVE; or none for an unknown name. It fails for
-    /// want of memory alone.
+    /// Returns the cells that a workspace changed and where its parent has another row than the
+    /// base, in the order of cells, or none for an unknown name. LIVE has no such cells.
     pub fn conflicts(&self, ws: &str) -> Result<Option<Vec<CellId>>, AllocError>
         ensures { IfOk result (λ cells. option_map (λ list. list.items) cells ≡ if_stands self.now ws.now (conflicts_in self.now ws.now)) }
     {
@@ -226,8 +227,8 @@ impl Office {
         Ok(Some(cells))
     }
 
-    /// The workspace at a position in order of creation, with whole contents, or none for LIVE, which
-    /// has position 0, and past the end. It fails for want of memory alone.
+    /// Returns the workspace at a position in order of creation, with whole contents, or none for
+    /// LIVE, which has position 0, and past the end.
     pub fn part(&self, position: usize) -> Result<Option<Part>, AllocError>
         ensures { IfOk result (λ part. option_map workspace_of part ≡ part_at self.now position) }
     {
@@ -237,10 +238,10 @@ impl Office {
         Ok(Some(self.tree.part(position)?))
     }
 
-    /// What is stored of the workspace at a position in order of creation, or none for LIVE, which
-    /// has position 0, and past the end. It is exactly what the workspace differs in: its base from
-    /// its parent's current content, and its current content and savepoints from its base. Nothing
-    /// is copied.
+    /// Returns what is stored of the workspace at a position in order of creation, or none for
+    /// LIVE, which has position 0, and past the end. It is exactly what the workspace differs in:
+    /// its base from its parent's current content, and its current content and savepoints from its
+    /// base. Nothing is copied.
     pub fn layer(&self, position: usize) -> Option<LayerView<'_>>
         ensures { result ≡ option_map (layer_in self.now) (part_at self.now position) }
     {
@@ -250,10 +251,10 @@ impl Office {
         Some(self.tree.layer(position))
     }
 
-    /// Performs one command, whole or not at all: the first refusal that applies is answered, and
-    /// changes nothing. So does `OutOfMemory`, which may come in place of any other answer, but never
-    /// to `Remove`, `Unmark` and `Release`. A content in which the rules are to hold, and which
-    /// would break one, is refused as the last.
+    /// Performs one command, whole or not at all. The reply is the first refusal that applies, or
+    /// `Done`; a refused command changes nothing. `OutOfMemory` may come in place of any other
+    /// reply, but never to `Remove`, `Unmark` and `Release`, and changes nothing either. That the
+    /// content would break a rule, where the rules are to hold in it, is the last refusal.
     pub fn perform(&mut self, command: &Command) -> Reply
         ensures answer { IsAnswer self.old command.now result self.new }
         ensures no_memory { TakesNoMemory command.now → is_lost result ≡ false }
@@ -269,8 +270,8 @@ impl Office {
         reply
     }
 
-    /// Performs commands one after another, also after one that is refused, and answers their
-    /// replies. It fails where no memory is found for the replies, and performs none then.
+    /// Performs commands one after another, also after one that is refused, and returns their
+    /// replies. If no memory is found for the replies, it fails and performs none.
     pub fn perform_all(&mut self, commands: &[Command]) -> Result<Vec<Reply>, AllocError>
         ensures run { IfOk result (λ replies. run self.old commands.now (lost_in replies.items)
             ≡ record { replies = replies.items; office = self.new }) }

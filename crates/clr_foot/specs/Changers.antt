@@ -16,7 +16,7 @@ abbrev pub AreChangersAt : List Changes → ℕ → CellId → Option Changers �
 AreChangersAt sets end q None = NoneChanges sets q 0 end
 AreChangersAt sets end q (Some c) = IsFirstChanger sets q 0 end c.first × IsFound sets q (c.first + 1) end c.second
 
--- those of each cell
+-- the changers of each cell, among the members below a number
 abbrev pub AreChangersBelow : List Changes → ℕ → BTreeMap CellId Changers → Type 0
 AreChangersBelow sets end changers = (q : CellId) → AreChangersAt sets end q (get cell_cmp changers q)
 

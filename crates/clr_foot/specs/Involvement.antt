@@ -15,12 +15,12 @@ names Always x = false
 names (With n) x = n == x
 names (Without n) x = n == x
 
--- so does that of a version that is there
+-- the life of a version that is there names the member
 abbrev pub names_at : ℕ → Option (Lived ℕ) → Bool
 names_at x None = false
 names_at x (Some l) = names l.life x
 
--- that of one of two names, or of the only one
+-- the life of the one version that is named, or of one of the two, names the member
 abbrev pub names_by : ℕ → Setting ℕ → VersionId → Option VersionId → Bool
 names_by x c v None = names_at x (version c v)
 names_by x c v (Some w) = names_at x (version c v) || names_at x (version c w)
@@ -44,10 +44,10 @@ pub record IsInvolvedBy (c : Setting ℕ) (number x : ℕ) (v : VersionId) (n : 
   pub names : Names lived.life x
   pub role : IsSubject n v ⊎ Serves c n first second v lived
 
--- with the new version of a cell, or its old one
+-- a possible need that involves the member by the new version of a cell or by its old one
 abbrev pub IsInvolvedAt : Setting ℕ → ℕ → ℕ → CellId → Need → Type 0
 IsInvolvedAt c number x q n = IsInvolvedBy c number x (version_of true q) n ⊎ IsInvolvedBy c number x (version_of false q) n
 
--- one that involves the member, of one rule
+-- a possible need of one rule that involves the member
 abbrev pub IsInvolvingOf : Setting ℕ → ℕ → ℕ → Need → Type 0
 IsInvolvingOf c number x n = IsInvolving c x n × (n.rule ≡ number)

@@ -28,7 +28,7 @@ model_of content scene = record {
 abbrev pub setting_of : {F : Type 0} → SceneModel F → Setting ℕ
 setting_of m = setting m.rules m.root m.sets
 
--- the same of a scene by its own parts
+-- the setting of a scene, by the scene's own parts
 abbrev pub setting_in : {V F : Type 0} → (V → Content) → Scene V F → Setting ℕ
 setting_in content scene = setting_of (model_of content scene)
 

@@ -31,7 +31,7 @@ abbrev pub IsAtToo : Setting ℕ → Option Version → Type 0
 IsAtToo c None = ⊤
 IsAtToo c (Some v) = IsAt c v
 
--- and it is that of a name
+-- a setting has the version under the name
 abbrev pub IsNamed : Setting ℕ → VersionId → Version → Type 0
 IsNamed c id v = (v.id ≡ id) × IsAt c v
 
@@ -75,6 +75,6 @@ pub record FitsSetting {A : Type 0} (c : Setting A) : Type 0 where
   pub book : FitsBook tables c.rules
   pub each : (v : VersionId) (l : Lived A) → version c v ≡ Some l → FitsCell tables (held_row v l)
 
--- so do the rows that members bring
+-- the rules and the rows that members bring fit one schema
 abbrev pub FitNewRows : List Rule → List Changes → Type 0
 FitNewRows rules sets = (q : CellId) (l : Lived ℕ) → new_version_at sets q ≡ Some l → FitTogether rules ((q, l.row) ∷ [])

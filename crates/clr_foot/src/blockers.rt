@@ -78,8 +78,8 @@ impl<V: RowView, F: RowFinder> Scene<'_, V, F> {
         }
     }
 
-    /// The members that break a possible need, by position, ascending: those that bring a subject or
-    /// take a version away that serves it. It fails for want of memory alone.
+    /// Returns the members that break a possible need, by position, ascending: those that bring a
+    /// subject or take a version away that serves it.
     pub fn blockers(&self, need: &Need) -> Result<Vec<u16>, AllocError>
         requires ready { IsReady F.settled (model_of V.content self.now) }
         requires possible { IsPossibleNeed (setting_of (model_of V.content self.now)) need.now }

@@ -88,9 +88,8 @@ impl<V: RowView, F: RowFinder> Scene<'_, V, F> {
         }
     }
 
-    /// The least broken need of the root's rows with the changes of the one member over them, where
-    /// every rule holds in the root: none where every rule holds after the changes too. It fails for
-    /// want of memory alone.
+    /// Returns the least broken need of the root's rows with the changes of the one member over
+    /// them, where every rule holds in the root: none where every rule holds after the changes too.
     pub fn first_broken(&self) -> Result<Option<Broken>, AllocError>
         requires ready { IsReady F.settled (model_of V.content self.now) }
         requires one { length (model_of V.content self.now).sets ≡ 1 }

@@ -53,7 +53,7 @@ impl<V: RowView, F: RowFinder> Scene<'_, V, F> {
     }
 
     /// Adds the need of a version alone, where the rule asks it and the server, if one is given,
-    /// serves it. It fails for want of memory alone, and changes nothing then.
+    /// serves it. If memory runs out, nothing changes.
     pub(crate) fn add_alone(
         &self,
         rule: u16,
@@ -191,9 +191,9 @@ impl<V: RowView, F: RowFinder> Scene<'_, V, F> {
         Ok(())
     }
 
-    /// Adds the needs of a version with each of some others, where the rule is asked of two. It fails
-    /// for want of memory alone; then what stood in the list stands there, and besides it some of
-    /// these needs alone.
+    /// Adds the needs of a version with each of some others, where the rule is asked of two. If
+    /// memory runs out, the list keeps what stood in it, and besides that it has only some of these
+    /// needs.
     pub(crate) fn add_pairs(
         &self,
         rule: u16,
@@ -221,8 +221,8 @@ impl<V: RowView, F: RowFinder> Scene<'_, V, F> {
         Ok(())
     }
 
-    /// Adds the names of those of some versions that serve. It fails for want of memory alone; then
-    /// what stood in the list stands there, and besides it some of these names alone.
+    /// Adds the names of those of some versions that serve. If memory runs out, the list keeps what
+    /// stood in it, and besides that it has only some of these names.
     pub(crate) fn add_servers(
         &self,
         ask: Ask,

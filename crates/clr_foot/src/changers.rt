@@ -38,7 +38,7 @@ fn with_member(found: Option<Changers>, position: u16) -> Changers
     }
 }
 
-/// Notes a member at each cell that it changes. It fails for want of memory alone.
+/// Notes a member at each cell that it changes.
 fn note_member(
     sets: &[&ChangeSet],
     position: usize,
@@ -56,7 +56,7 @@ fn note_member(
     Ok(())
 }
 
-/// The first two members that change each cell. It fails for want of memory alone.
+/// The first two members that change each cell.
 pub(crate) fn changers_of(
     alloc: Global,
     sets: &[&ChangeSet],

@@ -68,10 +68,10 @@ impl<V: RowView, F: RowFinder> Scene<'_, V, F> {
         }
     }
 
-    /// Whether no possible need has among its subjects and serving versions both a version whose life
-    /// names the first member and one whose life names the second. Members are numbered by position.
-    /// All possible needs count, whether changes touch them or not. It looks at those of the first
-    /// member's changes alone, and fails for want of memory alone.
+    /// Returns whether two members are independent: no possible need has among its subjects and
+    /// serving versions both a version whose life names the first member and one whose life names
+    /// the second. Members are numbered by position. All possible needs count, whether changes
+    /// touch them or not. Only those that involve the first member are looked at.
     pub fn independent(&self, first: u16, second: u16) -> Result<bool, AllocError>
         requires ready { IsReady F.settled (model_of V.content self.now) }
         requires first { first < length (model_of V.content self.now).sets }

@@ -33,8 +33,8 @@ pub(crate) struct Members<'a> {
     ghost changed_by: { (q : Cell) → get cell_cmp changers q ≡ changers_at (map (λ s. s.now) sets.items) q },
 }
 
-/// Adds the cells that a change set changes. It fails for want of memory alone; then what stood in the
-/// list stands there, with the first of these cells behind it.
+/// Adds the cells that a change set changes. If memory runs out, the list keeps what stood in it,
+/// with the first of these cells behind it.
 pub(crate) fn add_cells(set: &ChangeSet, cells: &mut Vec<CellId>) -> Result<(), AllocError>
     ensures ok { OnOk result (cells.new.items ≡ cells.old.items ++ finite.keys set.now) }
     ensures err { OnErr result (IsBegun cells.old.items (finite.keys set.now) cells.new.items) }
@@ -67,7 +67,7 @@ fn lesser(found: Option<SharedCell>, other: SharedCell) -> SharedCell
 }
 
 impl<'a> Members<'a> {
-    /// The members of these change sets. It fails for want of memory alone.
+    /// The members of these change sets.
     pub(crate) fn new(alloc: Global, sets: Vec<&'a ChangeSet>) -> Result<Members<'a>, AllocError>
         requires { length sets.items ≤ MOST_MEMBERS }
         ensures { IfOk result (λ members. members.sets.items ≡ sets.entry.items) }
@@ -135,7 +135,7 @@ impl<'a> Members<'a> {
         least
     }
 
-    /// The rows that members bring, filed by their spots. It fails for want of memory alone.
+    /// The rows that members bring, filed by their spots.
     pub(crate) fn file_new_rows(
         &self,
         alloc: Global,

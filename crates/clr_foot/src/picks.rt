@@ -28,7 +28,8 @@ impl<V: RowView, F: RowFinder> Scene<'_, V, F> {
         }
     }
 
-    /// The least of some ascending versions that does.
+    /// The least of some ascending versions that lives always, or as long as a subject of a
+    /// possible need.
     fn least_lasting(&self, need: &Need, ids: &[VersionId]) -> Option<VersionId>
         requires ascending { IsStrictlySortedBy version_cmp ids.now }
         ensures { IsLeastPassing (lasts_at (setting_in V.content self.now) need.now) ids.now result }
@@ -52,7 +53,7 @@ impl<V: RowView, F: RowFinder> Scene<'_, V, F> {
         Some((taken, brought))
     }
 
-    /// The two of the first member that has both.
+    /// The pair of the first member that takes one of some versions away and brings another.
     fn first_pair(&self, ids: &[VersionId]) -> Option<(VersionId, VersionId)>
         requires ascending { IsStrictlySortedBy version_cmp ids.now }
         ensures { IsFirstPair (setting_in V.content self.now) ids.now (length self.now.members.sets.items) result }
@@ -79,10 +80,10 @@ impl<V: RowView, F: RowFinder> Scene<'_, V, F> {
         }
     }
 
-    /// The witnesses that a planner names for a possible need, or none where nothing covers it: the
-    /// least version that covers it alone; else, of the first member that takes a serving version
-    /// away and brings another, the least that it takes away and the least that it brings. It fails
-    /// for want of memory alone.
+    /// Returns the witnesses that a planner names for a possible need, or none where nothing covers
+    /// it: the least version that covers it alone. If none does, they are those of the first member
+    /// that takes a serving version away and brings another: the least that it takes away and the
+    /// least that it brings.
     pub fn pick(&self, need: &Need) -> Result<Option<(VersionId, Option<VersionId>)>, AllocError>
         requires ready { IsReady F.settled (model_of V.content self.now) }
         requires possible { IsPossibleNeed (setting_of (model_of V.content self.now)) need.now }

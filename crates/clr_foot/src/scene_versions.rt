@@ -36,9 +36,9 @@ fn old_version(cell: CellId, row: Option<&Row>, changer: Option<u16>) -> Option<
 }
 
 impl<'a, V: RowView, F: RowFinder> Scene<'a, V, F> {
-    /// The scene of a book, a root, a finder that has settled the root's rows, and at most
-    /// `MOST_MEMBERS` change sets. Fails with `SharedCell` where two of them change one cell, and with
-    /// `OutOfMemory` for want of memory.
+    /// Returns the scene of a book, a root, a finder that has settled the root's rows, and at most
+    /// `MOST_MEMBERS` change sets. Fails with `SharedCell` where two of them change one cell, and
+    /// with `OutOfMemory` if memory runs out.
     pub fn new(
         alloc: Global,
         book: &'a RuleBook,
@@ -93,7 +93,7 @@ impl<'a, V: RowView, F: RowFinder> Scene<'a, V, F> {
         }
     }
 
-    /// How long the version of a name lives, if there is one.
+    /// Returns how long the version of a name lives, if there is one.
     pub fn life(&self, id: VersionId) -> Option<Life>
         ensures { option_map lifetime result ≡ option_map (λ l. l.life) (version (setting_of (model_of V.content self.now)) id) }
     {

@@ -1,3 +1,5 @@
+//! Scenes: change sets over a root's rows.
+
 ghost use Rattle.std.specs.Prelude.{map};
 ghost use Rattle.clr_foot.specs.Versions.{AreNewRowsFiled};
 
@@ -6,7 +8,8 @@ use clr_grid::SpotIndex;
 use clr_rules::RuleBook;
 use std::alloc::Global;
 
-/// A root's rows with what each member changes there, and a finder of those rows. It copies no row.
+/// A root's rows with what each member changes there, and a finder of those rows. A scene copies no
+/// row of the root.
 #[derive(Drop)]
 pub struct Scene<'a, V, F> {
     pub(crate) alloc: Global,

@@ -51,8 +51,7 @@ impl<V: RowView, F: RowFinder> Scene<'_, V, F> {
         Ok(names)
     }
 
-    /// The versions that serve a possible need, ascending, each once. It fails for want of memory
-    /// alone.
+    /// Returns the versions that serve a possible need, ascending, each once.
     pub fn servers(&self, need: &Need) -> Result<Vec<VersionId>, AllocError>
         requires ready { IsReady F.settled (model_of V.content self.now) }
         requires possible { IsPossibleNeed (setting_of (model_of V.content self.now)) need.now }

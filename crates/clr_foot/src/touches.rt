@@ -206,9 +206,8 @@ impl<V: RowView, F: RowFinder> Scene<'_, V, F> {
         Ok(())
     }
 
-    /// The touched needs: possible ones with a new subject, and those of old subjects that an old
-    /// version serves which a member changes. They are ascending, each once. It fails for want of
-    /// memory alone.
+    /// Returns the touched needs: possible ones with a new subject, and those of old subjects that
+    /// an old version serves which a member changes. They are ascending, each once.
     pub fn touched_needs(&self) -> Result<Vec<Need>, AllocError>
         requires ready { IsReady F.settled (model_of V.content self.now) }
         ensures { IfOk result (λ needs. AreTouchedNeeds (setting_of (model_of V.content self.now)) needs.items) }

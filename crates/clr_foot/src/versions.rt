@@ -1,3 +1,5 @@
+//! Versions with their rows and lives.
+
 ghost use Rattle.std.specs.Prelude.{◌≡◌, option_map};
 ghost use Rattle.clr_rows.specs.Held.{held_of};
 ghost use Rattle.clr_foot.specs.Versions.{row_of};

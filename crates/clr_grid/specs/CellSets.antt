@@ -13,7 +13,7 @@ Cells = set.FinSet cell_cmp
 abbrev pub coded_cells : Coded Cells
 coded_cells = set.code coded_cell
 
--- one cell twice
+-- two cells are one
 abbrev pub is_one : CellId → CellId → Bool
 is_one cell q = eq_by_cmp cell_cmp cell q
 

@@ -12,7 +12,7 @@ FindsSharing = (rules : List Rule) (content : Content) (settled : Settled) (numb
     → number < length rules
     → found_cells false settled number (rule_spots rules number s) ≡ sharing rules number content s
 
--- and exactly those of them that are of the side that serves
+-- the servers that a finder finds are exactly those rows that share with a row and are of the side that serves
 abbrev pub FindsServers : Type 0
 FindsServers = (rules : List Rule) (content : Content) (settled : Settled) (number : ℕ) (s : Held)
     → IsSettledFor settled rules content

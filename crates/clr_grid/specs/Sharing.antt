@@ -37,7 +37,7 @@ may_serve_under rules number s = may_serve_by (slice_get rules number) s
 unfoldable pub sharing : List Rule → ℕ → Content → Held → List CellId
 sharing rules number content s = map (λ t. t.0) (filter (are_sharing rules number s) (finite.entries content))
 
--- those alone whose rows are of the side that serves
+-- the cells of a content whose rows share with a row and are of the side that serves, ascending
 unfoldable pub sharing_servers : List Rule → ℕ → Content → Held → List CellId
 sharing_servers rules number content s = map (λ t. t.0) (filter (λ t. are_sharing rules number s t && may_serve_under rules number t) (finite.entries content))
 
@@ -51,7 +51,7 @@ rule_spots rules number s = record {
   may_serve = may_serve_under rules number s;
 }
 
--- under each rule
+-- what a finder keeps of a row under each rule
 abbrev pub row_spots : List Rule → Held → List RuleSpots
 row_spots rules s = map (λ number. rule_spots rules number s) (range_with_len 0 (length rules))
 
@@ -64,7 +64,7 @@ rows_at cell (Some row) = (cell, row) ∷ []
 abbrev pub Settled : Type 0
 Settled = finite.FinMap cell_cmp (List RuleSpots)
 
--- those of rows that are to stand at some cells, or none
+-- the spots of rows that are to stand at some cells, or none where no row is to stand
 abbrev pub Pending : Type 0
 Pending = finite.FinMap cell_cmp (Option (List RuleSpots))
 

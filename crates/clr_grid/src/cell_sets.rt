@@ -38,7 +38,7 @@ impl CellSet {
         }
     }
 
-    /// Adds a cell. It fails for want of memory alone, and changes nothing then.
+    /// Adds a cell. If memory runs out, nothing changes.
     pub(crate) fn add(&mut self, cell: CellId) -> Result<(), AllocError>
         ensures ok { OnOk result (self.new ≡ set.insert self.old cell) }
         ensures err { OnErr result (self.new ≡ self.old) }
@@ -47,7 +47,7 @@ impl CellSet {
         Ok(())
     }
 
-    /// Adds a cell, where a test says so, and nothing else. It fails for want of memory alone.
+    /// Adds a cell, where a test says so, and nothing else.
     pub(crate) fn add_if(&mut self, test: bool, cell: CellId) -> Result<(), AllocError>
         ensures kept { (q : Cell) → set.contains self.old q ≡ true → set.contains self.new q ≡ true }
         ensures only { (q : Cell) → set.contains self.new q ≡ true → (set.contains self.old q ≡ true) ⊎ ((q ≡ cell) × (test ≡ true)) }
@@ -96,8 +96,8 @@ impl CellSet {
         Ok(())
     }
 
-    /// Adds the cells of another set, where a test says so. It fails for want of memory alone; then
-    /// its own cells stay, and besides them it has cells of the other one alone.
+    /// Adds the cells of another set, where a test says so. If memory runs out, the set keeps its
+    /// own cells, and besides them it has only cells of the other set.
     pub(crate) fn add_all(&mut self, test: bool, other: &CellSet) -> Result<(), AllocError>
         ensures ok { OnOk result ((q : Cell) → set.contains self.new q ≡ (set.contains self.old q || (test && set.contains other.now q))) }
         ensures err { OnErr result (GainsCells (λ q. (test && set.contains other.now q) ≡ true) self.old self.new) }
@@ -108,7 +108,7 @@ impl CellSet {
         Ok(())
     }
 
-    /// The cells, ascending. It fails for want of memory alone.
+    /// The cells, ascending.
     pub(crate) fn to_vec(&self, alloc: Global) -> Result<Vec<CellId>, AllocError>
         ensures exact { IfOk result (λ cells. (q : Cell) → is_one_of cells.items q ≡ set.contains self.now q) }
         ensures rising { IfOk result (λ cells. IsStrictlySortedBy cell_cmp cells.items) }

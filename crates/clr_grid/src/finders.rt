@@ -1,3 +1,5 @@
+//! What every finder of rows promises.
+
 ghost use Rattle.std.specs.Prelude.{◌≡◌, ◌<◌, ◌∷◌, [], length, true, false, Some, None, IfOk, OnOk, OnErr};
 ghost use Rattle.std.specs.FinMap as finite;
 ghost use Rattle.std.specs.Option.{option_copied, option_map};
@@ -11,22 +13,21 @@ use clr_rules::RuleBook;
 use std::alloc::AllocError;
 
 /// A map from cells to the spots of their rows under each rule of one book, with pending changes
-/// beside it. Wherever a call takes a book, it is that one, and the rows fit a schema that it fits.
+/// beside it. Every call is given that same book, and rows that fit a schema which the book fits.
 pub trait RowFinder {
     ghost settled: { Self → Settled };
 
     ghost pending: { Self → Pending };
 
-    /// The cells whose row shares a spot with this one under a rule, or has a role in it where one
-    /// of both is wide, ascending, each once. A row without a role shares with none. The rule's
-    /// number is below the book's `len`. It fails for want of memory alone.
+    /// Returns the cells whose row shares a spot with this one under a rule, ascending, each once.
+    /// Where one of the two rows is wide, it is enough that both have a role in the rule. A row
+    /// without a role shares with none. The rule's number is below the book's `len`.
     fn sharing(&self, book: &RuleBook, rule: u16, held: Held) -> Result<Vec<CellId>, AllocError>
         requires number { rule < length book.now }
         requires fit { FitTogether book.now (held_of held ∷ []) }
         ensures { IfOk result (λ cells. cells.items ≡ found_cells false (settled self.now) rule (rule_spots book.now rule (held_of held.entry))) };
 
-    /// Those of `sharing` alone whose row is of the side that serves. It fails for want of memory
-    /// alone.
+    /// Returns those cells of `sharing` whose row is of the side that serves.
     fn sharing_servers(
         &self,
         book: &RuleBook,
@@ -38,7 +39,7 @@ pub trait RowFinder {
         ensures { IfOk result (λ cells. cells.items ≡ found_cells true (settled self.now) rule (rule_spots book.now rule (held_of held.entry))) };
 
     /// Adds a pending change of a cell that has none yet: the row that is to stand there, or none.
-    /// It fails for want of memory alone, and changes nothing then.
+    /// If memory runs out, nothing changes.
     fn note(&mut self, book: &RuleBook, cell: CellId, row: Option<&Row>) -> Result<(), AllocError>
         requires fit { FitTogether book.now (rows_at cell (option_copied row)) }
         requires free { finite.get (pending self.old) cell ≡ None }

@@ -8,7 +8,8 @@ pub fn finders_find_what_shares()
     ensures { FindsSharing }
 {}
 
-/// Servers alone are exactly those of them that are of the side that serves.
+/// The servers that a finder finds are exactly those rows that share with a row and are of the side
+/// that serves.
 #[tactic(auto, using(crate::proofs::SharingLemmas::found_servers))]
 pub fn finders_find_servers()
     ensures { FindsServers }

@@ -1,3 +1,5 @@
+//! The plain finder, which goes over all its rows.
+
 ghost use Rattle.std.specs.Prelude.{◌≡◌, ◌<◌, ◌∷◌, [], length, IfOk};
 ghost use Rattle.clr_rows.specs.Held.{held_of};
 ghost use Rattle.clr_rules.specs.Books.{FitTogether};
@@ -30,7 +32,7 @@ impl Model for ListFinder {
 }
 
 impl ListFinder {
-    /// A finder without rows. It takes no memory.
+    /// Returns a finder without rows. It takes no memory.
     pub fn new(alloc: Global) -> ListFinder
         ensures { result ≡ no_rows }
     {

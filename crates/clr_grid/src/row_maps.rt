@@ -1,3 +1,5 @@
+//! The spots of rows by cell, with pending changes.
+
 ghost use Rattle.std.specs.Prelude.{◌≡◌, ◌⊎◌, Some, None, true, false, IsSome, IfOk, OnOk, OnErr, MatchOption, is_some, if◌then◌else◌};
 ghost use Rattle.std.specs.BTreeMap.{get, is_at};
 ghost use Rattle.std.specs.FinMap as finite;

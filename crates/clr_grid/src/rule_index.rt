@@ -1,3 +1,5 @@
+//! The cells of rows, filed by rule.
+
 ghost use Rattle.std.specs.Prelude.{◌≡◌, ◌⊎◌, ◌<◌, ◌≤◌, ℕ, Bool, true, false, Some, None, IfOk, OnOk, slice_get, length};
 ghost use Rattle.std.specs.FinSet as set;
 ghost use Rattle.std.specs.List.Sorted.{IsStrictlySortedBy};
@@ -42,7 +44,7 @@ impl RuleIndex {
         }
     }
 
-    /// Files the cell of a row wherever it is to be. It fails for want of memory alone.
+    /// Files the cell of a row wherever it is to be.
     fn file(&mut self, alloc: Global, cell: CellId, spots: &RuleSpots) -> Result<(), AllocError>
         ensures kept { (b : Bool) (k : Key) (q : Cell) → is_filed (side_of self.old b) k q ≡ true → is_filed (side_of self.new b) k q ≡ true }
         ensures only { (b : Bool) (k : Key) (q : Cell) → is_filed (side_of self.new b) k q ≡ true
@@ -74,8 +76,7 @@ impl RuleIndex {
         }
     }
 
-    /// Adds the cells that are looked at for a row, servers alone or all. It fails for want of
-    /// memory alone.
+    /// Adds the cells that are looked at for a row, servers alone or all.
     fn add_near(
         &self,
         servers: bool,
@@ -156,7 +157,7 @@ fn file_at_each(
     Ok(())
 }
 
-/// Files the cell of a row, if there is one. It fails for want of memory alone.
+/// Files the cell of a row, if there is one.
 pub(crate) fn file_row(
     rules: &mut Vec<RuleIndex>,
     alloc: Global,
@@ -242,8 +243,7 @@ fn add_cells_near(
     }
 }
 
-/// The cells that are looked at for a row under a rule, servers alone or all, ascending. It fails
-/// for want of memory alone.
+/// The cells that are looked at for a row under a rule, servers alone or all, ascending.
 pub(crate) fn cells_near(
     rules: &[RuleIndex],
     alloc: Global,

@@ -32,7 +32,7 @@ pub(crate) fn has_role(rule: &Rule, held: Held) -> bool
     }
 }
 
-/// Whether a row is of the side of a rule that serves.
+/// Returns whether a row is of the side of a rule that serves.
 pub fn may_serve(rule: &Rule, held: Held) -> bool
     ensures { result ≡ may_serve rule.now (held_of held.entry) }
 {

@@ -1,3 +1,5 @@
+//! The finder that looks up the spots of a row.
+
 ghost use Rattle.std.specs.Prelude.{◌≡◌, ◌<◌, ◌∷◌, [], length, true, Some, None, is_some, IfOk, OnOk, OnErr, MatchOption};
 ghost use Rattle.std.specs.FinMap as finite;
 ghost use Rattle.clr_rows.specs.Held.{held_of};
@@ -14,7 +16,7 @@ use clr_rules::RuleBook;
 use std::alloc::{AllocError, Global};
 use std::marker::Model;
 
-/// A finder that looks at the spots of the given row alone: it keeps the cells of its rows by rule
+/// A finder that looks only at the spots of the given row: it keeps the cells of its rows by rule
 /// and spot, and those of wide rows apart.
 #[derive(Drop)]
 pub struct SpotIndex {
@@ -38,7 +40,7 @@ impl Model for SpotIndex {
 }
 
 impl SpotIndex {
-    /// A finder without rows. It takes no memory.
+    /// Returns a finder without rows. It takes no memory.
     pub fn new(alloc: Global) -> SpotIndex
         ensures { result ≡ no_rows }
     {

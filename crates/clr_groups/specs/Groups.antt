@@ -11,7 +11,7 @@ position_of group k = get_or group k 0
 
 -- chains -------------------------------------------------------------------------------------
 
--- from one member over others to another, each depending on the next
+-- a chain from one member over others to another, each depending on the next
 abbrev pub IsChain : {A : Type 0} → Setting A → A → List A → A → Type 0
 IsChain c x [] y = x ≡ y
 IsChain c x (z ∷ zs) y = AreDependent c x z × IsChain c z zs y

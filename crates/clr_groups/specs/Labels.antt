@@ -49,7 +49,7 @@ pub record AreNoted (c : Setting ℕ) (count : ℕ) (seen : ℕ → Need → Typ
   pub involved : (n : Need) (w : ℕ) → first n ≡ Some w → (w < count) × IsInvolving c w n
   pub noted : (z : ℕ) (n : Need) → z < count → seen z n → (w : ℕ) × (first n ≡ Some w) × (label labels w ≡ label labels z)
 
--- those of the members below a number
+-- the needs of the members below a number are noted
 abbrev pub AreNotedBelow : Setting ℕ → ℕ → ℕ → BTreeMap Need ℕ → List ℕ → Type 0
 AreNotedBelow c count end first labels = AreNoted c count (λ z n. (z < end) × IsInvolving c z n) (get need_cmp first) labels
 

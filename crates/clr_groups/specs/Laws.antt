@@ -29,7 +29,7 @@ pub record SplitNeeds (rules : List Rule) (root : Content) (sets : List Changes)
       → IsTouched (setting_at rules root sets g) n
       → IsSameNeed (setting rules root sets) (setting_at rules root sets g) g n
 
--- so it is of the groups that chains of dependent pairs make, where no cell is changed by two members
+-- the groups that chains of dependent pairs make split the touched needs so, where no cell is changed by two members
 abbrev pub GroupsSplitNeeds : Type 0
 GroupsSplitNeeds = (rules : List Rule) (root : Content) (sets : List Changes) (groups : List (List ℕ))
     → AreApart sets

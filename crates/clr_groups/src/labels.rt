@@ -43,8 +43,7 @@ fn join(labels: &mut Vec<u16>, member: u16, other: u16)
     }
 }
 
-/// Notes a need of a member, which is joined with the first member that has the need, if one has. It
-/// fails for want of memory alone.
+/// Notes a need of a member, which is joined with the first member that has the need, if one has.
 fn note_need(
     first: &mut BTreeMap<Need, u16>,
     labels: &mut Vec<u16>,
@@ -64,8 +63,7 @@ fn note_need(
     Ok(())
 }
 
-/// Notes the needs of a member, those of the members before it being noted. It fails for want of
-/// memory alone.
+/// Notes the needs of a member, those of the members before it being noted.
 fn note_member<V: RowView, F: RowFinder>(
     scene: &Scene<'_, V, F>,
     member: u16,
@@ -85,7 +83,7 @@ fn note_member<V: RowView, F: RowFinder>(
     Ok(())
 }
 
-/// Each member's own position. It fails for want of memory alone.
+/// Each member's own position.
 fn own_labels(alloc: Global, count: usize) -> Result<Vec<u16>, AllocError>
     requires { count ≤ MOST_MEMBERS }
     ensures long { IfOk result (λ labels. length labels.items ≡ count) }
@@ -98,7 +96,7 @@ fn own_labels(alloc: Global, count: usize) -> Result<Vec<u16>, AllocError>
     Ok(labels)
 }
 
-/// A label for each member. It fails for want of memory alone.
+/// A label for each member.
 pub(crate) fn labels_of<V: RowView, F: RowFinder>(
     alloc: Global,
     scene: &Scene<'_, V, F>,

@@ -14,7 +14,7 @@ use clr_grid::RowFinder;
 use clr_rows::RowView;
 use std::alloc::{AllocError, Global};
 
-/// The members that have a label, ascending. It fails for want of memory alone.
+/// The members that have a label, ascending.
 fn members_with(alloc: Global, labels: &[u16], label: u16) -> Result<Vec<u16>, AllocError>
     requires { length labels.now ≤ MOST_MEMBERS }
     ensures { IfOk result (λ list. Lists nat_cmp (IsLabelled labels.now label) list.items) }
@@ -28,7 +28,7 @@ fn members_with(alloc: Global, labels: &[u16], label: u16) -> Result<Vec<u16>, A
     Ok(list)
 }
 
-/// For each label that a member has, the members that have it. It fails for want of memory alone.
+/// For each label that a member has, the members that have it.
 fn groups_by(alloc: Global, labels: &[u16]) -> Result<Vec<Vec<u16>>, AllocError>
     requires few { length labels.now ≤ MOST_MEMBERS }
     requires below { (x : ℕ) → x < length labels.now → get_or labels.now x 0 < length labels.now }
@@ -44,9 +44,9 @@ fn groups_by(alloc: Global, labels: &[u16]) -> Result<Vec<Vec<u16>>, AllocError>
     Ok(groups)
 }
 
-/// The groups of a scene's members, by position: each ascends and has a member, each member stands in
-/// one, and two stand in the same one exactly where a chain of dependent pairs joins them. The needs
-/// that involve each member are listed once. It fails for want of memory alone.
+/// Returns the groups of a scene's members, by position. Each group ascends and has a member, each
+/// member stands in one, and two stand in the same one exactly where a chain of dependent pairs
+/// joins them. The needs that involve each member are listed once.
 pub fn groups<V: RowView, F: RowFinder>(
     alloc: Global,
     scene: &Scene<'_, V, F>,

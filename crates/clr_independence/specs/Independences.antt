@@ -19,7 +19,7 @@ pub data IsUnfitFor (o : Office) (s : Site) (v : Verdict) : Type 0 where
   of_cell : (cell : CellId) (i j : ℕ) → member_fault o s ≡ None → IsSceneFault (change_sets o s) (scene.SharedCell cell i j)
       → v ≡ verdict.SharedCell cell i j → IsUnfitFor o s v
 
--- that test, or all pairs of members, by position
+-- the first test of members that fails, or all pairs of members, by position
 abbrev pub IsIndependenceOf : Office → Site → Independence → Type 0
 IsIndependenceOf o s (said.Unfit v) = IsUnfitFor o s v
 IsIndependenceOf o s (said.Pairs pairs) =

@@ -39,7 +39,7 @@ pub record AreNeedsOf (c : Setting ℕ) (count : ℕ) (lists : List (List Need))
   pub long : length lists ≡ count
   pub each : (k : ℕ) (list : List Need) → slice_get lists k ≡ Some list → Lists need_cmp (IsInvolving c k) list
 
--- they have none, or one
+-- two lists have no need in common, or one
 abbrev pub IsApart : Bool → List Need → List Need → Type 0
 IsApart true needs others = ¬ (ShareOne needs others)
 IsApart false needs others = ShareOne needs others

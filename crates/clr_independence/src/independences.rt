@@ -27,7 +27,7 @@ pub enum Independence {
     Pairs(Vec<Pair>),
 }
 
-/// The answer where a test of members fails. It fails for want of memory alone.
+/// The answer where a test of members fails.
 fn of_fault(fault: Verdict) -> Result<Independence, AllocError>
     ensures { IfOk result (λ said. (o : Office) (s : Site) → IsFault o s fault → IsIndependenceOf o s said) }
 {
@@ -37,7 +37,7 @@ fn of_fault(fault: Verdict) -> Result<Independence, AllocError>
     }
 }
 
-/// The answer where two members change a cell. It fails for want of memory alone.
+/// The answer where two members change a cell.
 fn of_shared(fault: SceneFault) -> Result<Independence, AllocError>
     ensures { IfOk result (λ said. (o : Office) (s : Site) → member_fault o s ≡ None → IsSceneFault (change_sets o s) fault
         → IsIndependenceOf o s said) }
@@ -59,7 +59,7 @@ fn of_shared(fault: SceneFault) -> Result<Independence, AllocError>
     }
 }
 
-/// The answer that the parts of a site give. It fails for want of memory alone.
+/// The answer that the parts of a site give.
 fn of_parts(
     alloc: Global,
     office: &Office,
@@ -81,11 +81,11 @@ fn of_parts(
     }
 }
 
-/// Which members of a root are independent: of each pair, whether no possible need, touched or not, has
-/// among its subjects and the versions that serve it one that lives with or without the first and one
-/// that lives with or without the second. Where the root isn't kept, a name is wrong, a member is in
-/// conflict or two change one cell: the first test that fails. The needs that involve each member are
-/// listed once. It fails for want of memory alone.
+/// Returns which members of a root are independent. Two members are so where no possible need,
+/// touched or not, has among its subjects and the versions that serve it one that lives with or
+/// without the first and one that lives with or without the second. Where the root isn't kept, a
+/// name is wrong, a member is in conflict or two change one cell, the answer is the first test that
+/// fails. The needs that involve each member are listed once.
 pub fn independence_of(
     alloc: Global,
     office: &Office,

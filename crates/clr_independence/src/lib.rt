@@ -1,11 +1,11 @@
-//! Which members of a root are independent, pair by pair, and the lines that say so. Two are independent
-//! where no possible need involves both.
+//! Which members of a root are independent, pair by pair, and the lines that say so. Two are
+//! independent where no possible need involves both.
 //!
-//! - `pairs`: each pair of a scene's members once, in the order of the list, and whether no
-//!   possible need, touched or not, involves both. `independence_of`: the first test of members
-//!   that fails (the root, names, conflicts, shared cells), or these pairs of an office's members.
-//!   `independence_lines` and `lines_of_independence`: exactly the lines of that. All fail for want
-//!   of memory alone.
+//! - `pairs` gives each pair of a scene's members once, in the order of the list, and whether no
+//!   possible need, touched or not, involves both. `independence_of` gives the first test of
+//!   members that fails (the root, names, conflicts, shared cells), or these pairs of an office's
+//!   members. `independence_lines` and `lines_of_independence` give exactly the lines of that. All
+//!   fail only if memory runs out.
 #![tactic(auto)]
 
 mod independences;

@@ -14,7 +14,7 @@ use clr_rows::Schema;
 use clr_verdict_lines::{member_name, verdict_line};
 use std::alloc::{AllocError, Global};
 
-/// Adds the line of a pair. It fails for want of memory alone.
+/// Adds the line of a pair.
 fn add_pair(lines: &mut Vec<u8>, members: &[&str], pair: Pair) -> Result<(), AllocError>
     ensures { OnOk result (lines.new.items ≡ lines.old.items ++ pair_text (map (λ name. name.now) members.now) pair) }
 {
@@ -30,7 +30,7 @@ fn add_pair(lines: &mut Vec<u8>, members: &[&str], pair: Pair) -> Result<(), All
     lines.extend_from_slice(b"\n")
 }
 
-/// The lines of pairs. It fails for want of memory alone.
+/// The lines of pairs.
 fn pair_lines(alloc: Global, members: &[&str], pairs: &[Pair]) -> Result<Vec<u8>, AllocError>
     ensures { IfOk result (λ lines. lines.items ≡ flat_map (pair_text (map (λ name. name.now) members.now)) pairs.now) }
 {
@@ -41,7 +41,7 @@ fn pair_lines(alloc: Global, members: &[&str], pairs: &[Pair]) -> Result<Vec<u8>
     Ok(lines)
 }
 
-/// The line of members that are unfit. It fails for want of memory alone.
+/// The line of members that are unfit.
 fn unfit_line(
     alloc: Global,
     schema: &Schema,
@@ -57,8 +57,8 @@ fn unfit_line(
     Ok(line)
 }
 
-/// The lines of the independence of members, each ended by `\n`: for each pair `independent` or
-/// `dependent` and both names, or `unfit` and the verdict. It fails for want of memory alone.
+/// Returns the lines of the independence of members, each ended by `\n`: for each pair
+/// `independent` or `dependent` and both names, or `unfit` and the verdict.
 #[tactic(auto, unfolding(crate::specs::Lines::independence_text))]
 pub fn lines_of_independence(
     alloc: Global,
@@ -75,8 +75,8 @@ pub fn lines_of_independence(
     }
 }
 
-/// The lines of the independence of members of a root in an office: none without members. It fails for
-/// want of memory alone.
+/// Returns the lines of the independence of members of a root in an office. Without members there
+/// are none.
 pub fn independence_lines(
     alloc: Global,
     office: &Office,

@@ -34,7 +34,7 @@ pub(crate) fn share_one(needs: &[Need], others: &[Need]) -> bool
     false
 }
 
-/// The possible needs that involve each member. It fails for want of memory alone.
+/// The possible needs that involve each member.
 pub(crate) fn needs_of_members<V: RowView, F: RowFinder>(
     alloc: Global,
     scene: &Scene<'_, V, F>,

@@ -19,7 +19,7 @@ pub struct Pair {
     pub independent: bool,
 }
 
-/// Adds the pairs of a member with each one behind it. It fails for want of memory alone.
+/// Adds the pairs of a member with each one behind it.
 fn add_pairs(lists: &[Vec<Need>], first: usize, pairs: &mut Vec<Pair>) -> Result<(), AllocError>
     requires first { first < length lists.now }
     requires ascending { AreAscending (map (λ list. list.items) lists.now) }
@@ -37,8 +37,8 @@ fn add_pairs(lists: &[Vec<Need>], first: usize, pairs: &mut Vec<Pair>) -> Result
     Ok(())
 }
 
-/// The pairs of a scene's members, in the order of the list, and which of them are independent. It
-/// fails for want of memory alone.
+/// Returns the pairs of a scene's members, in the order of the list, and which of them are
+/// independent.
 pub fn pairs<V: RowView, F: RowFinder>(
     alloc: Global,
     scene: &Scene<'_, V, F>,

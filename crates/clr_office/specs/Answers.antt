@@ -42,7 +42,7 @@ IsAnswerWithin (ask.Merge names) office certificate print = IsMergePrint names (
 abbrev pub is_too_long : List ℕ → Bool
 is_too_long text = nat_lt MOST_INPUT_BYTES (length text)
 
--- the same where `too_long` says whether a text is
+-- what is to be printed for what is asked of two texts, where `too_long` says whether one of them is too long
 abbrev pub IsAnswerIf : Bool → Ask → List ℕ → List ℕ → Printed → Type 0
 IsAnswerIf true asked office second print = print ≡ Err run_fault.TooLong
 IsAnswerIf false asked office second print = IsAnswerWithin asked office second print
@@ -56,7 +56,7 @@ IsNoAnswer IsPrint failed run_fault.WriteFailed = failed ≡ true
 IsNoAnswer IsPrint failed run_fault.TooLong = IsPrint (Err run_fault.TooLong)
 IsNoAnswer IsPrint failed e = IsTextFault IsPrint e
 
--- what is asked is answered so: its lines went out, or it has this fault
+-- the answer to what is asked: its lines went out, or it has this fault
 abbrev pub IsAnswer : (Printed → Type 0) → Option (List ℕ) → Option (List ℕ) → Bool → Result ℕ RunFault → Type 0
 IsAnswer IsPrint held holds failed (Ok status) = (failed ≡ false) × ((lines : List ℕ) × IsPrint (Ok (lines, status)) × Appends held holds lines)
 IsAnswer IsPrint held holds failed (Err e) = IsNoAnswer IsPrint failed e

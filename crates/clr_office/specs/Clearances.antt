@@ -35,11 +35,11 @@ abbrev pub is_without_memory : Verdict → Bool
 is_without_memory verdict.OutOfMemory = true
 is_without_memory _ = false
 
--- its line; all but a clear one counts as a refusal
+-- the outcome of a verdict: its line; all but a clear one counts as a refusal
 abbrev pub verdict_outcome : Office → Certificate → Verdict → Outcome
 verdict_outcome o c v = outcome (verdict_text o.schema c.members c.root v) (not (is_clear v)) (is_without_memory v) o
 
--- where it is clear, the members are safe
+-- the outcome of some verdict on a certificate; where it is clear, the members are safe
 abbrev pub IsVerdictOutcome : Office → Certificate → Outcome → Type 0
 IsVerdictOutcome o c all = (v : Verdict) × IsJudged o c v × (all ≡ verdict_outcome o c v)
 
@@ -78,7 +78,7 @@ fault_print (no_case.Unheld o position need) = unheld_print o position need
 fault_print (no_case.BadCertificate number e) = Err (run_fault.BadCertificate number e)
 fault_print no_case.OutOfMemory = Err run_fault.OutOfMemory
 
--- what is asked of what they give, or that
+-- what is printed of the office and the certificate that two texts give, or of their fault
 abbrev pub IsPrintOfCase : (Office → Certificate → Outcome → Type 0) → Case → Printed → Type 0
 IsPrintOfCase IsRight (Ok given) print = IsPrintOf (IsRight given.0 given.1) print
 IsPrintOfCase IsRight (Err why) print = print ≡ fault_print why

@@ -19,7 +19,7 @@ OneAnswerLaw = (asked : Ask) (office second : List ℕ) (print other : Printed)
     → FoundMemory other
     → print ≡ other
 
--- and so have two such sessions of one input
+-- two such sessions of one input have one list of lines and one status, or one fault
 abbrev pub OneSessionLaw : Type 0
 OneSessionLaw = (input : List ℕ) (print other : Printed)
     → IsSession input print

@@ -42,7 +42,7 @@ pub record Outcome : Type 0 where
 abbrev pub outcome : List ℕ → Bool → Bool → Office → Outcome
 outcome lines refused lost office = record { lines = lines; refused = refused; lost = lost; office = office }
 
--- the same of an output and an office
+-- the outcome that an output and the office that is left make
 abbrev pub outcome_of : Output → Office → Outcome
 outcome_of output office = outcome output.lines.items output.refused output.lost office
 
@@ -58,7 +58,7 @@ is_refused _ = true
 abbrev pub command_outcome : Bool → Office → Command → Outcome
 command_outcome lost o command = let a = step_or_lost lost o command in outcome (reply_text a.office.schema a.reply) (is_refused a.reply) lost a.office
 
--- it is one of these two; a command that takes no memory isn't lost
+-- the outcome of a command that is lost, or of one that isn't; a command that takes no memory isn't lost
 pub record IsCommandOutcome (o : Office) (c : Command) (all : Outcome) : Type 0 where
   pub answer : all ≡ command_outcome all.lost o c
   pub found : TakesNoMemory c → all.lost ≡ false
@@ -71,19 +71,19 @@ first_name (name ∷ names) = name
 abbrev pub report_outcome : Office → Name → List ℕ → Bool → Outcome
 report_outcome o name lines refused = if stands o name then shown lines refused o else shown (reply_text o.schema NoWorkspace) true o
 
--- its rows
+-- the rows of LIVE or a workspace
 unfoldable pub show_outcome : Office → Name → Outcome
 show_outcome o name = report_outcome o name (rows_text o.schema (content_of o name)) false
 
--- its changes against its base
+-- the changes of a workspace against its base
 unfoldable pub changes_outcome : Office → Name → Outcome
 changes_outcome o name = report_outcome o name (changes_text o.schema (changes_in o name)) false
 
--- the cells that are in conflict with its parent
+-- the cells of a workspace that are in conflict with its parent
 unfoldable pub conflicts_outcome : Office → Name → Outcome
 conflicts_outcome o name = report_outcome o name (conflicts_text o.schema (conflicts_in o name)) false
 
--- the needs of its rows that no row serves; one such need counts as a refusal
+-- the needs of the rows of LIVE or a workspace that no row serves; one such need counts as a refusal
 unfoldable pub audit_outcome : Office → Name → Outcome
 audit_outcome o name = let needs = broken_needs o.book (content_of o name) in report_outcome o name (audit_text o.schema needs) (nat_lt 0 (length needs))
 
@@ -110,7 +110,7 @@ pub record IsPlanned (o : Office) (s : Site) (p : Plan) : Type 0 where
   pub promises : Promises o s p
   pub exact : IsExact o s p
 
--- its lines; all but a cleared plan counts as a refusal
+-- the outcome of a plan: its lines; all but a cleared plan counts as a refusal
 abbrev pub plan_outcome : Office → Site → Plan → Outcome
 plan_outcome o s p = outcome (plan_text o.schema s.members s.root p) (not (is_cleared p)) (is_out_of_memory p) o
 
@@ -143,7 +143,7 @@ IsOutcome o (Report word.PlanUnder names) all = IsPlanOutcome o (site (first_nam
 IsOutcome o (Report word.Independence names) all = IsIndependenceOutcome o (site live_name names) all
 IsOutcome o (Report word.IndependenceUnder names) all = IsIndependenceOutcome o (site (first_name names) (drop 1 names)) all
 
--- what is printed at first and then, in the office that was left
+-- the outcome of two things one after another, the second in the office that the first left
 abbrev pub followed_by : Outcome → Outcome → Outcome
 followed_by first later = outcome (first.lines ++ later.lines) (first.refused || later.refused) (first.lost || later.lost) later.office
 

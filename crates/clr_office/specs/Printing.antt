@@ -53,7 +53,7 @@ name_below_live o (suc position) = name_at o (suc position)
 abbrev pub unheld_print : Office → ℕ → Broken → Printed
 unheld_print o position need = print_of (unheld_text o.schema (name_below_live o position) need) true false
 
--- it stands in place of what is asked
+-- what is asked of an office in which every rule holds that is to hold; the line of a rule that doesn't hold stands in its place
 abbrev pub IsPrintWhereHeld : (Office → Printed → Type 0) → Office → Option (ℕ × Broken) → Printed → Type 0
 IsPrintWhereHeld IsPrint o (Some (position, need)) print = print ≡ unheld_print o position need
 IsPrintWhereHeld IsPrint o None print = IsPrint o print

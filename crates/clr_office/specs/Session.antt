@@ -52,7 +52,7 @@ IsRunFault run (run_fault.BadScript number e) = Refuses run (run_fault.BadScript
 IsRunFault run (run_fault.BadCertificate number e) = Refuses run (run_fault.BadCertificate number e)
 IsRunFault run run_fault.OutOfMemory = run.read_failed ≡ false
 
--- a run answered so
+-- what a run answered, with what it left of its reader and writer
 abbrev pub Answers : Run → Result ℕ RunFault → Type 0
 Answers run (Ok status) = Prints run status
 Answers run (Err e) = IsRunFault run e

@@ -1,3 +1,5 @@
+//! Answers to what is asked of one or two texts.
+
 ghost use Rattle.std.specs.Prelude.{◌≡◌, ◌≢◌, false, IfOk, IfErr};
 ghost use Rattle.clr_check.specs.SiteNames.{site};
 ghost use Rattle.clr_command_line.specs.declared.asks.Ask.TheVariants as ask;
@@ -35,7 +37,7 @@ fn audit_draft(alloc: Global, draft: &Draft) -> Result<Output, AllocError>
     })
 }
 
-/// The same of an office text.
+/// The lines of an audit of LIVE in an office text.
 #[tactic(auto, unfolding(crate::specs::Answers::audit_of))]
 fn answer_audit(alloc: Global, office: &[u8]) -> Result<Output, RunFault>
     ensures { IsMade (λ print. print ≡ audit_of (draft_in office.now)) result }
@@ -47,7 +49,7 @@ fn answer_audit(alloc: Global, office: &[u8]) -> Result<Output, RunFault>
     Ok(audit_draft(alloc, &draft)?)
 }
 
-/// What the script of a text prints over the office of another.
+/// Returns what the script of a text prints over the office of another.
 pub fn answer_run(alloc: Global, office: &[u8], script: &[u8]) -> Result<Output, RunFault>
     ensures { IsMade (IsAnswerWithin ask.Run office.now script.now) result }
 {
@@ -105,16 +107,17 @@ fn answer_texts(alloc: Global, ask: &Ask, office: &[u8], second: &[u8]) -> Resul
     }
 }
 
-/// Writes what is to be printed for what is asked of an office text and of a second text, which is the script or the
-/// certificate where there is one, by one put, and answers the exit status: 0 all done, cleared or
-/// clear; 1 something refused, a plan that is blocked or unfit, a verdict that isn't clear, a merge
-/// that isn't quiet, or a rule that doesn't hold; 3 a command, a plan or a verdict found no memory.
-/// Where a rule doesn't hold, all but an audit print that alone. The first fault that applies answers,
-/// and nothing is written then, unless the writer failed. Fails with `TooLong` where a text has more
-/// than `MOST_INPUT_BYTES`, with `BadOffice` where the first text is no office, with `BadScript` or
-/// `BadCertificate` where the second is no script or no certificate, and with `WriteFailed` where the
-/// writer fails; how much went out is then not known. Want of memory is `OutOfMemory`, which may come
-/// in place of any other answer.
+/// Writes what is to be printed for what is asked of an office text and of a second text, which is
+/// the script or the certificate where there is one, by one put, and returns the exit status: 0 all
+/// done, cleared or clear; 1 something refused, a plan that is blocked or unfit, a verdict that
+/// isn't clear, a merge that isn't quiet, or a rule that doesn't hold; 3 a command, a plan or a
+/// verdict found no memory. Where a rule doesn't hold, that alone is printed, but for an audit.
+///
+/// The fault is the first that applies. Nothing is written then, unless the writer failed. Fails
+/// with `TooLong` where a text has more than `MOST_INPUT_BYTES`, with `BadOffice` where the first
+/// text is no office, with `BadScript` or `BadCertificate` where the second is no script or no
+/// certificate, and with `WriteFailed` where the writer fails; how much went out is then not known.
+/// Fails with `OutOfMemory` if memory runs out, which may come in place of any other answer.
 pub fn answer<W: Sink>(
     alloc: Global,
     ask: &Ask,

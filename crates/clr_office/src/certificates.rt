@@ -34,7 +34,7 @@ fn is_out_of_memory(verdict: &Verdict) -> bool
     }
 }
 
-/// The line of a verdict on a certificate. It fails for want of memory alone.
+/// Returns the line of a verdict on a certificate.
 pub fn verdict_output(
     alloc: Global,
     schema: &Schema,
@@ -54,8 +54,9 @@ pub fn verdict_output(
     })
 }
 
-/// What is printed where two texts don't give an office with a certificate: the line that says which rule
-/// doesn't hold. Else it fails, with `BadOffice`, `BadCertificate` or `OutOfMemory`.
+/// Returns what is printed where two texts don't give an office with a certificate: the line that
+/// says which rule doesn't hold. Otherwise it fails, with `BadOffice`, `BadCertificate` or
+/// `OutOfMemory`.
 pub fn fault_output(alloc: Global, fault: CaseFault) -> Result<Output, RunFault>
     ensures { IsMade (λ print. print ≡ fault_print fault) result }
 {
@@ -71,8 +72,8 @@ pub fn fault_output(alloc: Global, fault: CaseFault) -> Result<Output, RunFault>
     }
 }
 
-/// The line of the verdict on a certificate in an office, both given as texts, as `check_texts` says it.
-/// Where the texts don't give both, it is as `fault_output` says.
+/// Returns the line of the verdict on a certificate in an office, both given as texts, as
+/// `check_texts` says it. Where the texts don't give both, the answer is that of `fault_output`.
 pub fn check_output(alloc: Global, office: &[u8], certificate: &[u8]) -> Result<Output, RunFault>
     ensures { IsMade (IsCheckPrint (case_of office.now certificate.now)) result }
 {

@@ -1,3 +1,5 @@
+//! Sources and sinks of bytes.
+
 ghost use Rattle.std.specs.Prelude.{◌≡◌, ◌<◌, ◌≤◌, List, ℕ, Bool, true, Option, length, take, IfOk, OnOk, OnErr};
 ghost use Rattle.std.specs.Io.KnownBytes.{Appends, Consumes, IsAtEnd};
 
@@ -13,8 +15,8 @@ pub trait Source {
     /// Whether a read has failed so far.
     ghost failed: { Self → Bool };
 
-    /// Reads some bytes to the front of a buffer that isn't empty, and says how many: 0 at the end
-    /// alone. It fails where the device does, and the source has failed from then on.
+    /// Reads some bytes to the front of a buffer that isn't empty, and returns how many: 0 only at
+    /// the end. It fails where the device does, and the source has failed from then on.
     fn read_some(&mut self, buffer: &mut [u8]) -> Result<usize, DeviceFault>
         requires { 0 < length buffer.old }
         ensures bound { IfOk result (λ count. count ≤ length buffer.new) }

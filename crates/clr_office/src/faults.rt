@@ -1,3 +1,5 @@
+//! Why a run ends without an exit status.
+
 ghost use Rattle.std.specs.Prelude.{◌≡◌};
 ghost use Rattle.clr_office.specs.Printing.{exit_status};
 ghost use Rattle.clr_office.specs.declared.faults.RunFault.TheVariants as run_fault;
@@ -8,7 +10,7 @@ use clr_scripts::RecordFault;
 use std::alloc::{AllocError, AllocFailed};
 use thiserror::Error;
 
-/// Why a run ended without an exit status. Its line is what it displays.
+/// Why a run ended without an exit status. It is displayed as its line.
 #[derive(Clone, Copy, Debug, PartialEq, Eq, Error)]
 pub enum RunFault {
     /// The reader failed.
@@ -32,13 +34,14 @@ pub enum RunFault {
     /// The number of the first record of the certificate that can't be read, from 1, and why.
     #[error("unreadable certificate {number} {fault:?} at {record}", number = *.1 as u8, fault = .1, record = .0)]
     BadCertificate(usize, CertFault),
-    /// No memory was found. It may come in place of any other answer.
+    /// No memory was found. This fault may come in place of any other answer.
     #[error("out of memory")]
     OutOfMemory,
 }
 
 impl RunFault {
-    /// The exit status of a program that ends so: 3 for want of memory, else 2.
+    /// Returns the exit status of a program that ends with this fault: 3 for `OutOfMemory`, and
+    /// otherwise 2.
     pub fn status(self) -> u8
         ensures { result ≡ exit_status self }
     {

@@ -28,7 +28,7 @@ fn has_dependence(said: &Independence) -> bool
     }
 }
 
-/// The lines of the independence of members of a root. It fails for want of memory alone.
+/// Returns the lines of the independence of members of a root.
 pub fn members_independence(
     alloc: Global,
     office: &Office,

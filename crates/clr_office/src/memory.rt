@@ -1,3 +1,5 @@
+//! A source and a sink over bytes in memory.
+
 ghost use Rattle.std.specs.Prelude.{◌≡◌, ◌+◌, ◌≤◌, ◌<◌, Some, false, true, length, min, take, IfOk, OnOk, OnErr, IsOk, IsErr, []};
 ghost use Rattle.std.specs.Io.KnownBytes.{Appends, Consumes, IsAtEnd};
 
@@ -20,7 +22,7 @@ impl<'a> Model for Text<'a> {
 }
 
 impl<'a> Text<'a> {
-    /// A source of these bytes.
+    /// Returns a source of these bytes.
     pub fn new(bytes: &'a [u8]) -> Text<'a>
         ensures { result ≡ bytes.entry.now }
     {
@@ -72,7 +74,7 @@ impl Model for Page {
 }
 
 impl Page {
-    /// An empty page with room for this many bytes. It fails for want of memory alone.
+    /// Returns an empty page with room for this many bytes.
     pub fn new(alloc: Global, room: usize) -> Result<Page, AllocError>
         ensures { IfOk result (λ page. page ≡ record { contents = []; room = room; failed = false }) }
     {
@@ -83,7 +85,7 @@ impl Page {
         })
     }
 
-    /// The bytes that were put on the page.
+    /// Returns the bytes that were put on the page.
     pub fn as_slice(&self) -> &[u8]
         ensures { result.now ≡ self.now.contents }
     {
@@ -97,7 +99,7 @@ impl Sink for Page {
     ghost failed = { λ page. page.failed };
 
     /// Writes all the bytes. It fails exactly where they don't fit in the room that is left, and
-    /// then puts nothing on the page.
+    /// then nothing is put on the page.
     fn put(&mut self, bytes: &[u8]) -> Result<(), DeviceFault>
         ensures bytes { OnOk result (Appends (Some self.old.contents) (Some self.new.contents) bytes.now) }
         ensures goes_on { OnOk result (self.new.failed ≡ self.old.failed) }

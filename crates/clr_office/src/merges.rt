@@ -74,10 +74,10 @@ fn run_output(alloc: Global, office: &Office, run: &ClearedRun) -> Result<Output
     Ok(all)
 }
 
-/// Merges workspaces in the order of their names, as far as that is quiet for a certificate, where it is
-/// clear: a line for each merge that was performed, one that says where it stopped, and the text of
-/// the office. Where the certificate isn't clear the verdict stands alone. It fails for want of memory,
-/// where none is found for the commands or for a line.
+/// Merges workspaces in the order of their names, as far as that is quiet for a certificate, where
+/// it is clear. There is a line for each merge that was performed, one that says where the merges
+/// stopped, and the text of the office. Where the certificate isn't clear the verdict stands alone.
+/// It fails if no memory is found for the commands or for a line.
 pub fn merge_members(
     alloc: Global,
     office: &mut Office,

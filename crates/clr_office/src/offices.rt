@@ -12,7 +12,7 @@ use clr_lines::unheld_line;
 use std::alloc::{AllocError, Global};
 
 /// Reads an office text, in which the rules may not hold. Fails with `BadOffice` where it is no
-/// office, and with `OutOfMemory` for want of memory.
+/// office, and with `OutOfMemory` if memory runs out.
 pub fn draft_of(alloc: Global, office: &[u8]) -> Result<Draft, RunFault>
     ensures draft { IfOk result (λ draft. draft_in office.now ≡ Ok draft) }
     ensures fault { IfErr result (λ e. IsOfficeFault (draft_in office.now) e) }
@@ -24,8 +24,7 @@ pub fn draft_of(alloc: Global, office: &[u8]) -> Result<Draft, RunFault>
     }
 }
 
-/// The line that says which content breaks a rule, and its least broken need. It fails for want of
-/// memory alone.
+/// Returns the line that says which content breaks a rule, and its least broken need.
 pub fn unheld_output(
     alloc: Global,
     draft: &Draft,
@@ -45,9 +44,9 @@ pub fn unheld_output(
     })
 }
 
-/// The office of a text, in which the rules hold. Where they don't, or the text is no office, it
-/// fails with what is answered in place of all that may be asked of it: the line that says which rule
-/// doesn't hold, or `BadOffice`; or with `OutOfMemory` for want of memory.
+/// Returns the office of a text, in which the rules hold. Otherwise it fails with what is answered
+/// in place of all that may be asked of the office: the line that says which rule doesn't hold, or
+/// `BadOffice` where the text is no office, or `OutOfMemory` if memory runs out.
 pub fn open_office(alloc: Global, office: &[u8]) -> Result<Office, Result<Output, RunFault>>
     ensures meant { IfOk result (λ opened. draft_in office.now ≡ Ok opened) }
     ensures held { IfOk result (λ opened. unheld_in opened ≡ None) }

@@ -1,3 +1,5 @@
+//! What is printed for what was asked, and how it went.
+
 ghost use Rattle.std.specs.Prelude.{◌≡◌, ◌++◌, ◌||◌, false, OnErr, OnOk};
 ghost use Rattle.clr_office.specs.Printing.{status_of};
 
@@ -13,7 +15,7 @@ pub struct Output {
 }
 
 impl Output {
-    /// The output of lines that refuse nothing.
+    /// Returns the output of lines that refuse nothing.
     pub fn of_lines(lines: Vec<u8>) -> Output
         ensures { result ≡ record { lines = lines; refused = false; lost = false } }
     {
@@ -24,7 +26,7 @@ impl Output {
         }
     }
 
-    /// Adds what was asked next. It fails for want of memory alone, and changes nothing then.
+    /// Adds the output of what was asked next. If memory runs out, nothing changes.
     pub fn append(&mut self, output: &Output) -> Result<(), AllocError>
         ensures lines { OnOk result (self.new.lines.items ≡ self.old.lines.items ++ output.now.lines.items) }
         ensures refused { OnOk result (self.new.refused ≡ (self.old.refused || output.now.refused)) }
@@ -38,8 +40,8 @@ impl Output {
         Ok(())
     }
 
-    /// The exit status: 0 where all was done, 1 where something was refused, and 3 where something
-    /// found no memory.
+    /// Returns the exit status: 0 where all was done, 1 where something was refused, and 3 where
+    /// something found no memory.
     pub fn status(&self) -> u8
         ensures { result ≡ status_of self.now.refused self.now.lost }
     {

@@ -40,8 +40,8 @@ fn is_out_of_memory(plan: &Plan) -> bool
     }
 }
 
-/// The lines of the plan of members that are to be merged into a root. A plan that finds no memory
-/// has its line too; it fails where no memory is found for the lines.
+/// Returns the lines of the plan of members that are to be merged into a root. A plan that finds no
+/// memory has its line too. It fails only if no memory is found for the lines.
 pub fn plan_members(
     alloc: Global,
     office: &Office,

@@ -1,3 +1,5 @@
+//! Sources and sinks over readers and writers of `std`.
+
 ghost use Rattle.std.specs.Prelude.{◌≡◌, false};
 
 use crate::devices::{DeviceFault, Sink, Source};
@@ -21,7 +23,7 @@ impl<T> Model for Port<T> {
 }
 
 impl<T> Port<T> {
-    /// A port over this reader or writer.
+    /// Returns a port over this reader or writer.
     pub fn new(inner: T) -> Port<T>
         ensures { result ≡ record { inner = inner; failed = false } }
     {
@@ -37,7 +39,7 @@ impl<R: Read> Source for Port<R> {
 
     ghost failed = { λ port. port.failed };
 
-    /// One read. It fails where the reader gives an error, also that it was interrupted.
+    /// Makes one read. It fails where the reader gives an error, also that it was interrupted.
     fn read_some(&mut self, buffer: &mut [u8]) -> Result<usize, DeviceFault> {
         match self.inner.read(buffer) {
             Ok(count) => Ok(count),

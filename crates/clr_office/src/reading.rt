@@ -1,3 +1,5 @@
+//! Reading a whole input.
+
 ghost use Rattle.std.specs.Prelude.{◌≡◌, ◌<◌, false, vec_len, IfOk, IfErr};
 ghost use Rattle.clr_office.specs.Input.{GivesInput, IsReadFault};
 
@@ -18,9 +20,9 @@ fn empty_piece(alloc: Global) -> Result<Vec<u8>, AllocError>
     vec![in alloc; 0u8; PIECE]
 }
 
-/// All the bytes that a source gives until its end. Fails with `ReadFailed` where a read fails,
-/// which is not tried again, with `TooLong` where the source gives more than `MOST_INPUT_BYTES`,
-/// and with `OutOfMemory` for want of memory.
+/// Returns all the bytes that a source gives until its end. Fails with `ReadFailed` where a read
+/// fails, which is not tried again, with `TooLong` where the source gives more than
+/// `MOST_INPUT_BYTES`, and with `OutOfMemory` if memory runs out.
 pub fn read_input<R: Source>(alloc: Global, reader: &mut R) -> Result<Vec<u8>, RunFault>
     requires { R.failed reader.old ≡ false }
     ensures whole { IfOk result (λ text. GivesInput (R.remaining reader.old) (R.remaining reader.new) text.items) }

@@ -1,3 +1,5 @@
+//! What is printed of a reply.
+
 ghost use Rattle.std.specs.Prelude.{◌≡◌, IfOk};
 ghost use Rattle.clr_steps.specs.Steps.{is_lost as is_lost_reply};
 ghost use Rattle.clr_lines.specs.Replies.{reply_text};
@@ -27,7 +29,7 @@ fn is_lost(reply: &Reply) -> bool
     }
 }
 
-/// The line of a reply. It fails for want of memory alone.
+/// Returns the line of a reply.
 pub fn reply_output(alloc: Global, schema: &Schema, reply: &Reply) -> Result<Output, AllocError>
     ensures lines { IfOk result (λ o. o.lines.items ≡ reply_text schema.now reply.now) }
     ensures refused { IfOk result (λ o. o.refused ≡ is_refused_reply reply.now) }

@@ -29,7 +29,7 @@ fn unknown_workspace(alloc: Global, schema: &Schema) -> Result<Output, AllocErro
     })
 }
 
-/// The lines of the rows that LIVE or a workspace sees. Those of LIVE are not copied.
+/// Returns the lines of the rows that LIVE or a workspace sees. Those of LIVE are not copied.
 #[tactic(auto, unfolding(crate::specs::Outcomes::by_name))]
 pub fn show(alloc: Global, office: &Office, name: &str) -> Result<Output, AllocError>
     ensures { IfOk result (λ o. outcome_of o office.now ≡ show_outcome office.now name.now) }
@@ -44,7 +44,7 @@ pub fn show(alloc: Global, office: &Office, name: &str) -> Result<Output, AllocE
     }
 }
 
-/// The lines of what a workspace changed.
+/// Returns the lines of what a workspace changed.
 #[tactic(auto, unfolding(crate::specs::Outcomes::changes_outcome))]
 pub fn changes(alloc: Global, office: &Office, name: &str) -> Result<Output, AllocError>
     ensures { IfOk result (λ o. outcome_of o office.now ≡ changes_outcome office.now name.now) }
@@ -56,7 +56,7 @@ pub fn changes(alloc: Global, office: &Office, name: &str) -> Result<Output, All
     }
 }
 
-/// The lines of the cells of a workspace that are in conflict with its parent.
+/// Returns the lines of the cells of a workspace that are in conflict with its parent.
 #[tactic(auto, unfolding(crate::specs::Outcomes::conflicts_outcome))]
 pub fn conflicts(alloc: Global, office: &Office, name: &str) -> Result<Output, AllocError>
     ensures { IfOk result (λ o. outcome_of o office.now ≡ conflicts_outcome office.now name.now) }
@@ -68,7 +68,7 @@ pub fn conflicts(alloc: Global, office: &Office, name: &str) -> Result<Output, A
     }
 }
 
-/// The lines of the broken needs of the rows that LIVE or a workspace sees.
+/// Returns the lines of the broken needs of the rows that LIVE or a workspace sees.
 #[tactic(auto, unfolding(crate::specs::Outcomes::audit_outcome))]
 pub fn audit_rows(alloc: Global, office: &Office, name: &str) -> Result<Output, AllocError>
     ensures { IfOk result (λ o. outcome_of o office.now ≡ audit_outcome office.now name.now) }
@@ -84,7 +84,7 @@ pub fn audit_rows(alloc: Global, office: &Office, name: &str) -> Result<Output, 
     })
 }
 
-/// The report on all workspaces under LIVE.
+/// Returns the report on all workspaces under LIVE.
 pub fn workspaces(alloc: Global, office: &Office) -> Result<Output, AllocError>
     ensures { IfOk result (λ o. outcome_of o office.now ≡ workspaces_outcome office.now) }
 {
@@ -100,7 +100,7 @@ pub fn dump_text(alloc: Global, office: &Office) -> Result<Vec<u8>, AllocError>
     Ok(text)
 }
 
-/// The report that is the text of the whole office.
+/// Returns the report that is the text of the whole office.
 pub fn dump(alloc: Global, office: &Office) -> Result<Output, AllocError>
     ensures { IfOk result (λ o. outcome_of o office.now ≡ dump_outcome office.now) }
 {

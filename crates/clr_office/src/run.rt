@@ -1,3 +1,5 @@
+//! The run without words: an office text and a script in one input.
+
 ghost use Rattle.std.specs.Prelude.{◌≡◌, ◌≢◌, false, IfErr};
 ghost use Rattle.clr_office.specs.Session.{Answers};
 ghost use Rattle.clr_office.specs.declared.faults.RunFault.TheVariants as run_fault;
@@ -10,15 +12,17 @@ use crate::separator::split_at_separator;
 use std::alloc::Global;
 
 /// Reads an office text, a separator line and a script to the end of the reader, writes the lines
-/// that the script prints by one put, and answers the exit status: 0 all done, 1 something refused, a
-/// plan that is blocked or unfit, or a rule that doesn't hold in the office, 3 a command or a plan
-/// found no memory. The first fault that applies answers, and nothing is written then, unless the
-/// writer failed. Fails with `ReadFailed` where a read fails, which is not
-/// tried again, with `TooLong` where the input has more than `MOST_INPUT_BYTES`, with `NoSeparator`
-/// where no line is `---`, or `---` and one `\r`, with `BadOffice` where the text before that line
-/// is no office, with `BadScript` where the text after it is no script, and with `WriteFailed` where
-/// the writer fails; how much went out is then not known. Want of memory is `OutOfMemory`, which may
-/// come in place of any other answer.
+/// that the script prints by one put, and returns the exit status: 0 all done, 1 something refused,
+/// a plan that is blocked or unfit, or a rule that doesn't hold in the office, 3 a command or a
+/// plan found no memory.
+///
+/// The fault is the first that applies. Nothing is written then, unless the writer failed. Fails
+/// with `ReadFailed` where a read fails, which is not tried again, with `TooLong` where the input
+/// has more than `MOST_INPUT_BYTES`, with `NoSeparator` where no line is `---`, or `---` and one
+/// `\r`, with `BadOffice` where the text before that line is no office, with `BadScript` where the
+/// text after it is no script, and with `WriteFailed` where the writer fails; how much went out is
+/// then not known. Fails with `OutOfMemory` if memory runs out, which may come in place of any
+/// other answer.
 pub fn run_office<R: Source, W: Sink>(
     alloc: Global,
     reader: &mut R,

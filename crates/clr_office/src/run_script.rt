@@ -67,8 +67,8 @@ fn run_step(alloc: Global, office: &mut Office, step: &Step) -> Result<Output, A
     }
 }
 
-/// Performs the steps of a script one after another. It fails where a line, or what a report shows,
-/// finds no memory; a plan that finds none has its line.
+/// Performs the steps of a script one after another. It fails if no memory is found for a line, or
+/// for what a report shows; a plan that finds none has its line.
 pub fn run_script(alloc: Global, office: &mut Office, steps: &[Step]) -> Result<Output, AllocError>
     ensures { IfOk result (λ o. IsScriptOutcome office.old steps.now (outcome_of o office.new)) }
 {
@@ -80,8 +80,8 @@ pub fn run_script(alloc: Global, office: &mut Office, steps: &[Step]) -> Result<
     Ok(all)
 }
 
-/// Reads a script. Fails with `BadScript` where it is none, and with `OutOfMemory` for want of
-/// memory.
+/// Reads a script. Fails with `BadScript` where it is none, and with `OutOfMemory` if memory runs
+/// out.
 fn steps_of(alloc: Global, schema: &Schema, script: &[u8]) -> Result<Vec<Step>, RunFault>
     ensures steps { IfOk result (λ steps. script_in_text schema.now script.now ≡ Ok steps.items) }
     ensures fault { IfErr result (λ e. IsScriptFault (script_in_text schema.now script.now) e) }

@@ -1,3 +1,5 @@
+//! The separator between an office text and a script.
+
 ghost use Rattle.std.specs.Prelude.{◌≡◌, length, option_map};
 ghost use Rattle.std.specs.Io.BufRead.{take_through};
 ghost use Rattle.clr_office.specs.Separator.{is_separator as separates, around_separator};
@@ -22,8 +24,8 @@ fn is_separator(line: &[u8]) -> bool
     line == b"---".as_slice() || line == b"---\r".as_slice()
 }
 
-/// The text before the first line that is the separator, and the text after that line, or none
-/// where no line is the separator.
+/// Returns the text before the first line that is the separator, and the text after that line, or
+/// none where no line is the separator.
 pub fn split_at_separator(text: &[u8]) -> Option<(&[u8], &[u8])>
     ensures { option_map (λ parts. (parts.0.now, parts.1.now)) result ≡ around_separator text.now }
 {

@@ -17,6 +17,6 @@ HaveParents earlier (l ∷ ls) = (stands_in earlier l.parent ≡ true) × HavePa
 abbrev pub ReadsBack : Type 0
 ReadsBack = (o : OfficeText) → FitsOffice o → HaveParents [] o.layers → office_of (office_data o) ≡ Ok o
 
--- it nests little and has no floats, so that its bytes are compact and are read as it
+-- what is written nests little and has no floats, so that its bytes are compact and are read as the same value
 abbrev pub IsPlain : Type 0
 IsPlain = (o : OfficeText) → (depth (office_data o) ≤ 127) × (has_float (office_data o) ≡ false)

@@ -19,7 +19,7 @@ named_mark_data (named.Child name) = object (member (codes "child") (string name
 named_mark_data (named.Saved name cells) =
     object (member (codes "rows") (list_data named_cell_data cells) (member (codes "savepoint") (string name) no_members))
 
--- in their order
+-- marks as JSON, in their order
 abbrev pub marks_data : List TableDef → List StoredMark → Data
 marks_data tables marks = list_data named_mark_data (map (named_mark tables) marks)
 

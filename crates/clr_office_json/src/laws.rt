@@ -1,3 +1,5 @@
+//! Laws of the JSON of office texts, each proved by a function that does nothing.
+
 ghost use Rattle.clr_office_json.specs.Laws.{IsPlain, ReadsBack};
 
 /// What is written of an office text is read as the same office text: its schema, its rules, LIVE

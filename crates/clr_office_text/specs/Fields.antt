@@ -26,7 +26,7 @@ abbrev pub Gives : {A B : Type 0} → (A → B) → Result A TextFault → Resul
 Gives view (Ok x) meant = meant ≡ Ok (view x)
 Gives view (Err e) meant = Fails e meant
 
--- what is there, or BadField
+-- a value that is there, or BadField in its place
 abbrev pub or_bad_field : {A : Type 0} → Option A → Result A TextFault
 or_bad_field None = Err BadField
 or_bad_field (Some x) = Ok x
@@ -39,7 +39,7 @@ each f (item d ds) = do
   others ← each f ds
   Ok (first ∷ others)
 
--- what is there, or a fault
+-- a value that is there, or a fault in its place
 abbrev pub or_fault : {A : Type 0} → TextFault → Option A → Result A TextFault
 or_fault fault None = Err fault
 or_fault fault (Some x) = Ok x

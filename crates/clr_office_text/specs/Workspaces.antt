@@ -64,7 +64,7 @@ head_of format d = do
   kept ← kept_of format d
   Ok (record { name = name; parent = parent; kept = kept })
 
--- LIVE, or one of some workspaces
+-- the name is that of LIVE, or of one of some workspaces
 abbrev pub stands_in : List Layer → Name → Bool
 stands_in earlier name = bytes_eq name live_name || list_any (λ l. bytes_eq name l.name) earlier
 

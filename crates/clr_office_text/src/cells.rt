@@ -1,3 +1,5 @@
+//! The rows of an office text, as they are written.
+
 ghost use Rattle.std.specs.Prelude.{◌≡◌};
 ghost use Rattle.serde_json.specs.Find.{get};
 ghost use Rattle.serde_json.specs.View.{view, items_view};
@@ -19,7 +21,7 @@ pub struct NamedRow {
     pub row: Row,
 }
 
-/// A text or a whole number. Fails with `BadField` where it is anything else.
+/// Returns a text or a whole number. Fails with `BadField` where it is anything else.
 pub fn value(alloc: Global, json: &Json) -> Result<Value, TextFault>
     ensures { Gives (λ v. v) result (value_of (view json.now)) }
 {
@@ -98,7 +100,8 @@ fn shape(alloc: Global, json: &Json, is_path: bool) -> Result<Shape, TextFault>
     shape_with(is_path, places)
 }
 
-/// The row of a cell, in a table of paths or in another. Fails with `BadField` where there is none.
+/// Returns the row of a cell, in a table of paths or in another. Fails with `BadField` where there
+/// is none.
 #[tactic(auto, unfolding(crate::specs::Cells::row_of))]
 pub fn row(alloc: Global, json: &Json, is_path: bool) -> Result<Row, TextFault>
     ensures { Gives (λ r. r) result (row_of is_path (view json.now)) }
@@ -108,7 +111,7 @@ pub fn row(alloc: Global, json: &Json, is_path: bool) -> Result<Row, TextFault>
     Ok(Row { values, shape })
 }
 
-/// Fails with `BadField` where the flag at a key is set, or is no flag.
+/// Tests whether the flag at a key isn't set. Fails with `BadField` where it is set, or is no flag.
 fn require_no_flag(json: &Json, key: &str) -> Result<(), TextFault>
     ensures { Gives (λ u. u) result (without_flag (get key.now (view json.now))) }
 {
@@ -121,7 +124,7 @@ fn require_no_flag(json: &Json, key: &str) -> Result<(), TextFault>
     }
 }
 
-/// Whether the rows of the table of this name are paths.
+/// Returns whether the rows of the table of this name are paths.
 pub fn has_paths(schema: &Schema, name: &str) -> bool
     ensures { result ≡ table_has_paths schema.now name.now }
 {
@@ -161,8 +164,8 @@ fn each_named_row(
     Ok(rows)
 }
 
-/// The rows of LIVE in an office text, each with its table's name. Fails with `BadField` where a
-/// key is missing, a value is none of those that may stand there, or a cell has no row.
+/// Returns the rows of LIVE in an office text, each with its table's name. Fails with `BadField`
+/// where a key is missing, a value is none of those that may stand there, or a cell has no row.
 #[tactic(auto, unfolding(crate::specs::Cells::live_rows_of))]
 pub fn live_rows(alloc: Global, json: &Json, schema: &Schema) -> Result<Vec<NamedRow>, TextFault>
     ensures { Gives (λ v. v.items) result (live_rows_of schema.now (view json.now)) }

@@ -1,3 +1,5 @@
+//! The names of the workspaces that were read already.
+
 ghost use Rattle.std.specs.Prelude.{◌≡◌, List, ◌++◌, ◌∷◌, [], OnErr, OnOk};
 ghost use Rattle.clr_layers.specs.Layers.{Layer};
 ghost use Rattle.std.specs.BTreeSet.{IsUnchanged};
@@ -15,15 +17,15 @@ fn is_live(name: &str) -> bool
     name == LIVE
 }
 
-/// Whether a name is that of LIVE, or one of these.
+/// Returns whether a name is that of LIVE, or one of these.
 pub fn stands(names: &BTreeSet<String>, name: &str) -> bool
     ensures { (earlier : List Layer) → HasNames names.now earlier → result ≡ stands_in earlier name.now }
 {
     is_live(name) || names.contains(name)
 }
 
-/// Puts the name of one more workspace to those of the earlier ones. It fails for want of memory
-/// alone, and then the names stay as they are.
+/// Adds the name of one more workspace to those of the earlier ones. If memory runs out, the names
+/// stay as they are.
 pub fn note_name(names: &mut BTreeSet<String>, name: &Words) -> Result<(), AllocError>
     ensures noted { OnOk result ((earlier : List Layer) (l : Layer) → HasNames names.old earlier → l.name ≡ name.now → HasNames names.new (earlier ++ l ∷ [])) }
     ensures err { OnErr result (IsUnchanged names.old names.new) }

@@ -1,3 +1,5 @@
+//! Fields of JSON values.
+
 ghost use Rattle.std.specs.Prelude.{◌≡◌, Ok};
 ghost use Rattle.serde_json.specs.Find.{get};
 ghost use Rattle.serde_json.specs.View.{view, items_view};
@@ -8,7 +10,7 @@ use clr_rows::Words;
 use serde_json::Value as Json;
 use std::alloc::Global;
 
-/// The value at a key of an object. Fails with `BadField` where it isn't there.
+/// Returns the value at a key of an object. Fails with `BadField` where it isn't there.
 pub fn field<'a>(json: &'a Json, key: &str) -> Result<&'a Json, TextFault>
     ensures { Gives (λ v. view v.now) result (field_of key.now (view json.now)) }
 {
@@ -18,7 +20,8 @@ pub fn field<'a>(json: &'a Json, key: &str) -> Result<&'a Json, TextFault>
     }
 }
 
-/// A whole number of 64 bits. Fails with `BadField` where it is anything else, also one like 1.0.
+/// Returns the whole number of 64 bits that a value is. Fails with `BadField` where it is anything
+/// else, also a number like 1.0.
 pub fn number(json: &Json) -> Result<i64, TextFault>
     ensures { Gives (λ n. n) result (number_of (view json.now)) }
 {
@@ -28,7 +31,7 @@ pub fn number(json: &Json) -> Result<i64, TextFault>
     }
 }
 
-/// A text. Fails with `BadField` where it is anything else.
+/// Returns the text that a value is. Fails with `BadField` where it is anything else.
 pub fn words(json: &Json) -> Result<&str, TextFault>
     ensures { Gives (λ s. s.now) result (words_of (view json.now)) }
 {
@@ -38,7 +41,7 @@ pub fn words(json: &Json) -> Result<&str, TextFault>
     }
 }
 
-/// A list. Fails with `BadField` where it is anything else.
+/// Returns the list that a value is. Fails with `BadField` where it is anything else.
 pub fn list(json: &Json) -> Result<&[Json], TextFault>
     ensures { Gives (λ v. items_view v.now) result (list_of (view json.now)) }
 {
@@ -48,36 +51,36 @@ pub fn list(json: &Json) -> Result<&[Json], TextFault>
     }
 }
 
-/// The whole number at a key. Fails with `BadField` where there is none.
+/// Returns the whole number at a key. Fails with `BadField` where there is none.
 pub fn number_in(json: &Json, key: &str) -> Result<i64, TextFault>
     ensures { Gives (λ n. n) result (number_at key.now (view json.now)) }
 {
     number(field(json, key)?)
 }
 
-/// A text of its own with these bytes. It fails for want of memory alone.
+/// Returns a copy of a text. It fails only with `OutOfMemory`.
 pub fn words_from(alloc: Global, text: &str) -> Result<Words, TextFault>
     ensures { Gives (λ w. w) result (Ok text.now) }
 {
     Ok(Words::new(String::from_str(alloc, text)?))
 }
 
-/// The text at a key. Fails with `BadField` where there is none.
+/// Returns the text at a key. Fails with `BadField` where there is none.
 pub fn words_in(alloc: Global, json: &Json, key: &str) -> Result<Words, TextFault>
     ensures { Gives (λ w. w) result (words_at key.now (view json.now)) }
 {
     words_from(alloc, words(field(json, key)?)?)
 }
 
-/// The list at a key. Fails with `BadField` where there is none.
+/// Returns the list at a key. Fails with `BadField` where there is none.
 pub fn list_in<'a>(json: &'a Json, key: &str) -> Result<&'a [Json], TextFault>
     ensures { Gives (λ v. items_view v.now) result (list_at key.now (view json.now)) }
 {
     list(field(json, key)?)
 }
 
-/// The list at a key, or the empty one where the key is missing. Fails with `BadField` where
-/// something else is there.
+/// Returns the list at a key, or the empty one where the key is missing. Fails with `BadField`
+/// where something else is there.
 pub fn optional_list<'a>(json: &'a Json, key: &str) -> Result<&'a [Json], TextFault>
     ensures { Gives (λ v. items_view v.now) result (list_or_none (get key.now (view json.now))) }
 {
@@ -87,8 +90,8 @@ pub fn optional_list<'a>(json: &'a Json, key: &str) -> Result<&'a [Json], TextFa
     }
 }
 
-/// The flag at a key, or false where the key is missing. Fails with `BadField` where something else
-/// is there.
+/// Returns the flag at a key, or false where the key is missing. Fails with `BadField` where
+/// something else is there.
 pub fn optional_flag(json: &Json, key: &str) -> Result<bool, TextFault>
     ensures { Gives (λ b. b) result (flag_or_not (get key.now (view json.now))) }
 {

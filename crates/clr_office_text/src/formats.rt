@@ -1,3 +1,5 @@
+//! The formats of office texts.
+
 ghost use Rattle.std.specs.Prelude.{◌≡◌};
 ghost use Rattle.serde_json.specs.View.{view};
 ghost use Rattle.clr_office_text.specs.Fields.{Gives};
@@ -10,15 +12,15 @@ use serde_json::Value as Json;
 /// The format of an office text.
 #[derive(Clone, Copy, Debug, PartialEq, Eq)]
 pub enum Format {
-    /// 1, without paths.
+    /// Format 1, without paths.
     First,
-    /// 2, in which a table may have paths.
+    /// Format 2, in which a table may have paths.
     Second,
-    /// 3, in which a workspace may be kept too.
+    /// Format 3, in which a table may have paths and a workspace may be kept.
     Third,
 }
 
-/// The format of an office text. Fails with `BadField` where it is none of 1 to 3.
+/// Returns the format of an office text. Fails with `BadField` where it is none of 1 to 3.
 #[tactic(auto, unfolding(crate::specs::Offices::format_of))]
 pub fn read_format(json: &Json) -> Result<Format, TextFault>
     ensures { Gives (λ f. f) result (format_of (view json.now)) }

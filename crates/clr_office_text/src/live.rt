@@ -1,3 +1,5 @@
+//! The content of LIVE in an office text.
+
 ghost use Rattle.std.specs.Prelude.{◌≡◌, IfOk, OnErr};
 ghost use Rattle.serde_json.specs.View.{view};
 ghost use Rattle.clr_rows.specs.Contents.{no_rows};
@@ -11,7 +13,8 @@ use clr_rows::{CellId, Schema, Sheet, Words};
 use serde_json::Value as Json;
 use std::alloc::Global;
 
-/// The cell of a key in the table of a name. Fails with `BadRow` where there is no such table.
+/// Returns the cell of a key in the table of a name. Fails with `BadRow` where there is no such
+/// table.
 #[tactic(auto, unfolding(crate::specs::Cells::cell_of))]
 pub fn cell(schema: &Schema, table: &Words, key: i64) -> Result<CellId, TextFault>
     ensures { Gives (λ c. c) result (cell_of schema.now table.now key) }
@@ -22,7 +25,7 @@ pub fn cell(schema: &Schema, table: &Words, key: i64) -> Result<CellId, TextFaul
     }
 }
 
-/// Puts a row that is named into a sheet, which stays where it fails.
+/// Puts a row whose table is named into a sheet. Where it fails, the sheet stays as it is.
 #[tactic(auto, unfolding(crate::specs::Cells::with_row))]
 fn put_row(schema: &Schema, sheet: &mut Sheet, named: NamedRow) -> Result<(), TextFault>
     ensures value { Gives (λ _. sheet.new) result (with_row schema.now sheet.old named) }
@@ -51,9 +54,9 @@ fn sheet(alloc: Global, schema: &Schema, rows: Vec<NamedRow>) -> Result<Sheet, T
     Ok(sheet)
 }
 
-/// The content of LIVE in an office text. Fails with `BadField` where a key is missing in one of
-/// the cells, a value is none of those that may stand there, or a cell has no row, and then, cell
-/// by cell, with `BadRow` where the table isn't known or the row doesn't fit it, and with
+/// Returns the content of LIVE in an office text. Fails with `BadField` where a key is missing in
+/// one of the cells, a value is none of those that may stand there, or a cell has no row, and then,
+/// cell by cell, with `BadRow` where the table isn't known or the row doesn't fit it, and with
 /// `RepeatedCell` where the cell stood earlier in the list.
 #[tactic(auto, unfolding(crate::specs::Cells::live_of))]
 pub fn live(alloc: Global, json: &Json, schema: &Schema) -> Result<Sheet, TextFault>

@@ -1,3 +1,5 @@
+//! Cells that are put over a content, as they are written.
+
 ghost use Rattle.std.specs.Prelude.{◌≡◌};
 ghost use Rattle.serde_json.specs.View.{view, items_view};
 ghost use Rattle.clr_office_text.specs.Fields.{Gives, each};
@@ -36,7 +38,7 @@ impl Model for NamedCells {
 }
 
 impl NamedCells {
-    /// The list of these cells.
+    /// Returns the list of these cells.
     pub fn into_vec(self) -> Vec<NamedCell>
         ensures { result.items ≡ self }
     {
@@ -85,8 +87,8 @@ fn each_named_cell(
     Ok(cells)
 }
 
-/// The cells at a key that are put over a content; a missing list is empty. Fails with `BadField`
-/// where a key is missing in a cell, or a value is none of those that may stand there.
+/// Returns the cells at a key that are put over a content; a missing list is empty. Fails with
+/// `BadField` where a key is missing in a cell, or a value is none of those that may stand there.
 #[tactic(auto, unfolding(crate::specs::Patches::named_cells_at))]
 pub fn named_cells(
     alloc: Global,

@@ -1,3 +1,5 @@
+//! Marks, as they are written.
+
 ghost use Rattle.std.specs.Prelude.{◌≡◌};
 ghost use Rattle.serde_json.specs.View.{view, items_view};
 ghost use Rattle.clr_office_text.specs.Fields.{Gives, each, each_in};
@@ -87,9 +89,9 @@ fn each_mark(
     Ok(marks)
 }
 
-/// The marks of a workspace, savepoints by their differences from the base; a missing list is
-/// empty. Fails with `BadField` where a key is missing in one of the marks, or a value is none of
-/// those that may stand there, and then, mark by mark, as the cells of a savepoint do.
+/// Returns the marks of a workspace, savepoints by their differences from the base; a missing list
+/// is empty. Fails with `BadField` where a key is missing in one of the marks, or a value is none
+/// of those that may stand there, and then, mark by mark, as the cells of a savepoint do.
 #[tactic(auto, unfolding(crate::specs::Workspaces::marks_of))]
 pub fn marks(alloc: Global, json: &Json, schema: &Schema) -> Result<Vec<StoredMark>, TextFault>
     ensures { Gives (λ v. v.items) result (marks_of schema.now (view json.now)) }

@@ -1,3 +1,5 @@
+//! Rules with names of tables and columns, as they are written.
+
 ghost use Rattle.std.specs.Prelude.{◌≡◌};
 ghost use Rattle.serde_json.specs.View.{view, items_view};
 ghost use Rattle.clr_office_text.specs.Fields.{Gives, each};
@@ -142,8 +144,8 @@ fn each_named_rule(alloc: Global, items: &[Json]) -> Result<Vec<NamedRule>, Text
     Ok(rules)
 }
 
-/// The rules of an office text with their names; a missing list is empty. Fails with `BadField`
-/// where a key is missing, or a value is none of those that may stand there.
+/// Returns the rules of an office text with their names; a missing list is empty. Fails with
+/// `BadField` where a key is missing, or a value is none of those that may stand there.
 #[tactic(auto, unfolding(crate::specs::Rules::named_rules_of))]
 pub fn named_rules(alloc: Global, json: &Json) -> Result<Vec<NamedRule>, TextFault>
     ensures { Gives (λ v. v.items) result (named_rules_of (view json.now)) }

@@ -1,3 +1,5 @@
+//! Sides of rules with names of tables and columns, as they are written.
+
 ghost use Rattle.std.specs.Prelude.{◌≡◌};
 ghost use Rattle.serde_json.specs.View.{view, items_view};
 ghost use Rattle.clr_office_text.specs.Fields.{Gives, each, words_of};
@@ -27,7 +29,7 @@ impl Model for NamedFilter {
 }
 
 impl NamedFilter {
-    /// The list of these literals.
+    /// Returns the list of these literals.
     pub fn into_vec(self) -> Vec<(Words, Value)>
         ensures { result.items ≡ self }
     {
@@ -50,7 +52,7 @@ impl Model for ColumnNames {
 }
 
 impl ColumnNames {
-    /// The names as a slice.
+    /// Returns the names as a slice.
     pub fn as_slice(&self) -> &[Words]
         ensures { result.now ≡ self.now }
     {
@@ -113,7 +115,7 @@ fn side(alloc: Global, json: &Json) -> Result<NamedSide, TextFault>
     Ok(NamedSide { table, filter })
 }
 
-/// The side at a key. Fails with `BadField` where there is none.
+/// Returns the side at a key. Fails with `BadField` where there is none.
 #[tactic(auto, unfolding(crate::specs::Rules::side_at))]
 pub fn side_in(alloc: Global, json: &Json, key: &str) -> Result<NamedSide, TextFault>
     ensures { Gives (λ s. s) result (side_at key.now (view json.now)) }
@@ -138,7 +140,7 @@ fn each_name(alloc: Global, items: &[Json]) -> Result<Vec<Words>, TextFault>
     Ok(names)
 }
 
-/// The list of names at a key. Fails with `BadField` where there is none.
+/// Returns the list of names at a key. Fails with `BadField` where there is none.
 #[tactic(auto, unfolding(crate::specs::Rules::names_at))]
 pub fn names_in(alloc: Global, json: &Json, key: &str) -> Result<ColumnNames, TextFault>
     ensures { Gives (λ v. v) result (names_at key.now (view json.now)) }

@@ -1,3 +1,5 @@
+//! Differences, made of cells that are put over a content.
+
 ghost use Rattle.std.specs.Prelude.{◌≡◌, is_none, OnErr};
 ghost use Rattle.std.specs.Option.{option_copied};
 ghost use Rattle.serde_json.specs.View.{view};
@@ -23,7 +25,8 @@ fn can_put(schema: &Schema, cell: CellId, row: &Option<Row>) -> bool
     }
 }
 
-/// Puts a cell that is named into the differences, which stay where it fails.
+/// Puts a cell whose table is named into the differences. Where it fails, the differences stay as
+/// they are.
 #[tactic(auto, unfolding(crate::specs::Patches::with_cell))]
 fn put_cell(
     schema: &Schema,
@@ -44,9 +47,9 @@ fn put_cell(
     Ok(())
 }
 
-/// The differences that cells make. Cell by cell it fails with `BadRow` where the table isn't known,
-/// or the row doesn't fit it, or no row could stand where one is gone, and with `RepeatedCell`
-/// where the cell stood earlier in the list.
+/// Returns the differences that cells make. Fails, cell by cell, with `BadRow` where the table
+/// isn't known, or the row doesn't fit it, or no row could stand where one is gone, and with
+/// `RepeatedCell` where the cell stood earlier in the list.
 #[tactic(auto, unfolding(crate::specs::Patches::with_cells))]
 pub fn differences(
     alloc: Global,
@@ -62,9 +65,9 @@ pub fn differences(
     Ok(differences)
 }
 
-/// The differences that the cells at a key make; a missing list makes none. Fails with `BadField`
-/// where a key is missing in a cell, or a value is none of those that may stand there, and then as
-/// `differences`.
+/// Returns the differences that the cells at a key make. A missing list makes none. Fails with
+/// `BadField` where a key is missing in a cell, or a value is none of those that may stand there,
+/// and then as `differences` does.
 #[tactic(auto, unfolding(crate::specs::Patches::differences_at))]
 pub fn differences_in(
     alloc: Global,

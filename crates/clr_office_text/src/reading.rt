@@ -1,3 +1,5 @@
+//! Reading office texts.
+
 ghost use Rattle.std.specs.Prelude.{◌≡◌, IfOk};
 ghost use Rattle.serde_json.specs.View.{view};
 ghost use Rattle.clr_office_text.specs.Fields.{Gives};

@@ -1,3 +1,5 @@
+//! Rules over a schema, made of rules with names.
+
 ghost use Rattle.std.specs.Prelude.{◌≡◌, IfOk};
 ghost use Rattle.serde_json.specs.View.{view};
 ghost use Rattle.clr_rules.specs.Books.{FitsBook};
@@ -216,10 +218,10 @@ fn each_rule(alloc: Global, schema: &Schema, named: Vec<NamedRule>) -> Result<Ve
     Ok(rules)
 }
 
-/// The book of the rules of an office text; a missing list is empty. Fails with `BadField` where a
-/// key is missing in one of the rules, or a value is none of those that may stand there, and then
-/// with `BadRule` where the schema hasn't a table or a column of a name, or the rules make no book
-/// over the schema.
+/// Returns the book of the rules of an office text; a missing list is empty. Fails with `BadField`
+/// where a key is missing in one of the rules, or a value is none of those that may stand there,
+/// and then with `BadRule` where the schema hasn't a table or a column of a name, or the rules make
+/// no book over the schema.
 #[tactic(auto, unfolding(crate::specs::Rules::rules_of))]
 pub fn read_rules(alloc: Global, json: &Json, schema: &Schema) -> Result<RuleBook, TextFault>
     ensures value { Gives (λ b. b) result (rules_of schema.now (view json.now)) }

@@ -1,3 +1,5 @@
+//! The tables of an office text.
+
 ghost use Rattle.std.specs.Prelude.{◌≡◌};
 ghost use Rattle.serde_json.specs.View.{view, items_view};
 ghost use Rattle.clr_office_text.specs.Fields.{Gives, each};
@@ -106,8 +108,8 @@ fn each_table(alloc: Global, items: &[Json], format: Format) -> Result<Vec<Table
     Ok(tables)
 }
 
-/// The tables of an office text. Fails with `BadField` where a key is missing, or a value is none
-/// of those that may stand there.
+/// Returns the tables of an office text. Fails with `BadField` where a key is missing, or a value
+/// is none of those that may stand there.
 #[tactic(auto, unfolding(crate::specs::Tables::tables_of))]
 pub fn tables(alloc: Global, json: &Json, format: Format) -> Result<Vec<TableDef>, TextFault>
     ensures { Gives (λ v. v.items) result (tables_of format (view json.now)) }

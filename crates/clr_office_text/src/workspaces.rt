@@ -1,3 +1,5 @@
+//! The workspaces of an office text, by their differences.
+
 ghost use Rattle.std.specs.Prelude.{◌≡◌, [], map};
 ghost use Rattle.serde_json.specs.View.{view, items_view};
 ghost use Rattle.clr_layers.specs.Entries.{stored_layer};
@@ -16,7 +18,7 @@ use serde_json::Value as Json;
 use std::alloc::Global;
 use std::collections::BTreeSet;
 
-/// What is written first of a workspace.
+/// The name of a workspace, that of its parent, and its flag.
 #[derive(Debug, Drop)]
 pub struct Head {
     pub name: Words,
@@ -106,11 +108,11 @@ fn each_workspace(
     Ok(parts)
 }
 
-/// The workspaces of an office text, in order of creation; a missing list is empty. Of each one
-/// first the name, the parent and the flag are read, then its base, its rows and its marks. Each of
-/// these fails with `BadField` where a key is missing, or a value is none of those that may stand
-/// there, and then with `BadPart` where the parent is neither LIVE nor an earlier workspace, with
-/// `BadRow` where the table of a cell isn't known, or the row doesn't fit it, and with
+/// Returns the workspaces of an office text, in order of creation; a missing list is empty. Of each
+/// one first the name, the parent and the flag are read, then its base, its rows and its marks.
+/// Each of these fails with `BadField` where a key is missing, or a value is none of those that may
+/// stand there, and then with `BadPart` where the parent is neither LIVE nor an earlier workspace,
+/// with `BadRow` where the table of a cell isn't known, or the row doesn't fit it, and with
 /// `RepeatedCell` where a cell stood earlier in its list.
 #[tactic(auto, unfolding(crate::specs::Workspaces::layers_of))]
 pub fn stored_parts(

@@ -9,7 +9,7 @@ use Rattle.clr_foot.specs.Scenes.{model_at, IsReady, SceneModel, setting_of}
 use Rattle.clr_needs.specs.Settings.{Setting}
 use Rattle.clr_plan.specs.declared.group_needs.GroupNeed.{GroupNeed}
 
--- by need, then by group
+-- pairs of a need and a group are ordered by need, then by group
 abbrev pub group_need_cmp : GroupNeed → GroupNeed → Ordering
 group_need_cmp x y = ordering_then (need_cmp x.need y.need) (nat_cmp x.group y.group)
 

@@ -19,7 +19,7 @@ pub record IsClearance (o : Office) (s : Site) (c : Certificate) : Type 0 where
   pub site : site_of c ≡ s
   pub cleared : IsCleared o s (entries_in c.entries)
 
--- what is planned; want of memory may come in its place where no test of names fails
+-- the plan of a site; want of memory may come in its place where no test of names fails
 abbrev pub IsPlan : Office → Site → Plan → Type 0
 IsPlan o s (plan.Unfit v) = IsUnfit o s v
 IsPlan o s (plan.Blocked order cause) = IsBlocked o s order.items cause
@@ -28,7 +28,7 @@ IsPlan o s plan.OutOfMemory = name_fault o s ≡ None
 
 -- by parts -----------------------------------------------------------------------------------
 
--- blocked in this order for this cause, or want of memory
+-- the plan is blocked in this order for this cause, or is want of memory
 abbrev pub IsBlockedIn : List ℕ → Verdict → Plan → Type 0
 IsBlockedIn order cause (plan.Blocked list v) = (list.items ≡ order) × (v ≡ cause)
 IsBlockedIn order cause (plan.Unfit v) = ⊥

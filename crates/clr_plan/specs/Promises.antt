@@ -49,11 +49,11 @@ is_out_of_memory (plan.Blocked order cause) = false
 is_out_of_memory (plan.Unfit v) = false
 is_out_of_memory plan.OutOfMemory = true
 
--- where no test of names fails and memory was found, cleared exactly where the members are safe
+-- where no test of names fails and memory was found, the plan is cleared exactly where the members are safe
 abbrev pub IsExact : Office → Site → Plan → Type 0
 IsExact o s p = name_fault o s ≡ None → is_out_of_memory p ≡ false → (is_cleared p ≡ true) ↔ Safe o s
 
--- where a test of names fails, that is answered
+-- where a test of names fails, the plan is unfit with that test
 abbrev pub IsUnfitWhere : Office → Site → Plan → Type 0
 IsUnfitWhere o s p = (v : Verdict) → IsUnfit o s v → p ≡ plan.Unfit v
 

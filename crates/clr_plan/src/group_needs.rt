@@ -13,15 +13,15 @@ use clr_rows::RowView;
 use clr_spots::put_in_order;
 use std::alloc::{AllocError, Global};
 
-/// A touched need, and the position of the group in whose scene it is touched. They are ordered by
-/// need.
+/// A touched need, and the position of the group in whose scene it is touched. Such pairs are
+/// ordered by need.
 #[derive(Clone, Copy, Debug, PartialEq, Eq, PartialOrd, Ord)]
 pub(crate) struct GroupNeed {
     pub(crate) need: Need,
     pub(crate) group: usize,
 }
 
-/// Adds the touched needs of the scene of a group. It fails for want of memory alone.
+/// Adds the touched needs of the scene of a group.
 fn add_needs<V: RowView, F: RowFinder>(
     scene: &Scene<'_, V, F>,
     group: usize,
@@ -38,7 +38,7 @@ fn add_needs<V: RowView, F: RowFinder>(
     Ok(())
 }
 
-/// The touched needs of the scenes of groups, ascending. It fails for want of memory alone.
+/// The touched needs of the scenes of groups, ascending.
 pub(crate) fn group_needs<V: RowView, F: RowFinder>(
     alloc: Global,
     parts: &[Scene<'_, V, F>],

@@ -11,7 +11,7 @@ use clr_grid::RowFinder;
 use clr_rows::RowView;
 use std::alloc::{AllocError, Global};
 
-/// The scene of each group of a scene's members. It fails for want of memory alone.
+/// The scene of each group of a scene's members.
 pub(crate) fn group_scenes<'a, V: RowView, F: RowFinder>(
     alloc: Global,
     scene: &Scene<'a, V, F>,

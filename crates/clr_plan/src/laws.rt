@@ -2,7 +2,7 @@
 
 ghost use Rattle.clr_plan.specs.OnePlan.{OnePlanLaw};
 
-/// No site has two plans: where memory is found, any two say the same, with one reason, one order
+/// No site has two plans: where memory is found, any two plans of a site have one reason, one order
 /// and one cause, or one certificate.
 pub fn plans_of_a_site_are_alike()
     ensures { OnePlanLaw }

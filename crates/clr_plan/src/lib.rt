@@ -1,17 +1,18 @@
 //! The planner: of children of a kept workspace that are to be merged into it, either a certificate
 //! that they can be merged in every order, or an order in which some merge is refused.
 //!
-//! - `plan` [`plan`, `unfit`, `promises`, `exact`, `lasts`]. Unfit, with the verdict, exactly where
-//!   the root isn't kept or a test of names fails, and then never want of memory. Cleared: the
-//!   certificate has the members as they were given and one entry for each touched need, ascending,
-//!   with the witnesses that `pick` names; the verdict on it is Clear, the members are safe and the
-//!   headline holds. Blocked: of the merges of these members in this order, from this office, no
-//!   workspace removed, one is refused by a conflict or a broken rule, so that the members aren't
-//!   safe; order and cause are those of the first member in conflict, of the first cell that two
-//!   change, or of the least touched need that nothing covers. There is no other answer but want of
-//!   memory. So where no test of names fails, and memory aside, it answers Cleared *exactly* where
-//!   the members are safe; and once a set is cleared, those of its members that stand are cleared
-//!   after every quiet list, in whichever order they are named.
+//! - `plan` [`plan`, `unfit`, `promises`, `exact`, `lasts`]. It is Unfit, with the verdict, exactly
+//!   where the root isn't kept or a test of names fails, and then never want of memory. Where it is
+//!   Cleared, the certificate has the members as they were given and one entry for each touched
+//!   need, ascending, with the witnesses that `pick` names; the verdict on it is Clear, the members
+//!   are safe and the headline holds. Where it is Blocked, one of the merges of these members in
+//!   this order, from this office and with no workspace removed, is refused by a conflict or a
+//!   broken rule, so that the members aren't safe; order and cause are those of the first member in
+//!   conflict, of the first cell that two change, or of the least touched need that nothing covers.
+//!   There is no other answer but want of memory. So where no test of names fails, and memory
+//!   aside, it answers Cleared *exactly* where the members are safe. Once a set is cleared, those
+//!   of its members that stand are cleared after every quiet list, in whichever order they are
+//!   named.
 //! - Where members fall into groups, witnesses are picked in the scene of each group, by
 //!   `groups_split_needs`; the answer is the same, word for word.
 //! - `plans_of_a_site_are_alike`: what `plan` promises is true of one answer alone, memory aside.

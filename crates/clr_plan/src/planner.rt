@@ -34,14 +34,14 @@ fn plan_parts(
     }
 }
 
-/// What is planned for members that are to be merged into a root. `Unfit` comes wherever a test of
-/// names fails, with the first that does. `Cleared` comes with a certificate that names the root and
-/// the members as they are given, with one entry for each touched need, ascending: the members are
-/// safe. `Blocked` comes with an order of members, by position, and the first test that fails: of the
-/// merges in that order, from this office and the workspaces kept, one meets a conflict or breaks a
-/// rule. There is no other answer but `OutOfMemory`, in place of `Cleared` and `Blocked`. What was
-/// cleared stays so for the members that still stand, in whichever order they are named, after every
-/// list of quiet commands.
+/// Returns what is planned for members that are to be merged into a root. `Unfit` comes wherever a
+/// test of names fails, with the first that does. `Cleared` comes with a certificate that names the
+/// root and the members as they are given, with one entry for each touched need, ascending: the
+/// members are safe. `Blocked` comes with an order of members, by position, and the first test that
+/// fails: of the merges in that order, from this office and with the workspaces kept, one meets a
+/// conflict or breaks a rule. There is no other answer but `OutOfMemory`, in place of `Cleared` and
+/// `Blocked`. What was cleared stays cleared for the members that still stand, in whichever order
+/// they are named, after every list of quiet commands.
 pub fn plan(alloc: Global, office: &Office, root: &str, members: &[&str]) -> Plan
     ensures plan { IsPlan office.now (site root.now (map (λ name. name.now) members.now)) result }
     ensures unfit { IsUnfitWhere office.now (site root.now (map (λ name. name.now) members.now)) result }

@@ -12,7 +12,7 @@ use Rattle.clr_plan.specs.declared.plans.Plan.TheVariants as plan
 use Rattle.clr_lines.specs.Reports.{count_line}
 use Rattle.clr_verdict_lines.specs.Verdicts.{member_name, verdict_text}
 
--- how many entries there are, and then the certificate
+-- the lines of a cleared plan: how many entries there are, and then the certificate
 abbrev pub cleared_text : List TableDef → Certificate → List ℕ
 cleared_text tables c = count_line (codes "cleared") (length c.entries) ++ certificate_text tables c
 
@@ -20,11 +20,11 @@ cleared_text tables c = count_line (codes "cleared") (length c.entries) ++ certi
 abbrev pub order_name : List Name → ℕ → List ℕ
 order_name members at = codes " " ++ member_name members at
 
--- the order in which a merge is refused: how many there are, and then their names
+-- the line of an order in which a merge is refused: how many members stand in it, and then their names
 abbrev pub order_text : List Name → List ℕ → List ℕ
 order_text members order = codes "blocked " ++ decimal (length order) ++ flat_map (order_name members) order ++ codes "\n"
 
--- that order, and then the cause
+-- the lines of a blocked plan: the order, and then the cause
 abbrev pub blocked_text : List TableDef → List Name → Name → List ℕ → Verdict → List ℕ
 blocked_text tables members root order cause = order_text members order ++ codes "cause " ++ verdict_text tables members root cause
 

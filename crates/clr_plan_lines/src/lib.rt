@@ -1,7 +1,7 @@
 //! The lines of a plan of members that are to be merged into a root.
 //!
-//! - `plan_lines`: exactly the bytes, with names of members and cells, memory aside; a certificate
-//!   as `write_certificate` writes it.
+//! - `plan_lines` gives exactly the bytes, with the names of members and cells, memory aside. A
+//!   certificate stands there as `write_certificate` writes it.
 #![tactic(auto)]
 
 mod lines;

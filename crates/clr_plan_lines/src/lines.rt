@@ -1,3 +1,5 @@
+//! The lines of plans.
+
 ghost use Rattle.std.specs.Prelude.{◌≡◌, ◌++◌, codes, map, IfOk, OnOk};
 ghost use Rattle.clr_verdict_lines.specs.Verdicts.{verdict_text};
 ghost use Rattle.clr_plan_lines.specs.Plans.{blocked_text, cleared_text, order_name, order_text, plan_text};
@@ -10,7 +12,7 @@ use clr_rows::Schema;
 use clr_verdict_lines::{member_name, verdict_line};
 use std::alloc::{AllocError, Global};
 
-/// How many entries a certificate has, and its text.
+/// Returns the lines of a certificate: how many entries it has, and its text.
 fn cleared_lines(
     alloc: Global,
     schema: &Schema,
@@ -32,7 +34,7 @@ fn add_order_name(lines: &mut Vec<u8>, members: &[&str], at: usize) -> Result<()
     lines.extend_from_slice(member_name(members, at).as_bytes())
 }
 
-/// How many members stand in an order, and their names.
+/// Returns the line of an order: how many members stand in it, and their names.
 fn order_line(alloc: Global, members: &[&str], order: &[usize]) -> Result<Vec<u8>, AllocError>
     ensures { IfOk result (λ line. line.items ≡ order_text (map (λ name. name.now) members.now) order.now) }
 {
@@ -91,12 +93,12 @@ fn unfit_line(
     Ok(line)
 }
 
-/// The lines of a plan of members of a root, each ended by `\n`. Of a certificate: `cleared` and how
-/// many entries it has, and its records, as `write_certificate` writes them. Of an order in which a
-/// merge is refused: `blocked`, how many members stand in it and their names, and in a second line
-/// `cause` and the verdict. Where the members are unfit: `unfit` and the verdict. Where the planner
-/// found no memory: `refused 0 OutOfMemory`. A position past the members, and a table that the
-/// schema hasn't, have no bytes for a name. It fails for want of memory alone.
+/// Returns the lines of a plan of members of a root, each ended by `\n`. Of a certificate they are
+/// `cleared` and how many entries it has, and then its records, as `write_certificate` writes them.
+/// Of an order in which a merge is refused they are `blocked`, how many members stand in it and
+/// their names, and in a second line `cause` and the verdict. Where the members are unfit, the line
+/// is `unfit` and the verdict. Where the planner found no memory, it is `refused 0 OutOfMemory`. A
+/// position past the members, and a table that the schema hasn't, have an empty name.
 #[tactic(auto, unfolding(crate::specs::Plans::plan_text))]
 pub fn plan_lines(
     alloc: Global,

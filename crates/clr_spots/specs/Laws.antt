@@ -28,13 +28,13 @@ SharesBeside rule s (Some t) = share rule s t ≡ true
 abbrev pub SubjectsShare : Type 0
 SubjectsShare = (rule : Rule) (ask : Ask) (s : Held) (t : Option Held) → has_distance rule ≡ true → are_subjects rule ask s t ≡ true → SharesBeside rule s t
 
--- and so does a serving row with each of them
+-- a row that serves subjects shares a spot with each of them, or one of the two is wide
 abbrev pub ServersShare : Type 0
 ServersShare = (rule : Rule) (ask : Ask) (s : Held) (t : Option Held) (r : Held)
     → are_subjects rule ask s t ≡ true
     → is_server rule ask s t r ≡ true
     → (share rule s r ≡ true) × SharesBeside rule r t
 
--- in either order
+-- two rows share a spot in either order
 abbrev pub SharedBothWays : Type 0
 SharedBothWays = (rule : Rule) (s t : Held) → share rule s t ≡ share rule t s

@@ -15,7 +15,7 @@ pub record IsNearPlace (p : Place) : Type 0 where
   pub in_x : unsigned_abs p.x ≤ GREATEST_REACH
   pub in_y : unsigned_abs p.y ≤ GREATEST_REACH
 
--- both corners are
+-- both corners are within the greatest reach
 pub record IsNear (b : Bounds) : Type 0 where
   pub least : IsNearPlace b.least
   pub most : IsNearPlace b.most

@@ -29,7 +29,7 @@ server_spots (EndNode subject tip server) s = in_role (is_of_side server s) (squ
 server_spots (Crossing a b server) s = in_role (is_of_side server s) (square_at (point_of s))
 server_spots _ s = []
 
--- the same for the rule of a number
+-- the spots of a row as a subject under the rule of a number
 abbrev pub subject_spots_by : Option Rule → ℕ → Held → List Spot
 subject_spots_by None part s = []
 subject_spots_by (Some rule) part s = subject_spots rule part s

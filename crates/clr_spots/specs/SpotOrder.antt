@@ -10,14 +10,14 @@ use Rattle.clr_rows.specs.Same.{same_values}
 use Rattle.clr_spots.specs.declared.spots.Spot.{Spot}
 use Rattle.clr_spots.specs.declared.spots.Spot.TheVariants.{Square, Values}
 
--- numbers before texts, and texts by their bytes
+-- values are ordered: numbers before texts, and texts by their bytes
 abbrev pub value_cmp : Value → Value → Ordering
 value_cmp (Int a) (Int b) = int_cmp a b
 value_cmp (Int a) (Words b) = Less
 value_cmp (Words a) (Int b) = Greater
 value_cmp (Words a) (Words b) = slice_cmp nat_cmp a b
 
--- squares by x, then by y; lists of values from left to right
+-- spots are ordered: squares by x, then by y; lists of values from left to right
 unfoldable pub spot_cmp : Spot → Spot → Ordering
 spot_cmp (Square i j) (Square k l) = ordering_then (int_cmp i k) (int_cmp j l)
 spot_cmp (Square i j) (Values vs) = Less

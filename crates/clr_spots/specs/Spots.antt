@@ -79,7 +79,7 @@ abbrev pub in_role : Bool → List Spot → List Spot
 in_role true spots = spots
 in_role false spots = []
 
--- those of both lists, each once
+-- the spots of both lists, each once
 abbrev pub union : List Spot → List Spot → List Spot
 union xs ys = xs ++ filter (λ y. not (list_any (λ x. same_spot x y) xs)) ys
 
@@ -97,11 +97,11 @@ all_spots (EndNode subject tip server) s =
 all_spots (Crossing a b server) s = in_role (is_of_side a s || is_of_side b s || is_of_side server s) (squares_of_all (boxes_of s))
 all_spots (Near a b d) s = in_role (is_of_side a s || is_of_side b s) (squares_near d (point_of s))
 
--- more than the most
+-- there are more spots than the most
 abbrev pub are_many : List Spot → Bool
 are_many spots = nat_lt MOST_SPOTS (length spots)
 
--- none where they are many
+-- the list of spots, empty where they are more than the most
 abbrev pub unless_many : List Spot → List Spot
 unless_many spots = if are_many spots then [] else spots
 
@@ -120,7 +120,7 @@ have_common_spot xs ys = list_any (λ x. list_any (same_spot x) ys) xs
 unfoldable pub share : Rule → Held → Held → Bool
 share rule s t = is_wide rule s || is_wide rule t || have_common_spot (spots rule s) (spots rule t)
 
--- the same for the rule of a number
+-- the spots of a row under the rule of a number
 abbrev pub spots_by : Option Rule → Held → List Spot
 spots_by None s = []
 spots_by (Some rule) s = spots rule s

@@ -1,3 +1,5 @@
+//! Boxes of parts and points, and boxes grown by a distance.
+
 ghost use Rattle.std.specs.Prelude.{◌≡◌, ◌≤◌, ◌≤ℤ◌, ◌+ℤ◌, ◌-ℤ◌, unsigned_abs};
 ghost use Rattle.clr_rows.specs.declared.limits.TheConstants.{GREATEST_COORDINATE};
 ghost use Rattle.clr_rows.specs.Places.{InRange};

@@ -1,10 +1,10 @@
-//! The spots of rows under rules: squares of the plane, or values in columns. Rows that stand in one
-//! need share a spot, so that they are found by it.
+//! The spots of rows under rules: squares of the plane, or values in columns. Rows that stand in
+//! one need share a spot, so that each can be found from the others.
 //!
-//! - `spots_of` [`list`, `wide`]: the squares or values by which a row is found under a rule, and
-//!   by their roles `subject_spots` and `server_spots`. Laws, among them `subjects_share_spots` and
-//!   `servers_share_spots`: rows that stand in one need of a book's rule share a spot, or one of
-//!   them is wide.
+//! - `spots_of` [`list`, `wide`] gives the squares or values by which a row is found under a rule;
+//!   `subject_spots` and `server_spots` give those of one role. Laws, among them
+//!   `subjects_share_spots` and `servers_share_spots`: rows that stand in one need of a book's rule
+//!   share a spot, or one of them is wide.
 #![tactic(auto)]
 
 mod boxes;

@@ -1,13 +1,15 @@
+//! The sizes and limits of squares and spots.
+
 /// The side of a square, in millimetres.
 pub const SQUARE_SIDE: i64 = 100_000;
 
 /// The greatest size of a coordinate of a box that is grown by a rule's distance, in millimetres.
 pub const GREATEST_REACH: u64 = 2_000_000_000;
 
-/// The greatest size of the number of a square that such a coordinate is in.
+/// The greatest size of the number of a square in which a coordinate within `GREATEST_REACH` is.
 pub const GREATEST_SQUARE: u64 = 20_000;
 
-/// The most squares between two such coordinates, in one direction.
+/// The most squares between two coordinates within `GREATEST_REACH`, in one direction.
 pub const MOST_SQUARES_ACROSS: u64 = 40_001;
 
 /// The most spots that a row may have before it is wide.

@@ -1,3 +1,5 @@
+//! The order of spots.
+
 ghost use Rattle.std.specs.Prelude.{◌≡◌, Some, refl};
 ghost use Rattle.std.specs.Cmp.{partial_equiv_from_equiv, po};
 ghost use Rattle.std.specs.Cmp.Lexicographic.{slice_cmp};
@@ -8,7 +10,7 @@ use crate::spots::Spot;
 use clr_rows::{Value, Values};
 use std::cmp::Ordering;
 
-/// Numbers before texts, and texts by their bytes.
+/// Orders two values: numbers before texts, and texts by their bytes.
 fn order_of_values(a: &Value, b: &Value) -> Ordering
     ensures { result ≡ value_cmp a.now b.now }
 {
@@ -20,7 +22,7 @@ fn order_of_values(a: &Value, b: &Value) -> Ordering
     }
 }
 
-/// From left to right, by the first values that differ.
+/// Orders two lists of values from left to right, by the first values that differ.
 fn order_of_lists(a: &[Value], b: &[Value]) -> Ordering
     ensures { result ≡ slice_cmp value_cmp a.now b.now }
 {

@@ -1,3 +1,5 @@
+//! The squares that meet the parts of a shape.
+
 ghost use Rattle.std.specs.Prelude.{◌≡◌, ◌<◌, Some, length, slice_get, IfOk};
 ghost use Rattle.clr_rows.specs.Parts.{parts_of};
 ghost use Rattle.clr_rules.specs.Fitting.{IsSound, IsSoundSegment};
@@ -13,7 +15,7 @@ use clr_rows::{Place, Shape};
 use clr_segments::{Bounds, part, parts};
 use std::alloc::{AllocError, Global};
 
-/// Adds those of some spots that the list doesn't have.
+/// Adds those of some spots that a list doesn't have.
 fn add_new(list: &mut Vec<Spot>, spots: Vec<Spot>) -> Result<(), AllocError>
     ensures { IfOk result (λ _. list.new.items ≡ union list.old.items spots.items) }
 {

@@ -1,3 +1,5 @@
+//! The spots of a row in one of its roles: as a subject, or as a server.
+
 ghost use Rattle.std.specs.Prelude.{◌≡◌, ◌∷◌, [], ◌<◌, ◌||◌, true, length, IfOk};
 ghost use Rattle.clr_rows.specs.Held.{held_of};
 ghost use Rattle.clr_rows.specs.Parts.{part_of};
@@ -90,11 +92,11 @@ fn server_spots_by_rule(alloc: Global, rule: &Rule, held: Held) -> Result<Spots,
     }
 }
 
-/// The spots of a row in its role as a subject under the rule of a number, each once: the values
-/// in its columns, the square of its end, or the squares that meet the box of its point grown by d
-/// on each side, and under `Crossing` the squares that meet the box of this part of it, numbered
-/// from 1. A row that is no subject has none. The rule's number is below the book's `len`, and the
-/// row fits a schema that the book fits. It fails for want of memory alone.
+/// Returns the spots of a row in its role as a subject under the rule of a number, each once. They
+/// are the values in its columns, the square of its end, or the squares that meet the box of its
+/// point grown by d on each side; under `Crossing` they are the squares that meet the box of one
+/// part of it, numbered from 1. A row that is no subject has none. The rule's number is below the
+/// book's `len`, and the row fits a schema that the book fits.
 #[tactic(auto, unfolding(crate::specs::RoleSpots::subject_spots_under))]
 pub fn subject_spots(
     alloc: Global,
@@ -111,10 +113,9 @@ pub fn subject_spots(
     subject_spots_by_rule(alloc, book.rule(rule), part, held)
 }
 
-/// The spots of a row in its role as a server under the rule of a number: the values in its
+/// Returns the spots of a row in its role as a server under the rule of a number: the values in its
 /// columns, or the square of its point. A row that is no server has none. The rule's number is
-/// below the book's `len`, and the row fits a schema that the book fits. It fails for want of
-/// memory alone.
+/// below the book's `len`, and the row fits a schema that the book fits.
 #[tactic(auto, unfolding(crate::specs::RoleSpots::server_spots_under))]
 pub fn server_spots(
     alloc: Global,

@@ -1,3 +1,5 @@
+//! The spots of a row under a rule.
+
 ghost use Rattle.std.specs.Prelude.{◌≡◌, ◌∷◌, [], ◌<◌, true, false, length, option_to_list, IfOk, IfSome};
 ghost use Rattle.clr_rows.specs.Held.{held_of};
 ghost use Rattle.clr_rows.specs.Places.{InRange};
@@ -42,7 +44,7 @@ fn add_spot(list: &mut Vec<Spot>, spot: Option<Spot>) -> Result<(), AllocError>
     Ok(())
 }
 
-/// The spots of two roles, each once. So few are never wide.
+/// The spots of two roles, each once. They are too few to be wide.
 pub(crate) fn spots_of_roles(
     alloc: Global,
     first: Option<Spot>,
@@ -171,12 +173,12 @@ fn spots_by_rule(alloc: Global, rule: &Rule, held: Held) -> Result<Spots, AllocE
     }
 }
 
-/// The spots of a row under the rule of a number, each once: the values in its columns for
-/// `Unique` and `Partner`, the square of the end or the point for `EndNode`, the squares that meet
-/// the box of some part, or of the point, for `Crossing`, and those that meet the box of the point
-/// grown by d on each side for `Near`, over its roles. A row that is of no side of the rule has
-/// none. The rule's number is below the book's `len`, and the row fits a schema that the book fits.
-/// It fails for want of memory alone.
+/// Returns the spots of a row under the rule of a number, over all its roles, each once. For
+/// `Unique` and `Partner` they are the values in its columns, for `EndNode` the square of the end
+/// or of the point, for `Crossing` the squares that meet the box of some part, or of the point, and
+/// for `Near` those that meet the box of the point grown by d on each side. A row that is of no
+/// side of the rule has none. The rule's number is below the book's `len`, and the row fits a
+/// schema that the book fits.
 #[tactic(auto, unfolding(crate::specs::Spots::spots_under, crate::specs::Spots::is_wide_under))]
 pub fn spots_of(alloc: Global, book: &RuleBook, rule: u16, held: Held) -> Result<Spots, AllocError>
     requires number { rule < length book.now }

@@ -1,3 +1,5 @@
+//! Lists in order.
+
 ghost use Rattle.std.specs.Prelude.{◌↔◌, Contains};
 ghost use Rattle.std.specs.FinMap.{IsAntisymmetric};
 ghost use Rattle.std.specs.List.Sorted.{IsStrictlySortedBy};

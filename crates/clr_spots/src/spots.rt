@@ -1,9 +1,11 @@
+//! What rows are found by under a rule.
+
 ghost use Rattle.std.specs.Prelude.{◌≡◌};
 
 use clr_rows::Values;
 use std::marker::Model;
 
-/// What rows are found by under a rule: a square of the plane, by its place in steps of 100,000
+/// What rows are found by under a rule: a square of the plane, by its position in steps of 100,000
 /// millimetres, or the values in some columns.
 #[derive(Debug, Drop)]
 pub enum Spot {
@@ -27,21 +29,21 @@ impl Model for SpotList {
 }
 
 impl SpotList {
-    /// The spots of this list.
+    /// Returns the spots of this list.
     pub fn new(list: Vec<Spot>) -> SpotList
         ensures { result ≡ list.items }
     {
         SpotList { list }
     }
 
-    /// The spots as a slice.
+    /// Returns the spots as a slice.
     pub fn as_slice(&self) -> &[Spot]
         ensures { result.now ≡ self.now }
     {
         self.list.as_slice()
     }
 
-    /// The list back again.
+    /// Returns the underlying list.
     pub fn into_vec(self) -> Vec<Spot>
         ensures { result.items ≡ self }
     {
@@ -49,7 +51,7 @@ impl SpotList {
     }
 }
 
-/// The spots of a row under a rule. A row of more than 64 is wide, and its list is empty.
+/// The spots of a row under a rule. A row with more than 64 is wide, and its list is empty.
 #[derive(Debug, Drop)]
 pub struct Spots {
     pub list: SpotList,

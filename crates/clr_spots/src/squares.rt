@@ -1,3 +1,5 @@
+//! Squares of the plane, and those that meet a box.
+
 ghost use Rattle.std.specs.Prelude.{◌≡◌, ◌≤◌, ◌++◌, length, unsigned_abs, IfOk};
 ghost use Rattle.clr_spots.specs.Spots.{square_of, span, column_of_squares, grid_of_squares, squares_of, are_many, unless_many};
 ghost use Rattle.clr_spots.specs.Reach.{IsNear};
@@ -47,7 +49,7 @@ fn add_column(list: &mut Vec<Spot>, i: i64, j: i64, n: u64) -> Result<(), AllocE
     Ok(())
 }
 
-/// m columns of n squares, from (i, j) to the right.
+/// Lists m columns of n squares, from (i, j) to the right.
 fn list_grid(alloc: Global, i: i64, j: i64, m: u64, n: u64) -> Result<Vec<Spot>, AllocError>
     requires i_in { unsigned_abs i ≤ GREATEST_SQUARE }
     requires j_in { unsigned_abs j ≤ GREATEST_SQUARE }

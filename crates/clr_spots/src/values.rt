@@ -1,3 +1,5 @@
+//! The values of a row in columns, as a spot.
+
 ghost use Rattle.std.specs.Prelude.{◌≡◌, ◌∷◌, [], option_to_list, IfOk};
 ghost use Rattle.std.specs.List.{filter_map};
 ghost use Rattle.clr_rows.specs.Held.{held_of};

@@ -1,8 +1,8 @@
 //! All texts: office texts, edits and scripts read and written, and the lines of what an office is
 //! asked for.
 //!
-//! - `workspaces_lines`: exactly the bytes, memory aside. All else is of the crates above: office
-//!   texts read and written, edits, scripts, and lines.
+//! - `workspaces_lines` gives exactly the bytes, memory aside. All else is handed on from the
+//!   crates below: office texts read and written, edits, scripts, and lines.
 #![tactic(auto)]
 
 mod workspaces;

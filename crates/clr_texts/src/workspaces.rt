@@ -30,10 +30,10 @@ fn add_workspace_line(lines: &mut Vec<u8>, office: &Office, name: &str) -> Resul
     add_workspace(lines, name, parent, changes.len(), conflicts.len(), is_kept)
 }
 
-/// The lines of all workspaces under LIVE, each ended by `\n`: how many there are, and then, in order
-/// of creation, the name of each, that of its parent, how many cells it changed, at how many of them
-/// it is in conflict with its parent, and `kept` where every rule is to hold in it. It fails for want
-/// of memory alone.
+/// Returns the lines of all workspaces under LIVE, each ended by `\n`. The first says how many
+/// there are. Then, in order of creation, come the name of each, that of its parent, how many cells
+/// it changed, at how many of them it is in conflict with its parent, and `kept` where every rule
+/// is to hold in it.
 #[tactic(auto, unfolding(crate::specs::Workspaces::workspaces_text))]
 pub fn workspaces_lines(alloc: Global, office: &Office) -> Result<Vec<u8>, AllocError>
     ensures { IfOk result (λ lines. lines.items ≡ workspaces_text office.now) }
