@@ -45,7 +45,7 @@ pub fn base_rows(live: &Sheet, map: &WorkspaceMap, at: usize) -> Result<Sheet, A
     Ok(content)
 }
 
-/// Returns the changes from the base of a workspace other than LIVE to these rows.
+/// Returns the changes from the base of a workspace other than LIVE to these rows, at their cells.
 #[tactic(auto, unfolding(crate::specs::Pinning::set_each))]
 fn changes_to(
     live: &Sheet,

@@ -34,7 +34,7 @@ impl Model for Finders {
     ghost view = { λ a. a.list.items };
 }
 
-/// Adds changes to a finder in which nothing is pending. It fails for want of memory alone.
+/// Adds changes to a finder in which nothing is pending.
 fn note_changes(
     finder: &mut SpotIndex,
     book: &RuleBook,

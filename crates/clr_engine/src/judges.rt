@@ -42,7 +42,7 @@ impl Model for Judge {
     ghost view = { λ judge. judge.book };
 }
 
-// Each function here that answers a need fails for want of memory alone.
+// Each function here that returns a need fails only if memory runs out.
 impl Judge {
     pub fn new(alloc: Global, book: RuleBook) -> Judge
         ensures { result ≡ book }
@@ -78,7 +78,7 @@ impl Judge {
         let root = tree.view(at);
         let mut sets = Vec::new(self.alloc);
         sets.push(changed)?;
-        // One change set shares no cell with another, so that memory is what a scene can lack.
+        // One change set shares no cell with another, so memory is all that a scene can lack.
         match Scene::new(self.alloc, &self.book, &root, finder, sets) {
             Ok(scene) => scene.first_broken(),
             Err(_) => Err(AllocError),

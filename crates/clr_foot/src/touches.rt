@@ -102,8 +102,8 @@ impl<V: RowView, F: RowFinder> Scene<'_, V, F> {
     }
 
     /// Adds the possible needs with a version among their subjects: alone, or beside a version that
-    /// shares with it. It fails for want of memory alone; then what stood in the list stands there,
-    /// and besides it some of these needs alone.
+    /// shares with it. If memory runs out, the list keeps what stood in it, and besides that it has
+    /// only some of these needs.
     pub(crate) fn add_with(
         &self,
         rule: u16,
@@ -151,8 +151,8 @@ impl<V: RowView, F: RowFinder> Scene<'_, V, F> {
         Ok(())
     }
 
-    /// Adds the possible needs that a version serves. It fails for want of memory alone; then what
-    /// stood in the list stands there, and besides it some of these needs alone.
+    /// Adds the possible needs that a version serves. If memory runs out, the list keeps what stood
+    /// in it, and besides that it has only some of these needs.
     pub(crate) fn add_served_by(
         &self,
         rule: u16,

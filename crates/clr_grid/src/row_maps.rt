@@ -73,7 +73,7 @@ fn take_at(settled: &mut BTreeMap<CellId, Option<RowSpots>>, cell: CellId) -> Op
     settled.remove(&cell).flatten()
 }
 
-/// Makes room for a row at a cell. It fails for want of memory alone.
+/// Makes room for a row at a cell.
 fn make_room(
     settled: &mut BTreeMap<CellId, Option<RowSpots>>,
     cell: CellId,
@@ -136,8 +136,7 @@ impl RowMap {
         }
     }
 
-    /// Adds a pending change of a cell that has none. It fails for want of memory alone, and
-    /// changes nothing then.
+    /// Adds a pending change of a cell that has none. If memory runs out, nothing changes.
     pub(crate) fn note(&mut self, cell: CellId, row: Option<RowSpots>) -> Result<(), AllocError>
         requires { finite.get self.old.pending cell ≡ None }
         ensures ok { OnOk result (self.new ≡ record self.old { pending = finite.insert self.old.pending cell row }) }
@@ -195,7 +194,7 @@ impl RowMap {
         }
     }
 
-    /// The cells that have a row, and some more, ascending. It fails for want of memory alone.
+    /// The cells that have a row, and some more, ascending.
     pub(crate) fn cells(&self, alloc: Global) -> Result<Vec<CellId>, AllocError>
         ensures all { IfOk result (λ cells. (q : Cell) → is_some (finite.get self.now.settled q) ≡ true → is_one_of cells.items q ≡ true) }
         ensures rising { IfOk result (λ cells. IsStrictlySortedBy cell_cmp cells.items) }
@@ -207,8 +206,8 @@ impl RowMap {
         Ok(cells)
     }
 
-    /// The cells whose rows are found under a rule, servers alone or all, where they are among
-    /// some that ascend. It fails for want of memory alone.
+    /// The cells whose rows are found under a rule, servers alone or all, where they are among some
+    /// that ascend.
     pub(crate) fn find_among(
         &self,
         alloc: Global,

@@ -23,7 +23,7 @@ pub struct RuleSpots {
 }
 
 impl RuleSpots {
-    /// The spots of a row under the rule of a number. It fails for want of memory alone.
+    /// The spots of a row under the rule of a number.
     #[tactic(auto, unfolding(crate::specs::Sharing::rule_spots, clr_rules::specs::Sides::has_role, crate::specs::Sharing::may_serve_under))]
     pub(crate) fn new(
         alloc: Global,
@@ -59,8 +59,7 @@ impl Model for RowSpots {
 }
 
 impl RowSpots {
-    /// The spots of a row under each rule of a book. The book and the row fit one schema. It fails
-    /// for want of memory alone.
+    /// The spots of a row under each rule of a book. The book and the row fit one schema.
     pub(crate) fn new(alloc: Global, book: &RuleBook, held: Held) -> Result<RowSpots, AllocError>
         requires { FitTogether book.now (held_of held ∷ []) }
         ensures { IfOk result (λ spots. spots ≡ row_spots book.now (held_of held.entry)) }
@@ -73,14 +72,14 @@ impl RowSpots {
         Ok(RowSpots { list })
     }
 
-    /// Those under the rule of a number, or none where there is no such rule.
+    /// The spots under the rule of a number, or none where there is no such rule.
     pub(crate) fn get(&self, rule: u16) -> Option<&RuleSpots>
         ensures { option_copied result ≡ slice_get self.now rule }
     {
         self.list.get(rule as usize)
     }
 
-    /// Those of all rules, in order.
+    /// The spots under all rules, in the order of their numbers.
     pub(crate) fn as_slice(&self) -> &[RuleSpots]
         ensures { result.now ≡ self.now }
     {
@@ -88,7 +87,7 @@ impl RowSpots {
     }
 }
 
-/// The spots of the row at a cell, or none. It fails for want of memory alone.
+/// The spots of the row at a cell, or none.
 pub(crate) fn row_spots_at(
     alloc: Global,
     book: &RuleBook,

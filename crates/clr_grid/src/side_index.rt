@@ -199,7 +199,7 @@ impl SideIndex {
         }
     }
 
-    /// Files the cell of a row wherever it is to be. It fails for want of memory alone.
+    /// Files the cell of a row wherever it is to be.
     pub(crate) fn file(
         &mut self,
         alloc: Global,
@@ -252,8 +252,8 @@ impl SideIndex {
         Ok(())
     }
 
-    /// Adds the cells that are looked at for a row. It fails for want of memory alone; then the set's
-    /// own cells stay, and besides them it has such cells alone.
+    /// Adds the cells that are looked at for a row. If memory runs out, the set keeps its own
+    /// cells, and besides them it has only some of these.
     pub(crate) fn add_near(&self, spots: &RuleSpots, cells: &mut CellSet) -> Result<(), AllocError>
         ensures kept { OnOk result ((q : Cell) → set.contains cells.old q ≡ true → set.contains cells.new q ≡ true) }
         ensures near { OnOk result ((k : Key) (q : Cell) → is_looked_at spots.now k ≡ true → is_filed self.now k q ≡ true → set.contains cells.new q ≡ true) }

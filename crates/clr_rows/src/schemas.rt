@@ -60,7 +60,7 @@ impl Schema {
         self.tables.as_slice()
     }
 
-    /// Returns the number of the table of this name, or none. Names are compared with case.
+    /// Returns the number of the table of this name, or none. Upper and lower case differ.
     pub fn table(&self, name: &str) -> Option<u16>
         ensures value { result ≡ table_named self.now name.now }
         ensures small { length self.now ≤ MOST_TABLES }
@@ -93,8 +93,7 @@ impl Schema {
     }
 
     /// Returns the number of the column of this name in a table, counted from 0. Returns none where
-    /// the table has no such column, and where there is no such table. Names are compared with
-    /// case.
+    /// the table has no such column, and where there is no such table. Upper and lower case differ.
     pub fn column(&self, table: u16, name: &str) -> Option<u16>
         ensures { result ≡ column_named self.now table name.now }
     {

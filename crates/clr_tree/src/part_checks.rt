@@ -85,7 +85,7 @@ fn has_good_savepoints(marks: &[StoredMark]) -> bool
     true
 }
 
-/// Returns whether a mark that isn't a savepoint is that of a child of the workspace of a name.
+/// Returns whether a mark is a savepoint, or that of a child of the workspace of a name.
 fn is_childs(live: &Sheet, map: &WorkspaceMap, parent: &str, mark: &StoredMark) -> bool
     ensures { result ≡ is_childs (wholes live.now map.now) parent.now (bare_mark mark.now) }
 {
@@ -99,7 +99,7 @@ fn is_childs(live: &Sheet, map: &WorkspaceMap, parent: &str, mark: &StoredMark) 
     }
 }
 
-/// Returns whether each mark that isn't a savepoint is that of a child of the workspace of a name.
+/// Returns whether each mark is a savepoint, or that of a child of the workspace of a name.
 fn are_childrens(live: &Sheet, map: &WorkspaceMap, parent: &str, marks: &[StoredMark]) -> bool
     ensures { result ≡ list_all (λ m. is_childs (wholes live.now map.now) parent.now (bare_mark m)) marks.now }
 {
