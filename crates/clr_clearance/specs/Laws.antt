@@ -53,7 +53,7 @@ StaticLaw = (o : Office) (site : Site) (entries : List Entry) → Covers o site 
 
 -- a merge of a member, and a refresh ------------------------------------------------------------------
 
--- a merge of a member keeps the invariant, whatever rules say; where rules are kept, it is a safe answer
+-- a merge of a member keeps the invariant, whatever rules say; where rules hold whichever members are merged, its answer is safe
 abbrev pub MergeLaw : Type 0
 MergeLaw = (first : Office) (site : Site) (names : List Name) (now : Office) (name : Name) (remove : Bool)
     → AreMergeable first site

@@ -28,7 +28,7 @@ use Rattle.clr_clearance.specs.Verdicts.{first_conflict, member_fault, name_faul
 abbrev pub merges : List Name → List Command
 merges names = map (λ name. command.Merge name false) names
 
--- of these merges, none of which is lost, one meets a conflict or breaks a rule
+-- of the merges of some members in order, none of which is lost, one meets a conflict or breaks a rule
 abbrev pub is_refused : Office → List Name → Bool
 is_refused o names = list_any is_clash (run o (merges names) (λ at. false)).replies
 

@@ -18,7 +18,7 @@ const FIRST_SIZE: usize = 1 << 46;
 /// The least size of the blocks that are held from the start.
 const LARGE: usize = 1 << 18;
 
-/// From this size down each size that `malloc` tells apart is tried.
+/// The size from which down each size that `malloc` tells apart is tried.
 const SMALL: usize = 2_048;
 
 /// The step between the sizes that `malloc` tells apart.
@@ -27,7 +27,7 @@ const STEP: usize = 16;
 /// How many blocks of `CUSHION_SIZE` bytes are left to the test itself, to make its offices.
 const CUSHIONS: usize = 64;
 
-/// Small enough that `malloc` takes it from its heap.
+/// The size of a block that is small enough for `malloc` to take it from its heap.
 const CUSHION_SIZE: usize = 1 << 16;
 
 /// The most blocks that make up a budget.
@@ -43,8 +43,8 @@ pub struct Hoard {
     room: Vec<Vec<u8>>,
 }
 
-/// Takes blocks of this size until none is left, then smaller ones, down to a least size. It
-/// answers whether the list had room for all.
+/// Takes blocks of a size until none is left, then smaller ones, down to a least size. Returns
+/// whether the list had room for all.
 fn take_all(alloc: Global, blocks: &mut Vec<Vec<u8>>, first: usize, least: usize) -> bool {
     let mut size = first;
     for _ in 0..MOST_BLOCKS {
@@ -61,8 +61,8 @@ fn take_all(alloc: Global, blocks: &mut Vec<Vec<u8>>, first: usize, least: usize
     false
 }
 
-/// Takes blocks of this many bytes together, as large as they can be had; refused where what is free
-/// lies in too many places.
+/// Takes blocks of this many bytes together, as large as they can be had. Fails also where what is
+/// free lies in too many places.
 fn set_aside(alloc: Global, blocks: &mut Vec<Vec<u8>>, bytes: usize) -> Result<(), AllocError> {
     let mut left = bytes;
     let mut size = bytes;
@@ -85,8 +85,8 @@ fn set_aside(alloc: Global, blocks: &mut Vec<Vec<u8>>, bytes: usize) -> Result<(
 }
 
 impl Hoard {
-    /// Takes all address space but about 4,000,000 bytes, with which the test goes on; refused
-    /// too where there are more blocks than the list takes.
+    /// Takes all address space but about 4,000,000 bytes, with which the test goes on. Fails also
+    /// where there are more blocks than the list takes.
     pub fn take(alloc: Global) -> Result<Hoard, AllocError> {
         let mut hoard = Hoard {
             alloc,
@@ -104,8 +104,8 @@ impl Hoard {
         Ok(hoard)
     }
 
-    /// Takes what is left, but for this many bytes; refused too where there are more blocks than
-    /// the list takes.
+    /// Takes what is left, but for this many bytes. Fails also where there are more blocks than the
+    /// list takes.
     pub fn leave(&mut self, budget: usize) -> Result<(), AllocError> {
         set_aside(self.alloc, &mut self.room, budget.saturating_add(SMALL))?;
         if !take_all(self.alloc, &mut self.small, LARGE, STEP) {
@@ -122,7 +122,7 @@ impl Hoard {
         self.small.clear();
     }
 
-    /// How many blocks of address space are held from the start.
+    /// Returns how many blocks of address space are held from the start.
     pub fn len(&self) -> usize {
         self.large.len()
     }

@@ -48,7 +48,7 @@ CrossingSubjects = (tables : List TableDef) (a b server : Side) (ask : Ask) (s t
     → FitsCell tables t
     → (are_subjects (Crossing a b server) ask s (Some t) ≡ true) ↔ (are_of_sides a b s t ≡ true) × PartsMeet ask s t
 
--- where two rows fit a schema, a row serves them under a crossing exactly where it is of the server's side and a point of both parts parts
+-- where two rows fit a schema, a row serves them under a crossing exactly where it is of the server's side and a point of both parts of the ask
 abbrev pub CrossingServers : Type 0
 CrossingServers = (tables : List TableDef) (a b server : Side) (ask : Ask) (s t r : Held)
     → FitsCell tables s
