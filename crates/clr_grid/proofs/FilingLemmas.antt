@@ -1,24 +1,24 @@
--- Cells filed at spots: what stays when one is added or taken away.
+-- Cells filed at the numbers of spots: what stays when one is added or taken away.
 use Rattle.std.proofs.Common.{◌≡◌, ◌⊎◌, inl, inr, ◌+◌, ◌<◌, ℕ, zero, suc, arith, Bool, true, false, cond, not, ◌&&◌, ◌||◌, List, [], ◌∷◌, ◌++◌, take, get_or, length, Option, Some, None, is_some, unwrap_or, refl, ap, sym, subst, ◌∙◌}
 use Rattle.std.specs.Prelude.{Result, Ok, Err, OnErr}
 use Rattle.std.proofs.lemmas.Bool.{false≢true, true≢false, or_left, or_right, or_cases, and_parts, cases_Bool, not-true, not-false}
 use Rattle.std.proofs.lemmas.List.{take_more}
 use Rattle.std.proofs.lemmas.List.Folds.{list_any-append}
 use Rattle.std.specs.BTreeMap.{get, is_at}
-use Rattle.std.specs.Cmp.{eq_by_cmp_equiv, Equal-is, tied_itself}
+use Rattle.std.specs.Cmp.{eq_by_cmp_equiv, Equal-is, nat_cmp_total, tied_itself}
+use Rattle.std.proofs.lemmas.Map.Lookups.{exact_unsigned}
 use Rattle.std.specs.FinSet as set
 use Rattle.std.specs.List.{list_any}
-use Rattle.std.specs.Ordering.{eq_by_cmp}
+use Rattle.std.specs.Ordering.{eq_by_cmp, nat_cmp}
 use Rattle.clr_rows.specs.declared.cells.CellId.{CellId}
 use Rattle.clr_rows.specs.Cells.{cell_cmp}
 use Rattle.clr_rows.proofs.CellOrder.{cell_cmp_total, cell_cmp_exact}
 use Rattle.clr_spots.specs.declared.spots.Spot.{Spot}
-use Rattle.clr_spots.specs.SpotOrder.{spot_cmp, same_spot}
-use Rattle.clr_spots.specs.SpotOrderLaws.{spot_cmp_total, spot_cmp_exact, same_spot_is, same_spot_itself, same_spot_equiv}
 use Rattle.clr_rows.proofs.ChangeLemmas.{tied_self}
-use Rattle.clr_grid.proofs.SetLemmas.{or_none}
+use Rattle.clr_grid.proofs.SetLemmas.{or_group, or_none}
 use Rattle.clr_grid.specs.CellSets.{Cells, is_one}
-use Rattle.clr_grid.specs.Filing.{Key, All, Wide, At, has_cell, has_key, has_key_of, has_spot, is_filed, is_looked_at, keeps_role, keeps_wide, stays}
+use Rattle.clr_grid.specs.Filing.{Key, All, Wide, At, has_cell, has_key, has_key_of, keeps_number, is_filed, is_looked_at, keeps_role, keeps_wide, stays}
+use Rattle.clr_grid.specs.SpotNumbers.{has_number, number_of}
 use Rattle.clr_grid.specs.declared.row_spots.RuleSpots.{RuleSpots}
 use Rattle.clr_grid.specs.declared.side_index.SideIndex.{SideIndex}
 
@@ -52,29 +52,29 @@ remove_fewer m cell q e = (and_parts (not (eq_by_cmp cell_cmp q cell)) (set.cont
 pub remove_gone : (m : Cells) (cell : CellId) → set.contains (set.remove m cell) cell ≡ false
 remove_gone m cell = set.contains-remove cell_cmp_total m cell cell ∙ ap (λ b. not b && set.contains m cell) (tied_self cell)
 
--- ---- spots
-abbrev pub AtSpots : Type 0
-AtSpots = Spot → Option Cells
+-- ---- numbers of spots
+abbrev pub AtNumbers : Type 0
+AtNumbers = ℕ → Option Cells
 
 -- what is filed at each spot stays
-abbrev pub Keeps : AtSpots → AtSpots → Type 0
-Keeps f g = (x : Spot) (q : CellId) → has_cell (f x) q ≡ true → has_cell (g x) q ≡ true
+abbrev pub Keeps : AtNumbers → AtNumbers → Type 0
+Keeps f g = (x : ℕ) (q : CellId) → has_cell (f x) q ≡ true → has_cell (g x) q ≡ true
 
-tied_spot : (s x : Spot) → is_at (spot_cmp s) x ≡ true → s ≡ x
-tied_spot s x e = spot_cmp_exact s x ((Equal-is (spot_cmp s x)).0 e)
+pub tied_number : (s x : ℕ) → is_at (nat_cmp s) x ≡ true → s ≡ x
+tied_number s x e = exact_unsigned s x ((Equal-is (nat_cmp s x)).0 e)
 
-spot_itself : (x : Spot) → is_at (spot_cmp x) x ≡ true
-spot_itself x = (Equal-is (spot_cmp x x)).1 (tied_itself spot_cmp_total x)
+pub number_itself : (x : ℕ) → is_at (nat_cmp x) x ≡ true
+number_itself x = (Equal-is (nat_cmp x x)).1 (tied_itself nat_cmp_total x)
 
 pub cells_or_none : (o : Option Cells) (q : CellId) → has_cell o q ≡ true → set.contains (unwrap_or o set.empty) q ≡ true
 cells_or_none None q e = absurd (false≢true e)
 cells_or_none (Some m) q e = e
 
-pub added_keeps : (f g : AtSpots) (s : Spot) (m : Cells) (cell : CellId) → ((x : Spot) → g x ≡ cond (is_at (spot_cmp s) x) (Some (set.insert m cell)) (f x)) → ((q : CellId) → has_cell (f s) q ≡ true → set.contains m q ≡ true) → Keeps f g
-added_keeps f g s m cell is had x q e = ap (λ o. has_cell o q) (is x) ∙ go (is_at (spot_cmp s) x) refl
+pub added_keeps : (f g : AtNumbers) (s : ℕ) (m : Cells) (cell : CellId) → ((x : ℕ) → g x ≡ cond (is_at (nat_cmp s) x) (Some (set.insert m cell)) (f x)) → ((q : CellId) → has_cell (f s) q ≡ true → set.contains m q ≡ true) → Keeps f g
+added_keeps f g s m cell is had x q e = ap (λ o. has_cell o q) (is x) ∙ go (is_at (nat_cmp s) x) refl
   where
-    go : (b : Bool) → is_at (spot_cmp s) x ≡ b → has_cell (cond b (Some (set.insert m cell)) (f x)) q ≡ true
-    go true t = insert_keeps m cell q (had q (subst (λ y. has_cell (f y) q ≡ true) (sym (tied_spot s x t)) e))
+    go : (b : Bool) → is_at (nat_cmp s) x ≡ b → has_cell (cond b (Some (set.insert m cell)) (f x)) q ≡ true
+    go true t = insert_keeps m cell q (had q (subst (λ y. has_cell (f y) q ≡ true) (sym (tied_number s x t)) e))
     go false t = e
 
 pub none_or_cells : (o : Option Cells) (q : CellId) → set.contains (unwrap_or o set.empty) q ≡ true → has_cell o q ≡ true
@@ -82,162 +82,158 @@ none_or_cells None q e = absurd (false≢true (sym (set.contains-empty cell_cmp 
 none_or_cells (Some m) q e = e
 
 -- nothing more is filed than a cell at a spot
-pub added_only : (f g : AtSpots) (s : Spot) (m : Cells) (cell : CellId) → ((x : Spot) → g x ≡ cond (is_at (spot_cmp s) x) (Some (set.insert m cell)) (f x)) → ((q : CellId) → set.contains m q ≡ true → has_cell (f s) q ≡ true)
-    → (x : Spot) (q : CellId) → has_cell (g x) q ≡ true → (has_cell (f x) q ≡ true) ⊎ ((q ≡ cell) × (x ≡ s))
-added_only f g s m cell is had x q e = go (is_at (spot_cmp s) x) refl (sym (ap (λ o. has_cell o q) (is x)) ∙ e)
+pub added_only : (f g : AtNumbers) (s : ℕ) (m : Cells) (cell : CellId) → ((x : ℕ) → g x ≡ cond (is_at (nat_cmp s) x) (Some (set.insert m cell)) (f x)) → ((q : CellId) → set.contains m q ≡ true → has_cell (f s) q ≡ true)
+    → (x : ℕ) (q : CellId) → has_cell (g x) q ≡ true → (has_cell (f x) q ≡ true) ⊎ ((q ≡ cell) × (x ≡ s))
+added_only f g s m cell is had x q e = go (is_at (nat_cmp s) x) refl (sym (ap (λ o. has_cell o q) (is x)) ∙ e)
   where
-    go : (b : Bool) → is_at (spot_cmp s) x ≡ b → has_cell (cond b (Some (set.insert m cell)) (f x)) q ≡ true → (has_cell (f x) q ≡ true) ⊎ ((q ≡ cell) × (x ≡ s))
+    go : (b : Bool) → is_at (nat_cmp s) x ≡ b → has_cell (cond b (Some (set.insert m cell)) (f x)) q ≡ true → (has_cell (f x) q ≡ true) ⊎ ((q ≡ cell) × (x ≡ s))
     go true t h = elim (insert_only m cell q h) [
-      | inl old ↦ inl (subst (λ y. has_cell (f y) q ≡ true) (tied_spot s x t) (had q old))
-      | inr one ↦ inr (one, sym (tied_spot s x t))
+      | inl old ↦ inl (subst (λ y. has_cell (f y) q ≡ true) (tied_number s x t) (had q old))
+      | inr one ↦ inr (one, sym (tied_number s x t))
     ]
     go false t h = inl h
 
-pub added_has : (f g : AtSpots) (s : Spot) (m : Cells) (cell : CellId) → ((x : Spot) → g x ≡ cond (is_at (spot_cmp s) x) (Some (set.insert m cell)) (f x)) → has_cell (g s) cell ≡ true
-added_has f g s m cell is = ap (λ o. has_cell o cell) (is s ∙ ap (λ b. cond b (Some (set.insert m cell)) (f s)) (spot_itself s)) ∙ insert_has m cell
+pub added_has : (f g : AtNumbers) (s : ℕ) (m : Cells) (cell : CellId) → ((x : ℕ) → g x ≡ cond (is_at (nat_cmp s) x) (Some (set.insert m cell)) (f x)) → has_cell (g s) cell ≡ true
+added_has f g s m cell is = ap (λ o. has_cell o cell) (is s ∙ ap (λ b. cond b (Some (set.insert m cell)) (f s)) (number_itself s)) ∙ insert_has m cell
 
 -- what is filed for other cells, or at other spots, stays
-abbrev pub KeepsOthers : AtSpots → AtSpots → Spot → CellId → Type 0
-KeepsOthers f g s cell = (x : Spot) (q : CellId) → (is_one cell q && same_spot s x) ≡ false → has_cell (f x) q ≡ true → has_cell (g x) q ≡ true
+abbrev pub KeepsOthers : AtNumbers → AtNumbers → ℕ → CellId → Type 0
+KeepsOthers f g s cell = (x : ℕ) (q : CellId) → (is_one cell q && is_at (nat_cmp s) x) ≡ false → has_cell (f x) q ≡ true → has_cell (g x) q ≡ true
 
-pub removed_keeps : (f g : AtSpots) (s : Spot) (cell : CellId) → ((x : Spot) → g x ≡ cond (is_at (spot_cmp s) x) (Some (set.remove (unwrap_or (f s) set.empty) cell)) (f x)) → KeepsOthers f g s cell
-removed_keeps f g s cell is x q p e = ap (λ o. has_cell o q) (is x) ∙ go (is_at (spot_cmp s) x) refl
+pub removed_keeps : (f g : AtNumbers) (s : ℕ) (cell : CellId) → ((x : ℕ) → g x ≡ cond (is_at (nat_cmp s) x) (Some (set.remove (unwrap_or (f s) set.empty) cell)) (f x)) → KeepsOthers f g s cell
+removed_keeps f g s cell is x q p e = ap (λ o. has_cell o q) (is x) ∙ go (is_at (nat_cmp s) x) refl
   where
-    go : (b : Bool) → is_at (spot_cmp s) x ≡ b → has_cell (cond b (Some (set.remove (unwrap_or (f s) set.empty) cell)) (f x)) q ≡ true
+    go : (b : Bool) → is_at (nat_cmp s) x ≡ b → has_cell (cond b (Some (set.remove (unwrap_or (f s) set.empty) cell)) (f x)) q ≡ true
     go true t =
-        let same : s ≡ x = tied_spot s x t in
-        remove_keeps (unwrap_or (f s) set.empty) cell q (is_not_one cell q (same_spot s x) p (subst (λ y. same_spot s y ≡ true) same (same_spot_itself s)))
+        let same : s ≡ x = tied_number s x t in
+        remove_keeps (unwrap_or (f s) set.empty) cell q (is_not_one cell q (is_at (nat_cmp s) x) p t)
         (cells_or_none (f s) q (subst (λ y. has_cell (f y) q ≡ true) (sym same) e))
     go false t = e
 
 -- nothing more is filed, and the cell is gone from the spot
-pub removed_fewer : (f g : AtSpots) (s : Spot) (cell : CellId) → ((x : Spot) → g x ≡ cond (is_at (spot_cmp s) x) (Some (set.remove (unwrap_or (f s) set.empty) cell)) (f x)) → Keeps g f
-removed_fewer f g s cell is x q e = go (is_at (spot_cmp s) x) refl (sym (ap (λ o. has_cell o q) (is x)) ∙ e)
+pub removed_fewer : (f g : AtNumbers) (s : ℕ) (cell : CellId) → ((x : ℕ) → g x ≡ cond (is_at (nat_cmp s) x) (Some (set.remove (unwrap_or (f s) set.empty) cell)) (f x)) → Keeps g f
+removed_fewer f g s cell is x q e = go (is_at (nat_cmp s) x) refl (sym (ap (λ o. has_cell o q) (is x)) ∙ e)
   where
-    go : (b : Bool) → is_at (spot_cmp s) x ≡ b → has_cell (cond b (Some (set.remove (unwrap_or (f s) set.empty) cell)) (f x)) q ≡ true → has_cell (f x) q ≡ true
-    go true t h = subst (λ y. has_cell (f y) q ≡ true) (tied_spot s x t) (none_or_cells (f s) q (remove_fewer (unwrap_or (f s) set.empty) cell q h))
+    go : (b : Bool) → is_at (nat_cmp s) x ≡ b → has_cell (cond b (Some (set.remove (unwrap_or (f s) set.empty) cell)) (f x)) q ≡ true → has_cell (f x) q ≡ true
+    go true t h = subst (λ y. has_cell (f y) q ≡ true) (tied_number s x t) (none_or_cells (f s) q (remove_fewer (unwrap_or (f s) set.empty) cell q h))
     go false t h = h
 
-pub removed_gone : (f g : AtSpots) (s : Spot) (cell : CellId) → ((x : Spot) → g x ≡ cond (is_at (spot_cmp s) x) (Some (set.remove (unwrap_or (f s) set.empty) cell)) (f x)) → has_cell (g s) cell ≡ false
+pub removed_gone : (f g : AtNumbers) (s : ℕ) (cell : CellId) → ((x : ℕ) → g x ≡ cond (is_at (nat_cmp s) x) (Some (set.remove (unwrap_or (f s) set.empty) cell)) (f x)) → has_cell (g s) cell ≡ false
 removed_gone f g s cell is =
-    ap (λ o. has_cell o cell) (is s ∙ ap (λ b. cond b (Some (set.remove (unwrap_or (f s) set.empty) cell)) (f s)) (spot_itself s)) ∙ remove_gone (unwrap_or (f s) set.empty) cell
+    ap (λ o. has_cell o cell) (is s ∙ ap (λ b. cond b (Some (set.remove (unwrap_or (f s) set.empty) cell)) (f s)) (number_itself s)) ∙ remove_gone (unwrap_or (f s) set.empty) cell
 
-pub emptied_fewer : (f g : AtSpots) (s : Spot) → ((x : Spot) → g x ≡ cond (is_at (spot_cmp s) x) None (f x)) → Keeps g f
-emptied_fewer f g s is x q e = go (is_at (spot_cmp s) x) (sym (ap (λ o. has_cell o q) (is x)) ∙ e)
+pub emptied_fewer : (f g : AtNumbers) (s : ℕ) → ((x : ℕ) → g x ≡ cond (is_at (nat_cmp s) x) None (f x)) → Keeps g f
+emptied_fewer f g s is x q e = go (is_at (nat_cmp s) x) (sym (ap (λ o. has_cell o q) (is x)) ∙ e)
   where
     go : (b : Bool) → has_cell (cond b None (f x)) q ≡ true → has_cell (f x) q ≡ true
     go true h = absurd (false≢true h)
     go false h = h
 
-pub emptied_gone : (f g : AtSpots) (s : Spot) (cell : CellId) → ((x : Spot) → g x ≡ cond (is_at (spot_cmp s) x) None (f x)) → has_cell (g s) cell ≡ false
-emptied_gone f g s cell is = ap (λ o. has_cell o cell) (is s ∙ ap (λ b. cond b None (f s)) (spot_itself s))
+pub emptied_gone : (f g : AtNumbers) (s : ℕ) (cell : CellId) → ((x : ℕ) → g x ≡ cond (is_at (nat_cmp s) x) None (f x)) → has_cell (g s) cell ≡ false
+emptied_gone f g s cell is = ap (λ o. has_cell o cell) (is s ∙ ap (λ b. cond b None (f s)) (number_itself s))
 
 pub none_there : (o : Option Cells) (cell : CellId) → is_some o ≡ false → has_cell o cell ≡ false
 none_there None cell e = refl
 none_there (Some m) cell e = absurd (true≢false e)
 
-pub emptied_keeps : (f g : AtSpots) (s : Spot) → f s ≡ Some set.empty → ((x : Spot) → g x ≡ cond (is_at (spot_cmp s) x) None (f x)) → Keeps f g
-emptied_keeps f g s empty is x q e = ap (λ o. has_cell o q) (is x) ∙ go (is_at (spot_cmp s) x) refl
+pub emptied_keeps : (f g : AtNumbers) (s : ℕ) → f s ≡ Some set.empty → ((x : ℕ) → g x ≡ cond (is_at (nat_cmp s) x) None (f x)) → Keeps f g
+emptied_keeps f g s empty is x q e = ap (λ o. has_cell o q) (is x) ∙ go (is_at (nat_cmp s) x) refl
   where
-    go : (b : Bool) → is_at (spot_cmp s) x ≡ b → has_cell (cond b None (f x)) q ≡ true
-    go true t = absurd (false≢true (sym (set.contains-empty cell_cmp q) ∙ sym (ap (λ o. has_cell o q) (ap f (sym (tied_spot s x t)) ∙ empty)) ∙ e))
+    go : (b : Bool) → is_at (nat_cmp s) x ≡ b → has_cell (cond b None (f x)) q ≡ true
+    go true t = absurd (false≢true (sym (set.contains-empty cell_cmp q) ∙ sym (ap (λ o. has_cell o q) (ap f (sym (tied_number s x t)) ∙ empty)) ∙ e))
     go false t = e
 
 -- each spot that is kept holds a cell
-abbrev pub Hold : AtSpots → Type 0
-Hold f = (x : Spot) → f x ≡ Some set.empty → ⊥
+abbrev pub Hold : AtNumbers → Type 0
+Hold f = (x : ℕ) → f x ≡ Some set.empty → ⊥
 
-pub same_hold : (f g : AtSpots) → ((x : Spot) → g x ≡ f x) → Hold f → Hold g
+pub same_hold : (f g : AtNumbers) → ((x : ℕ) → g x ≡ f x) → Hold f → Hold g
 same_hold f g is hold x e = hold x (sym (is x) ∙ e)
 
-pub added_hold : (f g : AtSpots) (s : Spot) (m : Cells) (cell : CellId) → ((x : Spot) → g x ≡ cond (is_at (spot_cmp s) x) (Some (set.insert m cell)) (f x)) → Hold f → Hold g
-added_hold f g s m cell is hold x e = go (is_at (spot_cmp s) x) (sym (is x) ∙ e)
+pub added_hold : (f g : AtNumbers) (s : ℕ) (m : Cells) (cell : CellId) → ((x : ℕ) → g x ≡ cond (is_at (nat_cmp s) x) (Some (set.insert m cell)) (f x)) → Hold f → Hold g
+added_hold f g s m cell is hold x e = go (is_at (nat_cmp s) x) (sym (is x) ∙ e)
   where
     go : (b : Bool) → cond b (Some (set.insert m cell)) (f x) ≡ Some set.empty → ⊥
     go true h = let none : set.insert m cell ≡ set.empty = cc in
         true≢false (sym (insert_has m cell) ∙ ap (λ n. set.contains n cell) none ∙ set.contains-empty cell_cmp cell)
     go false h = hold x h
 
-pub removed_hold : (f g : AtSpots) (s : Spot) (w : Option Cells) → ((x : Spot) → g x ≡ cond (is_at (spot_cmp s) x) w (f x)) → (g s ≡ Some set.empty → ⊥) → Hold f → Hold g
-removed_hold f g s w is some hold x e = go (is_at (spot_cmp s) x) refl (sym (is x) ∙ e)
+pub removed_hold : (f g : AtNumbers) (s : ℕ) (w : Option Cells) → ((x : ℕ) → g x ≡ cond (is_at (nat_cmp s) x) w (f x)) → (g s ≡ Some set.empty → ⊥) → Hold f → Hold g
+removed_hold f g s w is some hold x e = go (is_at (nat_cmp s) x) refl (sym (is x) ∙ e)
   where
-    go : (b : Bool) → is_at (spot_cmp s) x ≡ b → cond b w (f x) ≡ Some set.empty → ⊥
-    go true t h = some (subst (λ y. g y ≡ Some set.empty) (sym (tied_spot s x t)) e)
+    go : (b : Bool) → is_at (nat_cmp s) x ≡ b → cond b w (f x) ≡ Some set.empty → ⊥
+    go true t h = some (subst (λ y. g y ≡ Some set.empty) (sym (tied_number s x t)) e)
     go false t h = hold x h
 
-pub emptied_hold : (f g h : AtSpots) (s : Spot) (w : Option Cells) → ((x : Spot) → g x ≡ cond (is_at (spot_cmp s) x) w (f x)) → ((x : Spot) → h x ≡ cond (is_at (spot_cmp s) x) None (g x)) → Hold f → Hold h
-emptied_hold f g h s w is then hold x e = go (is_at (spot_cmp s) x) refl (sym (then x) ∙ e)
+pub emptied_hold : (f g h : AtNumbers) (s : ℕ) (w : Option Cells) → ((x : ℕ) → g x ≡ cond (is_at (nat_cmp s) x) w (f x)) → ((x : ℕ) → h x ≡ cond (is_at (nat_cmp s) x) None (g x)) → Hold f → Hold h
+emptied_hold f g h s w is then hold x e = go (is_at (nat_cmp s) x) refl (sym (then x) ∙ e)
   where
-    go : (b : Bool) → is_at (spot_cmp s) x ≡ b → cond b None (g x) ≡ Some set.empty → ⊥
+    go : (b : Bool) → is_at (nat_cmp s) x ≡ b → cond b None (g x) ≡ Some set.empty → ⊥
     go true t i = absurd (cc)
     go false t i = hold x (sym (is x ∙ ap (λ b. cond b w (f x)) t) ∙ i)
 
 -- ---- lists of spots
-pub any_turned : (x : Spot) (ys : List Spot) → list_any (λ y. same_spot y x) ys ≡ list_any (same_spot x) ys
-any_turned x [] = refl
-any_turned x (y ∷ ys) = λ i. same_spot_equiv.symm y x i || any_turned x ys i
-
 -- one more spot
 pub any_more : (p : Spot → Bool) (xs : List Spot) (k : ℕ) (x : Spot) → k < length xs → x ≡ get_or xs k x → list_any p (take (k + 1) xs) ≡ (list_any p (take k xs) || p x)
 any_more p xs k x less is =
     ap (list_any p) (take_more xs k x less ∙ ap (λ y. take k xs ++ y ∷ []) (sym is)) ∙ list_any-append p (take k xs) (x ∷ []) ∙ ap (λ b. list_any p (take k xs) || b) (sym (or_none (p x)))
 
-pub filed_more : (f g : AtSpots) (cell : CellId) (xs : List Spot) (k : ℕ) (s : Spot) → k < length xs → s ≡ get_or xs k s → Keeps f g → has_cell (g s) cell ≡ true
-    → ((x : Spot) → list_any (same_spot x) (take k xs) ≡ true → has_cell (f x) cell ≡ true)
-    → (x : Spot) → list_any (same_spot x) (take (k + 1) xs) ≡ true → has_cell (g x) cell ≡ true
-filed_more f g cell xs k s less is keeps here before x e =
-    elim (or_cases (list_any (same_spot x) (take k xs)) (same_spot x s) (sym (any_more (same_spot x) xs k s less is) ∙ e)) [
+pub filed_more : (f g : AtNumbers) (cell : CellId) (xs : List Spot) (k : ℕ) (s : Spot) (n : ℕ) → k < length xs → s ≡ get_or xs k s → n ≡ number_of s → Keeps f g → has_cell (g n) cell ≡ true
+    → ((x : ℕ) → list_any (has_number x) (take k xs) ≡ true → has_cell (f x) cell ≡ true)
+    → (x : ℕ) → list_any (has_number x) (take (k + 1) xs) ≡ true → has_cell (g x) cell ≡ true
+filed_more f g cell xs k s n less is same keeps here before x e =
+    elim (or_cases (list_any (has_number x) (take k xs)) (has_number x s) (sym (any_more (has_number x) xs k s less is) ∙ e)) [
       | inl old ↦ keeps x cell (before x old)
-      | inr new ↦ subst (λ y. has_cell (g y) cell ≡ true) (sym (same_spot_is x s new)) here
+      | inr new ↦ subst (λ y. has_cell (g y) cell ≡ true) (same ∙ sym (tied_number x (number_of s) new)) here
     ]
 
 -- a spot of a list is one of it
-pub spot_listed : (xs : List Spot) (k : ℕ) (s : Spot) → k < length xs → s ≡ get_or xs k s → list_any (same_spot s) xs ≡ true
+pub spot_listed : (xs : List Spot) (k : ℕ) (s : Spot) → k < length xs → s ≡ get_or xs k s → list_any (has_number (number_of s)) xs ≡ true
 spot_listed [] k s less is = absurd (omega (arith, less))
-spot_listed (y ∷ ys) zero s less is = or_left (same_spot s y) _ (subst (λ z. same_spot s z ≡ true) is (same_spot_itself s))
-spot_listed (y ∷ ys) (suc k) s less is = or_right (same_spot s y) _ (spot_listed ys k s (omega (arith, less)) is)
+spot_listed (y ∷ ys) zero s less is = or_left (has_number (number_of s) y) _ (subst (λ z. has_number (number_of s) z ≡ true) is (number_itself (number_of s)))
+spot_listed (y ∷ ys) (suc k) s less is = or_right (has_number (number_of s) y) _ (spot_listed ys k s (omega (arith, less)) is)
 
 -- nothing more is filed than the cell at the spots
-pub gained_more : (f g h : AtSpots) (cell : CellId) (xs : List Spot) (k : ℕ) (s : Spot) → k < length xs → s ≡ get_or xs k s
-    → ((x : Spot) (q : CellId) → has_cell (h x) q ≡ true → (has_cell (g x) q ≡ true) ⊎ ((q ≡ cell) × (x ≡ s)))
-    → ((x : Spot) (q : CellId) → has_cell (g x) q ≡ true → (has_cell (f x) q ≡ true) ⊎ ((q ≡ cell) × (list_any (same_spot x) xs ≡ true)))
-    → (x : Spot) (q : CellId) → has_cell (h x) q ≡ true → (has_cell (f x) q ≡ true) ⊎ ((q ≡ cell) × (list_any (same_spot x) xs ≡ true))
-gained_more f g h cell xs k s less is one before x q e = elim (one x q e) [
+pub gained_more : (f g h : AtNumbers) (cell : CellId) (xs : List Spot) (k : ℕ) (s : Spot) (n : ℕ) → k < length xs → s ≡ get_or xs k s → n ≡ number_of s
+    → ((x : ℕ) (q : CellId) → has_cell (h x) q ≡ true → (has_cell (g x) q ≡ true) ⊎ ((q ≡ cell) × (x ≡ n)))
+    → ((x : ℕ) (q : CellId) → has_cell (g x) q ≡ true → (has_cell (f x) q ≡ true) ⊎ ((q ≡ cell) × (list_any (has_number x) xs ≡ true)))
+    → (x : ℕ) (q : CellId) → has_cell (h x) q ≡ true → (has_cell (f x) q ≡ true) ⊎ ((q ≡ cell) × (list_any (has_number x) xs ≡ true))
+gained_more f g h cell xs k s n less is same one before x q e = elim (one x q e) [
   | inl old ↦ before x q old
-  | inr new ↦ inr (new.0, subst (λ y. list_any (same_spot y) xs ≡ true) (sym new.1) (spot_listed xs k s less is))
+  | inr new ↦ inr (new.0, subst (λ y. list_any (has_number y) xs ≡ true) (sym (new.1 ∙ same)) (spot_listed xs k s less is))
 ]
 
 -- one more spot where the cell is gone, but for a row that keeps it
-pub gone_more : (f g : AtSpots) (cell : CellId) (kept : Option RuleSpots) (xs : List Spot) (k : ℕ) (s : Spot) → k < length xs → s ≡ get_or xs k s → Keeps g f
-    → (has_cell (g s) cell ≡ true → has_spot kept s ≡ true)
-    → ((x : Spot) → list_any (same_spot x) (take k xs) ≡ true → has_cell (f x) cell ≡ true → has_spot kept x ≡ true)
-    → (x : Spot) → list_any (same_spot x) (take (k + 1) xs) ≡ true → has_cell (g x) cell ≡ true → has_spot kept x ≡ true
-gone_more f g cell kept xs k s less is fewer here before x among e =
-    elim (or_cases (list_any (same_spot x) (take k xs)) (same_spot x s) (sym (any_more (same_spot x) xs k s less is) ∙ among)) [
+pub gone_more : (f g : AtNumbers) (cell : CellId) (kept : Option RuleSpots) (xs : List Spot) (k : ℕ) (s : Spot) (n : ℕ) → k < length xs → s ≡ get_or xs k s → n ≡ number_of s → Keeps g f
+    → (has_cell (g n) cell ≡ true → keeps_number kept n ≡ true)
+    → ((x : ℕ) → list_any (has_number x) (take k xs) ≡ true → has_cell (f x) cell ≡ true → keeps_number kept x ≡ true)
+    → (x : ℕ) → list_any (has_number x) (take (k + 1) xs) ≡ true → has_cell (g x) cell ≡ true → keeps_number kept x ≡ true
+gone_more f g cell kept xs k s n less is number fewer here before x among e =
+    elim (or_cases (list_any (has_number x) (take k xs)) (has_number x s) (sym (any_more (has_number x) xs k s less is) ∙ among)) [
       | inl old ↦ before x old (fewer x cell e)
-      | inr new ↦ (let same : x ≡ s = same_spot_is x s new in
-          subst (λ y. has_spot kept y ≡ true) (sym same) (here (subst (λ y. has_cell (g y) cell ≡ true) same e)))
+      | inr new ↦ (let same : x ≡ n = tied_number x (number_of s) new ∙ sym number in
+          subst (λ y. keeps_number kept y ≡ true) (sym same) (here (subst (λ y. has_cell (g y) cell ≡ true) same e)))
     ]
 
 -- a spot that is taken away isn't one of a row that stays
-pub taken_more : (f g h : AtSpots) (cell : CellId) (kept : Option RuleSpots) (s : Spot) → has_spot kept s ≡ false → KeepsOthers g h s cell
-    → ((x : Spot) (q : CellId) → (is_one cell q && not (has_spot kept x)) ≡ false → has_cell (f x) q ≡ true → has_cell (g x) q ≡ true)
-    → (x : Spot) (q : CellId) → (is_one cell q && not (has_spot kept x)) ≡ false → has_cell (f x) q ≡ true → has_cell (h x) q ≡ true
+pub taken_more : (f g h : AtNumbers) (cell : CellId) (kept : Option RuleSpots) (s : ℕ) → keeps_number kept s ≡ false → KeepsOthers g h s cell
+    → ((x : ℕ) (q : CellId) → (is_one cell q && not (keeps_number kept x)) ≡ false → has_cell (f x) q ≡ true → has_cell (g x) q ≡ true)
+    → (x : ℕ) (q : CellId) → (is_one cell q && not (keeps_number kept x)) ≡ false → has_cell (f x) q ≡ true → has_cell (h x) q ≡ true
 taken_more f g h cell kept s hasnt taken before x q p e = taken x q (apart (is_one cell q) p) (before x q p e)
   where
-    other : has_spot kept x ≡ true → same_spot s x ≡ false
-    other has = elim (cases_Bool (same_spot s x)) [
-      | inl same ↦ absurd (false≢true (sym hasnt ∙ ap (has_spot kept) (same_spot_is s x same) ∙ has))
+    other : keeps_number kept x ≡ true → is_at (nat_cmp s) x ≡ false
+    other has = elim (cases_Bool (is_at (nat_cmp s) x)) [
+      | inl same ↦ absurd (false≢true (sym hasnt ∙ ap (keeps_number kept) (tied_number s x same) ∙ has))
       | inr differ ↦ differ
     ]
 
-    apart : (b : Bool) → (b && not (has_spot kept x)) ≡ false → (b && same_spot s x) ≡ false
-    apart true e = other (not-false (has_spot kept x) e)
+    apart : (b : Bool) → (b && not (keeps_number kept x)) ≡ false → (b && is_at (nat_cmp s) x) ≡ false
+    apart true e = other (not-false (keeps_number kept x) e)
     apart false e = refl
 
 -- ---- an index
 pub kept_by : (i j : SideIndex) → ((q : CellId) → set.contains i.all q ≡ true → set.contains j.all q ≡ true) → ((q : CellId) → set.contains i.wide q ≡ true → set.contains j.wide q ≡ true)
-    → ((x : Spot) (q : CellId) → is_filed i (At x) q ≡ true → is_filed j (At x) q ≡ true) → (k : Key) (q : CellId) → is_filed i k q ≡ true → is_filed j k q ≡ true
+    → ((x : ℕ) (q : CellId) → is_filed i (At x) q ≡ true → is_filed j (At x) q ≡ true) → (k : Key) (q : CellId) → is_filed i k q ≡ true → is_filed j k q ≡ true
 kept_by i j all wide spots All q e = all q e
 kept_by i j all wide spots Wide q e = wide q e
 kept_by i j all wide spots (At x) q e = spots x q e
@@ -245,7 +241,7 @@ kept_by i j all wide spots (At x) q e = spots x q e
 pub only_by : (i j : SideIndex) (x : RuleSpots) (cell : CellId)
     → ((q : CellId) → set.contains j.all q ≡ true → (set.contains i.all q ≡ true) ⊎ ((q ≡ cell) × (x.has_role ≡ true)))
     → ((q : CellId) → set.contains j.wide q ≡ true → (set.contains i.wide q ≡ true) ⊎ ((q ≡ cell) × (x.spots.wide ≡ true)))
-    → ((y : Spot) (q : CellId) → is_filed j (At y) q ≡ true → (is_filed i (At y) q ≡ true) ⊎ ((q ≡ cell) × (list_any (same_spot y) x.spots.list ≡ true)))
+    → ((y : ℕ) (q : CellId) → is_filed j (At y) q ≡ true → (is_filed i (At y) q ≡ true) ⊎ ((q ≡ cell) × (list_any (has_number y) x.spots.list ≡ true)))
     → (k : Key) (q : CellId) → is_filed j k q ≡ true → (is_filed i k q ≡ true) ⊎ ((q ≡ cell) × (has_key x k ≡ true))
 only_by i j x cell all wide spots All q e = all q e
 only_by i j x cell all wide spots Wide q e = wide q e
@@ -259,7 +255,7 @@ keeps_all_wide : (kept : Option RuleSpots) → keeps_wide kept ≡ has_key_of ke
 keeps_all_wide None = refl
 keeps_all_wide (Some y) = refl
 
-keeps_spot : (kept : Option RuleSpots) (x : Spot) → has_spot kept x ≡ has_key_of kept (At x)
+keeps_spot : (kept : Option RuleSpots) (x : ℕ) → keeps_number kept x ≡ has_key_of kept (At x)
 keeps_spot None x = refl
 keeps_spot (Some y) x = refl
 
@@ -270,14 +266,14 @@ kept_if false cell m gone e = absurd (false≢true (sym (gone refl) ∙ e))
 pub gone_by : (j : SideIndex) (x : RuleSpots) (cell : CellId) (kept : Option RuleSpots)
     → (not (keeps_role kept) ≡ true → set.contains j.all cell ≡ false)
     → (not (keeps_wide kept) ≡ true → set.contains j.wide cell ≡ false)
-    → ((y : Spot) → list_any (same_spot y) x.spots.list ≡ true → is_filed j (At y) cell ≡ true → has_spot kept y ≡ true)
+    → ((y : ℕ) → list_any (has_number y) x.spots.list ≡ true → is_filed j (At y) cell ≡ true → keeps_number kept y ≡ true)
     → (k : Key) → has_key x k ≡ true → is_filed j k cell ≡ true → has_key_of kept k ≡ true
 gone_by j x cell kept all wide spots All key e = sym (keeps_all kept) ∙ kept_if (keeps_role kept) cell j.all all e
 gone_by j x cell kept all wide spots Wide key e = sym (keeps_all_wide kept) ∙ kept_if (keeps_wide kept) cell j.wide wide e
 gone_by j x cell kept all wide spots (At y) key e = sym (keeps_spot kept y) ∙ spots y key e
 
 -- an index without cells
-pub none_in : (i : SideIndex) → ((q : CellId) → set.contains i.all q ≡ false) → ((q : CellId) → set.contains i.wide q ≡ false) → ((x : Spot) → get spot_cmp i.by_spot x ≡ None)
+pub none_in : (i : SideIndex) → ((q : CellId) → set.contains i.all q ≡ false) → ((q : CellId) → set.contains i.wide q ≡ false) → ((x : ℕ) → get nat_cmp i.by_spot x ≡ None)
     → (k : Key) (q : CellId) → is_filed i k q ≡ false
 none_in i all wide spots All q = all q
 none_in i all wide spots Wide q = wide q
@@ -288,7 +284,7 @@ none_has None q e h = absurd (false≢true h)
 none_has (Some m) q e h = absurd (true≢false e)
 
 pub filed_by : (i : SideIndex) (x : RuleSpots) (cell : CellId) → (x.has_role ≡ true → set.contains i.all cell ≡ true) → (x.spots.wide ≡ true → set.contains i.wide cell ≡ true)
-    → ((y : Spot) → list_any (same_spot y) x.spots.list ≡ true → is_filed i (At y) cell ≡ true) → (k : Key) → has_key x k ≡ true → is_filed i k cell ≡ true
+    → ((y : ℕ) → list_any (has_number y) x.spots.list ≡ true → is_filed i (At y) cell ≡ true) → (k : Key) → has_key x k ≡ true → is_filed i k cell ≡ true
 filed_by i x cell all wide spots All e = all e
 filed_by i x cell all wide spots Wide e = wide e
 filed_by i x cell all wide spots (At y) e = spots y e
@@ -296,7 +292,7 @@ filed_by i x cell all wide spots (At y) e = spots y e
 pub stays_by : (i j : SideIndex) (cell : CellId) (kept : Option RuleSpots)
     → ((q : CellId) → (is_one cell q && not (keeps_role kept)) ≡ false → set.contains i.all q ≡ true → set.contains j.all q ≡ true)
     → ((q : CellId) → (is_one cell q && not (keeps_wide kept)) ≡ false → set.contains i.wide q ≡ true → set.contains j.wide q ≡ true)
-    → ((x : Spot) (q : CellId) → (is_one cell q && not (has_spot kept x)) ≡ false → is_filed i (At x) q ≡ true → is_filed j (At x) q ≡ true)
+    → ((x : ℕ) (q : CellId) → (is_one cell q && not (keeps_number kept x)) ≡ false → is_filed i (At x) q ≡ true → is_filed j (At x) q ≡ true)
     → (k : Key) (q : CellId) → stays cell kept k q ≡ true → is_filed i k q ≡ true → is_filed j k q ≡ true
 stays_by i j cell kept all wide spots All q s e = all q (not-true _ s) e
 stays_by i j cell kept all wide spots Wide q s e = wide q (not-true _ s) e
@@ -305,30 +301,26 @@ stays_by i j cell kept all wide spots (At x) q s e = spots x q (not-true _ s) e
 -- the cells that are looked at, added one part after another
 pub near_by : (i : SideIndex) (x : RuleSpots) (m m' m'' n : Cells) (list : List Spot) → ((q : CellId) → set.contains m' q ≡ (set.contains m q || (x.spots.wide && set.contains i.all q)))
     → ((q : CellId) → set.contains m'' q ≡ (set.contains m' q || (x.has_role && set.contains i.wide q)))
-    → ((q : CellId) → set.contains n q ≡ (set.contains m'' q || list_any (λ y. has_cell (get spot_cmp i.by_spot y) q) list))
+    → ((q : CellId) → set.contains n q ≡ (set.contains m'' q || list_any (λ y. has_cell (get nat_cmp i.by_spot (number_of y)) q) list))
     → list ≡ x.spots.list
     → (k : Key) (q : CellId) → is_looked_at x k ≡ true → is_filed i k q ≡ true → set.contains n q ≡ true
 near_by i x m m' m'' n list all wide spots same All q l e =
     spots q ∙ or_left _ _ (wide q ∙ or_left _ _ (all q ∙ or_right (set.contains m q) _ (λ j. l j && e j)))
 near_by i x m m' m'' n list all wide spots same Wide q l e = spots q ∙ or_left _ _ (wide q ∙ or_right (set.contains m' q) _ (λ j. l j && e j))
-near_by i x m m' m'' n list all wide spots same (At y) q l e = spots q ∙ or_right (set.contains m'' q) _ (some_at list (ap (list_any (same_spot y)) same ∙ l))
+near_by i x m m' m'' n list all wide spots same (At y) q l e = spots q ∙ or_right (set.contains m'' q) _ (some_at list (ap (list_any (has_number y)) same ∙ l))
   where
-    some_at : (ys : List Spot) → list_any (same_spot y) ys ≡ true → list_any (λ z. has_cell (get spot_cmp i.by_spot z) q) ys ≡ true
+    some_at : (ys : List Spot) → list_any (has_number y) ys ≡ true → list_any (λ z. has_cell (get nat_cmp i.by_spot (number_of z)) q) ys ≡ true
     some_at [] h = absurd (false≢true h)
-    some_at (z ∷ ys) h = elim (or_cases (same_spot y z) (list_any (same_spot y) ys) h) [
-      | inl here ↦ or_left _ _ (subst (λ w. has_cell (get spot_cmp i.by_spot w) q ≡ true) (same_spot_is y z here) e)
-      | inr later ↦ or_right (has_cell (get spot_cmp i.by_spot z) q) _ (some_at ys later)
+    some_at (z ∷ ys) h = elim (or_cases (has_number y z) (list_any (has_number y) ys) h) [
+      | inl here ↦ or_left _ _ (subst (λ w. has_cell (get nat_cmp i.by_spot w) q ≡ true) (tied_number y (number_of z) here) e)
+      | inr later ↦ or_right (has_cell (get nat_cmp i.by_spot (number_of z)) q) _ (some_at ys later)
     ]
 
 pub near_keeps : (i : SideIndex) (x : RuleSpots) (m m' m'' n : Cells) (list : List Spot) → ((q : CellId) → set.contains m' q ≡ (set.contains m q || (x.spots.wide && set.contains i.all q)))
     → ((q : CellId) → set.contains m'' q ≡ (set.contains m' q || (x.has_role && set.contains i.wide q)))
-    → ((q : CellId) → set.contains n q ≡ (set.contains m'' q || list_any (λ y. has_cell (get spot_cmp i.by_spot y) q) list))
+    → ((q : CellId) → set.contains n q ≡ (set.contains m'' q || list_any (λ y. has_cell (get nat_cmp i.by_spot (number_of y)) q) list))
     → (q : CellId) → set.contains m q ≡ true → set.contains n q ≡ true
 near_keeps i x m m' m'' n list all wide spots q e = spots q ∙ or_left _ _ (wide q ∙ or_left _ _ (all q ∙ or_left _ _ e))
-
-or_group : (a b c : Bool) → ((a || b) || c) ≡ (a || (b || c))
-or_group true b c = refl
-or_group false b c = refl
 
 -- the cells of one more spot
 pub added_more : (p : Spot → Bool) (xs : List Spot) (k : ℕ) (x : Spot) (a b c : Bool) → k < length xs → x ≡ get_or xs k x → b ≡ (a || list_any p (take k xs)) → c ≡ (b || p x) → c ≡ (a || list_any p (take (k + 1) xs))
@@ -336,11 +328,11 @@ added_more p xs k x a b c less is before now =
     now ∙ ap (λ e. e || p x) before ∙ or_group a (list_any p (take k xs)) (p x) ∙ ap (λ e. a || e) (sym (any_more p xs k x less is))
 
 -- cells that are written back as they were
-pub same_written : (f g : AtSpots) (s : Spot) (w m : Cells) → ((x : Spot) → g x ≡ cond (is_at (spot_cmp s) x) (Some w) (f x)) → w ≡ m → Some m ≡ f s → (x : Spot) → g x ≡ f x
-same_written f g s w m is same here x = is x ∙ go (is_at (spot_cmp s) x) refl
+pub same_written : (f g : AtNumbers) (s : ℕ) (w m : Cells) → ((x : ℕ) → g x ≡ cond (is_at (nat_cmp s) x) (Some w) (f x)) → w ≡ m → Some m ≡ f s → (x : ℕ) → g x ≡ f x
+same_written f g s w m is same here x = is x ∙ go (is_at (nat_cmp s) x) refl
   where
-    go : (b : Bool) → is_at (spot_cmp s) x ≡ b → cond b (Some w) (f x) ≡ f x
-    go true t = ap Some same ∙ here ∙ ap f (tied_spot s x t)
+    go : (b : Bool) → is_at (nat_cmp s) x ≡ b → cond b (Some w) (f x) ≡ f x
+    go true t = ap Some same ∙ here ∙ ap f (tied_number s x t)
     go false t = refl
 
 pub on_err : {T E P : Type 0} (r : Result T E) → P → OnErr r P

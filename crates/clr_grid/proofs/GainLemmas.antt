@@ -1,25 +1,24 @@
 -- Sets that gain cells until there is no memory.
-use Rattle.std.proofs.Common.{◌≡◌, ◌⊎◌, ◌∙◌, ◌<◌, ◌+◌, inl, inr, ℕ, Bool, true, ◌&&◌, ◌||◌, List, [], ◌∷◌, ◌++◌, append_assoc, ap, drop, get_or, length, refl, subst, sym, take}
+use Rattle.std.proofs.Common.{◌≡◌, ◌⊎◌, ◌∙◌, ◌<◌, ◌+◌, inl, inr, ℕ, Bool, true, ◌&&◌, ◌||◌, List, [], ◌∷◌, ◌++◌, append_assoc, ap, drop, get_or, length, refl, sym, take}
 use Rattle.std.proofs.lemmas.Bool.{and_parts, or_cases, or_left, or_right}
 use Rattle.std.proofs.lemmas.List.{take-append-drop}
 use Rattle.std.proofs.lemmas.List.Folds.{list_any-append}
 use Rattle.std.specs.BTreeMap.{get}
 use Rattle.std.specs.FinSet as set
 use Rattle.std.specs.List.{list_any}
-use Rattle.std.specs.Ordering.{eq_by_cmp}
+use Rattle.std.specs.Ordering.{eq_by_cmp, nat_cmp}
 use Rattle.clr_rows.specs.declared.cells.CellId.{CellId}
 use Rattle.clr_rows.specs.Cells.{cell_cmp}
 use Rattle.clr_rules.proofs.Elements.{any_by, some_of}
 use Rattle.clr_spots.specs.declared.spots.Spot.{Spot}
-use Rattle.clr_spots.specs.SpotOrder.{same_spot, spot_cmp}
-use Rattle.clr_spots.specs.SpotOrderLaws.{same_spot_itself}
 use Rattle.clr_grid.specs.declared.row_spots.RuleSpots.{RuleSpots}
 use Rattle.clr_grid.specs.declared.side_index.SideIndex.{SideIndex}
 use Rattle.clr_grid.specs.CellSets.{Cells, is_one_of, with_cells}
 use Rattle.clr_grid.specs.Filing.{All, At, Wide, has_cell}
 use Rattle.clr_grid.specs.Gains.{GainsCells, IsFoundFor}
-use Rattle.clr_grid.proofs.FilingLemmas.{any_more}
-use Rattle.clr_grid.proofs.SetLemmas.{has_with_cells}
+use Rattle.clr_grid.proofs.FilingLemmas.{any_more, number_itself}
+use Rattle.clr_grid.proofs.SetLemmas.{has_with_cells, or_group}
+use Rattle.clr_grid.specs.SpotNumbers.{has_number, number_of}
 
 module _ (allowed : CellId → Type 0) where
   pub gains_as : (less : CellId → Type 0) (m n : Cells) → ((q : CellId) → less q → allowed q) → GainsCells less m n → GainsCells allowed m n
@@ -64,6 +63,19 @@ added_gains m all n left p told (done, is, whole) = gains_as (λ q. p q ≡ true
     (λ q e. sym (told q) ∙ ap (λ cells. is_one_of cells q) (sym whole) ∙ list_any-append (eq_by_cmp cell_cmp q) done left ∙ or_left (is_one_of done q) (is_one_of left q) e)
     (gains_exact (is_one_of done) m n (λ q. ap (λ (o : Cells). set.contains o q) is ∙ has_with_cells done m q))
 
+-- the cells of two lists, one after the other
+pub both_gain : (m n o : Cells) (xs ys : List CellId) (p : CellId → Bool) → n ≡ with_cells m xs → ((q : CellId) → is_one_of (xs ++ ys) q ≡ p q) → GainsCells (λ q. is_one_of ys q ≡ true) n o → GainsCells (λ q. p q ≡ true) m o
+both_gain m n o xs ys p is told g = gains_then (λ q. p q ≡ true) m n o
+    (gains_as (λ q. p q ≡ true) (λ q. is_one_of xs q ≡ true) m n (λ q e. sym (told q) ∙ list_any-append (eq_by_cmp cell_cmp q) xs ys ∙ or_left (is_one_of xs q) (is_one_of ys q) e)
+    (gains_exact (is_one_of xs) m n (λ q. ap (λ (o : Cells). set.contains o q) is ∙ has_with_cells xs m q)))
+    (gains_as (λ q. p q ≡ true) (λ q. is_one_of ys q ≡ true) n o (λ q e. sym (told q) ∙ list_any-append (eq_by_cmp cell_cmp q) xs ys ∙ or_right (is_one_of xs q) (is_one_of ys q) e) g)
+
+pub both_has : (m n o : Cells) (xs ys : List CellId) (p : CellId → Bool) → n ≡ with_cells m xs → ((q : CellId) → is_one_of (xs ++ ys) q ≡ p q) → ((q : CellId) → set.contains o q ≡ (set.contains n q || is_one_of ys q))
+    → (q : CellId) → set.contains o q ≡ (set.contains m q || p q)
+both_has m n o xs ys p is told has q =
+    has q ∙ ap (λ b. b || is_one_of ys q) (ap (λ (o : Cells). set.contains o q) is ∙ has_with_cells xs m q) ∙ or_group (set.contains m q) (is_one_of xs q) (is_one_of ys q)
+    ∙ ap (λ b. set.contains m q || b) (sym (list_any-append (eq_by_cmp cell_cmp q) xs ys) ∙ told q)
+
 -- ---- spot after spot
 
 module _ (p : CellId → Spot → Bool) (xs : List Spot) where
@@ -88,10 +100,10 @@ module _ (i : SideIndex) (x : RuleSpots) where
   found_wide : (q : CellId) → (x.has_role && set.contains i.wide q) ≡ true → IsFoundFor i x q
   found_wide q e = let parts = and_parts x.has_role (set.contains i.wide q) e in (Wide, parts.0, parts.1)
 
-  found_at : (ys : List Spot) → ys ≡ x.spots.list → (q : CellId) → list_any (λ y. has_cell (get spot_cmp i.by_spot y) q) ys ≡ true → IsFoundFor i x q
+  found_at : (ys : List Spot) → ys ≡ x.spots.list → (q : CellId) → list_any (λ y. has_cell (get nat_cmp i.by_spot (number_of y)) q) ys ≡ true → IsFoundFor i x q
   found_at ys same q e =
-      let (y, among, has) = some_of (λ y. has_cell (get spot_cmp i.by_spot y) q) ys e in
-      (At y, ap (list_any (same_spot y)) (sym same) ∙ any_by (same_spot y) y ys among (same_spot_itself y), has)
+      let (y, among, has) = some_of (λ y. has_cell (get nat_cmp i.by_spot (number_of y)) q) ys e in
+      (At (number_of y), ap (list_any (has_number (number_of y))) (sym same) ∙ any_by (has_number (number_of y)) y ys among (number_itself (number_of y)), has)
 
   pub all_gain : (m n : Cells) → GainsCells (λ q. (x.spots.wide && set.contains i.all q) ≡ true) m n → GainsCells (IsFoundFor i x) m n
   all_gain m n g = gains_as (IsFoundFor i x) (λ q. (x.spots.wide && set.contains i.all q) ≡ true) m n found_all g
@@ -104,7 +116,7 @@ module _ (i : SideIndex) (x : RuleSpots) where
   pub spot_gain : (m n o r : Cells) (ys : List Spot) → ys ≡ x.spots.list
       → ((q : CellId) → set.contains n q ≡ (set.contains m q || (x.spots.wide && set.contains i.all q)))
       → ((q : CellId) → set.contains o q ≡ (set.contains n q || (x.has_role && set.contains i.wide q)))
-      → GainsCells (λ q. list_any (λ y. has_cell (get spot_cmp i.by_spot y) q) ys ≡ true) o r → GainsCells (IsFoundFor i x) m r
+      → GainsCells (λ q. list_any (λ y. has_cell (get nat_cmp i.by_spot (number_of y)) q) ys ≡ true) o r → GainsCells (IsFoundFor i x) m r
   spot_gain m n o r ys same first second here = gains_then (IsFoundFor i x) m o r
       (wide_gain m n o first (gains_exact (λ q. x.has_role && set.contains i.wide q) n o second))
-      (gains_as (IsFoundFor i x) (λ q. list_any (λ y. has_cell (get spot_cmp i.by_spot y) q) ys ≡ true) o r (found_at ys same) here)
+      (gains_as (IsFoundFor i x) (λ q. list_any (λ y. has_cell (get nat_cmp i.by_spot (number_of y)) q) ys ≡ true) o r (found_at ys same) here)

@@ -11,15 +11,18 @@ use Rattle.clr_rows.specs.declared.cells.CellId.{CellId}
 use Rattle.clr_rows.specs.Cells.{cell_cmp}
 use Rattle.clr_rows.proofs.CellOrder.{cell_cmp_total, cell_cmp_exact}
 use Rattle.clr_spots.specs.SpotOrder.{same_spot}
-use Rattle.clr_spots.specs.SpotOrderLaws.{same_spot_itself}
+use Rattle.clr_spots.specs.SpotOrderLaws.{same_spot_is}
+use Rattle.clr_spots.specs.declared.spots.Spot.{Spot}
 use Rattle.clr_spots.specs.Spots.{have_common_spot}
 use Rattle.clr_rules.proofs.Elements.{some_of, any_by}
 use Rattle.clr_grid.specs.CellSets.{is_one, is_one_of}
-use Rattle.clr_grid.specs.Filing.{Key, All, Wide, At, has_key, has_spot, is_filed, is_filed_under, is_looked_at, side_of, keeps_role, keeps_wide, same_side, of_side, spots_at, stays, IsFiled, IsFiledToo, AreFiled, AreOfRows, AreGone, GainNone, GainOnly, HasRowFor, HoldCells, AllHoldCells, StayFiled, StayFiledBut, AreNear, has_key_of, has_key_under}
-use Rattle.clr_grid.specs.RowMaps.{Rows, RowOrNone, IsRowAt, no_rows, with_pending, with_settled, without_pending}
+use Rattle.clr_grid.specs.Filing.{Key, All, Wide, At, has_key, is_filed, is_filed_under, is_looked_at, side_of, keeps_number, keeps_role, keeps_wide, same_side, of_side, spots_at, stays, IsFiled, IsFiledToo, AreFiled, AreOfRows, AreGone, GainNone, GainOnly, HasRowFor, HoldCells, AllHoldCells, StayFiled, StayFiledBut, AreNear, has_key_of, has_key_under}
+use Rattle.clr_grid.specs.RowMaps.{Rows, RowOrNone, IsRowAt, no_rows, with_pending, with_row, with_settled, without_pending}
 use Rattle.clr_grid.specs.Sharing.{are_meeting, is_met, is_met_at}
 use Rattle.clr_grid.specs.declared.row_spots.RuleSpots.{RuleSpots}
 use Rattle.clr_grid.specs.declared.rule_index.RuleIndex.{RuleIndex}
+use Rattle.clr_grid.specs.SpotNumbers.{has_number, number_of}
+use Rattle.clr_grid.proofs.FilingLemmas.{number_itself}
 use Rattle.clr_grid.proofs.MapLemmas.{get_set_at}
 
 -- ---- lists of indexes
@@ -117,7 +120,7 @@ itself false = refl
 stays_apart : (cell q : CellId) (kept : Option RuleSpots) (k : Key) → is_one cell q ≡ false → stays cell kept k q ≡ true
 stays_apart cell q kept All e = λ i. not (e i && not (keeps_role kept))
 stays_apart cell q kept Wide e = λ i. not (e i && not (keeps_wide kept))
-stays_apart cell q kept (At x) e = λ i. not (e i && not (has_spot kept x))
+stays_apart cell q kept (At x) e = λ i. not (e i && not (keeps_number kept x))
 
 nand : (b c : Bool) → c ≡ true → not (b && not c) ≡ true
 nand true c e = λ i. not (not (e i))
@@ -126,7 +129,7 @@ nand false c e = refl
 stays_kept : (cell q : CellId) (y : RuleSpots) (k : Key) → has_key y k ≡ true → stays cell (Some y) k q ≡ true
 stays_kept cell q y All e = nand (is_one cell q) y.has_role e
 stays_kept cell q y Wide e = nand (is_one cell q) y.spots.wide e
-stays_kept cell q y (At x) e = nand (is_one cell q) (list_any (same_spot x) y.spots.list) e
+stays_kept cell q y (At x) e = nand (is_one cell q) (list_any (has_number x) y.spots.list) e
 
 -- where the rows stay, but for one cell whose row is kept, they stay filed
 pub filed_kept : (rows rows' : Rows) (cell : CellId) (kept : RowOrNone) (xs ys : List RuleIndex) → AreFiled rows xs → StayFiledBut cell kept xs ys
@@ -178,6 +181,12 @@ pub left_same : (rows : Rows) (cell : CellId) (kept : RowOrNone) (row : List Rul
 left_same rows cell kept row is (inl e) = is ∙ e
 left_same rows cell kept row is (inr e) = none_left rows cell row e
 
+-- a list that has a spot has its number
+number_listed : (z : Spot) (ys : List Spot) → list_any (same_spot z) ys ≡ true → list_any (has_number (number_of z)) ys ≡ true
+number_listed z ys e =
+    let (w, among, same) = some_of (same_spot z) ys e in
+    any_by (has_number (number_of z)) w ys among (subst (λ v. has_number (number_of z) v ≡ true) (same_spot_is z w same) (number_itself (number_of z)))
+
 -- ---- what is met is near
 pub met_near : (rows : Rows) (indexes : List RuleIndex) (servers : Bool) (x : RuleSpots) (number : ℕ) (cells : List CellId) → AreFiled rows indexes → AreNear indexes servers number x cells
     → (q : CellId) → is_met_at servers x number (finite.get rows.settled q) ≡ true → is_one_of cells q ≡ true
@@ -195,7 +204,7 @@ met_near rows indexes servers x number cells filed near q met = row (finite.get 
         elim (or_cases (x.spots.wide || y.spots.wide) (have_common_spot x.spots.list y.spots.list) r.1) [
           | inl wide ↦ (elim (or_cases x.spots.wide y.spots.wide wide) [ inl one ↦ found All one r.0 | inr other ↦ found Wide p.0 other ])
           | inr common ↦ (let (z, among, has) = some_of (λ z. list_any (same_spot z) y.spots.list) x.spots.list common in
-              found (At z) (any_by (same_spot z) z x.spots.list among (same_spot_itself z)) has)
+              found (At (number_of z)) (any_by (has_number (number_of z)) z x.spots.list among (number_itself (number_of z))) (number_listed z y.spots.list has))
         ]
 
     one : (ys : List RuleSpots) (o : Option RuleSpots) → finite.get rows.settled q ≡ Some ys → slice_get ys number ≡ o → is_met servers x o ≡ true → is_one_of cells q ≡ true
@@ -425,3 +434,42 @@ others_left rows rows' cell row kept xs ys of fewer gone was is same n b k q e =
 -- no index files nothing
 pub none_other : (rows : Rows) (xs : List RuleIndex) → xs ≡ [] → AreOfRows rows xs
 none_other rows xs is n b k q e = absurd (false≢true (sym (ap (λ ys. is_filed_under ys n b k q) is) ∙ e))
+
+-- ---- one more settled row
+pub filed_put : (rows rows' : Rows) (cell : CellId) (row : List RuleSpots) (xs ys : List RuleIndex) → AreFiled rows xs → StayFiled xs ys → IsFiledToo ys cell (Some row) → rows' ≡ with_row rows cell row → AreFiled rows' ys
+filed_put rows rows' cell row xs ys filed stay here is = subst (λ (r : Rows). AreFiled r ys) (sym is) both
+  where
+    old : AreFiled rows ys
+    old = still_filed rows xs ys filed stay
+
+    both : AreFiled (with_row rows cell row) ys
+    both q zs (inr e) = old q zs (inr e)
+    both q zs (inl e) = go (eq_by_cmp cell_cmp q cell) refl (sym (finite.get-insert cell_cmp_total rows.settled cell row q) ∙ e)
+      where
+        go : (b : Bool) → eq_by_cmp cell_cmp q cell ≡ b → cond b (Some row) (finite.get rows.settled q) ≡ Some zs → IsFiled ys q zs
+        go true tie h =
+            let same : q ≡ cell = cell_cmp_exact q cell ((Equal-is (cell_cmp q cell)).0 tie) in
+            subst (λ c. IsFiled ys c zs) (sym same) (filed_row ys cell (Some row) zs here h)
+        go false tie h = old q zs (inl h)
+
+pub others_put : (rows rows' : Rows) (cell : CellId) (row : List RuleSpots) (xs ys : List RuleIndex) → finite.get rows.settled cell ≡ None → AreOfRows rows xs → GainOnly cell (Some row) xs ys
+    → rows' ≡ with_row rows cell row → AreOfRows rows' ys
+others_put rows rows' cell row xs ys free of gain is n b k q e = subst (λ (r : Rows). HasRowFor r q n b k) (sym is) (elim (gain n b k q e) [
+  | inl old ↦ stays (of n b k q old)
+  | inr new ↦ subst (λ c. HasRowFor (with_row rows cell row) c n b k) (sym new.0) (record {
+    row = row;
+    stands = inl (finite.get-insert cell_cmp_total rows.settled cell row cell ∙ ap (λ t. cond t (Some row) (finite.get rows.settled cell)) (tied_self cell));
+    wanted = new.1;
+  })
+])
+  where
+    stays : HasRowFor rows q n b k → HasRowFor (with_row rows cell row) q n b k
+    stays h = elim h.stands [
+      | inr pending ↦ record { row = h.row; stands = inr pending; wanted = h.wanted }
+      | inl settled ↦ record {
+        row = h.row;
+        stands = inl (by_cell cell q (λ tie. absurd (cc (ap (λ c. finite.get rows.settled c) tie, free, settled)))
+            (λ differ. finite.get-insert cell_cmp_total rows.settled cell row q ∙ ap (λ t. cond t (Some row) (finite.get rows.settled q)) differ ∙ settled));
+        wanted = h.wanted;
+      }
+    ]

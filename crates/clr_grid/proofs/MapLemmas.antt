@@ -16,6 +16,7 @@ use Rattle.clr_rows.proofs.CellOrder.{cell_cmp_total, cell_cmp_exact}
 use Rattle.clr_grid.specs.CellSets.{is_one_of}
 use Rattle.clr_grid.specs.RowMaps.{RowOrNone, Rows, set_at, settled_of, pending_of, with_settled}
 use Rattle.clr_grid.specs.Sharing.{Settled, Pending, next_of, next_at}
+use Rattle.clr_grid.specs.declared.row_spots.RuleSpots.{RuleSpots}
 
 -- what a tree has at a cell
 abbrev pub at_cell : {X : Type 0} → List (CellId × X) → CellId → Option X
@@ -223,3 +224,13 @@ room_left rows new old pending k h kept had q some = go (is_at (cell_cmp k) q) r
     go : (b : Bool) → is_at (cell_cmp k) q ≡ b → is_some (cond b None (at_cell old q)) ≡ true → is_some (at_cell new q) ≡ true
     go true e f = absurd (false≢true f)
     go false e f = kept q e (had q f)
+
+-- a row that is put leaves room to the pending changes alone
+pub lean_put : (old new pending : List (CellId × RowOrNone)) (k : CellId) (row : List RuleSpots) → ((q : CellId) → at_cell new q ≡ cond (is_at (cell_cmp k) q) (Some (Some row)) (at_cell old q))
+    → ((q : CellId) → at_cell old q ≡ Some None → is_some (at_cell pending q) ≡ true)
+    → (q : CellId) → at_cell new q ≡ Some None → is_some (at_cell pending q) ≡ true
+lean_put old new pending k row h had q e = go (is_at (cell_cmp k) q) (sym (h q) ∙ e)
+  where
+    go : (b : Bool) → cond b (Some (Some row)) (at_cell old q) ≡ Some None → is_some (at_cell pending q) ≡ true
+    go true i = absurd (cc)
+    go false i = had q i

@@ -1,9 +1,10 @@
 -- Sets of cells, as the keys of trees make them.
-use Rattle.std.proofs.Common.{◌≡◌, Bool, true, false, cond, not, ◌&&◌, ◌||◌, List, [], ◌∷◌, length, refl, ap, sym, ◌∙◌}
+use Rattle.std.proofs.Common.{◌≡◌, Bool, true, false, cond, not, ◌&&◌, ◌||◌, List, [], ◌∷◌, ◌++◌, length, Option, Some, None, option_to_list, refl, ap, ap₂, sym, subst, ◌∙◌}
 use Rattle.std.proofs.lemmas.Bool.{true≢false, or_left}
 use Rattle.clr_rows.proofs.ChangeLemmas.{tied_self}
 use Rattle.std.specs.BTreeMap.{is_at}
-use Rattle.std.specs.Cmp.{eq_by_cmp_equiv}
+use Rattle.std.proofs.lemmas.List.Folds.{list_any-append}
+use Rattle.std.specs.Cmp.{eq_by_cmp_equiv, Equal-is}
 use Rattle.std.specs.FinSet as set
 use Rattle.std.specs.List.{list_any}
 use Rattle.std.specs.Ordering.{eq_by_cmp}
@@ -42,6 +43,10 @@ no_keys [] e = refl
 no_keys (k ∷ ks) e = absurd (true≢false (sym (or_left (is_at (cell_cmp k) k) (list_any (is_at (cell_cmp k)) ks) (tied_self k))
     ∙ sym (set.contains-from_list cell_cmp_total (k ∷ ks) k) ∙ ap (λ (m : Cells). set.contains m k) e ∙ set.contains-empty cell_cmp k))
 
+pub and_none : (a : Bool) → (a && false) ≡ false
+and_none true = refl
+and_none false = refl
+
 or_move : (a b c : Bool) → ((a || b) || c) ≡ (b || (a || c))
 or_move true true c = refl
 or_move true false c = refl
@@ -55,3 +60,84 @@ pub has_with_cells : (cells : List CellId) (m : Cells) (q : CellId) → set.cont
 has_with_cells [] m q = or_none _
 has_with_cells (c ∷ cells) m q = has_with_cells cells (set.insert m c) q
     ∙ ap (λ b. b || is_one_of cells q) (set.contains-insert cell_cmp_total m c q) ∙ or_move (eq_by_cmp cell_cmp q c) (set.contains m q) (is_one_of cells q)
+
+pub or_group : (a b c : Bool) → ((a || b) || c) ≡ (a || (b || c))
+or_group true b c = refl
+or_group false b c = refl
+
+-- ---- a first cell and the keys of a tree
+pub first_put : (k : CellId) (ks : List CellId) → set.from_list {R = cell_cmp} (k ∷ ks) ≡ set.insert (set.from_list ks) k
+first_put k ks = set.same_set cell_cmp_total cell_cmp_exact _ _ (λ q.
+    set.contains-from_list cell_cmp_total (k ∷ ks) q
+    ∙ sym (set.contains-insert cell_cmp_total (set.from_list ks) k q ∙ ap (λ b. eq_by_cmp cell_cmp q k || b) (set.contains-from_list cell_cmp_total ks q)))
+
+or_chosen : (a c b : Bool) → (a || cond c true b) ≡ cond c true (a || b)
+or_chosen true true b = refl
+or_chosen true false b = refl
+or_chosen false true b = refl
+or_chosen false false b = refl
+
+pub more_added : (f k : CellId) (ks ls : List CellId) → ((q : CellId) → list_any (is_at (cell_cmp q)) ls ≡ cond (is_at (cell_cmp k) q) true (list_any (is_at (cell_cmp q)) ks))
+    → set.from_list {R = cell_cmp} (f ∷ ls) ≡ set.insert (set.from_list (f ∷ ks)) k
+more_added f k ks ls h = one_added (f ∷ ks) (f ∷ ls) k (λ q.
+    ap (λ b. is_at (cell_cmp q) f || b) (h q) ∙ or_chosen (is_at (cell_cmp q) f) (is_at (cell_cmp k) q) (list_any (is_at (cell_cmp q)) ks))
+
+pub first_there : (f k : CellId) (ks : List CellId) → eq_by_cmp cell_cmp f k ≡ true → set.from_list {R = cell_cmp} (f ∷ ks) ≡ set.insert (set.from_list (f ∷ ks)) k
+first_there f k ks tie = one_added (f ∷ ks) (f ∷ ks) k (λ q. go q (is_at (cell_cmp k) q) refl)
+  where
+    same : f ≡ k
+    same = cell_cmp_exact f k ((Equal-is (cell_cmp f k)).0 tie)
+
+    go : (q : CellId) (b : Bool) → is_at (cell_cmp k) q ≡ b → list_any (is_at (cell_cmp q)) (f ∷ ks) ≡ cond b true (list_any (is_at (cell_cmp q)) (f ∷ ks))
+    go q false e = refl
+    go q true e = or_left (is_at (cell_cmp q) f) (list_any (is_at (cell_cmp q)) ks) (subst (λ c. is_at (cell_cmp q) c ≡ true) (sym same) ((eq_by_cmp_equiv cell_cmp_total).symm q k ∙ e))
+
+and_or : (a b c : Bool) → ((a && b) || (a && c)) ≡ (a && (b || c))
+and_or true b c = refl
+and_or false b c = refl
+
+-- a first cell or none, and keys, without one cell
+pub both_gone : (xs ys ks ls : List CellId) (k : CellId) → ((q : CellId) → is_one_of ys q ≡ (not (eq_by_cmp cell_cmp q k) && is_one_of xs q))
+    → ((q : CellId) → list_any (is_at (cell_cmp q)) ls ≡ cond (is_at (cell_cmp k) q) false (list_any (is_at (cell_cmp q)) ks))
+    → set.from_list {R = cell_cmp} (ys ++ ls) ≡ set.remove (set.from_list (xs ++ ks)) k
+both_gone xs ys ks ls k first h = set.same_set cell_cmp_total cell_cmp_exact _ _ (λ q.
+    set.contains-from_list cell_cmp_total (ys ++ ls) q ∙ list_any-append (eq_by_cmp cell_cmp q) ys ls
+    ∙ ap₂ (λ (a b : Bool). a || b) (first q) (h q ∙ and_cond (is_at (cell_cmp k) q) _ ∙ ap (λ b. not b && list_any (is_at (cell_cmp q)) ks) ((eq_by_cmp_equiv cell_cmp_total).symm k q))
+    ∙ and_or (not (eq_by_cmp cell_cmp q k)) (is_one_of xs q) (is_one_of ks q)
+    ∙ ap (λ b. not (eq_by_cmp cell_cmp q k) && b) (sym (list_any-append (eq_by_cmp cell_cmp q) xs ks))
+    ∙ sym (set.contains-remove cell_cmp_total (set.from_list (xs ++ ks)) k q ∙ ap (λ b. not (eq_by_cmp cell_cmp q k) && b) (set.contains-from_list cell_cmp_total (xs ++ ks) q)))
+
+-- a cell that isn't another one
+pub one_left : (f k q : CellId) → eq_by_cmp cell_cmp f k ≡ false → is_one_of (f ∷ []) q ≡ (not (eq_by_cmp cell_cmp q k) && is_one_of (f ∷ []) q)
+one_left f k q apart = go (eq_by_cmp cell_cmp q f) refl
+  where
+    go : (b : Bool) → eq_by_cmp cell_cmp q f ≡ b → (b || false) ≡ (not (eq_by_cmp cell_cmp q k) && (b || false))
+    go false e = sym (and_none (not (eq_by_cmp cell_cmp q k)))
+    go true e = sym (ap (λ b. not b && true) (ap (λ c. eq_by_cmp cell_cmp c k) (cell_cmp_exact q f ((Equal-is (cell_cmp q f)).0 e)) ∙ apart))
+
+-- a cell that is gone
+pub none_left : (f k q : CellId) → eq_by_cmp cell_cmp f k ≡ true → false ≡ (not (eq_by_cmp cell_cmp q k) && is_one_of (f ∷ []) q)
+none_left f k q tie = go (eq_by_cmp cell_cmp q k) ∙ ap (λ c. not (eq_by_cmp cell_cmp q k) && (eq_by_cmp cell_cmp q c || false)) (sym (cell_cmp_exact f k ((Equal-is (cell_cmp f k)).0 tie)))
+  where
+    go : (b : Bool) → false ≡ (not b && (b || false))
+    go true = refl
+    go false = refl
+
+-- a first cell that stands by itself, and the keys of a tree
+pub one_there : (o : Option CellId) (f k : CellId) (ks : List CellId) → o ≡ Some f → eq_by_cmp cell_cmp f k ≡ true → set.from_list {R = cell_cmp} (option_to_list o ++ ks) ≡ set.insert (set.from_list (option_to_list o ++ ks)) k
+one_there None f k ks is tie = absurd (cc)
+one_there (Some g) f k ks is tie = let same : g ≡ f = cc in first_there g k ks (ap (λ c. eq_by_cmp cell_cmp c k) same ∙ tie)
+
+pub one_more : (o : Option CellId) (f k : CellId) (ks ls : List CellId) → o ≡ Some f → ((q : CellId) → list_any (is_at (cell_cmp q)) ls ≡ cond (is_at (cell_cmp k) q) true (list_any (is_at (cell_cmp q)) ks))
+    → set.from_list {R = cell_cmp} (option_to_list o ++ ls) ≡ set.insert (set.from_list (option_to_list o ++ ks)) k
+one_more None f k ks ls is h = absurd (cc)
+one_more (Some g) f k ks ls is h = more_added g k ks ls h
+
+-- no first cell and no keys make the empty set
+pub not_empty : (o : Option CellId) (f : CellId) (ks : List CellId) → o ≡ Some f → set.from_list {R = cell_cmp} (option_to_list o ++ ks) ≡ set.empty → ⊥
+not_empty None f ks is e = absurd (cc)
+not_empty (Some g) f ks is e = absurd (cc (no_keys (g ∷ ks) e))
+
+pub no_others : (o : Option CellId) (ks : List CellId) → o ≡ None → set.from_list {R = cell_cmp} (option_to_list o ++ ks) ≡ set.empty → length ks ≡ 0
+no_others None ks is e = no_keys ks e
+no_others (Some g) ks is e = absurd (cc)

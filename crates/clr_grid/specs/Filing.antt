@@ -1,28 +1,28 @@
--- Cells filed by the spots of their rows under each rule, so that rows with a common spot are found.
+-- Cells filed by the numbers of the spots of their rows under each rule, so that rows with a common spot are found.
 use Rattle.std.specs.Prelude.{◌≡◌, ◌⊎◌, ℕ, Bool, true, false, not, List, ◌&&◌, Option, Some, None, slice_get, ⊤, if◌then◌else◌}
 use Rattle.std.specs.BTreeMap.{BTreeMap, get}
 use Rattle.std.specs.FinSet as set
 use Rattle.std.specs.List.{list_any}
 use Rattle.clr_rows.specs.declared.cells.CellId.{CellId}
-use Rattle.clr_spots.specs.declared.spots.Spot.{Spot}
-use Rattle.clr_spots.specs.SpotOrder.{spot_cmp, same_spot}
+use Rattle.std.specs.Ordering.{nat_cmp}
 use Rattle.clr_grid.specs.CellSets.{Cells, is_one, is_one_of}
 use Rattle.clr_grid.specs.declared.row_spots.RuleSpots.{RuleSpots}
 use Rattle.clr_grid.specs.declared.side_index.SideIndex.{SideIndex}
 use Rattle.clr_grid.specs.declared.rule_index.RuleIndex.{RuleIndex}
 use Rattle.clr_grid.specs.RowMaps.{Rows, IsRowAt}
+use Rattle.clr_grid.specs.SpotNumbers.{has_number}
 
--- where a cell is filed: among all rows with a role, among the wide ones, at a spot
+-- where a cell is filed: among all rows with a role, among the wide ones, at the number of a spot
 pub data Key : Type 0 where
   All : Key
   Wide : Key
-  At : Spot → Key
+  At : ℕ → Key
 
 -- the row is to be filed there
 abbrev pub has_key : RuleSpots → Key → Bool
 has_key x All = x.has_role
 has_key x Wide = x.spots.wide
-has_key x (At y) = list_any (same_spot y) x.spots.list
+has_key x (At n) = list_any (has_number n) x.spots.list
 
 -- a row, if there is one, is to be filed there
 abbrev pub has_key_of : Option RuleSpots → Key → Bool
@@ -33,7 +33,7 @@ has_key_of (Some y) k = has_key y k
 abbrev pub is_looked_at : RuleSpots → Key → Bool
 is_looked_at x All = x.spots.wide
 is_looked_at x Wide = x.has_role
-is_looked_at x (At y) = list_any (same_spot y) x.spots.list
+is_looked_at x (At n) = list_any (has_number n) x.spots.list
 
 -- what a row that stays has
 abbrev pub keeps_role : Option RuleSpots → Bool
@@ -44,9 +44,9 @@ abbrev pub keeps_wide : Option RuleSpots → Bool
 keeps_wide None = false
 keeps_wide (Some y) = y.spots.wide
 
-abbrev pub has_spot : Option RuleSpots → Spot → Bool
-has_spot None x = false
-has_spot (Some y) x = list_any (same_spot x) y.spots.list
+abbrev pub keeps_number : Option RuleSpots → ℕ → Bool
+keeps_number None n = false
+keeps_number (Some y) n = list_any (has_number n) y.spots.list
 
 abbrev pub has_cell : Option Cells → CellId → Bool
 has_cell None q = false
@@ -55,13 +55,13 @@ has_cell (Some cells) q = set.contains cells q
 abbrev pub is_filed : SideIndex → Key → CellId → Bool
 is_filed index All q = set.contains index.all q
 is_filed index Wide q = set.contains index.wide q
-is_filed index (At x) q = has_cell (get spot_cmp index.by_spot x) q
+is_filed index (At n) q = has_cell (get nat_cmp index.by_spot n) q
 
 -- what is filed for another cell, or for a row that the cell keeps
 abbrev pub stays : CellId → Option RuleSpots → Key → CellId → Bool
 stays cell kept All q = not (is_one cell q && not (keeps_role kept))
 stays cell kept Wide q = not (is_one cell q && not (keeps_wide kept))
-stays cell kept (At x) q = not (is_one cell q && not (has_spot kept x))
+stays cell kept (At n) q = not (is_one cell q && not (keeps_number kept n))
 
 -- by rule ------------------------------------------------------------------------------------
 
@@ -119,9 +119,9 @@ abbrev pub AreOfRows : Rows → List RuleIndex → Type 0
 AreOfRows rows indexes = (number : ℕ) (serves : Bool) (k : Key) (q : CellId) → is_filed_under indexes number serves k q ≡ true
     → HasRowFor rows q number serves k
 
--- each spot that is kept holds a cell
-abbrev pub HoldCells : BTreeMap Spot Cells → Type 0
-HoldCells by_spot = (x : Spot) → get spot_cmp by_spot x ≡ Some set.empty → ⊥
+-- each number that is kept holds a cell
+abbrev pub HoldCells : BTreeMap ℕ Cells → Type 0
+HoldCells by_spot = (n : ℕ) → get nat_cmp by_spot n ≡ Some set.empty → ⊥
 
 abbrev pub AllHoldCells : List RuleIndex → Type 0
 AllHoldCells indexes = (number : ℕ) (index : RuleIndex) (serves : Bool) → slice_get indexes number ≡ Some index

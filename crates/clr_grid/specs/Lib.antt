@@ -4,3 +4,4 @@ pub mod Gains
 pub mod Laws
 pub mod RowMaps
 pub mod Sharing
+pub mod SpotNumbers

@@ -33,6 +33,10 @@ abbrev pub set_at : Settled → CellId → RowOrNone → Settled
 set_at settled cell None = finite.remove settled cell
 set_at settled cell (Some row) = finite.insert settled cell row
 
+-- one more settled row
+abbrev pub with_row : Rows → CellId → List RuleSpots → Rows
+with_row rows cell row = record { settled = finite.insert rows.settled cell row; pending = rows.pending }
+
 -- a pending change added
 abbrev pub with_pending : Rows → CellId → RowOrNone → Rows
 with_pending rows cell row = record { settled = rows.settled; pending = finite.insert rows.pending cell row }

@@ -1,9 +1,9 @@
-ghost use Rattle.std.specs.Prelude.{◌≡◌, ◌⊎◌, ◌||◌, ◌&&◌, true, false, OnOk, OnErr, IfOk};
+ghost use Rattle.std.specs.Prelude.{◌≡◌, ◌⊎◌, ◌||◌, ◌&&◌, true, false, option_to_list, OnOk, OnErr, IfOk};
 ghost use Rattle.std.specs.FinSet as set;
 ghost use Rattle.std.specs.List.Sorted.{IsStrictlySortedBy};
 ghost use Rattle.clr_rows.specs.Cells.{cell_cmp};
 ghost use Rattle.clr_rows.specs.declared.cells.CellId.{CellId as Cell};
-ghost use Rattle.clr_grid.specs.CellSets.{is_one, is_one_of};
+ghost use Rattle.clr_grid.specs.CellSets.{is_one, is_one_of, with_cells};
 ghost use Rattle.clr_grid.specs.Gains.{GainsCells};
 
 use clr_rows::CellId;
@@ -85,14 +85,35 @@ impl CellSet {
         self.cells.is_empty()
     }
 
+    /// Adds a cell, if there is one. It fails for want of memory alone, and changes nothing then.
+    pub(crate) fn add_some(&mut self, cell: Option<CellId>) -> Result<(), AllocError>
+        ensures ok { OnOk result (self.new ≡ with_cells self.old (option_to_list cell)) }
+        ensures err { OnErr result (self.new ≡ self.old) }
+    {
+        match cell {
+            Some(cell) => self.add(cell),
+            None => Ok(()),
+        }
+    }
+
+    /// Adds the keys of a tree. It fails for want of memory alone; then its own cells stay, and
+    /// besides them it has some of these keys alone.
+    pub(crate) fn add_keys(&mut self, cells: &BTreeSet<CellId>) -> Result<(), AllocError>
+        ensures ok { OnOk result ((q : Cell) → set.contains self.new q ≡ (set.contains self.old q || is_one_of cells.now.keys q)) }
+        ensures err { OnErr result (GainsCells (λ q. is_one_of cells.now.keys q ≡ true) self.old self.new) }
+    {
+        for cell in cells {
+            self.add(*cell)?;
+        }
+        Ok(())
+    }
+
     /// Adds the cells of another set.
     fn add_each(&mut self, other: &CellSet) -> Result<(), AllocError>
         ensures ok { OnOk result ((q : Cell) → set.contains self.new q ≡ (set.contains self.old q || set.contains other.now q)) }
         ensures err { OnErr result (GainsCells (λ q. set.contains other.now q ≡ true) self.old self.new) }
     {
-        for cell in &other.cells {
-            self.add(*cell)?;
-        }
+        self.add_keys(&other.cells)?;
         Ok(())
     }
 

@@ -8,7 +8,7 @@ ghost use Rattle.std.specs.Option.{option_copied, option_flatten};
 ghost use Rattle.clr_rows.specs.Cells.{cell_cmp};
 ghost use Rattle.clr_rows.specs.declared.cells.CellId.{CellId as Cell};
 ghost use Rattle.clr_grid.specs.CellSets.{is_one_of};
-ghost use Rattle.clr_grid.specs.RowMaps.{no_rows, settled_of, with_settled, without_pending};
+ghost use Rattle.clr_grid.specs.RowMaps.{no_rows, settled_of, with_row, with_settled, without_pending};
 ghost use Rattle.clr_grid.specs.Sharing.{found_cells, is_met_at, next_at};
 
 use crate::meetings::is_met;
@@ -150,6 +150,16 @@ impl RowMap {
                 Err(AllocError)
             }
         }
+    }
+
+    /// Puts a row at a cell, as one that is settled. It fails for want of memory alone, and changes
+    /// nothing then.
+    pub(crate) fn put(&mut self, cell: CellId, row: RowSpots) -> Result<(), AllocError>
+        ensures ok { OnOk result (self.new ≡ with_row self.old cell row) }
+        ensures err { OnErr result (self.new ≡ self.old) }
+    {
+        self.settled.insert(cell, Some(row))?;
+        Ok(())
     }
 
     /// Takes the pending change of a cell over, and answers the row that stood there, or none.

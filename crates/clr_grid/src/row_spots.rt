@@ -65,7 +65,7 @@ impl RowSpots {
         ensures { IfOk result (λ spots. spots ≡ row_spots book.now (held_of held.entry)) }
     {
         let count = book.len() as u16;
-        let mut list = Vec::new(alloc);
+        let mut list = Vec::with_capacity(alloc, book.len())?;
         for rule in 0..count {
             list.push(RuleSpots::new(alloc, book, rule, held)?)?;
         }

@@ -1,136 +1,128 @@
-ghost use Rattle.std.specs.Prelude.{◌≡◌, ◌⊎◌, ◌||◌, ◌&&◌, not, true, false, IfOk, OnOk, OnErr, Some, None, IsSome, is_some, unwrap_or, if◌then◌else◌};
+ghost use Rattle.std.specs.Prelude.{◌≡◌, ◌⊎◌, ◌||◌, ◌&&◌, ℕ, not, true, false, IfOk, OnOk, OnErr, Some, None, IsSome, is_some, unwrap_or, if◌then◌else◌};
 ghost use Rattle.std.specs.BTreeMap.{get, is_at};
 ghost use Rattle.std.specs.FinSet as set;
 ghost use Rattle.std.specs.List.{list_any};
 ghost use Rattle.std.specs.Option.{option_copied};
+ghost use Rattle.std.specs.Ordering.{nat_cmp};
 ghost use Rattle.clr_rows.specs.declared.cells.CellId.{CellId as Cell};
-ghost use Rattle.clr_spots.specs.SpotOrder.{same_spot, spot_cmp};
-ghost use Rattle.clr_spots.specs.declared.spots.Spot.{Spot as OneSpot};
 ghost use Rattle.clr_grid.specs.CellSets.{is_one};
 ghost use Rattle.clr_grid.specs.Gains.{GainsCells, IsFoundFor};
-ghost use Rattle.clr_grid.specs.Filing.{HoldCells, Key, has_cell, has_key, has_key_of, has_spot, is_filed, is_looked_at, keeps_role, keeps_wide, stays};
+ghost use Rattle.clr_grid.specs.Filing.{HoldCells, Key, has_cell, has_key, has_key_of, is_filed, is_looked_at, keeps_number, keeps_role, keeps_wide, stays};
+ghost use Rattle.clr_grid.specs.SpotNumbers.{has_number, number_of};
 
 use crate::cell_sets::CellSet;
 use crate::row_spots::RuleSpots;
+use crate::spot_cells::SpotCells;
+use crate::spot_numbers::{have_number, number_of};
 use clr_rows::CellId;
 use clr_spots::Spot;
 use std::alloc::{AllocError, Global};
 use std::collections::BTreeMap;
 
-/// The cells of some rows under a rule: of all, of the wide ones, and by spot.
+/// The cells of some rows under a rule: of all, of the wide ones, and by the numbers of their spots.
 #[derive(Drop)]
 pub(crate) struct SideIndex {
-    by_spot: BTreeMap<Spot, CellSet>,
+    by_spot: BTreeMap<u64, SpotCells>,
     wide: CellSet,
     all: CellSet,
 }
 
-/// A second spot that is the same.
-fn copy_of(spot: &Spot) -> Result<Spot, AllocError>
-    ensures { IfOk result (λ copy. copy ≡ spot.now) }
-{
-    match spot {
-        Spot::Square(i, j) => Ok(Spot::Square(*i, *j)),
-        Spot::Values(values) => Ok(Spot::Values(values.copy()?)),
-    }
-}
-
-/// Adds a cell at a spot that has cells.
+/// Adds a cell at a number that has cells.
 fn add_at(
-    by_spot: &mut BTreeMap<Spot, CellSet>,
-    spot: &Spot,
+    by_spot: &mut BTreeMap<u64, SpotCells>,
+    number: u64,
     cell: CellId,
 ) -> Result<(), AllocError>
-    requires { IsSome (get spot_cmp by_spot.old spot.now) }
-    ensures ok { OnOk result ((x : OneSpot) → get spot_cmp by_spot.new x
-        ≡ (if is_at (spot_cmp spot.now) x then Some (set.insert (unwrap_or (get spot_cmp by_spot.old spot.now) set.empty) cell)
-        else get spot_cmp by_spot.old x)) }
-    ensures err { OnErr result ((x : OneSpot) → get spot_cmp by_spot.new x ≡ get spot_cmp by_spot.old x) }
+    requires { IsSome (get nat_cmp by_spot.old number) }
+    ensures ok { OnOk result ((n : ℕ) → get nat_cmp by_spot.new n
+        ≡ (if is_at (nat_cmp number) n then Some (set.insert (unwrap_or (get nat_cmp by_spot.old number) set.empty) cell)
+        else get nat_cmp by_spot.old n)) }
+    ensures err { OnErr result ((n : ℕ) → get nat_cmp by_spot.new n ≡ get nat_cmp by_spot.old n) }
 {
-    if let Some(cells) = by_spot.get_mut(spot) {
+    if let Some(cells) = by_spot.get_mut(&number) {
         cells.add(cell)?;
     }
     Ok(())
 }
 
-/// Files a cell at a spot.
+/// Files a cell at a number.
 fn file_at(
-    by_spot: &mut BTreeMap<Spot, CellSet>,
+    by_spot: &mut BTreeMap<u64, SpotCells>,
     alloc: Global,
-    spot: &Spot,
+    number: u64,
     cell: CellId,
 ) -> Result<(), AllocError>
-    ensures kept { (x : OneSpot) (q : Cell) → has_cell (get spot_cmp by_spot.old x) q ≡ true → has_cell (get spot_cmp by_spot.new x) q ≡ true }
-    ensures only { (x : OneSpot) (q : Cell) → has_cell (get spot_cmp by_spot.new x) q ≡ true
-        → (has_cell (get spot_cmp by_spot.old x) q ≡ true) ⊎ ((q ≡ cell) × (x ≡ spot.now)) }
+    ensures kept { (n : ℕ) (q : Cell) → has_cell (get nat_cmp by_spot.old n) q ≡ true → has_cell (get nat_cmp by_spot.new n) q ≡ true }
+    ensures only { (n : ℕ) (q : Cell) → has_cell (get nat_cmp by_spot.new n) q ≡ true
+        → (has_cell (get nat_cmp by_spot.old n) q ≡ true) ⊎ ((q ≡ cell) × (n ≡ number)) }
     ensures lean { HoldCells by_spot.old → HoldCells by_spot.new }
-    ensures filed { OnOk result (has_cell (get spot_cmp by_spot.new spot.now) cell ≡ true) }
+    ensures filed { OnOk result (has_cell (get nat_cmp by_spot.new number) cell ≡ true) }
 {
-    if by_spot.contains_key(spot) {
-        add_at(by_spot, spot, cell)?;
+    if by_spot.contains_key(&number) {
+        add_at(by_spot, number, cell)?;
         return Ok(());
     }
-    let mut cells = CellSet::new(alloc);
+    let mut cells = SpotCells::new(alloc);
     cells.add(cell)?;
-    by_spot.insert(copy_of(spot)?, cells)?;
+    by_spot.insert(number, cells)?;
     Ok(())
 }
 
-/// Files a cell at some spots.
+/// Files a cell at the numbers of some spots.
 fn file_at_each(
-    by_spot: &mut BTreeMap<Spot, CellSet>,
+    by_spot: &mut BTreeMap<u64, SpotCells>,
     alloc: Global,
     spots: &[Spot],
     cell: CellId,
 ) -> Result<(), AllocError>
-    ensures kept { (x : OneSpot) (q : Cell) → has_cell (get spot_cmp by_spot.old x) q ≡ true → has_cell (get spot_cmp by_spot.new x) q ≡ true }
-    ensures only { (x : OneSpot) (q : Cell) → has_cell (get spot_cmp by_spot.new x) q ≡ true
-        → (has_cell (get spot_cmp by_spot.old x) q ≡ true) ⊎ ((q ≡ cell) × (list_any (same_spot x) spots.now ≡ true)) }
+    ensures kept { (n : ℕ) (q : Cell) → has_cell (get nat_cmp by_spot.old n) q ≡ true → has_cell (get nat_cmp by_spot.new n) q ≡ true }
+    ensures only { (n : ℕ) (q : Cell) → has_cell (get nat_cmp by_spot.new n) q ≡ true
+        → (has_cell (get nat_cmp by_spot.old n) q ≡ true) ⊎ ((q ≡ cell) × (list_any (has_number n) spots.now ≡ true)) }
     ensures lean { HoldCells by_spot.old → HoldCells by_spot.new }
-    ensures filed { OnOk result ((x : OneSpot) → list_any (same_spot x) spots.now ≡ true → has_cell (get spot_cmp by_spot.new x) cell ≡ true) }
+    ensures filed { OnOk result ((n : ℕ) → list_any (has_number n) spots.now ≡ true → has_cell (get nat_cmp by_spot.new n) cell ≡ true) }
 {
     for spot in spots {
-        file_at(by_spot, alloc, spot, cell)?;
+        file_at(by_spot, alloc, number_of(spot), cell)?;
     }
     Ok(())
 }
 
-/// Takes a cell away from a spot that has cells.
-fn remove_at(by_spot: &mut BTreeMap<Spot, CellSet>, spot: &Spot, cell: CellId)
-    requires { IsSome (get spot_cmp by_spot.old spot.now) }
-    ensures { (x : OneSpot) → get spot_cmp by_spot.new x
-        ≡ (if is_at (spot_cmp spot.now) x
-        then Some (set.remove (unwrap_or (get spot_cmp by_spot.old spot.now) set.empty) cell)
-        else get spot_cmp by_spot.old x) }
+/// Takes a cell away from a number that has cells.
+fn remove_at(by_spot: &mut BTreeMap<u64, SpotCells>, number: u64, cell: CellId)
+    requires { IsSome (get nat_cmp by_spot.old number) }
+    ensures { (n : ℕ) → get nat_cmp by_spot.new n
+        ≡ (if is_at (nat_cmp number) n
+        then Some (set.remove (unwrap_or (get nat_cmp by_spot.old number) set.empty) cell)
+        else get nat_cmp by_spot.old n) }
 {
-    if let Some(cells) = by_spot.get_mut(spot) {
+    if let Some(cells) = by_spot.get_mut(&number) {
         cells.remove(cell);
     }
 }
 
-/// Whether no cell is left at a spot that has had some.
-fn is_left_empty(by_spot: &BTreeMap<Spot, CellSet>, spot: &Spot) -> bool
-    ensures none { result ≡ true → get spot_cmp by_spot.now spot.now ≡ Some set.empty }
-    ensures some { result ≡ false → get spot_cmp by_spot.now spot.now ≡ Some set.empty → ⊥ }
+/// Whether no cell is left at a number that has had some.
+fn is_left_empty(by_spot: &BTreeMap<u64, SpotCells>, number: u64) -> bool
+    ensures none { result ≡ true → get nat_cmp by_spot.now number ≡ Some set.empty }
+    ensures some { result ≡ false → get nat_cmp by_spot.now number ≡ Some set.empty → ⊥ }
 {
-    match by_spot.get(spot) {
+    match by_spot.get(&number) {
         Some(cells) => cells.is_empty(),
         None => false,
     }
 }
 
-/// Takes a cell away from a spot, and the spot where no cell is left.
-fn take_at(by_spot: &mut BTreeMap<Spot, CellSet>, spot: &Spot, cell: CellId)
-    ensures kept { (x : OneSpot) (q : Cell) → (is_one cell q && same_spot spot.now x) ≡ false → has_cell (get spot_cmp by_spot.old x) q ≡ true
-        → has_cell (get spot_cmp by_spot.new x) q ≡ true }
-    ensures fewer { (x : OneSpot) (q : Cell) → has_cell (get spot_cmp by_spot.new x) q ≡ true → has_cell (get spot_cmp by_spot.old x) q ≡ true }
-    ensures gone { has_cell (get spot_cmp by_spot.new spot.now) cell ≡ false }
+/// Takes a cell away from a number, and the number where no cell is left.
+fn take_at(by_spot: &mut BTreeMap<u64, SpotCells>, number: u64, cell: CellId)
+    ensures kept { (n : ℕ) (q : Cell) → (is_one cell q && is_at (nat_cmp number) n) ≡ false → has_cell (get nat_cmp by_spot.old n) q ≡ true
+        → has_cell (get nat_cmp by_spot.new n) q ≡ true }
+    ensures fewer { (n : ℕ) (q : Cell) → has_cell (get nat_cmp by_spot.new n) q ≡ true → has_cell (get nat_cmp by_spot.old n) q ≡ true }
+    ensures gone { has_cell (get nat_cmp by_spot.new number) cell ≡ false }
     ensures lean { HoldCells by_spot.old → HoldCells by_spot.new }
 {
-    if by_spot.contains_key(spot) {
-        remove_at(by_spot, spot, cell);
-        if is_left_empty(by_spot, spot) {
-            by_spot.remove(spot);
+    if by_spot.contains_key(&number) {
+        remove_at(by_spot, number, cell);
+        if is_left_empty(by_spot, number) {
+            by_spot.remove(&number);
         }
     }
 }
@@ -155,33 +147,34 @@ fn keeps_wide(kept: Option<&RuleSpots>) -> bool
     }
 }
 
-/// Whether a row that stays has a spot.
-fn has_spot(kept: Option<&RuleSpots>, spot: &Spot) -> bool
-    ensures { result ≡ has_spot (option_copied kept.entry) spot.now }
+/// Whether a row that stays has a spot of that number.
+fn keeps_number(kept: Option<&RuleSpots>, number: u64) -> bool
+    ensures { result ≡ keeps_number (option_copied kept.entry) number }
 {
     match kept {
-        Some(kept) => kept.spots.list.as_slice().contains(spot),
+        Some(kept) => have_number(kept.spots.list.as_slice(), number),
         None => false,
     }
 }
 
-/// Takes a cell away from those of some spots that a row that stays hasn't.
+/// Takes a cell away from the numbers of some spots, but for those that a row has that stays.
 fn take_at_each(
-    by_spot: &mut BTreeMap<Spot, CellSet>,
+    by_spot: &mut BTreeMap<u64, SpotCells>,
     spots: &[Spot],
     kept: Option<&RuleSpots>,
     cell: CellId,
 )
-    ensures kept { (x : OneSpot) (q : Cell) → (is_one cell q && not (has_spot (option_copied kept.entry) x)) ≡ false
-        → has_cell (get spot_cmp by_spot.old x) q ≡ true → has_cell (get spot_cmp by_spot.new x) q ≡ true }
-    ensures fewer { (x : OneSpot) (q : Cell) → has_cell (get spot_cmp by_spot.new x) q ≡ true → has_cell (get spot_cmp by_spot.old x) q ≡ true }
-    ensures gone { (x : OneSpot) → list_any (same_spot x) spots.now ≡ true → has_cell (get spot_cmp by_spot.new x) cell ≡ true
-        → has_spot (option_copied kept.entry) x ≡ true }
+    ensures kept { (n : ℕ) (q : Cell) → (is_one cell q && not (keeps_number (option_copied kept.entry) n)) ≡ false
+        → has_cell (get nat_cmp by_spot.old n) q ≡ true → has_cell (get nat_cmp by_spot.new n) q ≡ true }
+    ensures fewer { (n : ℕ) (q : Cell) → has_cell (get nat_cmp by_spot.new n) q ≡ true → has_cell (get nat_cmp by_spot.old n) q ≡ true }
+    ensures gone { (n : ℕ) → list_any (has_number n) spots.now ≡ true → has_cell (get nat_cmp by_spot.new n) cell ≡ true
+        → keeps_number (option_copied kept.entry) n ≡ true }
     ensures lean { HoldCells by_spot.old → HoldCells by_spot.new }
 {
     for spot in spots {
-        if !has_spot(kept, spot) {
-            take_at(by_spot, spot, cell);
+        let number = number_of(spot);
+        if !keeps_number(kept, number) {
+            take_at(by_spot, number, cell);
         }
     }
 }
@@ -229,25 +222,25 @@ impl SideIndex {
         take_at_each(&mut self.by_spot, spots.spots.list.as_slice(), kept, cell);
     }
 
-    /// Adds the cells at a spot.
-    fn add_cells_at(&self, spot: &Spot, cells: &mut CellSet) -> Result<(), AllocError>
-        ensures ok { OnOk result ((q : Cell) → set.contains cells.new q ≡ (set.contains cells.old q || has_cell (get spot_cmp self.now.by_spot spot.now) q)) }
-        ensures err { OnErr result (GainsCells (λ q. has_cell (get spot_cmp self.now.by_spot spot.now) q ≡ true) cells.old cells.new) }
+    /// Adds the cells at a number.
+    fn add_cells_at(&self, number: u64, cells: &mut CellSet) -> Result<(), AllocError>
+        ensures ok { OnOk result ((q : Cell) → set.contains cells.new q ≡ (set.contains cells.old q || has_cell (get nat_cmp self.now.by_spot number) q)) }
+        ensures err { OnErr result (GainsCells (λ q. has_cell (get nat_cmp self.now.by_spot number) q ≡ true) cells.old cells.new) }
     {
-        match self.by_spot.get(spot) {
-            Some(more) => cells.add_all(true, more),
+        match self.by_spot.get(&number) {
+            Some(more) => more.add_to(cells),
             None => Ok(()),
         }
     }
 
-    /// Adds the cells at some spots.
+    /// Adds the cells at the numbers of some spots.
     fn add_cells_at_each(&self, spots: &[Spot], cells: &mut CellSet) -> Result<(), AllocError>
         ensures ok { OnOk result ((q : Cell) → set.contains cells.new q
-            ≡ (set.contains cells.old q || list_any (λ x. has_cell (get spot_cmp self.now.by_spot x) q) spots.now)) }
-        ensures err { OnErr result (GainsCells (λ q. list_any (λ x. has_cell (get spot_cmp self.now.by_spot x) q) spots.now ≡ true) cells.old cells.new) }
+            ≡ (set.contains cells.old q || list_any (λ x. has_cell (get nat_cmp self.now.by_spot (number_of x)) q) spots.now)) }
+        ensures err { OnErr result (GainsCells (λ q. list_any (λ x. has_cell (get nat_cmp self.now.by_spot (number_of x)) q) spots.now ≡ true) cells.old cells.new) }
     {
         for spot in spots {
-            self.add_cells_at(spot, cells)?;
+            self.add_cells_at(number_of(spot), cells)?;
         }
         Ok(())
     }

@@ -4,8 +4,8 @@ ghost use Rattle.std.specs.Prelude.{◌≡◌, ◌<◌, ◌∷◌, [], length, t
 ghost use Rattle.std.specs.FinMap as finite;
 ghost use Rattle.clr_rows.specs.Held.{held_of};
 ghost use Rattle.clr_rules.specs.Books.{FitTogether};
-ghost use Rattle.clr_grid.specs.RowMaps.{no_rows, with_pending, with_settled, without_pending};
-ghost use Rattle.clr_grid.specs.Sharing.{found_cells, rule_spots};
+ghost use Rattle.clr_grid.specs.RowMaps.{no_rows, with_pending, with_row, with_settled, without_pending};
+ghost use Rattle.clr_grid.specs.Sharing.{found_cells, row_spots, rule_spots};
 
 use crate::finders::RowFinder;
 use crate::row_maps::RowMap;
@@ -49,6 +49,25 @@ impl SpotIndex {
             rows: RowMap::new(alloc),
             rules: Vec::new(alloc),
         }
+    }
+
+    /// This finder with one more row, at a cell where it has no row. So a finder is made of all rows
+    /// of a content, row by row. It fails for want of memory alone, and the finder is gone then.
+    pub fn with_row(self, book: &RuleBook, cell: CellId, row: &Row) -> Result<SpotIndex, AllocError>
+        requires fit { FitTogether book.now ((cell, row.now) ∷ []) }
+        requires free { finite.get self.settled cell ≡ None }
+        ensures { IfOk result (λ finder. finder ≡ with_row self cell (row_spots book.now (cell, row.now))) }
+    {
+        let mut rows = self.rows;
+        let mut rules = self.rules;
+        let spots = RowSpots::new(self.alloc, book, Held { cell, row })?;
+        file_row(&mut rules, self.alloc, cell, Some(&spots))?;
+        rows.put(cell, spots)?;
+        Ok(SpotIndex {
+            alloc: self.alloc,
+            rows,
+            rules,
+        })
     }
 
     /// The cells that are found, servers alone or all.

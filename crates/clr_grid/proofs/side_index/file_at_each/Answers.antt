@@ -3,8 +3,9 @@ use Rattle.std.proofs.lemmas.Bool.{false≢true}
 use Rattle.std.proofs.lemmas.List.{take_all}
 use Rattle.std.specs.BTreeMap.{get}
 use Rattle.std.specs.List.{list_any}
-use Rattle.clr_spots.specs.SpotOrder.{same_spot, spot_cmp}
-use Rattle.clr_grid.proofs.FilingLemmas.{AtSpots, filed_more, gained_more}
+use Rattle.std.specs.Ordering.{nat_cmp}
+use Rattle.clr_grid.specs.SpotNumbers.{has_number}
+use Rattle.clr_grid.proofs.FilingLemmas.{AtNumbers, filed_more, gained_more}
 use Rattle.clr_grid.proofs.side_index.file_at_each.Goals as goal
 
 pub loop-spot-init : goal.loop-spot-init
@@ -12,13 +13,13 @@ loop-spot-init c = record { kept = λ x q e. e; only = λ x q e. inl e; lean = �
 
 pub loop-spot-preserved : goal.loop-spot-preserved
 loop-spot-preserved c =
-    let f : AtSpots = get spot_cmp c.loop-spot.by_spot in
-    let g : AtSpots = get spot_cmp c.file_at.new.by_spot in record {
+    let f : AtNumbers = get nat_cmp c.loop-spot.by_spot in
+    let g : AtNumbers = get nat_cmp c.file_at.new.by_spot in record {
       kept = λ x q e. c.in_ok-file_at.ensures.kept x q (c.loop-spot.invariant.kept x q e);
-      only = gained_more (get spot_cmp c.args.by_spot.now) f g c.args.cell c.args.spots.now c.loop-spot.spot-index c.spot-item.result c.loop-spot-test.true c.spot-item.is
+      only = gained_more (get nat_cmp c.args.by_spot.now) f g c.args.cell c.args.spots.now c.loop-spot.spot-index c.spot-item.result c.number_of.result c.loop-spot-test.true c.spot-item.is c.number_of.ensures
           c.in_ok-file_at.ensures.only c.loop-spot.invariant.only;
       lean = λ h. c.in_ok-file_at.ensures.lean (c.loop-spot.invariant.lean h);
-      filed = filed_more f g c.args.cell c.args.spots.now c.loop-spot.spot-index c.spot-item.result c.loop-spot-test.true c.spot-item.is c.in_ok-file_at.ensures.kept c.in_ok-file_at.ensures.filed c.loop-spot.invariant.filed;
+      filed = filed_more f g c.args.cell c.args.spots.now c.loop-spot.spot-index c.spot-item.result c.number_of.result c.loop-spot-test.true c.spot-item.is c.number_of.ensures c.in_ok-file_at.ensures.kept c.in_ok-file_at.ensures.filed c.loop-spot.invariant.filed;
     }
 
 pub returns-in_err-file_at-clause-kept : goal.returns-in_err-file_at-clause-kept
@@ -26,7 +27,7 @@ returns-in_err-file_at-clause-kept c x q e = c.in_err-file_at.ensures.kept x q (
 
 pub returns-in_err-file_at-clause-only : goal.returns-in_err-file_at-clause-only
 returns-in_err-file_at-clause-only c =
-    gained_more (get spot_cmp c.args.by_spot.now) (get spot_cmp c.loop-spot.by_spot) (get spot_cmp c.file_at.new.by_spot) c.args.cell c.args.spots.now c.loop-spot.spot-index c.spot-item.result c.loop-spot-test.true c.spot-item.is
+    gained_more (get nat_cmp c.args.by_spot.now) (get nat_cmp c.loop-spot.by_spot) (get nat_cmp c.file_at.new.by_spot) c.args.cell c.args.spots.now c.loop-spot.spot-index c.spot-item.result c.number_of.result c.loop-spot-test.true c.spot-item.is c.number_of.ensures
     c.in_err-file_at.ensures.only c.loop-spot.invariant.only
 
 pub returns-in_err-file_at-clause-lean : goal.returns-in_err-file_at-clause-lean
@@ -42,4 +43,4 @@ pub returns-clause-kept : goal.returns-clause-kept
 returns-clause-kept c = c.loop-spot.invariant.kept
 
 pub returns-clause-filed : goal.returns-clause-filed
-returns-clause-filed c x e = c.loop-spot.invariant.filed x (ap (list_any (same_spot x)) (take_all c.loop-spot.spot-index c.args.spots.now c.loop-spot-test.false) ∙ e)
+returns-clause-filed c x e = c.loop-spot.invariant.filed x (ap (list_any (has_number x)) (take_all c.loop-spot.spot-index c.args.spots.now c.loop-spot-test.false) ∙ e)

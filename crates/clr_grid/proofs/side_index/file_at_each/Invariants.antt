@@ -1,9 +1,9 @@
-use Rattle.std.proofs.Common.{◌≡◌, ◌⊎◌, true, take}
+use Rattle.std.proofs.Common.{ℕ, ◌≡◌, ◌⊎◌, true, take}
 use Rattle.clr_rows.specs.declared.cells.CellId.{CellId}
 use Rattle.std.specs.BTreeMap.{get}
 use Rattle.std.specs.List.{list_any}
-use Rattle.clr_spots.specs.declared.spots.Spot.{Spot}
-use Rattle.clr_spots.specs.SpotOrder.{same_spot, spot_cmp}
+use Rattle.std.specs.Ordering.{nat_cmp}
+use Rattle.clr_grid.specs.SpotNumbers.{has_number}
 use Rattle.clr_grid.specs.Filing.{HoldCells, has_cell}
 use Rattle.clr_grid.proofs.FilingLemmas.{Keeps}
 use Rattle.clr_grid.proofs.side_index.file_at_each.Given as goal
@@ -11,8 +11,8 @@ use Rattle.clr_grid.proofs.side_index.file_at_each.Given as goal
 -- what was filed stays, nothing more is filed than the cell at the spots, and it is at those so far
 abbrev pub invariant-loop-spot : goal.invariant-loop-spot
 invariant-loop-spot l = record {
-  kept : Keeps (get spot_cmp l.fn.by_spot) (get spot_cmp l.by_spot);
-  only : (x : Spot) (q : CellId) → has_cell (get spot_cmp l.by_spot x) q ≡ true → (has_cell (get spot_cmp l.fn.by_spot x) q ≡ true) ⊎ ((q ≡ l.cell) × (list_any (same_spot x) l.spots ≡ true));
+  kept : Keeps (get nat_cmp l.fn.by_spot) (get nat_cmp l.by_spot);
+  only : (x : ℕ) (q : CellId) → has_cell (get nat_cmp l.by_spot x) q ≡ true → (has_cell (get nat_cmp l.fn.by_spot x) q ≡ true) ⊎ ((q ≡ l.cell) × (list_any (has_number x) l.spots ≡ true));
   lean : HoldCells l.fn.by_spot → HoldCells l.by_spot;
-  filed : (x : Spot) → list_any (same_spot x) (take l.spot-index l.spots) ≡ true → has_cell (get spot_cmp l.by_spot x) l.cell ≡ true;
+  filed : (x : ℕ) → list_any (has_number x) (take l.spot-index l.spots) ≡ true → has_cell (get nat_cmp l.by_spot x) l.cell ≡ true;
 }

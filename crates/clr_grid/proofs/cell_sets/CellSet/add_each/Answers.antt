@@ -1,38 +1,19 @@
-use Rattle.std.proofs.Common.{◌≡◌, ◌∙◌, ◌||◌, ◌∷◌, List, ap, rules, subst, sym, true}
+use Rattle.std.proofs.Common.{◌≡◌, ◌∙◌, ◌||◌, ap, sym, true}
 use Rattle.std.specs.FinSet as set
 use Rattle.clr_rows.proofs.CellOrder.{cell_cmp_total}
-use Rattle.clr_rows.specs.declared.cells.CellId.{CellId}
-use Rattle.clr_grid.specs.CellSets.{Cells, is_one_of, with_cells}
-use Rattle.clr_grid.specs.Gains.{GainsCells}
+use Rattle.clr_grid.specs.CellSets.{Cells, is_one_of}
 use Rattle.clr_grid.proofs.FilingLemmas.{on_err}
-use Rattle.clr_grid.proofs.GainLemmas.{IsAddedTo, added_gains, added_next}
-use Rattle.clr_grid.proofs.SetLemmas.{has_with_cells}
+use Rattle.clr_grid.proofs.GainLemmas.{gains_as}
 use Rattle.clr_grid.proofs.cell_sets.CellSet.add_each.Goals as goal
 
 pub returns-clause-ok : goal.returns-clause-ok
 returns-clause-ok c q =
-    let same : c.loop-cell.self ≡ with_cells c.args.self.now c.other.inside.cells.keys = search rules in
-    ap (λ (m : Cells). set.contains m q) same ∙ has_with_cells c.other.inside.cells.keys c.args.self.now q
-    ∙ ap (λ b. set.contains c.args.self.now q || b) (sym (set.contains-from_list cell_cmp_total c.other.inside.cells.keys q) ∙ ap (λ (m : Cells). set.contains m q) c.other.view_is)
-
-pub loop-cell-preserved : goal.loop-cell-preserved
-loop-cell-preserved c =
-    let old = c.args.self.now in
-    let all = c.into_iter-cell-iterator.result in
-    let left = c.next.new.self in
-    let entries : c.loop-cell.cell-iterator ≡ c.in-Some.cell.now ∷ left = search rules in
-    record {
-      whole = search rules;
-      so_far = subst (λ (n : Cells). IsAddedTo old all n left) (sym c.in_ok-add.ensures.ok)
-          (added_next old all c.loop-cell.self c.in-Some.cell.now left (subst (λ (cells : List CellId). IsAddedTo old all c.loop-cell.self cells) entries c.loop-cell.invariant.so_far));
-    }
-
-pub returns-in_err-add-clause-err : goal.returns-in_err-add-clause-err
-returns-in_err-add-clause-err c =
-    let old = c.args.self.now in
     let keys = c.other.inside.cells.keys in
-    let all = c.into_iter-cell-iterator.result in
-    let same : all ≡ keys = search rules in
-    let told = λ (q : CellId). ap (λ (cells : List CellId). is_one_of cells q) same ∙ sym (set.contains-from_list cell_cmp_total keys q) ∙ ap (λ (m : Cells). set.contains m q) c.other.view_is in
-    on_err _ (subst (GainsCells (λ q. set.contains c.args.other.now q ≡ true) old) (sym c.in_err-add.ensures.err)
-    (added_gains old all c.loop-cell.self c.loop-cell.cell-iterator (set.contains c.args.other.now) told c.loop-cell.invariant.so_far))
+    c.in_ok-add_keys.ensures.ok q
+    ∙ ap (λ b. set.contains c.args.self.now q || b) (sym (set.contains-from_list cell_cmp_total keys q) ∙ ap (λ (m : Cells). set.contains m q) c.other.view_is)
+
+pub returns-in_err-add_keys-clause-err : goal.returns-in_err-add_keys-clause-err
+returns-in_err-add_keys-clause-err c =
+    let keys = c.other.inside.cells.keys in
+    on_err _ (gains_as (λ q. set.contains c.args.other.now q ≡ true) (λ q. is_one_of keys q ≡ true) c.args.self.now c.add_keys.new.self
+    (λ q e. ap (λ (m : Cells). set.contains m q) (sym c.other.view_is) ∙ set.contains-from_list cell_cmp_total keys q ∙ e) c.in_err-add_keys.ensures.err)

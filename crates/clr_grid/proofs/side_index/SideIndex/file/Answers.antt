@@ -1,6 +1,6 @@
 use Rattle.std.proofs.Common.{inl, inr, ◌∙◌, ap, sym}
 use Rattle.std.specs.List.{list_any}
-use Rattle.clr_spots.specs.SpotOrder.{same_spot}
+use Rattle.clr_grid.specs.SpotNumbers.{has_number}
 use Rattle.clr_grid.proofs.FilingLemmas.{kept_by, filed_by, only_by}
 use Rattle.clr_grid.proofs.side_index.SideIndex.file.Goals as goal
 
@@ -9,7 +9,7 @@ returns-clause-kept c = kept_by c.args.self.now (record { by_spot = c.file_at_ea
 
 pub returns-clause-filed : goal.returns-clause-filed
 returns-clause-filed c = filed_by (record { by_spot = c.file_at_each.new.by_spot; wide = c.add_if-2.new.self; all = c.add_if.new.self }) c.args.spots.now c.args.cell c.in_ok-add_if.ensures.added c.in_ok-add_if-2.ensures.added
-    (λ y e. c.in_ok-file_at_each.ensures.filed y (ap (list_any (same_spot y)) c.as_slice.ensures ∙ e))
+    (λ y e. c.in_ok-file_at_each.ensures.filed y (ap (list_any (has_number y)) c.as_slice.ensures ∙ e))
 
 pub returns-in_err-add_if-clause-kept : goal.returns-in_err-add_if-clause-kept
 returns-in_err-add_if-clause-kept c = kept_by c.args.self.now (record { by_spot = c.args.self.now.by_spot; wide = c.args.self.now.wide; all = c.add_if.new.self }) c.in_err-add_if.ensures.kept (λ q e. e) (λ x q e. e)
@@ -22,7 +22,7 @@ returns-in_err-file_at_each-clause-kept c = kept_by c.args.self.now (record { by
 
 pub returns-clause-only : goal.returns-clause-only
 returns-clause-only c = only_by c.args.self.now (record { by_spot = c.file_at_each.new.by_spot; wide = c.add_if-2.new.self; all = c.add_if.new.self }) c.args.spots.now c.args.cell c.in_ok-add_if.ensures.only c.in_ok-add_if-2.ensures.only
-    (λ y q e. elim (c.in_ok-file_at_each.ensures.only y q e) [ inl old ↦ inl old | inr new ↦ inr (new.0, sym (ap (list_any (same_spot y)) c.as_slice.ensures) ∙ new.1) ])
+    (λ y q e. elim (c.in_ok-file_at_each.ensures.only y q e) [ inl old ↦ inl old | inr new ↦ inr (new.0, sym (ap (list_any (has_number y)) c.as_slice.ensures) ∙ new.1) ])
 
 pub returns-in_err-add_if-clause-only : goal.returns-in_err-add_if-clause-only
 returns-in_err-add_if-clause-only c = only_by c.args.self.now (record { by_spot = c.args.self.now.by_spot; wide = c.args.self.now.wide; all = c.add_if.new.self }) c.args.spots.now c.args.cell c.in_err-add_if.ensures.only (λ q e. inl e) (λ y q e. inl e)
@@ -32,4 +32,4 @@ returns-in_err-add_if-2-clause-only c = only_by c.args.self.now (record { by_spo
 
 pub returns-in_err-file_at_each-clause-only : goal.returns-in_err-file_at_each-clause-only
 returns-in_err-file_at_each-clause-only c = only_by c.args.self.now (record { by_spot = c.file_at_each.new.by_spot; wide = c.add_if-2.new.self; all = c.add_if.new.self }) c.args.spots.now c.args.cell c.in_ok-add_if.ensures.only c.in_ok-add_if-2.ensures.only
-    (λ y q e. elim (c.in_err-file_at_each.ensures.only y q e) [ inl old ↦ inl old | inr new ↦ inr (new.0, sym (ap (list_any (same_spot y)) c.as_slice.ensures) ∙ new.1) ])
+    (λ y q e. elim (c.in_err-file_at_each.ensures.only y q e) [ inl old ↦ inl old | inr new ↦ inr (new.0, sym (ap (list_any (has_number y)) c.as_slice.ensures) ∙ new.1) ])

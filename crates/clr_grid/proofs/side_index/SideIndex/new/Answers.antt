@@ -1,14 +1,13 @@
-use Rattle.std.proofs.Common.{◌≡◌, [], ◌∙◌, ap, None, rules}
+use Rattle.std.proofs.Common.{ℕ, ◌≡◌, [], ◌∙◌, ap, None, rules}
 use Rattle.std.specs.BTreeMap.{BTreeMap, get}
 use Rattle.std.specs.FinSet as set
 use Rattle.clr_rows.specs.Cells.{cell_cmp}
-use Rattle.clr_spots.specs.declared.spots.Spot.{Spot}
-use Rattle.clr_spots.specs.SpotOrder.{spot_cmp}
+use Rattle.std.specs.Ordering.{nat_cmp}
 use Rattle.clr_grid.specs.CellSets.{Cells}
 use Rattle.clr_grid.proofs.FilingLemmas.{none_in}
 use Rattle.clr_grid.proofs.side_index.SideIndex.new.Goals as goal
 
-none : (by_spot : BTreeMap Spot Cells) → by_spot.entries ≡ [] → (x : Spot) → get spot_cmp by_spot x ≡ None
+none : (by_spot : BTreeMap ℕ Cells) → by_spot.entries ≡ [] → (x : ℕ) → get nat_cmp by_spot x ≡ None
 none by_spot is x = search rules
 
 pub returns-clause-none : goal.returns-clause-none

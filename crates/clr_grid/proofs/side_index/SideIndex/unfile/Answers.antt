@@ -1,6 +1,6 @@
 use Rattle.std.proofs.Common.{◌∙◌, ap, not, ◌&&◌, Bool}
 use Rattle.std.specs.List.{list_any}
-use Rattle.clr_spots.specs.SpotOrder.{same_spot}
+use Rattle.clr_grid.specs.SpotNumbers.{has_number}
 use Rattle.std.specs.Option.{option_copied}
 use Rattle.clr_grid.specs.CellSets.{is_one}
 use Rattle.clr_grid.proofs.FilingLemmas.{gone_by, kept_by, stays_by}
@@ -19,4 +19,4 @@ returns-clause-fewer c = kept_by (record { by_spot = c.take_at_each.new.by_spot;
 pub returns-clause-gone : goal.returns-clause-gone
 returns-clause-gone c = gone_by (record { by_spot = c.take_at_each.new.by_spot; wide = c.remove_if-2.new.self; all = c.remove_if.new.self }) c.args.spots.now c.args.cell (option_copied c.args.kept)
     (λ p. c.remove_if.ensures.gone (ap not c.keeps_role.ensures ∙ p)) (λ p. c.remove_if-2.ensures.gone (ap not c.keeps_wide.ensures ∙ p))
-    (λ y among. c.take_at_each.ensures.gone y (ap (list_any (same_spot y)) c.as_slice.ensures ∙ among))
+    (λ y among. c.take_at_each.ensures.gone y (ap (list_any (has_number y)) c.as_slice.ensures ∙ among))

@@ -1,7 +1,7 @@
 use Rattle.std.proofs.Common.{◌≡◌}
 use Rattle.clr_grid.specs.CellSets.{with_cells}
 use Rattle.clr_grid.proofs.GainLemmas.{IsAddedTo}
-use Rattle.clr_grid.proofs.cell_sets.CellSet.add_each.Given as goal
+use Rattle.clr_grid.proofs.cell_sets.CellSet.add_keys.Given as goal
 
 -- the rest added makes the whole, and the cells so far are added
 abbrev pub invariant-loop-cell : goal.invariant-loop-cell

@@ -1,0 +1,106 @@
+ghost use Rattle.std.specs.Prelude.{◌≡◌, ◌||◌, ◌&&◌, not, true, false, option_to_list, OnOk, OnErr};
+ghost use Rattle.std.specs.FinSet as set;
+ghost use Rattle.std.specs.Ordering.{eq_by_cmp};
+ghost use Rattle.clr_rows.specs.Cells.{cell_cmp};
+ghost use Rattle.clr_rows.specs.declared.cells.CellId.{CellId as Cell};
+ghost use Rattle.clr_grid.specs.CellSets.{is_one_of};
+ghost use Rattle.clr_grid.specs.Gains.{GainsCells};
+
+use crate::cell_sets::CellSet;
+use clr_rows::CellId;
+use std::alloc::{AllocError, Global};
+use std::collections::BTreeSet;
+use std::marker::Model;
+
+/// The cells at a spot. Most spots have one cell alone, which takes no memory of its own.
+#[derive(Drop)]
+pub(crate) struct SpotCells {
+    first: Option<CellId>,
+    others: BTreeSet<CellId>,
+}
+
+impl Model for SpotCells {
+    ghost use Rattle.std.specs.Prelude.{◌++◌, option_to_list};
+    ghost use Rattle.std.specs.FinSet as set;
+    ghost use Rattle.clr_grid.specs.CellSets.{Cells, coded_cells};
+
+    ghost Value = { Cells };
+
+    ghost coded = { coded_cells };
+
+    ghost view = { λ s. set.from_list (option_to_list s.first ++ s.others.keys) };
+}
+
+/// A cell, if there is one, and it isn't the other one.
+fn without(first: Option<CellId>, cell: CellId) -> Option<CellId>
+    ensures { (q : Cell) → is_one_of (option_to_list result) q ≡ (not (eq_by_cmp cell_cmp q cell) && is_one_of (option_to_list first) q) }
+{
+    match first {
+        Some(first) => {
+            if first.cmp(&cell).is_eq() {
+                None
+            } else {
+                Some(first)
+            }
+        }
+        None => None,
+    }
+}
+
+impl SpotCells {
+    /// No cells.
+    pub(crate) fn new(alloc: Global) -> SpotCells
+        ensures { result ≡ set.empty }
+    {
+        SpotCells {
+            first: None,
+            others: BTreeSet::new(alloc),
+        }
+    }
+
+    /// Adds a cell. It fails for want of memory alone, and changes nothing then.
+    pub(crate) fn add(&mut self, cell: CellId) -> Result<(), AllocError>
+        ensures ok { OnOk result (self.new ≡ set.insert self.old cell) }
+        ensures err { OnErr result (self.new ≡ self.old) }
+    {
+        let Some(first) = self.first else {
+            self.first = Some(cell);
+            return Ok(());
+        };
+        if first.cmp(&cell).is_eq() {
+            return Ok(());
+        }
+        self.others.insert(cell)?;
+        Ok(())
+    }
+
+    /// Takes a cell away.
+    pub(crate) fn remove(&mut self, cell: CellId)
+        ensures { self.new ≡ set.remove self.old cell }
+    {
+        self.first = without(self.first, cell);
+        self.others.remove(&cell);
+    }
+
+    /// Whether there is no cell.
+    pub(crate) fn is_empty(&self) -> bool
+        ensures none { result ≡ true → self.now ≡ set.empty }
+        ensures some { result ≡ false → self.now ≡ set.empty → ⊥ }
+    {
+        match self.first {
+            Some(_) => false,
+            None => self.others.is_empty(),
+        }
+    }
+
+    /// Adds the cells to a set. It fails for want of memory alone; then the set's own cells stay,
+    /// and besides them it has cells of these alone.
+    pub(crate) fn add_to(&self, cells: &mut CellSet) -> Result<(), AllocError>
+        ensures ok { OnOk result ((q : Cell) → set.contains cells.new q ≡ (set.contains cells.old q || set.contains self.now q)) }
+        ensures err { OnErr result (GainsCells (λ q. set.contains self.now q ≡ true) cells.old cells.new) }
+    {
+        cells.add_some(self.first)?;
+        cells.add_keys(&self.others)?;
+        Ok(())
+    }
+}
