@@ -1,5 +1,5 @@
 -- Which needs of two new versions are found among the parts that were filed before.
-use Rattle.std.proofs.Common.{◌≡◌, ◌∙◌, ◌<◌, ◌≤◌, ◌+◌, ◌-◌, ℕ, zero, suc, Bool, true, false, List, [], ◌∷◌, ◌⊎◌, inl, inr, Option, Some, None, All, Contains, get_or, length, slice_get, take, refl, sym, ap, subst, arith}
+use Rattle.std.proofs.Common.{◌≡◌, ◌∙◌, ◌<◌, ◌≤◌, ◌+◌, ◌-◌, ℕ, zero, suc, Bool, true, false, List, [], ◌∷◌, ◌⊎◌, inl, inr, Some, None, Contains, get_or, length, slice_get, refl, sym, ap, subst, arith}
 use Rattle.std.proofs.lemmas.Bool.{cases_lt, false≢true}
 use Rattle.std.proofs.lemmas.List.Elements.{All-nil}
 use Rattle.std.proofs.lemmas.Option.{slice_get_read}
@@ -24,7 +24,7 @@ use Rattle.clr_needs.specs.declared.needs.Need.{Need}
 use Rattle.clr_needs.specs.Needs.{ask_of}
 use Rattle.clr_needs.specs.Settings.{Setting}
 use Rattle.clr_foot.specs.declared.versions.Version.{Version}
-use Rattle.clr_foot.specs.Candidates.{IsNeedAmong, IsNeedBetween, IsNeedOf, IsNeedOfAsk, IsNeedOfPair, are_opposed, may_be_paired}
+use Rattle.clr_foot.specs.Candidates.{IsNeedAmong, IsNeedOf, IsNeedOfAsk, IsNeedOfPair, are_opposed, may_be_paired}
 use Rattle.clr_foot.specs.Gains.{Gains, OfSome}
 use Rattle.clr_foot.specs.NewPairs.{AreFiledBefore, ArePartsFiled, IsNeedAtPosition, IsNeedOfEntry, IsNeedOfItsPart, IsNeedOfParts, IsNeedOfTwo, IsNeedWithBefore, IsNeedWithPart, entry_at, with_part}
 use Rattle.clr_foot.specs.Versions.{FitsSetting, row_and_life, row_of}

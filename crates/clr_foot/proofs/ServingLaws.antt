@@ -1,5 +1,5 @@
 -- Which versions a server may serve: those that are left out it never serves.
-use Rattle.std.proofs.Common.{◌≡◌, ◌∙◌, ◌<◌, ◌≤◌, ◌+◌, ℕ, zero, suc, Bool, true, false, List, [], ◌∷◌, ◌++◌, ◌⊎◌, inl, inr, Option, Some, None, Contains, get_or, length, min, take, refl, sym, ap, subst, add-one, arith}
+use Rattle.std.proofs.Common.{◌≡◌, ◌∙◌, ◌<◌, ◌≤◌, ◌+◌, ℕ, zero, suc, true, false, List, [], ◌∷◌, ◌++◌, ◌⊎◌, inl, inr, Option, Some, None, Contains, get_or, length, min, take, refl, sym, ap, subst, add-one, arith}
 use Rattle.std.specs.Prelude.{slice_get}
 use Rattle.std.proofs.lemmas.Bool.{and_parts, cases_lt, false≢true}
 use Rattle.std.proofs.lemmas.List.Elements.{Contains-append_left, Contains-append_right, Contains-append_cases}
@@ -24,7 +24,7 @@ use Rattle.clr_needs.specs.Settings.{Setting, Lived, held_row, version}
 use Rattle.clr_foot.specs.declared.versions.Version.{Version}
 use Rattle.clr_foot.specs.Serving.{IsNeverServed, LiesOnNoPart, MayBeServed, is_on_part}
 use Rattle.clr_foot.specs.Touches.{IsNear}
-use Rattle.clr_foot.specs.Versions.{FindsAll, HasVersion, IsAt, row_of}
+use Rattle.clr_foot.specs.Versions.{FindsAll, HasVersion, row_of}
 use Rattle.clr_foot.proofs.SharingLaws.{served_by}
 use Rattle.clr_foot.proofs.TouchLaws.{lived_is}
 

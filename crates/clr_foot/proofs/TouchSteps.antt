@@ -2,29 +2,22 @@
 use Rattle.std.proofs.Common.{◌≡◌, ◌∙◌, ◌<◌, ◌≤◌, ◌+◌, ℕ, zero, suc, Bool, true, false, ◌||◌, List, [], ◌∷◌, ◌⊎◌, inl, inr, Option, Some, None, Contains, get_or, is_some, length, take, refl, sym, ap, subst, arith}
 use Rattle.std.specs.Prelude.{◌↔◌, ◌&&◌, ⊤, if◌then◌else◌}
 use Rattle.std.specs.FinMap as finite
-use Rattle.std.specs.FinMap.{contains_key-keys}
-use Rattle.std.specs.Cmp.{tied_itself}
 use Rattle.std.specs.List.{flat_map}
-use Rattle.std.specs.Option.{option_map}
-use Rattle.std.specs.Ordering.{eq_by_cmp, is_eq}
 use Rattle.std.proofs.lemmas.Bool.{cases_Bool, cases_lt, false≢true, or_left, or_right}
 use Rattle.clr_rows.specs.declared.cells.CellId.{CellId}
-use Rattle.clr_rows.specs.declared.cells.Change.{Change}
-use Rattle.clr_rows.specs.Cells.{cell_cmp}
 use Rattle.clr_rows.specs.Contents.{Changes, Content}
-use Rattle.clr_rows.proofs.CellOrder.{cell_cmp_total}
 use Rattle.clr_rules.specs.declared.rules.Rule.{Rule}
 use Rattle.clr_rows.specs.Held.{Held}
 use Rattle.clr_rules.specs.Calls.{calls}
 use Rattle.clr_rules.proofs.AskLemmas.{rule_there}
-use Rattle.clr_rules.proofs.Elements.{Among, among, any_by, among_either, contained}
+use Rattle.clr_rules.proofs.Elements.{Among, among, among_either, contained}
 use Rattle.clr_grid.specs.Sharing.{may_serve_under}
 use Rattle.clr_needs.specs.declared.needs.Need.{Need}
 use Rattle.clr_needs.specs.declared.needs.VersionId.{VersionId}
 use Rattle.clr_foot.specs.declared.versions.Version.{Version}
 use Rattle.clr_foot.specs.Candidates.{IsNeedAmong, IsNeedAt, IsNeedBesideOld, IsNeedOf, IsNeedServedBy, IsNeedWith, may_be_paired}
 use Rattle.clr_foot.specs.Gains.{Gains, GainsSome}
-use Rattle.clr_needs.specs.Members.{ChangesCell, after_in, changed_cells, setting}
+use Rattle.clr_needs.specs.Members.{ChangesCell, changed_cells, setting}
 use Rattle.clr_needs.specs.Needs.{IsBeside, IsBesideToo, IsChanged, IsTouched, IsTouchedBy, ask_of, held_too, is_fresh}
 use Rattle.clr_needs.specs.Settings.{Setting, Lived, changer, held_row, new_version, old_life, old_version, version}
 use Rattle.clr_foot.specs.Serving.{MayBeServed}

@@ -1,5 +1,5 @@
 -- Needs of two new versions: of parts, of entries that are filed, and of versions by their positions in a list.
-use Rattle.std.specs.Prelude.{◌≡◌, ◌<◌, ◌≤◌, ℕ, true, ◌⊎◌, List, Option, None, Some, Contains, slice_get}
+use Rattle.std.specs.Prelude.{◌≡◌, ◌<◌, ◌≤◌, ℕ, true, ◌⊎◌, List, None, Some, Contains, slice_get}
 use Rattle.clr_rows.specs.Held.{Held}
 use Rattle.clr_rules.specs.declared.rules.Rule.{Rule}
 use Rattle.clr_rules.specs.Calls.{part_count}

@@ -1,5 +1,4 @@
 use Rattle.std.proofs.Common.{◌≡◌, ◌∙◌, ◌++◌, List, None, ap, subst, sym}
-use Rattle.clr_spots.specs.declared.spots.Spot.{Spot}
 use Rattle.clr_spots.specs.RoleSpots.{subject_spots_under}
 use Rattle.clr_spots.specs.Spots.{are_many, unless_many}
 use Rattle.clr_spot_maps.specs.declared.spot_maps.FiledPart.{FiledPart}
@@ -8,7 +7,6 @@ use Rattle.clr_foot.specs.Candidates.{IsNeedAmong}
 use Rattle.clr_foot.specs.Gains.{OfSome}
 use Rattle.clr_foot.specs.NewPairs.{IsNeedOfEntry, IsNeedWithPart, entry_at}
 use Rattle.clr_foot.specs.Scenes.{setting_in}
-use Rattle.clr_foot.specs.Versions.{row_of}
 use Rattle.clr_foot.proofs.Gaining.{gains_as}
 use Rattle.clr_foot.proofs.NewPairLaws.{part_found}
 use Rattle.clr_foot.proofs.VersionFits.{fit_one}
