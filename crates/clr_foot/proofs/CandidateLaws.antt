@@ -204,7 +204,7 @@ module _ (rules : List Rule) (number : ℕ) (r : Option Version) (s t : Version)
   not_told : are_opposed (row_and_life s).life (row_and_life t).life ≡ false → ¬ (AreOpposed (row_and_life s).life (row_and_life t).life)
   not_told fails opposed = false≢true (sym fails ∙ opposed_told (row_and_life s).life (row_and_life t).life opposed)
 
-  ordered_pair : are_opposed (row_and_life s).life (row_and_life t).life ≡ false → cell_cmp s.id.cell t.id.cell ≡ Less → (n : Need) → IsNeedOf rules number r s (Some t) n → Pair n
+  pub ordered_pair : are_opposed (row_and_life s).life (row_and_life t).life ≡ false → cell_cmp s.id.cell t.id.cell ≡ Less → (n : Need) → IsNeedOf rules number r s (Some t) n → Pair n
   ordered_pair fails less n w = inl (record { ascending = less; not_opposed = not_told fails; need = w })
 
   pub in_order : (old new : List Need) → are_opposed (row_and_life s).life (row_and_life t).life ≡ false → cell_cmp s.id.cell t.id.cell ≡ Less
@@ -225,14 +225,14 @@ module _ (rules : List Rule) (number : ℕ) (r : Option Version) (s t : Version)
   turned_pair n (inl w) = inr w
   turned_pair n (inr w) = inl w
 
-  pair_back : (n : Need) → IsNeedOfPair rules number r t s n → IsNeedOfPair rules number r s t n
+  pub pair_back : (n : Need) → IsNeedOfPair rules number r t s n → IsNeedOfPair rules number r s t n
   pair_back n (inl w) = inr w
   pair_back n (inr w) = inl w
 
-  turned_less : cell_cmp s.id.cell t.id.cell ≡ Greater → cell_cmp t.id.cell s.id.cell ≡ Less
+  pub turned_less : cell_cmp s.id.cell t.id.cell ≡ Greater → cell_cmp t.id.cell s.id.cell ≡ Less
   turned_less more = cell_cmp_total.antisymm t.id.cell s.id.cell ∙ ap ordering_reverse more
 
-  turned_told : (l m : Lifetime ℕ) → are_opposed l m ≡ false → are_opposed m l ≡ false
+  pub turned_told : (l m : Lifetime ℕ) → are_opposed l m ≡ false → are_opposed m l ≡ false
   turned_told l m fails = by (are_opposed m l) refl
     where
       back : AreOpposed m l → AreOpposed l m

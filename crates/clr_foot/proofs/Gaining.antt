@@ -1,8 +1,7 @@
 -- What calls add to a list, one after another.
-use Rattle.std.proofs.Common.{◌≡◌, ◌<◌, ◌≤◌, ◌+◌, ℕ, zero, suc, List, [], ◌∷◌, ◌++◌, ◌⊎◌, inl, inr, Contains, length, get_or, take, refl, sym, subst, arith}
-use Rattle.std.proofs.lemmas.List.{take_more, take_all}
+use Rattle.std.proofs.Common.{◌≡◌, ◌<◌, ◌≤◌, ◌+◌, ℕ, List, [], ◌∷◌, ◌++◌, ◌⊎◌, inl, inr, Contains, length, get_or, take, sym, subst}
 use Rattle.std.proofs.lemmas.List.Elements.{Contains-append_left, Contains-append_right, Contains-append_cases}
-use Rattle.clr_rules.proofs.Elements.{Among, among, contained}
+use Rattle.clr_rules.proofs.Elements.{contained}
 use Rattle.clr_needs.proofs.Reading.{alone, all_taken, none_taken, one_more}
 use Rattle.clr_foot.specs.Gains.{Gains, GainsSome, OfSome}
 

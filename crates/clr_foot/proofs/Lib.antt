@@ -3,10 +3,12 @@ pub mod ChangedCells
 pub mod ChangerSteps
 pub mod Gaining
 pub mod InvolvedLaws
+pub mod NewPairLaws
 pub mod NewRows
 pub mod PartSteps
 pub mod Searches
 pub mod ServedNeeds
+pub mod ServingLaws
 pub mod ServerLaws
 pub mod SharedCells
 pub mod SharingLaws

@@ -1,10 +1,10 @@
 -- Versions that stand in one need are found near one another.
-use Rattle.std.proofs.Common.{◌≡◌, ◌∙◌, ◌<◌, ℕ, Bool, true, false, cond, ◌&&◌, ◌||◌, not, List, [], Option, Some, None, Contains, length, slice_get, refl, sym, ap, subst}
+use Rattle.std.proofs.Common.{◌≡◌, ◌∙◌, ◌<◌, ℕ, Bool, true, false, cond, ◌&&◌, ◌||◌, not, List, [], Option, Some, None, inl, inr, Contains, length, slice_get, refl, sym, ap, subst}
 use Rattle.std.specs.FinMap as finite
 use Rattle.std.specs.Cmp.{Equal-is, tied_itself}
 use Rattle.std.specs.Option.{option_map}
 use Rattle.std.specs.Ordering.{eq_by_cmp, is_eq}
-use Rattle.std.proofs.lemmas.Bool.{and_parts, false≢true}
+use Rattle.std.proofs.lemmas.Bool.{and_parts, false≢true, or_left, or_right}
 use Rattle.std.proofs.lemmas.List.Elements.{All-nil}
 use Rattle.clr_rows.specs.declared.cells.CellId.{CellId}
 use Rattle.clr_rows.specs.declared.rows.Row.{Row}
@@ -22,13 +22,14 @@ use Rattle.clr_spots.specs.Spots.{are_sharing, share, share_by, share_under}
 use Rattle.clr_rules.proofs.Elements.{Among, contained}
 use Rattle.clr_rules.proofs.FittingLemmas.{distance_fits}
 use Rattle.clr_rules.proofs.RoleLemmas.{servers_have_roles, subjects_have_roles}
+use Rattle.clr_spots.proofs.RoleLaws.{subjects_beside}
 use Rattle.clr_spots.proofs.ShareLaws.{servers_share, subjects_share}
 use Rattle.clr_spots.proofs.SharedSpots.{share_back}
 use Rattle.clr_grid.specs.declared.row_spots.RuleSpots.{RuleSpots}
 use Rattle.clr_grid.specs.Sharing.{IsSettledFor, Settled, found_cells, is_met_at, may_serve, may_serve_by, may_serve_under, row_spots, rule_spots, sharing, sharing_servers}
 use Rattle.clr_grid.proofs.EntryLemmas.{in_passes, passes_in}
 use Rattle.clr_grid.proofs.SharingLemmas.{found_servers, found_sharing}
-use Rattle.clr_foot.specs.Candidates.{is_of_two, is_of_two_by, is_of_two_under}
+use Rattle.clr_foot.specs.Candidates.{is_of_two, is_of_two_by, is_of_two_under, may_be_paired}
 use Rattle.clr_needs.specs.Settings.{Setting}
 use Rattle.clr_foot.specs.Touches.{IsNear}
 use Rattle.clr_foot.specs.Versions.{FitsSetting}
@@ -46,7 +47,7 @@ called_by rules ask s t e = by (slice_get rules ask.rule) refl e
     by None at f = absurd (false≢true f)
     by (Some rule) at f = (rule, at, f)
 
-served_by : (rules : List Rule) (ask : Ask) (s : Held) (t : Option Held) (r : Held) (rule : Rule) → IsRule rules ask.rule rule → serves rules ask s t r ≡ true → is_server rule ask s t r ≡ true
+pub served_by : (rules : List Rule) (ask : Ask) (s : Held) (t : Option Held) (r : Held) (rule : Rule) → IsRule rules ask.rule rule → serves rules ask s t r ≡ true → is_server rule ask s t r ≡ true
 unfolding serves
 served_by rules ask s t r rule at e = sym (ap (λ o. is_server_of o ask s t r) at) ∙ e
 
@@ -96,6 +97,14 @@ two_are_asked (Near a b d) ask s t e = refl
 pub two_asked : (rules : List Rule) (ask : Ask) (s t : Held) → calls rules ask s (Some t) ≡ true → is_of_two_under rules ask.rule ≡ true
 unfolding is_of_two_under
 two_asked rules ask s t e = let (rule, at, called) = called_by rules ask s (Some t) e in ap is_of_two_by at ∙ two_are_asked rule ask s t called
+
+-- each of two that call is of a side of two subjects
+pub both_paired : (rules : List Rule) (ask : Ask) (s t : Held) → calls rules ask s (Some t) ≡ true → (may_be_paired rules ask.rule s ≡ true) × (may_be_paired rules ask.rule t ≡ true)
+unfolding may_be_paired
+both_paired rules ask s t e = elim (subjects_beside rules ask s t e) [
+  | inl w ↦ (or_left _ _ w.0, or_right _ _ w.1)
+  | inr w ↦ (or_right _ _ w.1, or_left _ _ w.0)
+]
 
 -- a server is of the side that serves
 of_server_side : (rule : Rule) (ask : Ask) (s : Held) (t : Option Held) (r : Held) → is_server rule ask s t r ≡ true → may_serve rule r ≡ true

@@ -10,13 +10,14 @@ use Rattle.clr_rows.specs.Cells.{cell_cmp}
 use Rattle.clr_needs.specs.declared.needs.Need.{Need}
 use Rattle.clr_needs.specs.declared.needs.VersionId.{VersionId}
 use Rattle.clr_foot.specs.declared.versions.Version.{Version}
-use Rattle.clr_foot.specs.Candidates.{IsNeedAmong, IsNeedBetween, IsNeedOf, IsNeedOfPair, IsNeedServedBy, IsNeedWith, id_of, is_of_two_under, serves_too}
+use Rattle.clr_foot.specs.Candidates.{IsNeedAmong, IsNeedBetween, IsNeedOf, IsNeedOfPair, IsNeedServedBy, IsNeedWith, id_of, may_be_paired, serves_too}
 use Rattle.clr_needs.specs.Needs.{AreOpposed, IsBeside, IsBesideToo, IsPossible, Serves, ask_of, held_too}
 use Rattle.clr_needs.specs.Settings.{Setting, Lived, held_row, version}
+use Rattle.clr_foot.specs.Serving.{IsNeverServed, MayBeServed}
 use Rattle.clr_foot.specs.Touches.{IsNear, IsNeedServedAmong}
 use Rattle.clr_foot.specs.Versions.{AreAt, FindsAll, FitsSetting, HasVersion, IsAt, row_and_life, row_of}
 use Rattle.clr_foot.proofs.CandidateLaws.{they_call}
-use Rattle.clr_foot.proofs.SharingLaws.{may_serve_there, near_all, server_near, server_near_second, subjects_near, two_asked}
+use Rattle.clr_foot.proofs.SharingLaws.{both_paired, may_serve_there, near_all, server_near, server_near_second, subjects_near}
 
 lived_too : Option Version → Option (Lived ℕ)
 lived_too t = option_map row_and_life t
@@ -118,7 +119,7 @@ module _ (c : Setting ℕ) where
       ∙ (λ i. serves c.rules (ask_of n) ((first i).cell, (row i).row) (held_too (second i) (rows i)) (r.id.cell, (server i).row)) ∙ serve
 
   -- two versions in the order of their cells
-  need_between : (number : ℕ) (r : Option Version) (s t : Version) (n : Need) (a : Lived ℕ) (w : VersionId) (b : Lived ℕ)
+  pub need_between : (number : ℕ) (r : Option Version) (s t : Version) (n : Need) (a : Lived ℕ) (w : VersionId) (b : Lived ℕ)
       → n.rule ≡ number
       → s.id ≡ n.first
       → t.id ≡ w
@@ -152,31 +153,40 @@ module _ (c : Setting ℕ) where
       need_of_versions number None v None n a None rule (sym first) (sym second) (lived_is v n.first a (sym first) at is) refl
       (ap (λ w. calls c.rules (ask_of n) (held_row n.first a) (held_too {A = ℕ} w None)) second ∙ called) refl
 
-  -- where a rule is asked of one, a need is that of a version alone
-  pub alone_of_one : (number : ℕ) (v : Version) (at : IsAt c v) (told : Bool) → told ≡ is_of_two_under c.rules number → told ≡ false → (n : Need) → IsNeedWith c number v.id n
+  -- a need with a version that is of no side of two subjects is that of the version alone
+  pub alone_of_one : (number : ℕ) (v : Version) (at : IsAt c v) (told : Bool) → told ≡ may_be_paired c.rules number (row_of v) → told ≡ false → (n : Need) → IsNeedWith c number v.id n
       → IsNeedOf c.rules number None v None n
   alone_of_one number v at told is fails n (rule, subject, a, b, p) = by n.second b refl p.second_is p.they_call subject
     where
+      paired : (id : VersionId) (l : Lived ℕ) → v.id ≡ id → version c id ≡ Some l → may_be_paired c.rules n.rule (held_row id l) ≡ true → ⊥
+      paired id l same there may =
+          let row = lived_is v id l same at there in
+          false≢true (sym fails ∙ is ∙ (λ i. may_be_paired c.rules (sym rule i) ((same i).cell, (row i).row)) ∙ may)
+
       by : (w : Option VersionId) (b : Option (Lived ℕ)) → n.second ≡ w → IsBesideToo c n.first a w b → calls c.rules (ask_of n) (held_row n.first a) (held_too {A = ℕ} w b) ≡ true
           → (n.first ≡ v.id) ⊎ (n.second ≡ Some v.id) → IsNeedOf c.rules number None v None n
       by None None second beside called (inl e) = alone_found number v at n a rule e second p.first_is called
       by None None second beside called (inr e) = let clash : None ≡ Some v.id = sym second ∙ e in cc
       by None (Some b) second beside called subject = absurd beside
       by (Some w) None second beside called subject = absurd beside
-      by (Some w) (Some b) second beside called subject =
-          absurd (false≢true (sym fails ∙ is ∙ ap (is_of_two_under c.rules) (sym rule) ∙ two_asked c.rules (ask_of n) (held_row n.first a) (held_row w b) called))
+      by (Some w) (Some b) second beside called (inl e) =
+          absurd (paired n.first a (sym e) p.first_is (both_paired c.rules (ask_of n) (held_row n.first a) (held_row w b) called).0)
+      by (Some w) (Some b) second beside called (inr e) =
+          let same : v.id ≡ w = let both : Some v.id ≡ Some w = sym e ∙ second in cc in
+          absurd (paired w b same beside.is (both_paired c.rules (ask_of n) (held_row n.first a) (held_row w b) called).1)
 
-  module _ (fits : FitsSetting c) (number : ℕ) (v : Version) (at : IsAt c v) (near : List Version) (found : FindsAll c (IsNear false c.rules number (row_of v)) near) where
+  module _ (fits : FitsSetting c) (number : ℕ) (v : Version) (at : IsAt c v) (near : List Version) (P : VersionId → Type 0) (are : AreAt c near)
+      (every : (id : VersionId) (l : Lived ℕ) → P id → version c id ≡ Some l → IsNear false c.rules number (row_of v) (held_row id l) → HasVersion near id) where
     -- a need with a version is found: it stands alone, or beside one that is near
     abbrev pub IsFound : Need → Type 0
     IsFound n = IsNeedOf c.rules number None v None n ⊎ IsNeedAmong c.rules number None v near n
 
     need_is_found : (n : Need) (id : VersionId) → ((t : Version) → t.id ≡ id → IsAt c t → IsNeedOfPair c.rules number None v t n) → HasVersion near id → IsFound n
-    need_is_found n id pair (t, h, e) = inr (t, h, pair t e (found.are t h))
+    need_is_found n id pair (t, h, e) = inr (t, h, pair t e (are t h))
 
-    -- the other subject is near, and in either order the two make the need
-    pub with_found : (n : Need) → IsNeedWith c number v.id n → IsFound n
-    with_found n (rule, subject, a, b, p) = by n.second b refl p.second_is p.they_call subject
+    -- the other subject is one of those that are looked for, so it is near, and in either order the two make the need
+    pub with_found : (n : Need) → IsNeedWith c number v.id n → ((w : VersionId) → n.first ≡ v.id → n.second ≡ Some w → P w) → (n.second ≡ Some v.id → P n.first) → IsFound n
+    with_found n (rule, subject, a, b, p) second_sought first_sought = by n.second b refl p.second_is p.they_call subject
       where
         by : (w : Option VersionId) (b : Option (Lived ℕ)) → n.second ≡ w → IsBesideToo c n.first a w b → calls c.rules (ask_of n) (held_row n.first a) (held_too {A = ℕ} w b) ≡ true
             → (n.first ≡ v.id) ⊎ (n.second ≡ Some v.id) → IsFound n
@@ -189,32 +199,42 @@ module _ (c : Setting ℕ) where
             let shared = (subjects_near c fits (ask_of n) (held_row n.first a) (held_row w b) called).0 in
             let near = near_of v n.first a (held_row w b) number n.rule rule (sym e) row (near_all c.rules n.rule (held_row n.first a) (held_row w b) shared) in
             need_is_found n w (λ t same t_at. inl (need_between number None v t n a w b rule (sym e) same second at t_at p.first_is beside called (λ row rows. refl)))
-            (found.every w b beside.is near)
+            (every w b (second_sought w e second) beside.is near)
         by (Some w) (Some b) second beside called (inr e) =
             let same : w ≡ v.id = let both : Some w ≡ Some v.id = sym second ∙ e in cc in
             let row = lived_is v w b (sym same) at beside.is in
             let shared = (subjects_near c fits (ask_of n) (held_row n.first a) (held_row w b) called).1 in
             let near = near_of v w b (held_row n.first a) number n.rule rule (sym same) row (near_all c.rules n.rule (held_row w b) (held_row n.first a) shared) in
             need_is_found n n.first (λ t is t_at. inr (need_between number None t v n a w b rule is (sym same) second t_at at p.first_is beside called (λ row rows. refl)))
-            (found.every n.first a p.first_is near)
+            (every n.first a (first_sought e) p.first_is near)
 
   -- a need that a version serves is found among those near it
-  module _ (number : ℕ) (r : Version) (at : IsAt c r) (near : List Version) (found : FindsAll c (IsNear false c.rules number (row_of r)) near) where
+  module _ (number : ℕ) (r : Version) (at : IsAt c r) (near : List Version) (found : FindsAll c (MayBeServed c.rules number (row_of r)) near) where
     pub served_found : (n : Need) → IsNeedServedBy c number r.id n → IsNeedServedAmong c.rules number r near near n
     served_found n (rule, a, b, l, p, v) = by n.second b refl p.second_is p.they_call v.it_serves
       where
         server : row_and_life r ≡ l
         server = lived_is r r.id l refl at v.is
 
-        close : (id : VersionId) (m : Lived ℕ) → are_sharing c.rules n.rule (held_row r.id l) (held_row id m) ≡ true → IsNear false c.rules number (row_of r) (held_row id m)
-        close id m shared = near_of r r.id l (held_row id m) number n.rule rule refl server (near_all c.rules n.rule (held_row r.id l) (held_row id m) shared)
+        close : (id : VersionId) (m : Lived ℕ) → are_sharing c.rules n.rule (held_row r.id l) (held_row id m) ≡ true → ¬ (IsNeverServed c.rules number (row_of r) (held_row id m))
+            → MayBeServed c.rules number (row_of r) (held_row id m)
+        close id m shared served = (near_of r r.id l (held_row id m) number n.rule rule refl server (near_all c.rules n.rule (held_row r.id l) (held_row id m) shared), served)
+
+        its_row : (s : Held) (t : Option Held) → serves c.rules (ask_of n) s t (held_row r.id l) ≡ true → serves c.rules (ask_of n) s t (row_of r) ≡ true
+        its_row s t serve = (λ i. serves c.rules (ask_of n) s t (r.id.cell, (server i).row)) ∙ serve
+
+        first_served : (t : Option Held) → serves c.rules (ask_of n) (held_row n.first a) t (held_row r.id l) ≡ true → ¬ (IsNeverServed c.rules number (row_of r) (held_row n.first a))
+        first_served t serve never = never.first (ask_of n) t rule (its_row (held_row n.first a) t serve)
+
+        second_served : (t : Held) → serves c.rules (ask_of n) (held_row n.first a) (Some t) (held_row r.id l) ≡ true → ¬ (IsNeverServed c.rules number (row_of r) t)
+        second_served t serve never = never.second (ask_of n) (held_row n.first a) rule (its_row (held_row n.first a) (Some t) serve)
 
         by : (w : Option VersionId) (b : Option (Lived ℕ)) → n.second ≡ w → IsBesideToo c n.first a w b → calls c.rules (ask_of n) (held_row n.first a) (held_too {A = ℕ} w b) ≡ true
             → serves c.rules (ask_of n) (held_row n.first a) (held_too {A = ℕ} w b) (held_row r.id l) ≡ true → IsNeedServedAmong c.rules number r near near n
         by None (Some b) second beside called serve = absurd beside
         by (Some w) None second beside called serve = absurd beside
         by None None second beside called serve =
-            let (s, h, same) = found.every n.first a p.first_is (close n.first a (server_near c.rules (ask_of n) (held_row n.first a) None (held_row r.id l) called serve).1) in
+            let (s, h, same) = found.every n.first a p.first_is (close n.first a (server_near c.rules (ask_of n) (held_row n.first a) None (held_row r.id l) called serve).1 (first_served None serve)) in
             let row = lived_is s n.first a same (found.are s h) p.first_is in
             let called_too = ap (λ w. calls c.rules (ask_of n) (held_row n.first a) (held_too {A = ℕ} w None)) second ∙ called in
             let serve_too = ap (λ w. serves c.rules (ask_of n) (held_row n.first a) (held_too {A = ℕ} w None) (held_row r.id l)) second ∙ serve in (
@@ -224,8 +244,8 @@ module _ (c : Setting ℕ) where
                   (serves_versions r s None n a None l same (sym second) row refl server serve_too)),
             )
         by (Some w) (Some b) second beside called serve =
-            let (s, h, same) = found.every n.first a p.first_is (close n.first a (server_near c.rules (ask_of n) (held_row n.first a) (Some (held_row w b)) (held_row r.id l) called serve).1) in
-            let (t, k, same_too) = found.every w b beside.is (close w b (server_near_second c.rules (ask_of n) (held_row n.first a) (held_row w b) (held_row r.id l) called serve)) in
+            let (s, h, same) = found.every n.first a p.first_is (close n.first a (server_near c.rules (ask_of n) (held_row n.first a) (Some (held_row w b)) (held_row r.id l) called serve).1 (first_served (Some (held_row w b)) serve)) in
+            let (t, k, same_too) = found.every w b beside.is (close w b (server_near_second c.rules (ask_of n) (held_row n.first a) (held_row w b) (held_row r.id l) called serve) (second_served (held_row w b) serve)) in
             let serve_too = ap (λ w. serves c.rules (ask_of n) (held_row n.first a) (held_too {A = ℕ} w (Some b)) (held_row r.id l)) second ∙ serve in (
               s,
               h,

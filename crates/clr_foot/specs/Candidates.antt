@@ -1,17 +1,19 @@
 -- Needs of versions that are held against one another, and which of them a touched need is found from.
-use Rattle.std.specs.Prelude.{◌≡◌, ℕ, Bool, true, false, ◌&&◌, ◌==◌, ◌⊎◌, List, Option, Some, None, Contains, slice_get}
+use Rattle.std.specs.Prelude.{◌≡◌, ℕ, Bool, true, false, ◌&&◌, ◌||◌, ◌==◌, ◌⊎◌, List, Option, Some, None, Contains, slice_get}
 use Rattle.std.specs.Option.{option_map}
 use Rattle.std.specs.declared.cmp.Ordering.TheVariants.{Less}
 use Rattle.clr_rows.specs.declared.cells.CellId.{CellId}
 use Rattle.clr_rows.specs.Cells.{cell_cmp}
+use Rattle.clr_rows.specs.Held.{Held}
 use Rattle.clr_rules.specs.declared.needs.Ask.{Ask}
 use Rattle.clr_rules.specs.declared.rules.Rule.{Rule}
 use Rattle.clr_rules.specs.declared.rules.Rule.TheVariants.{Partner, EndNode}
 use Rattle.clr_rules.specs.Calls.{calls, serves}
+use Rattle.clr_rules.specs.Roles.{roles_under}
 use Rattle.clr_needs.specs.declared.needs.Need.{Need}
 use Rattle.clr_needs.specs.declared.needs.VersionId.{VersionId}
 use Rattle.clr_foot.specs.declared.versions.Version.{Version}
-use Rattle.clr_needs.specs.Needs.{AreOpposed, IsPossible, Serves, ask_of}
+use Rattle.clr_needs.specs.Needs.{AreOpposed, IsPossible, Serves, ask_of, is_fresh}
 use Rattle.clr_needs.specs.Settings.{Setting, Lifetime, With, Without, Lived}
 use Rattle.clr_foot.specs.Versions.{row_and_life, row_of, version_of}
 
@@ -32,6 +34,10 @@ is_of_two_by (Some rule) = is_of_two rule
 
 unfoldable pub is_of_two_under : List Rule → ℕ → Bool
 is_of_two_under rules number = is_of_two_by (slice_get rules number)
+
+-- the row is of a side of two subjects
+unfoldable pub may_be_paired : List Rule → ℕ → Held → Bool
+may_be_paired rules number s = (roles_under rules number s).first || (roles_under rules number s).second
 
 abbrev pub id_of : Version → VersionId
 id_of v = v.id
@@ -91,6 +97,10 @@ IsNeedWith c number v n = (n.rule ≡ number) × IsSubject n v × (a : Lived ℕ
 abbrev pub IsNeedServedBy : Setting ℕ → ℕ → VersionId → Need → Type 0
 IsNeedServedBy c number v n = (n.rule ≡ number) × (a : Lived ℕ) × (b : Option (Lived ℕ)) × (l : Lived ℕ) × IsPossible c n a b × Serves c n a b v l
 
--- with the new version of a cell, or served by its old one
+-- one that hasn't two new subjects
+abbrev pub IsNeedBesideOld : Setting ℕ → ℕ → VersionId → Need → Type 0
+IsNeedBesideOld c number v n = IsNeedWith c number v n × ((n.first.fresh && is_fresh n.second) ≡ false)
+
+-- with the new version of a cell beside no other new one, or served by its old version
 abbrev pub IsNeedAt : Setting ℕ → ℕ → CellId → Need → Type 0
-IsNeedAt c number q n = IsNeedWith c number (version_of true q) n ⊎ IsNeedServedBy c number (version_of false q) n
+IsNeedAt c number q n = IsNeedBesideOld c number (version_of true q) n ⊎ IsNeedServedBy c number (version_of false q) n

@@ -2,6 +2,8 @@ pub mod Candidates
 pub mod Changers
 pub mod Gains
 pub mod Involvement
+pub mod NewPairs
 pub mod Scenes
+pub mod Serving
 pub mod Touches
 pub mod Versions

@@ -28,7 +28,7 @@ abbrev pub IsNeedServedAmong : List Rule → ℕ → Version → List Version �
 IsNeedServedAmong rules number r firsts near n =
     (s : Version) × Contains firsts s × (IsNeedOf rules number (Some r) s None n ⊎ IsNeedAmong rules number (Some r) s near n)
 
--- a need with the new version of one of some cells, or served by its old one
+-- a need of one of some cells
 abbrev pub IsNeedAtCells : Setting ℕ → ℕ → List CellId → Need → Type 0
 IsNeedAtCells c number cells n = (q : CellId) × Contains cells q × IsNeedAt c number q n
 

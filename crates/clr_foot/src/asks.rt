@@ -2,7 +2,7 @@
 
 ghost use Rattle.std.specs.Prelude.{◌≡◌, ◌<◌, length};
 ghost use Rattle.clr_grid.specs.Sharing.{may_serve_under};
-ghost use Rattle.clr_foot.specs.Candidates.{is_of_two, is_of_two_under};
+ghost use Rattle.clr_foot.specs.Candidates.{is_of_two, is_of_two_under, may_be_paired};
 ghost use Rattle.clr_foot.specs.Versions.{row_of};
 
 use crate::scenes::Scene;
@@ -29,6 +29,16 @@ impl<V: RowView, F: RowFinder> Scene<'_, V, F> {
         ensures { result ≡ is_of_two_under self.now.book.now rule }
     {
         is_of_two(self.book.rule(rule))
+    }
+
+    /// Whether a version is of a side of two subjects.
+    #[tactic(auto, unfolding(crate::specs::Candidates::may_be_paired))]
+    pub(crate) fn may_be_paired(&self, rule: u16, version: Version) -> bool
+        requires { rule < length self.now.book.now }
+        ensures { result ≡ may_be_paired self.now.book.now rule (row_of version.entry) }
+    {
+        let roles = self.book.roles_of(rule, version.as_held());
+        roles.first || roles.second
     }
 
     /// Whether a version is of the side that serves.

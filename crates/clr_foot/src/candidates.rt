@@ -18,7 +18,7 @@ use std::alloc::AllocError;
 use std::cmp::Ordering;
 
 /// Whether of two versions one lives with a member and the other without it.
-fn are_opposed(first: Life, second: Life) -> bool
+pub(crate) fn are_opposed(first: Life, second: Life) -> bool
     ensures { result ≡ are_opposed (lifetime first) (lifetime second) }
 {
     match (first, second) {
@@ -80,7 +80,7 @@ impl<V: RowView, F: RowFinder> Scene<'_, V, F> {
     }
 
     /// Adds the need of two versions in these parts.
-    fn add_of_ask(
+    pub(crate) fn add_of_ask(
         &self,
         ask: Ask,
         server: Option<Version>,

@@ -37,11 +37,13 @@ mod changers;
 mod independence;
 mod involvement;
 mod members;
+mod new_pairs;
 mod parts;
 mod picks;
 mod scene_versions;
 mod scenes;
 mod servers;
+mod serving;
 mod touches;
 mod versions;
 

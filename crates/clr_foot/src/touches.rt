@@ -5,7 +5,7 @@ ghost use Rattle.std.specs.Prelude.{◌≡◌, ◌<◌, ◌∷◌, [], false, tr
 ghost use Rattle.clr_grid.specs.Sharing.{found_cells, rule_spots};
 ghost use Rattle.clr_rows.specs.Held.{held_of};
 ghost use Rattle.clr_rules.specs.Books.{FitTogether};
-ghost use Rattle.clr_foot.specs.Candidates.{IsNeedAt, IsNeedServedBy, IsNeedWith};
+ghost use Rattle.clr_foot.specs.Candidates.{IsNeedAt, IsNeedBesideOld, IsNeedServedBy, IsNeedWith};
 ghost use Rattle.clr_foot.specs.Gains.{Gains, GainsSome};
 ghost use Rattle.clr_needs.specs.Needs.{AreTouchedNeeds, IsTouched};
 ghost use Rattle.clr_foot.specs.Scenes.{IsReady, model_of, setting_in, setting_of};
@@ -89,7 +89,11 @@ impl<V: RowView, F: RowFinder> Scene<'_, V, F> {
     }
 
     /// The versions, old and new, whose rows share with that of a version.
-    fn all_near(&self, rule: u16, version: Version) -> Result<Vec<Version<'_>>, AllocError>
+    pub(crate) fn all_near(
+        &self,
+        rule: u16,
+        version: Version,
+    ) -> Result<Vec<Version<'_>>, AllocError>
         requires number { rule < length self.now.book.now }
         requires ready { IsReady F.settled (model_of V.content self.now) }
         requires at { IsAt (setting_in V.content self.now) version }
@@ -119,10 +123,34 @@ impl<V: RowView, F: RowFinder> Scene<'_, V, F> {
             needs.old.items needs.new.items) }
     {
         self.add_alone(rule, None, version, needs)?;
-        if !self.is_of_two(rule) {
+        if !self.may_be_paired(rule, version) {
             return Ok(());
         }
         let near = self.all_near(rule, version)?;
+        self.add_pairs(rule, None, version, near.as_slice(), needs)?;
+        Ok(())
+    }
+
+    /// Adds the possible needs with a new version among their subjects: alone, or beside an old version
+    /// that shares with it.
+    fn add_beside_old(
+        &self,
+        rule: u16,
+        version: Version,
+        needs: &mut Vec<Need>,
+    ) -> Result<(), AllocError>
+        requires number { rule < length self.now.book.now }
+        requires ready { IsReady F.settled (model_of V.content self.now) }
+        requires at { IsAt (setting_in V.content self.now) version }
+        requires new { version.id.fresh ≡ true }
+        ensures { OnOk result (Gains (IsNeedWith (setting_in V.content self.now) rule version.entry.id)
+            (IsNeedBesideOld (setting_in V.content self.now) rule version.entry.id) needs.old.items needs.new.items) }
+    {
+        self.add_alone(rule, None, version, needs)?;
+        if !self.may_be_paired(rule, version) {
+            return Ok(());
+        }
+        let near = self.old_near(rule, false, version)?;
         self.add_pairs(rule, None, version, near.as_slice(), needs)?;
         Ok(())
     }
@@ -170,13 +198,13 @@ impl<V: RowView, F: RowFinder> Scene<'_, V, F> {
         if !self.may_serve(rule, server) {
             return Ok(());
         }
-        let near = self.all_near(rule, server)?;
+        let near = self.served_near(rule, server)?;
         self.add_served(rule, server, near.as_slice(), needs)?;
         Ok(())
     }
 
-    /// Adds the touched needs of a rule with the new version of a changed cell, and those that its
-    /// old version serves.
+    /// Adds the touched needs of a rule with the new version of a changed cell, but for those of two
+    /// new ones, and those that its old version serves.
     fn add_of_cell(&self, rule: u16, cell: CellId, needs: &mut Vec<Need>) -> Result<(), AllocError>
         requires number { rule < length self.now.book.now }
         requires ready { IsReady F.settled (model_of V.content self.now) }
@@ -185,7 +213,7 @@ impl<V: RowView, F: RowFinder> Scene<'_, V, F> {
             needs.old.items needs.new.items) }
     {
         if let Some(new) = self.version(VersionId { cell, fresh: true }) {
-            self.add_with(rule, new, needs)?;
+            self.add_beside_old(rule, new, needs)?;
         }
         if let Some(old) = self.version(VersionId { cell, fresh: false }) {
             self.add_served_by(rule, old, needs)?;
@@ -193,16 +221,23 @@ impl<V: RowView, F: RowFinder> Scene<'_, V, F> {
         Ok(())
     }
 
-    /// Adds the touched needs of a rule.
-    fn add_of_rule(&self, rule: u16, needs: &mut Vec<Need>) -> Result<(), AllocError>
+    /// Adds the touched needs of a rule, where the new versions are given.
+    fn add_of_rule(
+        &self,
+        rule: u16,
+        fresh: &[Version],
+        needs: &mut Vec<Need>,
+    ) -> Result<(), AllocError>
         requires number { rule < length self.now.book.now }
         requires ready { IsReady F.settled (model_of V.content self.now) }
+        requires fresh { Finds (setting_in V.content self.now) true (IsInCells self.now.members.cells.items) fresh.now }
         ensures { OnOk result (Gains (IsTouched (setting_in V.content self.now)) (IsTouchedOf (setting_in V.content self.now) rule)
             needs.old.items needs.new.items) }
     {
         for cell in &self.members.cells {
             self.add_of_cell(rule, *cell, needs)?;
         }
+        self.add_of_new_pairs(rule, fresh, needs)?;
         Ok(())
     }
 
@@ -212,9 +247,10 @@ impl<V: RowView, F: RowFinder> Scene<'_, V, F> {
         requires ready { IsReady F.settled (model_of V.content self.now) }
         ensures { IfOk result (λ needs. AreTouchedNeeds (setting_of (model_of V.content self.now)) needs.items) }
     {
+        let fresh = self.versions_at(true, self.members.cells.as_slice())?;
         let mut needs = Vec::new(self.alloc);
         for rule in 0..self.book.len() {
-            self.add_of_rule(rule as u16, &mut needs)?;
+            self.add_of_rule(rule as u16, fresh.as_slice(), &mut needs)?;
         }
         put_in_order(&mut needs);
         Ok(needs)

@@ -1,4 +1,4 @@
-use Rattle.std.proofs.Common.{◌∙◌, List, subst, sym, ap}
+use Rattle.std.proofs.Common.{◌∙◌, List, subst, sym}
 use Rattle.std.specs.FinMap as finite
 use Rattle.std.specs.Map.Iter.{deref_pair}
 use Rattle.std.proofs.lemmas.Map.Iter.{rest_more, rest_all}

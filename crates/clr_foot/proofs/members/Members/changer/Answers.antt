@@ -1,4 +1,4 @@
-use Rattle.std.proofs.Common.{◌∙◌, ◌<◌, Some, subst, length}
+use Rattle.std.proofs.Common.{◌∙◌, ◌<◌, Some, subst}
 use Rattle.std.proofs.lemmas.List.{length-map}
 use Rattle.clr_foot.proofs.ChangerSteps.{are_changers, first_of}
 use Rattle.clr_foot.proofs.Searches.{sets_of}

@@ -1,6 +1,8 @@
-use Rattle.std.proofs.Common.{◌∙◌, pos}
+use Rattle.std.proofs.Common.{◌∙◌, pos, subst, true}
 use Rattle.clr_foot.specs.Scenes.{setting_in}
 use Rattle.clr_needs.proofs.Reading.{read_of}
+use Rattle.clr_foot.specs.Touches.{IsInCells}
+use Rattle.clr_foot.specs.Versions.{Finds}
 use Rattle.clr_foot.proofs.Searches.{sets_of}
 use Rattle.clr_foot.proofs.TouchSteps.{no_cell_yet, one_cell_more, rule_gains}
 use Rattle.clr_foot.proofs.scenes.Scene.add_of_rule.Goals as goal
@@ -18,5 +20,9 @@ loop-cell-preserved g c = one_cell_more (setting_in g.V.RowView.content c.args.s
 pub returns : goal.returns
 returns g c =
     let scene = c.args.self.now in
-    rule_gains scene.book.now (g.V.RowView.content scene.root.now) (sets_of scene.members.sets.items) c.args.rule c.deref-cell-items.result.now c.loop-cell.cell-index _ _
-    (c.deref-cell-items.ensures.value ∙ scene.members.all) c.loop-cell-test.false c.loop-cell.invariant
+    rule_gains scene.book.now (g.V.RowView.content scene.root.now) (sets_of scene.members.sets.items) c.args.rule c.deref-cell-items.result.now c.loop-cell.cell-index c.args.fresh.now _ _ _
+    (c.deref-cell-items.ensures.value ∙ scene.members.all) c.loop-cell-test.false
+    (subst (λ cells. Finds (setting_in g.V.RowView.content scene) true (IsInCells cells) c.args.fresh.now) scene.members.all c.requires.fresh) c.loop-cell.invariant c.in_ok-add_of_new_pairs.ensures
+
+pub add_of_new_pairs-requires-clause-fresh : goal.add_of_new_pairs-requires-clause-fresh
+add_of_new_pairs-requires-clause-fresh g c = c.requires.fresh.are

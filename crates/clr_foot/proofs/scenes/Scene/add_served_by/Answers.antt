@@ -1,7 +1,7 @@
-use Rattle.std.proofs.Common.{false, refl, subst, sym}
+use Rattle.std.proofs.Common.{refl, subst, sym}
 use Rattle.clr_grid.proofs.FilingLemmas.{on_err}
 use Rattle.clr_foot.specs.Scenes.{setting_in}
-use Rattle.clr_foot.specs.Touches.{IsNear}
+use Rattle.clr_foot.specs.Serving.{MayBeServed}
 use Rattle.clr_foot.specs.Versions.{AreAt, FindsAll, row_of}
 use Rattle.clr_foot.proofs.TouchSteps.{none_served_by, served_gains, some_served}
 use Rattle.clr_foot.proofs.Gaining.{none_gained}
@@ -18,7 +18,7 @@ pub returns-clause-ok : goal.returns-clause-ok
 returns-clause-ok g c =
     let s = setting_in g.V.RowView.content c.args.self.now in
     served_gains s c.args.rule c.args.server _ _ _ c.requires.at
-    (subst (FindsAll s (IsNear false s.rules c.args.rule (row_of c.args.server))) (sym c.as_slice.ensures.value) c.in_ok-near.ensures) c.in_ok-add_served.ensures.ok
+    (subst (FindsAll s (MayBeServed s.rules c.args.rule (row_of c.args.server))) (sym c.as_slice.ensures.value) c.in_ok-near.ensures) c.in_ok-add_served.ensures.ok
 
 pub returns-in_err-near-clause-err : goal.returns-in_err-near-clause-err
 returns-in_err-near-clause-err g c = on_err _ (none_gained _ _ _ refl)
@@ -27,4 +27,4 @@ pub returns-in_err-add_served-clause-err : goal.returns-in_err-add_served-clause
 returns-in_err-add_served-clause-err g c =
     let s = setting_in g.V.RowView.content c.args.self.now in
     on_err _ (some_served s c.args.rule c.args.server _ _ _ c.requires.at
-    (subst (FindsAll s (IsNear false s.rules c.args.rule (row_of c.args.server))) (sym c.as_slice.ensures.value) c.in_ok-near.ensures) c.in_err-add_served.ensures.err)
+    (subst (FindsAll s (MayBeServed s.rules c.args.rule (row_of c.args.server))) (sym c.as_slice.ensures.value) c.in_ok-near.ensures) c.in_err-add_served.ensures.err)

@@ -10,9 +10,9 @@ use Rattle.clr_foot.proofs.scenes.Scene.add_with.Goals as goal
 pub add_pairs-requires-clause-others : goal.add_pairs-requires-clause-others
 add_pairs-requires-clause-others g c = subst (AreAt (setting_in g.V.RowView.content c.args.self.now)) (sym c.as_slice.ensures.value) c.in_ok-near.ensures.are
 
-pub returns-then-not-is_of_two-clause-ok : goal.returns-then-not-is_of_two-clause-ok
-returns-then-not-is_of_two-clause-ok g c =
-    alone_gains (setting_in g.V.RowView.content c.args.self.now) c.args.rule c.args.version c.is_of_two.result _ _ c.requires.at c.is_of_two.ensures c.if-not-is_of_two.true c.in_ok-add_alone.ensures.ok
+pub returns-then-not-may_be_paired-clause-ok : goal.returns-then-not-may_be_paired-clause-ok
+returns-then-not-may_be_paired-clause-ok g c =
+    alone_gains (setting_in g.V.RowView.content c.args.self.now) c.args.rule c.args.version c.may_be_paired.result _ _ c.requires.at c.may_be_paired.ensures c.if-not-may_be_paired.true c.in_ok-add_alone.ensures.ok
 
 pub returns-clause-ok : goal.returns-clause-ok
 returns-clause-ok g c =

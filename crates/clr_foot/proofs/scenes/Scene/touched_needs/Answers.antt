@@ -1,7 +1,9 @@
-use Rattle.std.proofs.Common.{[], ◌≤◌, subst, sym, refl}
+use Rattle.std.proofs.Common.{[], ◌≤◌, subst, sym, refl, true}
 use Rattle.clr_foot.specs.Gains.{Gains}
 use Rattle.clr_needs.specs.Needs.{IsTouched}
 use Rattle.clr_foot.specs.Scenes.{setting_in}
+use Rattle.clr_foot.specs.Touches.{IsInCells}
+use Rattle.clr_foot.specs.Versions.{Finds}
 use Rattle.clr_needs.proofs.NeedOrder.{need_exact}
 use Rattle.clr_foot.proofs.Searches.{sets_of}
 use Rattle.clr_foot.proofs.TouchSteps.{IsTouchedBelow, all_touched, no_rule_yet, one_rule_more}
@@ -31,3 +33,9 @@ returns g c =
       ascending = c.put_in_order.ensures.ascending;
       exactly = λ n. (λ h. (added n).0 ((c.put_in_order.ensures.same n).0 h), λ t. (c.put_in_order.ensures.same n).1 ((added n).1 t));
     }
+
+pub add_of_rule-requires-clause-fresh : goal.add_of_rule-requires-clause-fresh
+add_of_rule-requires-clause-fresh g c =
+    let s = setting_in g.V.RowView.content c.args.self.now in
+    subst (Finds s true (IsInCells c.args.self.now.members.cells.items)) (sym c.as_slice-in-loop-rule.ensures.value)
+    (subst (λ cells. Finds s true (IsInCells cells) c.in_ok-fresh.fresh.items) c.as_slice.ensures.value c.in_ok-fresh.ensures)

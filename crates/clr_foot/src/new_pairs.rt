@@ -1,0 +1,225 @@
+//! The needs of two new versions. Parts of new rows are filed by their spots, one after another, and
+//! each is held against those that were filed before it and share a spot with it.
+
+ghost use Rattle.std.specs.Prelude.{◌≡◌, ◌<◌, ◌+◌, length, slice_get, MatchOption, None, Some, OnOk};
+ghost use Rattle.clr_foot.specs.Candidates.{IsNeedAmong, IsNeedOfPair};
+ghost use Rattle.clr_foot.specs.Gains.{Gains, OfSome};
+ghost use Rattle.clr_foot.specs.NewPairs.{AreFiledBefore, IsNeedAtPosition, IsNeedOfEntry, IsNeedOfParts, IsNeedOfTwo, IsNeedWithBefore, IsNeedWithPart, with_part};
+ghost use Rattle.clr_foot.specs.Scenes.{setting_in};
+ghost use Rattle.clr_foot.specs.Versions.{AreAt, FitsSetting, IsAt, row_of};
+
+use crate::candidates::are_opposed;
+use crate::scenes::Scene;
+use crate::versions::Version;
+use clr_grid::RowFinder;
+use clr_needs::Need;
+use clr_rows::RowView;
+use clr_rules::Ask;
+use clr_spot_maps::{FiledPart, SpotMap};
+use clr_spots::subject_spots;
+use std::alloc::AllocError;
+use std::cmp::Ordering;
+
+/// The version at a position, if there is one.
+fn version_at<'a>(versions: &[Version<'a>], position: usize) -> Option<Version<'a>>
+    ensures { MatchOption result (slice_get versions.now position ≡ None) (λ v. slice_get versions.now position ≡ Some v) }
+{
+    versions.get(position).copied()
+}
+
+impl<V: RowView, F: RowFinder> Scene<'_, V, F> {
+    /// Adds the need of a part of a version and a part of another one, in the order of their cells.
+    fn add_of_parts(
+        &self,
+        rule: u16,
+        one: Version,
+        part: u16,
+        other: Version,
+        other_part: u16,
+        needs: &mut Vec<Need>,
+    ) -> Result<(), AllocError>
+        requires number { rule < length self.now.book.now }
+        requires fit { FitsSetting (setting_in V.content self.now) }
+        requires one { IsAt (setting_in V.content self.now) one }
+        requires other { IsAt (setting_in V.content self.now) other }
+        ensures { OnOk result (Gains (IsNeedOfPair self.now.book.now rule None one.entry other.entry)
+            (IsNeedOfParts self.now.book.now rule one.entry part other.entry other_part) needs.old.items needs.new.items) }
+    {
+        if are_opposed(one.life, other.life) {
+            return Ok(());
+        }
+        match one.id.cell.cmp(&other.id.cell) {
+            Ordering::Less => {
+                let ask = Ask {
+                    rule,
+                    first_part: part,
+                    second_part: other_part,
+                };
+                self.add_of_ask(ask, None, one, other, needs)?
+            }
+            Ordering::Equal => {}
+            Ordering::Greater => {
+                let ask = Ask {
+                    rule,
+                    first_part: other_part,
+                    second_part: part,
+                };
+                self.add_of_ask(ask, None, other, one, needs)?
+            }
+        }
+        Ok(())
+    }
+
+    /// Adds the need of a part of a version and the part of an entry.
+    fn add_of_entry(
+        &self,
+        rule: u16,
+        fresh: &[Version],
+        one: Version,
+        part: u16,
+        entry: FiledPart,
+        needs: &mut Vec<Need>,
+    ) -> Result<(), AllocError>
+        requires number { rule < length self.now.book.now }
+        requires fit { FitsSetting (setting_in V.content self.now) }
+        requires fresh { AreAt (setting_in V.content self.now) fresh.now }
+        requires one { IsAt (setting_in V.content self.now) one }
+        ensures { OnOk result (Gains (IsNeedAmong self.now.book.now rule None one.entry fresh.now)
+            (IsNeedOfEntry self.now.book.now rule fresh.now one.entry part entry) needs.old.items needs.new.items) }
+    {
+        match version_at(fresh, entry.position) {
+            None => Ok(()),
+            Some(other) => {
+                self.add_of_parts(rule, one, part, other, entry.part, needs)?;
+                Ok(())
+            }
+        }
+    }
+
+    /// Adds the needs of a part of a version and the parts of some entries.
+    fn add_of_entries(
+        &self,
+        rule: u16,
+        fresh: &[Version],
+        one: Version,
+        part: u16,
+        entries: &[FiledPart],
+        needs: &mut Vec<Need>,
+    ) -> Result<(), AllocError>
+        requires number { rule < length self.now.book.now }
+        requires fit { FitsSetting (setting_in V.content self.now) }
+        requires fresh { AreAt (setting_in V.content self.now) fresh.now }
+        requires one { IsAt (setting_in V.content self.now) one }
+        ensures { OnOk result (Gains (IsNeedAmong self.now.book.now rule None one.entry fresh.now)
+            (OfSome (IsNeedOfEntry self.now.book.now rule fresh.now one.entry part) entries.now) needs.old.items needs.new.items) }
+    {
+        for entry in entries {
+            self.add_of_entry(rule, fresh, one, part, *entry, needs)?;
+        }
+        Ok(())
+    }
+
+    /// Adds the needs of a part of the version at a position and of versions before it, and files the
+    /// part.
+    fn add_of_part_at(
+        &self,
+        rule: u16,
+        fresh: &[Version],
+        position: usize,
+        one: Version,
+        part: u16,
+        filed: &mut SpotMap,
+        needs: &mut Vec<Need>,
+    ) -> Result<(), AllocError>
+        requires number { rule < length self.now.book.now }
+        requires fit { FitsSetting (setting_in V.content self.now) }
+        requires fresh { AreAt (setting_in V.content self.now) fresh.now }
+        requires one { IsAt (setting_in V.content self.now) one }
+        requires before { AreFiledBefore self.now.book.now rule fresh.now position filed.old }
+        ensures filed { OnOk result (filed.new ≡ with_part self.now.book.now rule filed.old position part (row_of one.entry)) }
+        ensures needs { OnOk result (Gains (IsNeedAmong self.now.book.now rule None one.entry fresh.now)
+            (IsNeedWithPart self.now.book.now rule fresh.now position one.entry part) needs.old.items needs.new.items) }
+    {
+        let spots = subject_spots(self.alloc, self.book, rule, part, one.as_held())?;
+        let mut beside = Vec::new(self.alloc);
+        filed.add_near(&spots, &mut beside)?;
+        self.add_of_entries(rule, fresh, one, part, beside.as_slice(), needs)?;
+        filed.file(self.alloc, FiledPart { position, part }, spots)?;
+        Ok(())
+    }
+
+    /// Adds the needs of the version at a position and of versions before it, and files its parts.
+    fn add_of_new(
+        &self,
+        rule: u16,
+        fresh: &[Version],
+        position: usize,
+        one: Version,
+        filed: &mut SpotMap,
+        needs: &mut Vec<Need>,
+    ) -> Result<(), AllocError>
+        requires number { rule < length self.now.book.now }
+        requires fit { FitsSetting (setting_in V.content self.now) }
+        requires fresh { AreAt (setting_in V.content self.now) fresh.now }
+        requires one { IsAt (setting_in V.content self.now) one }
+        requires at { slice_get fresh.now position ≡ Some one }
+        requires before { AreFiledBefore self.now.book.now rule fresh.now position filed.old }
+        ensures filed { OnOk result (AreFiledBefore self.now.book.now rule fresh.now (position + 1) filed.new) }
+        ensures needs { OnOk result (Gains (IsNeedAmong self.now.book.now rule None one.entry fresh.now)
+            (IsNeedWithBefore self.now.book.now rule fresh.now position one.entry) needs.old.items needs.new.items) }
+    {
+        if !self.may_be_paired(rule, one) {
+            return Ok(());
+        }
+        for part in 0..self.book.part_count(rule, one.as_held()) {
+            self.add_of_part_at(rule, fresh, position, one, part + 1, filed, needs)?;
+        }
+        Ok(())
+    }
+
+    /// Adds the needs of the version at a position, if there is one, and of versions before it, and
+    /// files its parts.
+    fn add_of_new_at(
+        &self,
+        rule: u16,
+        fresh: &[Version],
+        position: usize,
+        filed: &mut SpotMap,
+        needs: &mut Vec<Need>,
+    ) -> Result<(), AllocError>
+        requires number { rule < length self.now.book.now }
+        requires fit { FitsSetting (setting_in V.content self.now) }
+        requires fresh { AreAt (setting_in V.content self.now) fresh.now }
+        requires before { AreFiledBefore self.now.book.now rule fresh.now position filed.old }
+        ensures filed { OnOk result (AreFiledBefore self.now.book.now rule fresh.now (position + 1) filed.new) }
+        ensures needs { OnOk result (Gains (IsNeedOfTwo self.now.book.now rule fresh.now)
+            (IsNeedAtPosition self.now.book.now rule fresh.now position) needs.old.items needs.new.items) }
+    {
+        match version_at(fresh, position) {
+            None => Ok(()),
+            Some(one) => {
+                self.add_of_new(rule, fresh, position, one, filed, needs)?;
+                Ok(())
+            }
+        }
+    }
+
+    /// Adds the needs of two of some versions. It fails for want of memory alone.
+    pub(crate) fn add_of_new_pairs(
+        &self,
+        rule: u16,
+        fresh: &[Version],
+        needs: &mut Vec<Need>,
+    ) -> Result<(), AllocError>
+        requires number { rule < length self.now.book.now }
+        requires fit { FitsSetting (setting_in V.content self.now) }
+        requires fresh { AreAt (setting_in V.content self.now) fresh.now }
+        ensures { OnOk result (Gains (IsNeedOfTwo self.now.book.now rule fresh.now) (IsNeedOfTwo self.now.book.now rule fresh.now) needs.old.items needs.new.items) }
+    {
+        let mut filed = SpotMap::new(self.alloc);
+        for position in 0..fresh.len() {
+            self.add_of_new_at(rule, fresh, position, &mut filed, needs)?;
+        }
+        Ok(())
+    }
+}

@@ -1,0 +1,179 @@
+//! Rows by their spots.
+
+ghost use Rattle.std.specs.Prelude.{◌≡◌, ◌++◌, ◌∷◌, [], IsSome, OnErr, OnOk};
+ghost use Rattle.std.specs.BTreeMap.{get};
+ghost use Rattle.clr_spots.specs.SpotOrder.{spot_cmp};
+ghost use Rattle.clr_spots.specs.declared.spots.Spot.{Spot as OneSpot};
+ghost use Rattle.clr_rows.specs.Beginnings.{IsBegun};
+ghost use Rattle.clr_spot_maps.specs.Filing.{no_entries, entries_at, filed_at, filed_entry, near, HasMore, IsPartlyFiled};
+
+use clr_spots::{Spot, Spots};
+use std::alloc::{AllocError, Global};
+use std::collections::BTreeMap;
+use std::marker::Model;
+
+/// A row by its position in a list, and a part of it.
+#[derive(Clone, Copy, Debug, PartialEq, Eq, PartialOrd, Ord)]
+pub struct FiledPart {
+    pub position: usize,
+    pub part: u16,
+}
+
+/// The entries of one spot, in the order in which they are filed.
+#[derive(Drop)]
+struct EntryList {
+    list: Vec<FiledPart>,
+}
+
+impl Model for EntryList {
+    ghost use Rattle.std.specs.Prelude.{List};
+    ghost use Rattle.clr_spot_maps.specs.declared.spot_maps.FiledPart.{FiledPart as OnePart};
+
+    ghost Value = { List OnePart };
+
+    ghost view = { λ a. a.list.items };
+}
+
+impl EntryList {
+    fn new(alloc: Global) -> EntryList
+        ensures { result ≡ [] }
+    {
+        EntryList {
+            list: Vec::new(alloc),
+        }
+    }
+
+    fn push(&mut self, entry: FiledPart) -> Result<(), AllocError>
+        ensures ok { OnOk result (self.new ≡ self.old ++ entry ∷ []) }
+        ensures err { OnErr result (self.new ≡ self.old) }
+    {
+        self.list.push(entry)?;
+        Ok(())
+    }
+
+    fn as_slice(&self) -> &[FiledPart]
+        ensures { result.now ≡ self.now }
+    {
+        self.list.as_slice()
+    }
+}
+
+/// Files an entry at a spot that has entries.
+fn push_at(
+    by_spot: &mut BTreeMap<Spot, EntryList>,
+    spot: &Spot,
+    entry: FiledPart,
+) -> Result<(), AllocError>
+    requires { IsSome (get spot_cmp by_spot.old spot.now) }
+    ensures ok { OnOk result (HasMore spot.now entry (get spot_cmp by_spot.old) (get spot_cmp by_spot.new)) }
+    ensures err { OnErr result ((x : OneSpot) → get spot_cmp by_spot.new x ≡ get spot_cmp by_spot.old x) }
+{
+    if let Some(entries) = by_spot.get_mut(spot) {
+        entries.push(entry)?;
+    }
+    Ok(())
+}
+
+/// Entries by the spots of their rows in one role, those of wide rows, and all.
+#[derive(Drop)]
+pub struct SpotMap {
+    by_spot: BTreeMap<Spot, EntryList>,
+    wide: Vec<FiledPart>,
+    all: Vec<FiledPart>,
+}
+
+impl Model for SpotMap {
+    ghost use Rattle.std.specs.FinMap as finite;
+    ghost use Rattle.clr_spot_maps.specs.Filing.{Filed, coded_filed};
+
+    ghost Value = { Filed };
+
+    ghost coded = { coded_filed };
+
+    ghost view = { λ a. record { by_spot = finite.from_entries a.by_spot.entries; wide = a.wide.items; all = a.all.items } };
+}
+
+impl SpotMap {
+    /// A map without entries. It takes no memory.
+    pub fn new(alloc: Global) -> SpotMap
+        ensures { result ≡ no_entries }
+    {
+        SpotMap {
+            by_spot: BTreeMap::new(alloc),
+            wide: Vec::new(alloc),
+            all: Vec::new(alloc),
+        }
+    }
+
+    fn file_at(&mut self, alloc: Global, spot: Spot, entry: FiledPart) -> Result<(), AllocError>
+        ensures ok { OnOk result (self.new ≡ record self.old { by_spot = filed_at self.old.by_spot spot entry }) }
+        ensures err { OnErr result (self.new ≡ self.old) }
+    {
+        if self.by_spot.contains_key(&spot) {
+            push_at(&mut self.by_spot, &spot, entry)?;
+            return Ok(());
+        }
+        let mut entries = EntryList::new(alloc);
+        entries.push(entry)?;
+        self.by_spot.insert(spot, entries)?;
+        Ok(())
+    }
+
+    /// Files an entry at the spots of its row, or as that of a wide one. It fails for want of
+    /// memory alone; then all that was filed stays, and the entry may be filed at some of them.
+    pub fn file(&mut self, alloc: Global, entry: FiledPart, spots: Spots) -> Result<(), AllocError>
+        ensures ok { OnOk result (self.new ≡ filed_entry self.old entry spots.list spots.wide) }
+        ensures err { OnErr result (IsPartlyFiled self.old entry spots.list spots.wide self.new) }
+    {
+        self.all.push(entry)?;
+        if spots.wide {
+            self.wide.push(entry)?;
+        }
+        for spot in spots.list.into_vec() {
+            self.file_at(alloc, spot, entry)?;
+        }
+        Ok(())
+    }
+
+    /// The entries of a spot.
+    pub fn entries_at(&self, spot: &Spot) -> &[FiledPart]
+        ensures { result.now ≡ entries_at self.now.by_spot spot.now }
+    {
+        match self.by_spot.get(spot) {
+            Some(entries) => entries.as_slice(),
+            None => &[],
+        }
+    }
+
+    /// The entries of wide rows.
+    pub fn wide(&self) -> &[FiledPart]
+        ensures { result.now ≡ self.now.wide }
+    {
+        self.wide.as_slice()
+    }
+
+    /// All entries.
+    pub fn all(&self) -> &[FiledPart]
+        ensures { result.now ≡ self.now.all }
+    {
+        self.all.as_slice()
+    }
+
+    /// Adds the entries that may stand in a need with a row of these spots: all where it is wide,
+    /// and else those of its spots and the wide ones. It fails for want of memory alone; then what
+    /// stood in the list stands there, with the first of these behind it.
+    pub fn add_near(&self, spots: &Spots, list: &mut Vec<FiledPart>) -> Result<(), AllocError>
+        ensures ok { OnOk result (list.new.items ≡ list.old.items ++ near self.now spots.now.list spots.now.wide) }
+        ensures err { OnErr result (IsBegun list.old.items (near self.now spots.now.list spots.now.wide) list.new.items) }
+    {
+        if spots.wide {
+            list.extend_from_slice(self.all.as_slice())?;
+            return Ok(());
+        }
+        list.extend_from_slice(self.wide.as_slice())?;
+        for spot in spots.list.as_slice() {
+            list.extend_from_slice(self.entries_at(spot))?;
+        }
+        Ok(())
+    }
+}
