@@ -135,15 +135,23 @@ module _ (tables : List TableDef) (schema : schema_fault tables ≡ None) where
   cell_readable cell None fit = key_within cell.key (cell_parts tables cell fit).2
   cell_readable cell (Some row) fit = row_readable cell row fit
 
+  pub rows_readable : (content : Content) → FitsSchema tables content → AllByRecursion (λ n. IsReadable (has_paths tables n.table) n.key n.row) (named_rows tables content)
+  rows_readable content fits =
+      all_mapped (λ e. row_fault tables e.0 e.1 ≡ None) _ (named_row tables) (λ e fit. row_readable e.0 e.1 fit) (finite.entries content) (all_entries (λ q row. row_fault tables q row ≡ None) content fits)
+
+  pub cells_readable : (d : Differences) → FitsDifferences tables d → AllByRecursion (λ n. IsReadableOrGone (has_paths tables n.table) n.key n.row) (named_cells tables d)
+  cells_readable d fits =
+      all_mapped (λ e. put_fault tables e.0 e.1 ≡ None) _ (named_cell tables) (λ e fit. cell_readable e.0 e.1 fit) (finite.entries d) (all_entries (λ q row. put_fault tables q row ≡ None) d fits)
+
   pub rows_read : (content : Content) → FitsSchema tables content → each (named_row_of tables) (items_of (map named_row_data (named_rows tables content))) ≡ Ok (named_rows tables content)
   rows_read content fits =
       each_read (λ n. IsReadable (has_paths tables n.table) n.key n.row) (named_row_of tables) named_row_data (named_row_read tables) (named_rows tables content)
-      (all_mapped (λ e. row_fault tables e.0 e.1 ≡ None) _ (named_row tables) (λ e fit. row_readable e.0 e.1 fit) (finite.entries content) (all_entries (λ q row. row_fault tables q row ≡ None) content fits))
+      (rows_readable content fits)
 
   pub cells_read : (d : Differences) → FitsDifferences tables d → each (named_cell_of tables) (items_of (map named_cell_data (named_cells tables d))) ≡ Ok (named_cells tables d)
   cells_read d fits =
       each_read (λ n. IsReadableOrGone (has_paths tables n.table) n.key n.row) (named_cell_of tables) named_cell_data (named_cell_read tables) (named_cells tables d)
-      (all_mapped (λ e. put_fault tables e.0 e.1 ≡ None) _ (named_cell tables) (λ e fit. cell_readable e.0 e.1 fit) (finite.entries d) (all_entries (λ q row. put_fault tables q row ≡ None) d fits))
+      (cells_readable d fits)
 
   -- at their cells ---------------------------------------------------------------------------
 

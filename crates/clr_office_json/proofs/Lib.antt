@@ -1,7 +1,9 @@
 pub mod CellsRead
 pub mod ListsRead
+pub mod ListsWritten
 pub mod OfficesRead
 pub mod Plainness
 pub mod PutAgain
+pub mod Reread
 pub mod RulesRead
 pub mod WorkspacesRead

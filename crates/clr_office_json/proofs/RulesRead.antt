@@ -121,6 +121,9 @@ module _ (tables : List TableDef) where
   rule_within (rule.Crossing a b server) p = let f = and_parts _ _ p.filters in let g = and_parts _ _ f.1 in (side_within a f.0, (side_within b g.0, side_within server g.1))
   rule_within (rule.Near a b d) p = let f = and_parts _ _ p.filters in (side_within a f.0, (side_within b f.1, distance_within d p.distance))
 
+  pub rules_within : (rules : List Rule) → FitsBook tables rules → AllByRecursion IsRuleWithin (map (named_rule tables) rules)
+  rules_within rules book = all_mapped (Passes tables) IsRuleWithin (named_rule tables) rule_within rules (all_pass_in tables rules book)
+
 -- over the schema ----------------------------------------------------------------------------
 
 element_at : {A : Type 0} (xs : List A) (n : ℕ) → n < length xs → (x : A) × (slice_get xs n ≡ Some x)
@@ -193,5 +196,4 @@ module _ (tables : List TableDef) (schema : schema_fault tables ≡ None) where
 
 pub rules_read : (tables : List TableDef) (rules : List Rule) → FitsBook tables rules → each named_rule_of (items_of (map named_rule_data (map (named_rule tables) rules))) ≡ Ok (map (named_rule tables) rules)
 rules_read tables rules book =
-    each_read IsRuleWithin named_rule_of named_rule_data named_rule_read (map (named_rule tables) rules)
-    (all_mapped (Passes tables) IsRuleWithin (named_rule tables) (rule_within tables) rules (all_pass_in tables rules book))
+    each_read IsRuleWithin named_rule_of named_rule_data named_rule_read (map (named_rule tables) rules) (rules_within tables rules book)

@@ -1,74 +1,97 @@
-ghost use Rattle.std.specs.Prelude.{◌≡◌, None, Some, IfOk};
-ghost use Rattle.serde_json.specs.View.{view};
-ghost use Rattle.clr_office_json.specs.CellData.{coordinates_of, live_data, named_cell, named_cell_data, named_row, named_row_data, row_data, shape_data};
+ghost use Rattle.std.specs.Prelude.{◌≡◌, ◌++◌, IfOk, None, OnOk};
 ghost use Rattle.clr_rows.specs.Schemas.{name_of_table};
+ghost use Rattle.clr_office_json.specs.CellData.{coordinates_of, live_data, named_cell, named_cell_data, row_data, shape_data};
+ghost use Rattle.clr_office_json.specs.Tokens.{tokens_of};
 ghost use Rattle.clr_office_json.specs.Values.{list_data, number_data, value_data};
 
-use crate::names::value_json;
+use crate::json_texts::JsonText;
+use crate::names::write_value;
 use clr_rows::{CellId, Place, Row, Schema, Shape, Sheet, Value};
-use serde_json::{Value as Json, json};
-use std::alloc::{AllocError, Global};
+use std::alloc::AllocError;
 
-fn values_json(alloc: Global, values: &[Value]) -> Result<Json, AllocError>
-    ensures { IfOk result (λ json. view json ≡ list_data value_data values.now) }
+fn write_values(text: &mut JsonText, values: &[Value]) -> Result<(), AllocError>
+    ensures { OnOk result (text.new ≡ text.old ++ tokens_of (list_data value_data values.now)) }
 {
-    let mut list = Vec::new(alloc);
+    text.begin_array()?;
     for value in values {
-        list.push(value_json(alloc, value)?)?;
+        write_value(text, value)?;
     }
-    Ok(Json::Array(list))
+    text.end_array()
 }
 
-/// The coordinates of places, two numbers for each.
-fn coordinates_json(alloc: Global, places: &[Place]) -> Result<Json, AllocError>
-    ensures { IfOk result (λ json. view json ≡ list_data number_data (coordinates_of places.now)) }
+/// Writes the coordinates of places, two numbers for each.
+fn write_coordinates(text: &mut JsonText, places: &[Place]) -> Result<(), AllocError>
+    ensures { OnOk result (text.new ≡ text.old ++ tokens_of (list_data number_data (coordinates_of places.now))) }
 {
-    let mut list = Vec::new(alloc);
+    text.begin_array()?;
     for place in places {
-        list.push(Json::from(place.x))?;
-        list.push(Json::from(place.y))?;
+        text.number(place.x)?;
+        text.number(place.y)?;
     }
-    Ok(Json::Array(list))
+    text.end_array()
 }
 
-fn shape_json(alloc: Global, shape: &Shape) -> Result<Json, AllocError>
-    ensures { IfOk result (λ json. view json ≡ shape_data shape.now) }
+fn write_shape(text: &mut JsonText, shape: &Shape) -> Result<(), AllocError>
+    ensures { OnOk result (text.new ≡ text.old ++ tokens_of (shape_data shape.now)) }
 {
     match shape {
-        Shape::Bare => coordinates_json(alloc, &[]),
-        Shape::At(place) => coordinates_json(alloc, &[*place]),
-        Shape::Line(first, second) => coordinates_json(alloc, &[*first, *second]),
-        Shape::Chain(vertices) => coordinates_json(alloc, vertices.as_slice()),
+        Shape::Bare => write_coordinates(text, &[]),
+        Shape::At(place) => write_coordinates(text, &[*place]),
+        Shape::Line(first, second) => write_coordinates(text, &[*first, *second]),
+        Shape::Chain(vertices) => write_coordinates(text, vertices.as_slice()),
     }
 }
 
-/// A cell with its row as JSON. It fails for want of memory alone.
-pub fn row_json(alloc: Global, schema: &Schema, cell: CellId, row: &Row) -> Result<Json, AllocError>
-    ensures { IfOk result (λ json. view json ≡ row_data (name_of_table schema.now cell.table) cell.key row.now) }
+/// Writes a cell with its row.
+pub fn write_row(
+    text: &mut JsonText,
+    schema: &Schema,
+    cell: CellId,
+    row: &Row,
+) -> Result<(), AllocError>
+    ensures { OnOk result (text.new ≡ text.old ++ tokens_of (row_data (name_of_table schema.now cell.table) cell.key row.now)) }
 {
-    let key = cell.key;
-    let shape = shape_json(alloc, &row.shape)?;
-    let table = schema.name_of_table(cell.table);
-    let values = values_json(alloc, row.values.as_slice())?;
-    json!(in alloc; {"k": key, "s": shape, "t": table, "v": values})
+    text.begin_object()?;
+    text.key("k")?;
+    text.number(cell.key)?;
+    text.key("s")?;
+    write_shape(text, &row.shape)?;
+    text.key("t")?;
+    text.string(schema.name_of_table(cell.table))?;
+    text.key("v")?;
+    write_values(text, row.values.as_slice())?;
+    text.end_object()
 }
 
-/// A cell that is gone as JSON. It fails for want of memory alone.
-pub fn gone_json(alloc: Global, schema: &Schema, cell: CellId) -> Result<Json, AllocError>
-    ensures { IfOk result (λ json. view json ≡ named_cell_data (named_cell schema.now (cell, None))) }
+/// Writes a cell that is gone.
+pub fn write_gone(text: &mut JsonText, schema: &Schema, cell: CellId) -> Result<(), AllocError>
+    ensures { OnOk result (text.new ≡ text.old ++ tokens_of (named_cell_data (named_cell schema.now (cell, None)))) }
 {
-    let key = cell.key;
-    let table = schema.name_of_table(cell.table);
-    json!(in alloc; {"gone": true, "k": key, "t": table})
+    text.begin_object()?;
+    text.key("gone")?;
+    text.boolean(true)?;
+    text.key("k")?;
+    text.number(cell.key)?;
+    text.key("t")?;
+    text.string(schema.name_of_table(cell.table))?;
+    text.end_object()
 }
 
-/// The rows of LIVE as JSON, ascending by cell. It fails for want of memory alone.
-pub fn live_json(alloc: Global, schema: &Schema, live: &Sheet) -> Result<Json, AllocError>
-    ensures { IfOk result (λ json. view json ≡ live_data schema.now live.now) }
+fn write_live(text: &mut JsonText, schema: &Schema, live: &Sheet) -> Result<(), AllocError>
+    ensures { OnOk result (text.new ≡ text.old ++ tokens_of (live_data schema.now live.now)) }
 {
-    let mut list = Vec::new(alloc);
+    text.begin_array()?;
     for (cell, row) in live.iter() {
-        list.push(row_json(alloc, schema, *cell, row)?)?;
+        write_row(text, schema, *cell, row)?;
     }
-    Ok(Json::Array(list))
+    text.end_array()
+}
+
+/// A text with the rows of LIVE written at its end, ascending by cell. It fails for want of memory
+/// alone, and then the text is lost.
+pub fn with_live(mut text: JsonText, schema: &Schema, live: &Sheet) -> Result<JsonText, AllocError>
+    ensures { IfOk result (λ longer. longer ≡ text ++ tokens_of (live_data schema.now live.now)) }
+{
+    write_live(&mut text, schema, live)?;
+    Ok(text)
 }

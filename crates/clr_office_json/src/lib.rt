@@ -4,19 +4,23 @@
 //! - `office_text_is_read_back` and `office_text_is_plain`: what is written of a text whose rows
 //!   and rules fit, and whose workspaces stand behind their parents, is read as the same; it nests
 //!   at most 127 levels and has no floats.
-//! - `tables_json`, `rules_json`, `live_json` and `workspace_json`: exactly the JSON of the
+//! - `JsonText`: a text that is written token by token, with no value beside it; its bytes are read
+//!   as the same tokens.
+//! - `with_tables`, `with_rules`, `with_live` and `with_workspace`: exactly the tokens of the
 //!   definitions, memory aside.
 #![tactic(auto)]
 
 mod cells;
+mod json_texts;
 mod laws;
 mod names;
 mod rules;
 mod tables;
 mod workspaces;
 
-pub use cells::live_json;
+pub use cells::with_live;
+pub use json_texts::JsonText;
 pub use laws::{office_text_is_plain, office_text_is_read_back};
-pub use rules::rules_json;
-pub use tables::tables_json;
-pub use workspaces::workspace_json;
+pub use rules::with_rules;
+pub use tables::with_tables;
+pub use workspaces::with_workspace;

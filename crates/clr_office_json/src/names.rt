@@ -1,12 +1,12 @@
-ghost use Rattle.std.specs.Prelude.{◌≡◌, IfOk};
-ghost use Rattle.serde_json.specs.View.{view};
+ghost use Rattle.std.specs.Prelude.{◌≡◌, ◌++◌, OnOk};
 ghost use Rattle.clr_office_json.specs.RuleData.{name_of_column, name_of_number};
+ghost use Rattle.clr_office_json.specs.Tokens.{tokens_of};
 ghost use Rattle.clr_office_json.specs.Values.{value_data};
 
+use crate::json_texts::JsonText;
 use clr_rows::{KEY, Schema, Value};
 use clr_rules::Col;
-use serde_json::{Value as Json, json};
-use std::alloc::{AllocError, Global};
+use std::alloc::AllocError;
 
 /// The name of a column by its number, or no bytes where there is no such column.
 pub fn numbered_name(schema: &Schema, table: u16, number: u16) -> &str
@@ -31,12 +31,12 @@ pub fn column_name(schema: &Schema, table: u16, column: Col) -> &str
     }
 }
 
-/// A value as JSON. It fails for want of memory alone.
-pub fn value_json(alloc: Global, value: &Value) -> Result<Json, AllocError>
-    ensures { IfOk result (λ json. view json ≡ value_data value.now) }
+/// Writes a value.
+pub fn write_value(text: &mut JsonText, value: &Value) -> Result<(), AllocError>
+    ensures { OnOk result (text.new ≡ text.old ++ tokens_of (value_data value.now)) }
 {
     match value {
-        Value::Int(number) => Ok(Json::from(*number)),
-        Value::Words(text) => json!(in alloc; text.as_str()),
+        Value::Int(number) => text.number(*number),
+        Value::Words(words) => text.string(words.as_str()),
     }
 }

@@ -1,67 +1,70 @@
-ghost use Rattle.std.specs.Prelude.{◌≡◌, map, IfOk};
-ghost use Rattle.serde_json.specs.View.{view};
+ghost use Rattle.std.specs.Prelude.{◌≡◌, ◌++◌, map, IfOk, OnOk};
 ghost use Rattle.clr_rules.specs.declared.rules.Rule.TheVariants.{Unique, Partner, EndNode, Crossing, Near};
 ghost use Rattle.clr_office_json.specs.RuleData.{literal_data, name_of_number, named_columns, named_literal, named_rule, named_rule_data};
 ghost use Rattle.clr_office_json.specs.RuleData.{named_side, names_data, rules_data, side_data, tip_word};
+ghost use Rattle.clr_office_json.specs.Tokens.{tokens_of};
 ghost use Rattle.clr_office_json.specs.Values.{list_data};
 
-use crate::names::{column_name, numbered_name, value_json};
+use crate::json_texts::JsonText;
+use crate::names::{column_name, numbered_name, write_value};
 use clr_rows::{Schema, Value};
 use clr_rules::{Col, Rule, RuleBook, Side, Tip};
-use serde_json::{Value as Json, json};
-use std::alloc::{AllocError, Global};
+use std::alloc::AllocError;
 
-fn literal_json(
-    alloc: Global,
+fn write_literal(
+    text: &mut JsonText,
     schema: &Schema,
     table: u16,
     column: u16,
     value: &Value,
-) -> Result<Json, AllocError>
-    ensures { IfOk result (λ json. view json ≡ literal_data (name_of_number schema.now table column, value.now)) }
+) -> Result<(), AllocError>
+    ensures { OnOk result (text.new ≡ text.old ++ tokens_of (literal_data (name_of_number schema.now table column, value.now))) }
 {
-    let name = numbered_name(schema, table, column);
-    let value = value_json(alloc, value)?;
-    json!(in alloc; [name, value])
+    text.begin_array()?;
+    text.string(numbered_name(schema, table, column))?;
+    write_value(text, value)?;
+    text.end_array()
 }
 
-fn filter_json(
-    alloc: Global,
+fn write_filter(
+    text: &mut JsonText,
     schema: &Schema,
     table: u16,
     filter: &[(u16, Value)],
-) -> Result<Json, AllocError>
-    ensures { IfOk result (λ json. view json ≡ list_data literal_data (map (named_literal schema.now table) filter.now)) }
+) -> Result<(), AllocError>
+    ensures { OnOk result (text.new ≡ text.old ++ tokens_of (list_data literal_data (map (named_literal schema.now table) filter.now))) }
 {
-    let mut list = Vec::new(alloc);
+    text.begin_array()?;
     for (column, value) in filter {
-        list.push(literal_json(alloc, schema, table, *column, value)?)?;
+        write_literal(text, schema, table, *column, value)?;
     }
-    Ok(Json::Array(list))
+    text.end_array()
 }
 
-fn side_json(alloc: Global, schema: &Schema, side: &Side) -> Result<Json, AllocError>
-    ensures { IfOk result (λ json. view json ≡ side_data (named_side schema.now side.now)) }
+fn write_side(text: &mut JsonText, schema: &Schema, side: &Side) -> Result<(), AllocError>
+    ensures { OnOk result (text.new ≡ text.old ++ tokens_of (side_data (named_side schema.now side.now))) }
 {
-    let table = schema.name_of_table(side.table);
-    let filter = filter_json(alloc, schema, side.table, side.filter.as_slice())?;
-    json!(in alloc; {"table": table, "where": filter})
+    text.begin_object()?;
+    text.key("table")?;
+    text.string(schema.name_of_table(side.table))?;
+    text.key("where")?;
+    write_filter(text, schema, side.table, side.filter.as_slice())?;
+    text.end_object()
 }
 
-fn columns_json(
-    alloc: Global,
+fn write_columns(
+    text: &mut JsonText,
     schema: &Schema,
     side: &Side,
     columns: &[Col],
-) -> Result<Json, AllocError>
-    ensures { IfOk result (λ json. view json ≡ names_data (named_columns schema.now side.now columns.now)) }
+) -> Result<(), AllocError>
+    ensures { OnOk result (text.new ≡ text.old ++ tokens_of (names_data (named_columns schema.now side.now columns.now))) }
 {
-    let mut list = Vec::new(alloc);
+    text.begin_array()?;
     for column in columns {
-        let name = column_name(schema, side.table, *column);
-        list.push(json!(in alloc; name)?)?;
+        text.string(column_name(schema, side.table, *column))?;
     }
-    Ok(Json::Array(list))
+    text.end_array()
 }
 
 fn tip_text(tip: Tip) -> &'static str
@@ -73,88 +76,125 @@ fn tip_text(tip: Tip) -> &'static str
     }
 }
 
-fn unique_json(
-    alloc: Global,
+fn write_unique(
+    text: &mut JsonText,
     schema: &Schema,
     subject: &Side,
     columns: &[Col],
-) -> Result<Json, AllocError>
-    ensures { IfOk result (λ json. view json ≡ named_rule_data (named_rule schema.now (Unique subject.now columns.now))) }
+) -> Result<(), AllocError>
+    ensures { OnOk result (text.new ≡ text.old ++ tokens_of (named_rule_data (named_rule schema.now (Unique subject.now columns.now)))) }
 {
-    let columns = columns_json(alloc, schema, subject, columns)?;
-    let subject = side_json(alloc, schema, subject)?;
-    json!(in alloc; {"columns": columns, "kind": "UNIQUE", "subject": subject})
+    text.begin_object()?;
+    text.key("columns")?;
+    write_columns(text, schema, subject, columns)?;
+    text.key("kind")?;
+    text.string("UNIQUE")?;
+    text.key("subject")?;
+    write_side(text, schema, subject)?;
+    text.end_object()
 }
 
-fn partner_json(
-    alloc: Global,
+fn write_partner(
+    text: &mut JsonText,
     schema: &Schema,
     subject: &Side,
     columns: &[Col],
     server: &Side,
     server_columns: &[Col],
-) -> Result<Json, AllocError>
-    ensures { IfOk result (λ json. view json ≡ named_rule_data (named_rule schema.now (Partner subject.now columns.now server.now server_columns.now))) }
+) -> Result<(), AllocError>
+    ensures { OnOk result (text.new ≡ text.old ++ tokens_of (named_rule_data (named_rule schema.now (Partner subject.now columns.now server.now server_columns.now)))) }
 {
-    let columns = columns_json(alloc, schema, subject, columns)?;
-    let server_columns = columns_json(alloc, schema, server, server_columns)?;
-    let subject = side_json(alloc, schema, subject)?;
-    let server = side_json(alloc, schema, server)?;
-    json!(in alloc; {"columns": columns, "kind": "PARTNER", "server": server, "server_columns": server_columns, "subject": subject})
+    text.begin_object()?;
+    text.key("columns")?;
+    write_columns(text, schema, subject, columns)?;
+    text.key("kind")?;
+    text.string("PARTNER")?;
+    text.key("server")?;
+    write_side(text, schema, server)?;
+    text.key("server_columns")?;
+    write_columns(text, schema, server, server_columns)?;
+    text.key("subject")?;
+    write_side(text, schema, subject)?;
+    text.end_object()
 }
 
-fn end_node_json(
-    alloc: Global,
+fn write_end_node(
+    text: &mut JsonText,
     schema: &Schema,
     subject: &Side,
     tip: Tip,
     server: &Side,
-) -> Result<Json, AllocError>
-    ensures { IfOk result (λ json. view json ≡ named_rule_data (named_rule schema.now (EndNode subject.now tip server.now))) }
+) -> Result<(), AllocError>
+    ensures { OnOk result (text.new ≡ text.old ++ tokens_of (named_rule_data (named_rule schema.now (EndNode subject.now tip server.now)))) }
 {
-    let subject = side_json(alloc, schema, subject)?;
-    let server = side_json(alloc, schema, server)?;
-    let tip = tip_text(tip);
-    json!(in alloc; {"kind": "ENDNODE", "server": server, "subject": subject, "tip": tip})
+    text.begin_object()?;
+    text.key("kind")?;
+    text.string("ENDNODE")?;
+    text.key("server")?;
+    write_side(text, schema, server)?;
+    text.key("subject")?;
+    write_side(text, schema, subject)?;
+    text.key("tip")?;
+    text.string(tip_text(tip))?;
+    text.end_object()
 }
 
-fn crossing_json(
-    alloc: Global,
+fn write_crossing(
+    text: &mut JsonText,
     schema: &Schema,
     a: &Side,
     b: &Side,
     server: &Side,
-) -> Result<Json, AllocError>
-    ensures { IfOk result (λ json. view json ≡ named_rule_data (named_rule schema.now (Crossing a.now b.now server.now))) }
+) -> Result<(), AllocError>
+    ensures { OnOk result (text.new ≡ text.old ++ tokens_of (named_rule_data (named_rule schema.now (Crossing a.now b.now server.now)))) }
 {
-    let a = side_json(alloc, schema, a)?;
-    let b = side_json(alloc, schema, b)?;
-    let server = side_json(alloc, schema, server)?;
-    json!(in alloc; {"a": a, "b": b, "kind": "CROSSING", "server": server})
+    text.begin_object()?;
+    text.key("a")?;
+    write_side(text, schema, a)?;
+    text.key("b")?;
+    write_side(text, schema, b)?;
+    text.key("kind")?;
+    text.string("CROSSING")?;
+    text.key("server")?;
+    write_side(text, schema, server)?;
+    text.end_object()
 }
 
-fn near_json(alloc: Global, schema: &Schema, a: &Side, b: &Side, d: i64) -> Result<Json, AllocError>
-    ensures { IfOk result (λ json. view json ≡ named_rule_data (named_rule schema.now (Near a.now b.now d))) }
+fn write_near(
+    text: &mut JsonText,
+    schema: &Schema,
+    a: &Side,
+    b: &Side,
+    d: i64,
+) -> Result<(), AllocError>
+    ensures { OnOk result (text.new ≡ text.old ++ tokens_of (named_rule_data (named_rule schema.now (Near a.now b.now d)))) }
 {
-    let a = side_json(alloc, schema, a)?;
-    let b = side_json(alloc, schema, b)?;
-    json!(in alloc; {"a": a, "b": b, "d": d, "kind": "NEAR"})
+    text.begin_object()?;
+    text.key("a")?;
+    write_side(text, schema, a)?;
+    text.key("b")?;
+    write_side(text, schema, b)?;
+    text.key("d")?;
+    text.number(d)?;
+    text.key("kind")?;
+    text.string("NEAR")?;
+    text.end_object()
 }
 
-fn rule_json(alloc: Global, schema: &Schema, rule: &Rule) -> Result<Json, AllocError>
-    ensures { IfOk result (λ json. view json ≡ named_rule_data (named_rule schema.now rule.now)) }
+fn write_rule(text: &mut JsonText, schema: &Schema, rule: &Rule) -> Result<(), AllocError>
+    ensures { OnOk result (text.new ≡ text.old ++ tokens_of (named_rule_data (named_rule schema.now rule.now))) }
 {
     match rule {
         Rule::Unique { subject, columns } => {
-            unique_json(alloc, schema, subject, columns.as_slice())
+            write_unique(text, schema, subject, columns.as_slice())
         }
         Rule::Partner {
             subject,
             columns,
             server,
             server_columns,
-        } => partner_json(
-            alloc,
+        } => write_partner(
+            text,
             schema,
             subject,
             columns.as_slice(),
@@ -165,20 +205,31 @@ fn rule_json(alloc: Global, schema: &Schema, rule: &Rule) -> Result<Json, AllocE
             subject,
             tip,
             server,
-        } => end_node_json(alloc, schema, subject, *tip, server),
-        Rule::Crossing { a, b, server } => crossing_json(alloc, schema, a, b, server),
-        Rule::Near { a, b, d } => near_json(alloc, schema, a, b, *d),
+        } => write_end_node(text, schema, subject, *tip, server),
+        Rule::Crossing { a, b, server } => write_crossing(text, schema, a, b, server),
+        Rule::Near { a, b, d } => write_near(text, schema, a, b, *d),
     }
 }
 
-/// The rules of a book as JSON, in their order, with the names that the schema has for tables and
-/// columns. It fails for want of memory alone.
-pub fn rules_json(alloc: Global, schema: &Schema, book: &RuleBook) -> Result<Json, AllocError>
-    ensures { IfOk result (λ json. view json ≡ rules_data schema.now book.now) }
+fn write_rules(text: &mut JsonText, schema: &Schema, rules: &[Rule]) -> Result<(), AllocError>
+    ensures { OnOk result (text.new ≡ text.old ++ tokens_of (rules_data schema.now rules.now)) }
 {
-    let mut list = Vec::new(alloc);
-    for rule in book.rules() {
-        list.push(rule_json(alloc, schema, rule)?)?;
+    text.begin_array()?;
+    for rule in rules {
+        write_rule(text, schema, rule)?;
     }
-    Ok(Json::Array(list))
+    text.end_array()
+}
+
+/// A text with the rules of a book written at its end, in their order, with the names that the
+/// schema has for tables and columns. It fails for want of memory alone, and then the text is lost.
+pub fn with_rules(
+    mut text: JsonText,
+    schema: &Schema,
+    book: &RuleBook,
+) -> Result<JsonText, AllocError>
+    ensures { IfOk result (λ longer. longer ≡ text ++ tokens_of (rules_data schema.now book.now)) }
+{
+    write_rules(&mut text, schema, book.rules())?;
+    Ok(text)
 }

@@ -1,11 +1,11 @@
-ghost use Rattle.std.specs.Prelude.{◌≡◌, IfOk};
-ghost use Rattle.serde_json.specs.View.{view};
+ghost use Rattle.std.specs.Prelude.{◌≡◌, ◌++◌, IfOk, OnOk};
 ghost use Rattle.clr_office_json.specs.TableData.{column_data, form_word, kind_word, table_data};
+ghost use Rattle.clr_office_json.specs.Tokens.{tokens_of};
 ghost use Rattle.clr_office_json.specs.Values.{list_data};
 
+use crate::json_texts::JsonText;
 use clr_rows::{Form, Kind, Schema, TableDef, Words};
-use serde_json::{Value as Json, json};
-use std::alloc::{AllocError, Global};
+use std::alloc::AllocError;
 
 fn kind_text(kind: Kind) -> &'static str
     ensures { result.now ≡ kind_word kind }
@@ -27,40 +27,53 @@ fn form_text(form: Form) -> &'static str
     }
 }
 
-fn column_json(alloc: Global, column: &(Words, Kind)) -> Result<Json, AllocError>
-    ensures { IfOk result (λ json. view json ≡ column_data column.now) }
+fn write_column(text: &mut JsonText, column: &(Words, Kind)) -> Result<(), AllocError>
+    ensures { OnOk result (text.new ≡ text.old ++ tokens_of (column_data column.now)) }
 {
-    let name = column.0.as_str();
-    let kind = kind_text(column.1);
-    json!(in alloc; [name, kind])
+    text.begin_array()?;
+    text.string(column.0.as_str())?;
+    text.string(kind_text(column.1))?;
+    text.end_array()
 }
 
-fn columns_json(alloc: Global, columns: &[(Words, Kind)]) -> Result<Json, AllocError>
-    ensures { IfOk result (λ json. view json ≡ list_data column_data columns.now) }
+fn write_columns(text: &mut JsonText, columns: &[(Words, Kind)]) -> Result<(), AllocError>
+    ensures { OnOk result (text.new ≡ text.old ++ tokens_of (list_data column_data columns.now)) }
 {
-    let mut list = Vec::new(alloc);
+    text.begin_array()?;
     for column in columns {
-        list.push(column_json(alloc, column)?)?;
+        write_column(text, column)?;
     }
-    Ok(Json::Array(list))
+    text.end_array()
 }
 
-fn table_json(alloc: Global, table: &TableDef) -> Result<Json, AllocError>
-    ensures { IfOk result (λ json. view json ≡ table_data table.now) }
+fn write_table(text: &mut JsonText, table: &TableDef) -> Result<(), AllocError>
+    ensures { OnOk result (text.new ≡ text.old ++ tokens_of (table_data table.now)) }
 {
-    let name = table.name.as_str();
-    let columns = columns_json(alloc, table.columns.as_slice())?;
-    let shape = form_text(table.shape);
-    json!(in alloc; {"columns": columns, "name": name, "shape": shape})
+    text.begin_object()?;
+    text.key("columns")?;
+    write_columns(text, table.columns.as_slice())?;
+    text.key("name")?;
+    text.string(table.name.as_str())?;
+    text.key("shape")?;
+    text.string(form_text(table.shape))?;
+    text.end_object()
 }
 
-/// The tables of a schema as JSON, in their order. It fails for want of memory alone.
-pub fn tables_json(alloc: Global, schema: &Schema) -> Result<Json, AllocError>
-    ensures { IfOk result (λ json. view json ≡ list_data table_data schema.now) }
+fn write_tables(text: &mut JsonText, tables: &[TableDef]) -> Result<(), AllocError>
+    ensures { OnOk result (text.new ≡ text.old ++ tokens_of (list_data table_data tables.now)) }
 {
-    let mut list = Vec::new(alloc);
-    for table in schema.tables() {
-        list.push(table_json(alloc, table)?)?;
+    text.begin_array()?;
+    for table in tables {
+        write_table(text, table)?;
     }
-    Ok(Json::Array(list))
+    text.end_array()
+}
+
+/// A text with the tables of a schema written at its end, in their order. It fails for want of
+/// memory alone, and then the text is lost.
+pub fn with_tables(mut text: JsonText, schema: &Schema) -> Result<JsonText, AllocError>
+    ensures { IfOk result (λ longer. longer ≡ text ++ tokens_of (list_data table_data schema.now)) }
+{
+    write_tables(&mut text, schema.tables())?;
+    Ok(text)
 }

@@ -1,85 +1,125 @@
-ghost use Rattle.std.specs.Prelude.{◌≡◌, IfOk};
+ghost use Rattle.std.specs.Prelude.{◌≡◌, ◌++◌, IfOk, OnOk};
 ghost use Rattle.std.specs.Option.{option_copied};
-ghost use Rattle.serde_json.specs.View.{view};
+ghost use Rattle.clr_layers.specs.declared.stored_marks.StoredMark.TheVariants.{Child, Saved};
 ghost use Rattle.clr_office_json.specs.CellData.{differences_data, named_cell, named_cell_data};
+ghost use Rattle.clr_office_json.specs.Tokens.{tokens_of};
 ghost use Rattle.clr_office_json.specs.WorkspaceData.{layer_data, marks_data, named_mark, named_mark_data};
 
-use crate::cells::{gone_json, row_json};
+use crate::cells::{write_gone, write_row};
+use crate::json_texts::JsonText;
 use clr_differences::Differences;
 use clr_layers::{LayerView, StoredMark};
 use clr_rows::{CellId, Row, Schema};
-use serde_json::{Value as Json, json};
-use std::alloc::{AllocError, Global};
+use std::alloc::AllocError;
 
-fn cell_json(
-    alloc: Global,
+fn write_cell(
+    text: &mut JsonText,
     schema: &Schema,
     cell: CellId,
     row: Option<&Row>,
-) -> Result<Json, AllocError>
-    ensures { IfOk result (λ json. view json ≡ named_cell_data (named_cell schema.now (cell, option_copied row.entry))) }
+) -> Result<(), AllocError>
+    ensures { OnOk result (text.new ≡ text.old ++ tokens_of (named_cell_data (named_cell schema.now (cell, option_copied row.entry)))) }
 {
     match row {
-        Some(row) => row_json(alloc, schema, cell, row),
-        None => gone_json(alloc, schema, cell),
+        Some(row) => write_row(text, schema, cell, row),
+        None => write_gone(text, schema, cell),
     }
 }
 
-/// Each cell of differences, ascending.
-fn differences_json(
-    alloc: Global,
+/// Writes each cell of differences, ascending.
+fn write_differences(
+    text: &mut JsonText,
     schema: &Schema,
     differences: &Differences,
-) -> Result<Json, AllocError>
-    ensures { IfOk result (λ json. view json ≡ differences_data schema.now differences.now) }
+) -> Result<(), AllocError>
+    ensures { OnOk result (text.new ≡ text.old ++ tokens_of (differences_data schema.now differences.now)) }
 {
-    let mut list = Vec::new(alloc);
+    text.begin_array()?;
     for (cell, row) in differences.iter() {
-        list.push(cell_json(alloc, schema, *cell, row.as_ref())?)?;
+        write_cell(text, schema, *cell, row.as_ref())?;
     }
-    Ok(Json::Array(list))
+    text.end_array()
 }
 
-fn mark_json(alloc: Global, schema: &Schema, mark: &StoredMark) -> Result<Json, AllocError>
-    ensures { IfOk result (λ json. view json ≡ named_mark_data (named_mark schema.now mark.now)) }
+fn write_savepoint(
+    text: &mut JsonText,
+    schema: &Schema,
+    name: &str,
+    differences: &Differences,
+) -> Result<(), AllocError>
+    ensures { OnOk result (text.new ≡ text.old ++ tokens_of (named_mark_data (named_mark schema.now (Saved name.now differences.now)))) }
+{
+    text.begin_object()?;
+    text.key("rows")?;
+    write_differences(text, schema, differences)?;
+    text.key("savepoint")?;
+    text.string(name)?;
+    text.end_object()
+}
+
+fn write_child(text: &mut JsonText, schema: &Schema, name: &str) -> Result<(), AllocError>
+    ensures { OnOk result (text.new ≡ text.old ++ tokens_of (named_mark_data (named_mark schema.now (Child name.now)))) }
+{
+    text.begin_object()?;
+    text.key("child")?;
+    text.string(name)?;
+    text.end_object()
+}
+
+fn write_mark(text: &mut JsonText, schema: &Schema, mark: &StoredMark) -> Result<(), AllocError>
+    ensures { OnOk result (text.new ≡ text.old ++ tokens_of (named_mark_data (named_mark schema.now mark.now))) }
 {
     match mark {
         StoredMark::Saved(name, differences) => {
-            let rows = differences_json(alloc, schema, differences)?;
-            let name = name.as_str();
-            json!(in alloc; {"rows": rows, "savepoint": name})
+            write_savepoint(text, schema, name.as_str(), differences)
         }
-        StoredMark::Child(name) => {
-            let name = name.as_str();
-            json!(in alloc; {"child": name})
-        }
+        StoredMark::Child(name) => write_child(text, schema, name.as_str()),
     }
 }
 
-fn marks_json(alloc: Global, schema: &Schema, marks: &[StoredMark]) -> Result<Json, AllocError>
-    ensures { IfOk result (λ json. view json ≡ marks_data schema.now marks.now) }
+fn write_marks(text: &mut JsonText, schema: &Schema, marks: &[StoredMark]) -> Result<(), AllocError>
+    ensures { OnOk result (text.new ≡ text.old ++ tokens_of (marks_data schema.now marks.now)) }
 {
-    let mut list = Vec::new(alloc);
+    text.begin_array()?;
     for mark in marks {
-        list.push(mark_json(alloc, schema, mark)?)?;
+        write_mark(text, schema, mark)?;
     }
-    Ok(Json::Array(list))
+    text.end_array()
 }
 
-/// A workspace as JSON by what is stored of it: the differences of its base, of its rows and of its
-/// savepoints, its marks in their order, and its flag. It fails for want of memory alone.
-pub fn workspace_json(
-    alloc: Global,
+fn write_workspace(
+    text: &mut JsonText,
     schema: &Schema,
     layer: &LayerView<'_>,
-) -> Result<Json, AllocError>
-    ensures { IfOk result (λ json. view json ≡ layer_data schema.now layer.now) }
+) -> Result<(), AllocError>
+    ensures { OnOk result (text.new ≡ text.old ++ tokens_of (layer_data schema.now layer.now)) }
 {
-    let base = differences_json(alloc, schema, layer.base())?;
-    let kept = layer.is_kept();
-    let marks = marks_json(alloc, schema, layer.marks())?;
-    let name = layer.name();
-    let parent = layer.parent();
-    let rows = differences_json(alloc, schema, layer.current())?;
-    json!(in alloc; {"base": base, "kept": kept, "marks": marks, "name": name, "parent": parent, "rows": rows})
+    text.begin_object()?;
+    text.key("base")?;
+    write_differences(text, schema, layer.base())?;
+    text.key("kept")?;
+    text.boolean(layer.is_kept())?;
+    text.key("marks")?;
+    write_marks(text, schema, layer.marks())?;
+    text.key("name")?;
+    text.string(layer.name())?;
+    text.key("parent")?;
+    text.string(layer.parent())?;
+    text.key("rows")?;
+    write_differences(text, schema, layer.current())?;
+    text.end_object()
+}
+
+/// A text with a workspace written at its end by what is stored of it: the differences of its base,
+/// of its rows and of its savepoints, its marks in their order, and its flag. It fails for want of
+/// memory alone, and then the text is lost.
+pub fn with_workspace(
+    mut text: JsonText,
+    schema: &Schema,
+    layer: &LayerView<'_>,
+) -> Result<JsonText, AllocError>
+    ensures { IfOk result (λ longer. longer ≡ text ++ tokens_of (layer_data schema.now layer.now)) }
+{
+    write_workspace(&mut text, schema, layer)?;
+    Ok(text)
 }

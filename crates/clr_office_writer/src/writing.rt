@@ -1,57 +1,66 @@
-ghost use Rattle.std.specs.Prelude.{◌≡◌, Some, Ok, map, IfOk};
-ghost use Rattle.serde_json.specs.View.{view};
+ghost use Rattle.std.specs.Prelude.{◌≡◌, ◌++◌, Some, Ok, map, IfOk};
 ghost use Rattle.clr_workspaces.specs.Workspaces.{Workspace as OneWorkspace};
 ghost use Rattle.clr_engine.specs.Drafts.{layer_in, part_at};
 ghost use Rattle.clr_office_json.specs.OfficeData.{office_data};
+ghost use Rattle.clr_office_json.specs.Tokens.{tokens_of};
 ghost use Rattle.clr_office_json.specs.Values.{list_data};
 ghost use Rattle.clr_office_json.specs.WorkspaceData.{layer_data};
 ghost use Rattle.clr_drafts.specs.Drafts.{draft_in};
 ghost use Rattle.clr_office_writer.specs.Writing.{text_of, bytes_of};
 
 use clr_engine::Office;
-use clr_office_json::{live_json, rules_json, tables_json, workspace_json};
-use serde_json::{Value as Json, json};
+use clr_office_json::{JsonText, with_live, with_rules, with_tables, with_workspace};
 use std::alloc::{AllocError, Global};
 
-/// The workspace at a position in order of creation, LIVE having position 0, as JSON.
-fn json_at(alloc: Global, office: &Office, position: usize) -> Result<Json, AllocError>
-    ensures { IfOk result (λ json. (w : OneWorkspace) → part_at office.now position ≡ Some w
-        → view json ≡ layer_data office.now.schema (layer_in office.now w)) }
+/// A text with the workspace at a position in order of creation written at its end, LIVE having
+/// position 0.
+fn with_workspace_at(
+    text: JsonText,
+    office: &Office,
+    position: usize,
+) -> Result<JsonText, AllocError>
+    ensures { IfOk result (λ longer. (w : OneWorkspace) → part_at office.now position ≡ Some w
+        → longer ≡ text ++ tokens_of (layer_data office.now.schema (layer_in office.now w))) }
 {
     match office.layer(position) {
-        Some(layer) => workspace_json(alloc, office.schema(), &layer),
-        None => Ok(Json::Null),
+        Some(layer) => with_workspace(text, office.schema(), &layer),
+        None => Ok(text),
     }
 }
 
-/// The workspaces below LIVE as JSON, in order of creation.
-fn json_of_each(alloc: Global, office: &Office) -> Result<Vec<Json>, AllocError>
-    ensures { IfOk result (λ list. map (λ json. view json) list.items ≡ map (layer_data office.now.schema) (map (layer_in office.now) office.now.workspaces)) }
+/// A text with the workspaces below LIVE written at its end, in order of creation.
+fn with_workspaces(mut text: JsonText, office: &Office) -> Result<JsonText, AllocError>
+    ensures { IfOk result (λ longer. longer ≡ text ++ tokens_of (list_data (layer_data office.now.schema) (map (layer_in office.now) office.now.workspaces))) }
 {
-    let mut list = Vec::new(alloc);
+    text.begin_array()?;
     let count = office.len() - 1;
     for position in 0..count {
-        list.push(json_at(alloc, office, position + 1)?)?;
+        text = with_workspace_at(text, office, position + 1)?;
     }
-    Ok(list)
+    text.end_array()?;
+    Ok(text)
 }
 
-fn workspaces_json(alloc: Global, office: &Office) -> Result<Json, AllocError>
-    ensures { IfOk result (λ json. view json ≡ list_data (layer_data office.now.schema) (map (layer_in office.now) office.now.workspaces)) }
-{
-    Ok(Json::Array(json_of_each(alloc, office)?))
-}
-
+/// The text of an office.
 #[tactic(auto, unfolding(clr_office_json::specs::OfficeData::office_data))]
-fn office_json(alloc: Global, office: &Office) -> Result<Json, AllocError>
-    ensures { IfOk result (λ json. view json ≡ office_data (text_of office.now)) }
+fn office_text(alloc: Global, office: &Office) -> Result<JsonText, AllocError>
+    ensures { IfOk result (λ text. text ≡ tokens_of (office_data (text_of office.now))) }
 {
     let schema = office.schema();
-    let live = live_json(alloc, schema, office.live())?;
-    let rules = rules_json(alloc, schema, office.book())?;
-    let tables = tables_json(alloc, schema)?;
-    let workspaces = workspaces_json(alloc, office)?;
-    json!(in alloc; {"format": 3, "live": live, "rules": rules, "tables": tables, "workspaces": workspaces})
+    let mut text = JsonText::new(alloc)?;
+    text.begin_object()?;
+    text.key("format")?;
+    text.number(3)?;
+    text.key("live")?;
+    text = with_live(text, schema, office.live())?;
+    text.key("rules")?;
+    text = with_rules(text, schema, office.book())?;
+    text.key("tables")?;
+    text = with_tables(text, schema)?;
+    text.key("workspaces")?;
+    text = with_workspaces(text, office)?;
+    text.end_object()?;
+    Ok(text)
 }
 
 /// The text of an office: JSON of format 3, compact, with every key of that format and the keys of
@@ -66,6 +75,6 @@ pub fn write_office(alloc: Global, office: &Office) -> Result<Vec<u8>, AllocErro
 {
     let _sound = office.schema().tables();
     let _standing = office.len();
-    let json = office_json(alloc, office)?;
-    json.to_vec(alloc)
+    let text = office_text(alloc, office)?;
+    Ok(text.into_bytes())
 }

@@ -1,7 +1,0 @@
-use Rattle.std.proofs.Common.{◌≡◌, map, take}
-use Rattle.serde_json.specs.View.{view}
-use Rattle.clr_office_json.specs.TableData.{column_data}
-use Rattle.clr_office_json.proofs.tables.columns_json.Given as goal
-
-abbrev pub invariant-loop-column : goal.invariant-loop-column
-invariant-loop-column l = map view l.list.items ≡ map column_data (take l.column-index l.columns)
