@@ -6,11 +6,11 @@ use Rattle.std.proofs.lemmas.Grind.{flat_map-append}
 use Rattle.std.proofs.lemmas.List.{take-append-drop}
 use Rattle.clr_rules.specs.declared.roles.Roles.{Roles}
 use Rattle.clr_spots.specs.declared.spots.Spot.{Spot}
-use Rattle.clr_audit.specs.declared.spot_maps.FiledPart.{FiledPart}
+use Rattle.clr_spot_maps.specs.declared.spot_maps.FiledPart.{FiledPart}
 use Rattle.clr_audit.specs.declared.role_index.RoleIndex.{RoleIndex}
 use Rattle.clr_rows.specs.Beginnings.{IsBegun}
 use Rattle.clr_rows.proofs.BeginningLaws.{all_begun, none_begun, some_begun, then_begun}
-use Rattle.clr_audit.specs.Filing.{Filed, entries_at, near}
+use Rattle.clr_spot_maps.specs.Filing.{near}
 use Rattle.clr_audit.specs.RoleFiling.{partners}
 
 -- what holds, holds after an error
@@ -31,15 +31,6 @@ module _ {X Y : Type 0} (f : Y → List X) where
 
   pub flat_begun : (old mid new : List X) (ys : List Y) (k : ℕ) → mid ≡ old ++ flat_map f (take k ys) → new ≡ mid → IsBegun old (flat_map f ys) new
   flat_begun old mid new ys k is same = some_begun old (flat_map f ys) new (flat_map f (take k ys)) (flat_map f (drop k ys)) (same ∙ is) (flat_parts ys k)
-
--- the wide entries and those of the first spots were added
-pub near_begun : (m : Filed) (xs : List Spot) (wide : Bool) (old mid new : List FiledPart) (k : ℕ) → wide ≡ false
-    → mid ≡ (old ++ m.wide) ++ flat_map (entries_at m.by_spot) (take k xs) → new ≡ mid → IsBegun old (near m xs wide) new
-near_begun m xs wide old mid new k few is same =
-    subst (λ b. IsBegun old (cond b m.all (m.wide ++ flat_map (entries_at m.by_spot) xs)) new) (sym few)
-    (some_begun old (m.wide ++ flat_map (entries_at m.by_spot) xs) new (m.wide ++ flat_map (entries_at m.by_spot) (take k xs)) (flat_map (entries_at m.by_spot) (drop k xs))
-    (same ∙ is ∙ append_assoc old m.wide (flat_map (entries_at m.by_spot) (take k xs)))
-    (ap (λ es. m.wide ++ es) (flat_parts (entries_at m.by_spot) xs k) ∙ sym (append_assoc m.wide (flat_map (entries_at m.by_spot) (take k xs)) (flat_map (entries_at m.by_spot) (drop k xs)))))
 
 -- the subjects that may stand beside a row: of three maps, one after another
 module _ (index : RoleIndex) (roles : Roles) (xs : List Spot) (wide : Bool) (old : List FiledPart) where

@@ -22,14 +22,18 @@ use Rattle.clr_spots.proofs.RoleLaws.{alone_parts, first_part_there, second_part
 use Rattle.clr_spots.proofs.SharedSpots.{Common}
 use Rattle.clr_audit.specs.declared.role_index.RoleIndex.{RoleIndex}
 use Rattle.clr_audit.specs.declared.searching.Search.{Search}
-use Rattle.clr_audit.specs.declared.spot_maps.FiledPart.{FiledPart}
+use Rattle.clr_spot_maps.specs.declared.spot_maps.FiledPart.{FiledPart}
 use Rattle.clr_rows.specs.Beginnings.{IsBegun}
-use Rattle.clr_audit.specs.Filing.{near}
+use Rattle.clr_spot_maps.specs.Filing.{Filed, IsFiled, near}
 use Rattle.clr_audit.specs.RoleFiling.{filed_rows, no_rows_filed, partners}
 use Rattle.clr_audit.specs.Searches.{serves_if, serves_at, need_if_broken, need_with, need_beside, IsBeside, IsBrokenAmong, Gains, GainsSome, IsAlone, IsOfPart, IsOfRow, IsPaired}
-use Rattle.clr_audit.proofs.Filed.{found_near}
+use Rattle.clr_spot_maps.proofs.Filed.{found_near}
 use Rattle.clr_audit.proofs.Gaining.{gains_begun, gains_listed, gains_none, gains_more}
 use Rattle.clr_audit.proofs.RoleFiled.{IsRowFiled, IsSubjectFiled, entry, rows_filed}
+
+-- an entry that is filed where a row may stand beside it is among those near that row
+found_among : (m : Filed) (e : FiledPart) (xs ys : List Spot) → IsFiled m e ys → Common xs ys → Among e (near m (unless_many xs) (are_many xs))
+found_among m e xs ys h w = among e (near m (unless_many xs) (are_many xs)) (found_near m e xs ys h w)
 
 -- lists by position ----------------------------------------------------------------------------
 placed : (t : Held) (rows : List Held) → Among t rows → (k : ℕ) × (slice_get rows k ≡ Some t)
@@ -86,7 +90,7 @@ served_alike search spots part other s t ready called =
     (λ f. let (r, h, g) = some_of (serves rules ask s t) rows f in
     let (k, at) = placed r rows h in
     let filed = (row_filed search spots part s ready k r at).server (server_role rules ask s t r g) in
-    let found : Among (entry k 1) (near servers (unless_many xs) (are_many xs)) = found_near servers (entry k 1) xs (server_spots_under rules n r) filed (servers_meet rules ask s t r called g) in
+    let found : Among (entry k 1) (near servers (unless_many xs) (are_many xs)) = found_among servers (entry k 1) xs (server_spots_under rules n r) filed (servers_meet rules ask s t r called g) in
     let here : Among (entry k 1) (near servers spots.list spots.wide) =
     subst (λ (ys : List Spot). Among (entry k 1) (near servers ys spots.wide)) (sym ready.list) (subst (λ (b : Bool). Among (entry k 1) (near servers (unless_many xs) b)) (sym ready.wide) found) in
     any_by (serves_at rules ask rows s t) (entry k 1) (near servers spots.list spots.wide) here (ap (serves_if rules ask s t) at ∙ g))
@@ -187,14 +191,14 @@ beside_broken search spots part s ready listed es b h =
 partner_found : (index : RoleIndex) (roles others : Roles) (e : FiledPart) (xs ys : List Spot) → IsSubjectFiled index others e ys → Common xs ys
     → ((roles.first ≡ true) × (others.second ≡ true)) ⊎ ((others.first ≡ true) × (roles.second ≡ true)) → Among e (partners index roles (unless_many xs) (are_many xs))
 partner_found index roles others e xs ys filed common (inl h) = elim (cases_Bool others.first) [
-  | inl both ↦ among_left e _ _ (found_near index.boths e xs ys (filed.both both h.1) common)
+  | inl both ↦ among_left e _ _ (found_among index.boths e xs ys (filed.both both h.1) common)
   | inr alone ↦ among_right e (near index.boths (unless_many xs) (are_many xs)) _ (among_right e (cond roles.second (near index.firsts (unless_many xs) (are_many xs)) []) _
-      (subst (λ (b : Bool). Among e (cond b (near index.seconds (unless_many xs) (are_many xs)) [])) (sym h.0) (found_near index.seconds e xs ys (filed.second alone h.1) common)))
+      (subst (λ (b : Bool). Among e (cond b (near index.seconds (unless_many xs) (are_many xs)) [])) (sym h.0) (found_among index.seconds e xs ys (filed.second alone h.1) common)))
 ]
 partner_found index roles others e xs ys filed common (inr h) = elim (cases_Bool others.second) [
-  | inl both ↦ among_left e _ _ (found_near index.boths e xs ys (filed.both h.0 both) common)
+  | inl both ↦ among_left e _ _ (found_among index.boths e xs ys (filed.both h.0 both) common)
   | inr alone ↦ among_right e (near index.boths (unless_many xs) (are_many xs)) _ (among_left e (cond roles.second (near index.firsts (unless_many xs) (are_many xs)) []) _
-      (subst (λ (b : Bool). Among e (cond b (near index.firsts (unless_many xs) (are_many xs)) [])) (sym h.1) (found_near index.firsts e xs ys (filed.first h.0 alone) common)))
+      (subst (λ (b : Bool). Among e (cond b (near index.firsts (unless_many xs) (are_many xs)) [])) (sym h.1) (found_among index.firsts e xs ys (filed.first h.0 alone) common)))
 ]
 
 pair_found : (search : Search) (spots : Spots) (part other : ℕ) (s : Held) (roles : Roles) (es : List FiledPart) → IsReady search spots part s → roles ≡ roles_under search.book.now search.rule s

@@ -10,10 +10,10 @@ use Rattle.clr_spots.specs.RoleSpots.{subject_spots_under, server_spots_under}
 use Rattle.clr_rows.specs.Held.{Held}
 use Rattle.clr_spots.specs.Spots.{unless_many, are_many}
 use Rattle.clr_audit.specs.declared.role_index.RoleIndex.{RoleIndex}
-use Rattle.clr_audit.specs.declared.spot_maps.FiledPart.{FiledPart}
-use Rattle.clr_audit.specs.Filing.{Filed, filed_entry}
+use Rattle.clr_spot_maps.specs.declared.spot_maps.FiledPart.{FiledPart}
+use Rattle.clr_spot_maps.specs.Filing.{Filed, IsFiled, filed_entry}
 use Rattle.clr_audit.specs.RoleFiling.{with_subject, with_parts, with_pairs, with_server, with_row, filed_rows}
-use Rattle.clr_audit.proofs.Filed.{IsFiled, entry_stays, entry_filed}
+use Rattle.clr_spot_maps.proofs.Filed.{entry_stays, entry_filed}
 
 -- what is filed in one map is filed in another
 abbrev Stays : Filed → Filed → Type 0

@@ -1,3 +1,2 @@
-pub mod Filing
 pub mod RoleFiling
 pub mod Searches

@@ -9,8 +9,8 @@ use Rattle.clr_spots.specs.RoleSpots.{subject_spots_under, server_spots_under}
 use Rattle.clr_rows.specs.Held.{Held}
 use Rattle.clr_spots.specs.Spots.{unless_many, are_many}
 use Rattle.clr_audit.specs.declared.role_index.RoleIndex.{RoleIndex}
-use Rattle.clr_audit.specs.declared.spot_maps.FiledPart.{FiledPart}
-use Rattle.clr_audit.specs.Filing.{no_entries, filed_entry, near}
+use Rattle.clr_spot_maps.specs.declared.spot_maps.FiledPart.{FiledPart}
+use Rattle.clr_spot_maps.specs.Filing.{no_entries, filed_entry, near}
 
 abbrev pub no_rows_filed : RoleIndex
 no_rows_filed = record { firsts = no_entries; seconds = no_entries; boths = no_entries; servers = no_entries }

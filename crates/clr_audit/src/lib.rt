@@ -10,6 +10,5 @@
 mod audits;
 mod role_index;
 mod searching;
-mod spot_maps;
 
 pub use audits::audit;

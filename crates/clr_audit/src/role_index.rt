@@ -6,9 +6,9 @@ ghost use Rattle.clr_rules.specs.Books.{FitTogether};
 ghost use Rattle.clr_rows.specs.Beginnings.{IsBegun};
 ghost use Rattle.clr_audit.specs.RoleFiling.{no_rows_filed, with_subject, with_pairs, with_server, filed_rows, partners};
 
-use crate::spot_maps::{FiledPart, SpotMap};
 use clr_rows::Held;
 use clr_rules::{Roles, RuleBook};
+use clr_spot_maps::{FiledPart, SpotMap};
 use clr_spots::{Spots, server_spots, subject_spots};
 use std::alloc::{AllocError, Global};
 

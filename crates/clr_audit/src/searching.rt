@@ -13,9 +13,9 @@ ghost use Rattle.clr_audit.specs.Searches.{AreRowsFiled, GainsAll, GainsSome, Is
 ghost use Rattle.clr_audit.specs.Searches.{need_if_broken, need_beside, rows_of, serves_among, serves_at, servers_at_spots, servers_near};
 
 use crate::role_index::RoleIndex;
-use crate::spot_maps::FiledPart;
 use clr_rows::Held;
 use clr_rules::{Ask, Broken, Roles, RuleBook};
+use clr_spot_maps::FiledPart;
 use clr_spots::{Spot, Spots, put_in_order, subject_spots};
 use std::alloc::{AllocError, Global};
 
