@@ -48,7 +48,11 @@ pub fn database(alloc: Global, matches: &ArgMatches) -> Result<Vec<Words>, Alloc
 }
 
 /// The file of the office text, and a second file. It fails for want of memory alone.
-pub fn database_with(alloc: Global, matches: &ArgMatches, id: &str) -> Result<Vec<Words>, AllocError>
+pub fn database_with(
+    alloc: Global,
+    matches: &ArgMatches,
+    id: &str,
+) -> Result<Vec<Words>, AllocError>
     ensures { IfOk result (λ files. files.items ≡ database_and id.now (rows_of (found_of matches.now))) }
 {
     let mut files = database(alloc, matches)?;

@@ -33,7 +33,11 @@ pub fn merge_commands(alloc: Global, names: &[Words]) -> Result<Vec<Command>, Al
 }
 
 /// The lines of replies. It fails for want of memory alone.
-pub fn replies_output(alloc: Global, schema: &Schema, replies: &[Reply]) -> Result<Output, AllocError>
+pub fn replies_output(
+    alloc: Global,
+    schema: &Schema,
+    replies: &[Reply],
+) -> Result<Output, AllocError>
     ensures lines { IfOk result (λ o. o.lines.items ≡ flat_map (reply_text schema.now) replies.now) }
     ensures refused { IfOk result (λ o. o.refused ≡ list_any is_refused replies.now) }
     ensures lost { IfOk result (λ o. o.lost ≡ list_any is_lost replies.now) }
