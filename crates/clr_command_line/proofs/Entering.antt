@@ -1,6 +1,6 @@
--- A parse that succeeds has entered one of the subcommands that something is asked by.
+-- A parse that succeeds has entered one of the subcommands that something is asked by, of a program of which one is demanded.
 use Rattle.std.proofs.Common.{◌≡◌, ◌∙◌, ◌⊎◌, inl, inr, ℕ, Bool, true, false, not, ◌&&◌, ◌||◌, cond, List, [], ◌∷◌, Option, Some, None, is_some, option_map, codes, refl, sym}
-use Rattle.std.specs.Prelude.{⊤, fold, find, if◌then◌else◌}
+use Rattle.std.specs.Prelude.{⊤, fold, find, if◌then◌else◌, option_and_then}
 use Rattle.std.specs.List.{AllByRecursion, list_any}
 use Rattle.std.specs.Str.{bytes_eq}
 use Rattle.std.proofs.lemmas.Slice.Eq.{bytes_eq-Decides}
@@ -12,11 +12,9 @@ use Rattle.clap.specs.Simple.{Shape, argument_words, built, entered, label_of, n
 use Rattle.clap.specs.Kinds.{Kinds, check_kinds, or_else}
 use Rattle.clap.specs.Facts.{explicit_source}
 use Rattle.clap.specs.Takes.{is_given}
-use Rattle.clap.specs.Faults.{check_fault, defaults_fault, entered_fault, fault_of, is_simple_and_free, level_fault, other_fault, settle_fault, step_fault, turn_fault, walk_fault, word_fault}
+use Rattle.clap.specs.Faults.{check_fault, defaults_fault, entered_fault, fault_of, level_fault, other_fault, settle_fault, step_fault, turn_fault, walk_fault, word_fault}
 use Rattle.clap.specs.declared.error.kind.ErrorKind.TheVariants as kind
-use Rattle.clap.proofs.OnLiterals.{clap_on_literals}
-use Rattle.clr_command_line.specs.Asks.{ask_of, ask_by_name}
-use Rattle.clr_command_line.specs.Program.{program}
+use Rattle.clap.specs.Words.{App}
 
 -- the walk doesn't stop at `help` --------------------------------------------------------------------
 
@@ -119,10 +117,6 @@ has_one s rows has e f =
     enters (not has && (s.arg_required_else_help && not (list_any (λ r. explicit_source r.source) rows))) has s.subcommand_required
     (not (s.subcommand_negates_reqs && has) && list_any (λ a. a.required && not (is_given a.id rows)) s.rules) e f
 
--- something is asked by a subcommand, or it is `help`
-abbrev IsKnown : Shape → Type 0
-IsKnown s = (s.aliases ≡ []) × (((rows : List Row) → is_some (ask_by_name s.name rows) ≡ true) ⊎ (s.name ≡ codes "help"))
-
 or_false : (b : Bool) → (b || false) ≡ true → b ≡ true
 or_false true e = refl
 or_false false e = e
@@ -134,42 +128,6 @@ name_met name word (alias ∷ aliases) e is = absurd cc
 -- the subcommand that answers to a name, with what is found in the words after it
 abbrev met : List Shape → Text → List Text → Option (Text × List Row)
 met subs name rest = option_map (λ s. rows_at s rest) (find (λ s. answers_to name (label_of s)) subs)
-
-asks : (subs : List Shape) (name : Text) (rest : List Text) → AllByRecursion IsKnown subs → bytes_eq name (codes "help") ≡ false → is_some (met subs name rest) ≡ true
-    → is_some (ask_of (met subs name rest)) ≡ true
-asks [] name rest known off e = absurd cc
-asks (s ∷ subs) name rest known off e = go (answers_to name (label_of s)) refl (λ some. asks subs name rest known.1 off some) e
-  where
-    here : answers_to name (label_of s) ≡ true → ((rows : List Row) → is_some (ask_by_name s.name rows) ≡ true) ⊎ (s.name ≡ codes "help") → is_some (ask_by_name s.name (rows_at s rest).1) ≡ true
-    here is (inl each) = each (rows_at s rest).1
-    here is (inr help) =
-        let same : name ≡ codes "help" = sym (name_met s.name name s.aliases known.0.0 is) ∙ help in
-        let no : true ≡ false = rw same at off in
-        absurd cc
-
-    go : (b : Bool) → answers_to name (label_of s) ≡ b → (is_some (met subs name rest) ≡ true → is_some (ask_of (met subs name rest)) ≡ true) → is_some (option_map (λ s. rows_at s rest) (cond b (Some s) (find (λ s. answers_to name (label_of s)) subs))) ≡ true
-        → is_some (ask_of (option_map (λ s. rows_at s rest) (cond b (Some s) (find (λ s. answers_to name (label_of s)) subs)))) ≡ true
-    go true is later some = here is known.0.1
-    go false is later some = later some
-
-all_known : AllByRecursion IsKnown (built program).subs
-unfolding ask_by_name clap_on_literals
-all_known = ((refl, inl (λ rows. refl)), ((refl, inl (λ rows. refl)), ((refl, inl (λ rows. refl)), ((refl, inl (λ rows. refl)), ((refl, inl (λ rows. refl)), ((refl, inl (λ rows. refl)), ((refl, inr refl), tt)))))))
-
-stop_asks : (stop : Option (Text × List Text)) → IsNoHelp stop → is_some (entered (built program) stop) ≡ true → is_some (ask_of (entered (built program) stop)) ≡ true
-stop_asks None off e = absurd cc
-stop_asks (Some p) off e = asks (built program).subs p.0 p.1 all_known off e
-
-demands : (built program).top.subcommand_required ≡ true
-demands = refl
-
-has_help : (built program).top.disable_help_subcommand ≡ false
-has_help = refl
-
--- no argument has a rule on another
-pub free : is_simple_and_free program ≡ true
-unfolding clap_on_literals
-free = refl
 
 each_empty : (w below settle defaults checks : Kinds) → or_else w (or_else below (or_else settle (or_else defaults checks))) ≡ [] → (w ≡ []) × (checks ≡ [])
 each_empty [] [] [] [] checks e = (refl, e)
@@ -186,13 +144,45 @@ level_empty s names h words has below e =
     each_empty (walk_fault s names (walk_from h) words) below (settle_fault s.rules s.args_override_self end) (defaults_fault (settled s.rules end).rows s.rules)
     (check_fault s (finished s.rules end) has) e
 
--- where the words have no fault, something is asked
-pub asks_something : (words : List Text) → fault_of program words ≡ [] → is_some (ask_of (subcommand_of program words)) ≡ true
-asks_something words e =
-    let a = built program in
-    let given = argument_words program words in
-    let end = walk a.top.rules (names_of a) nothing_held given in
-    let has = is_some (entered a end.stopped) in
-    let parts = level_empty a.top (names_of a) nothing_held given has (entered_fault a end.stopped) e in
-    let off = walk_off a.top (names_of a) (walk_from nothing_held) given has_help tt parts.0 in
-    stop_asks end.stopped off (has_one a.top (finished a.top.rules end.held) has demands parts.1)
+-- what the subcommand that was entered asks for
+abbrev pub asked_of : {A : Type 0} → (Text → List Row → Option A) → Option (Text × List Row) → Option A
+asked_of {A} ask found = option_and_then (λ p. ask p.0 p.1) found
+
+-- something is asked by a subcommand, or it is `help`
+abbrev pub IsKnown : {A : Type 0} → (Text → List Row → Option A) → Shape → Type 0
+IsKnown {A} ask s = (s.aliases ≡ []) × (((rows : List Row) → is_some (ask s.name rows) ≡ true) ⊎ (s.name ≡ codes "help"))
+
+module _ {A : Type 0} (ask : Text → List Row → Option A) where
+  asks : (subs : List Shape) (name : Text) (rest : List Text) → AllByRecursion (IsKnown ask) subs → bytes_eq name (codes "help") ≡ false → is_some (met subs name rest) ≡ true
+      → is_some (asked_of ask (met subs name rest)) ≡ true
+  asks [] name rest known off e = absurd cc
+  asks (s ∷ subs) name rest known off e = go (answers_to name (label_of s)) refl (λ some. asks subs name rest known.1 off some) e
+    where
+      here : answers_to name (label_of s) ≡ true → ((rows : List Row) → is_some (ask s.name rows) ≡ true) ⊎ (s.name ≡ codes "help") → is_some (ask s.name (rows_at s rest).1) ≡ true
+      here is (inl each) = each (rows_at s rest).1
+      here is (inr help) =
+          let same : name ≡ codes "help" = sym (name_met s.name name s.aliases known.0.0 is) ∙ help in
+          let no : true ≡ false = rw same at off in
+          absurd cc
+
+      go : (b : Bool) → answers_to name (label_of s) ≡ b → (is_some (met subs name rest) ≡ true → is_some (asked_of ask (met subs name rest)) ≡ true) → is_some (option_map (λ s. rows_at s rest) (cond b (Some s) (find (λ s. answers_to name (label_of s)) subs))) ≡ true
+          → is_some (asked_of ask (option_map (λ s. rows_at s rest) (cond b (Some s) (find (λ s. answers_to name (label_of s)) subs)))) ≡ true
+      go true is later some = here is known.0.1
+      go false is later some = later some
+
+  module _ (program : App) (known : AllByRecursion (IsKnown ask) (built program).subs)
+      (demands : (built program).top.subcommand_required ≡ true) (has_help : (built program).top.disable_help_subcommand ≡ false) where
+    stop_asks : (stop : Option (Text × List Text)) → IsNoHelp stop → is_some (entered (built program) stop) ≡ true → is_some (asked_of ask (entered (built program) stop)) ≡ true
+    stop_asks None off e = absurd cc
+    stop_asks (Some p) off e = asks (built program).subs p.0 p.1 known off e
+
+    -- where the words have no fault, something is asked
+    pub asks_something : (words : List Text) → fault_of program words ≡ [] → is_some (asked_of ask (subcommand_of program words)) ≡ true
+    asks_something words e =
+        let a = built program in
+        let given = argument_words program words in
+        let end = walk a.top.rules (names_of a) nothing_held given in
+        let has = is_some (entered a end.stopped) in
+        let parts = level_empty a.top (names_of a) nothing_held given has (entered_fault a end.stopped) e in
+        let off = walk_off a.top (names_of a) (walk_from nothing_held) given has_help tt parts.0 in
+        stop_asks end.stopped off (has_one a.top (finished a.top.rules end.held) has demands parts.1)

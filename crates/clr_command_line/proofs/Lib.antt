@@ -1,2 +1,3 @@
-mod Entering
-mod Subcommands
+pub mod Entering
+mod Known
+pub mod Subcommands

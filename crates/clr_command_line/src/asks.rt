@@ -1,8 +1,11 @@
 //! What the words of a command line can ask for.
 
 ghost use Rattle.std.specs.Prelude.{◌≡◌};
+ghost use Rattle.clap.specs.Words.{kind_of};
+ghost use Rattle.clr_command_line.specs.Asks.{IsMemory};
 ghost use Rattle.clr_command_line.specs.declared.asks.AskFault.TheVariants.{OutOfMemory};
 
+use clap::error::ErrorKind;
 use clr_rows::{Names, Words};
 use std::alloc::{AllocError, AllocFailed};
 
@@ -31,6 +34,19 @@ pub enum AskFault {
     Refused(clap::Error),
     /// No memory was found. This fault may come in place of any other answer.
     OutOfMemory,
+}
+
+impl AskFault {
+    /// The fault that the parser of the command line tells.
+    pub fn of(error: clap::Error) -> AskFault
+        ensures { kind_of error ≡ ErrorKind.OutOfMemory → IsMemory result }
+    {
+        if error.kind() == ErrorKind::OutOfMemory {
+            AskFault::OutOfMemory
+        } else {
+            AskFault::Refused(error)
+        }
+    }
 }
 
 impl From<AllocError> for AskFault {

@@ -3,11 +3,15 @@
 //! - `ask_of` [`asks`, `takes`]: what is asked, and the files, are what `clap`'s definition of a
 //!   simple command finds in the words; where that takes the words, they are refused for want of
 //!   memory alone. Texts of help and usage are tested only.
+//! - `names`, `database`, `database_with`, `AskFault::of`: what other programs of the same files read
+//!   by them.
 #![tactic(auto)]
 
 mod asks;
 mod command;
 mod reading;
+mod values;
 
 pub use asks::{Ask, AskFault};
 pub use reading::ask_of;
+pub use values::{database, database_with, names};

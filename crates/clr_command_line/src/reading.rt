@@ -1,66 +1,17 @@
 //! Reading the words of a command line.
 
 ghost use Rattle.std.specs.Prelude.{◌≡◌, Some, IfOk, IfErr, codes, is_some, map, true};
-ghost use Rattle.clap.specs.Words.{found_of, kind_of, rows_of, subcommand_of, takes};
-ghost use Rattle.clr_command_line.specs.Asks.{IsMemory, ask_of, ask_by_name, database_and, database_of, names_of, value_of};
+ghost use Rattle.clap.specs.Words.{found_of, rows_of, subcommand_of, takes};
+ghost use Rattle.clr_command_line.specs.Asks.{IsMemory, ask_of, ask_by_name, names_of, value_of};
 ghost use Rattle.clr_command_line.specs.declared.asks.Ask.TheVariants.{PlanUnder};
 ghost use Rattle.clr_command_line.specs.Program.{program};
 
 use crate::asks::{Ask, AskFault};
 use crate::command::whole_command;
+use crate::values::{database, database_with, names, value};
 use clap::ArgMatches;
-use clap::error::ErrorKind;
-use clr_rows::{Names, Words};
+use clr_rows::Words;
 use std::alloc::{AllocError, Global};
-
-/// The value of a name.
-fn value(alloc: Global, matches: &ArgMatches, id: &str) -> Result<Words, AllocError>
-    ensures { IfOk result (λ text. text ≡ value_of id.now (rows_of (found_of matches.now))) }
-{
-    match matches.get_str(id) {
-        Some(text) => Ok(Words::new(String::from_str(alloc, text)?)),
-        None => Ok(Words::new(String::new(alloc))),
-    }
-}
-
-/// Texts as names of their own.
-fn owned_names(alloc: Global, texts: &[&str]) -> Result<Names, AllocError>
-    ensures { IfOk result (λ names. names ≡ map (λ text. text.now) texts.now) }
-{
-    let mut list = Vec::new(alloc);
-    for text in texts {
-        list.push(Words::new(String::from_str(alloc, text)?))?;
-    }
-    Ok(Names::new(list))
-}
-
-/// The names that are given.
-fn names(alloc: Global, matches: &ArgMatches) -> Result<Names, AllocError>
-    ensures { IfOk result (λ names. names ≡ names_of (rows_of (found_of matches.now))) }
-{
-    match matches.get_strs("NAME") {
-        Some(texts) => owned_names(alloc, texts),
-        None => Ok(Names::new(Vec::new(alloc))),
-    }
-}
-
-/// The file of the office text.
-fn database(alloc: Global, matches: &ArgMatches) -> Result<Vec<Words>, AllocError>
-    ensures { IfOk result (λ files. files.items ≡ database_of (rows_of (found_of matches.now))) }
-{
-    let mut files = Vec::new(alloc);
-    files.push(value(alloc, matches, "DB")?)?;
-    Ok(files)
-}
-
-/// The file of the office text, and a second file.
-fn database_with(alloc: Global, matches: &ArgMatches, id: &str) -> Result<Vec<Words>, AllocError>
-    ensures { IfOk result (λ files. files.items ≡ database_and id.now (rows_of (found_of matches.now))) }
-{
-    let mut files = database(alloc, matches)?;
-    files.push(value(alloc, matches, id)?)?;
-    Ok(files)
-}
 
 /// What `planunder` asks for.
 fn plan_under(alloc: Global, matches: &ArgMatches) -> Result<Ask, AllocError>
@@ -97,16 +48,6 @@ fn ask_of_subcommand(
     Ok(found)
 }
 
-fn ask_fault(error: clap::Error) -> AskFault
-    ensures { kind_of error ≡ ErrorKind.OutOfMemory → IsMemory result }
-{
-    if error.kind() == ErrorKind::OutOfMemory {
-        AskFault::OutOfMemory
-    } else {
-        AskFault::Refused(error)
-    }
-}
-
 /// What the words of a command line ask for, with the program's name first, and the names of the
 /// files that it is asked of: that of the office text, and then that of the script or the
 /// certificate where there is one. The subcommands are `audit DB`, `run DB SCRIPT`, `plan DB NAME..`,
@@ -123,7 +64,7 @@ pub fn ask_of<'a>(alloc: Global, words: &'a [&'a str]) -> Result<(Ask, Vec<Words
     let command = whole_command(alloc)?;
     let matches = match command.try_get_matches_from(words) {
         Ok(matches) => matches,
-        Err(error) => return Err(ask_fault(error)),
+        Err(error) => return Err(AskFault::of(error)),
     };
     let Some((name, values)) = matches.subcommand() else {
         unreachable!();

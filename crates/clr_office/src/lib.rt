@@ -34,6 +34,10 @@
 //!   the input alone, also of plans, verdicts, merges and independence.
 //! - [`keeps`]: with any fault but WriteFailed nothing was written; after a failed write it isn't
 //!   known how much was.
+//! - For other programs: `open_office` [`meant`, `held`, `answer`], the office of a text, or what is
+//!   answered in its place; and the lines of parts, `verdict_output`, `fault_output`,
+//!   `replies_output`, `stop_output` and `dump_text`, by which what such a program prints is the
+//!   same. `merge_commands`, `texts`.
 //! - `Text` and `Page`, over memory, tell their bytes; a `put` within the room of a page succeeds.
 //!   `Port` is over any reader or writer of `std`, and tells what that one tells.
 #![tactic(auto)]
@@ -58,6 +62,7 @@ mod run_script;
 mod separator;
 
 pub use answers::answer;
+pub use certificates::{fault_output, verdict_output};
 pub use clr_cert::{CertFault, Certificate, Entries, Entry};
 pub use clr_check_texts::{Checked, check_texts};
 pub use clr_clearance::Verdict;
@@ -71,6 +76,11 @@ pub use devices::{DeviceFault, Sink, Source};
 pub use faults::RunFault;
 pub use laws::inputs_have_one_session;
 pub use memory::{Page, Text};
+pub use merges::{merge_commands, replies_output, stop_output};
+pub use offices::open_office;
+pub use outputs::Output;
+pub use plans::texts;
 pub use ports::Port;
 pub use reading::{MOST_INPUT_BYTES, read_input};
+pub use reports::dump_text;
 pub use run::run_office;

@@ -19,8 +19,9 @@ use clr_rows::{Schema, Words};
 use clr_steps::{Command, Reply};
 use std::alloc::{AllocError, Global};
 
-/// The merges of workspaces in the order of their names, after which they stay.
-fn merges(alloc: Global, names: &[Words]) -> Result<Vec<Command>, AllocError>
+/// The merges of workspaces in the order of their names, after which they stay. It fails for want of
+/// memory alone.
+pub fn merge_commands(alloc: Global, names: &[Words]) -> Result<Vec<Command>, AllocError>
     ensures { IfOk result (λ commands. commands.items ≡ merges names.now) }
 {
     let mut commands = Vec::with_capacity(alloc, names.len())?;
@@ -31,8 +32,12 @@ fn merges(alloc: Global, names: &[Words]) -> Result<Vec<Command>, AllocError>
     Ok(commands)
 }
 
-/// The lines of replies.
-fn replies_output(alloc: Global, schema: &Schema, replies: &[Reply]) -> Result<Output, AllocError>
+/// The lines of replies. It fails for want of memory alone.
+pub fn replies_output(
+    alloc: Global,
+    schema: &Schema,
+    replies: &[Reply],
+) -> Result<Output, AllocError>
     ensures lines { IfOk result (λ o. o.lines.items ≡ flat_map (reply_text schema.now) replies.now) }
     ensures refused { IfOk result (λ o. o.refused ≡ list_any is_refused replies.now) }
     ensures lost { IfOk result (λ o. o.lost ≡ list_any is_lost replies.now) }
@@ -45,8 +50,9 @@ fn replies_output(alloc: Global, schema: &Schema, replies: &[Reply]) -> Result<O
     Ok(all)
 }
 
-/// The line that says which merge isn't quiet, where one isn't.
-fn stop_output(alloc: Global, stopped: Option<usize>) -> Result<Output, AllocError>
+/// The line that says which merge isn't quiet, by its number from 1, where one isn't. It fails for want
+/// of memory alone.
+pub fn stop_output(alloc: Global, stopped: Option<usize>) -> Result<Output, AllocError>
     ensures lines { IfOk result (λ o. o.lines.items ≡ stop_text stopped) }
     ensures refused { IfOk result (λ o. o.refused ≡ is_some stopped) }
     ensures lost { IfOk result (λ o. o.lost ≡ false) }
@@ -86,7 +92,7 @@ pub fn merge_members(
 ) -> Result<Output, AllocError>
     ensures { IfOk result (λ o. IsMergeOutcome office.old certificate.now names.now (outcome_of o office.new)) }
 {
-    let commands = merges(alloc, names)?;
+    let commands = merge_commands(alloc, names)?;
     match perform_cleared(alloc, office, certificate, commands.as_slice()) {
         Ok(run) => Ok(run_output(alloc, office, &run)?),
         Err(verdict) => Ok(verdict_output(alloc, office.schema(), certificate, &verdict)?),

@@ -91,7 +91,7 @@ pub fn workspaces(alloc: Global, office: &Office) -> Result<Output, AllocError>
     Ok(Output::of_lines(workspaces_lines(alloc, office)?))
 }
 
-/// The text of the whole office, ended by `\n`.
+/// The text of the whole office, ended by `\n`. It fails for want of memory alone.
 pub fn dump_text(alloc: Global, office: &Office) -> Result<Vec<u8>, AllocError>
     ensures { IfOk result (λ text. text.items ≡ dump_text office.now) }
 {

@@ -1,7 +1,7 @@
 use Rattle.std.proofs.Common.{◌∙◌, [], ap, unwrap_or}
 use Rattle.clap.proofs.WalkLemmas.{first_value-rows}
 use Rattle.clap.specs.Words.{found_of}
-use Rattle.clr_command_line.proofs.reading.value.Goals as goal
+use Rattle.clr_command_line.proofs.values.value.Goals as goal
 
 pub returns-in_ok-from_str-in-Some : goal.returns-in_ok-from_str-in-Some
 returns-in_ok-from_str-in-Some c =

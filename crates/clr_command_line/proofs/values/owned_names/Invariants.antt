@@ -1,5 +1,5 @@
 use Rattle.std.proofs.Common.{◌≡◌, map, take}
-use Rattle.clr_command_line.proofs.reading.owned_names.Given as goal
+use Rattle.clr_command_line.proofs.values.owned_names.Given as goal
 
 -- the texts so far are owned
 abbrev pub invariant-loop-text : goal.invariant-loop-text

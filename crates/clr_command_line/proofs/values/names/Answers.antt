@@ -2,7 +2,7 @@ use Rattle.std.proofs.Common.{◌∙◌, [], ap, codes, unwrap_or}
 use Rattle.std.proofs.lemmas.Result.{IfOk-weaker}
 use Rattle.clap.proofs.WalkLemmas.{raw_values-rows}
 use Rattle.clap.specs.Words.{found_of}
-use Rattle.clr_command_line.proofs.reading.names.Goals as goal
+use Rattle.clr_command_line.proofs.values.names.Goals as goal
 
 pub returns-in-Some : goal.returns-in-Some
 returns-in-Some c =

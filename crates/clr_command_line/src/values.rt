@@ -1,0 +1,61 @@
+//! What `clap` found in words: values, names and files.
+ghost use Rattle.std.specs.Prelude.{◌≡◌, IfOk, map};
+ghost use Rattle.clap.specs.Words.{found_of, rows_of};
+ghost use Rattle.clr_command_line.specs.Asks.{database_and, database_of, names_of, value_of};
+
+use clap::ArgMatches;
+use clr_rows::{Names, Words};
+use std::alloc::{AllocError, Global};
+
+/// The value of a name, or no bytes where there is none. It fails for want of memory alone.
+pub(crate) fn value(alloc: Global, matches: &ArgMatches, id: &str) -> Result<Words, AllocError>
+    ensures { IfOk result (λ text. text ≡ value_of id.now (rows_of (found_of matches.now))) }
+{
+    match matches.get_str(id) {
+        Some(text) => Ok(Words::new(String::from_str(alloc, text)?)),
+        None => Ok(Words::new(String::new(alloc))),
+    }
+}
+
+/// Texts as names of their own.
+fn owned_names(alloc: Global, texts: &[&str]) -> Result<Names, AllocError>
+    ensures { IfOk result (λ names. names ≡ map (λ text. text.now) texts.now) }
+{
+    let mut list = Vec::new(alloc);
+    for text in texts {
+        list.push(Words::new(String::from_str(alloc, text)?))?;
+    }
+    Ok(Names::new(list))
+}
+
+/// The names that are given, none or more. It fails for want of memory alone.
+pub fn names(alloc: Global, matches: &ArgMatches) -> Result<Names, AllocError>
+    ensures { IfOk result (λ names. names ≡ names_of (rows_of (found_of matches.now))) }
+{
+    match matches.get_strs("NAME") {
+        Some(texts) => owned_names(alloc, texts),
+        None => Ok(Names::new(Vec::new(alloc))),
+    }
+}
+
+/// The file of the office text. It fails for want of memory alone.
+pub fn database(alloc: Global, matches: &ArgMatches) -> Result<Vec<Words>, AllocError>
+    ensures { IfOk result (λ files. files.items ≡ database_of (rows_of (found_of matches.now))) }
+{
+    let mut files = Vec::new(alloc);
+    files.push(value(alloc, matches, "DB")?)?;
+    Ok(files)
+}
+
+/// The file of the office text, and a second file. It fails for want of memory alone.
+pub fn database_with(
+    alloc: Global,
+    matches: &ArgMatches,
+    id: &str,
+) -> Result<Vec<Words>, AllocError>
+    ensures { IfOk result (λ files. files.items ≡ database_and id.now (rows_of (found_of matches.now))) }
+{
+    let mut files = database(alloc, matches)?;
+    files.push(value(alloc, matches, id)?)?;
+    Ok(files)
+}
