@@ -15,11 +15,13 @@ use Rattle.clr_foot.specs.Versions.{row_of}
 -- a need of two versions in one part of each
 abbrev pub IsNeedOfParts : List Rule → ℕ → Version → ℕ → Version → ℕ → Need → Type 0
 IsNeedOfParts rules number s p t q n =
-    (IsNeedBetween rules number None s t n × (n.first_part ≡ p) × (n.second_part ≡ q)) ⊎ (IsNeedBetween rules number None t s n × (n.first_part ≡ q) × (n.second_part ≡ p))
+    (IsNeedBetween rules number None s t n × (n.first_part ≡ p) × (n.second_part ≡ q))
+    ⊎ (IsNeedBetween rules number None t s n × (n.first_part ≡ q) × (n.second_part ≡ p))
 
 -- in this part of the one
 abbrev pub IsNeedOfItsPart : List Rule → ℕ → Version → ℕ → Version → Need → Type 0
-IsNeedOfItsPart rules number s p t n = (IsNeedBetween rules number None s t n × (n.first_part ≡ p)) ⊎ (IsNeedBetween rules number None t s n × (n.second_part ≡ p))
+IsNeedOfItsPart rules number s p t n =
+    (IsNeedBetween rules number None s t n × (n.first_part ≡ p)) ⊎ (IsNeedBetween rules number None t s n × (n.second_part ≡ p))
 
 -- with the version and in the part of an entry
 abbrev pub IsNeedOfEntry : List Rule → ℕ → List Version → Version → ℕ → FiledPart → Need → Type 0
@@ -52,7 +54,8 @@ with_part rules number m position part s =
 
 -- the parts up to a number of the version at a position are filed at their spots as subjects
 abbrev pub ArePartsFiled : List Rule → ℕ → Filed → ℕ → Version → ℕ → Type 0
-ArePartsFiled rules number m position s most = (part : ℕ) → 1 ≤ part → part ≤ most → IsFiled m (entry_at position part) (subject_spots_under rules number part (row_of s))
+ArePartsFiled rules number m position s most =
+    (part : ℕ) → 1 ≤ part → part ≤ most → IsFiled m (entry_at position part) (subject_spots_under rules number part (row_of s))
 
 -- so are all parts of each version before a position that may be one of two subjects
 abbrev pub AreFiledBefore : List Rule → ℕ → List Version → ℕ → Filed → Type 0

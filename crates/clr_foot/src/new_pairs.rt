@@ -214,7 +214,8 @@ impl<V: RowView, F: RowFinder> Scene<'_, V, F> {
         requires number { rule < length self.now.book.now }
         requires fit { FitsSetting (setting_in V.content self.now) }
         requires fresh { AreAt (setting_in V.content self.now) fresh.now }
-        ensures { OnOk result (Gains (IsNeedOfTwo self.now.book.now rule fresh.now) (IsNeedOfTwo self.now.book.now rule fresh.now) needs.old.items needs.new.items) }
+        ensures { OnOk result (Gains (IsNeedOfTwo self.now.book.now rule fresh.now)
+            (IsNeedOfTwo self.now.book.now rule fresh.now) needs.old.items needs.new.items) }
     {
         let mut filed = SpotMap::new(self.alloc);
         for position in 0..fresh.len() {

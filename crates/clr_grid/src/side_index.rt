@@ -237,7 +237,8 @@ impl SideIndex {
     fn add_cells_at_each(&self, spots: &[Spot], cells: &mut CellSet) -> Result<(), AllocError>
         ensures ok { OnOk result ((q : Cell) → set.contains cells.new q
             ≡ (set.contains cells.old q || list_any (λ x. has_cell (get nat_cmp self.now.by_spot (number_of x)) q) spots.now)) }
-        ensures err { OnErr result (GainsCells (λ q. list_any (λ x. has_cell (get nat_cmp self.now.by_spot (number_of x)) q) spots.now ≡ true) cells.old cells.new) }
+        ensures err { OnErr result (GainsCells (λ q. list_any (λ x. has_cell (get nat_cmp self.now.by_spot (number_of x)) q) spots.now ≡ true)
+            cells.old cells.new) }
     {
         for spot in spots {
             self.add_cells_at(number_of(spot), cells)?;

@@ -102,7 +102,8 @@ fn write_partner(
     server: &Side,
     server_columns: &[Col],
 ) -> Result<(), AllocError>
-    ensures { OnOk result (text.new ≡ text.old ++ tokens_of (named_rule_data (named_rule schema.now (Partner subject.now columns.now server.now server_columns.now)))) }
+    ensures { OnOk result (text.new ≡ text.old
+        ++ tokens_of (named_rule_data (named_rule schema.now (Partner subject.now columns.now server.now server_columns.now)))) }
 {
     text.begin_object()?;
     text.key("columns")?;
