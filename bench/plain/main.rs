@@ -1,5 +1,5 @@
 // The program in plain Rust, by the theory in docs/: what the proved one is measured beside, and compared with. It knows neither the
-// words of `independence` nor which fault a text has: `plain-unread` and status 2 stand for both.
+// words of `independence` nor all faults of a text: `plain-unread` and status 2 stand for what it doesn't read.
 //     plain audit DB | run DB SCRIPT | plan DB NAME.. | planunder DB ROOT NAME.. | check DB CERT | merge DB CERT NAME..
 //     plain < INPUT
 mod clearance;
