@@ -1,0 +1,4 @@
+mod ChildLemmas
+mod LineEnds
+mod PrintLemmas
+mod Trying

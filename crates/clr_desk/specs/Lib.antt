@@ -1,0 +1,7 @@
+pub mod Answers
+pub mod Certificates
+pub mod Choices
+pub mod Formats
+pub mod Merges
+pub mod Printing
+pub mod Trials

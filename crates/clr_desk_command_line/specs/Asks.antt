@@ -1,0 +1,25 @@
+-- What a subcommand and its values ask for.
+use Rattle.std.specs.Prelude.{List, codes, Option, Some, None, if◌then◌else◌, option_and_then, unwrap_or}
+use Rattle.std.specs.Str.{bytes_eq}
+use Rattle.clap.specs.Words.{Row, Text, first_of}
+use Rattle.clr_rows.specs.Names.{live_name}
+use Rattle.clr_command_line.specs.Asks.{database_and, database_of, names_of}
+use Rattle.clr_desk_command_line.specs.declared.asks.Ask.{Ask}
+use Rattle.clr_desk_command_line.specs.declared.asks.Ask.TheVariants.{Certificate, Merge, Format, Keep}
+
+-- the root that is given, or LIVE
+abbrev pub root_of : List Row → Text
+root_of rows = unwrap_or (first_of (codes "under") rows) live_name
+
+-- what a subcommand asks for, and its files
+unfoldable pub ask_by_name : Text → List Row → Option (Ask × List Text)
+ask_by_name name rows =
+    if bytes_eq name (codes "certificate") then Some (Certificate (root_of rows) (names_of rows), database_of rows)
+    else (if bytes_eq name (codes "merge") then Some (Merge (names_of rows), database_and (codes "CERT") rows)
+    else (if bytes_eq name (codes "format") then Some (Format, database_of rows)
+    else (if bytes_eq name (codes "keep") then Some (Keep (root_of rows) (names_of rows), database_of rows)
+    else None)))
+
+-- what the subcommand that words name asks for, if they name one
+abbrev pub ask_of : Option (Text × List Row) → Option (Ask × List Text)
+ask_of found = option_and_then (λ p. ask_by_name p.0 p.1) found
