@@ -1,0 +1,2 @@
+mod PlanLaw
+mod Pairs

@@ -1,0 +1,34 @@
+-- What the smallest clashes of a site decide.
+use Rattle.std.specs.Prelude.{◌≡◌, ◌↔◌, ◌<◌, ℕ, true, false, List, None, Contains, length}
+use Rattle.std.specs.List.Sorted.{IsStrictlySortedBy}
+use Rattle.std.specs.Ordering.{nat_cmp}
+use Rattle.clr_steps.specs.Offices.{Office}
+use Rattle.clr_steps.specs.Quiet.{Site}
+use Rattle.clr_needs.specs.Members.{AreApart}
+use Rattle.clr_clearance.specs.Plans.{names_at}
+use Rattle.clr_clearance.specs.Sites.{RootHolds, change_sets, setting_by_position}
+use Rattle.clr_clearance.specs.Verdicts.{member_fault}
+use Rattle.clr_check.specs.SiteNames.{site}
+use Rattle.clr_plan.specs.declared.plans.Plan.{Plan}
+use Rattle.clr_plan.specs.Plans.{IsPlan}
+use Rattle.clr_plan.specs.Promises.{is_cleared, is_out_of_memory}
+use Rattle.clr_clashes.specs.ListedClashes.{AreSmallestClashes, HoldNoneOf, ListedClash}
+
+-- some of the members, by position
+abbrev pub part_of : Site → List ℕ → Site
+part_of s positions = site s.root (names_at s positions)
+
+-- of members of a root in which every rule holds, none in conflict and no cell changed by two: the plan of some of them is cleared exactly where they hold none
+-- of the listed sets, memory aside
+abbrev pub ClashesDecidePlans : Type 0
+ClashesDecidePlans = (o : Office) (s : Site) (listed : List ListedClash) (positions : List ℕ) (p : Plan)
+    → member_fault o s ≡ None
+    → AreApart (change_sets o s)
+    → RootHolds o s
+    → AreSmallestClashes (setting_by_position o s) listed
+    → IsStrictlySortedBy nat_cmp positions
+    → ((k : ℕ) → Contains positions k → k < length s.members)
+    → member_fault o (part_of s positions) ≡ None
+    → IsPlan o (part_of s positions) p
+    → is_out_of_memory p ≡ false
+    → (is_cleared p ≡ true) ↔ HoldNoneOf listed positions

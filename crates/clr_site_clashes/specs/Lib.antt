@@ -1,0 +1,3 @@
+pub mod Laws
+pub mod SharedCells
+pub mod SiteClashes
