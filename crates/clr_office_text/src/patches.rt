@@ -25,7 +25,7 @@ fn can_put(schema: &Schema, cell: CellId, row: &Option<Row>) -> bool
 
 /// Puts a cell that is named into the differences, which stay where it fails.
 #[tactic(auto, unfolding(crate::specs::Patches::with_cell))]
-fn put_cell(
+pub fn put_cell(
     schema: &Schema,
     differences: &mut Differences,
     named: NamedCell,
