@@ -1,0 +1,3 @@
+pub mod FirstFaults
+pub mod Parts
+pub mod Spots
