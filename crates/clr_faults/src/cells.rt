@@ -7,7 +7,7 @@ ghost use Rattle.clr_office_text.specs.Fields.{Gives};
 ghost use Rattle.clr_faults.specs.FirstFaults.{first_fault_from};
 ghost use Rattle.clr_faults.specs.Parts.{cell_fault_in, put_cell_of, put_row_of, row_fault_in};
 
-use crate::first_faults::first_fault;
+use crate::first_faults::{first_fault, is_lost};
 use crate::items::{NamedCellItem, NamedRowItem};
 use clr_differences::Differences;
 use clr_office_text::TextFault;
@@ -59,7 +59,7 @@ fn first_misfit_row(
     for (at, item) in items.iter().enumerate() {
         match put_row_item(alloc, schema, &mut sheet, item) {
             Ok(()) => {}
-            Err(TextFault::OutOfMemory) => return Err(AllocError),
+            Err(fault) if is_lost(fault) => return Err(AllocError),
             Err(fault) => return Ok(Some((at, fault))),
         }
     }
@@ -78,7 +78,7 @@ fn first_misfit_cell(
     for (at, item) in items.iter().enumerate() {
         match put_cell_item(alloc, schema, &mut differences, item) {
             Ok(()) => {}
-            Err(TextFault::OutOfMemory) => return Err(AllocError),
+            Err(fault) if is_lost(fault) => return Err(AllocError),
             Err(fault) => return Ok(Some((at, fault))),
         }
     }

@@ -129,7 +129,10 @@ pub fn item_in<'a>(json: &'a Json, key: &str, at: usize) -> Option<&'a Json>
     ensures { IfSome result (λ found. item_of key.now at (view json.now) ≡ Ok (view found.now)) }
 {
     match optional_list(json, key) {
-        Ok(items) => items.get(at),
+        Ok(items) => match items.get(at) {
+            Some(found) => Some(found),
+            None => None,
+        },
         Err(_) => None,
     }
 }

@@ -4,6 +4,7 @@ ghost use Rattle.serde_json.specs.View.{items_view};
 ghost use Rattle.clr_faults.specs.FirstFaults.{first_fault_from};
 ghost use Rattle.clr_faults.specs.Parts.{layers_with};
 
+use crate::first_faults::is_lost;
 use clr_layers::StoredPart;
 use clr_office_text::TextFault;
 use clr_office_text::earlier_names::note_name;
@@ -31,7 +32,7 @@ pub fn first_bad_workspace(
                 note_name(&mut names, &one.name)?;
                 parts.push(one)?;
             }
-            Err(TextFault::OutOfMemory) => return Err(AllocError),
+            Err(fault) if is_lost(fault) => return Err(AllocError),
             Err(fault) => return Ok(Some((at, fault))),
         }
     }

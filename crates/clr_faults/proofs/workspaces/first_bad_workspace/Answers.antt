@@ -21,7 +21,7 @@ pub loop-at-preserved : goal.loop-at-preserved
 loop-at-preserved c =
     rw c.in_ok-push.ensures.items record {
       so_far = goes_on (layers_with c.args.format c.args.schema.now) (map stored_layer c.loop-at.parts.items) _ c.args.items.now c.loop-at.at _ _ c.loop-at-test.true c.index-items-at.is
-        (layered c.args.format c.args.schema.now c.loop-at.parts.items _ c.in-Ok.one (rw c.as_slice.ensures.value at c.in-Ok.ensures)) c.loop-at.invariant.so_far;
+          (layered c.args.format c.args.schema.now c.loop-at.parts.items _ c.in-Ok.one (rw c.as_slice.ensures.value at c.in-Ok.ensures)) c.loop-at.invariant.so_far;
       named = rw (map-append stored_layer c.loop-at.parts.items (c.in-Ok.one ∷ [])) (c.in_ok-note_name.ensures.noted (map stored_layer c.loop-at.parts.items) (stored_layer c.in-Ok.one) c.loop-at.invariant.named refl);
     }
 
