@@ -9,7 +9,6 @@ use clr_row_test_kit::schema;
 use clr_rows::{CellId, Schema, Sheet};
 use clr_rules::{Broken, RuleBook};
 use std::alloc::Global;
-use std::test::Fail;
 
 /// Rules over a content of a network.
 #[derive(Drop)]
@@ -34,10 +33,10 @@ impl Content {
     }
 
     /// Puts a row in.
-    fn put(&mut self, row: RowAt) -> Result<(), Fail> {
-        self.schema.fits(row.cell, &row.row)?;
-        self.sheet.put(row.cell, row.row)?;
-        Ok(())
+    fn put(&mut self, row: RowAt) -> Option<()> {
+        self.schema.fits(row.cell, &row.row).ok()?;
+        self.sheet.put(row.cell, row.row).ok()?;
+        Some(())
     }
 
     fn audit(&self, alloc: Global) -> Option<Vec<Broken>> {
@@ -78,7 +77,7 @@ pub(crate) fn broken_text(alloc: Global, network: &str, text: &str) -> Option<St
     let (rules, rest) = text.split_once(" | ")?;
     let mut content = Content::of(alloc, network, rules)?;
     for row in rows(alloc, rest)? {
-        content.put(row).ok()?;
+        content.put(row)?;
     }
     needs_text(alloc, content.audit(alloc)?.as_slice())
 }
