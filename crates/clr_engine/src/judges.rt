@@ -83,16 +83,27 @@ impl Judge {
         }
     }
 
-    /// The least broken need of what a workspace has.
+    /// The least broken need of a content.
     #[tactic(auto, unfolding(clr_steps::specs::Refusals::first_broken))]
+    fn first_broken_in(&self, rows: &Sheet) -> Result<Option<Broken>, AllocError>
+        requires { FitsContent self.now rows.now }
+        ensures { IfOk result (λ need. need ≡ first_broken self.now rows.now) }
+    {
+        let needs = audit(self.alloc, &self.book, rows)?;
+        Ok(needs.as_slice().first().copied())
+    }
+
+    /// The least broken need of what a workspace has. LIVE isn't copied for it.
     fn first_broken_now(&self, tree: &Tree, at: usize) -> Result<Option<Broken>, AllocError>
         requires within { at < length tree.now.list }
         requires fit { FitsContent self.now (workspace_at tree.now.list at).current }
         ensures { IfOk result (λ need. need ≡ first_broken self.now (workspace_at tree.now.list at).current) }
     {
+        if at == 0 {
+            return self.first_broken_in(tree.live());
+        }
         let rows = tree.rows(at)?;
-        let needs = audit(self.alloc, &self.book, &rows)?;
-        Ok(needs.as_slice().first().copied())
+        self.first_broken_in(&rows)
     }
 
     /// The least broken need of the content that a workspace has, where the rules are to hold in it
