@@ -3,6 +3,7 @@ pub mod Beginnings
 pub mod Filed
 pub mod FitLaws
 pub mod Gaining
+pub mod LeastLaws
 pub mod MapLemmas
 pub mod NeedLaws
 pub mod RoleFiled

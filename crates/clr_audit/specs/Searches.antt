@@ -1,7 +1,11 @@
 -- The broken needs of listed rows, and what a search among them adds to a list.
-use Rattle.std.specs.Prelude.{◌≡◌, ◌⊎◌, ℕ, Bool, true, false, not, List, [], ◌∷◌, ◌&&◌, Option, Some, None, Contains, ⊤, IsSome}
+use Rattle.std.specs.Prelude.{◌≡◌, ◌⊎◌, ◌≤◌, ℕ, Bool, true, false, not, List, [], ◌∷◌, ◌&&◌, Option, Some, None, Contains, ⊤, IsSome}
 use Rattle.std.specs.Prelude.{map, slice_get, if◌then◌else◌}
 use Rattle.std.specs.List.{flat_map, list_any}
+use Rattle.std.specs.List.Sorted.{IsStrictlySortedBy}
+use Rattle.std.specs.Ordering.{is_gt, is_le, nat_cmp, ordering_then}
+use Rattle.clr_rows.specs.Cells.{cell_cmp}
+use Rattle.clr_rows.specs.declared.cells.CellId.{CellId}
 use Rattle.clr_rows.specs.Held.{Held, held_of}
 use Rattle.clr_rules.specs.declared.needs.Ask.{Ask}
 use Rattle.clr_rules.specs.declared.needs.Broken.{Broken}
@@ -9,7 +13,7 @@ use Rattle.clr_rules.specs.declared.rules.Rule.{Rule}
 use Rattle.clr_spots.specs.declared.spots.Spot.{Spot}
 use Rattle.clr_spots.specs.declared.spots.Spots.{Spots}
 use Rattle.clr_rules.specs.Calls.{ask_of_parts, calls, serves}
-use Rattle.clr_rules.specs.Needs.{ask_of, broken_at, is_after}
+use Rattle.clr_rules.specs.Needs.{ask_of, broken_at, broken_cmp, is_after}
 use Rattle.clr_audit.specs.declared.searching.Search.{Search}
 use Rattle.clr_audit.specs.declared.spot_maps.FiledPart.{FiledPart}
 use Rattle.clr_audit.specs.Filing.{entries_at, near}
@@ -110,3 +114,27 @@ GainsAll search Wanted before after = Gains search.book.now (rows_of search) Wan
 -- the later list has the earlier one, and besides it broken needs alone
 abbrev pub GainsSome : Search → List Broken → List Broken → Type 0
 GainsSome search before after = GainsAll search (λ b h. ⊥) before after
+
+-- the least of all -------------------------------------------------------------------------------
+
+-- a broken need comes at or before all that have a row of a rule as their first subject
+abbrev pub is_up_to : ℕ → CellId → Broken → Bool
+is_up_to n cell b = is_le (ordering_then (nat_cmp b.rule n) (cell_cmp b.first cell))
+
+-- the rows stand in the order of their cells
+abbrev pub AreInOrder : List Held → Type 0
+AreInOrder rows = IsStrictlySortedBy (λ s t. cell_cmp s.0 t.0) rows
+
+-- a need of a list that no need of the list comes before
+pub record IsLeastListed (list : List Broken) (b : Broken) : Type 0 where
+  pub listed : Contains list b
+  pub least : (c : Broken) → Contains list c → is_gt (broken_cmp b c) ≡ false
+
+-- a broken need before which none comes of those that were listed, and of those of a rule and of later ones
+pub record IsLeastAmong (rules : List Rule) (rows : List Held) (n : ℕ) (before : List Broken) (b : Broken) : Type 0 where
+  pub broken : Contains before b ⊎ IsBrokenAmong rules rows b
+  pub least : (c : Broken) → IsBrokenAmong rules rows c → Contains before c ⊎ (n ≤ c.rule) → is_gt (broken_cmp b c) ≡ false
+
+-- the same among the rows of a search
+abbrev pub IsLeastFrom : Search → List Broken → Broken → Type 0
+IsLeastFrom search before b = IsLeastAmong search.book.now (rows_of search) search.rule before b

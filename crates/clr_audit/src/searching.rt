@@ -2,22 +2,44 @@
 //! alone that share a spot with them, and a server is looked for among such servers alone: no other
 //! row can stand in a need with them.
 
-ghost use Rattle.std.specs.Prelude.{◌≡◌, ◌<◌, ◌++◌, ◌∷◌, length, slice_get, Contains, OnErr, OnOk, None, Some, option_map, option_to_list};
+ghost use Rattle.std.specs.Prelude.{◌≡◌, ◌↔◌, ◌<◌, ◌++◌, ◌∷◌, true, length, slice_get, Contains, IfOk, IfSome, MatchOption, OnErr, OnOk, None, Some, option_map, option_to_list};
 ghost use Rattle.std.specs.List.{flat_map};
 ghost use Rattle.clr_rows.specs.Held.{held_of};
 ghost use Rattle.clr_rules.specs.Books.{FitTogether};
 ghost use Rattle.clr_rules.specs.Calls.{plain_ask};
 ghost use Rattle.clr_rules.specs.Roles.{roles_under};
+ghost use Rattle.clr_rules.specs.declared.needs.Broken.{Broken as OneBroken};
 ghost use Rattle.clr_rows.specs.Beginnings.{IsBegun};
-ghost use Rattle.clr_audit.specs.Searches.{AreRowsFiled, GainsAll, GainsSome, IsAlone, IsOfPart, IsOfRow, IsOfRule, IsPaired};
-ghost use Rattle.clr_audit.specs.Searches.{need_if_broken, need_beside, rows_of, serves_among, serves_at, servers_at_spots, servers_near};
+ghost use Rattle.clr_audit.specs.Searches.{AreInOrder, AreRowsFiled, GainsAll, GainsSome, IsAlone, IsLeastFrom, IsLeastListed, IsOfPart, IsOfRow, IsOfRule, IsPaired};
+ghost use Rattle.clr_audit.specs.Searches.{is_up_to, need_if_broken, need_beside, rows_of, serves_among, serves_at, servers_at_spots, servers_near};
 
 use crate::role_index::RoleIndex;
 use crate::spot_maps::FiledPart;
-use clr_rows::Held;
+use clr_rows::{CellId, Held};
 use clr_rules::{Ask, Broken, Roles, RuleBook};
 use clr_spots::{Spot, Spots, put_in_order, subject_spots};
 use std::alloc::{AllocError, Global};
+
+/// Whether a broken need comes at or before all those of a rule whose first subject is at a cell.
+fn is_up_to(rule: u16, cell: CellId, need: &Broken) -> bool
+    ensures { result ≡ is_up_to rule cell need.now }
+{
+    need.rule.cmp(&rule).then(need.first.cmp(&cell)).is_le()
+}
+
+/// Puts a list in order, and answers its least need, where no need of a later row can come before
+/// it.
+fn least_up_to(rule: u16, cell: CellId, list: &mut Vec<Broken>) -> Option<Broken>
+    ensures same { (b : OneBroken) → Contains list.new.items b ↔ Contains list.old.items b }
+    ensures least { IfSome result (IsLeastListed list.old.items) }
+    ensures early { IfSome result (λ need. is_up_to rule cell need ≡ true) }
+{
+    put_in_order(list);
+    match list.as_slice().first() {
+        Some(need) if is_up_to(rule, cell, need) => Some(*need),
+        _ => None,
+    }
+}
 
 fn row_by_position<'a, 'b>(rows: &'a [Held<'b>], position: usize) -> Option<&'a Held<'b>>
     ensures { option_map (λ h. h.now) result ≡ slice_get rows.now position }
@@ -289,5 +311,28 @@ impl<'a> Search<'a> {
             self.add_of_row(alloc, *first, list)?;
         }
         Ok(())
+    }
+
+    /// Adds the broken needs of the rule, row by row, and answers the least of the list as soon as
+    /// no later row or rule can have a lesser one. None is answered where all of them were added.
+    /// It fails for want of memory alone.
+    pub(crate) fn add_until_least(
+        &self,
+        alloc: Global,
+        list: &mut Vec<Broken>,
+    ) -> Result<Option<Broken>, AllocError>
+        requires number { self.now.rule < length self.now.book.now }
+        requires fit { FitTogether self.now.book.now (rows_of self.now) }
+        requires filed { AreRowsFiled self.now }
+        requires in_order { AreInOrder (rows_of self.now) }
+        ensures { IfOk result (λ found. MatchOption found (GainsAll self.now (IsOfRule self.now.rule) list.old.items list.new.items) (IsLeastFrom self.now list.old.items)) }
+    {
+        for first in self.rows {
+            self.add_of_row(alloc, *first, list)?;
+            if let Some(need) = least_up_to(self.rule, first.cell, list) {
+                return Ok(Some(need));
+            }
+        }
+        Ok(None)
     }
 }
