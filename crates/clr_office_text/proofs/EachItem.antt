@@ -3,8 +3,9 @@ use Rattle.std.proofs.Common.{◌≡◌, ℕ, suc, ◌+◌, ◌≤◌, ◌<◌, 
 use Rattle.std.proofs.Math.Seq.{drop-cons}
 use Rattle.std.proofs.lemmas.List.{append-nil, drop_all}
 use Rattle.serde_json.specs.Data.{Data}
-use Rattle.serde_json.specs.View.{view, items_view}
-use Rattle.serde_json.specs.declared.value.Value.{Value as Json}
+use Rattle.clr_office_text.specs.Values.{items_seen, seen}
+use Rattle.std.specs.declared.alloc.Global.{Global}
+use Rattle.json.specs.declared.value.Value.{Value}
 use Rattle.clr_office_text.specs.declared.faults.TextFault.{TextFault}
 use Rattle.clr_office_text.specs.declared.faults.TextFault.TheVariants as fault
 use Rattle.clr_office_text.specs.Fields.{◌>>=◌, Fails, each}
@@ -34,23 +35,23 @@ one_more front (Ok x) others = regroup front x others
 one_more front (Err e) others = refl
 
 -- the item at i is read next
-next : {A : Type 0} (f : Data → Result A TextFault) (front : List A) (vs : List Json) (i : ℕ) (v : Json) → i < length vs → v ≡ get_or vs i v
-    → with_front front (each f (items_view (drop i vs))) ≡ f (view v) >>= λ x. with_front (front ++ x ∷ []) (each f (items_view (drop (i + 1) vs)))
+next : {A : Type 0} (f : Data → Result A TextFault) (front : List A) (vs : List (Value Global)) (i : ℕ) (v : Value Global) → i < length vs → v ≡ get_or vs i v
+    → with_front front (each f (items_seen (drop i vs))) ≡ f (seen v) >>= λ x. with_front (front ++ x ∷ []) (each f (items_seen (drop (i + 1) vs)))
 unfolding each
-next f front vs i v lt is = rw (add-one i, drop-cons vs i v) (rw (← is) (one_more front (f (view v)) (each f (items_view (drop (suc i) vs)))))
+next f front vs i v lt is = rw (add-one i, drop-cons vs i v) (rw (← is) (one_more front (f (seen v)) (each f (items_seen (drop (suc i) vs)))))
 
 -- the loop goes on after an item that was read
-pub goes_on : {A : Type 0} (f : Data → Result A TextFault) (front : List A) (vs : List Json) (i : ℕ) (v : Json) (x : A) (whole : Result (List A) TextFault) → i < length vs → v ≡ get_or vs i v → f (view v) ≡ Ok x
-    → with_front front (each f (items_view (drop i vs))) ≡ whole → with_front (front ++ x ∷ []) (each f (items_view (drop (i + 1) vs))) ≡ whole
+pub goes_on : {A : Type 0} (f : Data → Result A TextFault) (front : List A) (vs : List (Value Global)) (i : ℕ) (v : Value Global) (x : A) (whole : Result (List A) TextFault) → i < length vs → v ≡ get_or vs i v → f (seen v) ≡ Ok x
+    → with_front front (each f (items_seen (drop i vs))) ≡ whole → with_front (front ++ x ∷ []) (each f (items_seen (drop (i + 1) vs))) ≡ whole
 goes_on f front vs i v x whole lt is was so_far = sym (next f front vs i v lt is ∙ rw was refl) ∙ so_far
 
 -- the loop ends at an item that fails
-pub ends : {A : Type 0} (f : Data → Result A TextFault) (e : TextFault) (front : List A) (vs : List Json) (i : ℕ) (v : Json) (whole : Result (List A) TextFault) → i < length vs → v ≡ get_or vs i v → Fails e (f (view v))
-    → with_front front (each f (items_view (drop i vs))) ≡ whole → Fails e whole
-ends f e front vs i v whole lt is failed so_far = fails_with e (f (view v)) _ whole failed (sym (next f front vs i v lt is) ∙ so_far)
+pub ends : {A : Type 0} (f : Data → Result A TextFault) (e : TextFault) (front : List A) (vs : List (Value Global)) (i : ℕ) (v : Value Global) (whole : Result (List A) TextFault) → i < length vs → v ≡ get_or vs i v → Fails e (f (seen v))
+    → with_front front (each f (items_seen (drop i vs))) ≡ whole → Fails e whole
+ends f e front vs i v whole lt is failed so_far = fails_with e (f (seen v)) _ whole failed (sym (next f front vs i v lt is) ∙ so_far)
 
 -- the loop is done
-pub is_done : {A : Type 0} (f : Data → Result A TextFault) (front : List A) (vs : List Json) (i : ℕ) (whole : Result (List A) TextFault) → length vs ≤ i
-    → with_front front (each f (items_view (drop i vs))) ≡ whole → whole ≡ Ok front
+pub is_done : {A : Type 0} (f : Data → Result A TextFault) (front : List A) (vs : List (Value Global)) (i : ℕ) (whole : Result (List A) TextFault) → length vs ≤ i
+    → with_front front (each f (items_seen (drop i vs))) ≡ whole → whole ≡ Ok front
 unfolding each
 is_done f front vs i whole le so_far = sym so_far ∙ rw (drop_all i vs le) (ap (λ ys. Ok ys) (append-nil front))

@@ -2,8 +2,9 @@
 use Rattle.std.proofs.Common.{◌≡◌, ◌==◌, ◌-◌, ◌≤◌, ◌<◌, true, false, List, [], ◌∷◌, ◌++◌, length, get_or, take, drop, Result, Ok, Err, refl, sym, ap, ◌∙◌, arith}
 use Rattle.std.proofs.lemmas.List.{append-nil, take_all}
 use Rattle.std.proofs.lemmas.Bool.{ne_eqb}
-use Rattle.serde_json.specs.View.{view, items_view}
-use Rattle.serde_json.specs.declared.value.Value.{Value as Json}
+use Rattle.clr_office_text.specs.Values.{items_seen, seen}
+use Rattle.std.specs.declared.alloc.Global.{Global}
+use Rattle.json.specs.declared.value.Value.{Value}
 use Rattle.clr_rows.specs.declared.places.Place.{Place}
 use Rattle.clr_office_text.specs.declared.faults.TextFault.{TextFault}
 use Rattle.clr_office_text.specs.declared.faults.TextFault.TheVariants as fault
@@ -11,34 +12,34 @@ use Rattle.clr_office_text.specs.Fields.{◌>>=◌, Fails}
 use Rattle.clr_office_text.specs.Cells.{place_of, places_of}
 use Rattle.clr_office_text.proofs.EachItem.{fails_with, one_more, with_front}
 
-next : (front : List Place) (vs : List Json) (x y : Json) → 2 ≤ length vs → x ≡ get_or vs 0 x → y ≡ get_or vs 1 y
-    → with_front front (places_of (items_view vs)) ≡ place_of (view x) (view y) >>= λ p. with_front (front ++ p ∷ []) (places_of (items_view (take (length vs - 2) (drop 2 vs))))
+next : (front : List Place) (vs : List (Value Global)) (x y : Value Global) → 2 ≤ length vs → x ≡ get_or vs 0 x → y ≡ get_or vs 1 y
+    → with_front front (places_of (items_seen vs)) ≡ place_of (seen x) (seen y) >>= λ p. with_front (front ++ p ∷ []) (places_of (items_seen (take (length vs - 2) (drop 2 vs))))
 unfolding places_of
 next front [] x y two first second = absurd (omega (arith, two))
 next front (a ∷ []) x y two first second = absurd (omega (arith, two))
 next front (a ∷ b ∷ vs) x y two first second =
     let rest : take (length (a ∷ b ∷ vs) - 2) vs ≡ vs = take_all (length (a ∷ b ∷ vs) - 2) vs (omega arith) in
-    rw (rest, first, second) (one_more front (place_of (view a) (view b)) (places_of (items_view vs)))
+    rw (rest, first, second) (one_more front (place_of (seen a) (seen b)) (places_of (items_seen vs)))
 
 -- one more place is read
-pub goes_on : (front : List Place) (vs : List Json) (x y : Json) (p : Place) (whole : Result (List Place) TextFault) → 2 ≤ length vs → x ≡ get_or vs 0 x → y ≡ get_or vs 1 y → place_of (view x) (view y) ≡ Ok p
-    → with_front front (places_of (items_view vs)) ≡ whole → with_front (front ++ p ∷ []) (places_of (items_view (take (length vs - 2) (drop 2 vs)))) ≡ whole
+pub goes_on : (front : List Place) (vs : List (Value Global)) (x y : Value Global) (p : Place) (whole : Result (List Place) TextFault) → 2 ≤ length vs → x ≡ get_or vs 0 x → y ≡ get_or vs 1 y → place_of (seen x) (seen y) ≡ Ok p
+    → with_front front (places_of (items_seen vs)) ≡ whole → with_front (front ++ p ∷ []) (places_of (items_seen (take (length vs - 2) (drop 2 vs)))) ≡ whole
 goes_on front vs x y p whole two first second was so_far = sym (next front vs x y two first second ∙ rw was refl) ∙ so_far
 
 -- a place has a fault, and so has the whole
-pub stops : (e : TextFault) (front : List Place) (vs : List Json) (x y : Json) (whole : Result (List Place) TextFault) → 2 ≤ length vs → x ≡ get_or vs 0 x → y ≡ get_or vs 1 y → Fails e (place_of (view x) (view y))
-    → with_front front (places_of (items_view vs)) ≡ whole → Fails e whole
-stops e front vs x y whole two first second failed so_far = fails_with e (place_of (view x) (view y)) _ whole failed (sym (next front vs x y two first second) ∙ so_far)
+pub stops : (e : TextFault) (front : List Place) (vs : List (Value Global)) (x y : Value Global) (whole : Result (List Place) TextFault) → 2 ≤ length vs → x ≡ get_or vs 0 x → y ≡ get_or vs 1 y → Fails e (place_of (seen x) (seen y))
+    → with_front front (places_of (items_seen vs)) ≡ whole → Fails e whole
+stops e front vs x y whole two first second failed so_far = fails_with e (place_of (seen x) (seen y)) _ whole failed (sym (next front vs x y two first second) ∙ so_far)
 
 -- a number is left over
-pub left_over : (front : List Place) (vs : List Json) (whole : Result (List Place) TextFault) → false ≡ (length vs == 0) → length vs < 2 → with_front front (places_of (items_view vs)) ≡ whole → whole ≡ Err fault.BadField
+pub left_over : (front : List Place) (vs : List (Value Global)) (whole : Result (List Place) TextFault) → false ≡ (length vs == 0) → length vs < 2 → with_front front (places_of (items_seen vs)) ≡ whole → whole ≡ Err fault.BadField
 unfolding places_of
 left_over front [] whole some one so_far = absurd cc
 left_over front (a ∷ []) whole some one so_far = sym so_far
 left_over front (a ∷ b ∷ vs) whole some one so_far = absurd (omega (arith, one))
 
 -- no number is left
-pub is_done : (front : List Place) (vs : List Json) (whole : Result (List Place) TextFault) → true ≡ (length vs == 0) → with_front front (places_of (items_view vs)) ≡ whole → whole ≡ Ok front
+pub is_done : (front : List Place) (vs : List (Value Global)) (whole : Result (List Place) TextFault) → true ≡ (length vs == 0) → with_front front (places_of (items_seen vs)) ≡ whole → whole ≡ Ok front
 unfolding places_of
 is_done front [] whole none so_far = sym so_far ∙ ap (λ ys. Ok ys) (append-nil front)
 is_done front (a ∷ vs) whole none so_far =

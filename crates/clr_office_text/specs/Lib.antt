@@ -5,4 +5,5 @@ pub mod Offices
 pub mod Patches
 pub mod Rules
 pub mod Tables
+pub mod Values
 pub mod Workspaces

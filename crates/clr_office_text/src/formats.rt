@@ -1,11 +1,11 @@
 ghost use Rattle.std.specs.Prelude.{◌≡◌};
-ghost use Rattle.serde_json.specs.View.{view};
 ghost use Rattle.clr_office_text.specs.Fields.{Gives};
 ghost use Rattle.clr_office_text.specs.Offices.{format_of};
+ghost use Rattle.clr_office_text.specs.Values.{seen};
 
 use crate::faults::TextFault;
 use crate::fields::number_in;
-use serde_json::Value as Json;
+use crate::json_values::Json;
 
 /// The format of an office text.
 #[derive(Clone, Copy, Debug, PartialEq, Eq)]
@@ -20,8 +20,8 @@ pub enum Format {
 
 /// The format of an office text. Fails with `BadField` where it is none of 1 to 3.
 #[tactic(auto, unfolding(crate::specs::Offices::format_of))]
-pub fn read_format(json: &Json) -> Result<Format, TextFault>
-    ensures { Gives (λ f. f) result (format_of (view json.now)) }
+pub fn read_format(json: &Json<'_>) -> Result<Format, TextFault>
+    ensures { Gives (λ f. f) result (format_of (seen json.now)) }
 {
     match number_in(json, "format")? {
         1 => Ok(Format::First),

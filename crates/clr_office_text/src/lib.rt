@@ -11,6 +11,7 @@ mod earlier_names;
 mod faults;
 mod fields;
 mod formats;
+mod json_values;
 mod live;
 mod named_cells;
 mod named_marks;

@@ -1,14 +1,14 @@
 ghost use Rattle.std.specs.Prelude.{◌≡◌, IfOk, OnErr};
-ghost use Rattle.serde_json.specs.View.{view};
 ghost use Rattle.clr_rows.specs.Contents.{no_rows};
 ghost use Rattle.clr_rows.specs.Schemas.{FitsSchema};
 ghost use Rattle.clr_office_text.specs.Fields.{Gives};
 ghost use Rattle.clr_office_text.specs.Cells.{cell_of, live_of, with_row, with_rows};
+ghost use Rattle.clr_office_text.specs.Values.{seen};
 
 use crate::cells::{NamedRow, live_rows};
 use crate::faults::TextFault;
 use clr_rows::{CellId, Schema, Sheet, Words};
-use serde_json::Value as Json;
+use crate::json_values::Json;
 use std::alloc::Global;
 
 /// The cell of a key in the table of a name. Fails with `BadRow` where there is no such table.
@@ -56,8 +56,8 @@ fn sheet(alloc: Global, schema: &Schema, rows: Vec<NamedRow>) -> Result<Sheet, T
 /// by cell, with `BadRow` where the table isn't known or the row doesn't fit it, and with
 /// `RepeatedCell` where the cell stood earlier in the list.
 #[tactic(auto, unfolding(crate::specs::Cells::live_of))]
-pub fn live(alloc: Global, json: &Json, schema: &Schema) -> Result<Sheet, TextFault>
-    ensures value { Gives (λ s. s) result (live_of schema.now (view json.now)) }
+pub fn live(alloc: Global, json: &Json<'_>, schema: &Schema) -> Result<Sheet, TextFault>
+    ensures value { Gives (λ s. s) result (live_of schema.now (seen json.now)) }
     ensures fits { IfOk result (λ s. FitsSchema schema.now s) }
 {
     sheet(alloc, schema, live_rows(alloc, json, schema)?)

@@ -1,13 +1,13 @@
 ghost use Rattle.std.specs.Prelude.{◌≡◌};
-ghost use Rattle.serde_json.specs.View.{view, items_view};
 ghost use Rattle.clr_office_text.specs.Fields.{Gives, each};
 ghost use Rattle.clr_office_text.specs.Patches.{named_cell_of, named_cells_at, row_unless_gone as row_meant};
+ghost use Rattle.clr_office_text.specs.Values.{items_seen, seen};
 
 use crate::cells::{has_paths, row};
 use crate::faults::TextFault;
 use crate::fields::{number_in, optional_flag, optional_list, words_in};
 use clr_rows::{Row, Schema, Words};
-use serde_json::Value as Json;
+use crate::json_values::Json;
 use std::alloc::Global;
 use std::marker::Model;
 
@@ -48,9 +48,9 @@ fn row_unless_gone(
     alloc: Global,
     is_gone: bool,
     is_path: bool,
-    json: &Json,
+    json: &Json<'_>,
 ) -> Result<Option<Row>, TextFault>
-    ensures { Gives (λ r. r) result (row_meant is_gone is_path (view json.now)) }
+    ensures { Gives (λ r. r) result (row_meant is_gone is_path (seen json.now)) }
 {
     if is_gone {
         return Ok(None);
@@ -59,8 +59,8 @@ fn row_unless_gone(
 }
 
 #[tactic(auto, unfolding(crate::specs::Patches::named_cell_of))]
-fn named_cell(alloc: Global, json: &Json, schema: &Schema) -> Result<NamedCell, TextFault>
-    ensures { Gives (λ c. c) result (named_cell_of schema.now (view json.now)) }
+fn named_cell(alloc: Global, json: &Json<'_>, schema: &Schema) -> Result<NamedCell, TextFault>
+    ensures { Gives (λ c. c) result (named_cell_of schema.now (seen json.now)) }
 {
     let table = words_in(alloc, json, "t")?;
     let key = number_in(json, "k")?;
@@ -72,10 +72,10 @@ fn named_cell(alloc: Global, json: &Json, schema: &Schema) -> Result<NamedCell, 
 
 fn each_named_cell(
     alloc: Global,
-    items: &[Json],
+    items: &[Json<'_>],
     schema: &Schema,
 ) -> Result<Vec<NamedCell>, TextFault>
-    ensures { Gives (λ v. v.items) result (each (named_cell_of schema.now) (items_view items.now)) }
+    ensures { Gives (λ v. v.items) result (each (named_cell_of schema.now) (items_seen items.now)) }
 {
     let mut cells = Vec::new(alloc);
     for item in items {
@@ -90,11 +90,11 @@ fn each_named_cell(
 #[tactic(auto, unfolding(crate::specs::Patches::named_cells_at))]
 pub fn named_cells(
     alloc: Global,
-    json: &Json,
+    json: &Json<'_>,
     key: &str,
     schema: &Schema,
 ) -> Result<NamedCells, TextFault>
-    ensures { Gives (λ v. v) result (named_cells_at key.now schema.now (view json.now)) }
+    ensures { Gives (λ v. v) result (named_cells_at key.now schema.now (seen json.now)) }
 {
     let list = each_named_cell(alloc, optional_list(json, key)?, schema)?;
     Ok(NamedCells { list })

@@ -1,7 +1,7 @@
 ghost use Rattle.std.specs.Prelude.{◌≡◌};
-ghost use Rattle.serde_json.specs.View.{view, items_view};
 ghost use Rattle.clr_office_text.specs.Fields.{Gives, each, each_in};
 ghost use Rattle.clr_office_text.specs.Workspaces.{mark_over, marks_of, named_mark_of, named_marks_of, saved_of};
+ghost use Rattle.clr_office_text.specs.Values.{items_seen, seen};
 
 use crate::faults::TextFault;
 use crate::fields::{optional_list, words, words_from, words_in};
@@ -9,7 +9,7 @@ use crate::named_cells::{NamedCells, named_cells};
 use crate::patches::differences;
 use clr_layers::StoredMark;
 use clr_rows::{Schema, Words};
-use serde_json::Value as Json;
+use crate::json_values::{Json, member};
 use std::alloc::Global;
 
 /// A mark as it is written: that of a child, or a savepoint with the cells that are put over the
@@ -21,8 +21,8 @@ pub enum NamedMark {
 }
 
 #[tactic(auto, unfolding(crate::specs::Workspaces::saved_of))]
-fn read_savepoint(alloc: Global, json: &Json, schema: &Schema) -> Result<NamedMark, TextFault>
-    ensures { Gives (λ m. m) result (saved_of schema.now (view json.now)) }
+fn read_savepoint(alloc: Global, json: &Json<'_>, schema: &Schema) -> Result<NamedMark, TextFault>
+    ensures { Gives (λ m. m) result (saved_of schema.now (seen json.now)) }
 {
     let name = words_in(alloc, json, "savepoint")?;
     let cells = named_cells(alloc, json, "rows", schema)?;
@@ -30,10 +30,10 @@ fn read_savepoint(alloc: Global, json: &Json, schema: &Schema) -> Result<NamedMa
 }
 
 #[tactic(auto, unfolding(crate::specs::Workspaces::named_mark_of))]
-fn named_mark(alloc: Global, json: &Json, schema: &Schema) -> Result<NamedMark, TextFault>
-    ensures { Gives (λ m. m) result (named_mark_of schema.now (view json.now)) }
+fn named_mark(alloc: Global, json: &Json<'_>, schema: &Schema) -> Result<NamedMark, TextFault>
+    ensures { Gives (λ m. m) result (named_mark_of schema.now (seen json.now)) }
 {
-    match json.get("child") {
+    match member(json, "child") {
         Some(child) => Ok(NamedMark::Child(words_from(alloc, words(child)?)?)),
         None => read_savepoint(alloc, json, schema),
     }
@@ -41,10 +41,10 @@ fn named_mark(alloc: Global, json: &Json, schema: &Schema) -> Result<NamedMark, 
 
 fn each_named_mark(
     alloc: Global,
-    items: &[Json],
+    items: &[Json<'_>],
     schema: &Schema,
 ) -> Result<Vec<NamedMark>, TextFault>
-    ensures { Gives (λ v. v.items) result (each (named_mark_of schema.now) (items_view items.now)) }
+    ensures { Gives (λ v. v.items) result (each (named_mark_of schema.now) (items_seen items.now)) }
 {
     let mut marks = Vec::new(alloc);
     for item in items {
@@ -55,8 +55,8 @@ fn each_named_mark(
 }
 
 #[tactic(auto, unfolding(crate::specs::Workspaces::named_marks_of))]
-fn named_marks(alloc: Global, json: &Json, schema: &Schema) -> Result<Vec<NamedMark>, TextFault>
-    ensures { Gives (λ v. v.items) result (named_marks_of schema.now (view json.now)) }
+fn named_marks(alloc: Global, json: &Json<'_>, schema: &Schema) -> Result<Vec<NamedMark>, TextFault>
+    ensures { Gives (λ v. v.items) result (named_marks_of schema.now (seen json.now)) }
 {
     each_named_mark(alloc, optional_list(json, "marks")?, schema)
 }
@@ -91,8 +91,8 @@ fn each_mark(
 /// empty. Fails with `BadField` where a key is missing in one of the marks, or a value is none of
 /// those that may stand there, and then, mark by mark, as the cells of a savepoint do.
 #[tactic(auto, unfolding(crate::specs::Workspaces::marks_of))]
-pub fn marks(alloc: Global, json: &Json, schema: &Schema) -> Result<Vec<StoredMark>, TextFault>
-    ensures { Gives (λ v. v.items) result (marks_of schema.now (view json.now)) }
+pub fn marks(alloc: Global, json: &Json<'_>, schema: &Schema) -> Result<Vec<StoredMark>, TextFault>
+    ensures { Gives (λ v. v.items) result (marks_of schema.now (seen json.now)) }
 {
     each_mark(alloc, schema, named_marks(alloc, json, schema)?)
 }

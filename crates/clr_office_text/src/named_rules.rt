@@ -1,14 +1,14 @@
 ghost use Rattle.std.specs.Prelude.{◌≡◌};
-ghost use Rattle.serde_json.specs.View.{view, items_view};
 ghost use Rattle.clr_office_text.specs.Fields.{Gives, each};
 ghost use Rattle.clr_office_text.specs.Rules.{crossing_of, end_node_of, named_rule_of, named_rules_of, near_of, partner_of};
 ghost use Rattle.clr_office_text.specs.Rules.{rule_of_kind as meant_by, tip_of, unique_of};
+ghost use Rattle.clr_office_text.specs.Values.{items_seen, seen};
 
 use crate::faults::TextFault;
 use crate::fields::{field, number_in, optional_list, words};
 use crate::named_sides::{ColumnNames, NamedSide, names_in, side_in};
 use clr_rules::Tip;
-use serde_json::Value as Json;
+use crate::json_values::Json;
 use std::alloc::Global;
 
 /// A rule with names of tables and columns, which may be unknown.
@@ -42,8 +42,8 @@ pub enum NamedRule {
 }
 
 #[tactic(auto, unfolding(crate::specs::Rules::tip_of))]
-fn tip(json: &Json) -> Result<Tip, TextFault>
-    ensures { Gives (λ t. t) result (tip_of (view json.now)) }
+fn tip(json: &Json<'_>) -> Result<Tip, TextFault>
+    ensures { Gives (λ t. t) result (tip_of (seen json.now)) }
 {
     match words(field(json, "tip")?)? {
         "FIRST" => Ok(Tip::First),
@@ -53,8 +53,8 @@ fn tip(json: &Json) -> Result<Tip, TextFault>
 }
 
 #[tactic(auto, unfolding(crate::specs::Rules::unique_of))]
-fn unique(alloc: Global, json: &Json) -> Result<NamedRule, TextFault>
-    ensures { Gives (λ r. r) result (unique_of (view json.now)) }
+fn unique(alloc: Global, json: &Json<'_>) -> Result<NamedRule, TextFault>
+    ensures { Gives (λ r. r) result (unique_of (seen json.now)) }
 {
     let subject = side_in(alloc, json, "subject")?;
     let columns = names_in(alloc, json, "columns")?;
@@ -62,8 +62,8 @@ fn unique(alloc: Global, json: &Json) -> Result<NamedRule, TextFault>
 }
 
 #[tactic(auto, unfolding(crate::specs::Rules::partner_of))]
-fn partner(alloc: Global, json: &Json) -> Result<NamedRule, TextFault>
-    ensures { Gives (λ r. r) result (partner_of (view json.now)) }
+fn partner(alloc: Global, json: &Json<'_>) -> Result<NamedRule, TextFault>
+    ensures { Gives (λ r. r) result (partner_of (seen json.now)) }
 {
     let subject = side_in(alloc, json, "subject")?;
     let columns = names_in(alloc, json, "columns")?;
@@ -78,8 +78,8 @@ fn partner(alloc: Global, json: &Json) -> Result<NamedRule, TextFault>
 }
 
 #[tactic(auto, unfolding(crate::specs::Rules::end_node_of))]
-fn end_node(alloc: Global, json: &Json) -> Result<NamedRule, TextFault>
-    ensures { Gives (λ r. r) result (end_node_of (view json.now)) }
+fn end_node(alloc: Global, json: &Json<'_>) -> Result<NamedRule, TextFault>
+    ensures { Gives (λ r. r) result (end_node_of (seen json.now)) }
 {
     let subject = side_in(alloc, json, "subject")?;
     let tip = tip(json)?;
@@ -92,8 +92,8 @@ fn end_node(alloc: Global, json: &Json) -> Result<NamedRule, TextFault>
 }
 
 #[tactic(auto, unfolding(crate::specs::Rules::crossing_of))]
-fn crossing(alloc: Global, json: &Json) -> Result<NamedRule, TextFault>
-    ensures { Gives (λ r. r) result (crossing_of (view json.now)) }
+fn crossing(alloc: Global, json: &Json<'_>) -> Result<NamedRule, TextFault>
+    ensures { Gives (λ r. r) result (crossing_of (seen json.now)) }
 {
     let a = side_in(alloc, json, "a")?;
     let b = side_in(alloc, json, "b")?;
@@ -102,8 +102,8 @@ fn crossing(alloc: Global, json: &Json) -> Result<NamedRule, TextFault>
 }
 
 #[tactic(auto, unfolding(crate::specs::Rules::near_of))]
-fn near(alloc: Global, json: &Json) -> Result<NamedRule, TextFault>
-    ensures { Gives (λ r. r) result (near_of (view json.now)) }
+fn near(alloc: Global, json: &Json<'_>) -> Result<NamedRule, TextFault>
+    ensures { Gives (λ r. r) result (near_of (seen json.now)) }
 {
     let a = side_in(alloc, json, "a")?;
     let b = side_in(alloc, json, "b")?;
@@ -111,8 +111,8 @@ fn near(alloc: Global, json: &Json) -> Result<NamedRule, TextFault>
     Ok(NamedRule::Near { a, b, d })
 }
 
-fn rule_of_kind(alloc: Global, kind: &str, json: &Json) -> Result<NamedRule, TextFault>
-    ensures { Gives (λ r. r) result (meant_by kind.now (view json.now)) }
+fn rule_of_kind(alloc: Global, kind: &str, json: &Json<'_>) -> Result<NamedRule, TextFault>
+    ensures { Gives (λ r. r) result (meant_by kind.now (seen json.now)) }
 {
     match kind {
         "UNIQUE" => unique(alloc, json),
@@ -125,14 +125,14 @@ fn rule_of_kind(alloc: Global, kind: &str, json: &Json) -> Result<NamedRule, Tex
 }
 
 #[tactic(auto, unfolding(crate::specs::Rules::named_rule_of))]
-fn named_rule(alloc: Global, json: &Json) -> Result<NamedRule, TextFault>
-    ensures { Gives (λ r. r) result (named_rule_of (view json.now)) }
+fn named_rule(alloc: Global, json: &Json<'_>) -> Result<NamedRule, TextFault>
+    ensures { Gives (λ r. r) result (named_rule_of (seen json.now)) }
 {
     rule_of_kind(alloc, words(field(json, "kind")?)?, json)
 }
 
-fn each_named_rule(alloc: Global, items: &[Json]) -> Result<Vec<NamedRule>, TextFault>
-    ensures { Gives (λ v. v.items) result (each named_rule_of (items_view items.now)) }
+fn each_named_rule(alloc: Global, items: &[Json<'_>]) -> Result<Vec<NamedRule>, TextFault>
+    ensures { Gives (λ v. v.items) result (each named_rule_of (items_seen items.now)) }
 {
     let mut rules = Vec::new(alloc);
     for item in items {
@@ -145,8 +145,8 @@ fn each_named_rule(alloc: Global, items: &[Json]) -> Result<Vec<NamedRule>, Text
 /// The rules of an office text with their names; a missing list is empty. Fails with `BadField`
 /// where a key is missing, or a value is none of those that may stand there.
 #[tactic(auto, unfolding(crate::specs::Rules::named_rules_of))]
-pub fn named_rules(alloc: Global, json: &Json) -> Result<Vec<NamedRule>, TextFault>
-    ensures { Gives (λ v. v.items) result (named_rules_of (view json.now)) }
+pub fn named_rules(alloc: Global, json: &Json<'_>) -> Result<Vec<NamedRule>, TextFault>
+    ensures { Gives (λ v. v.items) result (named_rules_of (seen json.now)) }
 {
     each_named_rule(alloc, optional_list(json, "rules")?)
 }

@@ -1,13 +1,13 @@
 ghost use Rattle.std.specs.Prelude.{◌≡◌};
-ghost use Rattle.serde_json.specs.View.{view, items_view};
 ghost use Rattle.clr_office_text.specs.Fields.{Gives, each, words_of};
 ghost use Rattle.clr_office_text.specs.Rules.{filter_of, literal_of, literal_pair, names_at, side_at, side_of};
+ghost use Rattle.clr_office_text.specs.Values.{items_seen, seen};
 
 use crate::cells::value;
 use crate::faults::TextFault;
 use crate::fields::{field, list, list_in, optional_list, words, words_from, words_in};
 use clr_rows::{Value, Words};
-use serde_json::Value as Json;
+use crate::json_values::Json;
 use std::alloc::Global;
 use std::marker::Model;
 
@@ -66,8 +66,8 @@ pub struct NamedSide {
 }
 
 #[tactic(auto, unfolding(crate::specs::Rules::literal_pair))]
-fn literal_of_pair(alloc: Global, items: &[Json]) -> Result<(Words, Value), TextFault>
-    ensures { Gives (λ p. p) result (literal_pair (items_view items.now)) }
+fn literal_of_pair(alloc: Global, items: &[Json<'_>]) -> Result<(Words, Value), TextFault>
+    ensures { Gives (λ p. p) result (literal_pair (items_seen items.now)) }
 {
     match items {
         [name, literal] => {
@@ -79,14 +79,14 @@ fn literal_of_pair(alloc: Global, items: &[Json]) -> Result<(Words, Value), Text
 }
 
 #[tactic(auto, unfolding(crate::specs::Rules::literal_of))]
-fn literal(alloc: Global, json: &Json) -> Result<(Words, Value), TextFault>
-    ensures { Gives (λ p. p) result (literal_of (view json.now)) }
+fn literal(alloc: Global, json: &Json<'_>) -> Result<(Words, Value), TextFault>
+    ensures { Gives (λ p. p) result (literal_of (seen json.now)) }
 {
     literal_of_pair(alloc, list(json)?)
 }
 
-fn each_literal(alloc: Global, items: &[Json]) -> Result<Vec<(Words, Value)>, TextFault>
-    ensures { Gives (λ v. v.items) result (each literal_of (items_view items.now)) }
+fn each_literal(alloc: Global, items: &[Json<'_>]) -> Result<Vec<(Words, Value)>, TextFault>
+    ensures { Gives (λ v. v.items) result (each literal_of (items_seen items.now)) }
 {
     let mut literals = Vec::new(alloc);
     for item in items {
@@ -97,16 +97,16 @@ fn each_literal(alloc: Global, items: &[Json]) -> Result<Vec<(Words, Value)>, Te
 }
 
 #[tactic(auto, unfolding(crate::specs::Rules::filter_of))]
-fn filter(alloc: Global, json: &Json) -> Result<NamedFilter, TextFault>
-    ensures { Gives (λ f. f) result (filter_of (view json.now)) }
+fn filter(alloc: Global, json: &Json<'_>) -> Result<NamedFilter, TextFault>
+    ensures { Gives (λ f. f) result (filter_of (seen json.now)) }
 {
     let list = each_literal(alloc, optional_list(json, "where")?)?;
     Ok(NamedFilter { list })
 }
 
 #[tactic(auto, unfolding(crate::specs::Rules::side_of))]
-fn side(alloc: Global, json: &Json) -> Result<NamedSide, TextFault>
-    ensures { Gives (λ s. s) result (side_of (view json.now)) }
+fn side(alloc: Global, json: &Json<'_>) -> Result<NamedSide, TextFault>
+    ensures { Gives (λ s. s) result (side_of (seen json.now)) }
 {
     let table = words_in(alloc, json, "table")?;
     let filter = filter(alloc, json)?;
@@ -115,20 +115,20 @@ fn side(alloc: Global, json: &Json) -> Result<NamedSide, TextFault>
 
 /// The side at a key. Fails with `BadField` where there is none.
 #[tactic(auto, unfolding(crate::specs::Rules::side_at))]
-pub fn side_in(alloc: Global, json: &Json, key: &str) -> Result<NamedSide, TextFault>
-    ensures { Gives (λ s. s) result (side_at key.now (view json.now)) }
+pub fn side_in(alloc: Global, json: &Json<'_>, key: &str) -> Result<NamedSide, TextFault>
+    ensures { Gives (λ s. s) result (side_at key.now (seen json.now)) }
 {
     side(alloc, field(json, key)?)
 }
 
-fn name(alloc: Global, json: &Json) -> Result<Words, TextFault>
-    ensures { Gives (λ w. w) result (words_of (view json.now)) }
+fn name(alloc: Global, json: &Json<'_>) -> Result<Words, TextFault>
+    ensures { Gives (λ w. w) result (words_of (seen json.now)) }
 {
     words_from(alloc, words(json)?)
 }
 
-fn each_name(alloc: Global, items: &[Json]) -> Result<Vec<Words>, TextFault>
-    ensures { Gives (λ v. v.items) result (each words_of (items_view items.now)) }
+fn each_name(alloc: Global, items: &[Json<'_>]) -> Result<Vec<Words>, TextFault>
+    ensures { Gives (λ v. v.items) result (each words_of (items_seen items.now)) }
 {
     let mut names = Vec::new(alloc);
     for item in items {
@@ -140,8 +140,8 @@ fn each_name(alloc: Global, items: &[Json]) -> Result<Vec<Words>, TextFault>
 
 /// The list of names at a key. Fails with `BadField` where there is none.
 #[tactic(auto, unfolding(crate::specs::Rules::names_at))]
-pub fn names_in(alloc: Global, json: &Json, key: &str) -> Result<ColumnNames, TextFault>
-    ensures { Gives (λ v. v) result (names_at key.now (view json.now)) }
+pub fn names_in(alloc: Global, json: &Json<'_>, key: &str) -> Result<ColumnNames, TextFault>
+    ensures { Gives (λ v. v) result (names_at key.now (seen json.now)) }
 {
     let list = each_name(alloc, list_in(json, key)?)?;
     Ok(ColumnNames { list })

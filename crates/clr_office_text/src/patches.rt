@@ -1,16 +1,16 @@
 ghost use Rattle.std.specs.Prelude.{◌≡◌, is_none, OnErr};
 ghost use Rattle.std.specs.Option.{option_copied};
-ghost use Rattle.serde_json.specs.View.{view};
 ghost use Rattle.clr_differences.specs.Differences.{no_differences};
 ghost use Rattle.clr_office_text.specs.Fields.{Gives};
 ghost use Rattle.clr_office_text.specs.Patches.{differences_at, differences_of, put_fault, with_cell, with_cells};
+ghost use Rattle.clr_office_text.specs.Values.{seen};
 
 use crate::faults::TextFault;
 use crate::live::cell;
 use crate::named_cells::{NamedCell, NamedCells, named_cells};
 use clr_differences::Differences;
 use clr_rows::{CellId, Row, Schema};
-use serde_json::Value as Json;
+use crate::json_values::Json;
 use std::alloc::Global;
 
 /// Whether a row can be put at a cell, or none.
@@ -68,11 +68,11 @@ pub fn differences(
 #[tactic(auto, unfolding(crate::specs::Patches::differences_at))]
 pub fn differences_in(
     alloc: Global,
-    json: &Json,
+    json: &Json<'_>,
     key: &str,
     schema: &Schema,
 ) -> Result<Differences, TextFault>
-    ensures { Gives (λ d. d) result (differences_at key.now schema.now (view json.now)) }
+    ensures { Gives (λ d. d) result (differences_at key.now schema.now (seen json.now)) }
 {
     differences(alloc, schema, named_cells(alloc, json, key, schema)?)
 }

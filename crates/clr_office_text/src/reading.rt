@@ -1,8 +1,8 @@
 ghost use Rattle.std.specs.Prelude.{◌≡◌, IfOk};
-ghost use Rattle.serde_json.specs.View.{view};
 ghost use Rattle.clr_office_text.specs.Fields.{Gives};
 ghost use Rattle.clr_office_text.specs.Fits.{FitsOffice};
 ghost use Rattle.clr_office_text.specs.Offices.{office_in, office_of, office_read, schema_of};
+ghost use Rattle.clr_office_text.specs.Values.{seen};
 
 use crate::faults::TextFault;
 use crate::formats::{Format, read_format};
@@ -13,7 +13,9 @@ use crate::workspaces::stored_parts;
 use clr_layers::StoredPart;
 use clr_rows::{Schema, Sheet};
 use clr_rules::RuleBook;
-use serde_json::Value as Json;
+use crate::json_values::{Json, read_value};
+use json::Scratch;
+use simdutf8::compat::from_utf8;
 use std::alloc::Global;
 
 /// The parts of an office: its schema, its rules, the content of LIVE, and the workspaces under LIVE
@@ -27,8 +29,8 @@ pub struct OfficeParts {
 }
 
 #[tactic(auto, unfolding(crate::specs::Offices::schema_of))]
-fn schema(alloc: Global, json: &Json, format: Format) -> Result<Schema, TextFault>
-    ensures { Gives (λ s. s) result (schema_of format (view json.now)) }
+fn schema(alloc: Global, json: &Json<'_>, format: Format) -> Result<Schema, TextFault>
+    ensures { Gives (λ s. s) result (schema_of format (seen json.now)) }
 {
     match Schema::new(tables(alloc, json, format)?) {
         Ok(schema) => Ok(schema),
@@ -37,8 +39,8 @@ fn schema(alloc: Global, json: &Json, format: Format) -> Result<Schema, TextFaul
 }
 
 #[tactic(auto, unfolding(crate::specs::Offices::office_of))]
-fn office(alloc: Global, json: &Json) -> Result<OfficeParts, TextFault>
-    ensures value { Gives office_read result (office_of (view json.now)) }
+fn office(alloc: Global, json: &Json<'_>) -> Result<OfficeParts, TextFault>
+    ensures value { Gives office_read result (office_of (seen json.now)) }
     ensures fits { IfOk result (λ o. FitsOffice (office_read o)) }
 {
     let format = read_format(json)?;
@@ -73,14 +75,10 @@ pub fn read_office(alloc: Global, bytes: &[u8]) -> Result<OfficeParts, TextFault
     ensures value { Gives office_read result (office_in bytes.now) }
     ensures fits { IfOk result (λ o. FitsOffice (office_read o)) }
 {
-    match Json::from_slice(alloc, bytes) {
-        Ok(json) => office(alloc, &json),
-        Err(refused) => {
-            if refused.is_memory() {
-                Err(TextFault::OutOfMemory)
-            } else {
-                Err(TextFault::NotJson)
-            }
-        }
-    }
+    let Ok(text) = from_utf8(bytes) else {
+        return Err(TextFault::NotJson);
+    };
+    let mut scratch = Scratch::new(alloc);
+    let json = read_value(alloc, text, &mut scratch)?;
+    office(alloc, &json)
 }

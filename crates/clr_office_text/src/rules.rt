@@ -1,16 +1,16 @@
 ghost use Rattle.std.specs.Prelude.{◌≡◌, IfOk};
-ghost use Rattle.serde_json.specs.View.{view};
 ghost use Rattle.clr_rules.specs.Books.{FitsBook};
 ghost use Rattle.clr_office_text.specs.Fields.{Gives, each_in};
 ghost use Rattle.clr_office_text.specs.Rules.{column_number as number_meant, column_over, columns_over, crossing_over, end_node_over, filter_over};
 ghost use Rattle.clr_office_text.specs.Rules.{literal_over, near_over, partner_over, rule_over, rules_of, side_over, unique_over};
+ghost use Rattle.clr_office_text.specs.Values.{seen};
 
 use crate::faults::TextFault;
 use crate::named_rules::{NamedRule, named_rules};
 use crate::named_sides::{ColumnNames, NamedSide};
 use clr_rows::{KEY, Schema, Value, Words};
 use clr_rules::{Col, ColumnList, Filter, Rule, RuleBook, Side, Tip};
-use serde_json::Value as Json;
+use crate::json_values::Json;
 use std::alloc::Global;
 
 fn column_number(schema: &Schema, table: u16, name: &Words) -> Result<u16, TextFault>
@@ -221,8 +221,8 @@ fn each_rule(alloc: Global, schema: &Schema, named: Vec<NamedRule>) -> Result<Ve
 /// with `BadRule` where the schema hasn't a table or a column of a name, or the rules make no book
 /// over the schema.
 #[tactic(auto, unfolding(crate::specs::Rules::rules_of))]
-pub fn read_rules(alloc: Global, json: &Json, schema: &Schema) -> Result<RuleBook, TextFault>
-    ensures value { Gives (λ b. b) result (rules_of schema.now (view json.now)) }
+pub fn read_rules(alloc: Global, json: &Json<'_>, schema: &Schema) -> Result<RuleBook, TextFault>
+    ensures value { Gives (λ b. b) result (rules_of schema.now (seen json.now)) }
     ensures fits { IfOk result (λ b. FitsBook schema.now b) }
 {
     let rules = each_rule(alloc, schema, named_rules(alloc, json)?)?;

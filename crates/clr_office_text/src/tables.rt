@@ -1,17 +1,17 @@
 ghost use Rattle.std.specs.Prelude.{◌≡◌};
-ghost use Rattle.serde_json.specs.View.{view, items_view};
 ghost use Rattle.clr_office_text.specs.Fields.{Gives, each};
 ghost use Rattle.clr_office_text.specs.Tables.{column_of, columns_of, form_of, kind_of, pair_of, path_in, table_of, tables_of};
+ghost use Rattle.clr_office_text.specs.Values.{items_seen, seen};
 
 use crate::faults::TextFault;
 use crate::fields::{field, list, list_in, words, words_from, words_in};
 use crate::formats::Format;
 use clr_rows::{Columns, Form, Kind, TableDef, Words};
-use serde_json::Value as Json;
+use crate::json_values::Json;
 use std::alloc::Global;
 
-fn kind(json: &Json) -> Result<Kind, TextFault>
-    ensures { Gives (λ k. k) result (kind_of (view json.now)) }
+fn kind(json: &Json<'_>) -> Result<Kind, TextFault>
+    ensures { Gives (λ k. k) result (kind_of (seen json.now)) }
 {
     match words(json)? {
         "INT" => Ok(Kind::Int),
@@ -30,8 +30,8 @@ fn path(format: Format) -> Result<Form, TextFault>
     }
 }
 
-fn form(json: &Json, format: Format) -> Result<Form, TextFault>
-    ensures { Gives (λ f. f) result (form_of format (view json.now)) }
+fn form(json: &Json<'_>, format: Format) -> Result<Form, TextFault>
+    ensures { Gives (λ f. f) result (form_of format (seen json.now)) }
 {
     match words(json)? {
         "NONE" => Ok(Form::Bare),
@@ -43,8 +43,8 @@ fn form(json: &Json, format: Format) -> Result<Form, TextFault>
 }
 
 #[tactic(auto, unfolding(crate::specs::Tables::pair_of))]
-fn pair(alloc: Global, items: &[Json]) -> Result<(Words, Kind), TextFault>
-    ensures { Gives (λ c. c) result (pair_of (items_view items.now)) }
+fn pair(alloc: Global, items: &[Json<'_>]) -> Result<(Words, Kind), TextFault>
+    ensures { Gives (λ c. c) result (pair_of (items_seen items.now)) }
 {
     match items {
         [name, word] => {
@@ -56,14 +56,14 @@ fn pair(alloc: Global, items: &[Json]) -> Result<(Words, Kind), TextFault>
 }
 
 #[tactic(auto, unfolding(crate::specs::Tables::column_of))]
-fn column(alloc: Global, json: &Json) -> Result<(Words, Kind), TextFault>
-    ensures { Gives (λ c. c) result (column_of (view json.now)) }
+fn column(alloc: Global, json: &Json<'_>) -> Result<(Words, Kind), TextFault>
+    ensures { Gives (λ c. c) result (column_of (seen json.now)) }
 {
     pair(alloc, list(json)?)
 }
 
-fn each_column(alloc: Global, items: &[Json]) -> Result<Vec<(Words, Kind)>, TextFault>
-    ensures { Gives (λ v. v.items) result (each column_of (items_view items.now)) }
+fn each_column(alloc: Global, items: &[Json<'_>]) -> Result<Vec<(Words, Kind)>, TextFault>
+    ensures { Gives (λ v. v.items) result (each column_of (items_seen items.now)) }
 {
     let mut columns = Vec::new(alloc);
     for item in items {
@@ -74,16 +74,16 @@ fn each_column(alloc: Global, items: &[Json]) -> Result<Vec<(Words, Kind)>, Text
 }
 
 #[tactic(auto, unfolding(crate::specs::Tables::columns_of))]
-fn columns(alloc: Global, json: &Json) -> Result<Columns, TextFault>
-    ensures { Gives (λ c. c) result (columns_of (view json.now)) }
+fn columns(alloc: Global, json: &Json<'_>) -> Result<Columns, TextFault>
+    ensures { Gives (λ c. c) result (columns_of (seen json.now)) }
 {
     let list = each_column(alloc, list_in(json, "columns")?)?;
     Ok(Columns::new(list))
 }
 
 #[tactic(auto, unfolding(crate::specs::Tables::table_of))]
-fn table(alloc: Global, json: &Json, format: Format) -> Result<TableDef, TextFault>
-    ensures { Gives (λ t. t) result (table_of format (view json.now)) }
+fn table(alloc: Global, json: &Json<'_>, format: Format) -> Result<TableDef, TextFault>
+    ensures { Gives (λ t. t) result (table_of format (seen json.now)) }
 {
     let name = words_in(alloc, json, "name")?;
     let columns = columns(alloc, json)?;
@@ -95,8 +95,8 @@ fn table(alloc: Global, json: &Json, format: Format) -> Result<TableDef, TextFau
     })
 }
 
-fn each_table(alloc: Global, items: &[Json], format: Format) -> Result<Vec<TableDef>, TextFault>
-    ensures { Gives (λ v. v.items) result (each (table_of format) (items_view items.now)) }
+fn each_table(alloc: Global, items: &[Json<'_>], format: Format) -> Result<Vec<TableDef>, TextFault>
+    ensures { Gives (λ v. v.items) result (each (table_of format) (items_seen items.now)) }
 {
     let mut tables = Vec::new(alloc);
     for item in items {
@@ -109,8 +109,8 @@ fn each_table(alloc: Global, items: &[Json], format: Format) -> Result<Vec<Table
 /// The tables of an office text. Fails with `BadField` where a key is missing, or a value is none
 /// of those that may stand there.
 #[tactic(auto, unfolding(crate::specs::Tables::tables_of))]
-pub fn tables(alloc: Global, json: &Json, format: Format) -> Result<Vec<TableDef>, TextFault>
-    ensures { Gives (λ v. v.items) result (tables_of format (view json.now)) }
+pub fn tables(alloc: Global, json: &Json<'_>, format: Format) -> Result<Vec<TableDef>, TextFault>
+    ensures { Gives (λ v. v.items) result (tables_of format (seen json.now)) }
 {
     each_table(alloc, list_in(json, "tables")?, format)
 }

@@ -1,8 +1,8 @@
 ghost use Rattle.std.specs.Prelude.{◌≡◌, [], map};
-ghost use Rattle.serde_json.specs.View.{view, items_view};
 ghost use Rattle.clr_layers.specs.Entries.{stored_layer};
 ghost use Rattle.clr_office_text.specs.Fields.{Gives};
 ghost use Rattle.clr_office_text.specs.Workspaces.{HasNames, head_of, kept_of, layer_of, layers_after, layers_of, under_one_of};
+ghost use Rattle.clr_office_text.specs.Values.{items_seen, seen};
 
 use crate::earlier_names::{note_name, stands};
 use crate::faults::TextFault;
@@ -12,7 +12,7 @@ use crate::named_marks::marks;
 use crate::patches::differences_in;
 use clr_layers::{Layer, StoredPart};
 use clr_rows::{Schema, Words};
-use serde_json::Value as Json;
+use crate::json_values::Json;
 use std::alloc::Global;
 use std::collections::BTreeSet;
 
@@ -24,8 +24,8 @@ pub struct Head {
     pub kept: bool,
 }
 
-fn read_kept(json: &Json, format: Format) -> Result<bool, TextFault>
-    ensures { Gives (λ b. b) result (kept_of format (view json.now)) }
+fn read_kept(json: &Json<'_>, format: Format) -> Result<bool, TextFault>
+    ensures { Gives (λ b. b) result (kept_of format (seen json.now)) }
 {
     match format {
         Format::First | Format::Second => Ok(false),
@@ -34,8 +34,8 @@ fn read_kept(json: &Json, format: Format) -> Result<bool, TextFault>
 }
 
 #[tactic(auto, unfolding(crate::specs::Workspaces::head_of))]
-fn read_head(alloc: Global, json: &Json, format: Format) -> Result<Head, TextFault>
-    ensures { Gives (λ h. h) result (head_of format (view json.now)) }
+fn read_head(alloc: Global, json: &Json<'_>, format: Format) -> Result<Head, TextFault>
+    ensures { Gives (λ h. h) result (head_of format (seen json.now)) }
 {
     let name = words_in(alloc, json, "name")?;
     let parent = words_in(alloc, json, "parent")?;
@@ -62,14 +62,14 @@ fn head_under(
 #[tactic(auto, unfolding(crate::specs::Workspaces::layer_of))]
 fn workspace(
     alloc: Global,
-    json: &Json,
+    json: &Json<'_>,
     format: Format,
     schema: &Schema,
     earlier: &[StoredPart],
     names: &BTreeSet<String>,
 ) -> Result<StoredPart, TextFault>
     requires { HasNames names.now (map stored_layer earlier.now) }
-    ensures { Gives stored_layer result (layer_of format schema.now (map stored_layer earlier.now) (view json.now)) }
+    ensures { Gives stored_layer result (layer_of format schema.now (map stored_layer earlier.now) (seen json.now)) }
 {
     let head = head_under(earlier, names, read_head(alloc, json, format)?)?;
     let base = differences_in(alloc, json, "base", schema)?;
@@ -90,11 +90,11 @@ fn workspace(
 
 fn each_workspace(
     alloc: Global,
-    items: &[Json],
+    items: &[Json<'_>],
     format: Format,
     schema: &Schema,
 ) -> Result<Vec<StoredPart>, TextFault>
-    ensures { Gives (λ v. map stored_layer v.items) result (layers_after format schema.now [] (items_view items.now)) }
+    ensures { Gives (λ v. map stored_layer v.items) result (layers_after format schema.now [] (items_seen items.now)) }
 {
     let mut parts = Vec::new(alloc);
     let mut names = BTreeSet::new(alloc);
@@ -115,11 +115,11 @@ fn each_workspace(
 #[tactic(auto, unfolding(crate::specs::Workspaces::layers_of))]
 pub fn stored_parts(
     alloc: Global,
-    json: &Json,
+    json: &Json<'_>,
     format: Format,
     schema: &Schema,
 ) -> Result<Vec<StoredPart>, TextFault>
-    ensures { Gives (λ v. map stored_layer v.items) result (layers_of format schema.now (view json.now)) }
+    ensures { Gives (λ v. map stored_layer v.items) result (layers_of format schema.now (seen json.now)) }
 {
     each_workspace(alloc, optional_list(json, "workspaces")?, format, schema)
 }

@@ -1,5 +1,5 @@
 use Rattle.std.proofs.Common.{◌≡◌, drop}
-use Rattle.serde_json.specs.View.{items_view}
+use Rattle.clr_office_text.specs.Values.{items_seen}
 use Rattle.clr_office_text.specs.Fields.{each}
 use Rattle.clr_office_text.specs.Cells.{named_row_of}
 use Rattle.clr_office_text.proofs.EachItem.{with_front}
@@ -7,4 +7,4 @@ use Rattle.clr_office_text.proofs.cells.each_named_row.Given as goal
 
 -- those read so far, and then the others, are what is meant
 abbrev pub invariant-loop-item : goal.invariant-loop-item
-invariant-loop-item l = with_front l.rows.items (each (named_row_of l.schema) (items_view (drop l.item-index l.items))) ≡ each (named_row_of l.schema) (items_view l.items)
+invariant-loop-item l = with_front l.rows.items (each (named_row_of l.schema) (items_seen (drop l.item-index l.items))) ≡ each (named_row_of l.schema) (items_seen l.items)

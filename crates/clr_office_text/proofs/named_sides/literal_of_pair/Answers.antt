@@ -1,14 +1,15 @@
 use Rattle.std.proofs.Common.{◌≡◌, List, [], ◌∷◌, length, Err, refl, arith}
 use borrow.Author.Tests.{ltb-true, ltb-false}
-use Rattle.serde_json.specs.View.{items_view}
-use Rattle.serde_json.specs.declared.value.Value.{Value as Json}
+use Rattle.clr_office_text.specs.Values.{items_seen}
+use Rattle.std.specs.declared.alloc.Global.{Global}
+use Rattle.json.specs.declared.value.Value.{Value}
 use Rattle.clr_office_text.specs.declared.faults.TextFault.TheVariants.{BadField}
 use Rattle.clr_office_text.specs.Rules.{literal_pair}
 use Rattle.clr_office_text.proofs.named_sides.literal_of_pair.Goals as goal
 use Rattle.clr_office_text.proofs.named_sides.literal_of_pair.Goals.{in_default-via-then-items-lt2, in_default-via-else-items-lt2+else-items-lt3}
 
 -- a list of another length than two
-other_length : (vs : List Json) → (length vs ≡ 2 → ⊥) → literal_pair (items_view vs) ≡ Err BadField
+other_length : (vs : List (Value Global)) → (length vs ≡ 2 → ⊥) → literal_pair (items_seen vs) ≡ Err BadField
 unfolding literal_pair
 other_length [] two = refl
 other_length (a ∷ []) two = refl
