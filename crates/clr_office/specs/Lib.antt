@@ -1,6 +1,5 @@
 pub mod Answers
 pub mod Clearances
-pub mod Devices
 pub mod Input
 pub mod OneSession
 pub mod Outcomes

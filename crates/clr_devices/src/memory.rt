@@ -1,3 +1,5 @@
+//! A source and a sink in memory.
+
 ghost use Rattle.std.specs.Prelude.{◌≡◌, ◌+◌, ◌≤◌, ◌<◌, Some, false, true, length, min, take, IfOk, OnOk, OnErr, IsOk, IsErr, []};
 ghost use Rattle.std.specs.Io.KnownBytes.{Appends, Consumes, IsAtEnd};
 
@@ -62,7 +64,7 @@ pub struct Page {
 
 impl Model for Page {
     ghost use Rattle.std.specs.Prelude.{◌≤◌, length, vec_capacity};
-    ghost use Rattle.clr_office.specs.Devices.{PageState};
+    ghost use Rattle.clr_devices.specs.Devices.{PageState};
 
     ghost Value = { PageState };
 

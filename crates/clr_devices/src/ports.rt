@@ -1,3 +1,5 @@
+//! A source over a reader of `std`, or a sink over a writer.
+
 ghost use Rattle.std.specs.Prelude.{◌≡◌, false};
 
 use crate::devices::{DeviceFault, Sink, Source};
@@ -13,7 +15,7 @@ pub struct Port<T> {
 }
 
 impl<T> Model for Port<T> {
-    ghost use Rattle.clr_office.specs.Devices.{PortState};
+    ghost use Rattle.clr_devices.specs.Devices.{PortState};
 
     ghost Value = { PortState T };
 
