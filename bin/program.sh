@@ -1,14 +1,21 @@
-# What the program is built from, and where it is kept. To be read by other scripts, with the repository's folder in `top`.
+# What a program is built from, and where it is kept. To be read by other scripts, with the repository's folder in `top`; `use_program NAME`
+# then says which program is meant.
 #
-# bin/out/stamp has the name, the size and the time of the last change of each source and of the program, as they
+# bin/out/NAME.stamp has the name, the size and the time of the last change of each source and of the program, as they
 # were: where they are so still, the program is current. Sources are the code and the definitions that it is proved
-# against. A proof is none: the program was proved by the proofs that it was built with, and is the same by others. bin/out/digests has a digest of all sources and the
-# program's: where these are as they were, as in a copy of the checkout, it is stamped anew.
+# against. A proof is none: the program was proved by the proofs that it was built with, and is the same by others. bin/out/NAME.digests has a
+# digest of all sources and the program's: where these are as they were, as in a copy of the checkout, it is stamped anew.
 out=$top/bin/out
 
-# The crates that the program stands on, lowest first, and then its own; and all its sources.
-declare -A uses=() added=()
-crates=()
+# The programs by the names of their launchers, and the crate of each.
+programs=(clr_office clr_desk)
+declare -A crate_of=([clr_office]=clr_program [clr_desk]=clr_desk_program)
+
+declare -A uses=()
+while IFS= read -r line; do
+    case $line in '#'*) ;; *:*) uses[${line%%:*}]=${line#*:} ;; esac
+done <"$top/crates.txt"
+
 add_crate() {
     local used
     added[$1]=yes
@@ -17,17 +24,21 @@ add_crate() {
     done
     crates+=("$1")
 }
-while IFS= read -r line; do
-    case $line in '#'*) ;; *:*) uses[${line%%:*}]=${line#*:} ;; esac
-done <"$top/crates.txt"
-if [ -n "${uses[clr_program]+known}" ]; then add_crate clr_program; fi
 
-sources=(crates.txt bin/clr_office bin/program.sh)
-for crate in "${crates[@]}"; do
-    for folder in src specs; do
-        if [ -d "$top/crates/$crate/$folder" ]; then sources+=("crates/$crate/$folder"); fi
+# Sets `program` to a name, `crates` to the crates that it stands on, each behind those that it uses, and then its own, and `sources` to
+# all its sources.
+use_program() {
+    local crate folder
+    local -A added=()
+    program=$1 crates=()
+    if [ -n "${uses[${crate_of[$1]}]+known}" ]; then add_crate "${crate_of[$1]}"; fi
+    sources=(crates.txt "bin/$program" bin/launch.sh bin/program.sh)
+    for crate in "${crates[@]}"; do
+        for folder in src specs; do
+            if [ -d "$top/crates/$crate/$folder" ]; then sources+=("crates/$crate/$folder"); fi
+        done
     done
-done
+}
 
 # The name, the size and the time of the last change of each source, and of other files.
 listing() { cd -P -- "$top" && exec find "${sources[@]}" "$@" -type f -printf '%p %s %C@\n' 2>/dev/null; }
@@ -36,20 +47,23 @@ digest_of_sources() {
     cd -P -- "$top" && find "${sources[@]}" -type f -print0 | LC_ALL=C sort -z | xargs -0 sha256sum | sha256sum
 }
 
-digest_of_program() { sha256sum 2>/dev/null <"$out/clr_office"; }
+digest_of_program() { sha256sum 2>/dev/null <"$out/$program"; }
+
+# The program as it is made in a folder with all its crates.
+made_in() { echo "$1/crates/${crate_of[$program]}/out/${crate_of[$program]}"; }
 
 # Stamps the program that stands in bin/out as built from sources of this listing.
 write_stamp() {
-    (echo "$1" && listing bin/out/clr_office | tail -n 1) >"$out/stamp.$$.new" && mv -f "$out/stamp.$$.new" "$out/stamp"
+    (echo "$1" && listing "bin/out/$program" | tail -n 1) >"$out/$program.$$.new" && mv -f "$out/$program.$$.new" "$out/$program.stamp"
 }
 
 # Whether the program that stands in bin/out is whole and was built from the sources as they are.
 is_current() {
     local before
-    [ -f "$out/stamp" ] && [ -f "$out/digests" ] || return 1
-    if [ "$(listing bin/out/clr_office)" = "$(<"$out/stamp")" ]; then return 0; fi
+    [ -f "$out/$program.stamp" ] && [ -f "$out/$program.digests" ] || return 1
+    if [ "$(listing "bin/out/$program")" = "$(<"$out/$program.stamp")" ]; then return 0; fi
     before=$(listing)
-    [ "$(digest_of_sources && digest_of_program)" = "$(<"$out/digests")" ] || return 1
+    [ "$(digest_of_sources && digest_of_program)" = "$(<"$out/$program.digests")" ] || return 1
     # (a checkout that can't be written has its digests compared at each start)
     write_stamp "$before" 2>/dev/null
     return 0
@@ -58,7 +72,7 @@ is_current() {
 # Puts a program into bin/out that was built from sources of this digest and this listing.
 write_program() {
     local made=$1 digest=$2 before=$3
-    rm -f "$out/stamp" "$out/digests"
-    cp "$made" "$out/clr_office.new" && mv -f "$out/clr_office.new" "$out/clr_office" &&
-        (echo "$digest" && digest_of_program) >"$out/digests" && write_stamp "$before"
+    rm -f "$out/$program.stamp" "$out/$program.digests"
+    cp "$made" "$out/$program.new" && mv -f "$out/$program.new" "$out/$program" &&
+        (echo "$digest" && digest_of_program) >"$out/$program.digests" && write_stamp "$before"
 }

@@ -27,7 +27,7 @@ stands_beside : (content : Content) (s : Held) (t : Option Held) → StandsBesid
 stands_beside content s None h = tt
 stands_beside content s (Some t) h = (contained t (rows_in content) (held_listed content t h.0), ap is_lt h.1)
 
-is_broken : (rules : List Rule) (content : Content) (b : Broken) → IsBrokenAmong rules (rows_in content) b → IsBroken rules (row_at content) b
+pub is_broken : (rules : List Rule) (content : Content) (b : Broken) → IsBrokenAmong rules (rows_in content) b → IsBroken rules (row_at content) b
 is_broken rules content b h = record {
   first = h.first;
   second = h.second;
@@ -47,7 +47,7 @@ none_serves rules content ask s t unmet = go (list_any (serves rules ask s t) (r
     go false e = refl
     go true e = let (r, h, f) = some_of (serves rules ask s t) (rows_in content) e in absurd (unmet (r, listed_stands content r h, f))
 
-broken_among : (rules : List Rule) (content : Content) (b : Broken) → IsBroken rules (row_at content) b → IsBrokenAmong rules (rows_in content) b
+pub broken_among : (rules : List Rule) (content : Content) (b : Broken) → IsBroken rules (row_at content) b → IsBrokenAmong rules (rows_in content) b
 broken_among rules content b h = record {
   first = h.first;
   second = h.second;

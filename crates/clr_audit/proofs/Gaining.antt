@@ -29,6 +29,14 @@ module _ (rules : List Rule) (rows : List Held) where
   pub gains_less : (V W : Wanted) (xs ys : List Broken) → Gains rules rows V xs ys → ((b : Broken) (h : IsBrokenAmong rules rows b) → W b h → V b h) → Gains rules rows W xs ys
   gains_less V W xs ys g less = record { stay = g.stay; only = g.only; found = λ b h w. g.found b h (less b h w) }
 
+  -- a list of the same needs
+  pub gains_same : (W : Wanted) (xs ys zs : List Broken) → Gains rules rows W xs ys → ((b : Broken) → (Contains zs b → Contains ys b) × (Contains ys b → Contains zs b)) → Gains rules rows W xs zs
+  gains_same W xs ys zs g same = record {
+    stay = λ b h. (same b).1 (g.stay b h);
+    only = λ b h. g.only b ((same b).0 h);
+    found = λ b h w. (same b).1 (g.found b h w);
+  }
+
   -- a list of broken needs is added, with all that are wanted
   pub gains_listed : (W : Wanted) (xs ys more : List Broken) → ys ≡ xs ++ more → ((b : Broken) → Among b more → IsBrokenAmong rules rows b)
       → ((b : Broken) (h : IsBrokenAmong rules rows b) → W b h → Among b more) → Gains rules rows W xs ys

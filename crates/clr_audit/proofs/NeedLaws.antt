@@ -4,15 +4,20 @@ use Rattle.std.proofs.lemmas.Bool.{and_parts, cases_Bool, false≢true, not-true
 use Rattle.std.specs.Cmp.{both_ways}
 use Rattle.std.specs.List.{list_any, flat_map}
 use Rattle.std.specs.Prelude.{IsSome}
+use Rattle.clr_rows.specs.declared.places.Place.{Place}
 use Rattle.clr_rows.specs.Held.{Held, held_of}
+use Rattle.clr_rows.specs.Parts.{part_of}
+use Rattle.clr_segments.specs.Searches.{lies_on, have_two_common_points}
 use Rattle.clr_rules.specs.declared.needs.Ask.{Ask}
 use Rattle.clr_rules.specs.declared.needs.Broken.{Broken}
 use Rattle.clr_rules.specs.declared.rules.Rule.{Rule}
+use Rattle.clr_rules.specs.declared.rules.Rule.TheVariants.{Unique, Partner, EndNode, Crossing, Near}
+use Rattle.clr_rules.specs.Sides.{Segment, is_of_side, point_of}
 use Rattle.clr_spots.specs.declared.spots.Spot.{Spot}
 use Rattle.clr_spots.specs.declared.spots.Spots.{Spots}
 use Rattle.clr_rules.specs.declared.roles.Roles.{Roles}
 use Rattle.clr_rules.specs.Books.{FitTogether}
-use Rattle.clr_rules.specs.Calls.{ask_of_parts, plain_ask, calls, serves, part_count}
+use Rattle.clr_rules.specs.Calls.{ask_of_parts, plain_ask, calls, is_crossing_at, is_server, is_server_of, serves, part_count}
 use Rattle.clr_rules.specs.Needs.{ask_of, broken_at, is_after}
 use Rattle.clr_rules.specs.Roles.{roles_under}
 use Rattle.clr_spots.specs.RoleSpots.{subject_spots_under, server_spots_under}
@@ -26,7 +31,8 @@ use Rattle.clr_spot_maps.specs.declared.spot_maps.FiledPart.{FiledPart}
 use Rattle.clr_rows.specs.Beginnings.{IsBegun}
 use Rattle.clr_spot_maps.specs.Filing.{Filed, IsFiled, near}
 use Rattle.clr_audit.specs.RoleFiling.{filed_rows, no_rows_filed, partners}
-use Rattle.clr_audit.specs.Searches.{serves_if, serves_at, need_if_broken, need_with, need_beside, IsBeside, IsBrokenAmong, Gains, GainsSome, IsAlone, IsOfPart, IsOfRow, IsPaired}
+use Rattle.clr_audit.specs.PartServers.{is_on, may_serve_part, may_serve_part_by}
+use Rattle.clr_audit.specs.Searches.{may_serve_at, may_serve_if, server_if, servers_of_part, serves_if, serves_at, need_if_broken, need_with, need_beside, IsBeside, IsBrokenAmong, Gains, GainsSome, IsAlone, IsOfPart, IsOfRow, IsPaired}
 use Rattle.clr_spot_maps.proofs.Filed.{found_near}
 use Rattle.clr_audit.proofs.Gaining.{gains_begun, gains_listed, gains_none, gains_more}
 use Rattle.clr_audit.proofs.RoleFiled.{IsRowFiled, IsSubjectFiled, entry, rows_filed}
@@ -74,6 +80,16 @@ served_by_row rules ask rows s t e f = go (slice_get rows e.position) refl f
     go None at g = absurd (false≢true g)
     go (Some r) at g = any_by (serves rules ask s t) r rows (at_among rows e.position r at) g
 
+-- among these entries a server is found exactly where some row serves
+abbrev pub FindServers : Search → ℕ → ℕ → Held → Option Held → List FiledPart → Type 0
+FindServers search part other s t servers = calls search.book.now (ask_of_parts search.rule part other) s t ≡ true
+    → list_any (serves_at search.book.now (ask_of_parts search.rule part other) (map held_of search.rows.now) s t) servers
+    ≡ list_any (serves search.book.now (ask_of_parts search.rule part other) s t) (map held_of search.rows.now)
+
+-- whatever stands beside a part
+abbrev pub FindAll : Search → ℕ → Held → List FiledPart → Type 0
+FindAll search part s servers = (other : ℕ) (t : Held) → FindServers search part other s (Some t) servers
+
 -- a server is found near the first subject's spots exactly where some row serves
 served_alike : (search : Search) (spots : Spots) (part other : ℕ) (s : Held) (t : Option Held) → IsReady search spots part s → calls search.book.now (ask_of_parts search.rule part other) s t ≡ true
     → list_any (serves_at search.book.now (ask_of_parts search.rule part other) (map held_of search.rows.now) s t) (near search.index.now.servers spots.list spots.wide)
@@ -95,23 +111,64 @@ served_alike search spots part other s t ready called =
     subst (λ (ys : List Spot). Among (entry k 1) (near servers ys spots.wide)) (sym ready.list) (subst (λ (b : Bool). Among (entry k 1) (near servers (unless_many xs) b)) (sym ready.wide) found) in
     any_by (serves_at rules ask rows s t) (entry k 1) (near servers spots.list spots.wide) here (ap (serves_if rules ask s t) at ∙ g))
 
+-- what serves two parts may serve the first of them
+crossed : (e f : Option Segment) (p : Option Place) → is_crossing_at e f p ≡ true → is_on p e ≡ true
+crossed None f p h = absurd (false≢true h)
+crossed (Some a) None p h = absurd (false≢true h)
+crossed (Some a) (Some b) None h = absurd (false≢true h)
+crossed (Some a) (Some b) (Some p) h =
+    (and_parts (lies_on p a.0 a.1) (lies_on p b.0 b.1) (and_parts (not (have_two_common_points a.0 a.1 b.0 b.1)) (lies_on p a.0 a.1 && lies_on p b.0 b.1) h).1).0
+
+part_served : (rule : Option Rule) (ask : Ask) (s t r : Held) → is_server_of rule ask s (Some t) r ≡ true → may_serve_part_by rule ask.first_part s r ≡ true
+unfolding is_server may_serve_part
+part_served None ask s t r h = refl
+part_served (Some (Unique subject columns)) ask s t r h = refl
+part_served (Some (Partner subject columns server server_columns)) ask s t r h = refl
+part_served (Some (EndNode subject tip server)) ask s t r h = refl
+part_served (Some (Near a b d)) ask s t r h = refl
+part_served (Some (Crossing a b server)) ask s t r h =
+    crossed (part_of s.1.shape ask.first_part) (part_of t.1.shape ask.second_part) (point_of r)
+    (and_parts (is_of_side server r) (is_crossing_at (part_of s.1.shape ask.first_part) (part_of t.1.shape ask.second_part) (point_of r)) h).1
+
+entry_served : (search : Search) (part other : ℕ) (s t : Held) (e : FiledPart) → serves_at search.book.now (ask_of_parts search.rule part other) (map held_of search.rows.now) s (Some t) e ≡ true → may_serve_at search part s e ≡ true
+unfolding serves
+entry_served search part other s t e h = go (slice_get (map held_of search.rows.now) e.position) h
+  where
+    go : (o : Option Held) → serves_if search.book.now (ask_of_parts search.rule part other) s (Some t) o ≡ true → may_serve_if search.book.now search.rule part s o ≡ true
+    go None g = absurd (false≢true g)
+    go (Some r) g = part_served (slice_get search.book.now search.rule) (ask_of_parts search.rule part other) s t r g
+
+-- so only those are looked at
+pub part_alike : (search : Search) (spots : Spots) (part : ℕ) (s : Held) → IsReady search spots part s → FindAll search part s (servers_of_part search part s spots)
+part_alike search spots part s ready other t called =
+    let rules = search.book.now in
+    let ask = ask_of_parts search.rule part other in
+    let rows = map held_of search.rows.now in
+    let found = near search.index.now.servers spots.list spots.wide in
+    let test = serves_at rules ask rows s (Some t) in
+    both_ways (list_any test (servers_of_part search part s spots)) (list_any (serves rules ask s (Some t)) rows)
+    (λ f. let (e, _, g) = some_of test (servers_of_part search part s spots) f in served_by_row rules ask rows s (Some t) e g)
+    (λ f. let (e, h, g) = some_of test found (served_alike search spots part other s (Some t) ready called ∙ f) in
+    any_flat test (server_if search part s) e found h
+    (ap (λ (b : Bool). list_any test (cond b (e ∷ []) [])) (entry_served search part other s t e g) ∙ any_by test e (e ∷ []) (inl refl) g))
+
 -- needs --------------------------------------------------------------------------------------------
 -- the need of these subjects, if no row serves them
 abbrev need_of : List Rule → Ask → List Held → Held → Option Held → List Broken
 need_of rules ask rows s t = cond (calls rules ask s t && not (list_any (serves rules ask s t) rows)) (broken_at ask s t ∷ []) []
 
-need_is : (search : Search) (spots : Spots) (part other : ℕ) (s : Held) (t : Option Held) → IsReady search spots part s
-    → need_if_broken search spots (ask_of_parts search.rule part other) s t ≡ need_of search.book.now (ask_of_parts search.rule part other) (map held_of search.rows.now) s t
-need_is search spots part other s t ready = go (calls search.book.now (ask_of_parts search.rule part other) s t) refl
+need_is : (search : Search) (servers : List FiledPart) (part other : ℕ) (s : Held) (t : Option Held) → FindServers search part other s t servers
+    → need_if_broken search servers (ask_of_parts search.rule part other) s t ≡ need_of search.book.now (ask_of_parts search.rule part other) (map held_of search.rows.now) s t
+need_is search servers part other s t alike = go (calls search.book.now (ask_of_parts search.rule part other) s t) refl
   where
     ask : Ask
     ask = ask_of_parts search.rule part other
 
     go : (b : Bool) → calls search.book.now ask s t ≡ b
-        → ◌≡◌ {A = List Broken} (cond (b && not (list_any (serves_at search.book.now ask (map held_of search.rows.now) s t) (near search.index.now.servers spots.list spots.wide))) (broken_at ask s t ∷ []) [])
+        → ◌≡◌ {A = List Broken} (cond (b && not (list_any (serves_at search.book.now ask (map held_of search.rows.now) s t) servers)) (broken_at ask s t ∷ []) [])
         (cond (b && not (list_any (serves search.book.now ask s t) (map held_of search.rows.now))) (broken_at ask s t ∷ []) [])
     go false e = refl
-    go true e = ap (λ (served : Bool). cond (not served) (broken_at ask s t ∷ []) []) (served_alike search spots part other s t ready e)
+    go true e = ap (λ (served : Bool). cond (not served) (broken_at ask s t ∷ []) []) (alike e)
 
 need_broken : (rules : List Rule) (ask : Ask) (rows : List Held) (s : Held) (t : Option Held) (b : Broken) → Contains rows s → IsBeside rows s t → Among b (need_of rules ask rows s t) → IsBrokenAmong rules rows b
 need_broken rules ask rows s t b listed beside h = go (calls rules ask s t && not (list_any (serves rules ask s t) rows)) refl h
@@ -154,14 +211,15 @@ at_second : (rules : List Rule) (rows : List Held) (ask : Ask) (s : Held) (t u :
 at_second rules rows ask s t u b is h = subst (λ (o : Option Held). IsNeeded rules rows ask s o b) is h
 
 pub alone_gains : (search : Search) (spots : Spots) (s : Held) (before after : List Broken) → IsReady search spots 1 s → Contains (map held_of search.rows.now) s
-    → after ≡ before ++ need_if_broken search spots (plain_ask search.rule) s None
+    → after ≡ before ++ need_if_broken search (near search.index.now.servers spots.list spots.wide) (plain_ask search.rule) s None
     → Gains search.book.now (map held_of search.rows.now) (IsAlone search.rule s) before after
 alone_gains search spots s before after ready listed added =
     let rules = search.book.now in
     let rows = map held_of search.rows.now in
     let ask = plain_ask search.rule in
-    let same = need_is search spots 1 1 s None ready in
-    gains_listed rules rows (IsAlone search.rule s) before after (need_if_broken search spots ask s None) added
+    let found = near search.index.now.servers spots.list spots.wide in
+    let same = need_is search found 1 1 s None (served_alike search spots 1 1 s None ready) in
+    gains_listed rules rows (IsAlone search.rule s) before after (need_if_broken search found ask s None) added
     (λ b k. need_broken rules ask rows s None b listed tt (subst (Among b) same k))
     (λ b h w.
     let whole = at_second rules rows (ask_of_parts search.rule b.first_part b.second_part) s h.second None b w.2 (needed rules rows search.rule b.first_part b.second_part s b h w.0 refl refl w.1) in
@@ -170,19 +228,19 @@ alone_gains search spots s before after ready listed added =
     (at_second rules rows ask s h.second None b w.2 (needed rules rows search.rule 1 1 s b h w.0 parts.0 parts.1 w.1))))
 
 -- two rows -----------------------------------------------------------------------------------------
-beside_broken : (search : Search) (spots : Spots) (part : ℕ) (s : Held) → IsReady search spots part s → Contains (map held_of search.rows.now) s → (es : List FiledPart) (b : Broken)
-    → Among b (flat_map (need_beside search spots s part) es) → IsBrokenAmong search.book.now (map held_of search.rows.now) b
-beside_broken search spots part s ready listed es b h =
-    let (e, _, m) = among_flat (need_beside search spots s part) b es h in
+beside_broken : (search : Search) (servers : List FiledPart) (part : ℕ) (s : Held) → FindAll search part s servers → Contains (map held_of search.rows.now) s → (es : List FiledPart) (b : Broken)
+    → Among b (flat_map (need_beside search servers s part) es) → IsBrokenAmong search.book.now (map held_of search.rows.now) b
+beside_broken search servers part s alike listed es b h =
+    let (e, _, m) = among_flat (need_beside search servers s part) b es h in
     go e (slice_get (map held_of search.rows.now) e.position) refl m
   where
-    by : (e : FiledPart) (t : Held) (after : Bool) → is_after s t ≡ after → Contains (map held_of search.rows.now) t → Among b (cond after (need_if_broken search spots (ask_of_parts search.rule part e.part) s (Some t)) [])
+    by : (e : FiledPart) (t : Held) (after : Bool) → is_after s t ≡ after → Contains (map held_of search.rows.now) t → Among b (cond after (need_if_broken search servers (ask_of_parts search.rule part e.part) s (Some t)) [])
         → IsBrokenAmong search.book.now (map held_of search.rows.now) b
     by e t false after here k = absurd k
     by e t true after here k = need_broken search.book.now (ask_of_parts search.rule part e.part) (map held_of search.rows.now) s (Some t) b listed (here, after)
-        (subst (Among b) (need_is search spots part e.part s (Some t) ready) k)
+        (subst (Among b) (need_is search servers part e.part s (Some t) (alike e.part t)) k)
 
-    go : (e : FiledPart) (o : Option Held) → slice_get (map held_of search.rows.now) e.position ≡ o → Among b (need_with search spots (ask_of_parts search.rule part e.part) s o)
+    go : (e : FiledPart) (o : Option Held) → slice_get (map held_of search.rows.now) e.position ≡ o → Among b (need_with search servers (ask_of_parts search.rule part e.part) s o)
         → IsBrokenAmong search.book.now (map held_of search.rows.now) b
     go e None at m = absurd m
     go e (Some t) at m = by e t (is_after s t) refl (contained t (map held_of search.rows.now) (at_among (map held_of search.rows.now) e.position t at)) m
@@ -201,10 +259,10 @@ partner_found index roles others e xs ys filed common (inr h) = elim (cases_Bool
       (subst (λ (b : Bool). Among e (cond b (near index.firsts (unless_many xs) (are_many xs)) [])) (sym h.1) (found_among index.firsts e xs ys (filed.first h.0 alone) common)))
 ]
 
-pair_found : (search : Search) (spots : Spots) (part other : ℕ) (s : Held) (roles : Roles) (es : List FiledPart) → IsReady search spots part s → roles ≡ roles_under search.book.now search.rule s
+pair_found : (search : Search) (spots : Spots) (servers : List FiledPart) (part other : ℕ) (s : Held) (roles : Roles) (es : List FiledPart) → IsReady search spots part s → FindAll search part s servers → roles ≡ roles_under search.book.now search.rule s
     → ((e : FiledPart) → Among e (partners search.index.now roles spots.list spots.wide) → Among e es) → (t : Held) (b : Broken)
-    → IsNeeded search.book.now (map held_of search.rows.now) (ask_of_parts search.rule part other) s (Some t) b → Among b (flat_map (need_beside search spots s part) es)
-pair_found search spots part other s roles es ready is all t b h =
+    → IsNeeded search.book.now (map held_of search.rows.now) (ask_of_parts search.rule part other) s (Some t) b → Among b (flat_map (need_beside search servers s part) es)
+pair_found search spots servers part other s roles es ready alike is all t b h =
     let rules = search.book.now in
     let n = search.rule in
     let ask = ask_of_parts n part other in
@@ -220,34 +278,35 @@ pair_found search spots part other s roles es ready is all t b h =
     partner_found index roles (roles_under rules n t) (entry k other) xs (subject_spots_under rules n other t) filed (subjects_meet rules rows ask s t ready.fit h.they_call) beside in
     let here : Among (entry k other) (partners index roles spots.list spots.wide) =
     subst (λ (ys : List Spot). Among (entry k other) (partners index roles ys spots.wide)) (sym ready.list) (subst (λ (w : Bool). Among (entry k other) (partners index roles (unless_many xs) w)) (sym ready.wide) found) in
-    let one : Among b (need_if_broken search spots ask s (Some t)) = subst (Among b) (sym (need_is search spots part other s (Some t) ready)) (needed_listed rules rows ask s (Some t) b h) in
-    let own : Among b (need_beside search spots s part (entry k other)) =
-    subst (λ (o : Option Held). Among b (need_with search spots ask s o)) (sym at) (subst (λ (after : Bool). Among b (cond after (need_if_broken search spots ask s (Some t)) [])) (sym h.beside.1) one) in
-    flat_among (need_beside search spots s part) (entry k other) b es (all (entry k other) here) own
+    let one : Among b (need_if_broken search servers ask s (Some t)) = subst (Among b) (sym (need_is search servers part other s (Some t) (alike other t))) (needed_listed rules rows ask s (Some t) b h) in
+    let own : Among b (need_beside search servers s part (entry k other)) =
+    subst (λ (o : Option Held). Among b (need_with search servers ask s o)) (sym at) (subst (λ (after : Bool). Among b (cond after (need_if_broken search servers ask s (Some t)) [])) (sym h.beside.1) one) in
+    flat_among (need_beside search servers s part) (entry k other) b es (all (entry k other) here) own
 
 -- the broken needs of a part of a row are gained
-pub part_gains : (search : Search) (spots : Spots) (part : ℕ) (s : Held) (roles : Roles) (es : List FiledPart) (before after : List Broken) → IsReady search spots part s
+pub part_gains : (search : Search) (spots : Spots) (servers : List FiledPart) (part : ℕ) (s : Held) (roles : Roles) (es : List FiledPart) (before after : List Broken) → IsReady search spots part s
+    → FindAll search part s servers
     → Contains (map held_of search.rows.now) s → roles ≡ roles_under search.book.now search.rule s
     → ((e : FiledPart) → Among e (partners search.index.now roles spots.list spots.wide) → Among e es)
-    → after ≡ before ++ flat_map (need_beside search spots s part) es
+    → after ≡ before ++ flat_map (need_beside search servers s part) es
     → Gains search.book.now (map held_of search.rows.now) (IsOfPart search.rule s part) before after
-part_gains search spots part s roles es before after ready listed is all added =
-    gains_listed search.book.now (map held_of search.rows.now) (IsOfPart search.rule s part) before after (flat_map (need_beside search spots s part) es) added
-    (λ b k. beside_broken search spots part s ready listed es b k)
+part_gains search spots servers part s roles es before after ready alike listed is all added =
+    gains_listed search.book.now (map held_of search.rows.now) (IsOfPart search.rule s part) before after (flat_map (need_beside search servers s part) es) added
+    (λ b k. beside_broken search servers part s alike listed es b k)
     (λ b h w. go h.second b w.2 (needed search.book.now (map held_of search.rows.now) search.rule part b.second_part s b h w.0 w.3 refl w.1))
   where
-    go : (o : Option Held) (b : Broken) → IsSome o → IsNeeded search.book.now (map held_of search.rows.now) (ask_of_parts search.rule part b.second_part) s o b → Among b (flat_map (need_beside search spots s part) es)
+    go : (o : Option Held) (b : Broken) → IsSome o → IsNeeded search.book.now (map held_of search.rows.now) (ask_of_parts search.rule part b.second_part) s o b → Among b (flat_map (need_beside search servers s part) es)
     go None b some k = absurd (false≢true some)
-    go (Some t) b some k = pair_found search spots part b.second_part s roles es ready is all t b k
+    go (Some t) b some k = pair_found search spots servers part b.second_part s roles es ready alike is all t b k
 
 -- the first of them
-pub part_some : (search : Search) (spots : Spots) (part : ℕ) (s : Held) (es : List FiledPart) (before after : List Broken) → IsReady search spots part s
+pub part_some : (search : Search) (servers : List FiledPart) (part : ℕ) (s : Held) (es : List FiledPart) (before after : List Broken) → FindAll search part s servers
     → Contains (map held_of search.rows.now) s
-    → IsBegun before (flat_map (need_beside search spots s part) es) after
+    → IsBegun before (flat_map (need_beside search servers s part) es) after
     → GainsSome search before after
-part_some search spots part s es before after ready listed begun =
-    gains_begun search.book.now (map held_of search.rows.now) before after (flat_map (need_beside search spots s part) es) begun
-    (λ b k. beside_broken search spots part s ready listed es b k)
+part_some search servers part s es before after alike listed begun =
+    gains_begun search.book.now (map held_of search.rows.now) before after (flat_map (need_beside search servers s part) es) begun
+    (λ b k. beside_broken search servers part s alike listed es b k)
 
 -- the part of a broken need is there
 pub first_there : (rules : List Rule) (rows : List Held) (n : ℕ) (s : Held) (b : Broken) (h : IsBrokenAmong rules rows b) → b.rule ≡ n → h.first ≡ s → (k : ℕ) × (k < part_count rules n s) × (b.first_part ≡ suc k)
@@ -255,16 +314,16 @@ first_there rules rows n s b h number first =
     first_part_there rules (ask_of_parts n b.first_part b.second_part) s h.second (needed rules rows n b.first_part b.second_part s b h number refl refl first).they_call
 
 -- the need with the row of an entry
-pub beside_is : (search : Search) (spots : Spots) (s : Held) (part k j : ℕ) (o : Option Held) (t : Held) → o ≡ slice_get (map held_of search.rows.now) k → o ≡ Some t → is_after s t ≡ true
-    → need_beside search spots s part (entry k j) ≡ need_if_broken search spots (ask_of_parts search.rule part j) s (Some t)
-beside_is search spots s part k j o t at is after = ap (need_with search spots (ask_of_parts search.rule part j) s) (sym at ∙ is) ∙ ap (λ (b : Bool). cond b (need_if_broken search spots (ask_of_parts search.rule part j) s (Some t)) []) after
+pub beside_is : (search : Search) (servers : List FiledPart) (s : Held) (part k j : ℕ) (o : Option Held) (t : Held) → o ≡ slice_get (map held_of search.rows.now) k → o ≡ Some t → is_after s t ≡ true
+    → need_beside search servers s part (entry k j) ≡ need_if_broken search servers (ask_of_parts search.rule part j) s (Some t)
+beside_is search servers s part k j o t at is after = ap (need_with search servers (ask_of_parts search.rule part j) s) (sym at ∙ is) ∙ ap (λ (b : Bool). cond b (need_if_broken search servers (ask_of_parts search.rule part j) s (Some t)) []) after
 
-pub beside_before : (search : Search) (spots : Spots) (s : Held) (part k j : ℕ) (o : Option Held) (t : Held) → o ≡ slice_get (map held_of search.rows.now) k → o ≡ Some t → is_after s t ≡ false
-    → need_beside search spots s part (entry k j) ≡ []
-beside_before search spots s part k j o t at is after = ap (need_with search spots (ask_of_parts search.rule part j) s) (sym at ∙ is) ∙ ap (λ (b : Bool). cond b (need_if_broken search spots (ask_of_parts search.rule part j) s (Some t)) []) after
+pub beside_before : (search : Search) (servers : List FiledPart) (s : Held) (part k j : ℕ) (o : Option Held) (t : Held) → o ≡ slice_get (map held_of search.rows.now) k → o ≡ Some t → is_after s t ≡ false
+    → need_beside search servers s part (entry k j) ≡ []
+beside_before search servers s part k j o t at is after = ap (need_with search servers (ask_of_parts search.rule part j) s) (sym at ∙ is) ∙ ap (λ (b : Bool). cond b (need_if_broken search servers (ask_of_parts search.rule part j) s (Some t)) []) after
 
-pub beside_none : (search : Search) (spots : Spots) (s : Held) (part k j : ℕ) (o : Option Held) → o ≡ slice_get (map held_of search.rows.now) k → o ≡ None → need_beside search spots s part (entry k j) ≡ []
-beside_none search spots s part k j o at is = ap (need_with search spots (ask_of_parts search.rule part j) s) (sym at ∙ is)
+pub beside_none : (search : Search) (servers : List FiledPart) (s : Held) (part k j : ℕ) (o : Option Held) → o ≡ slice_get (map held_of search.rows.now) k → o ≡ None → need_beside search servers s part (entry k j) ≡ []
+beside_none search servers s part k j o at is = ap (need_with search servers (ask_of_parts search.rule part j) s) (sym at ∙ is)
 
 -- rows ---------------------------------------------------------------------------------------------
 -- a row that may not be a subject alone has no broken need alone

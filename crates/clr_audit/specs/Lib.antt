@@ -1,2 +1,3 @@
+pub mod PartServers
 pub mod RoleFiling
 pub mod Searches

@@ -1,7 +1,11 @@
 -- The broken needs of listed rows, and what a search among them adds to a list.
-use Rattle.std.specs.Prelude.{◌≡◌, ◌⊎◌, ℕ, Bool, true, false, not, List, [], ◌∷◌, ◌&&◌, Option, Some, None, Contains, ⊤, IsSome}
+use Rattle.std.specs.Prelude.{◌≡◌, ◌⊎◌, ◌≤◌, ℕ, Bool, true, false, not, List, [], ◌∷◌, ◌&&◌, Option, Some, None, Contains, ⊤, IsSome}
 use Rattle.std.specs.Prelude.{map, slice_get, if◌then◌else◌}
 use Rattle.std.specs.List.{flat_map, list_any}
+use Rattle.std.specs.List.Sorted.{IsStrictlySortedBy}
+use Rattle.std.specs.Ordering.{is_gt, is_le, nat_cmp, ordering_then}
+use Rattle.clr_rows.specs.Cells.{cell_cmp}
+use Rattle.clr_rows.specs.declared.cells.CellId.{CellId}
 use Rattle.clr_rows.specs.Held.{Held, held_of}
 use Rattle.clr_rules.specs.declared.needs.Ask.{Ask}
 use Rattle.clr_rules.specs.declared.needs.Broken.{Broken}
@@ -9,10 +13,11 @@ use Rattle.clr_rules.specs.declared.rules.Rule.{Rule}
 use Rattle.clr_spots.specs.declared.spots.Spot.{Spot}
 use Rattle.clr_spots.specs.declared.spots.Spots.{Spots}
 use Rattle.clr_rules.specs.Calls.{ask_of_parts, calls, serves}
-use Rattle.clr_rules.specs.Needs.{ask_of, broken_at, is_after}
+use Rattle.clr_rules.specs.Needs.{ask_of, broken_at, broken_cmp, is_after}
 use Rattle.clr_audit.specs.declared.searching.Search.{Search}
 use Rattle.clr_spot_maps.specs.declared.spot_maps.FiledPart.{FiledPart}
 use Rattle.clr_spot_maps.specs.Filing.{entries_at, near}
+use Rattle.clr_audit.specs.PartServers.{may_serve_part_under}
 use Rattle.clr_audit.specs.RoleFiling.{filed_rows, no_rows_filed}
 
 abbrev pub serves_if : List Rule → Ask → Held → Option Held → Option Held → Bool
@@ -43,20 +48,36 @@ servers_at_spots search spots = flat_map (entries_at search.index.now.servers.by
 abbrev pub servers_near : Search → Spots → List FiledPart
 servers_near search spots = near search.index.now.servers spots.list spots.wide
 
--- the need, where its subjects call and no server near these spots serves them
-abbrev pub need_if_broken : Search → Spots → Ask → Held → Option Held → List Broken
-need_if_broken search spots ask s t =
-    if calls search.book.now ask s t && not (serves_among search ask s t (servers_near search spots))
+abbrev pub may_serve_if : List Rule → ℕ → ℕ → Held → Option Held → Bool
+may_serve_if rules number part s None = false
+may_serve_if rules number part s (Some r) = may_serve_part_under rules number part s r
+
+-- the row of an entry may serve a part of a row
+abbrev pub may_serve_at : Search → ℕ → Held → FiledPart → Bool
+may_serve_at search part s e = may_serve_if search.book.now search.rule part s (slice_get (rows_of search) e.position)
+
+-- the entry, if its row may serve a part of a row
+abbrev pub server_if : Search → ℕ → Held → FiledPart → List FiledPart
+server_if search part s e = if may_serve_at search part s e then e ∷ [] else []
+
+-- the servers that may serve a part of a row of these spots
+abbrev pub servers_of_part : Search → ℕ → Held → Spots → List FiledPart
+servers_of_part search part s spots = flat_map (server_if search part s) (servers_near search spots)
+
+-- the need, where its subjects call and no server among these serves them
+abbrev pub need_if_broken : Search → List FiledPart → Ask → Held → Option Held → List Broken
+need_if_broken search servers ask s t =
+    if calls search.book.now ask s t && not (serves_among search ask s t servers)
     then broken_at ask s t ∷ []
     else []
 
-abbrev pub need_with : Search → Spots → Ask → Held → Option Held → List Broken
-need_with search spots ask s None = []
-need_with search spots ask s (Some t) = if is_after s t then need_if_broken search spots ask s (Some t) else []
+abbrev pub need_with : Search → List FiledPart → Ask → Held → Option Held → List Broken
+need_with search servers ask s None = []
+need_with search servers ask s (Some t) = if is_after s t then need_if_broken search servers ask s (Some t) else []
 
 -- the need of a part of a row with the part and the row of an entry, if it comes after the first one
-abbrev pub need_beside : Search → Spots → Held → ℕ → FiledPart → List Broken
-need_beside search spots s part e = need_with search spots (ask_of_parts search.rule part e.part) s (slice_get (map held_of search.rows.now) e.position)
+abbrev pub need_beside : Search → List FiledPart → Held → ℕ → FiledPart → List Broken
+need_beside search servers s part e = need_with search servers (ask_of_parts search.rule part e.part) s (slice_get (map held_of search.rows.now) e.position)
 
 -- a second subject is one of the rows too, at a greater cell
 abbrev pub IsBeside : List Held → Held → Option Held → Type 0
@@ -110,3 +131,27 @@ GainsAll search Wanted before after = Gains search.book.now (rows_of search) Wan
 -- the later list has the earlier one, and besides it broken needs alone
 abbrev pub GainsSome : Search → List Broken → List Broken → Type 0
 GainsSome search before after = GainsAll search (λ b h. ⊥) before after
+
+-- the least of all -------------------------------------------------------------------------------
+
+-- a broken need comes at or before all that have a row of a rule as their first subject
+abbrev pub is_up_to : ℕ → CellId → Broken → Bool
+is_up_to n cell b = is_le (ordering_then (nat_cmp b.rule n) (cell_cmp b.first cell))
+
+-- the rows stand in the order of their cells
+abbrev pub AreInOrder : List Held → Type 0
+AreInOrder rows = IsStrictlySortedBy (λ s t. cell_cmp s.0 t.0) rows
+
+-- a need of a list that no need of the list comes before
+pub record IsLeastListed (list : List Broken) (b : Broken) : Type 0 where
+  pub listed : Contains list b
+  pub least : (c : Broken) → Contains list c → is_gt (broken_cmp b c) ≡ false
+
+-- a broken need before which none comes of those that were listed, and of those of a rule and of later ones
+pub record IsLeastAmong (rules : List Rule) (rows : List Held) (n : ℕ) (before : List Broken) (b : Broken) : Type 0 where
+  pub broken : Contains before b ⊎ IsBrokenAmong rules rows b
+  pub least : (c : Broken) → IsBrokenAmong rules rows c → Contains before c ⊎ (n ≤ c.rule) → is_gt (broken_cmp b c) ≡ false
+
+-- the same among the rows of a search
+abbrev pub IsLeastFrom : Search → List Broken → Broken → Type 0
+IsLeastFrom search before b = IsLeastAmong search.book.now (rows_of search) search.rule before b

@@ -1,9 +1,9 @@
-ghost use Rattle.std.specs.Prelude.{◌≡◌, ◌<◌, length, map, IfOk, OnOk};
+ghost use Rattle.std.specs.Prelude.{◌≡◌, ◌<◌, length, map, slice_get, IfOk, MatchOption, OnOk};
 ghost use Rattle.clr_rows.specs.Contents.{row_at};
 ghost use Rattle.clr_rows.specs.Held.{held_of};
 ghost use Rattle.clr_rules.specs.Books.{FitsContent, FitTogether};
 ghost use Rattle.clr_rules.specs.Needs.{IsAudit, broken_needs, rows_in};
-ghost use Rattle.clr_audit.specs.Searches.{Gains, IsOfRule};
+ghost use Rattle.clr_audit.specs.Searches.{AreInOrder, Gains, IsLeastAmong, IsOfRule};
 
 use crate::role_index::RoleIndex;
 use crate::searching::Search;
@@ -61,4 +61,57 @@ pub fn audit(alloc: Global, book: &RuleBook, sheet: &Sheet) -> Result<Vec<Broken
     }
     put_in_order(&mut list);
     Ok(list)
+}
+
+/// Adds the broken needs of a rule among rows in the order of their cells, until the least of the
+/// list is known to be the least of all.
+fn add_of_rule_until_least(
+    alloc: Global,
+    book: &RuleBook,
+    rule: u16,
+    rows: &[Held],
+    list: &mut Vec<Broken>,
+) -> Result<Option<Broken>, AllocError>
+    requires number { rule < length book.now }
+    requires fit { FitTogether book.now (map held_of rows.now) }
+    requires in_order { AreInOrder (map held_of rows.now) }
+    ensures { IfOk result (λ found. MatchOption found (Gains book.now (map held_of rows.now) (IsOfRule rule) list.old.items list.new.items)
+        (IsLeastAmong book.now (map held_of rows.now) rule list.old.items)) }
+{
+    let index = RoleIndex::of_rows(alloc, book, rule, rows)?;
+    let search = Search {
+        book,
+        rule,
+        rows,
+        index: &index,
+    };
+    search.add_until_least(alloc, list)
+}
+
+/// The least broken need of a content, or none where every rule holds: the first that `audit` would
+/// list. No other need is kept for it than those of the row that has it. The book and the rows fit
+/// one schema. It fails for want of memory alone.
+pub fn first_broken(
+    alloc: Global,
+    book: &RuleBook,
+    sheet: &Sheet,
+) -> Result<Option<Broken>, AllocError>
+    requires { FitsContent book.now sheet.now }
+    ensures { IfOk result (λ need. need ≡ slice_get (broken_needs book.now sheet.now) 0) }
+{
+    let rows = rows_of(alloc, sheet)?;
+    let mut list = Vec::new(alloc);
+    for rule in 0..book.len() {
+        if let Some(need) = add_of_rule_until_least(
+            alloc,
+            book,
+            rule as u16,
+            rows.as_slice(),
+            &mut list,
+        )? {
+            return Ok(Some(need));
+        }
+    }
+    put_in_order(&mut list);
+    Ok(list.as_slice().first().copied())
 }

@@ -2,22 +2,45 @@
 //! alone that share a spot with them, and a server is looked for among such servers alone: no other
 //! row can stand in a need with them.
 
-ghost use Rattle.std.specs.Prelude.{◌≡◌, ◌<◌, ◌++◌, ◌∷◌, length, slice_get, Contains, OnErr, OnOk, None, Some, option_map, option_to_list};
+ghost use Rattle.std.specs.Prelude.{◌≡◌, ◌↔◌, ◌<◌, ◌++◌, ◌∷◌, true, length, slice_get, Contains, IfOk, IfSome, MatchOption, OnErr, OnOk, None, Some, option_map, option_to_list};
 ghost use Rattle.std.specs.List.{flat_map};
 ghost use Rattle.clr_rows.specs.Held.{held_of};
 ghost use Rattle.clr_rules.specs.Books.{FitTogether};
 ghost use Rattle.clr_rules.specs.Calls.{plain_ask};
 ghost use Rattle.clr_rules.specs.Roles.{roles_under};
+ghost use Rattle.clr_rules.specs.declared.needs.Broken.{Broken as OneBroken};
 ghost use Rattle.clr_rows.specs.Beginnings.{IsBegun};
-ghost use Rattle.clr_audit.specs.Searches.{AreRowsFiled, GainsAll, GainsSome, IsAlone, IsOfPart, IsOfRow, IsOfRule, IsPaired};
-ghost use Rattle.clr_audit.specs.Searches.{need_if_broken, need_beside, rows_of, serves_among, serves_at, servers_at_spots, servers_near};
+ghost use Rattle.clr_audit.specs.Searches.{AreInOrder, AreRowsFiled, GainsAll, GainsSome, IsAlone, IsLeastFrom, IsLeastListed, IsOfPart, IsOfRow, IsOfRule, IsPaired};
+ghost use Rattle.clr_audit.specs.Searches.{is_up_to, may_serve_at, need_if_broken, need_beside, rows_of, serves_among, serves_at, server_if, servers_at_spots, servers_near, servers_of_part};
 
+use crate::part_servers::may_serve_part;
 use crate::role_index::RoleIndex;
-use clr_rows::Held;
+use clr_rows::{CellId, Held};
 use clr_rules::{Ask, Broken, Roles, RuleBook};
 use clr_spot_maps::FiledPart;
 use clr_spots::{Spot, Spots, put_in_order, subject_spots};
 use std::alloc::{AllocError, Global};
+
+/// Whether a broken need comes at or before all those of a rule whose first subject is at a cell.
+fn is_up_to(rule: u16, cell: CellId, need: &Broken) -> bool
+    ensures { result ≡ is_up_to rule cell need.now }
+{
+    need.rule.cmp(&rule).then(need.first.cmp(&cell)).is_le()
+}
+
+/// Puts a list in order, and answers its least need, where no need of a later row can come before
+/// it.
+fn least_up_to(rule: u16, cell: CellId, list: &mut Vec<Broken>) -> Option<Broken>
+    ensures same { (b : OneBroken) → Contains list.new.items b ↔ Contains list.old.items b }
+    ensures least { IfSome result (IsLeastListed list.old.items) }
+    ensures early { IfSome result (λ need. is_up_to rule cell need ≡ true) }
+{
+    put_in_order(list);
+    match list.as_slice().first() {
+        Some(need) if is_up_to(rule, cell, need) => Some(*need),
+        _ => None,
+    }
+}
 
 fn row_by_position<'a, 'b>(rows: &'a [Held<'b>], position: usize) -> Option<&'a Held<'b>>
     ensures { option_map (λ h. h.now) result ≡ slice_get rows.now position }
@@ -107,7 +130,7 @@ impl<'a> Search<'a> {
     ) -> Result<(), AllocError>
         requires number { self.now.rule < length self.now.book.now }
         requires fit { FitTogether self.now.book.now (held_of first ∷ rows_of self.now) }
-        ensures ok { OnOk result (list.new.items ≡ list.old.items ++ need_if_broken self.now spots.now (plain_ask self.now.rule) (held_of first.entry) None) }
+        ensures ok { OnOk result (list.new.items ≡ list.old.items ++ need_if_broken self.now (servers_near self.now spots.now) (plain_ask self.now.rule) (held_of first.entry) None) }
         ensures err { OnErr result (list.new.items ≡ list.old.items) }
     {
         let ask = Ask::plain(self.rule);
@@ -117,23 +140,23 @@ impl<'a> Search<'a> {
         Ok(())
     }
 
-    /// Adds the need of two rows, where they call and no server of these spots serves them.
+    /// Adds the need of two rows, where they call and none of these servers serves them.
     fn add_two_if_broken(
         &self,
         ask: Ask,
         first: Held,
         second: Held,
-        spots: &Spots,
+        servers: &[FiledPart],
         list: &mut Vec<Broken>,
     ) -> Result<(), AllocError>
         requires number { ask.rule < length self.now.book.now }
         requires fit { FitTogether self.now.book.now (held_of first ∷ held_of second ∷ rows_of self.now) }
         ensures ok { OnOk result (list.new.items ≡ list.old.items
-            ++ need_if_broken self.now spots.now ask (held_of first.entry) (Some (held_of second.entry))) }
+            ++ need_if_broken self.now servers.now ask (held_of first.entry) (Some (held_of second.entry))) }
         ensures err { OnErr result (list.new.items ≡ list.old.items) }
     {
         if self.book.calls_two(ask, first, second)
-            && !self.is_served(ask, first, Some(second), spots)
+            && !self.serves_among(ask, first, Some(second), servers)
         {
             list.push(Broken::new(ask, first.cell, Some(second.cell)))?;
         }
@@ -145,13 +168,13 @@ impl<'a> Search<'a> {
         &self,
         first: Held,
         part: u16,
-        spots: &Spots,
+        servers: &[FiledPart],
         entry: FiledPart,
         list: &mut Vec<Broken>,
     ) -> Result<(), AllocError>
         requires number { self.now.rule < length self.now.book.now }
         requires fit { FitTogether self.now.book.now (held_of first ∷ rows_of self.now) }
-        ensures ok { OnOk result (list.new.items ≡ list.old.items ++ need_beside self.now spots.now (held_of first.entry) part entry) }
+        ensures ok { OnOk result (list.new.items ≡ list.old.items ++ need_beside self.now servers.now (held_of first.entry) part entry) }
         ensures err { OnErr result (list.new.items ≡ list.old.items) }
     {
         let ask = Ask {
@@ -161,7 +184,7 @@ impl<'a> Search<'a> {
         };
         match self.row_at(entry.position) {
             Some(second) if first.cell.cmp(&second.cell).is_lt() => {
-                self.add_two_if_broken(ask, first, second, spots, list)
+                self.add_two_if_broken(ask, first, second, servers, list)
             }
             _ => Ok(()),
         }
@@ -171,17 +194,17 @@ impl<'a> Search<'a> {
         &self,
         first: Held,
         part: u16,
-        spots: &Spots,
+        servers: &[FiledPart],
         entries: &[FiledPart],
         list: &mut Vec<Broken>,
     ) -> Result<(), AllocError>
         requires number { self.now.rule < length self.now.book.now }
         requires fit { FitTogether self.now.book.now (held_of first ∷ rows_of self.now) }
-        ensures ok { OnOk result (list.new.items ≡ list.old.items ++ flat_map (need_beside self.now spots.now (held_of first.entry) part) entries.now) }
-        ensures err { OnErr result (IsBegun list.old.items (flat_map (need_beside self.now spots.now (held_of first.entry) part) entries.now) list.new.items) }
+        ensures ok { OnOk result (list.new.items ≡ list.old.items ++ flat_map (need_beside self.now servers.now (held_of first.entry) part) entries.now) }
+        ensures err { OnErr result (IsBegun list.old.items (flat_map (need_beside self.now servers.now (held_of first.entry) part) entries.now) list.new.items) }
     {
         for entry in entries {
-            self.add_beside(first, part, spots, *entry, list)?;
+            self.add_beside(first, part, servers, *entry, list)?;
         }
         Ok(())
     }
@@ -205,6 +228,72 @@ impl<'a> Search<'a> {
         Ok(())
     }
 
+    /// Whether the row of an entry may serve a part of a row.
+    fn may_serve_at(&self, part: u16, first: Held, entry: FiledPart) -> bool
+        requires number { self.now.rule < length self.now.book.now }
+        requires fit { FitTogether self.now.book.now (held_of first ∷ rows_of self.now) }
+        ensures { result ≡ may_serve_at self.now part (held_of first.entry) entry }
+    {
+        match self.row_at(entry.position) {
+            Some(server) => may_serve_part(self.book.rule(self.rule), part, first, server),
+            None => false,
+        }
+    }
+
+    /// Adds an entry, if its row may serve a part of a row.
+    fn add_server_if(
+        &self,
+        part: u16,
+        first: Held,
+        entry: FiledPart,
+        list: &mut Vec<FiledPart>,
+    ) -> Result<(), AllocError>
+        requires number { self.now.rule < length self.now.book.now }
+        requires fit { FitTogether self.now.book.now (held_of first ∷ rows_of self.now) }
+        ensures { OnOk result (list.new.items ≡ list.old.items ++ server_if self.now part (held_of first.entry) entry) }
+    {
+        if self.may_serve_at(part, first, entry) {
+            list.push(entry)?;
+        }
+        Ok(())
+    }
+
+    fn add_servers(
+        &self,
+        part: u16,
+        first: Held,
+        entries: &[FiledPart],
+        list: &mut Vec<FiledPart>,
+    ) -> Result<(), AllocError>
+        requires number { self.now.rule < length self.now.book.now }
+        requires fit { FitTogether self.now.book.now (held_of first ∷ rows_of self.now) }
+        ensures { OnOk result (list.new.items ≡ list.old.items ++ flat_map (server_if self.now part (held_of first.entry)) entries.now) }
+    {
+        for entry in entries {
+            self.add_server_if(part, first, *entry, list)?;
+        }
+        Ok(())
+    }
+
+    /// The servers that may serve a part of a row of these spots.
+    fn servers_of_part(
+        &self,
+        alloc: Global,
+        part: u16,
+        first: Held,
+        spots: &Spots,
+    ) -> Result<Vec<FiledPart>, AllocError>
+        requires number { self.now.rule < length self.now.book.now }
+        requires fit { FitTogether self.now.book.now (held_of first ∷ rows_of self.now) }
+        ensures { IfOk result (λ servers. servers.items ≡ servers_of_part self.now part (held_of first.entry) spots.now) }
+    {
+        let mut near = Vec::new(alloc);
+        self.index.servers.add_near(spots, &mut near)?;
+        let mut servers = Vec::new(alloc);
+        self.add_servers(part, first, near.as_slice(), &mut servers)?;
+        Ok(servers)
+    }
+
     /// Adds the broken needs of this part of a row and another row.
     fn add_of_part(
         &self,
@@ -226,7 +315,8 @@ impl<'a> Search<'a> {
         let mut beside = Vec::new(alloc);
         self.index.add_partners(roles, &spots, &mut beside)?;
         put_in_order(&mut beside);
-        self.add_beside_all(first, part, &spots, beside.as_slice(), list)?;
+        let servers = self.servers_of_part(alloc, part, first, &spots)?;
+        self.add_beside_all(first, part, servers.as_slice(), beside.as_slice(), list)?;
         Ok(())
     }
 
@@ -289,5 +379,28 @@ impl<'a> Search<'a> {
             self.add_of_row(alloc, *first, list)?;
         }
         Ok(())
+    }
+
+    /// Adds the broken needs of the rule, row by row, and answers the least of the list as soon as
+    /// no later row or rule can have a lesser one. None is answered where all of them were added.
+    /// It fails for want of memory alone.
+    pub(crate) fn add_until_least(
+        &self,
+        alloc: Global,
+        list: &mut Vec<Broken>,
+    ) -> Result<Option<Broken>, AllocError>
+        requires number { self.now.rule < length self.now.book.now }
+        requires fit { FitTogether self.now.book.now (rows_of self.now) }
+        requires filed { AreRowsFiled self.now }
+        requires in_order { AreInOrder (rows_of self.now) }
+        ensures { IfOk result (λ found. MatchOption found (GainsAll self.now (IsOfRule self.now.rule) list.old.items list.new.items) (IsLeastFrom self.now list.old.items)) }
+    {
+        for first in self.rows {
+            self.add_of_row(alloc, *first, list)?;
+            if let Some(need) = least_up_to(self.rule, first.cell, list) {
+                return Ok(Some(need));
+            }
+        }
+        Ok(None)
     }
 }

@@ -38,7 +38,7 @@ get-set_each base (e ∷ es) changed q apart =
         ap (at_entry base q (change_from (row_at base e.0) e.1)) (ap (λ c. find cell_cmp c es) same ∙ apart.0) ∙ ap (λ c. change_from (row_at base c) e.1) (sym same)
     by false t = refl
 
-no_change : (a : Option Row) → None ≡ change_from a a
+pub no_change : (a : Option Row) → None ≡ change_from a a
 no_change a = sym (ap (λ (b : Bool). let change : Change = record { before = a; after = a } in cond (not b) (Some change) None) (same_itself a))
 
 pub changes_found : (base : Content) (d : Differences) → set_each base finite.empty (finite.entries d) ≡ changes base (seen_over base d)

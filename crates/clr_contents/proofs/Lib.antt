@@ -1,4 +1,5 @@
 pub mod ChangeLemmas
+pub mod ComparedLemmas
 pub mod DepthLemmas
 pub mod PinLemmas
 pub mod LeanLemmas

@@ -30,6 +30,11 @@ parent_layer live ls at r some lt = let q = r.under at some (within_wholes live 
 pub above_parent : (live : Content) (ls : List Layer) (at p : ℕ) → parent_of (wholes live ls) at ≡ Some p → p < at → above_at live ls at ≡ (workspace_at (wholes live ls) p).current
 above_parent live ls at p e lt = ap (λ o. unwrap_or o no_rows) (named_found (wholes live ls) (layer_at ls at).parent p at (ap (find (wholes live ls)) (sym (parent-wholes live ls at)) ∙ e) lt)
 
+pub parent_earlier : (live : Content) (ls : List Layer) (at p : ℕ) → IsRooted (wholes live ls) → 0 < at → at < length ls → parent_of (wholes live ls) at ≡ Some p → p < at
+parent_earlier live ls at p r some lt e =
+    let up = r.under at some (within_wholes live ls at lt) in
+    subst (λ (n : ℕ). n < at) (ap (λ (o : Option ℕ). unwrap_or o 0) (sym up.1 ∙ e)) up.2
+
 pub base_of_whole : (above : Content) (l : Layer) → (whole_of above l).base ≡ seen_over above l.base
 unfolding whole_of
 base_of_whole above l = refl

@@ -1,2 +1,3 @@
 pub mod Pinning
 pub mod Lean
+pub mod Comparing

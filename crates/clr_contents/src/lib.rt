@@ -3,18 +3,22 @@
 //!
 //! - `row_of`, `base_row_of`, `whole_rows`, `base_rows`, `saved_rows` and `changes_of` read the
 //!   rows of a workspace, by cell or whole, as the differences above one another mean them.
-//!   `pin_children`, `pin_current`, `pin_own` and `pin_saved` make entries before a content below
+//! - `changes_to_base`, `changes_to_saved` and `changes_to_refreshed` tell what would change in the
+//!   current content of a workspace, were it rolled back or refreshed; no whole content is made.
+//! - `pin_children`, `pin_current`, `pin_own` and `pin_saved` make entries before a content below
 //!   changes [`seen`]: no content changes by them, also where memory runs out.
 #![tactic(auto)]
 
+mod comparisons;
 mod pins;
 mod reads;
 mod sweeps;
 mod views;
 mod wholes;
 
+pub use comparisons::{changes_to_base, changes_to_refreshed, changes_to_saved};
 pub use pins::{pin_children, pin_current, pin_own, pin_saved};
-pub use reads::{base_row_of, depth_at, parent_of, row_of};
+pub use reads::{base_row_of, depth_at, parent_of, row_of, saved_row_of};
 pub use sweeps::{sweep, sweep_at};
-pub use views::{BaseView, View};
+pub use views::{BaseView, ChangedView, SavedView, View};
 pub use wholes::{base_rows, cells_of, changes_of, saved_at, saved_rows, whole_rows};

@@ -1,13 +1,15 @@
 //! What a workspace has at a cell, and how deep it is.
 
-ghost use Rattle.std.specs.Prelude.{◌≡◌, ◌<◌, length, Some};
+ghost use Rattle.std.specs.Prelude.{◌≡◌, ◌<◌, length, true, Some};
+ghost use Rattle.std.specs.FinMap as finite;
 ghost use Rattle.std.specs.Option.{option_copied};
 ghost use Rattle.clr_rows.specs.Contents.{row_at};
-ghost use Rattle.clr_layers.specs.Layers.{wholes};
+ghost use Rattle.clr_layers.specs.Layers.{layer_at, saved_differences, stored_at, wholes};
+ghost use Rattle.clr_workspaces.specs.Marks.{is_saved, mark_at, saved_content};
 ghost use Rattle.clr_workspaces.specs.Workspaces.{workspace_at, parent_of as position_of_parent, depth_of};
 ghost use Rattle.clr_workspaces.specs.Roots.{IsRooted};
 
-use clr_layers::WorkspaceMap;
+use clr_layers::{StoredMark, WorkspaceMap};
 use clr_rows::{CellId, Row, Sheet};
 
 /// Returns the position of the parent of a workspace other than LIVE.
@@ -61,6 +63,45 @@ pub fn base_row_of<'a>(
         return row.as_ref();
     }
     row_of(live, map, parent_of(live, map, at), cell)
+}
+
+/// Returns the entry of a savepoint at a cell, or none, and none of the mark of a child.
+fn saved_entry(mark: &StoredMark, cell: CellId) -> Option<&Option<Row>>
+    ensures { option_copied result ≡ finite.get (saved_differences mark.now) cell }
+{
+    match mark {
+        StoredMark::Saved(_, differences) => differences.get(cell),
+        StoredMark::Child(_) => None,
+    }
+}
+
+/// Returns the entry at a cell of the mark at a position, or none.
+fn entry_at(map: &WorkspaceMap, at: usize, mark: usize, cell: CellId) -> Option<&Option<Row>>
+    requires within { at < length map.now }
+    requires marked { mark < length (layer_at map.now at).marks }
+    ensures { option_copied result ≡ finite.get (saved_differences (stored_at (layer_at map.now at).marks mark)) cell }
+{
+    saved_entry(&map.marks(at)[mark], cell)
+}
+
+/// Returns the row at a cell of a savepoint of a workspace other than LIVE.
+pub fn saved_row_of<'a>(
+    live: &'a Sheet,
+    map: &'a WorkspaceMap,
+    at: usize,
+    mark: usize,
+    cell: CellId,
+) -> Option<&'a Row>
+    requires child { 0 < at }
+    requires within { at < length map.now }
+    requires rooted { IsRooted (wholes live.now map.now) }
+    requires saved { is_saved (mark_at (workspace_at (wholes live.now map.now) at).marks mark) ≡ true }
+    ensures { option_copied result ≡ row_at (saved_content (mark_at (workspace_at (wholes live.now map.now) at).marks mark)) cell }
+{
+    if let Some(row) = entry_at(map, at, mark, cell) {
+        return row.as_ref();
+    }
+    base_row_of(live, map, at, cell)
 }
 
 /// Returns how many workspaces are above one.

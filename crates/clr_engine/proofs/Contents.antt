@@ -43,7 +43,3 @@ set_same content cell = same_content _ _ (λ q. row-set_cell content cell (row_a
 pub set_one : (content : Content) (cell : CellId) (row : Option Row) (changed : Changes) → changed ≡ set_change no_changes cell (row_at content cell) row → taken_over content changed ≡ set_cell content cell row
 set_one content cell row changed e = reached content (set_cell content cell row) changed
     (e ∙ ap (λ set. set_change set cell (row_at content cell) row) (sym (changes-self content)) ∙ set_change_is content content cell row)
-
--- so do the changes between copies
-pub reached_between : (current other rows others : Content) (changed : Changes) → rows ≡ current → others ≡ other → changed ≡ changes rows others → taken_over current changed ≡ other
-reached_between current other rows others changed same same_others e = reached current other changed (e ∙ ap (λ m. changes m others) same ∙ ap (changes current) same_others)

@@ -15,8 +15,8 @@ use Rattle.clr_rules.specs.Books.{FitTogether, FitsCell, FitsContent}
 use Rattle.clr_rules.specs.declared.rules.Rule.{Rule}
 use Rattle.clr_grid.specs.declared.row_spots.RuleSpots.{RuleSpots}
 use Rattle.clr_grid.specs.RowMaps.{Rows}
-use Rattle.clr_grid.specs.Sharing.{IsSettledFor, Pending, Settled, next_at, next_of, row_spots, rows_at}
-use Rattle.clr_engine.specs.Finders.{AreFinders, ArePending, AreRowsPending, FitAfter, HasForgotten, HasNoted, HasSettled, IsChangedAt, IsFinderAt, IsFinderOf, spots_after, spots_of_row}
+use Rattle.clr_grid.specs.Sharing.{next_at, next_of, row_spots, rows_at}
+use Rattle.clr_engine.specs.Finders.{AreFinders, ArePending, FitAfter, HasForgotten, HasNoted, HasSettled, IsChangedAt, IsFinderAt, IsFinderOf, spots_after}
 
 -- ---- rows that fit
 
@@ -32,14 +32,9 @@ fit_after book content changed fit q change is = by change.after refl
 
 -- ---- one finder
 
-pub settled_rows : (book : List Rule) (content : Content) (old new : Settled) (pending : Pending) → old ≡ finite.empty → AreRowsPending book content pending
-    → ((q : CellId) → finite.get new q ≡ next_at old pending q) → IsSettledFor new book content
-settled_rows book content old new pending none noted settles q = settles q ∙ (λ i. next_of (finite.get (none i) q) (noted q i))
-    ∙ ap (λ o. next_of o (option_map (spots_of_row book q) (row_at content q))) (finite.get-empty {X = List RuleSpots} cell_cmp q) ∙ by (row_at content q)
-  where
-    by : (row : Option Row) → next_of None (option_map (spots_of_row book q) row) ≡ option_map (λ r. row_spots book (q, r)) row
-    by None = refl
-    by (Some row) = refl
+-- what a finder keeps of a row
+abbrev pub row_kept : List Rule → CellId → Row → List RuleSpots
+row_kept book q row = row_spots book (q, row)
 
 module _ (book : List Rule) (changed : Changes) where
   -- a content with the changes over it, where there is one

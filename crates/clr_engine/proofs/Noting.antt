@@ -1,4 +1,4 @@
--- Entries noted one after another in a finder in which nothing is pending.
+-- Entries noted one after another in a finder: changes where nothing is pending, or rows where none is settled.
 use Rattle.std.proofs.Common.{◌≡◌, ◌∙◌, Bool, true, false, cond, T, List, [], ◌∷◌, Option, Some, None, refl, sym, ap, subst}
 use Rattle.std.specs.FinMap as finite
 use Rattle.std.specs.FinMap.Entries.{find, is_sorted}
@@ -10,12 +10,13 @@ use Rattle.clr_rows.proofs.CellOrder.{cell_cmp_total}
 use Rattle.clr_rows.proofs.ChangeLemmas.{find_below, tied_self}
 use Rattle.clr_rows.proofs.RowLemmas.{tied_cells}
 use Rattle.clr_rows.proofs.Tests.{first, second}
-use Rattle.clr_grid.specs.declared.row_spots.RuleSpots.{RuleSpots}
-use Rattle.clr_grid.specs.Sharing.{Pending}
 
 -- what is noted of an entry
-module _ {X : Type 0} (noted : CellId → X → Option (List RuleSpots)) where
-  -- nothing is pending where an entry is left, and what is noted of the others is
+module _ {X V : Type 0} (noted : CellId → X → V) where
+  abbrev pub Pending : Type 0
+  Pending = finite.FinMap cell_cmp V
+
+  -- nothing is noted where an entry is left, and of the others what is to be noted
   pub record AreLeft (all rest : List (CellId × X)) (pending : Pending) : Type 0 where
     pub sorted : T (is_sorted cell_cmp rest)
     pub among : (q : CellId) (x : X) → find cell_cmp q rest ≡ Some x → find cell_cmp q all ≡ Some x
@@ -24,7 +25,7 @@ module _ {X : Type 0} (noted : CellId → X → Option (List RuleSpots)) where
 
   pub all_left : (all rest : List (CellId × X)) (pending : Pending) → T (is_sorted cell_cmp all) → rest ≡ all → pending ≡ finite.empty → AreLeft all rest pending
   all_left all rest pending sorted same none =
-      let nothing : (q : CellId) → finite.get pending q ≡ None = λ q. ap (λ m. finite.get m q) none ∙ finite.get-empty {X = Option (List RuleSpots)} cell_cmp q in
+      let nothing : (q : CellId) → finite.get pending q ≡ None = λ q. ap (λ m. finite.get m q) none ∙ finite.get-empty {X = V} cell_cmp q in
       record {
         sorted = subst (λ es. T (is_sorted cell_cmp es)) (sym same) sorted;
         among = λ q x e. ap (find cell_cmp q) (sym same) ∙ e;

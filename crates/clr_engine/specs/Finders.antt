@@ -32,14 +32,6 @@ AreFinders book [] [] = ⊤
 AreFinders book (content ∷ contents) (finder ∷ finders) = IsFinderAt book content finder × AreFinders book contents finders
 AreFinders book _ _ = ⊥
 
--- what is to stand at the cell of a row
-abbrev pub spots_of_row : List Rule → CellId → Row → Option (List RuleSpots)
-spots_of_row book q row = Some (row_spots book (q, row))
-
--- just the rows of a content are pending
-abbrev pub AreRowsPending : List Rule → Content → Pending → Type 0
-AreRowsPending book content pending = (q : CellId) → finite.get pending q ≡ option_map (spots_of_row book q) (row_at content q)
-
 -- changes that are noted ----------------------------------------------------------------------------------------------
 
 -- the rules and each row that is to stand fit one schema

@@ -6,7 +6,7 @@ ghost use Rattle.std.specs.FinMap as finite;
 ghost use Rattle.std.specs.Option.{option_copied};
 ghost use Rattle.clr_rows.specs.Contents.{row_at};
 ghost use Rattle.clr_rules.specs.Books.{FitsContent};
-ghost use Rattle.clr_engine.specs.Finders.{ArePending, FitAfter, HasForgotten, HasNoted, HasSettled, IsChangedAt, IsFinderOf, AreRowsPending};
+ghost use Rattle.clr_engine.specs.Finders.{ArePending, FitAfter, HasForgotten, HasNoted, HasSettled, IsChangedAt, IsFinderOf};
 
 use clr_change::ChangeSet;
 use clr_grid::{RowFinder, SpotIndex};
@@ -51,19 +51,6 @@ fn note_changes(
     Ok(())
 }
 
-/// Adds rows to a finder in which nothing is pending. It fails for want of memory alone.
-fn note_rows(finder: &mut SpotIndex, book: &RuleBook, rows: &Sheet) -> Result<(), AllocError>
-    requires fit { FitsContent book.now rows.now }
-    requires free { finder.old.pending ≡ finite.empty }
-    ensures settled { finder.new.settled ≡ finder.old.settled }
-    ensures pending { OnOk result (AreRowsPending book.now rows.now finder.new.pending) }
-{
-    for (cell, row) in rows.iter() {
-        finder.note(book, *cell, Some(row))?;
-    }
-    Ok(())
-}
-
 /// The finder of the rows of a content. It fails for want of memory alone.
 pub(crate) fn finder_of(
     alloc: Global,
@@ -74,8 +61,9 @@ pub(crate) fn finder_of(
     ensures { IfOk result (IsFinderOf book.now rows.now) }
 {
     let mut finder = SpotIndex::new(alloc);
-    note_rows(&mut finder, book, rows)?;
-    finder.settle();
+    for (cell, row) in rows.iter() {
+        finder = finder.with_row(book, *cell, row)?;
+    }
     Ok(finder)
 }
 

@@ -1,12 +1,12 @@
 //! Judging, by the rules, what commands would leave.
 
-ghost use Rattle.std.specs.Prelude.{◌≡◌, ◌<◌, true, length, None, IfOk, OnOk, OnErr, MatchOption};
+ghost use Rattle.std.specs.Prelude.{◌≡◌, ◌<◌, true, length, None, Some, IfOk, OnOk, OnErr, MatchOption};
 ghost use Rattle.std.specs.Option.{option_copied, option_map};
 ghost use Rattle.clr_rows.specs.Contents.{Content, row_at, set_cell, taken_over};
 ghost use Rattle.clr_rules.specs.Books.{FitsContent};
 ghost use Rattle.clr_rules.specs.Needs.{Holds};
 ghost use Rattle.clr_workspaces.specs.Marks.{is_saved, mark_at, saved_content};
-ghost use Rattle.clr_workspaces.specs.Workspaces.{workspace_at};
+ghost use Rattle.clr_workspaces.specs.Workspaces.{workspace_at, parent_of as position_of_parent};
 ghost use Rattle.clr_workspaces.specs.Operations.{own_changes, set_kept};
 ghost use Rattle.clr_workspaces.specs.Soundness.{IsSound};
 ghost use Rattle.clr_steps.specs.Invariants.{first_unheld};
@@ -16,7 +16,7 @@ ghost use Rattle.clr_engine.specs.Finders.{AreFinders, IsFinderAt, IsFinderOf, I
 ghost use Rattle.clr_engine.specs.Trees.{FitBoth, FitSome, IsServed};
 
 use crate::finders::{Finders, finder_of};
-use clr_audit::audit;
+use clr_audit::first_broken;
 use clr_change::ChangeSet;
 use clr_foot::Scene;
 use clr_grid::SpotIndex;
@@ -85,16 +85,26 @@ impl Judge {
         }
     }
 
-    /// The least broken need of what a workspace has.
+    /// The least broken need of a content.
     #[tactic(auto, unfolding(clr_steps::specs::Refusals::first_broken))]
+    fn first_broken_in(&self, rows: &Sheet) -> Result<Option<Broken>, AllocError>
+        requires { FitsContent self.now rows.now }
+        ensures { IfOk result (λ need. need ≡ first_broken self.now rows.now) }
+    {
+        first_broken(self.alloc, &self.book, rows)
+    }
+
+    /// The least broken need of what a workspace has. LIVE isn't copied for it.
     fn first_broken_now(&self, tree: &Tree, at: usize) -> Result<Option<Broken>, AllocError>
         requires within { at < length tree.now.list }
         requires fit { FitsContent self.now (workspace_at tree.now.list at).current }
         ensures { IfOk result (λ need. need ≡ first_broken self.now (workspace_at tree.now.list at).current) }
     {
+        if at == 0 {
+            return self.first_broken_in(tree.live());
+        }
         let rows = tree.rows(at)?;
-        let needs = audit(self.alloc, &self.book, &rows)?;
-        Ok(needs.as_slice().first().copied())
+        self.first_broken_in(&rows)
     }
 
     /// Returns the least broken need of the content that a workspace has, where the rules are to
@@ -146,26 +156,6 @@ impl Judge {
         }
     }
 
-    /// Prepares another content of a workspace, by what changes to it.
-    fn prepare_content(
-        &self,
-        tree: &Tree,
-        finders: &mut Finders,
-        at: usize,
-        next: &Sheet,
-    ) -> Result<Option<Broken>, AllocError>
-        requires within { at < length tree.now.list }
-        requires served { IsServed self.now tree.now.list finders.old }
-        requires fit { FitBoth self.now (workspace_at tree.now.list at).current next.now }
-        ensures judged { IfOk result (λ need. option_map RuleBroken need ≡ broken_where (workspace_at tree.now.list at).kept self.now next.now) }
-        ensures prepared { IfOk result (λ need. MatchOption need (IsPrepared self.now tree.now.list at next.now finders.new) (λ _. finders.new ≡ finders.old)) }
-        ensures err { OnErr result (finders.new ≡ finders.old) }
-    {
-        let rows = tree.rows(at)?;
-        let changed = ChangeSet::between(self.alloc, &rows, next)?;
-        self.prepare(tree, finders, at, &changed)
-    }
-
     /// Prepares the content of a savepoint of a workspace.
     pub fn prepare_savepoint(
         &self,
@@ -188,8 +178,8 @@ impl Judge {
         if !tree.kept(at) {
             return Ok(None);
         }
-        let saved = tree.saved_rows(at, mark)?;
-        self.prepare_content(tree, finders, at, &saved)
+        let changed = tree.changes_to_savepoint(at, mark)?;
+        self.prepare(tree, finders, at, &changed)
     }
 
     /// Prepares the base of a workspace.
@@ -210,8 +200,8 @@ impl Judge {
         if !tree.kept(at) {
             return Ok(None);
         }
-        let base = tree.base_rows(at)?;
-        self.prepare_content(tree, finders, at, &base)
+        let changed = tree.changes_to_base(at)?;
+        self.prepare(tree, finders, at, &changed)
     }
 
     /// Prepares the parent's content with the own changes of a workspace over it.
@@ -221,26 +211,25 @@ impl Judge {
         finders: &mut Finders,
         at: usize,
         above: usize,
-        changed: &ChangeSet,
+        own: &ChangeSet,
     ) -> Result<Option<Broken>, AllocError>
         requires child { 0 < at }
         requires within { at < length tree.now.list }
-        requires above { above < length tree.now.list }
-        requires own { changed.now ≡ own_changes (workspace_at tree.now.list at) }
+        requires above { position_of_parent tree.now.list at ≡ Some above }
+        requires own { own.now ≡ own_changes (workspace_at tree.now.list at) }
         requires served { IsServed self.now tree.now.list finders.old }
         ensures judged { IfOk result (λ need. option_map RuleBroken need
-            ≡ broken_where (workspace_at tree.now.list at).kept self.now (taken_over (workspace_at tree.now.list above).current changed.now)) }
+            ≡ broken_where (workspace_at tree.now.list at).kept self.now (taken_over (workspace_at tree.now.list above).current own.now)) }
         ensures prepared { IfOk result (λ need. MatchOption need
-            (IsPrepared self.now tree.now.list at (taken_over (workspace_at tree.now.list above).current changed.now) finders.new)
+            (IsPrepared self.now tree.now.list at (taken_over (workspace_at tree.now.list above).current own.now) finders.new)
             (λ _. finders.new ≡ finders.old)) }
         ensures err { OnErr result (finders.new ≡ finders.old) }
     {
         if !tree.kept(at) {
             return Ok(None);
         }
-        let mut next = tree.rows(above)?;
-        next.put_all(changed.rows_after()?)?;
-        self.prepare_content(tree, finders, at, &next)
+        let changed = tree.changes_to_refreshed(at, above, own)?;
+        self.prepare(tree, finders, at, &changed)
     }
 
     /// Prepares the content of a workspace with another row at one cell.

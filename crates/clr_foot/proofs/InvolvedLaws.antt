@@ -15,7 +15,7 @@ use Rattle.clr_foot.specs.declared.versions.Version.{Version}
 use Rattle.clr_foot.specs.Candidates.{IsNeedServedBy, IsNeedWith, IsSubject}
 use Rattle.clr_foot.specs.Gains.{Gains, OfSome}
 use Rattle.clr_needs.specs.Independence.{AreDependent, Involves, Names, NamesToo}
-use Rattle.clr_foot.specs.Involvement.{IsInvolvedAt, IsInvolvedBy, IsInvolving, IsToldInvolving, names, names_at, names_by}
+use Rattle.clr_foot.specs.Involvement.{IsInvolvedAt, IsInvolvedBy, IsInvolvedWith, IsInvolving, IsToldInvolving, names, names_at, names_by}
 use Rattle.clr_needs.specs.Members.{after_at, setting}
 use Rattle.clr_needs.specs.Needs.{AreServers, IsBesideToo, IsPossible, IsPossibleNeed, Lists, Serves, ask_of, held_too}
 use Rattle.clr_needs.specs.Orders.{need_cmp}
@@ -77,25 +77,56 @@ module _ (c : Setting ℕ) where
             by (inl subject) = inl (w.rule, subject, w.first, w.second, w.possible)
             by (inr serve) = inr (w.rule, w.first, w.second, w.lived, w.possible, serve)
 
+  -- ---- rule after rule
+
+  -- those of the rules below a number
+  pub record IsInvolvedBelow (x number : ℕ) (v : VersionId) (n : Need) : Type 0 where
+    pub involved : IsInvolvedWith c x v n
+    pub below : n.rule < number
+
+  pub no_rule_involved : (x : ℕ) (v : VersionId) (needs : List Need) → Gains (IsInvolving c x) (IsInvolvedBelow x 0 v) needs needs
+  no_rule_involved x v needs = gains_none (IsInvolving c x) (IsInvolvedBelow x 0 v) needs (λ n w. let less = w.below in omega (arith, less))
+
+  pub one_rule_involved : (x number : ℕ) (v : VersionId) (old middle new : List Need) → Gains (IsInvolving c x) (IsInvolvedBelow x number v) old middle
+      → Gains (IsInvolving c x) (IsInvolvedBy c number x v) middle new
+      → Gains (IsInvolving c x) (IsInvolvedBelow x (number + 1) v) old new
+  one_rule_involved x number v old middle new g h =
+      gains_both (IsInvolving c x) (IsInvolvedBelow x number v) (IsInvolvedBy c number x v) (IsInvolvedBelow x (number + 1) v) old middle new split g h
+    where
+      split : (n : Need) → IsInvolvedBelow x (number + 1) v n → IsInvolvedBelow x number v n ⊎ IsInvolvedBy c number x v n
+      split n w = elim (cases_lt n.rule number) [
+        | inl less ↦ inl (record { involved = w.involved; below = less })
+        | inr last ↦ (let rule : n.rule ≡ number = let less = w.below in omega (arith, less, last) in
+            inr (subst (λ k. IsInvolvedBy c k x v n) rule w.involved))
+      ]
+
+  pub all_rules_involved : (x number : ℕ) (v : VersionId) (old new : List Need) → length c.rules ≤ number → Gains (IsInvolving c x) (IsInvolvedBelow x number v) old new
+      → Gains (IsInvolving c x) (IsInvolvedWith c x v) old new
+  all_rules_involved x number v old new past g =
+      gains_as (IsInvolving c x) (IsInvolvedBelow x number v) (IsInvolving c x) (IsInvolvedWith c x v) old new (λ n w. w) (λ n w. record { involved = w; below = below n w }) g
+    where
+      below : (n : Need) → IsInvolvedWith c x v n → n.rule < number
+      below n w = let less = rule_there c.rules (ask_of n) (held_row n.first w.first) (held_too n.second w.second) w.possible.they_call in omega (arith, less, past)
+
   -- ---- the version of a name
 
-  pub no_version : (number x : ℕ) (id : VersionId) (needs : List Need) → version c id ≡ None → Gains (IsInvolving c x) (IsInvolvedBy c number x id) needs needs
-  no_version number x id needs none = gains_none (IsInvolving c x) (IsInvolvedBy c number x id) needs (λ n w. let clash : None ≡ Some w.lived = sym none ∙ w.is in cc)
+  pub no_version : (x : ℕ) (id : VersionId) (needs : List Need) → version c id ≡ None → Gains (IsInvolving c x) (IsInvolvedWith c x id) needs needs
+  no_version x id needs none = gains_none (IsInvolving c x) (IsInvolvedWith c x id) needs (λ n w. let clash : None ≡ Some w.lived = sym none ∙ w.is in cc)
 
-  pub not_named : (number x : ℕ) (id : VersionId) (l : Lived ℕ) (told : Bool) (needs : List Need) → version c id ≡ Some l → told ≡ names l.life x → told ≡ false
-      → Gains (IsInvolving c x) (IsInvolvedBy c number x id) needs needs
-  not_named number x id l told needs is tells fails = gains_none (IsInvolving c x) (IsInvolvedBy c number x id) needs by
+  pub not_named : (x : ℕ) (id : VersionId) (l : Lived ℕ) (told : Bool) (needs : List Need) → version c id ≡ Some l → told ≡ names l.life x → told ≡ false
+      → Gains (IsInvolving c x) (IsInvolvedWith c x id) needs needs
+  not_named x id l told needs is tells fails = gains_none (IsInvolving c x) (IsInvolvedWith c x id) needs by
     where
-      by : (n : Need) → IsInvolvedBy c number x id n → ⊥
+      by : (n : Need) → IsInvolvedWith c x id n → ⊥
       by n w =
           let same : w.lived ≡ l = let e : Some w.lived ≡ Some l = sym w.is ∙ is in cc in
           false≢true (sym fails ∙ tells ∙ names_told l.life x (subst (λ m. Names m.life x) same w.names))
 
-  pub at_cell : (number x : ℕ) (q : CellId) (old middle new : List Need) → Gains (IsInvolving c x) (IsInvolvedBy c number x (version_of true q)) old middle
-      → Gains (IsInvolving c x) (IsInvolvedBy c number x (version_of false q)) middle new
-      → Gains (IsInvolving c x) (IsInvolvedAt c number x q) old new
-  at_cell number x q old middle new g h =
-      gains_both (IsInvolving c x) (IsInvolvedBy c number x (version_of true q)) (IsInvolvedBy c number x (version_of false q)) (IsInvolvedAt c number x q) old middle new (λ n w. w) g h
+  pub at_cell : (x : ℕ) (q : CellId) (old middle new : List Need) → Gains (IsInvolving c x) (IsInvolvedWith c x (version_of true q)) old middle
+      → Gains (IsInvolving c x) (IsInvolvedWith c x (version_of false q)) middle new
+      → Gains (IsInvolving c x) (IsInvolvedAt c x q) old new
+  at_cell x q old middle new g h =
+      gains_both (IsInvolving c x) (IsInvolvedWith c x (version_of true q)) (IsInvolvedWith c x (version_of false q)) (IsInvolvedAt c x q) old middle new (λ n w. w) g h
 
   -- ---- whether a need involves a member
 
@@ -188,32 +219,24 @@ module _ (rules : List Rule) (root : Content) (sets : List Changes) where
       by true None h is = cc
       by true (Some m) h is = changes (Some m) h (ap Some (subst (λ k. Names k x) ((new_is c m (c.after m v.cell) l is).1) names))
 
-  -- those of the rules below a number
-  pub record IsInvolvingBelow (x number : ℕ) (n : Need) : Type 0 where
-    pub involves : IsInvolving c x n
-    pub below : n.rule < number
-
-  pub no_rule_involved : (x : ℕ) (needs : List Need) → Gains (IsInvolving c x) (IsInvolvingBelow x 0) needs needs
-  no_rule_involved x needs = gains_none (IsInvolving c x) (IsInvolvingBelow x 0) needs (λ n w. let less = w.below in omega (arith, less))
-
   module _ (x : ℕ) (set : Changes) (at : slice_get sets x ≡ Some set) where
     key_of : (v : VersionId) (l : Lived ℕ) → version c v ≡ Some l → Names l.life x → Contains (finite.keys set) v.cell
     key_of v l is names = contained v.cell (finite.keys set) (key_among set v.cell (ap (λ s. is_some (after_at s v.cell)) (sym at) ∙ named_changes v l x is names))
 
-    by_version : (v : VersionId) (n : Need) → IsInvolvedBy c n.rule x v n → OfSome (IsInvolvedAt c n.rule x) (finite.keys set) n
+    by_version : (v : VersionId) (n : Need) → IsInvolvedWith c x v n → OfSome (IsInvolvedAt c x) (finite.keys set) n
     by_version v n w = (v.cell, key_of v w.lived w.is w.names, by v.fresh refl)
       where
-        by : (b : Bool) → v.fresh ≡ b → IsInvolvedAt c n.rule x v.cell n
-        by true e = let same : v ≡ version_of true v.cell = λ i. record { cell = v.cell; fresh = e i } in inl (subst (λ u. IsInvolvedBy c n.rule x u n) same w)
-        by false e = let same : v ≡ version_of false v.cell = λ i. record { cell = v.cell; fresh = e i } in inr (subst (λ u. IsInvolvedBy c n.rule x u n) same w)
+        by : (b : Bool) → v.fresh ≡ b → IsInvolvedAt c x v.cell n
+        by true e = let same : v ≡ version_of true v.cell = λ i. record { cell = v.cell; fresh = e i } in inl (subst (λ u. IsInvolvedWith c x u n) same w)
+        by false e = let same : v ≡ version_of false v.cell = λ i. record { cell = v.cell; fresh = e i } in inr (subst (λ u. IsInvolvedWith c x u n) same w)
 
     -- a need that involves the member is found at a cell that it changes
-    at_key : (n : Need) → IsInvolving c x n → OfSome (IsInvolvedAt c n.rule x) (finite.keys set) n
+    at_key : (n : Need) → IsInvolving c x n → OfSome (IsInvolvedAt c x) (finite.keys set) n
     at_key n (a, b, p, inl names) =
         by_version n.first n (record { first = a; second = b; lived = a; rule = refl; possible = p; is = p.first_is; names = names; role = inl (inl refl) })
     at_key n (a, b, p, inr (inl names)) = by n.second b refl p.second_is names
       where
-        by : (w : Option VersionId) (m : Option (Lived ℕ)) → n.second ≡ w → IsBesideToo c n.first a w m → NamesToo m x → OfSome (IsInvolvedAt c n.rule x) (finite.keys set) n
+        by : (w : Option VersionId) (m : Option (Lived ℕ)) → n.second ≡ w → IsBesideToo c n.first a w m → NamesToo m x → OfSome (IsInvolvedAt c x) (finite.keys set) n
         by None None e is h = absurd h
         by None (Some m) e is h = absurd is
         by (Some w) None e is h = absurd is
@@ -222,27 +245,11 @@ module _ (rules : List Rule) (root : Content) (sets : List Changes) where
     at_key n (a, b, p, inr (inr (v, l, serve, names))) =
         by_version v n (record { first = a; second = b; lived = l; rule = refl; possible = p; is = serve.is; names = names; role = inr serve })
 
-    pub one_rule_involved : (number : ℕ) (cells : List CellId) (old middle new : List Need) → cells ≡ finite.keys set
-        → Gains (IsInvolving c x) (IsInvolvingBelow x number) old middle
-        → Gains (IsInvolving c x) (OfSome (IsInvolvedAt c number x) cells) middle new
-        → Gains (IsInvolving c x) (IsInvolvingBelow x (number + 1)) old new
-    one_rule_involved number cells old middle new all g h =
-        gains_both (IsInvolving c x) (IsInvolvingBelow x number) (OfSome (IsInvolvedAt c number x) cells) (IsInvolvingBelow x (number + 1)) old middle new split g h
+    -- all of them, added to an empty list
+    pub all_involved : (cells : List CellId) (empty new : List Need) → cells ≡ finite.keys set → empty ≡ [] → Gains (IsInvolving c x) (OfSome (IsInvolvedAt c x) cells) empty new
+        → (n : Need) → Contains new n ↔ IsInvolving c x n
+    all_involved cells empty new all none g n = (λ h. only (g.only n h), λ t. g.every n (subst (λ qs. OfSome (IsInvolvedAt c x) qs n) (sym all) (at_key n t)))
       where
-        split : (n : Need) → IsInvolvingBelow x (number + 1) n → IsInvolvingBelow x number n ⊎ OfSome (IsInvolvedAt c number x) cells n
-        split n w = elim (cases_lt n.rule number) [
-          | inl less ↦ inl (record { involves = w.involves; below = less })
-          | inr last ↦ (let rule : n.rule ≡ number = let less = w.below in omega (arith, less, last) in
-              inr (subst (λ qs. OfSome (IsInvolvedAt c number x) qs n) (sym all) (subst (λ k. OfSome (IsInvolvedAt c k x) (finite.keys set) n) rule (at_key n w.involves))))
-        ]
-
-  -- all of them, added to an empty list
-  pub all_involved : (x number : ℕ) (empty new : List Need) → length rules ≤ number → empty ≡ [] → Gains (IsInvolving c x) (IsInvolvingBelow x number) empty new → (n : Need) → Contains new n ↔ IsInvolving c x n
-  all_involved x number empty new past none g n = (λ h. only (g.only n h), λ t. g.every n (record { involves = t; below = below t }))
-    where
-      only : Contains empty n ⊎ IsInvolving c x n → IsInvolving c x n
-      only (inl h) = absurd (among n [] (subst (λ ns. Contains ns n) none h))
-      only (inr t) = t
-
-      below : IsInvolving c x n → n.rule < number
-      below (a, b, p, h) = let less = rule_there rules (ask_of n) (held_row n.first a) (held_too n.second b) p.they_call in omega (arith, less, past)
+        only : Contains empty n ⊎ IsInvolving c x n → IsInvolving c x n
+        only (inl h) = absurd (among n [] (subst (λ ns. Contains ns n) none h))
+        only (inr t) = t

@@ -98,13 +98,18 @@ pub two_asked : (rules : List Rule) (ask : Ask) (s t : Held) → calls rules ask
 unfolding is_of_two_under
 two_asked rules ask s t e = let (rule, at, called) = called_by rules ask s (Some t) e in ap is_of_two_by at ∙ two_are_asked rule ask s t called
 
+both_true : (a b : Bool) → a ≡ true → b ≡ true → (a && b) ≡ true
+both_true a b e f = λ i. e i && f i
+
 -- each of two that call is of a side of two subjects
 pub both_paired : (rules : List Rule) (ask : Ask) (s t : Held) → calls rules ask s (Some t) ≡ true → (may_be_paired rules ask.rule s ≡ true) × (may_be_paired rules ask.rule t ≡ true)
 unfolding may_be_paired
-both_paired rules ask s t e = elim (subjects_beside rules ask s t e) [
-  | inl w ↦ (or_left _ _ w.0, or_right _ _ w.1)
-  | inr w ↦ (or_right _ _ w.1, or_left _ _ w.0)
-]
+both_paired rules ask s t e =
+    let two = two_asked rules ask s t e in
+    elim (subjects_beside rules ask s t e) [
+      | inl w ↦ (both_true _ _ two (or_left _ _ w.0), both_true _ _ two (or_right _ _ w.1))
+      | inr w ↦ (both_true _ _ two (or_right _ _ w.1), both_true _ _ two (or_left _ _ w.0))
+    ]
 
 -- a server is of the side that serves
 of_server_side : (rule : Rule) (ask : Ask) (s : Held) (t : Option Held) (r : Held) → is_server rule ask s t r ≡ true → may_serve rule r ≡ true

@@ -35,9 +35,9 @@ is_of_two_by (Some rule) = is_of_two rule
 unfoldable pub is_of_two_under : List Rule → ℕ → Bool
 is_of_two_under rules number = is_of_two_by (slice_get rules number)
 
--- the row is of a side of two subjects
+-- the rule is asked of two rows, and the row is of a side of these
 unfoldable pub may_be_paired : List Rule → ℕ → Held → Bool
-may_be_paired rules number s = (roles_under rules number s).first || (roles_under rules number s).second
+may_be_paired rules number s = is_of_two_under rules number && ((roles_under rules number s).first || (roles_under rules number s).second)
 
 abbrev pub id_of : Version → VersionId
 id_of v = v.id

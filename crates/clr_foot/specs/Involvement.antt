@@ -44,10 +44,10 @@ pub record IsInvolvedBy (c : Setting ℕ) (number x : ℕ) (v : VersionId) (n : 
   pub names : Names lived.life x
   pub role : IsSubject n v ⊎ Serves c n first second v lived
 
--- a possible need that involves the member by the new version of a cell or by its old one
-abbrev pub IsInvolvedAt : Setting ℕ → ℕ → ℕ → CellId → Need → Type 0
-IsInvolvedAt c number x q n = IsInvolvedBy c number x (version_of true q) n ⊎ IsInvolvedBy c number x (version_of false q) n
+-- of any rule
+abbrev pub IsInvolvedWith : Setting ℕ → ℕ → VersionId → Need → Type 0
+IsInvolvedWith c x v n = IsInvolvedBy c n.rule x v n
 
--- a possible need of one rule that involves the member
-abbrev pub IsInvolvingOf : Setting ℕ → ℕ → ℕ → Need → Type 0
-IsInvolvingOf c number x n = IsInvolving c x n × (n.rule ≡ number)
+-- a possible need that involves the member by the new version of a cell or by its old one
+abbrev pub IsInvolvedAt : Setting ℕ → ℕ → CellId → Need → Type 0
+IsInvolvedAt c x q n = IsInvolvedWith c x (version_of true q) n ⊎ IsInvolvedWith c x (version_of false q) n

@@ -31,12 +31,15 @@ impl<V: RowView, F: RowFinder> Scene<'_, V, F> {
         is_of_two(self.book.rule(rule))
     }
 
-    /// Whether a version is of a side of two subjects.
+    /// Whether the rule is asked of two rows and a version is of a side of these.
     #[tactic(auto, unfolding(crate::specs::Candidates::may_be_paired))]
     pub(crate) fn may_be_paired(&self, rule: u16, version: Version) -> bool
         requires { rule < length self.now.book.now }
         ensures { result ≡ may_be_paired self.now.book.now rule (row_of version.entry) }
     {
+        if !self.is_of_two(rule) {
+            return false;
+        }
         let roles = self.book.roles_of(rule, version.as_held());
         roles.first || roles.second
     }

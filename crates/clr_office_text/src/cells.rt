@@ -137,8 +137,10 @@ pub fn has_paths(schema: &Schema, name: &str) -> bool
     }
 }
 
+/// A row of LIVE with its key and the name of its table. Fails with `BadField` where a key is missing,
+/// a value is none of those that may stand there, or the cell has no row.
 #[tactic(auto, unfolding(crate::specs::Cells::named_row_of))]
-fn named_row(alloc: Global, json: &Json, schema: &Schema) -> Result<NamedRow, TextFault>
+pub fn named_row(alloc: Global, json: &Json, schema: &Schema) -> Result<NamedRow, TextFault>
     ensures { Gives (λ r. r) result (named_row_of schema.now (view json.now)) }
 {
     let table = words_in(alloc, json, "t")?;

@@ -6,21 +6,21 @@
 //!   `serde_json` reads no value. Whether the workspaces as a whole make a tree isn't asked here.
 #![tactic(auto)]
 
-mod cells;
-mod earlier_names;
+pub mod cells;
+pub mod earlier_names;
 mod faults;
-mod fields;
-mod formats;
-mod live;
-mod named_cells;
-mod named_marks;
-mod named_rules;
-mod named_sides;
-mod patches;
-mod reading;
-mod rules;
-mod tables;
-mod workspaces;
+pub mod fields;
+pub mod formats;
+pub mod live;
+pub mod named_cells;
+pub mod named_marks;
+pub mod named_rules;
+pub mod named_sides;
+pub mod patches;
+pub mod reading;
+pub mod rules;
+pub mod tables;
+pub mod workspaces;
 
 pub use clr_layers::StoredPart;
 pub use faults::TextFault;

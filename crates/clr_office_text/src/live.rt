@@ -27,7 +27,7 @@ pub fn cell(schema: &Schema, table: &Words, key: i64) -> Result<CellId, TextFaul
 
 /// Puts a row whose table is named into a sheet. Where it fails, the sheet stays as it is.
 #[tactic(auto, unfolding(crate::specs::Cells::with_row))]
-fn put_row(schema: &Schema, sheet: &mut Sheet, named: NamedRow) -> Result<(), TextFault>
+pub fn put_row(schema: &Schema, sheet: &mut Sheet, named: NamedRow) -> Result<(), TextFault>
     ensures value { Gives (λ _. sheet.new) result (with_row schema.now sheet.old named) }
     ensures err { OnErr result (sheet.new ≡ sheet.old) }
 {

@@ -60,8 +60,10 @@ fn row_unless_gone(
     Ok(Some(row(alloc, json, is_path)?))
 }
 
+/// A cell that is put over a content. Fails with `BadField` where a key is missing, or a value is none
+/// of those that may stand there.
 #[tactic(auto, unfolding(crate::specs::Patches::named_cell_of))]
-fn named_cell(alloc: Global, json: &Json, schema: &Schema) -> Result<NamedCell, TextFault>
+pub fn named_cell(alloc: Global, json: &Json, schema: &Schema) -> Result<NamedCell, TextFault>
     ensures { Gives (λ c. c) result (named_cell_of schema.now (view json.now)) }
 {
     let table = words_in(alloc, json, "t")?;

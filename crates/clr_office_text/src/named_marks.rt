@@ -31,8 +31,10 @@ fn read_savepoint(alloc: Global, json: &Json, schema: &Schema) -> Result<NamedMa
     Ok(NamedMark::Saved(name, cells))
 }
 
+/// A mark of a workspace as it is written. Fails with `BadField` where a key is missing, or a value is
+/// none of those that may stand there.
 #[tactic(auto, unfolding(crate::specs::Workspaces::named_mark_of))]
-fn named_mark(alloc: Global, json: &Json, schema: &Schema) -> Result<NamedMark, TextFault>
+pub fn named_mark(alloc: Global, json: &Json, schema: &Schema) -> Result<NamedMark, TextFault>
     ensures { Gives (λ m. m) result (named_mark_of schema.now (view json.now)) }
 {
     match json.get("child") {
@@ -63,7 +65,8 @@ fn named_marks(alloc: Global, json: &Json, schema: &Schema) -> Result<Vec<NamedM
     each_named_mark(alloc, optional_list(json, "marks")?, schema)
 }
 
-fn mark(alloc: Global, schema: &Schema, named: NamedMark) -> Result<StoredMark, TextFault>
+/// A mark of a workspace. The cells of a savepoint fail as `differences` does.
+pub fn mark(alloc: Global, schema: &Schema, named: NamedMark) -> Result<StoredMark, TextFault>
     ensures { Gives (λ m. m) result (mark_over schema.now named) }
 {
     match named {

@@ -126,8 +126,10 @@ fn rule_of_kind(alloc: Global, kind: &str, json: &Json) -> Result<NamedRule, Tex
     }
 }
 
+/// A rule of an office text with its names. Fails with `BadField` where a key is missing, or a value is
+/// none of those that may stand there.
 #[tactic(auto, unfolding(crate::specs::Rules::named_rule_of))]
-fn named_rule(alloc: Global, json: &Json) -> Result<NamedRule, TextFault>
+pub fn named_rule(alloc: Global, json: &Json) -> Result<NamedRule, TextFault>
     ensures { Gives (λ r. r) result (named_rule_of (view json.now)) }
 {
     rule_of_kind(alloc, words(field(json, "kind")?)?, json)

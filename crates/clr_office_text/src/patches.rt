@@ -28,7 +28,7 @@ fn can_put(schema: &Schema, cell: CellId, row: &Option<Row>) -> bool
 /// Puts a cell whose table is named into the differences. Where it fails, the differences stay as
 /// they are.
 #[tactic(auto, unfolding(crate::specs::Patches::with_cell))]
-fn put_cell(
+pub fn put_cell(
     schema: &Schema,
     differences: &mut Differences,
     named: NamedCell,

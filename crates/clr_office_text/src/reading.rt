@@ -28,8 +28,10 @@ pub struct OfficeParts {
     pub workspaces: Vec<StoredPart>,
 }
 
+/// The schema of an office text. Fails with `BadField` where a key is missing in the tables, or a value is
+/// none of those that may stand there, and then with `BadSchema` where the tables make no schema.
 #[tactic(auto, unfolding(crate::specs::Offices::schema_of))]
-fn schema(alloc: Global, json: &Json, format: Format) -> Result<Schema, TextFault>
+pub fn schema(alloc: Global, json: &Json, format: Format) -> Result<Schema, TextFault>
     ensures { Gives (λ s. s) result (schema_of format (view json.now)) }
 {
     match Schema::new(tables(alloc, json, format)?) {

@@ -185,8 +185,9 @@ fn near(
     Ok(Rule::Near { a, b, d })
 }
 
-/// A rule with its tables and columns by their numbers.
-fn rule(alloc: Global, schema: &Schema, named: NamedRule) -> Result<Rule, TextFault>
+/// A rule with its tables and columns by their numbers. Fails with `BadRule` where the schema hasn't a
+/// table or a column of a name.
+pub fn rule(alloc: Global, schema: &Schema, named: NamedRule) -> Result<Rule, TextFault>
     ensures { Gives (λ r. r) result (rule_over schema.now named) }
 {
     match named {
@@ -207,7 +208,12 @@ fn rule(alloc: Global, schema: &Schema, named: NamedRule) -> Result<Rule, TextFa
     }
 }
 
-fn each_rule(alloc: Global, schema: &Schema, named: Vec<NamedRule>) -> Result<Vec<Rule>, TextFault>
+/// Rules with their tables and columns by their numbers. Fails as `rule` does at the first that fails.
+pub fn each_rule(
+    alloc: Global,
+    schema: &Schema,
+    named: Vec<NamedRule>,
+) -> Result<Vec<Rule>, TextFault>
     ensures { Gives (λ v. v.items) result (each_in (rule_over schema.now) named.items) }
 {
     let mut rules = Vec::new(alloc);

@@ -83,8 +83,10 @@ fn columns(alloc: Global, json: &Json) -> Result<Columns, TextFault>
     Ok(Columns::new(list))
 }
 
+/// A table of an office text. Fails with `BadField` where a key is missing, or a value is none of those
+/// that may stand there.
 #[tactic(auto, unfolding(crate::specs::Tables::table_of))]
-fn table(alloc: Global, json: &Json, format: Format) -> Result<TableDef, TextFault>
+pub fn table(alloc: Global, json: &Json, format: Format) -> Result<TableDef, TextFault>
     ensures { Gives (λ t. t) result (table_of format (view json.now)) }
 {
     let name = words_in(alloc, json, "name")?;

@@ -35,8 +35,10 @@ fn read_kept(json: &Json, format: Format) -> Result<bool, TextFault>
     }
 }
 
+/// What is written first of a workspace. Fails with `BadField` where a key is missing, or a value is none
+/// of those that may stand there.
 #[tactic(auto, unfolding(crate::specs::Workspaces::head_of))]
-fn read_head(alloc: Global, json: &Json, format: Format) -> Result<Head, TextFault>
+pub fn read_head(alloc: Global, json: &Json, format: Format) -> Result<Head, TextFault>
     ensures { Gives (λ h. h) result (head_of format (view json.now)) }
 {
     let name = words_in(alloc, json, "name")?;
@@ -61,8 +63,9 @@ fn head_under(
     }
 }
 
+/// A workspace, behind earlier ones of these names. Fails as `stored_parts` does at one workspace.
 #[tactic(auto, unfolding(crate::specs::Workspaces::layer_of))]
-fn workspace(
+pub fn workspace(
     alloc: Global,
     json: &Json,
     format: Format,

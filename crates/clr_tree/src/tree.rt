@@ -1,8 +1,8 @@
 //! The tree of all workspaces.
 
-ghost use Rattle.std.specs.Prelude.{ℕ, ◌≡◌, ◌<◌, ◌↔◌, [], ◌∷◌, None, false, true, length, map, OnOk, OnErr, IfOk, IfErr, IfSome, IsSome};
+ghost use Rattle.std.specs.Prelude.{ℕ, ◌≡◌, ◌<◌, ◌↔◌, [], ◌∷◌, None, Some, false, true, length, map, OnOk, OnErr, IfOk, IfErr, IfSome, IsSome};
 ghost use Rattle.std.specs.Option.{option_copied};
-ghost use Rattle.clr_rows.specs.Contents.{row_at, changes};
+ghost use Rattle.clr_rows.specs.Contents.{row_at, changes, taken_over};
 ghost use Rattle.clr_rows.specs.Names.{is_good_name};
 ghost use Rattle.clr_layers.specs.Layers.{layer_at, whole_mark, wholes};
 ghost use Rattle.clr_workspaces.specs.Marks.{find_mark, is_held, is_saved, mark_at, saved_content, saved_count};
@@ -25,7 +25,8 @@ use crate::part_reads::{live_part, part_at};
 use crate::parts::{Part, PartFault};
 use clr_change::ChangeSet;
 use clr_contents::{
-    View, base_row_of, base_rows, changes_of, depth_at, row_of, saved_rows, sweep, whole_rows,
+    View, base_row_of, base_rows, changes_of, changes_to_base, changes_to_refreshed,
+    changes_to_saved, depth_at, row_of, saved_rows, sweep, whole_rows,
 };
 use clr_layers::{
     LayerView, StoredMark, StoredPart, WorkspaceMap, count_saved, find_saved, has_child_after,
@@ -322,6 +323,45 @@ impl Tree {
         ensures { IfOk result (λ set. set ≡ changes (workspace_at self.now.list at).base (workspace_at self.now.list at).current) }
     {
         changes_of(&self.live, &self.map, at)
+    }
+
+    /// Returns what changes from the current content of the workspace at a position, which isn't LIVE, to that
+    /// of one of its savepoints.
+    pub fn changes_to_savepoint(&self, at: usize, mark: usize) -> Result<ChangeSet, AllocError>
+        requires child { 0 < at }
+        requires within { at < length self.now.list }
+        requires saved { is_saved (mark_at (workspace_at self.now.list at).marks mark) ≡ true }
+        ensures { IfOk result (λ set. let w = workspace_at self.now.list at in set ≡ changes w.current (saved_content (mark_at w.marks mark))) }
+    {
+        changes_to_saved(&self.live, &self.map, at, mark)
+    }
+
+    /// Returns what changes from the current content of the workspace at a position, which isn't LIVE, to its
+    /// base.
+    pub fn changes_to_base(&self, at: usize) -> Result<ChangeSet, AllocError>
+        requires child { 0 < at }
+        requires within { at < length self.now.list }
+        ensures { IfOk result (λ set. let w = workspace_at self.now.list at in set ≡ changes w.current w.base) }
+    {
+        changes_to_base(&self.live, &self.map, at)
+    }
+
+    /// Returns what changes from the current content of the workspace at a position, which isn't LIVE, to that of
+    /// its parent with the workspace's own changes, which are given, over it.
+    pub fn changes_to_refreshed(
+        &self,
+        at: usize,
+        above: usize,
+        own: &ChangeSet,
+    ) -> Result<ChangeSet, AllocError>
+        requires child { 0 < at }
+        requires within { at < length self.now.list }
+        requires above { position_of_parent self.now.list at ≡ Some above }
+        requires own { own.now ≡ own_changes (workspace_at self.now.list at) }
+        ensures { IfOk result (λ set. let list = self.now.list in
+            set ≡ changes (workspace_at list at).current (taken_over (workspace_at list above).current own.now)) }
+    {
+        changes_to_refreshed(&self.live, &self.map, at, above, own)
     }
 
     /// Makes a workspace of a new name under the one at a position. Its base and its current

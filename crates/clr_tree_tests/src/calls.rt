@@ -49,6 +49,18 @@ fn build(alloc: Global, tree: &Tree) -> Result<Answer, AllocError> {
     answer_of_tree(Tree::build(alloc, tree.live().copy()?, parts))
 }
 
+/// What a workspace with its own changes over its parent's content would have otherwise.
+fn changes_to_refreshed(tree: &Tree, at: usize) -> Result<Answer, AllocError>
+    requires child { 0 < at }
+    requires within { at < length tree.now.list }
+{
+    let own = tree.changes(at)?;
+    match tree.parent(at) {
+        Some(above) => Ok(Answer::Changes(tree.changes_to_refreshed(at, above, &own)?)),
+        None => Ok(Answer::Nothing),
+    }
+}
+
 /// What a word reads of a workspace.
 fn read(tree: &Tree, at: usize, word: &str, rest: &str) -> Result<Answer, AllocError>
     requires child { 0 < at }
@@ -59,6 +71,12 @@ fn read(tree: &Tree, at: usize, word: &str, rest: &str) -> Result<Answer, AllocE
         "rows" => Ok(Answer::Rows(tree.rows(at)?)),
         "base" => Ok(Answer::Rows(tree.base_rows(at)?)),
         "part" => Ok(Answer::Part(tree.part(at)?)),
+        "to_base" => Ok(Answer::Changes(tree.changes_to_base(at)?)),
+        "to_refreshed" => changes_to_refreshed(tree, at),
+        "to_saved" => match find_savepoint(tree, at, rest) {
+            Some(mark) => Ok(Answer::Changes(tree.changes_to_savepoint(at, mark)?)),
+            None => Ok(Answer::Nothing),
+        },
         "saved" => match find_savepoint(tree, at, rest) {
             Some(mark) => Ok(Answer::Rows(tree.saved_rows(at, mark)?)),
             None => Ok(Answer::Nothing),

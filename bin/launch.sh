@@ -1,0 +1,117 @@
+# Runs the program that `program` names, clr_office or clr_desk, with the words and streams that are given; `top` is the repository's folder.
+# It is proved and built once, into bin/out, and anew where a source has changed since; it is never run for other sources than those
+# that it was built from. To be read by the launchers bin/clr_office and bin/clr_desk.
+
+say() { echo "$program: $1" >&2; }
+
+refuse() {
+    say "$1"
+    exit 2
+}
+
+for file in crates.txt bin/program.sh; do [ -f "$top/$file" ] || refuse "$file is missing"; done
+. "$top/bin/program.sh"
+use_program "$program"
+[ ${#crates[@]} != 0 ] || refuse "crates.txt has no line for ${crate_of[$program]}"
+
+# How many seconds pass at most between two lines while the program is proved.
+patience=${CLR_OFFICE_PATIENCE-60}
+# The folder in which it is proved, and the process that does so.
+room= proving=
+
+clean_up() {
+    if [ -n "$proving" ]; then kill "$proving" 2>/dev/null; fi
+    if [ -n "$room" ]; then rm -rf "$room"; fi
+    rm -f "$out"/*.new
+}
+
+time_since() { printf '%d:%02d min' $(((SECONDS - $1) / 60)) $(((SECONDS - $1) % 60)); }
+
+# The program's crates alone, without their edits, in a folder apart: below the repository a second crates.txt would be in the way of
+# the toolchain's gate.
+copy_sources() {
+    local crate part
+    mkdir -p "$room/.git" "$room/crates" || return 1
+    grep -E "^($(IFS='|' && echo "${crates[*]}")):" "$top/crates.txt" >"$room/crates.txt" || return 1
+    if [ -f "$top/HANDLES" ]; then cp "$top/HANDLES" "$room" || return 1; fi
+    for crate in "${crates[@]}"; do
+        mkdir "$room/crates/$crate" || return 1
+        for part in src specs proofs stdin stdout args status data; do
+            if [ -e "$top/crates/$crate/$part" ]; then cp -R "$top/crates/$crate/$part" "$room/crates/$crate" || return 1; fi
+        done
+    done
+}
+
+# Reads what `rt ci` prints, and says a line for each crate that is done, and for each minute in which none is. It fails after a line
+# that names a crate which isn't proved, or else says why nothing is.
+follow() {
+    local line crate at_work why= start=$SECONDS
+    local -A done=()
+    while true; do
+        if IFS= read -r -t "$patience" line; then
+            case $line in
+            'rt: '*' proved' | 'rt: '*' is kept: '*)
+                line=${line#rt: } crate=${line%% *}
+                if [ -n "${uses[$crate]+known}" ] && [ -z "${done[$crate]+known}" ]; then
+                    done[$crate]=yes
+                    say "${#done[@]} of ${#crates[@]} crates proved after $(time_since "$start"): $crate"
+                fi
+                ;;
+            'rt: '*' NOT PROVED'*)
+                line=${line#rt: } crate=${line%% *}
+                say "the sources of ${crate%:} can't be proved as they are; rt check in crates/${crate%:} says why"
+                return 1
+                ;;
+            'rt: '*) why=${line#rt: } ;;
+            esac
+        elif [ $? -gt 128 ]; then
+            at_work=
+            for crate in "${crates[@]}"; do
+                if [ -d "$room/crates/$crate/out/rlib" ] && [ -z "${done[$crate]+known}" ]; then at_work+=", $crate"; fi
+            done
+            say "${#done[@]} of ${#crates[@]} crates proved after $(time_since "$start")${at_work:+, at work on ${at_work#, }}"
+        else
+            break
+        fi
+    done
+    if wait "$proving"; then proving=; return 0; fi
+    proving=
+    say "the program can't be proved: ${why:-rt ci ended and said nothing}"
+    return 1
+}
+
+# Proves the crates side by side by `rt ci`, which makes the program of them. From kit 13f on it keeps on this machine what it has proved,
+# so that after an interrupt the next start goes on where this one was.
+build() {
+    local digest before made
+    command -v rt >/dev/null || refuse "the program isn't built from these sources, and there is no command rt to build it"
+    say "proving the program once, ${#crates[@]} crates: 25 to 40 minutes on 4 idle cores, an hour on 2; after an interrupt the next start goes on where this one was, with kit 13f, or begins anew, with 13b"
+    room=$(mktemp -d "${TMPDIR:-/tmp}/$program.XXXXXX") || refuse "there is no room for a folder in which the program can be built"
+    digest=$(digest_of_sources) before=$(listing)
+    copy_sources || refuse "the sources can't be copied into $room"
+    exec 8< <(cd "$room" && exec rt ci 2>&1 </dev/null 9>&-)
+    proving=$!
+    follow <&8 || exit 2
+    exec 8<&-
+    [ "$(listing)" = "$before" ] || refuse "the sources were changed while they were proved; start again"
+    made=$(made_in "$room")
+    [ -s "$made" ] || refuse "the program is proved, and there is none in $made"
+    write_program "$made" "$digest" "$before" || refuse "the program can't be written into bin/out"
+}
+
+if ! is_current; then
+    { mkdir -p "$out" && exec 9>>"$out/lock"; } 2>/dev/null ||
+        refuse "the program isn't built from these sources, and bin/out can't be written"
+    trap clean_up EXIT
+    trap 'exit 130' INT
+    trap 'exit 143' TERM HUP
+    if ! flock -n 9; then
+        say "another start proves a program; this one waits for it"
+        until flock -w "$patience" 9; do say "the other start still proves its program, after $(time_since 0)"; done
+    fi
+    if ! is_current; then build; fi
+    trap - INT TERM HUP
+    clean_up
+    exec 9>&-
+fi
+exec "$out/$program" "$@"

@@ -1,0 +1,5 @@
+mod ChildLemmas
+mod HintLemmas
+mod LineEnds
+mod PrintLemmas
+mod Trying

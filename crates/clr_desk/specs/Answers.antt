@@ -1,0 +1,61 @@
+-- What is printed for what is asked of one or two texts, and what is left of the sinks.
+use Rattle.std.specs.Prelude.{◌≡◌, ◌∷◌, ◌||◌, ◌⊎◌, ℕ, Bool, true, false, List, Option, Result, Ok, Err}
+use Rattle.std.specs.Io.KnownBytes.{Appends}
+use Rattle.clr_check.specs.SiteNames.{site}
+use Rattle.clr_check_texts.specs.Cases.{case_of}
+use Rattle.clr_drafts.specs.Drafts.{draft_in}
+use Rattle.clr_office.specs.Answers.{is_too_long}
+use Rattle.clr_office.specs.declared.faults.RunFault.{RunFault}
+use Rattle.clr_office.specs.declared.faults.RunFault.TheVariants as run_fault
+use Rattle.clr_desk_command_line.specs.declared.asks.Ask.{Ask}
+use Rattle.clr_desk_command_line.specs.declared.asks.Ask.TheVariants as ask
+use Rattle.clr_desk.specs.Certificates.{IsCertificatePrint}
+use Rattle.clr_desk.specs.Choices.{IsChoicePrint}
+use Rattle.clr_desk.specs.Formats.{IsFormatPrint}
+use Rattle.clr_desk.specs.Merges.{IsHintedMerge}
+use Rattle.clr_desk.specs.NameHints.{IsHinted}
+use Rattle.clr_desk.specs.Printing.{IsPrintIn, IsPrintOfCase, IsTextFault, Printed, Printout}
+
+-- what is to be printed for what is asked of an office text and a second text
+abbrev pub IsAnswerWithin : Ask → List ℕ → List ℕ → Printed → Type 0
+IsAnswerWithin (ask.Certificate root names) office second print = IsPrintIn (IsHinted (IsCertificatePrint (site root names)) (root ∷ names)) (draft_in office) print
+IsAnswerWithin (ask.Merge names) office certificate print = IsPrintOfCase (IsHintedMerge names) (case_of office certificate) print
+IsAnswerWithin ask.Format office second print = IsPrintIn IsFormatPrint (draft_in office) print
+IsAnswerWithin (ask.Keep root names) office second print = IsPrintIn (IsHinted (IsChoicePrint root names) (root ∷ names)) (draft_in office) print
+IsAnswerWithin (ask.Clashes root names) office second print = print ≡ Err run_fault.OutOfMemory
+IsAnswerWithin (ask.Why kind) office second print = print ≡ Err run_fault.OutOfMemory
+IsAnswerWithin (ask.WorkOrder root names) office second print = print ≡ Err run_fault.OutOfMemory
+
+-- the same where `too_long` says whether a text is
+abbrev pub IsAnswerIf : Bool → Ask → List ℕ → List ℕ → Printed → Type 0
+IsAnswerIf true asked office second print = print ≡ Err run_fault.TooLong
+IsAnswerIf false asked office second print = IsAnswerWithin asked office second print
+
+abbrev pub IsAnswerTo : Ask → List ℕ → List ℕ → Printed → Type 0
+IsAnswerTo asked office second print = IsAnswerIf (is_too_long office || is_too_long second) asked office second print
+
+-- the sink of the text and that of the notes: what each held before and holds now, where it tells, and whether it failed
+pub record Sinks : Type 0 where
+  pub text_held : Option (List ℕ)
+  pub text_holds : Option (List ℕ)
+  pub text_failed : Bool
+  pub notes_held : Option (List ℕ)
+  pub notes_hold : Option (List ℕ)
+  pub notes_failed : Bool
+
+-- text and notes went out
+pub record WentOut (sinks : Sinks) (print : Printout) : Type 0 where
+  pub text : Appends sinks.text_held sinks.text_holds print.text
+  pub notes : Appends sinks.notes_held sinks.notes_hold print.notes
+  pub text_sink : sinks.text_failed ≡ false
+  pub notes_sink : sinks.notes_failed ≡ false
+
+-- a sink failed, and where it is that of the notes, nothing went to that of the text
+abbrev pub IsTorn : Sinks → Type 0
+IsTorn sinks = (sinks.text_failed ≡ true) ⊎ ((sinks.notes_failed ≡ true) × (sinks.text_holds ≡ sinks.text_held))
+
+-- what is asked is answered so: its text and its notes went out, or it has this fault, or a sink failed
+abbrev pub IsAnswer : (Printed → Type 0) → Sinks → Result ℕ RunFault → Type 0
+IsAnswer IsPrint sinks (Ok status) = (print : Printout) × IsPrint (Ok print) × (print.status ≡ status) × WentOut sinks print
+IsAnswer IsPrint sinks (Err run_fault.WriteFailed) = IsTorn sinks
+IsAnswer IsPrint sinks (Err e) = IsTextFault IsPrint e

@@ -1,0 +1,89 @@
+-- Members that are taken one after another, each where it is cleared with those taken before it.
+use Rattle.std.specs.Prelude.{◌≡◌, ℕ, Bool, false, not, List, [], ◌∷◌, ◌++◌, Option, None, Some, if◌then◌else◌, codes, filter, length, map, slice_get, take}
+use Rattle.std.specs.Fmt.{decimal}
+use Rattle.std.specs.List.{flat_map, list_any}
+use Rattle.clr_rows.specs.declared.tables.TableDef.{TableDef}
+use Rattle.clr_workspaces.specs.Marks.{Name}
+use Rattle.clr_steps.specs.Offices.{Office}
+use Rattle.clr_clearance.specs.Sites.{is_child}
+use Rattle.clr_cert.specs.declared.certificates.Certificate.{Certificate}
+use Rattle.clr_cert.specs.Texts.{certificate_text}
+use Rattle.clr_check.specs.SiteNames.{site}
+use Rattle.clr_plan.specs.declared.plans.Plan.{Plan}
+use Rattle.clr_plan.specs.declared.plans.Plan.TheVariants as plan
+use Rattle.clr_plan.specs.Promises.{is_cleared, is_out_of_memory}
+use Rattle.clr_plan_lines.specs.Plans.{plan_text}
+use Rattle.clr_office.specs.Outcomes.{IsPlanned}
+use Rattle.clr_desk.specs.Certificates.{plan_print}
+use Rattle.clr_desk.specs.Printing.{Printed, print_of}
+
+-- the children of a root, in order of creation
+abbrev pub children_of : Office → Name → List Name
+children_of o root = filter (is_child o (site root [])) (map (λ w. w.name) o.workspaces)
+
+-- a name in a list, where it is that of a child of the root
+abbrev pub child_in : Office → Name → Option Name → List Name
+child_in o root None = []
+child_in o root (Some name) = if is_child o (site root []) name then name ∷ [] else []
+
+-- the members that names ask for: these, or all children where there are none
+abbrev pub members_asked : Office → Name → List Name → List Name
+members_asked o root [] = children_of o root
+members_asked o root (name ∷ names) = name ∷ names
+
+-- trials -------------------------------------------------------------------------------------
+
+-- a name that is tried, those taken before it, and the plan of them all
+pub record Trial : Type 0 where
+  pub before : List Name
+  pub name : Name
+  pub plan : Plan
+
+abbrev pub is_taken : Trial → Bool
+is_taken t = is_cleared t.plan
+
+-- those taken before a name, and then it
+abbrev pub members_of : Trial → List Name
+members_of t = t.before ++ t.name ∷ []
+
+-- the names of the trials that are cleared
+abbrev pub taken_in : List Trial → List Name
+taken_in trials = map (λ t. t.name) (filter is_taken trials)
+
+-- the trial at a position: of those taken at earlier ones and its name there is this plan, with what it promises, and memory was found
+pub record IsTrialAt (o : Office) (root : Name) (trials : List Trial) (at : ℕ) (t : Trial) : Type 0 where
+  pub before : t.before ≡ taken_in (take at trials)
+  pub planned : IsPlanned o (site root (members_of t)) t.plan
+  pub found : is_out_of_memory t.plan ≡ false
+
+-- these names are tried in their order
+pub record AreTrials (o : Office) (root : Name) (tried : List Name) (trials : List Trial) : Type 0 where
+  pub names : map (λ t. t.name) trials ≡ tried
+  pub each : (at : ℕ) (t : Trial) → slice_get trials at ≡ Some t → IsTrialAt o root trials at t
+
+-- lines --------------------------------------------------------------------------------------
+
+-- a word, how many names there are, and the names
+abbrev pub names_line : List ℕ → List Name → List ℕ
+names_line word names = word ++ codes " " ++ decimal (length names) ++ flat_map (λ name. codes " " ++ name) names ++ codes "\n"
+
+-- the line `left NAME`, and the lines of the plan that says why
+abbrev pub refusal_text : List TableDef → Name → List Name → Name → Plan → List ℕ
+refusal_text tables root members name p = codes "left " ++ name ++ codes "\n" ++ plan_text tables members root p
+
+-- these of a name that is left, and nothing of one that is taken
+abbrev pub left_text : Office → Name → Trial → List ℕ
+left_text o root t = if is_taken t then [] else refusal_text o.schema root (members_of t) t.name t.plan
+
+-- the certificate of those taken, and as notes who they are, and why each other is left, which counts as a refusal
+abbrev pub choice_print : Office → Name → List Trial → Certificate → Printed
+choice_print o root trials c =
+    print_of (certificate_text o.schema c) (names_line (codes "kept") (taken_in trials) ++ flat_map (left_text o root) trials)
+    (list_any (λ t. not (is_taken t)) trials) false
+
+-- names are tried in their order, and the plan of those taken is cleared by this certificate; or no plan of the root is cleared, not even that of nobody
+pub data IsChoicePrint (root : Name) (names : List Name) (o : Office) (print : Printed) : Type 0 where
+  of_trials : (trials : List Trial) (c : Certificate) → AreTrials o root (members_asked o root names) trials
+      → IsPlanned o (site root (taken_in trials)) (plan.Cleared c)
+      → print ≡ choice_print o root trials c → IsChoicePrint root names o print
+  of_nobody : (p : Plan) → IsPlanned o (site root []) p → is_cleared p ≡ false → print ≡ plan_print o (site root []) p → IsChoicePrint root names o print

@@ -1,0 +1,77 @@
+ghost use Rattle.std.specs.Prelude.{◌≡◌, ◌≢◌, [], false, IfErr, IfOk};
+ghost use Rattle.std.specs.Io.KnownBytes.{Appends};
+ghost use Rattle.clr_office.specs.declared.faults.RunFault.TheVariants as run_fault;
+ghost use Rattle.clr_desk.specs.Answers.{IsAnswer, IsAnswerTo, IsAnswerWithin};
+ghost use Rattle.clr_desk.specs.Printing.{IsMade};
+
+use crate::certificates::answer_certificate;
+use crate::choices::answer_keep;
+use crate::formats::answer_format;
+use crate::merges::answer_merge;
+use crate::prints::Print;
+use clr_desk_command_line::Ask;
+use clr_office::{MOST_INPUT_BYTES, RunFault, Sink};
+use std::alloc::Global;
+
+/// What is printed for what is asked of two texts.
+fn answer_texts(alloc: Global, ask: &Ask, office: &[u8], second: &[u8]) -> Result<Print, RunFault>
+    ensures { IsMade (IsAnswerWithin ask.now office.now second.now) result }
+{
+    match ask {
+        Ask::Certificate(root, names) => {
+            answer_certificate(alloc, office, root.as_str(), names.as_slice())
+        }
+        Ask::Merge(names) => answer_merge(alloc, office, second, names.as_slice()),
+        Ask::Format => answer_format(alloc, office),
+        Ask::Keep(root, names) => answer_keep(alloc, office, root.as_str(), names.as_slice()),
+        Ask::Clashes(_, _) | Ask::Why(_) | Ask::WorkOrder(_, _) => Err(RunFault::OutOfMemory),
+    }
+}
+
+/// Writes what is to be printed for what is asked of an office text and of a second text, which is the
+/// certificate where there is one: the notes by one put, and then the text by another. Returns the exit
+/// status: 0 all done or cleared; 1 something refused, members that can't be merged in every order, or
+/// a rule that doesn't hold; 3 a plan, a verdict or a merge found no memory, and then there is no text.
+/// Where a rule doesn't hold the line that says so is the only note, and there is no text. The first fault
+/// that applies answers, and nothing is written then, unless a sink failed. Fails with `TooLong` where a
+/// text has more than `MOST_INPUT_BYTES`, with `BadOffice` where the first text is no office, with
+/// `BadCertificate` where the second is no certificate, and with `WriteFailed` where a sink fails: where
+/// it is that of the notes, nothing went to that of the text; how much else went out is not known. Want
+/// of memory is `OutOfMemory`, which may come in place of any other answer.
+pub fn answer<W: Sink, N: Sink>(
+    alloc: Global,
+    ask: &Ask,
+    office: &[u8],
+    second: &[u8],
+    writer: &mut W,
+    notes: &mut N,
+) -> Result<u8, RunFault>
+    requires writer { W.failed writer.old ≡ false }
+    requires notes { N.failed notes.old ≡ false }
+    ensures answers { IsAnswer (IsAnswerTo ask.now office.now second.now) (record {
+      text_held = W.contents writer.old;
+      text_holds = W.contents writer.new;
+      text_failed = W.failed writer.new;
+      notes_held = N.contents notes.old;
+      notes_hold = N.contents notes.new;
+      notes_failed = N.failed notes.new;
+    }) result }
+    ensures silent { IfOk result (λ status. status ≡ 3 → Appends (W.contents writer.old) (W.contents writer.new) []) }
+    ensures keeps { IfErr result (λ e. e ≢ run_fault.WriteFailed → (writer.new ≡ writer.old) × (notes.new ≡ notes.old)) }
+{
+    if office.len() > MOST_INPUT_BYTES || second.len() > MOST_INPUT_BYTES {
+        return Err(RunFault::TooLong);
+    }
+    let print = match answer_texts(alloc, ask, office, second) {
+        Ok(print) => print,
+        Err(fault) => return Err(fault),
+    };
+    let status = print.status();
+    if notes.put(print.notes.as_slice()).is_err() {
+        return Err(RunFault::WriteFailed);
+    }
+    match writer.put(print.shown()) {
+        Ok(()) => Ok(status),
+        Err(_) => Err(RunFault::WriteFailed),
+    }
+}

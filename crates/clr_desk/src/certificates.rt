@@ -1,0 +1,103 @@
+//! Certificates alone.
+ghost use Rattle.std.specs.Prelude.{◌≡◌, ◌∷◌, false, map, IfOk};
+ghost use Rattle.clr_check.specs.SiteNames.{site};
+ghost use Rattle.clr_drafts.specs.Drafts.{draft_in};
+ghost use Rattle.clr_plan.specs.Promises.{is_cleared as is_cleared_plan, is_out_of_memory as is_lost_plan};
+ghost use Rattle.clr_office.specs.Outcomes.{IsPlanned};
+ghost use Rattle.clr_desk.specs.Certificates.{IsCertificatePrint, plan_print};
+ghost use Rattle.clr_desk.specs.NameHints.{IsHinted};
+ghost use Rattle.clr_desk.specs.Printing.{IsMade, IsPrintIn, printed};
+
+use crate::name_hints::with_hints;
+use crate::prints::{Print, notes_of};
+use clr_cert::write_certificate;
+use clr_engine::Office;
+use clr_office::{Plan, RunFault, Words, open_office, texts};
+use clr_plan::plan;
+use clr_plan_lines::plan_lines;
+use std::alloc::{AllocError, Global};
+
+/// The plan of members, with what it promises.
+pub fn plan_members(alloc: Global, office: &Office, root: &str, members: &[&str]) -> Plan
+    ensures { IsPlanned office.now (site root.now (map (λ name. name.now) members.now)) result }
+{
+    plan(alloc, office, root, members)
+}
+
+fn is_out_of_memory(plan: &Plan) -> bool
+    ensures { result ≡ is_lost_plan plan.now }
+{
+    match plan {
+        Plan::OutOfMemory => true,
+        _ => false,
+    }
+}
+
+/// The lines of a plan that isn't cleared, as notes. It fails for want of memory alone.
+fn refusal_print(
+    alloc: Global,
+    office: &Office,
+    root: &str,
+    members: &[&str],
+    plan: &Plan,
+) -> Result<Print, AllocError>
+    requires { is_cleared_plan plan.now ≡ false }
+    ensures { IfOk result (λ p. printed p
+        ≡ plan_print office.now (site root.now (map (λ name. name.now) members.now)) plan.now) }
+{
+    let notes = plan_lines(alloc, office.schema(), members, root, plan)?;
+    Ok(Print::new(Vec::new(alloc), notes, true, is_out_of_memory(plan)))
+}
+
+/// The certificate of a cleared plan alone, or the lines of another plan as notes. It fails for want of
+/// memory alone.
+pub fn plan_print(
+    alloc: Global,
+    office: &Office,
+    root: &str,
+    members: &[&str],
+    plan: &Plan,
+) -> Result<Print, AllocError>
+    ensures { IfOk result (λ p. printed p
+        ≡ plan_print office.now (site root.now (map (λ name. name.now) members.now)) plan.now) }
+{
+    match plan {
+        Plan::Cleared(certificate) => {
+            let text = write_certificate(alloc, office.schema(), certificate)?;
+            Ok(Print::of_text(alloc, text))
+        }
+        _ => refusal_print(alloc, office, root, members, plan),
+    }
+}
+
+/// What is printed of the plan of members. It fails for want of memory alone.
+fn print_of_members(
+    alloc: Global,
+    office: &Office,
+    root: &str,
+    names: &[Words],
+) -> Result<Print, AllocError>
+    ensures { IfOk result (λ p. IsCertificatePrint (site root.now names.now) office.now (printed p)) }
+{
+    let members = texts(alloc, names)?;
+    let plan = plan_members(alloc, office, root, members.as_slice());
+    plan_print(alloc, office, root, members.as_slice(), &plan)
+}
+
+/// The certificate of members over the office of a text.
+pub fn answer_certificate(
+    alloc: Global,
+    office: &[u8],
+    root: &str,
+    names: &[Words],
+) -> Result<Print, RunFault>
+    ensures { IsMade (IsPrintIn (IsHinted (IsCertificatePrint (site root.now names.now)) (root.now ∷ names.now)) (draft_in office.now)) result }
+{
+    match open_office(alloc, office) {
+        Ok(office) => {
+            let print = print_of_members(alloc, &office, root, names)?;
+            Ok(with_hints(alloc, &office, root, names, print)?)
+        }
+        Err(answer) => notes_of(alloc, answer),
+    }
+}

@@ -1,0 +1,202 @@
+//! Members that are taken in their order, as long as they are cleared together.
+ghost use Rattle.std.specs.Prelude.{◌≡◌, ◌∷◌, ◌++◌, [], codes, false, map, IfOk, OnOk};
+ghost use Rattle.clr_cert.specs.Texts.{certificate_text};
+ghost use Rattle.clr_check.specs.SiteNames.{site};
+ghost use Rattle.clr_drafts.specs.Drafts.{draft_in};
+ghost use Rattle.clr_plan.specs.declared.plans.Plan.TheVariants as plan;
+ghost use Rattle.clr_office.specs.Outcomes.{IsPlanned};
+ghost use Rattle.clr_desk.specs.Choices.{IsChoicePrint, names_line, refusal_text};
+ghost use Rattle.clr_desk.specs.Trials.{IsAdded, IsChosen, IsTried};
+ghost use Rattle.clr_desk.specs.NameHints.{IsHinted};
+ghost use Rattle.clr_desk.specs.Printing.{IsMade, IsPrintIn, print_of, printed};
+
+use crate::certificates::{plan_members, plan_print};
+use crate::children::members_asked;
+use crate::name_hints::with_hints;
+use crate::names_lines::names_line;
+use crate::prints::{Print, notes_of};
+use clr_cert::{Certificate, write_certificate};
+use clr_engine::Office;
+use clr_office::{Plan, RunFault, Words, open_office, texts};
+use clr_plan_lines::plan_lines;
+use clr_rows::Schema;
+use std::alloc::{AllocError, Global};
+
+/// What is said of one more name beside those taken.
+#[derive(Drop)]
+enum Trial {
+    /// They are cleared together, by this certificate.
+    Taken(Certificate),
+    /// They aren't, and these lines say why.
+    Left(Vec<u8>),
+}
+
+/// The members taken so far, the certificate of them, the lines of those that are left, and whether there
+/// are any.
+#[derive(Drop)]
+struct Choice {
+    taken: Vec<Words>,
+    certificate: Certificate,
+    left: Vec<u8>,
+    is_any_left: bool,
+}
+
+/// The line that a name is left, and the lines of the plan that says why. It fails for want of memory
+/// alone.
+fn refusal_lines(
+    alloc: Global,
+    schema: &Schema,
+    root: &str,
+    members: &[&str],
+    name: &str,
+    plan: &Plan,
+) -> Result<Vec<u8>, AllocError>
+    ensures { IfOk result (λ lines. lines.items ≡ refusal_text schema.now root.now (map (λ name. name.now) members.now) name.now plan.now) }
+{
+    let mut lines = Vec::from_slice(alloc, b"left ")?;
+    lines.extend_from_slice(name.as_bytes())?;
+    lines.extend_from_slice(b"\n")?;
+    let told = plan_lines(alloc, schema, members, root, plan)?;
+    lines.extend_from_slice(told.as_slice())?;
+    Ok(lines)
+}
+
+/// Tries one more name with those taken. It fails for want of memory alone, also where the plan found
+/// none.
+fn try_name(
+    alloc: Global,
+    office: &Office,
+    root: &str,
+    taken: &[Words],
+    name: &Words,
+) -> Result<Trial, AllocError>
+    ensures { IfOk result (IsTried office.now root.now taken.now name.now) }
+{
+    let mut members = texts(alloc, taken)?;
+    members.push(name.as_str())?;
+    match plan_members(alloc, office, root, members.as_slice()) {
+        Plan::Cleared(certificate) => Ok(Trial::Taken(certificate)),
+        Plan::OutOfMemory => Err(AllocError),
+        plan => {
+            let lines = refusal_lines(
+                alloc,
+                office.schema(),
+                root,
+                members.as_slice(),
+                name.as_str(),
+                &plan,
+            )?;
+            Ok(Trial::Left(lines))
+        }
+    }
+}
+
+impl Choice {
+    /// Takes a name, or leaves it. It fails for want of memory alone.
+    fn add(&mut self, name: &Words, trial: Trial) -> Result<(), AllocError>
+        ensures { OnOk result (IsAdded self.old name.now trial self.new) }
+    {
+        match trial {
+            Trial::Taken(certificate) => {
+                self.taken.push(name.copy()?)?;
+                self.certificate = certificate;
+            }
+            Trial::Left(lines) => {
+                self.left.extend_from_slice(lines.as_slice())?;
+                self.is_any_left = true;
+            }
+        }
+        Ok(())
+    }
+}
+
+/// Tries names in their order, where nobody is cleared by this certificate. It fails for want of memory
+/// alone.
+fn choice_of(
+    alloc: Global,
+    office: &Office,
+    root: &str,
+    names: &[Words],
+    certificate: Certificate,
+) -> Result<Choice, AllocError>
+    requires { IsPlanned office.now (site root.now []) (plan.Cleared certificate) }
+    ensures { IfOk result (IsChosen office.now root.now names.now) }
+{
+    let mut choice = Choice {
+        taken: Vec::new(alloc),
+        certificate,
+        left: Vec::new(alloc),
+        is_any_left: false,
+    };
+    for name in names {
+        let trial = try_name(alloc, office, root, choice.taken.as_slice(), name)?;
+        choice.add(name, trial)?;
+    }
+    Ok(choice)
+}
+
+/// The certificate of the members taken, and as notes who they are and why the others are left. It fails for
+/// want of memory alone.
+fn choice_print(alloc: Global, schema: &Schema, choice: &Choice) -> Result<Print, AllocError>
+    ensures { IfOk result (λ p. printed p ≡ print_of (certificate_text schema.now choice.now.certificate)
+        (names_line (codes "kept") choice.now.taken.items ++ choice.now.left.items) choice.now.is_any_left false) }
+{
+    let taken = texts(alloc, choice.taken.as_slice())?;
+    let mut notes = names_line(alloc, "kept", taken.as_slice())?;
+    notes.extend_from_slice(choice.left.as_slice())?;
+    let text = write_certificate(alloc, schema, &choice.certificate)?;
+    Ok(Print::new(text, notes, choice.is_any_left, false))
+}
+
+/// The members taken of those that names ask for, where nobody is cleared by this certificate. It fails for
+/// want of memory alone.
+fn print_of_choice(
+    alloc: Global,
+    office: &Office,
+    root: &str,
+    names: &[Words],
+    certificate: Certificate,
+) -> Result<Print, AllocError>
+    requires { IsPlanned office.now (site root.now []) (plan.Cleared certificate) }
+    ensures { IfOk result (λ p. IsChoicePrint root.now names.now office.now (printed p)) }
+{
+    let members = members_asked(alloc, office, root, names)?;
+    let choice = choice_of(alloc, office, root, members.as_slice(), certificate)?;
+    choice_print(alloc, office.schema(), &choice)
+}
+
+/// Goes through the members that names ask for in their order, and takes each that is cleared with those taken
+/// before it; where not even nobody is cleared, what is planned for nobody. It fails for want of memory
+/// alone.
+fn print_of_names(
+    alloc: Global,
+    office: &Office,
+    root: &str,
+    names: &[Words],
+) -> Result<Print, AllocError>
+    ensures { IfOk result (λ p. IsChoicePrint root.now names.now office.now (printed p)) }
+{
+    let nobody = texts(alloc, &[])?;
+    match plan_members(alloc, office, root, nobody.as_slice()) {
+        Plan::Cleared(certificate) => print_of_choice(alloc, office, root, names, certificate),
+        plan => plan_print(alloc, office, root, nobody.as_slice(), &plan),
+    }
+}
+
+/// Which members over the office of a text are taken, where each is that is cleared with those before it.
+pub fn answer_keep(
+    alloc: Global,
+    office: &[u8],
+    root: &str,
+    names: &[Words],
+) -> Result<Print, RunFault>
+    ensures { IsMade (IsPrintIn (IsHinted (IsChoicePrint root.now names.now) (root.now ∷ names.now)) (draft_in office.now)) result }
+{
+    match open_office(alloc, office) {
+        Ok(office) => {
+            let print = print_of_names(alloc, &office, root, names)?;
+            Ok(with_hints(alloc, &office, root, names, print)?)
+        }
+        Err(answer) => notes_of(alloc, answer),
+    }
+}

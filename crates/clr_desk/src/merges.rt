@@ -1,0 +1,67 @@
+//! Merges that a certificate clears, and the office that they leave.
+ghost use Rattle.std.specs.Prelude.{◌≡◌, IfOk};
+ghost use Rattle.clr_check_texts.specs.Cases.{case_of};
+ghost use Rattle.clr_desk.specs.Merges.{IsHintedMerge, IsMergePrint, merge_print};
+ghost use Rattle.clr_desk.specs.Printing.{IsMade, IsPrintOfCase, printed};
+
+use crate::name_hints::hint_lines;
+use crate::prints::{Print, notes_of};
+use clr_cert::Certificate;
+use clr_check::{ClearedRun, perform_cleared};
+use clr_check_texts::read_case;
+use clr_engine::Office;
+use clr_office::{
+    RunFault, Words, dump_text, fault_output, merge_commands, replies_output, stop_output,
+    verdict_output,
+};
+use std::alloc::{AllocError, Global};
+
+/// The office that merges left, and as notes the lines of the merges. It fails for want of memory alone.
+fn run_print(alloc: Global, office: &Office, run: &ClearedRun) -> Result<Print, AllocError>
+    ensures { IfOk result (λ p. printed p ≡ merge_print run.now.replies.items run.now.stopped office.now) }
+{
+    let mut all = replies_output(alloc, office.schema(), run.replies.as_slice())?;
+    all.append(&stop_output(alloc, run.stopped)?)?;
+    Ok(Print::new(dump_text(alloc, office)?, all.lines, all.refused, all.lost))
+}
+
+/// Merges workspaces in the order of their names, as far as that is quiet for a certificate, where it is
+/// clear: the office that is left, and as notes a line for each merge that was performed and one that
+/// says where it stopped. Where the certificate isn't clear the verdict is the only note, and there is no
+/// text. It fails for want of memory, where none is found for the commands or for a line.
+fn merge_members(
+    alloc: Global,
+    office: &mut Office,
+    certificate: &Certificate,
+    names: &[Words],
+) -> Result<Print, AllocError>
+    ensures { IfOk result (λ p. IsMergePrint names.now office.old certificate.now (printed p)) }
+{
+    let commands = merge_commands(alloc, names)?;
+    match perform_cleared(alloc, office, certificate, commands.as_slice()) {
+        Ok(run) => run_print(alloc, office, &run),
+        Err(verdict) => {
+            let output = verdict_output(alloc, office.schema(), certificate, &verdict)?;
+            Ok(Print::new(Vec::new(alloc), output.lines, output.refused, output.lost))
+        }
+    }
+}
+
+/// Merges that the certificate of a text clears over the office of another.
+pub fn answer_merge(
+    alloc: Global,
+    office: &[u8],
+    certificate: &[u8],
+    names: &[Words],
+) -> Result<Print, RunFault>
+    ensures { IsMade (IsPrintOfCase (IsHintedMerge names.now) (case_of office.now certificate.now)) result }
+{
+    match read_case(alloc, office, certificate) {
+        Ok((mut office, certificate)) => {
+            let lines = hint_lines(alloc, &office, certificate.root.as_str(), names)?;
+            let print = merge_members(alloc, &mut office, &certificate, names)?;
+            Ok(print.with_notes(lines.as_slice())?)
+        }
+        Err(fault) => notes_of(alloc, fault_output(alloc, fault)),
+    }
+}

@@ -1,0 +1,67 @@
+-- The command line: subcommands, each with its values.
+use Rattle.std.specs.Prelude.{true, codes, Some}
+use Rattle.clap.specs.Lexer.{usize_max}
+use Rattle.clap.specs.Words.{App, Rule, Text, new_app, new_rule, with_rule, with_subcommand}
+
+-- a value that has to be given
+abbrev pub value : Text → Rule
+value id = record (new_rule id) { required = true }
+
+abbrev pub certificate_file : Rule
+certificate_file = value (codes "CERT")
+
+-- names at the end, none or more
+abbrev pub names : Rule
+names = record (new_rule (codes "NAME")) { range = Some (record { start_inclusive = 0; end_inclusive = usize_max }) }
+
+-- an option with one value
+abbrev pub option : Text → Rule
+option name = record (new_rule name) { long = Some name; value_names = 1 }
+
+-- the option with the name of the root
+abbrev pub root : Rule
+root = option (codes "under")
+
+-- a subcommand over an office text
+abbrev pub database_command : Text → App
+database_command name = with_rule (new_app name) (value (codes "DB"))
+
+-- a subcommand over an office text and members of a root
+abbrev pub over_members : Text → App
+over_members name = with_rule (with_rule (database_command name) root) names
+
+abbrev pub certificate : App
+certificate = over_members (codes "certificate")
+
+abbrev pub merge : App
+merge = with_rule (with_rule (database_command (codes "merge")) certificate_file) names
+
+abbrev pub format : App
+format = database_command (codes "format")
+
+abbrev pub keep : App
+keep = over_members (codes "keep")
+
+abbrev pub clashes : App
+clashes = over_members (codes "clashes")
+
+abbrev pub why : App
+why = with_rule (with_rule (database_command (codes "why")) (option (codes "script"))) (option (codes "certificate"))
+
+abbrev pub words : App
+words = over_members (codes "words")
+
+-- a subcommand is demanded, and there is a version
+abbrev pub demanding : App
+demanding = let bare = new_app (codes "clr_desk") in record bare { top = record bare.top { has_version = true; subcommand_required = true } }
+
+-- those that print a certificate or an office
+abbrev pub printing : App
+printing = with_subcommand (with_subcommand (with_subcommand demanding certificate.top) merge.top) format.top
+
+-- those that say which members go together
+abbrev pub choosing : App
+choosing = with_subcommand (with_subcommand printing keep.top) clashes.top
+
+abbrev pub program : App
+program = with_subcommand (with_subcommand choosing why.top) words.top

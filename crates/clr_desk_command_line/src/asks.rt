@@ -1,0 +1,31 @@
+use clr_rows::{Names, Words};
+
+/// A kind of text that the program reads.
+#[derive(Clone, Copy, Debug, Drop)]
+pub enum TextKind {
+    Office,
+    Script,
+    Certificate,
+}
+
+/// What is asked of an office text, and of a second text where there is one.
+#[derive(Debug, Drop)]
+pub enum Ask {
+    /// The certificate of these children of a root, alone: the root, and the children.
+    Certificate(Words, Names),
+    /// The office that the merges of these workspaces in this order leave, alone, by a certificate that
+    /// clears its members; the second text is the certificate.
+    Merge(Names),
+    /// The same office, a row a line.
+    Format,
+    /// Which of these children of a root can be merged in every order, where each is taken that is
+    /// cleared with those taken before it: the root, and the children, or none for all.
+    Keep(Words, Names),
+    /// The smallest sets of these children of a root that can't be merged in every order: the root, and
+    /// the children, or none for all.
+    Clashes(Words, Names),
+    /// Where the fault of a text of this kind is; the second text is the script or the certificate.
+    Why(TextKind),
+    /// The plan of these children of a root as a work order: the root, and the children.
+    WorkOrder(Words, Names),
+}

@@ -1,0 +1,251 @@
+//! The command line, as `clap` is told of it.
+ghost use Rattle.std.specs.Prelude.{◌≡◌, false, IfOk};
+ghost use Rattle.clap.specs.Words.{app_of, with_rule, with_subcommand};
+ghost use Rattle.clap.specs.declared.builder.command.Command.TheViews.{out-Command as fields_of};
+ghost use Rattle.clr_desk_command_line.specs.Program.{certificate, certificate_file, choosing, clashes, database_command, demanding, format, keep, merge};
+ghost use Rattle.clr_desk_command_line.specs.Program.{names as several_names, option as option_rule, over_members, printing, program, root as root_option, why, words};
+
+use crate::helps::{
+    ABOUT, CERTIFICATE_PRINTS, CLASHES_PRINTS, FORMAT_PRINTS, KEEP_PRINTS, MERGE_PRINTS, STATUSES,
+    VERSION, WHY_PRINTS, WORDS_PRINTS,
+};
+use clap::{Arg, Command};
+use std::alloc::{AllocError, Global};
+
+/// A subcommand over an office text, with a line about it and with what it prints.
+fn over_database<'a>(
+    alloc: Global,
+    name: &'a str,
+    about: &'a str,
+    prints: &'a str,
+) -> Result<Command<'a>, AllocError>
+    ensures shape { IfOk result (λ c. app_of c ≡ database_command name.entry.now) }
+    ensures plain { IfOk result (λ c. (fields_of c).has_globals ≡ false) }
+{
+    let database = Arg::new(alloc, "DB")
+        .required(true)
+        .help("The file of the office text, which is JSON");
+    Command::new(alloc, name)
+        .about(about)
+        .after_help(prints)
+        .arg(database)
+}
+
+/// The command with an option for the root, which is LIVE if it isn't given.
+fn with_root<'a>(alloc: Global, command: Command<'a>) -> Result<Command<'a>, AllocError>
+    requires { (fields_of command).has_globals ≡ false }
+    ensures shape { IfOk result (λ c. app_of c ≡ with_rule (app_of command.entry) root_option) }
+    ensures plain { IfOk result (λ c. (fields_of c).has_globals ≡ false) }
+{
+    let root = Arg::new(alloc, "under")
+        .long("under")
+        .value_name("ROOT")
+        .help("The workspace above the designs, which keeps every rule [default: LIVE]");
+    command.arg(root)
+}
+
+/// The command with names at its end, none or more.
+fn with_names<'a>(
+    alloc: Global,
+    command: Command<'a>,
+    help: &'a str,
+) -> Result<Command<'a>, AllocError>
+    requires { (fields_of command).has_globals ≡ false }
+    ensures shape { IfOk result (λ c. app_of c ≡ with_rule (app_of command.entry) several_names) }
+    ensures plain { IfOk result (λ c. (fields_of c).has_globals ≡ false) }
+{
+    let names = Arg::new(alloc, "NAME").num_args(0..).help(help);
+    command.arg(names)
+}
+
+/// The command with a certificate's file, which has to be given.
+fn with_certificate<'a>(alloc: Global, command: Command<'a>) -> Result<Command<'a>, AllocError>
+    requires { (fields_of command).has_globals ≡ false }
+    ensures shape { IfOk result (λ c. app_of c ≡ with_rule (app_of command.entry) certificate_file) }
+    ensures plain { IfOk result (λ c. (fields_of c).has_globals ≡ false) }
+{
+    let certificate = Arg::new(alloc, "CERT").required(true).help(
+        "The file of the certificate, as `clr_desk certificate` prints it",
+    );
+    command.arg(certificate)
+}
+
+/// A subcommand over an office text and designs of a root.
+fn over_members<'a>(
+    alloc: Global,
+    name: &'a str,
+    about: &'a str,
+    prints: &'a str,
+) -> Result<Command<'a>, AllocError>
+    ensures shape { IfOk result (λ c. app_of c ≡ over_members name.entry.now) }
+    ensures plain { IfOk result (λ c. (fields_of c).has_globals ≡ false) }
+{
+    let command = over_database(alloc, name, about, prints)?;
+    let command = with_root(alloc, command)?;
+    with_names(alloc, command, "The designs")
+}
+
+fn certificate<'a>(alloc: Global) -> Result<Command<'a>, AllocError>
+    ensures shape { IfOk result (λ c. app_of c ≡ certificate) }
+    ensures plain { IfOk result (λ c. (fields_of c).has_globals ≡ false) }
+{
+    over_members(
+        alloc,
+        "certificate",
+        "Prints the certificate of designs that can be merged in every order",
+        CERTIFICATE_PRINTS,
+    )
+}
+
+fn merge<'a>(alloc: Global) -> Result<Command<'a>, AllocError>
+    ensures shape { IfOk result (λ c. app_of c ≡ merge) }
+    ensures plain { IfOk result (λ c. (fields_of c).has_globals ≡ false) }
+{
+    let command = over_database(
+        alloc,
+        "merge",
+        "Merges designs if a certificate holds, and prints the office that they leave",
+        MERGE_PRINTS,
+    )?;
+    let command = with_certificate(alloc, command)?;
+    with_names(alloc, command, "The designs to merge, in this order")
+}
+
+fn format<'a>(alloc: Global) -> Result<Command<'a>, AllocError>
+    ensures shape { IfOk result (λ c. app_of c ≡ format) }
+    ensures plain { IfOk result (λ c. (fields_of c).has_globals ≡ false) }
+{
+    over_database(
+        alloc,
+        "format",
+        "Prints the same office, a row a line",
+        FORMAT_PRINTS,
+    )
+}
+
+fn keep<'a>(alloc: Global) -> Result<Command<'a>, AllocError>
+    ensures shape { IfOk result (λ c. app_of c ≡ keep) }
+    ensures plain { IfOk result (λ c. (fields_of c).has_globals ≡ false) }
+{
+    over_members(
+        alloc,
+        "keep",
+        "Takes each design that can be merged with those taken before it, and prints their certificate",
+        KEEP_PRINTS,
+    )
+}
+
+fn clashes<'a>(alloc: Global) -> Result<Command<'a>, AllocError>
+    ensures shape { IfOk result (λ c. app_of c ≡ clashes) }
+    ensures plain { IfOk result (λ c. (fields_of c).has_globals ≡ false) }
+{
+    over_members(
+        alloc,
+        "clashes",
+        "Lists the smallest sets of designs that can't be merged in every order, each with its cause",
+        CLASHES_PRINTS,
+    )
+}
+
+/// The command with an option for the file of a text.
+fn with_file<'a>(
+    alloc: Global,
+    command: Command<'a>,
+    name: &'a str,
+    help: &'a str,
+) -> Result<Command<'a>, AllocError>
+    requires { (fields_of command).has_globals ≡ false }
+    ensures shape { IfOk result (λ c. app_of c ≡ with_rule (app_of command.entry) (option_rule name.entry.now)) }
+    ensures plain { IfOk result (λ c. (fields_of c).has_globals ≡ false) }
+{
+    let file = Arg::new(alloc, name)
+        .long(name)
+        .value_name("FILE")
+        .help(help);
+    command.arg(file)
+}
+
+fn why<'a>(alloc: Global) -> Result<Command<'a>, AllocError>
+    ensures shape { IfOk result (λ c. app_of c ≡ why) }
+    ensures plain { IfOk result (λ c. (fields_of c).has_globals ≡ false) }
+{
+    let command = over_database(
+        alloc,
+        "why",
+        "Says where an office text, a script or a certificate has its fault, and which",
+        WHY_PRINTS,
+    )?;
+    let command = with_file(
+        alloc,
+        command,
+        "script",
+        "The file of a script for this office",
+    )?;
+    with_file(
+        alloc,
+        command,
+        "certificate",
+        "The file of a certificate over this office",
+    )
+}
+
+fn words<'a>(alloc: Global) -> Result<Command<'a>, AllocError>
+    ensures shape { IfOk result (λ c. app_of c ≡ words) }
+    ensures plain { IfOk result (λ c. (fields_of c).has_globals ≡ false) }
+{
+    over_members(
+        alloc,
+        "words",
+        "Tells the plan of designs in sentences, and what would help",
+        WORDS_PRINTS,
+    )
+}
+
+/// The command with one more subcommand.
+fn add<'a>(command: Command<'a>, subcommand: Command<'a>) -> Result<Command<'a>, AllocError>
+    requires command { (fields_of command).has_globals ≡ false }
+    requires subcommand { (fields_of subcommand).has_globals ≡ false }
+    ensures shape { IfOk result (λ c. app_of c ≡ with_subcommand (app_of command.entry) (app_of subcommand.entry).top) }
+    ensures plain { IfOk result (λ c. (fields_of c).has_globals ≡ false) }
+{
+    command.subcommand(subcommand)
+}
+
+/// The command without its subcommands, of which it demands one.
+fn start<'a>(alloc: Global) -> Command<'a>
+    ensures shape { app_of result ≡ demanding }
+    ensures plain { (fields_of result).has_globals ≡ false }
+{
+    Command::new(alloc, "clr_desk")
+        .version(VERSION)
+        .about(ABOUT)
+        .after_help(STATUSES)
+        .subcommand_required(true)
+}
+
+/// The command with the subcommands that print a certificate or an office.
+fn with_texts<'a>(alloc: Global) -> Result<Command<'a>, AllocError>
+    ensures shape { IfOk result (λ c. app_of c ≡ printing) }
+    ensures plain { IfOk result (λ c. (fields_of c).has_globals ≡ false) }
+{
+    let command = add(start(alloc), certificate(alloc)?)?;
+    let command = add(command, merge(alloc)?)?;
+    add(command, format(alloc)?)
+}
+
+/// The command with those subcommands, too, that say which designs go together.
+fn with_choices<'a>(alloc: Global) -> Result<Command<'a>, AllocError>
+    ensures shape { IfOk result (λ c. app_of c ≡ choosing) }
+    ensures plain { IfOk result (λ c. (fields_of c).has_globals ≡ false) }
+{
+    let command = add(with_texts(alloc)?, keep(alloc)?)?;
+    add(command, clashes(alloc)?)
+}
+
+/// The whole command line. It fails for want of memory alone.
+pub fn whole_command<'a>(alloc: Global) -> Result<Command<'a>, AllocError>
+    ensures { IfOk result (λ c. app_of c ≡ program) }
+{
+    let command = add(with_choices(alloc)?, why(alloc)?)?;
+    add(command, words(alloc)?)
+}

@@ -1,0 +1,70 @@
+//! The texts of the command line's help.
+
+pub(crate) const VERSION: &str = "1.0.0";
+
+pub(crate) const ABOUT: &str =
+    "Says which designs of a utility network can be merged together, and why others can't";
+
+pub(crate) const STATUSES: &str =
+    "The answer is on standard output, and what is to be said beside it on standard error.
+It ends with status 0 where all is done or cleared, 1 where something is refused or can't be merged, 2 where its words
+or files can't be read, and 3 for want of memory.";
+
+pub(crate) const CERTIFICATE_PRINTS: &str =
+    "It prints the certificate and nothing else, ready for `clr_office check`, with status 0.
+Where the designs can't be merged in every order it prints nothing, and on standard error the lines of
+the plan, with status 1.
+
+Example:
+  clr_desk certificate office.json Renewal Extension > certificate.csv";
+
+pub(crate) const MERGE_PRINTS: &str =
+    "It prints the office that the merges leave and nothing else, and on standard error a line for each merge.
+It writes no file. The status is 0 where all merges were done, and 1 where one was refused, or where
+the certificate says nothing of one, which ends the merges. Where the certificate isn't clear, it
+merges nothing and prints no office, and on standard error the test that fails, with status 1.
+
+Example:
+  clr_desk merge office.json certificate.csv Extension Renewal > merged.json";
+
+pub(crate) const FORMAT_PRINTS: &str =
+    "It prints the same office with each row, rule and table on a line of its own, with status 0, so that
+tools that compare lines show which rows differ. Where a rule doesn't hold it prints nothing, and on
+standard error the line that says so, with status 1.
+
+Example:
+  clr_desk format office.json > lines.json";
+
+pub(crate) const KEEP_PRINTS: &str =
+    "It goes through the names in their order, and takes each design that is cleared with those taken
+before it. It prints the certificate of those taken, and on standard error which they are, and for
+each design that is left the lines of its plan. Without names it goes through all children of the
+root in order of creation. The status is 0 where none is left, and 1 where one is.
+
+Example:
+  clr_desk keep office.json Renewal Extension Bypass > certificate.csv";
+
+pub(crate) const CLASHES_PRINTS: &str =
+    "It prints the smallest sets of the designs that can't be merged in every order, each with its cause,
+and then the designs that are in none. Without names it looks at all children of the root. The status is
+0 where there is no such set, and 1 where there is one.
+
+Example:
+  clr_desk clashes office.json Renewal Extension Bypass";
+
+pub(crate) const WHY_PRINTS: &str =
+    "It prints the fault of the office text, or of the script or certificate that is given, as `clr_office`
+names it; its line, column and path; the line of the text with a mark; and what is wrong there. Where
+both a script and a certificate are given, it looks at the script. The status is 0 where there is no
+fault, 1 where a rule of the office doesn't hold, and 2 where there is a fault.
+
+Example:
+  clr_desk why office.json --script night.csv";
+
+pub(crate) const WORDS_PRINTS: &str =
+    "It prints the plan of the designs in sentences: whether they can be merged in every order, and if
+not, an order in which a merge is refused, the rule, the rows, and where they meet; then what would
+help, each tried. The status is 0 where the designs are cleared, and 1 where they aren't.
+
+Example:
+  clr_desk words office.json Renewal Extension Bypass";

@@ -1,0 +1,97 @@
+ghost use Rattle.std.specs.Prelude.{◌≡◌, Some, IfOk, IfErr, is_some, map, true};
+ghost use Rattle.clap.specs.Words.{first_of, found_of, rows_of, subcommand_of, takes};
+ghost use Rattle.clr_command_line.specs.Asks.{IsMemory};
+ghost use Rattle.clr_desk_command_line.specs.Asks.{ask_of, ask_by_name, root_of, why_of};
+ghost use Rattle.clr_desk_command_line.specs.Program.{program};
+
+use crate::asks::{Ask, TextKind};
+use crate::command::whole_command;
+use clap::ArgMatches;
+use clr_command_line::{AskFault, database, database_with, names};
+use clr_rows::{LIVE, Words};
+use std::alloc::{AllocError, Global};
+
+/// The root that is given, or LIVE.
+fn root(alloc: Global, matches: &ArgMatches) -> Result<Words, AllocError>
+    ensures { IfOk result (λ root. root ≡ root_of (rows_of (found_of matches.now))) }
+{
+    match matches.get_str("under") {
+        Some(name) => Ok(Words::new(String::from_str(alloc, name)?)),
+        None => Ok(Words::new(String::from_str(alloc, LIVE)?)),
+    }
+}
+
+/// Whether an option has a value.
+fn has_value(matches: &ArgMatches, option: &str) -> bool
+    ensures { result ≡ is_some (first_of option.now (rows_of (found_of matches.now))) }
+{
+    matches.get_str(option).is_some()
+}
+
+/// What `why` asks for, and its files: where a script and a certificate are given, the script counts.
+fn why(alloc: Global, matches: &ArgMatches) -> Result<(Ask, Vec<Words>), AllocError>
+    ensures { IfOk result (λ r. why_of (rows_of (found_of matches.now)) ≡ (r.0, r.1.items)) }
+{
+    if has_value(matches, "script") {
+        Ok((
+            Ask::Why(TextKind::Script),
+            database_with(alloc, matches, "script")?,
+        ))
+    } else if has_value(matches, "certificate") {
+        Ok((
+            Ask::Why(TextKind::Certificate),
+            database_with(alloc, matches, "certificate")?,
+        ))
+    } else {
+        Ok((Ask::Why(TextKind::Office), database(alloc, matches)?))
+    }
+}
+
+/// What a subcommand asks for, and its files.
+#[tactic(auto, unfolding(crate::specs::Asks::ask_by_name))]
+fn ask_of_subcommand(
+    alloc: Global,
+    name: &str,
+    matches: &ArgMatches,
+) -> Result<(Ask, Vec<Words>), AllocError>
+    requires { is_some (ask_by_name name.now (rows_of (found_of matches.now))) ≡ true }
+    ensures { IfOk result (λ r. ask_by_name name.now (rows_of (found_of matches.now)) ≡ Some (r.0, r.1.items)) }
+{
+    let root = root(alloc, matches)?;
+    let names = names(alloc, matches)?;
+    let found = match name {
+        "certificate" => (Ask::Certificate(root, names), database(alloc, matches)?),
+        "merge" => (Ask::Merge(names), database_with(alloc, matches, "CERT")?),
+        "format" => (Ask::Format, database(alloc, matches)?),
+        "keep" => (Ask::Keep(root, names), database(alloc, matches)?),
+        "clashes" => (Ask::Clashes(root, names), database(alloc, matches)?),
+        "why" => why(alloc, matches)?,
+        "words" => (Ask::WorkOrder(root, names), database(alloc, matches)?),
+        _ => unreachable!(),
+    };
+    Ok(found)
+}
+
+/// What the words of a command line ask for, with the program's name first, and the names of the
+/// files that it is asked of: that of the office text, and then that of the script or the certificate
+/// where there is one. The subcommands are `merge DB CERT NAME..`, `format DB`,
+/// `why DB [--script FILE] [--certificate FILE]`, and `certificate`, `keep`, `clashes` and `words`, each
+/// with `DB [--under ROOT] NAME..`. There are none or more names; the root is LIVE where none is given.
+///
+/// Fails with `Refused` where the words name no subcommand or another count of values than it has,
+/// or ask for help, as `help`, `--help` and `-h`, or for the version, as `--version` and `-V`; and
+/// with `OutOfMemory` for want of memory, which may come in place of any other answer.
+pub fn ask_of<'a>(alloc: Global, words: &'a [&'a str]) -> Result<(Ask, Vec<Words>), AskFault>
+    ensures asks { IfOk result (λ r. ask_of (subcommand_of program (map (λ s. s.now) words.entry.now)) ≡ Some (r.0, r.1.items)) }
+    ensures takes { takes program (map (λ s. s.now) words.entry.now) ≡ true → IfErr result IsMemory }
+{
+    let command = whole_command(alloc)?;
+    let matches = match command.try_get_matches_from(words) {
+        Ok(matches) => matches,
+        Err(error) => return Err(AskFault::of(error)),
+    };
+    let Some((name, values)) = matches.subcommand() else {
+        unreachable!();
+    };
+    Ok(ask_of_subcommand(alloc, name, values)?)
+}
