@@ -17,7 +17,7 @@ pub fn nearest<'a>(
     name: &str,
     names: &[&'a str],
 ) -> Result<Option<&'a str>, AllocError>
-    ensures { IfOk result (λ near. IfSome near (λ other. Contains names.now other)) }
+    ensures stands { IfOk result (λ near. IfSome near (λ other. Contains names.now other)) }
 {
     let mut best = None;
     let mut most = LEAST_LIKENESS;
