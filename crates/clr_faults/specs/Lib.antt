@@ -1,0 +1,4 @@
+pub mod Behind
+pub mod Parts
+pub mod Spots
+pub mod Stages

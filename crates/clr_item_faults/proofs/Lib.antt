@@ -1,0 +1,3 @@
+pub mod FirstLaws
+pub mod Firsts
+pub mod Lost

@@ -1,0 +1,4 @@
+pub mod FirstFaults
+pub mod InnerFaults
+pub mod ListFaults
+pub mod Readings
