@@ -1,4 +1,4 @@
-//! Tests of the texts that are read: edits, scripts, office texts and command lines, by public calls.
+//! Tests of the texts that are read: edits, scripts, office texts and command lines, and of where their faults are, by public calls.
 #![tactic(auto)]
 
 #[cfg(test)]
@@ -7,6 +7,8 @@ mod command_lines;
 mod office_texts;
 #[cfg(test)]
 mod questions;
+#[cfg(test)]
+mod record_faults;
 #[cfg(test)]
 mod script_cases;
 #[cfg(test)]

@@ -1,6 +1,6 @@
 //! Cases as lines: a question, which begins with a word, ` => `, and the answer.
 
-use crate::{command_lines, office_texts, scripts};
+use crate::{command_lines, office_texts, record_faults, scripts};
 use std::alloc::Global;
 use std::process::Abort;
 
@@ -9,6 +9,7 @@ fn answer(alloc: Global, word: &'static str, rest: &'static str) -> Option<Strin
     match word {
         "words" => command_lines::answer(alloc, rest),
         "edits" | "script" | "route" => scripts::answer(alloc, word, rest),
+        "scriptfault" | "certificatefault" => record_faults::answer(alloc, word, rest),
         _ => office_texts::answer(alloc, word, rest),
     }
 }

@@ -1,0 +1,5 @@
+pub mod CertificateFirsts
+pub mod EditsLeft
+pub mod Firsts
+pub mod PlainSteps
+pub mod ScriptFirsts

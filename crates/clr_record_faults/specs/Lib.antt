@@ -1,0 +1,3 @@
+pub mod CertificateFaults
+pub mod FirstFaults
+pub mod ScriptFaults
