@@ -1,0 +1,42 @@
+-- What is told of a text by the value that it is, or where it is none.
+use Rattle.std.proofs.Common.{◌≡◌, ℕ, Bool, true, false, cond, List, Option, Some, None, refl, sym}
+use Rattle.std.proofs.lemmas.Str.{IsUtf8-from_is_utf8, is_utf8-from_IsUtf8}
+use Rattle.std.specs.Str.{IsUtf8, is_utf8}
+use Rattle.std.specs.Prelude.{MatchOption}
+use Rattle.serde_json.specs.Data.{Data}
+use Rattle.serde_json.specs.Read.{read}
+use Rattle.clr_office_text.specs.declared.faults.TextFault.{TextFault}
+use Rattle.clr_faults.specs.Spots.{IsFoundIn, value_in}
+use Rattle.clr_faults.specs.declared.spots.Spot.{Spot}
+use Rattle.clr_faults.specs.declared.spots.Spot.TheVariants.{Whole}
+use Rattle.clr_explanations.specs.Places.{IsPlaceOf}
+use Rattle.clr_explanations.specs.Remarks.{IsTold, IsToldIn}
+use Rattle.clr_explanations.proofs.Told.{no_fault, of_some}
+
+pub told_in : (text : List ℕ) (d : Data) (e : TextFault) (at : Spot) (s : List ℕ) → value_in text ≡ Some d → IsTold d e at s → IsToldIn text e at s
+told_in text d e at s is told = λ other again. of_some (λ x. IsTold x e at s) (value_in text) d other (sym is) told again
+
+pub no_value_in : (text : List ℕ) (e : TextFault) (at : Spot) (s : List ℕ) → value_in text ≡ None → IsToldIn text e at s
+no_value_in text e at s is = λ d again. no_fault (value_in text) d (sym is) again
+
+whole_of : (P : Data → Type 0) (value : Option Data) (at : Spot) → value ≡ None → MatchOption value (at ≡ Whole) P → at ≡ Whole
+whole_of P None at is found = found
+whole_of P (Some d) at is found = absurd cc
+
+whole_place : (at : Spot) (s : List ℕ) → at ≡ Whole → IsPlaceOf at s
+whole_place at s is = rw is tt
+
+pub place_of_no_value : (text : List ℕ) (e : TextFault) (at : Spot) (s : List ℕ) → value_in text ≡ None → IsFoundIn text e at → IsPlaceOf at s
+place_of_no_value text e at s is found = whole_place at s (whole_of _ (value_in text) at is found)
+
+pub value_is : (text : List ℕ) (d : Data) → IsUtf8 text → read text ≡ Some d → value_in text ≡ Some d
+unfolding value_in
+value_is text d utf8 is = rw (is_utf8-from_IsUtf8 text utf8, is) refl
+
+pub no_value : (text : List ℕ) → (IsUtf8 text → read text ≡ None) → value_in text ≡ None
+unfolding value_in
+no_value text none = by (is_utf8 text) refl
+  where
+    by : (test : Bool) → is_utf8 text ≡ test → cond test (read text) None ≡ None
+    by true is = none (IsUtf8-from_is_utf8 text is)
+    by false is = refl

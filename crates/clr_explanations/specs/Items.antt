@@ -1,0 +1,25 @@
+-- The item of an office text that a fault stands at.
+use Rattle.std.specs.Prelude.{ℕ, List, codes, Result, Ok}
+use Rattle.serde_json.specs.Data.{Data}
+use Rattle.clr_office_text.specs.declared.faults.TextFault.{TextFault}
+use Rattle.clr_office_text.specs.Fields.{◌>>=◌}
+use Rattle.clr_faults.specs.Stages.{item_of}
+use Rattle.clr_faults.specs.declared.spots.Spot.{Spot}
+use Rattle.clr_faults.specs.declared.spots.Spot.TheVariants.{Whole, Table, Rule, Live, Workspace, Base, Row, Mark, Saved}
+
+abbrev pub item_in_workspace : ℕ → List ℕ → ℕ → Data → Result Data TextFault
+item_in_workspace at key item d = item_of (codes "workspaces") at d >>= item_of key item
+
+abbrev pub saved_item : ℕ → ℕ → ℕ → Data → Result Data TextFault
+saved_item at mark cell d = item_in_workspace at (codes "marks") mark d >>= item_of (codes "rows") cell
+
+abbrev pub item_at : Spot → Data → Result Data TextFault
+item_at Whole d = Ok d
+item_at (Table at) d = item_of (codes "tables") at d
+item_at (Rule at) d = item_of (codes "rules") at d
+item_at (Live at) d = item_of (codes "live") at d
+item_at (Workspace at) d = item_of (codes "workspaces") at d
+item_at (Base at cell) d = item_in_workspace at (codes "base") cell d
+item_at (Row at cell) d = item_in_workspace at (codes "rows") cell d
+item_at (Mark at mark) d = item_in_workspace at (codes "marks") mark d
+item_at (Saved at mark cell) d = saved_item at mark cell d

@@ -1,0 +1,5 @@
+pub mod FaultWords
+pub mod Items
+pub mod Places
+pub mod Remarks
+pub mod Standing

@@ -1,0 +1,39 @@
+-- What is said of the place of a fault behind its line and its column.
+use Rattle.std.specs.Prelude.{◌≡◌, ℕ, List, [], ◌++◌, codes, decimal}
+use Rattle.clr_faults.specs.declared.spots.Spot.{Spot}
+use Rattle.clr_faults.specs.declared.spots.Spot.TheVariants.{Whole, Table, Rule, Live, Workspace, Base, Row, Mark, Saved}
+
+abbrev pub workspace_path : ℕ → List ℕ
+workspace_path at = codes "workspaces[" ++ decimal at ++ codes "]"
+
+-- the path of an item of a list that stands in another item
+abbrev pub path_in : List ℕ → List ℕ → ℕ → List ℕ
+path_in outer list item = outer ++ codes "." ++ list ++ codes "[" ++ decimal item ++ codes "]"
+
+-- the path of an item, as `workspaces[0].rows[3]`; of the whole text, none
+abbrev pub spot_path : Spot → List ℕ
+spot_path Whole = []
+spot_path (Table at) = codes "tables[" ++ decimal at ++ codes "]"
+spot_path (Rule at) = codes "rules[" ++ decimal at ++ codes "]"
+spot_path (Live at) = codes "live[" ++ decimal at ++ codes "]"
+spot_path (Workspace at) = workspace_path at
+spot_path (Base at cell) = path_in (workspace_path at) (codes "base") cell
+spot_path (Row at cell) = path_in (workspace_path at) (codes "rows") cell
+spot_path (Mark at mark) = path_in (workspace_path at) (codes "marks") mark
+spot_path (Saved at mark cell) = path_in (path_in (workspace_path at) (codes "marks") mark) (codes "rows") cell
+
+-- the path of the item, and what follows it
+abbrev pub BeginsWithPath : Spot → List ℕ → Type 0
+BeginsWithPath spot said = (more : List ℕ) × (said ≡ codes ", " ++ spot_path spot ++ more)
+
+-- what is said of the place of an item; of the whole text it may be nothing
+abbrev pub IsPlaceOf : Spot → List ℕ → Type 0
+IsPlaceOf Whole said = Unit {0}
+IsPlaceOf (Table at) said = BeginsWithPath (Table at) said
+IsPlaceOf (Rule at) said = BeginsWithPath (Rule at) said
+IsPlaceOf (Live at) said = BeginsWithPath (Live at) said
+IsPlaceOf (Workspace at) said = BeginsWithPath (Workspace at) said
+IsPlaceOf (Base at cell) said = BeginsWithPath (Base at cell) said
+IsPlaceOf (Row at cell) said = BeginsWithPath (Row at cell) said
+IsPlaceOf (Mark at mark) said = BeginsWithPath (Mark at mark) said
+IsPlaceOf (Saved at mark cell) said = BeginsWithPath (Saved at mark cell) said

@@ -1,0 +1,30 @@
+-- What is said of an office text whose workspaces can't stand as a whole.
+use Rattle.std.specs.Prelude.{◌≡◌, ◌≤◌, ℕ, List, length, string_bytes, Option, Some, None, Ok}
+use Rattle.clr_layers.specs.Layers.{workspaces_over}
+use Rattle.clr_tree.specs.Parts.{workspaces_fault}
+use Rattle.clr_tree.specs.declared.parts.PartFault.{PartFault}
+use Rattle.clr_office_text.specs.Offices.{OfficeText, office_in}
+use Rattle.clr_item_explanations.specs.FaultNames.{IsNamed, part_fault_name}
+use Rattle.clr_faults.specs.declared.spots.Spot.TheVariants as spot
+use Rattle.clr_fault_lines.specs.declared.remarks.Remark.{Remark}
+use Rattle.clr_explanations.specs.Places.{BeginsWithPath}
+
+-- the first workspace of an office that can't stand among all of them, and why
+abbrev pub standing_fault : OfficeText → Option (ℕ × PartFault)
+standing_fault o = workspaces_fault o.live (workspaces_over o.live o.layers)
+
+-- what is found is that of a text that can be read
+abbrev pub IsStandingFault : List ℕ → Option (ℕ × PartFault) → Type 0
+IsStandingFault text found = (o : OfficeText) → office_in text ≡ Ok o → standing_fault o ≡ found
+
+abbrev pub StandsIfRead : List ℕ → Type 0
+StandsIfRead text = IsStandingFault text None
+
+-- what is said of a text that can be read: the path of the first workspace that can't stand, and why
+pub record IsStandingRemark (text : List ℕ) (remark : Remark) : Type 0 where
+  pub within : remark.offset ≤ length text
+  pub at : ℕ
+  pub fault : PartFault
+  pub found : IsStandingFault text (Some (at, fault))
+  pub place : BeginsWithPath (spot.Workspace at) (string_bytes remark.place)
+  pub sentence : IsNamed (part_fault_name fault) (string_bytes remark.sentence)

@@ -1,0 +1,26 @@
+//! What is said of an office text that can't be read: the fault, its place, a sentence and a hint.
+//!
+//! - `explain_office` [`none`, `told`, `at`]: whether an office text can be read; else the reader's own fault, and a remark on the item that
+//!   has it, the first of its list whose own reading answers this fault. Where the reader drops the fault of a row, of the book of
+//!   rules or of the tables, the sentence begins with the name of just that fault (`IsTold`).
+//! - `explain_standing` [`none`, `told`]: of a text that can be read, the fault of its workspaces as a whole, and the first that has it.
+//! - `office_fault_words`: the word `office`, and the number and the name of a fault.
+//!
+//! Lines and columns are those of the byte at which a value is looked for, which is tested, as sentences and hints are.
+#![tactic(auto)]
+
+mod fault_words;
+mod field_slips;
+mod inner_slips;
+mod items;
+mod lists;
+mod offices;
+mod places;
+mod readings;
+mod repeated;
+mod spots;
+mod standing;
+
+pub use fault_words::office_fault_words;
+pub use offices::{OfficeFault, explain_office};
+pub use standing::explain_standing;

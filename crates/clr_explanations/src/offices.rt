@@ -1,0 +1,124 @@
+//! What is said of an office text that can't be read.
+ghost use Rattle.std.specs.Prelude.{◌≡◌, ◌≤◌, length, string_bytes, Err, IfOk, IfNone, IfSome, IsOk};
+ghost use Rattle.serde_json.specs.View.{view};
+ghost use Rattle.clr_office_text.specs.Offices.{office_in};
+ghost use Rattle.clr_explanations.specs.Places.{IsPlaceOf};
+ghost use Rattle.clr_faults.specs.Spots.{IsFoundIn};
+ghost use Rattle.clr_explanations.specs.Remarks.{IsOfficeRemark, IsTold, IsToldIn};
+
+use crate::field_slips::field_slip;
+use crate::inner_slips::{row_slip, rule_slip, schema_slip, slip_or_unknown};
+use crate::places::remark_of;
+use crate::repeated::repeated_slip;
+use clr_fault_lines::Remark;
+use clr_faults::{Found, Spot, find_fault};
+use clr_hints::json_fault;
+use clr_item_explanations::{Slip, explain_workspace};
+use clr_office_text::TextFault;
+use serde_json::Value as Json;
+use std::alloc::{AllocError, Global};
+
+/// The fault of an office text, and what is said of it.
+#[derive(Debug, Drop)]
+pub struct OfficeFault {
+    pub fault: TextFault,
+    pub remark: Remark,
+}
+
+/// Why a workspace can't stand behind those before it.
+fn workspace_slip(alloc: Global, json: &Json, spot: Spot) -> Result<Slip, AllocError> {
+    match spot {
+        Spot::Workspace(at) => slip_or_unknown(alloc, explain_workspace(alloc, json, at)?),
+        _ => slip_or_unknown(alloc, None),
+    }
+}
+
+/// What is wrong with the item that has the fault.
+fn slip_of(alloc: Global, text: &[u8], json: &Json, found: Found) -> Result<Slip, AllocError>
+    ensures { IfOk result (λ slip. IsTold (view json.now) found.fault found.spot (string_bytes slip.sentence)) }
+{
+    match found.fault {
+        TextFault::BadSchema => schema_slip(alloc, json, found.spot),
+        TextFault::BadRule => rule_slip(alloc, json, found.spot),
+        TextFault::BadRow => row_slip(alloc, json, found.spot),
+        TextFault::BadField => field_slip(alloc, json, found.spot),
+        TextFault::RepeatedCell => repeated_slip(alloc, text, json, found.spot),
+        TextFault::BadPart => workspace_slip(alloc, json, found.spot),
+        TextFault::NotJson => slip_or_unknown(alloc, None),
+        TextFault::OutOfMemory => slip_or_unknown(alloc, None),
+    }
+}
+
+/// What is said of the fault of a text that is JSON.
+fn remark_in(alloc: Global, text: &[u8], json: &Json, found: Found) -> Result<Remark, AllocError>
+    ensures within { IfOk result (λ remark. remark.offset ≤ length text.now) }
+    ensures place { IfOk result (λ remark. IsPlaceOf found.spot (string_bytes remark.place)) }
+    ensures told { IfOk result (λ remark. IsTold (view json.now) found.fault found.spot (string_bytes remark.sentence)) }
+{
+    let slip = slip_of(alloc, text, json, found)?;
+    remark_of(alloc, text, json, found.spot, slip)
+}
+
+/// What is said of a text that is no JSON, which the reader of JSON tells by a line and a column.
+fn remark_on_json(
+    alloc: Global,
+    text: &[u8],
+    line: usize,
+    column: usize,
+) -> Result<Remark, AllocError>
+    ensures { IfOk result (λ remark. remark.offset ≤ length text.now) }
+{
+    let fault = json_fault(text, line, column);
+    let hint = match fault.hint {
+        Some(words) => Some(String::from_str(alloc, words)?),
+        None => None,
+    };
+    Ok(Remark {
+        offset: fault.offset,
+        place: String::new(alloc),
+        sentence: String::from_str(alloc, fault.sentence)?,
+        hint,
+    })
+}
+
+/// What is said of the fault that is found in a text.
+fn remark_on(alloc: Global, text: &[u8], found: Found) -> Result<Remark, AllocError>
+    requires { IsFoundIn text.now found.fault found.spot }
+    ensures within { IfOk result (λ remark. remark.offset ≤ length text.now) }
+    ensures place { IfOk result (λ remark. IsPlaceOf found.spot (string_bytes remark.place)) }
+    ensures told { IfOk result (λ remark. IsToldIn text.now found.fault found.spot (string_bytes remark.sentence)) }
+{
+    match Json::from_slice(alloc, text) {
+        Ok(json) => {
+            let remark = remark_in(alloc, text, &json, found)?;
+            Ok(remark)
+        }
+        Err(refused) => {
+            if refused.is_memory() {
+                return Err(AllocError);
+            }
+            let bare = remark_on_json(alloc, text, refused.line(), refused.column())?;
+            Ok(bare)
+        }
+    }
+}
+
+/// Returns the fault of an office text, as `read_office` answers it, and what is said of it: where it stands, by its line, its
+/// column and the path of the item, what is wrong, and a hint where one helps; or none where the text can be read. Whether its
+/// workspaces can stand as a whole isn't asked here. Fails for want of memory alone.
+pub fn explain_office(alloc: Global, text: &[u8]) -> Result<Option<OfficeFault>, AllocError>
+    ensures none { IfOk result (λ found. IfNone found (IsOk (office_in text.now))) }
+    ensures told { IfOk result (λ found. IfSome found (λ f. office_in text.now ≡ Err f.fault)) }
+    ensures at { IfOk result (λ found. IfSome found (λ f. IsOfficeRemark text.now f.fault f.remark)) }
+{
+    match find_fault(alloc, text)? {
+        Some(found) => {
+            let remark = remark_on(alloc, text, found)?;
+            Ok(Some(OfficeFault {
+                fault: found.fault,
+                remark,
+            }))
+        }
+        None => Ok(None),
+    }
+}

@@ -1,0 +1,81 @@
+//! What is said of an office text whose workspaces can't stand as a whole.
+ghost use Rattle.std.specs.Prelude.{◌≡◌, ◌≢◌, ◌≤◌, length, string_bytes, IfNone, IfOk, IfSome};
+ghost use Rattle.clr_explanations.specs.Places.{BeginsWithPath};
+ghost use Rattle.clr_explanations.specs.Standing.{IsStandingFault, IsStandingRemark, StandsIfRead};
+ghost use Rattle.clr_item_explanations.specs.FaultNames.{IsNamed, part_fault_name};
+
+use crate::places::remark_of;
+use clr_fault_lines::Remark;
+use clr_faults::Spot;
+use clr_item_explanations::{Slip, explain_part, items_at};
+use clr_item_faults::unless_lost;
+use clr_office_text::read_office;
+use clr_places::Key;
+use clr_tree::{PartFault, Tree};
+use serde_json::Value as Json;
+use std::alloc::{AllocError, Global};
+
+/// Why a workspace can't stand among all of them.
+fn slip_of_part(alloc: Global, json: &Json, at: usize, fault: PartFault) -> Result<Slip, AllocError>
+    ensures { IfOk result (λ slip. IsNamed (part_fault_name fault) (string_bytes slip.sentence)) }
+{
+    match items_at(json, Key::Workspaces).get(at) {
+        Some(workspace) => explain_part(alloc, workspace, fault),
+        None => explain_part(alloc, json, fault),
+    }
+}
+
+/// A refusal, unless it is for want of memory.
+fn known_refusal(refused: (usize, PartFault)) -> Result<(usize, PartFault), AllocError>
+    ensures { IfOk result (λ found. (found ≡ refused) × (refused.1 ≢ PartFault.OutOfMemory)) }
+{
+    match refused.1 {
+        PartFault::OutOfMemory => Err(AllocError),
+        _ => Ok(refused),
+    }
+}
+
+/// The first workspace of a text that can't stand among all of them, and why; or none where they stand or the text can't be read.
+#[tactic(auto, using(crate::proofs::StandingLemmas::stands, crate::proofs::StandingLemmas::refused_stands, crate::proofs::StandingLemmas::unread_stands))]
+fn standing_fault(alloc: Global, text: &[u8]) -> Result<Option<(usize, PartFault)>, AllocError>
+    ensures { IfOk result (IsStandingFault text.now) }
+{
+    let parts = match read_office(alloc, text) {
+        Ok(parts) => parts,
+        Err(fault) => return unless_lost(fault, None),
+    };
+    match Tree::of_layers(alloc, parts.live, parts.workspaces) {
+        Ok(_) => Ok(None),
+        Err(refused) => Ok(Some(known_refusal(refused)?)),
+    }
+}
+
+/// What is said of a text whose first workspace that can't stand is known, or of one that is no JSON.
+fn remark_on_part(
+    alloc: Global,
+    text: &[u8],
+    at: usize,
+    fault: PartFault,
+) -> Result<Remark, AllocError>
+    ensures within { IfOk result (λ remark. remark.offset ≤ length text.now) }
+    ensures place { IfOk result (λ remark. BeginsWithPath (Spot.Workspace at) (string_bytes remark.place)) }
+    ensures named { IfOk result (λ remark. IsNamed (part_fault_name fault) (string_bytes remark.sentence)) }
+{
+    let Ok(json) = Json::from_slice(alloc, text) else {
+        return Err(AllocError);
+    };
+    let slip = slip_of_part(alloc, &json, at, fault)?;
+    remark_of(alloc, text, &json, Spot::Workspace(at), slip)
+}
+
+/// Returns what is said of a text that can be read and whose workspaces can't stand as a whole: the first that can't, and why;
+/// or none where they can or the text can't be read. Fails for want of memory alone.
+pub fn explain_standing(alloc: Global, text: &[u8]) -> Result<Option<Remark>, AllocError>
+    ensures none { IfOk result (λ found. IfNone found (StandsIfRead text.now)) }
+    ensures told { IfOk result (λ found. IfSome found (IsStandingRemark text.now)) }
+{
+    match standing_fault(alloc, text)? {
+        Some((at, fault)) => Ok(Some(remark_on_part(alloc, text, at, fault)?)),
+        None => Ok(None),
+    }
+}

@@ -1,0 +1,192 @@
+//! Rows that don't fit their table.
+ghost use Rattle.std.specs.Prelude.{◌≡◌, string_bytes, IfOk};
+ghost use Rattle.clr_lines.specs.Replies.{row_fault_name};
+ghost use Rattle.clr_item_explanations.specs.FaultNames.{IsNamed};
+
+use crate::fields::{items_at, text_at};
+use crate::rows::coordinates_of;
+use crate::slips::Slip;
+use clr_hints::{column_names, kind_of, listed, name_hint, shown, table_names, table_of};
+use clr_places::{Key, Step};
+use clr_rows::{
+    GREATEST_COORDINATE, GREATEST_KEY, Kind, MOST_TEXT_BYTES, RowFault, Schema, TableDef,
+};
+use serde_json::Value as Json;
+use std::alloc::{AllocError, Global};
+
+/// The name of a fault, as a refused edit has it.
+fn row_fault_word(fault: RowFault) -> &'static str
+    ensures { result.now ≡ row_fault_name fault }
+{
+    match fault {
+        RowFault::NoTable => "NoTable",
+        RowFault::WrongCount => "WrongCount",
+        RowFault::WrongKind => "WrongKind",
+        RowFault::WordsTooLong => "WordsTooLong",
+        RowFault::WrongShape => "WrongShape",
+        RowFault::OutOfRange => "OutOfRange",
+        RowFault::ZeroSegment => "ZeroSegment",
+        RowFault::BadPath => "BadPath",
+    }
+}
+
+/// The name of a column, and whether it has numbers or texts.
+fn column_at(table: &TableDef, at: usize) -> Option<(&str, Kind)> {
+    let column = table.columns.as_slice().get(at)?;
+    Some((column.0.as_str(), column.1))
+}
+
+fn kind_word(kind: Kind) -> &'static str {
+    match kind {
+        Kind::Int => "INT",
+        Kind::Words => "TEXT",
+    }
+}
+
+/// That there are more or fewer values than columns.
+fn wrong_count(alloc: Global, json: &Json, table: &TableDef) -> Result<Slip, AllocError> {
+    let count = items_at(json, Key::V).len();
+    let columns = column_names(alloc, table)?;
+    let names = listed(alloc, columns.as_slice())?;
+    let name = table.name.as_str();
+    let sentence = if columns.is_empty() {
+        format!(in alloc; "{count} values; table {name} has no columns")?
+    } else {
+        format!(in alloc; "{count} values; the columns of table {name} are {names}")?
+    };
+    Slip::new(alloc, &[Step::Key(Key::V)], sentence)
+}
+
+/// That a value is of another kind than its column.
+fn wrong_kind(alloc: Global, json: &Json, table: &TableDef) -> Result<Slip, AllocError> {
+    for (at, value) in items_at(json, Key::V).iter().enumerate() {
+        let Some((name, kind)) = column_at(table, at) else {
+            break;
+        };
+        if value.is_string() != (kind == Kind::Words) {
+            let text = shown(alloc, value)?;
+            let wanted = kind_word(kind);
+            let is = kind_of(value);
+            let sentence = format!(in alloc; "column {name} is {wanted}, and {text} is {is}")?;
+            return Slip::new(alloc, &[Step::Key(Key::V), Step::At(at)], sentence);
+        }
+    }
+    Slip::of_words(
+        alloc,
+        &[Step::Key(Key::V)],
+        "a value is of another kind than its column",
+    )
+}
+
+/// That a text is too long.
+fn words_too_long(alloc: Global, json: &Json) -> Result<Slip, AllocError> {
+    for (at, value) in items_at(json, Key::V).iter().enumerate() {
+        let bytes = value.as_str().unwrap_or("").len();
+        if bytes > MOST_TEXT_BYTES {
+            let sentence = format!(in alloc;
+                "a text of {bytes} bytes; at most {MOST_TEXT_BYTES} may stand here"
+            )?;
+            return Slip::new(alloc, &[Step::Key(Key::V), Step::At(at)], sentence);
+        }
+    }
+    Slip::of_words(alloc, &[Step::Key(Key::V)], "a text is too long")
+}
+
+/// That the shape isn't the table's.
+fn wrong_shape(alloc: Global, json: &Json, table: &TableDef) -> Result<Slip, AllocError> {
+    let count = items_at(json, Key::S).len();
+    let wanted = coordinates_of(Some(table.shape));
+    let name = table.name.as_str();
+    let sentence = format!(in alloc; "{count} coordinates in table {name}; {wanted}")?;
+    Slip::new(alloc, &[Step::Key(Key::S)], sentence)
+}
+
+/// The key of a cell, where it is beyond its limits.
+fn far_key(json: &Json) -> Option<i64> {
+    let key = json.get("k")?.as_i64()?;
+    if 1 <= key && key <= GREATEST_KEY {
+        None
+    } else {
+        Some(key)
+    }
+}
+
+/// That the key or a coordinate is beyond its limits.
+fn out_of_range(alloc: Global, json: &Json) -> Result<Slip, AllocError> {
+    if let Some(key) = far_key(json) {
+        let sentence = format!(in alloc; "the key {key} isn't from 1 to {GREATEST_KEY}")?;
+        return Slip::new(alloc, &[Step::Key(Key::K)], sentence);
+    }
+    for (at, value) in items_at(json, Key::S).iter().enumerate() {
+        let number = value.as_i64().unwrap_or(0);
+        if number.unsigned_abs() > GREATEST_COORDINATE {
+            let sentence = format!(in alloc;
+                "the coordinate {number} is beyond {GREATEST_COORDINATE} millimetres"
+            )?;
+            return Slip::new(alloc, &[Step::Key(Key::S), Step::At(at)], sentence);
+        }
+    }
+    Slip::of_words(alloc, &[], "the key or a coordinate is out of range")
+}
+
+/// That no table has the name of a cell.
+fn no_table(alloc: Global, json: &Json, schema: &Schema) -> Result<Slip, AllocError> {
+    let name = text_at(json, Key::T);
+    let names = table_names(alloc, schema)?;
+    let sentence = format!(in alloc; "no table is called '{name}'")?;
+    let hint = name_hint(alloc, name, names.as_slice())?;
+    Ok(Slip::new(alloc, &[Step::Key(Key::T)], sentence)?.with_hint(hint))
+}
+
+/// Why a row can't stand in its table.
+fn of_fault(
+    alloc: Global,
+    json: &Json,
+    table: &TableDef,
+    fault: RowFault,
+) -> Result<Slip, AllocError> {
+    match fault {
+        RowFault::WrongCount => wrong_count(alloc, json, table),
+        RowFault::WrongKind => wrong_kind(alloc, json, table),
+        RowFault::WordsTooLong => words_too_long(alloc, json),
+        RowFault::WrongShape => wrong_shape(alloc, json, table),
+        RowFault::NoTable | RowFault::OutOfRange => out_of_range(alloc, json),
+        RowFault::ZeroSegment => Slip::of_words(
+            alloc,
+            &[Step::Key(Key::S)],
+            "two vertices that follow one another are one place",
+        ),
+        RowFault::BadPath => {
+            Slip::of_words(alloc, &[Step::Key(Key::S)], "a path has 2 to 32 vertices")
+        }
+    }
+}
+
+/// Returns why the row of an item can't stand at its cell, for the fault that it has: the name of the fault, and a sentence.
+/// Fails for want of memory alone.
+pub fn explain_row_fault(
+    alloc: Global,
+    json: &Json,
+    schema: &Schema,
+    fault: RowFault,
+) -> Result<Slip, AllocError>
+    ensures { IfOk result (λ slip. IsNamed (row_fault_name fault) (string_bytes slip.sentence)) }
+{
+    let slip = match table_of(schema, text_at(json, Key::T)) {
+        Some(table) => of_fault(alloc, json, table, fault)?,
+        None => no_table(alloc, json, schema)?,
+    };
+    slip.named(alloc, row_fault_word(fault))
+}
+
+/// Returns that the table of an item isn't known, where it isn't. Fails for want of memory alone.
+pub fn explain_unknown_table(
+    alloc: Global,
+    json: &Json,
+    schema: &Schema,
+) -> Result<Option<Slip>, AllocError> {
+    match table_of(schema, text_at(json, Key::T)) {
+        Some(_) => Ok(None),
+        None => Ok(Some(no_table(alloc, json, schema)?.named(alloc, "NoTable")?)),
+    }
+}

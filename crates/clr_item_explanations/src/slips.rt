@@ -1,0 +1,69 @@
+//! What is wrong within an item.
+ghost use Rattle.std.specs.Prelude.{◌≡◌, ◌++◌, codes, string_bytes, IfOk};
+
+use clr_places::Step;
+use std::alloc::{AllocError, Global};
+
+/// What is wrong within an item: the steps from the item to the value that is wrong, a sentence, and a hint where one helps.
+#[derive(Debug, Drop)]
+pub struct Slip {
+    pub steps: Vec<Step>,
+    pub sentence: String,
+    pub hint: Option<String>,
+}
+
+impl Slip {
+    /// Returns a slip with a sentence on the value at these steps, without a hint. Fails for want of memory alone.
+    pub fn new(alloc: Global, steps: &[Step], sentence: String) -> Result<Slip, AllocError>
+        ensures { IfOk result (λ slip. slip.sentence ≡ sentence) }
+    {
+        Ok(Slip {
+            steps: Vec::from_slice(alloc, steps)?,
+            sentence,
+            hint: None,
+        })
+    }
+
+    /// Returns a slip with these words as its sentence. Fails for want of memory alone.
+    pub fn of_words(alloc: Global, steps: &[Step], sentence: &str) -> Result<Slip, AllocError> {
+        let sentence = String::from_str(alloc, sentence)?;
+        Slip::new(alloc, steps, sentence)
+    }
+
+    /// Returns the same with a hint, if there is one.
+    pub fn with_hint(self, hint: Option<String>) -> Slip
+        ensures { result.sentence ≡ self.sentence }
+    {
+        Slip {
+            steps: self.steps,
+            sentence: self.sentence,
+            hint,
+        }
+    }
+
+    /// Returns the same of an item that holds this one: with steps before its own. Fails for want of memory alone.
+    pub fn below(self, alloc: Global, steps: &[Step]) -> Result<Slip, AllocError>
+        ensures { IfOk result (λ slip. slip.sentence ≡ self.sentence) }
+    {
+        let mut all = Vec::from_slice(alloc, steps)?;
+        all.extend_from_slice(self.steps.as_slice())?;
+        Ok(Slip {
+            steps: all,
+            sentence: self.sentence,
+            hint: self.hint,
+        })
+    }
+
+    /// Returns the same with the name of a fault before its sentence. Fails for want of memory alone.
+    pub fn named(self, alloc: Global, name: &str) -> Result<Slip, AllocError>
+        ensures { IfOk result (λ slip. string_bytes slip.sentence ≡ name.now ++ codes ": " ++ string_bytes self.sentence) }
+    {
+        let told = self.sentence.as_str();
+        let sentence = format!(in alloc; "{name}: {told}")?;
+        Ok(Slip {
+            steps: self.steps,
+            sentence,
+            hint: self.hint,
+        })
+    }
+}

@@ -1,0 +1,63 @@
+//! What is said of a certificate that can't be read.
+ghost use Rattle.std.specs.Prelude.{◌≡◌, ◌≤◌, length, string_bytes, Err, IfOk, IfNone, IfSome, IsOk};
+ghost use Rattle.clr_cert.specs.Certificates.{certificate_in};
+ghost use Rattle.clr_record_explanations.specs.RecordRemarks.{IsRecordPlace, IsRecordRemark};
+
+use crate::entries::explain_entry;
+use crate::records::{remark_on_encoding, remark_on_record};
+use clr_cert::CertFault;
+use clr_fault_lines::Remark;
+use clr_record_faults::{CertificateFault as FoundFault, find_certificate_fault};
+use clr_rows::Schema;
+use std::alloc::{AllocError, Global};
+
+/// The fault of a certificate, the number of its record, counted from 1 without blank lines, and what is said of it.
+#[derive(Debug, Drop)]
+pub struct CertificateFault {
+    pub fault: CertFault,
+    pub number: usize,
+    pub remark: Remark,
+}
+
+/// What is said of the fault that is found in a certificate.
+fn remark_on(
+    alloc: Global,
+    schema: &Schema,
+    text: &[u8],
+    found: &FoundFault,
+) -> Result<Remark, AllocError>
+    ensures within { IfOk result (λ remark. remark.offset ≤ length text.now) }
+    ensures place { IfOk result (λ remark. IsRecordPlace found.now.record (string_bytes remark.place)) }
+{
+    match &found.fields {
+        Some(fields) => {
+            let slip = explain_entry(alloc, schema, fields, found.fault)?;
+            remark_on_record(alloc, text, found.record, slip)
+        }
+        None => remark_on_encoding(alloc, text),
+    }
+}
+
+/// Returns the fault of a certificate over a schema, as `read_certificate` answers it, the number of its record and what is said of
+/// it: where it stands, what is wrong, and a hint where one helps; or none where it can be read. Fails for want of memory alone.
+pub fn explain_certificate(
+    alloc: Global,
+    schema: &Schema,
+    text: &[u8],
+) -> Result<Option<CertificateFault>, AllocError>
+    ensures none { IfOk result (λ found. IfNone found (IsOk (certificate_in schema.now text.now))) }
+    ensures told { IfOk result (λ found. IfSome found (λ f. certificate_in schema.now text.now ≡ Err (f.number, f.fault))) }
+    ensures at { IfOk result (λ found. IfSome found (λ f. IsRecordRemark text.now f.number f.remark)) }
+{
+    match find_certificate_fault(alloc, schema, text)? {
+        Some(found) => {
+            let remark = remark_on(alloc, schema, text, &found)?;
+            Ok(Some(CertificateFault {
+                fault: found.fault,
+                number: found.record,
+                remark,
+            }))
+        }
+        None => Ok(None),
+    }
+}

@@ -1,0 +1,36 @@
+//! What is wrong with a record.
+
+use std::alloc::{AllocError, Global};
+
+/// What is wrong with a record: the field, counted from 0, a sentence, and a hint where one helps.
+#[derive(Debug, Drop)]
+pub struct RecordSlip {
+    pub field: usize,
+    pub sentence: String,
+    pub hint: Option<String>,
+}
+
+impl RecordSlip {
+    /// Returns a slip with a sentence on a field, without a hint.
+    pub fn new(field: usize, sentence: String) -> RecordSlip {
+        RecordSlip {
+            field,
+            sentence,
+            hint: None,
+        }
+    }
+
+    /// Returns a slip with these words as its sentence. Fails for want of memory alone.
+    pub fn of_words(alloc: Global, field: usize, sentence: &str) -> Result<RecordSlip, AllocError> {
+        Ok(RecordSlip::new(field, String::from_str(alloc, sentence)?))
+    }
+
+    /// Returns the same with a hint, if there is one.
+    pub fn with_hint(self, hint: Option<String>) -> RecordSlip {
+        RecordSlip {
+            field: self.field,
+            sentence: self.sentence,
+            hint,
+        }
+    }
+}

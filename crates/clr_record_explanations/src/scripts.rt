@@ -1,0 +1,81 @@
+//! What is said of a script that can't be read.
+ghost use Rattle.std.specs.Prelude.{◌≡◌, ◌≤◌, length, string_bytes, Err, IfOk, IfNone, IfSome, IsOk};
+ghost use Rattle.clr_scripts.specs.Scripts.{script_in_text};
+ghost use Rattle.clr_record_explanations.specs.RecordRemarks.{IsRecordPlace, IsRecordRemark};
+
+use crate::edits::explain_edit;
+use crate::record_slips::RecordSlip;
+use crate::records::{remark_on_encoding, remark_on_record};
+use crate::steps::{explain_short_apply, explain_step};
+use clr_fault_lines::Remark;
+use clr_record_faults::{Role, ScriptFault as FoundFault, find_script_fault};
+use clr_rows::Schema;
+use clr_scripts::RecordFault;
+use csv::StringRecord;
+use std::alloc::{AllocError, Global};
+
+/// The fault of a script, the number of its record, counted from 1 without blank lines, and what is said of it.
+#[derive(Debug, Drop)]
+pub struct ScriptFault {
+    pub fault: RecordFault,
+    pub number: usize,
+    pub remark: Remark,
+}
+
+/// What is wrong with a record, as what it is read.
+fn slip_of(
+    alloc: Global,
+    schema: &Schema,
+    fields: &StringRecord,
+    fault: RecordFault,
+    role: Role,
+) -> Result<RecordSlip, AllocError> {
+    match role {
+        Role::ShortApply => explain_short_apply(alloc, fields),
+        Role::Edit => explain_edit(alloc, schema, fields, fault),
+        Role::Step | Role::Text => explain_step(alloc, schema, fields, fault),
+    }
+}
+
+/// What is said of the fault that is found in a script.
+fn remark_on(
+    alloc: Global,
+    schema: &Schema,
+    text: &[u8],
+    found: &FoundFault,
+) -> Result<Remark, AllocError>
+    ensures within { IfOk result (λ remark. remark.offset ≤ length text.now) }
+    ensures place { IfOk result (λ remark. IsRecordPlace found.now.record (string_bytes remark.place)) }
+{
+    match &found.fields {
+        Some(fields) => {
+            let slip = slip_of(alloc, schema, fields, found.fault, found.role)?;
+            remark_on_record(alloc, text, found.record, slip)
+        }
+        None => remark_on_encoding(alloc, text),
+    }
+}
+
+/// Returns the fault of a script over a schema, as `read_script` answers it, the number of its record and what is said of it: where
+/// it stands, what is wrong, and a hint where one helps; or none where the script can be read. Fails for want of memory alone.
+pub fn explain_script(
+    alloc: Global,
+    schema: &Schema,
+    text: &[u8],
+) -> Result<Option<ScriptFault>, AllocError>
+    ensures none { IfOk result (λ found. IfNone found (IsOk (script_in_text schema.now text.now))) }
+    ensures told { IfOk result (λ found. IfSome found (λ f. script_in_text schema.now text.now ≡ Err (f.number, f.fault))) }
+    ensures at { IfOk result (λ found. IfSome found (λ f. IsRecordRemark text.now f.number f.remark)) }
+{
+    match find_script_fault(alloc, schema, text)? {
+        Some(found) => {
+            let remark = remark_on(alloc, schema, text, &found)?;
+            Ok(Some(ScriptFault {
+                fault: found.fault,
+                number: found.record,
+                remark,
+            }))
+        }
+        None => Ok(None),
+    }
+}

@@ -1,0 +1,22 @@
+//! Names of tables in records.
+
+use crate::record_slips::RecordSlip;
+use clr_hints::{name_hint, table_names};
+use clr_records::field;
+use clr_rows::Schema;
+use csv::StringRecord;
+use std::alloc::{AllocError, Global};
+
+/// Returns that no table has the name in a field, which counts from 0. Fails for want of memory alone.
+pub fn no_table(
+    alloc: Global,
+    schema: &Schema,
+    fields: &StringRecord,
+    at: usize,
+) -> Result<RecordSlip, AllocError> {
+    let name = field(fields, at);
+    let names = table_names(alloc, schema)?;
+    let sentence = format!(in alloc; "no table is called '{name}'")?;
+    let hint = name_hint(alloc, name, names.as_slice())?;
+    Ok(RecordSlip::new(at, sentence).with_hint(hint))
+}

@@ -1,0 +1,63 @@
+//! A need that no row serves, in words.
+ghost use Rattle.std.specs.Prelude.{◌≡◌, IfOk, option_map, slice_get};
+ghost use Rattle.clr_why.specs.Needs.{name_told, rule_line, rule_sentence, unheld_lines};
+
+use clr_engine::{Broken, Draft};
+use clr_lines::unheld_line;
+use clr_rules::Rule;
+use std::alloc::{AllocError, Global};
+
+/// What a rule asks for.
+fn rule_sentence(rule: &Rule) -> &'static str
+    ensures { result.now ≡ rule_sentence rule.now }
+{
+    match rule {
+        Rule::Unique { .. } =>
+            "UNIQUE: the two rows have the same values in all columns of the rule",
+        Rule::Partner { .. } => "PARTNER: no row of the server has the values of this row",
+        Rule::EndNode { .. } => "ENDNODE: no point of the server stands at this end of the row",
+        Rule::Crossing { .. } => {
+            "CROSSING: the two rows meet, and no point of the server stands where they do"
+        }
+        Rule::Near { .. } => "NEAR: the two points are nearer than the rule allows",
+    }
+}
+
+/// The line that says what the rule of a number asks for, and none where there is no such rule.
+fn rule_line(alloc: Global, rules: &[Rule], number: usize) -> Result<Vec<u8>, AllocError>
+    ensures { IfOk result (λ line. line.items ≡ rule_line (slice_get rules.now number)) }
+{
+    match rules.get(number) {
+        Some(rule) => {
+            let mut line = Vec::from_slice(alloc, rule_sentence(rule).as_bytes())?;
+            line.extend_from_slice(b"\n")?;
+            Ok(line)
+        }
+        None => Ok(Vec::new(alloc)),
+    }
+}
+
+/// The name of the workspace at a position, and none of LIVE.
+fn name_told(draft: &Draft, position: usize) -> Option<&str>
+    ensures { option_map (λ name. name.now) result ≡ name_told draft.now position }
+{
+    match position {
+        0 => None,
+        _ => draft.name_at(position),
+    }
+}
+
+/// The lines of a need that no row serves: as `clr_office` prints it, and what its rule asks for.
+pub(crate) fn unheld_lines(
+    alloc: Global,
+    draft: &Draft,
+    position: usize,
+    need: &Broken,
+) -> Result<Vec<u8>, AllocError>
+    ensures { IfOk result (λ lines. lines.items ≡ unheld_lines draft.now position need.now) }
+{
+    let mut lines = unheld_line(alloc, draft.schema(), name_told(draft, position), need)?;
+    let rule = rule_line(alloc, draft.book().rules(), need.rule as usize)?;
+    lines.extend_from_slice(rule.as_slice())?;
+    Ok(lines)
+}
