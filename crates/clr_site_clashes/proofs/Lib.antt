@@ -1,0 +1,5 @@
+mod Lists
+mod LookedLaw
+mod PartSites
+mod PlanLaw
+mod Sharing

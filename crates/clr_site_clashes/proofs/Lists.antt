@@ -1,0 +1,99 @@
+-- Lists that a loop makes, one element after another.
+use Rattle.std.proofs.Common.{◌≡◌, ◌∙◌, ◌<◌, ◌≤◌, ◌+◌, ℕ, zero, suc, Bool, true, false, cond, List, [], ◌∷◌, ◌++◌, Bor, Option, Some, None}
+use Rattle.std.proofs.Common.{ap, ap₂, append-nil, arith, filter, get_or, length, map, refl, sym, take}
+use Rattle.std.specs.Prelude.{find, option_map, option_to_list, slice_get}
+use Rattle.std.specs.List.{cons_option, filter_map, flat_map, range_with_len}
+use Rattle.std.proofs.lemmas.List.{map-append, take_more}
+use Rattle.std.proofs.lemmas.List.Elements.{filter-append, filter_map-append}
+use Rattle.std.proofs.lemmas.Grind.{flat_map-append}
+use Rattle.std.proofs.lemmas.Option.{slice_get-map, slice_get_past, slice_get_read}
+
+-- one more ------------------------------------------------------------------------------------
+
+one_number_more : (a n : ℕ) → range_with_len a (suc n) ≡ range_with_len a n ++ (a + n) ∷ []
+one_number_more a zero = let same : a ≡ a + 0 = omega arith in ap (λ x. x ∷ []) same
+one_number_more a (suc n) =
+    let same : (a + 1) + n ≡ a + suc n = omega arith in
+    ap (λ xs. a ∷ xs) (one_number_more (a + 1) n ∙ ap (λ x. range_with_len (a + 1) n ++ x ∷ []) same)
+
+-- one more number from 0 on
+pub numbers_more : (k : ℕ) → range_with_len 0 (k + 1) ≡ range_with_len 0 k ++ k ∷ []
+numbers_more k =
+    let next : k + 1 ≡ suc k = omega arith in
+    let same : 0 + k ≡ k = omega arith in
+    ap (range_with_len 0) next ∙ one_number_more 0 k ∙ ap (λ x. range_with_len 0 k ++ x ∷ []) same
+
+module _ {X Y : Type 0} (f : X → Option Y) where
+  one_mapped : (o : Option Y) → cons_option o [] ≡ option_to_list o
+  one_mapped None = refl
+  one_mapped (Some y) = refl
+
+  pub filter_map_last : (xs : List X) (x : X) → filter_map f (xs ++ x ∷ []) ≡ filter_map f xs ++ option_to_list (f x)
+  filter_map_last xs x = filter_map-append f xs (x ∷ []) ∙ ap (λ ys. filter_map f xs ++ ys) (one_mapped (f x))
+
+  pub filter_map_more : (xs : List X) (k : ℕ) (d : X) → k < length xs
+      → filter_map f (take (k + 1) xs) ≡ filter_map f (take k xs) ++ option_to_list (f (get_or xs k d))
+  filter_map_more xs k d less = ap (filter_map f) (take_more xs k d less) ∙ filter_map_last (take k xs) (get_or xs k d)
+
+module _ {X Y : Type 0} (f : X → List Y) where
+  pub flat_map_last : (xs : List X) (x : X) → flat_map f (xs ++ x ∷ []) ≡ flat_map f xs ++ f x
+  flat_map_last xs x = flat_map-append f xs (x ∷ []) ∙ ap (λ ys. flat_map f xs ++ ys) (append-nil (f x))
+
+  pub flat_map_more : (xs : List X) (k : ℕ) (d : X) → k < length xs → flat_map f (take (k + 1) xs) ≡ flat_map f (take k xs) ++ f (get_or xs k d)
+  flat_map_more xs k d less = ap (flat_map f) (take_more xs k d less) ∙ flat_map_last (take k xs) (get_or xs k d)
+
+module _ {X : Type 0} (p : X → Bool) where
+  pub filter_last : (xs : List X) (x : X) → filter p (xs ++ x ∷ []) ≡ filter p xs ++ filter p (x ∷ [])
+  filter_last xs x = filter-append p xs (x ∷ [])
+
+  pub filter_one_more : (xs : List X) (k : ℕ) (d : X) → k < length xs → filter p (take (k + 1) xs) ≡ filter p (take k xs) ++ filter p (get_or xs k d ∷ [])
+  filter_one_more xs k d less = ap (filter p) (take_more xs k d less) ∙ filter_last (take k xs) (get_or xs k d)
+
+-- an element is added, or none
+pub one_added : {X Y : Type 0} (f : X → Y) (old new : List X) (x : X) (o : Option Y) → new ≡ old ++ x ∷ [] → o ≡ Some (f x)
+    → map f new ≡ map f old ++ option_to_list o
+one_added f old new x o put is = ap (map f) put ∙ map-append f old (x ∷ []) ∙ ap (λ r. map f old ++ option_to_list r) (sym is)
+
+pub none_added : {X : Type 0} (xs : List X) (o : Option X) → o ≡ None → xs ≡ xs ++ option_to_list o
+none_added xs o is = sym (ap (λ r. xs ++ option_to_list r) is ∙ append-nil xs)
+
+-- what is read -----------------------------------------------------------------------------------
+
+module _ {X : Type 0} (xs : List (Bor X)) (k : ℕ) where
+  -- of borrowed values
+  pub read_at : (x : Bor X) → k < length xs → x ≡ get_or xs k x → slice_get (map (λ y. y.now) xs) k ≡ Some x.now
+  read_at x less is = slice_get-map (λ y. y.now) xs k ∙ ap (option_map (λ y. y.now)) (slice_get_read xs (length xs) k x refl less is)
+
+  pub read_past : length xs ≤ k → slice_get (map (λ y. y.now) xs) k ≡ None
+  read_past past = slice_get-map (λ y. y.now) xs k ∙ ap (option_map (λ y. y.now)) (slice_get_past xs k past)
+
+-- where a test passes everywhere, or nowhere -----------------------------------------------------
+
+pub none_mapped : {X Y : Type 0} (f : X → Option Y) → ((x : X) → f x ≡ None) → (xs : List X) → filter_map f xs ≡ []
+none_mapped f none [] = refl
+none_mapped f none (x ∷ xs) = ap (λ o. cons_option o (filter_map f xs)) (none x) ∙ none_mapped f none xs
+
+pub none_flat : {X Y : Type 0} (f : X → List Y) → ((x : X) → f x ≡ []) → (xs : List X) → flat_map f xs ≡ []
+none_flat f none [] = refl
+none_flat f none (x ∷ xs) = ap (λ ys. ys ++ flat_map f xs) (none x) ∙ none_flat f none xs
+
+pub all_kept : {X : Type 0} (p : X → Bool) → ((x : X) → p x ≡ true) → (xs : List X) → filter p xs ≡ xs
+all_kept p all [] = refl
+all_kept p all (x ∷ xs) = ap (λ b. cond b (x ∷ filter p xs) (filter p xs)) (all x) ∙ ap (λ ys. x ∷ ys) (all_kept p all xs)
+
+pub none_found : {X : Type 0} (p : X → Bool) (xs : List X) → ((k : ℕ) (x : X) → slice_get xs k ≡ Some x → p x ≡ false) → find p xs ≡ None
+none_found p [] fails = refl
+none_found p (x ∷ xs) fails = ap (λ b. cond b (Some x) (find p xs)) (fails 0 x refl) ∙ none_found p xs (λ k. fails (suc k))
+
+-- a list by its positions ------------------------------------------------------------------------
+
+shifted : {X : Type 0} (x : X) (xs : List X) (a n : ℕ)
+    → filter_map (slice_get (x ∷ xs)) (range_with_len (a + 1) n) ≡ filter_map (slice_get xs) (range_with_len a n)
+shifted x xs a zero = refl
+shifted {X} x xs a (suc n) =
+    let next : a + 1 ≡ suc a = omega arith in
+    ap₂ (λ (o : Option X) (ys : List X). cons_option o ys) (ap (slice_get (x ∷ xs)) next) (shifted x xs (a + 1) n)
+
+pub read_all : {X : Type 0} (xs : List X) → filter_map (slice_get xs) (range_with_len 0 (length xs)) ≡ xs
+read_all [] = refl
+read_all (x ∷ xs) = ap (λ ys. x ∷ ys) (shifted x xs 0 (length xs) ∙ read_all xs)

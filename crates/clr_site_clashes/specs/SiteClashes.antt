@@ -1,0 +1,59 @@
+-- The smallest sets of the members of a site that can't be merged together: members in conflict, members that change one cell, and members
+-- that break a need which nothing covers.
+use Rattle.std.specs.Prelude.{◌≡◌, ◌⊎◌, ℕ, List, ◌++◌, None, Some, Result, Ok, Err, map, slice_get}
+use Rattle.std.specs.List.{filter_map}
+use Rattle.clr_needs.specs.Members.{AreApart}
+use Rattle.clr_steps.specs.Offices.{Office}
+use Rattle.clr_steps.specs.Quiet.{Site}
+use Rattle.clr_clearance.specs.declared.verdicts.Verdict.{Verdict}
+use Rattle.clr_clearance.specs.declared.verdicts.Verdict.TheVariants as verdict
+use Rattle.clr_clearance.specs.Plans.{names_at}
+use Rattle.clr_clearance.specs.Sites.{change_sets, setting_by_position}
+use Rattle.clr_clearance.specs.Verdicts.{member_fault, name_fault}
+use Rattle.clr_check.specs.SiteNames.{site}
+use Rattle.clr_clashes.specs.ListedClashes.{AreSmallestClashes, ListedClash}
+use Rattle.clr_site_clashes.specs.Conflicts.{conflict_clashes, free_positions}
+use Rattle.clr_site_clashes.specs.SharedCells.{apart_positions, shared_clashes}
+use Rattle.clr_site_clashes.specs.SiteSets.{SiteClash, clash_of, site_clash}
+use Rattle.clr_site_clashes.specs.declared.site_sets.SiteClashes.{SiteClashes as Found}
+
+-- the members that are looked at together, by position
+abbrev pub looked_at : Office → Site → List ℕ
+looked_at o s = apart_positions (change_sets o s) (free_positions o s.members)
+
+abbrev pub looked_site : Office → Site → Site
+looked_site o s = site s.root (names_at s (looked_at o s))
+
+-- a set of these that breaks a need, by positions among all
+abbrev pub need_clash : List ℕ → ListedClash → SiteClash
+need_clash looked k = site_clash (filter_map (slice_get looked) k.members) (verdict.Uncovered k.need)
+
+-- the sets of some members that break a need, by positions among all: no test of these members fails, and no cell is changed by two
+pub record AreListed (o : Office) (s : Site) (looked : List ℕ) (listed : List ListedClash) (sets : List SiteClash) : Type 0 where
+  pub free : member_fault o s ≡ None
+  pub apart : AreApart (change_sets o s)
+  pub smallest : AreSmallestClashes (setting_by_position o s) listed
+  pub numbered : sets ≡ map (need_clash looked) listed
+
+abbrev pub AreNeedClashes : Office → Site → List ℕ → List SiteClash → Type 0
+AreNeedClashes o s looked sets = (listed : List ListedClash) × AreListed o s looked listed sets
+
+-- all: of members in conflict, of two that change a cell, and of those looked at that break a need
+pub record AreSiteClashes (o : Office) (s : Site) (broken : List SiteClash) (found : Found) : Type 0 where
+  pub named : name_fault o s ≡ None
+  pub looked : found.looked.items ≡ looked_at o s
+  pub needs : AreNeedClashes o (looked_site o s) (looked_at o s) broken
+  pub clashes : map clash_of found.clashes.items
+      ≡ conflict_clashes o s.members ++ shared_clashes (change_sets o s) (free_positions o s.members) ++ broken
+
+abbrev pub IsFound : Office → Site → Found → Type 0
+IsFound o s found = (broken : List SiteClash) × AreSiteClashes o s broken found
+
+-- the first test of names that fails, or no memory was found
+abbrev pub IsFaultOfNames : Office → Site → Verdict → Type 0
+IsFaultOfNames o s v = (name_fault o s ≡ Some v) ⊎ (v ≡ verdict.OutOfMemory)
+
+-- they are these, or such a fault
+abbrev pub AreFound : Office → Site → Result Found Verdict → Type 0
+AreFound o s (Ok found) = IsFound o s found
+AreFound o s (Err v) = IsFaultOfNames o s v

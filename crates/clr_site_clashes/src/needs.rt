@@ -1,0 +1,59 @@
+//! Members that break needs which nothing covers.
+ghost use Rattle.std.specs.Prelude.{◌≡◌, map, IfOk};
+ghost use Rattle.clr_check.specs.SiteNames.{site};
+ghost use Rattle.clr_clashes.specs.ListedClashes.{clash_of as listed_of};
+ghost use Rattle.clr_site_clashes.specs.SiteClashes.{AreNeedClashes, need_clash};
+ghost use Rattle.clr_site_clashes.specs.SiteSets.{clash_of};
+
+use crate::places::numbers_at;
+use crate::site_sets::SiteClash;
+use clr_check::read_site;
+use clr_clashes::{Clash, clashes};
+use clr_clearance::Verdict;
+use clr_engine::Office;
+use std::alloc::{AllocError, Global};
+
+/// A set of those looked at, by positions among all. It fails for want of memory alone.
+fn need_clash(alloc: Global, looked: &[usize], clash: &Clash) -> Result<SiteClash, AllocError>
+    ensures { IfOk result (λ set. clash_of set ≡ need_clash looked.now (listed_of clash.now)) }
+{
+    let members = numbers_at(alloc, looked, clash.members.as_slice())?;
+    let cause = Verdict::Uncovered(clash.need);
+    Ok(SiteClash { members, cause })
+}
+
+/// Sets of those looked at, by positions among all. It fails for want of memory alone.
+fn clashes_among(
+    alloc: Global,
+    looked: &[usize],
+    listed: &[Clash],
+) -> Result<Vec<SiteClash>, AllocError>
+    ensures { IfOk result (λ list. map clash_of list.items ≡ map (need_clash looked.now) (map listed_of listed.now)) }
+{
+    let mut list = Vec::with_capacity(alloc, listed.len())?;
+    for clash in listed {
+        list.push(need_clash(alloc, looked, clash)?)?;
+    }
+    Ok(list)
+}
+
+/// The smallest sets of members that break a need which nothing covers, where no test of these members fails and
+/// no cell is changed by two. It fails for want of memory alone.
+pub(crate) fn need_clashes(
+    alloc: Global,
+    office: &Office,
+    root: &str,
+    names: &[&str],
+    looked: &[usize],
+) -> Result<Vec<SiteClash>, AllocError>
+    ensures { IfOk result (λ list. AreNeedClashes office.now (site root.now (map (λ name. name.now) names.now)) looked.now (map clash_of list.items)) }
+{
+    let Ok(parts) = read_site(alloc, office, root, &names) else {
+        return Err(AllocError);
+    };
+    let Ok(scene) = parts.scene(alloc, office) else {
+        return Err(AllocError);
+    };
+    let listed = clashes(alloc, &scene)?;
+    clashes_among(alloc, looked, listed.as_slice())
+}

@@ -1,0 +1,62 @@
+//! What stands at some positions of lists.
+ghost use Rattle.std.specs.Prelude.{◌≡◌, ◌++◌, map, option_to_list, slice_get, IfOk, OnOk};
+ghost use Rattle.std.specs.List.{filter_map};
+
+use std::alloc::{AllocError, Global};
+
+/// Adds the name at a position, if there is one.
+fn add_name<'a>(
+    names: &[&'a str],
+    position: usize,
+    list: &mut Vec<&'a str>,
+) -> Result<(), AllocError>
+    ensures { OnOk result (map (λ name. name.now) list.new.items
+        ≡ map (λ name. name.now) list.old.items ++ option_to_list (slice_get (map (λ name. name.now) names.now) position)) }
+{
+    let Some(name) = names.get(position) else {
+        return Ok(());
+    };
+    list.push(*name)?;
+    Ok(())
+}
+
+/// Returns the names at some positions; one past the end has none. It fails for want of memory alone.
+pub fn names_at<'a>(
+    alloc: Global,
+    names: &[&'a str],
+    positions: &[usize],
+) -> Result<Vec<&'a str>, AllocError>
+    ensures { IfOk result (λ list. map (λ name. name.now) list.items ≡ filter_map (slice_get (map (λ name. name.now) names.now)) positions.now) }
+{
+    let mut list = Vec::with_capacity(alloc, positions.len())?;
+    for position in positions {
+        add_name(names, *position, &mut list)?;
+    }
+    Ok(list)
+}
+
+/// Adds the number at a position, if there is one.
+fn add_number(numbers: &[usize], position: u16, list: &mut Vec<usize>) -> Result<(), AllocError>
+    ensures { OnOk result (list.new.items ≡ list.old.items ++ option_to_list (slice_get numbers.now position)) }
+{
+    let Some(number) = numbers.get(position as usize) else {
+        return Ok(());
+    };
+    list.push(*number)?;
+    Ok(())
+}
+
+/// The numbers at some positions; one past the end has none. It fails for want of memory alone.
+pub(crate) fn numbers_at(
+    alloc: Global,
+    numbers: &[usize],
+    positions: &[u16],
+) -> Result<Vec<usize>, AllocError>
+    ensures { IfOk result (λ list. list.items ≡ filter_map (slice_get numbers.now) positions.now) }
+{
+    let mut list = Vec::with_capacity(alloc, positions.len())?;
+    for position in positions {
+        add_number(numbers, *position, &mut list)?;
+    }
+    Ok(list)
+}
