@@ -1,0 +1,4 @@
+pub mod Lists
+pub mod Savepoints
+pub mod TrialLemmas
+pub mod VersionLemmas

@@ -1,0 +1,4 @@
+pub mod Making
+pub mod Trials
+pub mod Versions
+pub mod WorkOrders

@@ -1,0 +1,40 @@
+-- What a work order is: sentences, the trials that were made, and the lines of the plan.
+use Rattle.std.specs.Prelude.{◌≡◌, ◌++◌, ◌==◌, ℕ, Bool, true, false, List, [], All, codes, length, if◌then◌else◌}
+use Rattle.std.specs.List.{flat_map}
+use Rattle.clr_steps.specs.Offices.{Office}
+use Rattle.clr_steps.specs.Quiet.{Site}
+use Rattle.clr_plan.specs.declared.plans.Plan.{Plan}
+use Rattle.clr_plan.specs.Promises.{is_cleared, is_out_of_memory}
+use Rattle.clr_plan_lines.specs.Plans.{plan_text}
+use Rattle.clr_words.specs.declared.trials.Trial.{Trial}
+use Rattle.clr_words.specs.declared.work_orders.WorkOrder.{WorkOrder}
+use Rattle.clr_words.specs.Trials.{IsAnswered, IsTrial}
+
+-- what the planner says of a trial, as a line ends with it
+abbrev pub answer_text : Bool → List ℕ
+answer_text true = codes ": cleared\n"
+answer_text false = codes ": not cleared\n"
+
+abbrev pub line_text : Trial → List ℕ
+line_text trial = codes "  - " ++ trial.words ++ answer_text trial.is_cleared
+
+-- the line of a trial that has this answer, and nothing of another
+abbrev pub trial_text : Bool → Trial → List ℕ
+trial_text true trial = if trial.is_cleared then line_text trial else []
+trial_text false trial = if trial.is_cleared then [] else line_text trial
+
+-- the lines of trials, those first that are cleared; nothing where nothing was tried
+abbrev pub trials_text : List Trial → List ℕ
+trials_text trials =
+    if length trials == 0 then [] else codes "\nTried, each by itself:\n" ++ flat_map (trial_text true) trials ++ flat_map (trial_text false) trials
+
+-- sentences, then the trials, and then the lines of the plan, whose answer is that of the work order
+pub record IsWorkOrder (o : Office) (s : Site) (order : WorkOrder) : Type 0 where
+  pub plan : Plan
+  pub planned : IsAnswered o s plan
+  pub sentences : List ℕ
+  pub trials : List Trial
+  pub tried : All (IsTrial o s) trials
+  pub text : order.text.items ≡ sentences ++ trials_text trials ++ codes "\n" ++ plan_text o.schema s.members s.root plan
+  pub cleared : order.is_cleared ≡ is_cleared plan
+  pub lost : order.is_lost ≡ is_out_of_memory plan

@@ -1,0 +1,321 @@
+//! What may clear a set of members that is blocked, to be tried.
+
+use crate::causes::Setting;
+use crate::members::Members;
+use crate::servers::{ServerChange, server_changes};
+use crate::sites::{rule_of, server_side, site_of};
+use clr_change::{ChangeSet, Edit};
+use clr_clearance::Verdict;
+use clr_needs::{Need, VersionId};
+use clr_rows::{
+    CellId, Form, GREATEST_KEY, Kind, Place, Row, Shape, Sheet, TableDef, Value, Values, Words,
+};
+use clr_rules::{Filter, Side};
+use clr_wording::{At, Meeting};
+use std::alloc::{AllocError, Global};
+
+/// Something that may clear a set of members. Members are numbered by position.
+#[derive(Debug, Drop)]
+pub(crate) enum Action {
+    /// The others are merged without this member.
+    LeaveOut(usize),
+    /// This member makes this edit.
+    Make(usize, Edit),
+}
+
+/// An action, and how it is told.
+#[derive(Debug, Drop)]
+pub(crate) struct Remedy {
+    pub(crate) words: Words,
+    pub(crate) action: Action,
+}
+
+/// The edit that sets a cell back to the row that a member took over, where the member changes it.
+fn undoing_edit(
+    members: &Members<'_>,
+    member: usize,
+    cell: CellId,
+) -> Result<Option<Edit>, AllocError> {
+    let before = members.row_before(member, cell);
+    match (before, members.row_after(member, cell)) {
+        (None, Some(_)) => Ok(Some(Edit::Delete(cell))),
+        (Some(row), None) => Ok(Some(Edit::Insert(cell, row.copy()?))),
+        (Some(row), Some(_)) => Ok(Some(Edit::Update(cell, row.copy()?))),
+        (None, None) => Ok(None),
+    }
+}
+
+/// The greater of a key and that of a cell of a table.
+fn greater_key(found: i64, cell: CellId, table: u16) -> i64 {
+    if cell.table == table && cell.key > found {
+        cell.key
+    } else {
+        found
+    }
+}
+
+/// The greatest key of a table in a content, or another one that is greater.
+fn greatest_standing(least: i64, rows: &Sheet, table: u16) -> i64 {
+    let mut greatest = least;
+    for (cell, _) in rows.iter() {
+        greatest = greater_key(greatest, *cell, table);
+    }
+    greatest
+}
+
+/// The greatest key of a table among the cells of a change set, or another one that is greater.
+fn greatest_changed(least: i64, set: &ChangeSet, table: u16) -> i64 {
+    let mut greatest = least;
+    for (cell, _) in set.iter() {
+        greatest = greater_key(greatest, *cell, table);
+    }
+    greatest
+}
+
+/// The value that a filter asks for in a column, or an empty one of its kind.
+fn value_of(
+    alloc: Global,
+    filter: &Filter,
+    column: usize,
+    kind: Kind,
+) -> Result<Value, AllocError> {
+    for (at, value) in filter.as_slice() {
+        if *at as usize == column {
+            return value.copy();
+        }
+    }
+    match kind {
+        Kind::Int => Ok(Value::Int(0)),
+        Kind::Words => Ok(Value::Words(Words::new(String::new(alloc)))),
+    }
+}
+
+/// A row of a side at a place: values that the side asks for, and else empty ones.
+fn serving_row(
+    alloc: Global,
+    table: &TableDef,
+    side: &Side,
+    place: Place,
+) -> Result<Row, AllocError> {
+    let mut values = Vec::new(alloc);
+    for (at, (_, kind)) in table.columns.as_slice().iter().enumerate() {
+        values.push(value_of(alloc, &side.filter, at, *kind)?)?;
+    }
+    Ok(Row {
+        values: Values::new(values),
+        shape: Shape::At(place),
+    })
+}
+
+/// Adds that a member leaves a cell as it took it over, if it changes it.
+fn add_undoing(
+    list: &mut Vec<Action>,
+    members: &Members<'_>,
+    member: usize,
+    cell: CellId,
+) -> Result<(), AllocError> {
+    if let Some(edit) = undoing_edit(members, member, cell)? {
+        list.push(Action::Make(member, edit))?;
+    }
+    Ok(())
+}
+
+/// Adds that the member which brings a version doesn't bring it.
+fn add_giving_up(
+    list: &mut Vec<Action>,
+    members: &Members<'_>,
+    version: VersionId,
+) -> Result<(), AllocError> {
+    match members.changer_of(version.cell) {
+        Some(member) if version.fresh => add_undoing(list, members, member, version.cell),
+        _ => Ok(()),
+    }
+}
+
+/// Adds that members leave the rows that serve a need where they stand.
+fn add_keeping(
+    list: &mut Vec<Action>,
+    members: &Members<'_>,
+    changes: &[ServerChange],
+) -> Result<(), AllocError> {
+    for change in changes {
+        if change.leaves {
+            add_undoing(list, members, change.member, change.cell)?;
+        }
+    }
+    Ok(())
+}
+
+impl Setting<'_> {
+    /// A key of a table that is free in the root and in all members, or none where the greatest is taken.
+    fn free_key(&self, table: u16) -> Result<Option<i64>, AllocError> {
+        let mut greatest = match self.office.rows(self.members.root)? {
+            Some(rows) => greatest_standing(0, &rows, table),
+            None => 0,
+        };
+        for set in self.members.changes.as_slice() {
+            greatest = greatest_changed(greatest, set, table);
+        }
+        if greatest < GREATEST_KEY {
+            Ok(Some(greatest + 1))
+        } else {
+            Ok(None)
+        }
+    }
+
+    /// Adds that each of these members brings a row of a side at a place, where the table has points.
+    fn add_serving(
+        &self,
+        list: &mut Vec<Action>,
+        side: &Side,
+        place: Place,
+        members: &[usize],
+    ) -> Result<(), AllocError> {
+        let Some(table) = self.office.schema().def(side.table) else {
+            return Ok(());
+        };
+        let Some(key) = self.free_key(side.table)? else {
+            return Ok(());
+        };
+        if table.shape != Form::Point {
+            return Ok(());
+        }
+        let cell = CellId {
+            table: side.table,
+            key,
+        };
+        for member in members {
+            let row = serving_row(self.alloc, table, side, place)?;
+            list.push(Action::Make(*member, Edit::Insert(cell, row)))?;
+        }
+        Ok(())
+    }
+
+    /// Adds that a row is brought that serves a need, where the need asks for one at a place.
+    fn add_servers_for(
+        &self,
+        list: &mut Vec<Action>,
+        need: &Need,
+        order: &[usize],
+    ) -> Result<(), AllocError> {
+        let side = match rule_of(self.office, need) {
+            Some(rule) => server_side(rule),
+            None => None,
+        };
+        match (side, site_of(self.office, self.members, need)) {
+            (Some(side), Meeting::Whole(place)) => self.add_serving(list, side, place, order),
+            _ => Ok(()),
+        }
+    }
+
+    /// Adds what may serve a need that nothing covers, or take it away.
+    fn add_for_need(
+        &self,
+        list: &mut Vec<Action>,
+        need: &Need,
+        order: &[usize],
+    ) -> Result<(), AllocError> {
+        self.add_servers_for(list, need, order)?;
+        let changes = server_changes(self.alloc, self.office, self.members, need)?;
+        add_keeping(list, self.members, changes.as_slice())?;
+        add_giving_up(list, self.members, need.first)?;
+        match need.second {
+            Some(version) => add_giving_up(list, self.members, version),
+            None => Ok(()),
+        }
+    }
+
+    /// Adds what may take a cause away.
+    fn add_for_cause(
+        &self,
+        list: &mut Vec<Action>,
+        order: &[usize],
+        cause: &Verdict,
+    ) -> Result<(), AllocError> {
+        match cause {
+            Verdict::Conflict { member, cell, .. } => {
+                add_undoing(list, self.members, *member, *cell)
+            }
+            Verdict::SharedCell {
+                cell,
+                first,
+                second,
+            } => {
+                add_undoing(list, self.members, *first, *cell)?;
+                add_undoing(list, self.members, *second, *cell)
+            }
+            Verdict::Uncovered(need) => self.add_for_need(list, need, order),
+            _ => Ok(()),
+        }
+    }
+
+    /// Returns what may clear a set of members that is blocked in this order for this cause. That one is
+    /// left out stands last, and isn't tried where there is but one.
+    fn actions_for(&self, order: &[usize], cause: &Verdict) -> Result<Vec<Action>, AllocError> {
+        let mut list = Vec::new(self.alloc);
+        self.add_for_cause(&mut list, order, cause)?;
+        if self.members.names.len() > 1 {
+            for member in order {
+                list.push(Action::LeaveOut(*member))?;
+            }
+        }
+        Ok(list)
+    }
+
+    /// Returns a row that is brought in words, as `with valve 11 at (30.000, 4.000) in Extension`.
+    fn bringing_words(&self, name: &str, cell: CellId, row: &Row) -> Result<String, AllocError> {
+        let label = self.cell_label(cell)?;
+        let label = label.as_str();
+        match &row.shape {
+            Shape::At(place) => {
+                let place = At(*place);
+                format!(in self.alloc; "with {label} at {place} in {name}")
+            }
+            _ => format!(in self.alloc; "with {label} in {name}"),
+        }
+    }
+
+    /// Returns an edit of a member in words.
+    fn edit_words(&self, name: &str, edit: &Edit) -> Result<String, AllocError> {
+        match edit {
+            Edit::Insert(cell, row) => self.bringing_words(name, *cell, row),
+            Edit::Update(cell, _) => {
+                let label = self.cell_label(*cell)?;
+                let label = label.as_str();
+                format!(in self.alloc; "with {label} in {name} as it was taken over")
+            }
+            Edit::Delete(cell) => {
+                let label = self.cell_label(*cell)?;
+                let label = label.as_str();
+                format!(in self.alloc; "without {label} in {name}")
+            }
+        }
+    }
+
+    /// Returns an action in words.
+    fn action_words(&self, action: &Action) -> Result<Words, AllocError> {
+        let text = match action {
+            Action::LeaveOut(member) => {
+                let name = self.members.name(*member);
+                format!(in self.alloc; "without {name}")?
+            }
+            Action::Make(member, edit) => self.edit_words(self.members.name(*member), edit)?,
+        };
+        Ok(Words::new(text))
+    }
+
+    /// Returns what may clear a set of members that is blocked in this order for this cause, to be tried
+    /// one by one. Fails for want of memory alone.
+    pub(crate) fn remedies_for(
+        &self,
+        order: &[usize],
+        cause: &Verdict,
+    ) -> Result<Vec<Remedy>, AllocError> {
+        let mut told = Vec::new(self.alloc);
+        for action in self.actions_for(order, cause)? {
+            let words = self.action_words(&action)?;
+            told.push(Remedy { words, action })?;
+        }
+        Ok(told)
+    }
+}

@@ -1,0 +1,244 @@
+//! Remedies that are tried, each by itself, on the opened office.
+
+ghost use Rattle.std.specs.Prelude.{◌≡◌, ◌<◌, ◌∷◌, [], All, length, map, remove, IfOk, IfSome, OnOk};
+ghost use Rattle.clr_steps.specs.declared.commands.Command.TheVariants as command;
+ghost use Rattle.clr_steps.specs.Offices.{Office as Whole};
+ghost use Rattle.clr_check.specs.SiteNames.{site};
+ghost use Rattle.clr_words.specs.declared.trials.TheConstants.{BEFORE_TRIAL as SAVEPOINT};
+ghost use Rattle.clr_words.specs.Making.{AddsTrial, IsBack, IsDone, IsEditJudged};
+ghost use Rattle.clr_words.specs.Trials.{IsEdited, IsJudged, IsTold, IsTrial};
+
+use crate::remedies::{Action, Remedy};
+use clr_change::{Edit, Edits};
+use clr_engine::Office;
+use clr_plan::{Plan, plan};
+use clr_rows::Words;
+use clr_steps::{Command, Reply};
+use std::alloc::{AllocError, Global};
+
+/// The savepoint to which a trial goes back. Where a workspace has one of this name, no edit is tried in it.
+pub(crate) const BEFORE_TRIAL: &str = "before_trial";
+
+/// A remedy that was tried, in words, and whether the members are cleared with it.
+#[derive(Debug, Drop)]
+pub(crate) struct Trial {
+    pub(crate) words: Words,
+    pub(crate) is_cleared: bool,
+}
+
+/// Whether members are cleared, as `plan` answers. Fails for want of memory alone, also where the plan
+/// found none.
+fn are_cleared(
+    alloc: Global,
+    office: &Office,
+    root: &str,
+    names: &[&str],
+) -> Result<bool, AllocError>
+    ensures { IfOk result (IsJudged office.now (site root.now (map (λ name. name.now) names.now))) }
+{
+    match plan(alloc, office, root, names) {
+        Plan::Cleared(_) => Ok(true),
+        Plan::Blocked { .. } => Ok(false),
+        Plan::Unfit(_) => Ok(false),
+        Plan::OutOfMemory => Err(AllocError),
+    }
+}
+
+/// A text of these words. Fails for want of memory alone.
+fn words_of(alloc: Global, text: &str) -> Result<Words, AllocError>
+    ensures { IfOk result (λ words. words ≡ text.now) }
+{
+    Ok(Words::new(String::from_str(alloc, text)?))
+}
+
+/// Performs a command, and answers whether it was done; where it wasn't, nothing changes. Fails for want
+/// of memory alone.
+fn is_done(office: &mut Office, command: &Command) -> Result<bool, AllocError>
+    ensures { IfOk result (λ done. IsDone office.old command.now done office.new) }
+{
+    match office.perform(command) {
+        Reply::Done => Ok(true),
+        Reply::OutOfMemory => Err(AllocError),
+        _ => Ok(false),
+    }
+}
+
+/// Sets a savepoint in a workspace, or answers that none can be set.
+fn set_savepoint(alloc: Global, office: &mut Office, ws: &str) -> Result<bool, AllocError>
+    ensures { IfOk result (λ done. IsDone office.old (command.Mark ws.now SAVEPOINT.now) done office.new) }
+{
+    let command = Command::Mark {
+        ws: words_of(alloc, ws)?,
+        name: words_of(alloc, BEFORE_TRIAL)?,
+    };
+    is_done(office, &command)
+}
+
+/// Makes an edit in a workspace, or answers that it can't be made.
+fn make_edit(alloc: Global, office: &mut Office, ws: &str, edit: Edit) -> Result<bool, AllocError>
+    ensures { IfOk result (λ done. IsDone office.old (command.Apply ws.now (edit ∷ [])) done office.new) }
+{
+    let mut edits = Vec::new(alloc);
+    edits.push(edit)?;
+    let command = Command::Apply {
+        ws: words_of(alloc, ws)?,
+        edits: Edits::new(edits),
+    };
+    is_done(office, &command)
+}
+
+/// Sets a workspace back to the savepoint.
+fn roll_back(alloc: Global, office: &mut Office, ws: &str) -> Result<bool, AllocError>
+    ensures { IfOk result (λ done. IsDone office.old (command.RollTo ws.now SAVEPOINT.now) done office.new) }
+{
+    let command = Command::RollTo {
+        ws: words_of(alloc, ws)?,
+        name: words_of(alloc, BEFORE_TRIAL)?,
+    };
+    is_done(office, &command)
+}
+
+/// Takes the savepoint away.
+fn drop_savepoint(alloc: Global, office: &mut Office, ws: &str) -> Result<bool, AllocError>
+    ensures { IfOk result (λ done. IsDone office.old (command.Unmark ws.now SAVEPOINT.now) done office.new) }
+{
+    let command = Command::Unmark {
+        ws: words_of(alloc, ws)?,
+        name: words_of(alloc, BEFORE_TRIAL)?,
+    };
+    is_done(office, &command)
+}
+
+/// Sets a workspace back to the savepoint, which goes. Fails where one of these isn't done, which is for
+/// want of memory: the savepoint stands, and no child was made after it.
+fn go_back(alloc: Global, office: &mut Office, ws: &str) -> Result<(), AllocError>
+    ensures { OnOk result (IsBack office.old ws.now SAVEPOINT.now office.new) }
+{
+    if !roll_back(alloc, office, ws)? {
+        return Err(AllocError);
+    }
+    if !drop_savepoint(alloc, office, ws)? {
+        return Err(AllocError);
+    }
+    Ok(())
+}
+
+/// Makes an edit, and answers whether the members are cleared then; or none where it can't be made.
+fn judge_edit(
+    alloc: Global,
+    office: &mut Office,
+    root: &str,
+    names: &[&str],
+    ws: &str,
+    edit: Edit,
+) -> Result<Option<bool>, AllocError>
+    ensures { IfOk result (λ told. IsEditJudged office.old ws.now edit (site root.now (map (λ name. name.now) names.now)) told office.new) }
+{
+    if !make_edit(alloc, office, ws, edit)? {
+        return Ok(None);
+    }
+    let is_cleared = are_cleared(alloc, office, root, names)?;
+    Ok(Some(is_cleared))
+}
+
+/// Tries an edit of one of the members behind a savepoint: whether the members are cleared with it, or none
+/// where it can't be made. The office is as before, but where it fails, which is for want of memory.
+fn try_edit(
+    alloc: Global,
+    office: &mut Office,
+    root: &str,
+    names: &[&str],
+    ws: &str,
+    edit: Edit,
+) -> Result<Option<bool>, AllocError>
+    ensures told { IfOk result (λ told. IfSome told (λ cleared. (next : Whole)
+        × IsEdited office.old ws.now edit next × IsJudged next (site root.now (map (λ name. name.now) names.now)) cleared)) }
+    ensures back { IfOk result (λ told. office.new ≡ office.old) }
+{
+    let _sound = office.len();
+    if !set_savepoint(alloc, office, ws)? {
+        return Ok(None);
+    }
+    let told = judge_edit(alloc, office, root, names, ws, edit)?;
+    go_back(alloc, office, ws)?;
+    Ok(told)
+}
+
+/// The names but the one at a position.
+fn names_without<'a>(
+    alloc: Global,
+    names: &[&'a str],
+    left_out: usize,
+) -> Result<Vec<&'a str>, AllocError>
+    requires { left_out < length names.now }
+    ensures { IfOk result (λ rest. map (λ name. name.now) rest.items ≡ remove (map (λ name. name.now) names.now) left_out) }
+{
+    let mut rest = Vec::from_slice(alloc, names)?;
+    rest.remove(left_out);
+    Ok(rest)
+}
+
+/// Tries an action: whether the members are cleared with it, or none where it can't be tried. The office is
+/// as before, but where it fails, which is for want of memory.
+fn try_action(
+    alloc: Global,
+    office: &mut Office,
+    root: &str,
+    names: &[&str],
+    action: Action,
+) -> Result<Option<bool>, AllocError>
+    ensures told { IfOk result (λ told. IfSome told (IsTold office.old (site root.now (map (λ name. name.now) names.now)) action)) }
+    ensures back { IfOk result (λ told. office.new ≡ office.old) }
+{
+    match action {
+        Action::LeaveOut(member) if member < names.len() => {
+            let rest = names_without(alloc, names, member)?;
+            let is_cleared = are_cleared(alloc, office, root, rest.as_slice())?;
+            Ok(Some(is_cleared))
+        }
+        Action::LeaveOut(_) => Ok(None),
+        Action::Make(member, edit) => match names.get(member) {
+            Some(ws) => try_edit(alloc, office, root, names, ws, edit),
+            None => Ok(None),
+        },
+    }
+}
+
+/// Tries a remedy, and adds what is told of it, if it can be tried. The office is as before, but where it
+/// fails, which is for want of memory.
+fn add_trial(
+    alloc: Global,
+    office: &mut Office,
+    root: &str,
+    names: &[&str],
+    remedy: Remedy,
+    trials: &mut Vec<Trial>,
+) -> Result<(), AllocError>
+    ensures added { OnOk result (AddsTrial office.old (site root.now (map (λ name. name.now) names.now)) trials.old.items trials.new.items) }
+    ensures back { OnOk result (office.new ≡ office.old) }
+{
+    let Remedy { words, action } = remedy;
+    match try_action(alloc, office, root, names, action)? {
+        Some(is_cleared) => Ok(trials.push(Trial { words, is_cleared })?),
+        None => Ok(()),
+    }
+}
+
+/// Tries remedies, one after another. The office is as before, but where it fails, which is for want of
+/// memory.
+pub(crate) fn try_all(
+    alloc: Global,
+    office: &mut Office,
+    root: &str,
+    names: &[&str],
+    remedies: Vec<Remedy>,
+) -> Result<Vec<Trial>, AllocError>
+    ensures tried { IfOk result (λ trials. All (IsTrial office.old (site root.now (map (λ name. name.now) names.now))) trials.items) }
+    ensures back { IfOk result (λ trials. office.new ≡ office.old) }
+{
+    let mut trials = Vec::new(alloc);
+    for remedy in remedies {
+        add_trial(alloc, office, root, names, remedy, &mut trials)?;
+    }
+    Ok(trials)
+}
