@@ -11,10 +11,13 @@ use Rattle.clr_desk_command_line.specs.declared.asks.Ask.{Ask}
 use Rattle.clr_desk_command_line.specs.declared.asks.Ask.TheVariants as ask
 use Rattle.clr_desk.specs.Certificates.{IsCertificatePrint}
 use Rattle.clr_desk.specs.Choices.{IsChoicePrint}
+use Rattle.clr_desk.specs.Clashes.{IsClashesPrint}
 use Rattle.clr_desk.specs.Formats.{IsFormatPrint}
 use Rattle.clr_desk.specs.Merges.{IsHintedMerge}
 use Rattle.clr_desk.specs.NameHints.{IsHinted}
+use Rattle.clr_desk.specs.Orders.{IsOrderPrint}
 use Rattle.clr_desk.specs.Printing.{IsPrintIn, IsPrintOfCase, IsTextFault, Printed, Printout}
+use Rattle.clr_desk.specs.Whys.{IsWhyPrint}
 
 -- what is to be printed for what is asked of an office text and a second text
 abbrev pub IsAnswerWithin : Ask → List ℕ → List ℕ → Printed → Type 0
@@ -22,9 +25,9 @@ IsAnswerWithin (ask.Certificate root names) office second print = IsPrintIn (IsH
 IsAnswerWithin (ask.Merge names) office certificate print = IsPrintOfCase (IsHintedMerge names) (case_of office certificate) print
 IsAnswerWithin ask.Format office second print = IsPrintIn IsFormatPrint (draft_in office) print
 IsAnswerWithin (ask.Keep root names) office second print = IsPrintIn (IsHinted (IsChoicePrint root names) (root ∷ names)) (draft_in office) print
-IsAnswerWithin (ask.Clashes root names) office second print = print ≡ Err run_fault.OutOfMemory
-IsAnswerWithin (ask.Why kind) office second print = print ≡ Err run_fault.OutOfMemory
-IsAnswerWithin (ask.WorkOrder root names) office second print = print ≡ Err run_fault.OutOfMemory
+IsAnswerWithin (ask.Clashes root names) office second print = IsPrintIn (IsHinted (IsClashesPrint root names) (root ∷ names)) (draft_in office) print
+IsAnswerWithin (ask.Why kind) office second print = IsWhyPrint kind office second print
+IsAnswerWithin (ask.WorkOrder root names) office second print = IsPrintIn (IsHinted (IsOrderPrint (site root names)) (root ∷ names)) (draft_in office) print
 
 -- the same where `too_long` says whether a text is
 abbrev pub IsAnswerIf : Bool → Ask → List ℕ → List ℕ → Printed → Type 0

@@ -1,8 +1,12 @@
 pub mod Answers
 pub mod Certificates
 pub mod Choices
+pub mod Clashes
+pub mod FaultPlaces
 pub mod Formats
 pub mod Merges
 pub mod NameHints
+pub mod Orders
 pub mod Printing
 pub mod Trials
+pub mod Whys

@@ -6,9 +6,12 @@ ghost use Rattle.clr_desk.specs.Printing.{IsMade};
 
 use crate::certificates::answer_certificate;
 use crate::choices::answer_keep;
+use crate::clashes::answer_clashes;
 use crate::formats::answer_format;
 use crate::merges::answer_merge;
+use crate::orders::answer_work_order;
 use crate::prints::Print;
+use crate::whys::answer_why;
 use clr_desk_command_line::Ask;
 use clr_office::{MOST_INPUT_BYTES, RunFault, Sink};
 use std::alloc::Global;
@@ -24,20 +27,25 @@ fn answer_texts(alloc: Global, ask: &Ask, office: &[u8], second: &[u8]) -> Resul
         Ask::Merge(names) => answer_merge(alloc, office, second, names.as_slice()),
         Ask::Format => answer_format(alloc, office),
         Ask::Keep(root, names) => answer_keep(alloc, office, root.as_str(), names.as_slice()),
-        Ask::Clashes(_, _) | Ask::Why(_) | Ask::WorkOrder(_, _) => Err(RunFault::OutOfMemory),
+        Ask::Clashes(root, names) => answer_clashes(alloc, office, root.as_str(), names.as_slice()),
+        Ask::Why(kind) => answer_why(alloc, kind, office, second),
+        Ask::WorkOrder(root, names) => {
+            answer_work_order(alloc, office, root.as_str(), names.as_slice())
+        }
     }
 }
 
 /// Writes what is to be printed for what is asked of an office text and of a second text, which is the
-/// certificate where there is one: the notes by one put, and then the text by another. Returns the exit
-/// status: 0 all done or cleared; 1 something refused, members that can't be merged in every order, or
-/// a rule that doesn't hold; 3 a plan, a verdict or a merge found no memory, and then there is no text.
-/// Where a rule doesn't hold the line that says so is the only note, and there is no text. The first fault
-/// that applies answers, and nothing is written then, unless a sink failed. Fails with `TooLong` where a
-/// text has more than `MOST_INPUT_BYTES`, with `BadOffice` where the first text is no office, with
-/// `BadCertificate` where the second is no certificate, and with `WriteFailed` where a sink fails: where
-/// it is that of the notes, nothing went to that of the text; how much else went out is not known. Want
-/// of memory is `OutOfMemory`, which may come in place of any other answer.
+/// script or the certificate where there is one: the notes by one put, and then the text by another.
+/// Returns the exit status: 0 all done or cleared, or no fault; 1 something refused, members that can't be
+/// merged in every order, or a rule that doesn't hold; 2 a fault, where `why` asks for it; 3 a plan, a
+/// verdict or a merge found no memory, and then there is no text. Where a rule doesn't hold the line that
+/// says so is the only note, and there is no text, unless `why` asks for it. The first fault that applies
+/// answers, and nothing is written then, unless a sink failed. Fails with `TooLong` where a text has more
+/// than `MOST_INPUT_BYTES`, with `BadOffice` where the first text is no office, with `BadCertificate` where
+/// the second is no certificate, neither of them for `why`, and with `WriteFailed` where a sink fails:
+/// where it is that of the notes, nothing went to that of the text; how much else went out is not known.
+/// Want of memory is `OutOfMemory`, which may come in place of any other answer.
 pub fn answer<W: Sink, N: Sink>(
     alloc: Global,
     ask: &Ask,

@@ -7,7 +7,13 @@
 //!   run leaves as `perform_cleared` promises it, and the replies and the stop as notes; of `format` the
 //!   text of the same office, but for line ends, which is read as that office; of `keep` the certificate
 //!   of the members taken, each of which is cleared with those taken before it, and as notes who they
-//!   are and, of each other, the plan that isn't cleared (`IsChoicePrint`).
+//!   are and, of each other, the plan that isn't cleared (`IsChoicePrint`); of `clashes` the smallest sets
+//!   of members that can't be merged together, each with its cause, and the members in none
+//!   (`IsClashesPrint`); of `why` status 2 exactly where
+//!   the text has a fault, and then lines that begin with it and have the line, the column and the path of
+//!   the item that has it, and 1 exactly where an office can be read and a rule doesn't hold (`IsWhyPrint`);
+//!   of `words` a work order that ends with the lines of the plan, with the plan's status (`IsOrderPrint`).
+//! - `fault_place` [`place`]: the file, the line and the column of the fault of a text, or nothing.
 //! - [`silent`]: with status 3 nothing went to the sink of the text.
 //! - [`keeps`]: with any fault but WriteFailed nothing was written. After a failed write it isn't known
 //!   how much was; where the sink of the notes failed, nothing went to that of the text (`IsTorn`).
@@ -17,11 +23,18 @@ mod answers;
 mod certificates;
 mod children;
 mod choices;
+mod clash_lines;
+mod clash_members;
+mod clashes;
+mod fault_places;
 mod formats;
 mod merges;
 mod name_hints;
 mod names_lines;
+mod orders;
 mod prints;
+mod whys;
 
 pub use answers::answer;
 pub use clr_desk_command_line::{Ask, AskFault, ask_of};
+pub use fault_places::fault_place;

@@ -4,25 +4,38 @@
 //! It is safe; what it does with words, files, streams and statuses no contract says.
 #![tactic(auto)]
 
-use clr_desk::{Ask, AskFault, answer, ask_of};
-use clr_office::{Port, RunFault, Words};
+use clr_desk::{Ask, AskFault, answer, ask_of, fault_place};
+use clr_office::{Port, RunFault, Sink, Words};
 use clr_terminal::{BAD_WORDS, read_files, refuse, refuse_words, texts, words};
 use std::io::ErrorKind;
 use std::process::ExitCode;
+
+/// Prints a fault's line on standard error, and behind it where the fault is, if a text has it; and gives
+/// its exit status.
+fn refuse_texts(
+    rt: &HostRuntime,
+    fault: RunFault,
+    files: &[Words],
+    office: &[u8],
+    second: &[u8],
+) -> u8 {
+    let status = refuse(rt, fault);
+    if let Ok(place) = fault_place(rt.alloc(), fault, files, office, second) {
+        let _ = Port::new(rt.stderr()).put(place.as_slice());
+    }
+    status
+}
 
 /// Answers what the words ask of files, and gives the exit status.
 fn answer_files(rt: &HostRuntime, ask: &Ask, files: &[Words]) -> Result<u8, RunFault> {
     let (office, second) = read_files(rt, files)?;
     let mut writer = Port::new(rt.stdout());
     let mut notes = Port::new(rt.stderr());
-    answer(
-        rt.alloc(),
-        ask,
-        office.as_slice(),
-        second.as_slice(),
-        &mut writer,
-        &mut notes,
-    )
+    let (office, second) = (office.as_slice(), second.as_slice());
+    match answer(rt.alloc(), ask, office, second, &mut writer, &mut notes) {
+        Ok(status) => Ok(status),
+        Err(fault) => Ok(refuse_texts(rt, fault, files, office, second)),
+    }
 }
 
 /// Does what the words ask for, and gives the exit status.

@@ -1,0 +1,16 @@
+use Rattle.std.proofs.Common.{◌≡◌, ◌∙◌, IfOk, List, map, rules, subst}
+use Rattle.clr_workspaces.specs.Marks.{Name}
+use Rattle.clr_check.specs.SiteNames.{site}
+use Rattle.clr_desk.specs.Choices.{members_asked}
+use Rattle.clr_desk.specs.Clashes.{IsSitePrint}
+use Rattle.clr_desk.specs.Printing.{printed}
+use Rattle.clr_desk.proofs.clashes.print_of_names.Goals as goal
+
+pub returns : goal.returns
+returns c =
+    let o = c.args.office.now in
+    let root = c.args.root.now in
+    let names = c.args.names.now in
+    let asked : c.as_slice.result.now ≡ members_asked o root names = search rules in
+    let given : map (λ text. text.now) c.as_slice-2.result.now ≡ members_asked o root names = rw c.as_slice-2.ensures.value (c.in_ok-members.ensures ∙ asked) in
+    subst (λ (members : List Name). IfOk c.print_of_site.result (λ print. IsSitePrint (site root members) o (printed print))) given c.print_of_site.ensures

@@ -1,0 +1,84 @@
+//! The lines of sets of members that can't be merged together.
+ghost use Rattle.std.specs.Prelude.{◌≡◌, ◌++◌, [], map, IfOk, OnOk};
+ghost use Rattle.std.specs.List.{flat_map};
+ghost use Rattle.clr_check.specs.SiteNames.{site};
+ghost use Rattle.clr_desk.specs.Clashes.{clash_text, clashes_text, line_of_some};
+
+use crate::clash_members::{beside, in_no_set};
+use crate::names_lines::names_line;
+use clr_lines::count_line;
+use clr_rows::Schema;
+use clr_site_clashes::{SiteClash, SiteClashes, names_at};
+use clr_verdict_lines::verdict_line;
+use std::alloc::{AllocError, Global};
+
+/// Adds the lines of a set.
+fn add_clash(
+    lines: &mut Vec<u8>,
+    alloc: Global,
+    schema: &Schema,
+    root: &str,
+    members: &[&str],
+    clash: &SiteClash,
+) -> Result<(), AllocError>
+    ensures { OnOk result (lines.new.items ≡ lines.old.items ++ clash_text schema.now (site root.now (map (λ name. name.now) members.now)) clash.now) }
+{
+    let names = names_at(alloc, members, clash.members.as_slice())?;
+    let line = names_line(alloc, "clash", names.as_slice())?;
+    let cause = verdict_line(alloc, schema, names.as_slice(), root, &clash.cause)?;
+    lines.extend_from_slice(line.as_slice())?;
+    lines.extend_from_slice(b"cause ")?;
+    lines.extend_from_slice(cause.as_slice())
+}
+
+/// The lines of sets. It fails for want of memory alone.
+fn sets_lines(
+    alloc: Global,
+    schema: &Schema,
+    root: &str,
+    members: &[&str],
+    clashes: &[SiteClash],
+) -> Result<Vec<u8>, AllocError>
+    ensures { IfOk result (λ lines. lines.items
+        ≡ flat_map (clash_text schema.now (site root.now (map (λ name. name.now) members.now))) clashes.now) }
+{
+    let mut lines = Vec::new(alloc);
+    for clash in clashes {
+        add_clash(&mut lines, alloc, schema, root, members, clash)?;
+    }
+    Ok(lines)
+}
+
+/// A line of names, if there are any. It fails for want of memory alone.
+fn line_of_some(alloc: Global, word: &str, names: &[&str]) -> Result<Vec<u8>, AllocError>
+    ensures { IfOk result (λ line. line.items ≡ line_of_some word.now (map (λ name. name.now) names.now)) }
+{
+    if names.is_empty() {
+        return Ok(Vec::new(alloc));
+    }
+    names_line(alloc, word, names)
+}
+
+/// The lines of all sets. It fails for want of memory alone.
+pub(crate) fn clashes_lines(
+    alloc: Global,
+    schema: &Schema,
+    root: &str,
+    members: &[&str],
+    found: &SiteClashes,
+) -> Result<Vec<u8>, AllocError>
+    ensures { IfOk result (λ lines. lines.items ≡ clashes_text schema.now (site root.now (map (λ name. name.now) members.now))
+        found.now.clashes.items found.now.looked.items) }
+{
+    let clashes = found.clashes.as_slice();
+    let mut lines = count_line(alloc, "clashes", clashes.len())?;
+    let sets = sets_lines(alloc, schema, root, members, clashes)?;
+    let others = beside(alloc, members, found.looked.as_slice())?;
+    let beside = line_of_some(alloc, "beside", others.as_slice())?;
+    let free = in_no_set(alloc, members, clashes)?;
+    let free = names_line(alloc, "free", free.as_slice())?;
+    lines.extend_from_slice(sets.as_slice())?;
+    lines.extend_from_slice(beside.as_slice())?;
+    lines.extend_from_slice(free.as_slice())?;
+    Ok(lines)
+}

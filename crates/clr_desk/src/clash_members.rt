@@ -1,0 +1,101 @@
+//! The members that are in no set, and those that weren't looked at with the others.
+ghost use Rattle.std.specs.Prelude.{◌≡◌, ◌++◌, ◌∷◌, [], filter, map, IfOk, OnOk};
+ghost use Rattle.std.specs.List.{list_any, range_with_len};
+ghost use Rattle.clr_check.specs.SiteNames.{site};
+ghost use Rattle.clr_desk.specs.Clashes.{beside, in_no_set, is_among, is_beside, is_in_no_set};
+
+use clr_site_clashes::{SiteClash, names_at};
+use std::alloc::{AllocError, Global};
+
+/// Whether a position is among some.
+fn is_among(positions: &[usize], at: usize) -> bool
+    ensures { result ≡ is_among at positions.now }
+{
+    positions.contains(&at)
+}
+
+/// Whether a position is in one of some sets.
+fn is_in_a_set(clashes: &[SiteClash], at: usize) -> bool
+    ensures { result ≡ list_any (λ k. is_among at k.members.items) clashes.now }
+{
+    clashes
+        .iter()
+        .any(|clash| is_among(clash.members.as_slice(), at))
+}
+
+/// Whether a position is in none of some sets.
+fn is_in_no_set(clashes: &[SiteClash], at: usize) -> bool
+    ensures { result ≡ is_in_no_set clashes.now at }
+{
+    !is_in_a_set(clashes, at)
+}
+
+/// Adds a position that isn't among some.
+fn add_beside(looked: &[usize], at: usize, list: &mut Vec<usize>) -> Result<(), AllocError>
+    ensures { OnOk result (list.new.items ≡ list.old.items ++ filter (is_beside looked.now) (at ∷ [])) }
+{
+    if !is_among(looked, at) {
+        list.push(at)?;
+    }
+    Ok(())
+}
+
+/// Adds a position that is in none of some sets.
+fn add_free(clashes: &[SiteClash], at: usize, list: &mut Vec<usize>) -> Result<(), AllocError>
+    ensures { OnOk result (list.new.items ≡ list.old.items ++ filter (is_in_no_set clashes.now) (at ∷ [])) }
+{
+    if is_in_no_set(clashes, at) {
+        list.push(at)?;
+    }
+    Ok(())
+}
+
+/// The positions from 0 to below a count that aren't among some. It fails for want of memory alone.
+fn positions_beside(alloc: Global, count: usize, looked: &[usize]) -> Result<Vec<usize>, AllocError>
+    ensures { IfOk result (λ list. list.items ≡ filter (is_beside looked.now) (range_with_len 0 count)) }
+{
+    let mut list = Vec::new(alloc);
+    for at in 0..count {
+        add_beside(looked, at, &mut list)?;
+    }
+    Ok(list)
+}
+
+/// The positions from 0 to below a count that are in none of some sets. It fails for want of memory alone.
+fn free_positions(
+    alloc: Global,
+    count: usize,
+    clashes: &[SiteClash],
+) -> Result<Vec<usize>, AllocError>
+    ensures { IfOk result (λ list. list.items ≡ filter (is_in_no_set clashes.now) (range_with_len 0 count)) }
+{
+    let mut list = Vec::new(alloc);
+    for at in 0..count {
+        add_free(clashes, at, &mut list)?;
+    }
+    Ok(list)
+}
+
+/// The members that weren't looked at with the others. It fails for want of memory alone.
+pub(crate) fn beside<'a>(
+    alloc: Global,
+    members: &[&'a str],
+    looked: &[usize],
+) -> Result<Vec<&'a str>, AllocError>
+    ensures { IfOk result (λ list. map (λ name. name.now) list.items ≡ beside (site [] (map (λ name. name.now) members.now)) looked.now) }
+{
+    let positions = positions_beside(alloc, members.len(), looked)?;
+    names_at(alloc, members, positions.as_slice())
+}
+
+/// The members that are in no set. It fails for want of memory alone.
+pub(crate) fn in_no_set<'a>(
+    alloc: Global,
+    members: &[&'a str],
+    clashes: &[SiteClash],
+) -> Result<Vec<&'a str>, AllocError>
+    ensures { IfOk result (λ list. map (λ name. name.now) list.items ≡ in_no_set (site [] (map (λ name. name.now) members.now)) clashes.now) }
+{
+    let positions = free_positions(alloc, members.len(), clashes)?;
+    names_at(alloc, members, positions.as_slice())
+}

@@ -1,0 +1,99 @@
+//! The smallest sets of members that can't be merged together.
+ghost use Rattle.std.specs.Prelude.{◌≡◌, ◌∷◌, map, IfOk};
+ghost use Rattle.clr_check.specs.SiteNames.{site};
+ghost use Rattle.clr_drafts.specs.Drafts.{draft_in};
+ghost use Rattle.clr_site_clashes.specs.SiteClashes.{IsFaultOfNames};
+ghost use Rattle.clr_desk.specs.Clashes.{IsClashesPrint, IsSitePrint, found_print};
+ghost use Rattle.clr_desk.specs.NameHints.{IsHinted};
+ghost use Rattle.clr_desk.specs.Printing.{IsMade, IsPrintIn, printed};
+
+use crate::certificates::plan_print;
+use crate::children::members_asked;
+use crate::clash_lines::clashes_lines;
+use crate::name_hints::with_hints;
+use crate::prints::{Print, notes_of};
+use clr_clearance::Verdict;
+use clr_engine::Office;
+use clr_office::{Plan, RunFault, Words, open_office, texts};
+use clr_site_clashes::{SiteClashes, site_clashes};
+use std::alloc::{AllocError, Global};
+
+/// All sets, as a text. It fails for want of memory alone.
+fn found_print(
+    alloc: Global,
+    office: &Office,
+    root: &str,
+    members: &[&str],
+    found: &SiteClashes,
+) -> Result<Print, AllocError>
+    ensures { IfOk result (λ p. printed p ≡ found_print office.now (site root.now (map (λ name. name.now) members.now)) found.now) }
+{
+    let text = clashes_lines(alloc, office.schema(), root, members, found)?;
+    let is_any = found.clashes.as_slice().len() > 0;
+    Ok(Print::new(text, Vec::new(alloc), is_any, false))
+}
+
+/// The test of names that fails, as the line of a plan that is unfit. It fails for want of memory alone, also where
+/// no memory was found for the sets.
+fn fault_print(
+    alloc: Global,
+    office: &Office,
+    root: &str,
+    members: &[&str],
+    fault: Verdict,
+) -> Result<Print, AllocError>
+    requires { IsFaultOfNames office.now (site root.now (map (λ name. name.now) members.now)) fault }
+    ensures { IfOk result (λ p. IsSitePrint (site root.now (map (λ name. name.now) members.now)) office.now (printed p)) }
+{
+    match fault {
+        Verdict::OutOfMemory => Err(AllocError),
+        fault => plan_print(alloc, office, root, members, &Plan::Unfit(fault)),
+    }
+}
+
+/// The sets of members, as a text, or the test of names that fails. It fails for want of memory alone.
+fn print_of_site(
+    alloc: Global,
+    office: &Office,
+    root: &str,
+    members: &[&str],
+) -> Result<Print, AllocError>
+    ensures { IfOk result (λ p. IsSitePrint (site root.now (map (λ name. name.now) members.now)) office.now (printed p)) }
+{
+    match site_clashes(alloc, office, root, members) {
+        Ok(found) => found_print(alloc, office, root, members, &found),
+        Err(fault) => fault_print(alloc, office, root, members, fault),
+    }
+}
+
+/// The sets of the members that names ask for. It fails for want of memory alone.
+fn print_of_names(
+    alloc: Global,
+    office: &Office,
+    root: &str,
+    names: &[Words],
+) -> Result<Print, AllocError>
+    ensures { IfOk result (λ p. IsClashesPrint root.now names.now office.now (printed p)) }
+{
+    let asked = members_asked(alloc, office, root, names)?;
+    let members = texts(alloc, asked.as_slice())?;
+    print_of_site(alloc, office, root, members.as_slice())
+}
+
+/// The smallest sets of members over the office of a text that can't be merged together.
+pub fn answer_clashes(
+    alloc: Global,
+    office: &[u8],
+    root: &str,
+    names: &[Words],
+) -> Result<Print, RunFault>
+    ensures { IsMade (IsPrintIn (IsHinted (IsClashesPrint root.now names.now) (root.now ∷ names.now)) (draft_in office.now)) result }
+{
+    match open_office(alloc, office) {
+        Ok(office) => {
+            let print = print_of_names(alloc, &office, root, names)?;
+            Ok(with_hints(alloc, &office, root, names, print)?)
+        }
+        Err(answer) => notes_of(alloc, answer),
+    }
+}

@@ -1,0 +1,50 @@
+//! Whether a text can be used, and where its fault is.
+ghost use Rattle.std.specs.Prelude.{◌≡◌, IfOk};
+ghost use Rattle.clr_desk.specs.Printing.{IsMade, printed};
+ghost use Rattle.clr_desk.specs.Whys.{IsWhy, IsWhyPrint, why_print};
+
+use crate::prints::{Ending, Print};
+use clr_desk_command_line::TextKind;
+use clr_office::RunFault;
+use clr_why::{Why, why_certificate, why_office, why_script};
+use std::alloc::{AllocError, Global};
+
+/// What is printed of what is found in a text. It fails for want of memory alone.
+fn print_of_why(alloc: Global, why: Why) -> Result<Print, AllocError>
+    ensures { IfOk result (λ p. printed p ≡ why_print why) }
+{
+    let (text, ending) = match why {
+        Why::NoFault => (Vec::from_slice(alloc, b"no fault\n")?, Ending::Done),
+        Why::Unheld(lines) => (lines, Ending::Refused),
+        Why::Faulty(lines) => (lines, Ending::Unread),
+    };
+    Ok(Print {
+        text,
+        notes: Vec::new(alloc),
+        ending,
+    })
+}
+
+/// What is found in the text of a kind: the office text, or the second one over it. It fails for want of memory alone.
+fn why_of(alloc: Global, kind: &TextKind, office: &[u8], second: &[u8]) -> Result<Why, AllocError>
+    ensures { IfOk result (IsWhy kind.now office.now second.now) }
+{
+    match kind {
+        TextKind::Office => why_office(alloc, office),
+        TextKind::Script => why_script(alloc, office, second),
+        TextKind::Certificate => why_certificate(alloc, office, second),
+    }
+}
+
+/// Why the text of a kind can't be used, if it can't.
+pub fn answer_why(
+    alloc: Global,
+    kind: &TextKind,
+    office: &[u8],
+    second: &[u8],
+) -> Result<Print, RunFault>
+    ensures { IsMade (IsWhyPrint kind.now office.now second.now) result }
+{
+    let why = why_of(alloc, kind, office, second)?;
+    Ok(print_of_why(alloc, why)?)
+}
