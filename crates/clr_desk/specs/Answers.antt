@@ -1,5 +1,5 @@
 -- What is printed for what is asked of one or two texts, and what is left of the sinks.
-use Rattle.std.specs.Prelude.{◌≡◌, ◌∷◌, ◌||◌, ◌⊎◌, ℕ, Bool, true, false, List, Option, Result, Ok, Err}
+use Rattle.std.specs.Prelude.{◌≡◌, ◌∷◌, ◌||◌, ◌⊎◌, ℕ, Bool, true, false, List, [], Option, Result, Ok, Err}
 use Rattle.std.specs.Io.KnownBytes.{Appends}
 use Rattle.clr_check.specs.SiteNames.{site}
 use Rattle.clr_check_texts.specs.Cases.{case_of}
@@ -12,6 +12,7 @@ use Rattle.clr_desk_command_line.specs.declared.asks.Ask.TheVariants as ask
 use Rattle.clr_desk.specs.Certificates.{IsCertificatePrint}
 use Rattle.clr_desk.specs.Choices.{IsChoicePrint}
 use Rattle.clr_desk.specs.Formats.{IsFormatPrint}
+use Rattle.clr_desk.specs.Layers.{IsLayerPrint}
 use Rattle.clr_desk.specs.Merges.{IsHintedMerge}
 use Rattle.clr_desk.specs.NameHints.{IsHinted}
 use Rattle.clr_desk.specs.Printing.{IsPrintIn, IsPrintOfCase, IsTextFault, Printed, Printout}
@@ -25,6 +26,7 @@ IsAnswerWithin (ask.Keep root names) office second print = IsPrintIn (IsHinted (
 IsAnswerWithin (ask.Clashes root names) office second print = print ≡ Err run_fault.OutOfMemory
 IsAnswerWithin (ask.Why kind) office second print = print ≡ Err run_fault.OutOfMemory
 IsAnswerWithin (ask.WorkOrder root names) office second print = print ≡ Err run_fault.OutOfMemory
+IsAnswerWithin (ask.Layer table ws) office second print = IsPrintIn (IsHinted (IsLayerPrint table ws) (ws ∷ [])) (draft_in office) print
 
 -- the same where `too_long` says whether a text is
 abbrev pub IsAnswerIf : Bool → Ask → List ℕ → List ℕ → Printed → Type 0

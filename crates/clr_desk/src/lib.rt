@@ -18,6 +18,7 @@ mod certificates;
 mod children;
 mod choices;
 mod formats;
+mod layers;
 mod merges;
 mod name_hints;
 mod names_lines;

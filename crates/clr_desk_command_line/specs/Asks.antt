@@ -1,16 +1,27 @@
 -- What a subcommand and its values ask for.
-use Rattle.std.specs.Prelude.{List, codes, Option, Some, None, if◌then◌else◌, is_some, option_and_then, unwrap_or}
+use Rattle.std.specs.Prelude.{List, [], codes, Option, Some, None, if◌then◌else◌, is_some, option_and_then, unwrap_or}
 use Rattle.std.specs.Str.{bytes_eq}
 use Rattle.clap.specs.Words.{Row, Text, first_of}
 use Rattle.clr_rows.specs.Names.{live_name}
 use Rattle.clr_command_line.specs.Asks.{database_and, database_of, names_of}
 use Rattle.clr_desk_command_line.specs.declared.asks.Ask.{Ask}
-use Rattle.clr_desk_command_line.specs.declared.asks.Ask.TheVariants.{Certificate, Merge, Format, Keep, Clashes, Why, WorkOrder}
+use Rattle.clr_desk_command_line.specs.declared.asks.Ask.TheVariants.{Certificate, Merge, Format, Keep, Clashes, Why, WorkOrder, Layer}
 use Rattle.clr_desk_command_line.specs.declared.asks.TextKind.TheVariants as kind
 
 -- the root that is given, or LIVE
 abbrev pub root_of : List Row → Text
 root_of rows = unwrap_or (first_of (codes "under") rows) live_name
+
+-- the table that is given, and the workspace, or LIVE
+abbrev pub table_of : List Row → Text
+table_of rows = unwrap_or (first_of (codes "TABLE") rows) []
+
+abbrev pub workspace_of : List Row → Text
+workspace_of rows = unwrap_or (first_of (codes "in") rows) live_name
+
+-- what `layer` asks for, and its file
+abbrev pub layer_of : List Row → Ask × List Text
+layer_of rows = (Layer (table_of rows) (workspace_of rows), database_of rows)
 
 -- what `why` asks for, and its files: of the script if one is given, else of the certificate if one is given, else of the office
 abbrev pub why_of : List Row → Ask × List Text
@@ -29,7 +40,8 @@ ask_by_name name rows =
     else (if bytes_eq name (codes "clashes") then Some (Clashes (root_of rows) (names_of rows), database_of rows)
     else (if bytes_eq name (codes "why") then Some (why_of rows)
     else (if bytes_eq name (codes "words") then Some (WorkOrder (root_of rows) (names_of rows), database_of rows)
-    else None))))))
+    else (if bytes_eq name (codes "layer") then Some (layer_of rows)
+    else None)))))))
 
 -- what the subcommand that words name asks for, if they name one
 abbrev pub ask_of : Option (Text × List Row) → Option (Ask × List Text)

@@ -51,6 +51,16 @@ why = with_rule (with_rule (database_command (codes "why")) (option (codes "scri
 abbrev pub words : App
 words = over_members (codes "words")
 
+-- the name of a table, and the option with the name of the workspace that sees its rows
+abbrev pub table : Rule
+table = value (codes "TABLE")
+
+abbrev pub workspace : Rule
+workspace = option (codes "in")
+
+abbrev pub layer : App
+layer = with_rule (with_rule (database_command (codes "layer")) table) workspace
+
 -- a subcommand is demanded, and there is a version
 abbrev pub demanding : App
 demanding = let bare = new_app (codes "clr_desk") in record bare { top = record bare.top { has_version = true; subcommand_required = true } }
@@ -64,4 +74,4 @@ abbrev pub choosing : App
 choosing = with_subcommand (with_subcommand printing keep.top) clashes.top
 
 abbrev pub program : App
-program = with_subcommand (with_subcommand choosing why.top) words.top
+program = with_subcommand (with_subcommand (with_subcommand choosing why.top) words.top) layer.top

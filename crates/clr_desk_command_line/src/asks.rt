@@ -28,4 +28,6 @@ pub enum Ask {
     Why(TextKind),
     /// The plan of these children of a root as a work order: the root, and the children.
     WorkOrder(Words, Names),
+    /// The rows of a table as a layer: the table, and the workspace that sees them.
+    Layer(Words, Words),
 }

@@ -3,11 +3,12 @@ ghost use Rattle.std.specs.Prelude.{◌≡◌, false, IfOk};
 ghost use Rattle.clap.specs.Words.{app_of, with_rule, with_subcommand};
 ghost use Rattle.clap.specs.declared.builder.command.Command.TheViews.{out-Command as fields_of};
 ghost use Rattle.clr_desk_command_line.specs.Program.{certificate, certificate_file, choosing, clashes, database_command, demanding, format, keep, merge};
+ghost use Rattle.clr_desk_command_line.specs.Program.{layer, table as table_rule, workspace as workspace_option};
 ghost use Rattle.clr_desk_command_line.specs.Program.{names as several_names, option as option_rule, over_members, printing, program, root as root_option, why, words};
 
 use crate::helps::{
-    ABOUT, CERTIFICATE_PRINTS, CLASHES_PRINTS, FORMAT_PRINTS, KEEP_PRINTS, MERGE_PRINTS, STATUSES,
-    VERSION, WHY_PRINTS, WORDS_PRINTS,
+    ABOUT, CERTIFICATE_PRINTS, CLASHES_PRINTS, FORMAT_PRINTS, KEEP_PRINTS, LAYER_PRINTS, MERGE_PRINTS,
+    STATUSES, VERSION, WHY_PRINTS, WORDS_PRINTS,
 };
 use clap::{Arg, Command};
 use std::alloc::{AllocError, Global};
@@ -201,6 +202,45 @@ fn words<'a>(alloc: Global) -> Result<Command<'a>, AllocError>
     )
 }
 
+/// The command with the name of a table, which has to be given.
+fn with_table<'a>(alloc: Global, command: Command<'a>) -> Result<Command<'a>, AllocError>
+    requires { (fields_of command).has_globals ≡ false }
+    ensures shape { IfOk result (λ c. app_of c ≡ with_rule (app_of command.entry) table_rule) }
+    ensures plain { IfOk result (λ c. (fields_of c).has_globals ≡ false) }
+{
+    let table = Arg::new(alloc, "TABLE")
+        .required(true)
+        .help("The name of the table");
+    command.arg(table)
+}
+
+/// The command with an option for the workspace that sees the rows.
+fn with_workspace<'a>(alloc: Global, command: Command<'a>) -> Result<Command<'a>, AllocError>
+    requires { (fields_of command).has_globals ≡ false }
+    ensures shape { IfOk result (λ c. app_of c ≡ with_rule (app_of command.entry) workspace_option) }
+    ensures plain { IfOk result (λ c. (fields_of c).has_globals ≡ false) }
+{
+    let workspace = Arg::new(alloc, "in")
+        .long("in")
+        .value_name("WS")
+        .help("The workspace that sees the rows [default: LIVE]");
+    command.arg(workspace)
+}
+
+fn layer<'a>(alloc: Global) -> Result<Command<'a>, AllocError>
+    ensures shape { IfOk result (λ c. app_of c ≡ layer) }
+    ensures plain { IfOk result (λ c. (fields_of c).has_globals ≡ false) }
+{
+    let command = over_database(
+        alloc,
+        "layer",
+        "Prints the rows of a table as a layer, CSV with WKT in metres",
+        LAYER_PRINTS,
+    )?;
+    let command = with_table(alloc, command)?;
+    with_workspace(alloc, command)
+}
+
 /// The command with one more subcommand.
 fn add<'a>(command: Command<'a>, subcommand: Command<'a>) -> Result<Command<'a>, AllocError>
     requires command { (fields_of command).has_globals ≡ false }
@@ -247,5 +287,6 @@ pub fn whole_command<'a>(alloc: Global) -> Result<Command<'a>, AllocError>
     ensures { IfOk result (λ c. app_of c ≡ program) }
 {
     let command = add(with_choices(alloc)?, why(alloc)?)?;
-    add(command, words(alloc)?)
+    let command = add(command, words(alloc)?)?;
+    add(command, layer(alloc)?)
 }

@@ -68,3 +68,11 @@ help, each tried. The status is 0 where the designs are cleared, and 1 where the
 
 Example:
   clr_desk words office.json Renewal Extension Bypass";
+
+pub(crate) const LAYER_PRINTS: &str =
+    "It prints the rows of a table as CSV with a header: KEY, the columns, and WKT where the rows have
+shapes, in metres with three decimals. Without --in they are those of LIVE. The status is 0, and 1
+where no table or no workspace has the name, or a column is called WKT beside shapes.
+
+Example:
+  clr_desk layer office.json main --in Extension > main.csv";

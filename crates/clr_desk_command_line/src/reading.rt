@@ -1,7 +1,7 @@
 ghost use Rattle.std.specs.Prelude.{◌≡◌, Some, IfOk, IfErr, is_some, map, true};
 ghost use Rattle.clap.specs.Words.{first_of, found_of, rows_of, subcommand_of, takes};
 ghost use Rattle.clr_command_line.specs.Asks.{IsMemory};
-ghost use Rattle.clr_desk_command_line.specs.Asks.{ask_of, ask_by_name, root_of, why_of};
+ghost use Rattle.clr_desk_command_line.specs.Asks.{ask_of, ask_by_name, layer_of, root_of, table_of, why_of, workspace_of};
 ghost use Rattle.clr_desk_command_line.specs.Program.{program};
 
 use crate::asks::{Ask, TextKind};
@@ -19,6 +19,34 @@ fn root(alloc: Global, matches: &ArgMatches) -> Result<Words, AllocError>
         Some(name) => Ok(Words::new(String::from_str(alloc, name)?)),
         None => Ok(Words::new(String::from_str(alloc, LIVE)?)),
     }
+}
+
+/// The table that is given, or no bytes where there is none.
+fn table(alloc: Global, matches: &ArgMatches) -> Result<Words, AllocError>
+    ensures { IfOk result (λ table. table ≡ table_of (rows_of (found_of matches.now))) }
+{
+    match matches.get_str("TABLE") {
+        Some(name) => Ok(Words::new(String::from_str(alloc, name)?)),
+        None => Ok(Words::new(String::new(alloc))),
+    }
+}
+
+/// The workspace that is given, or LIVE.
+fn workspace(alloc: Global, matches: &ArgMatches) -> Result<Words, AllocError>
+    ensures { IfOk result (λ ws. ws ≡ workspace_of (rows_of (found_of matches.now))) }
+{
+    match matches.get_str("in") {
+        Some(name) => Ok(Words::new(String::from_str(alloc, name)?)),
+        None => Ok(Words::new(String::from_str(alloc, LIVE)?)),
+    }
+}
+
+/// What `layer` asks for, and its file.
+fn layer(alloc: Global, matches: &ArgMatches) -> Result<(Ask, Vec<Words>), AllocError>
+    ensures { IfOk result (λ r. layer_of (rows_of (found_of matches.now)) ≡ (r.0, r.1.items)) }
+{
+    let ask = Ask::Layer(table(alloc, matches)?, workspace(alloc, matches)?);
+    Ok((ask, database(alloc, matches)?))
 }
 
 /// Whether an option has a value.
@@ -67,6 +95,7 @@ fn ask_of_subcommand(
         "clashes" => (Ask::Clashes(root, names), database(alloc, matches)?),
         "why" => why(alloc, matches)?,
         "words" => (Ask::WorkOrder(root, names), database(alloc, matches)?),
+        "layer" => layer(alloc, matches)?,
         _ => unreachable!(),
     };
     Ok(found)
@@ -75,8 +104,8 @@ fn ask_of_subcommand(
 /// What the words of a command line ask for, with the program's name first, and the names of the
 /// files that it is asked of: that of the office text, and then that of the script or the certificate
 /// where there is one. The subcommands are `merge DB CERT NAME..`, `format DB`,
-/// `why DB [--script FILE] [--certificate FILE]`, and `certificate`, `keep`, `clashes` and `words`, each
-/// with `DB [--under ROOT] NAME..`. There are none or more names; the root is LIVE where none is given.
+/// `why DB [--script FILE] [--certificate FILE]`, `layer DB TABLE [--in WS]`, and `certificate`, `keep`, `clashes` and `words`, each
+/// with `DB [--under ROOT] NAME..`. There are none or more names; the root, and the workspace of `layer`, is LIVE where none is given.
 ///
 /// Fails with `Refused` where the words name no subcommand or another count of values than it has,
 /// or ask for help, as `help`, `--help` and `-h`, or for the version, as `--version` and `-V`; and
