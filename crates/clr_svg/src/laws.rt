@@ -1,0 +1,8 @@
+//! Laws of texts, each proved by a function that does nothing.
+
+ghost use Rattle.clr_svg.specs.Escapes.{EscapedTextsAreHarmless};
+
+/// An escaped text is made of references and of bytes that are no markup.
+pub fn escaped_texts_are_harmless()
+    ensures { EscapedTextsAreHarmless }
+{}
