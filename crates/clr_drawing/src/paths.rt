@@ -1,0 +1,127 @@
+//! Shapes as paths of the page, and spots along them.
+
+use crate::views::View;
+use clr_rows::{Place, Shape};
+use clr_segments::{part, parts};
+use clr_svg::{Pixels, Spot, Step};
+use std::alloc::{AllocError, Global};
+
+/// The most spots that are taken along one part of a shape.
+const MOST_SPOTS: i64 = 60;
+
+/// Adds a step to the spot where a figure begins, unless the last line led there.
+fn add_beginning(steps: &mut Vec<Step>, spot: Spot) -> Result<(), AllocError> {
+    if let Some(Step::Line(last)) = steps.last()
+        && *last == spot
+    {
+        return Ok(());
+    }
+    steps.push(Step::Begin(spot))?;
+    Ok(())
+}
+
+/// Adds a line from one spot to another, unless both are one. Fails for want of memory alone.
+pub fn add_line(steps: &mut Vec<Step>, from: Spot, to: Spot) -> Result<(), AllocError> {
+    if from == to {
+        return Ok(());
+    }
+    add_beginning(steps, from)?;
+    steps.push(Step::Line(to))?;
+    Ok(())
+}
+
+/// Adds the lines of a shape; a point has none. Fails for want of memory alone.
+pub fn add_shape(steps: &mut Vec<Step>, view: &View, shape: &Shape) -> Result<(), AllocError> {
+    for at in 0..parts(shape) {
+        if let Some((from, to)) = part(shape, at.saturating_add(1)) {
+            add_line(steps, view.spot(from), view.spot(to))?;
+        }
+    }
+    Ok(())
+}
+
+/// The spot that is this many parts of the way from one spot to another.
+fn spot_between(from: Spot, to: Spot, share: i64, of: i64) -> Spot {
+    let x = (to.x - from.x).tenths.saturating_mul(share);
+    let y = (to.y - from.y).tenths.saturating_mul(share);
+    Spot {
+        x: from.x + Pixels::of_tenths(x.checked_div(of).unwrap_or(0)),
+        y: from.y + Pixels::of_tenths(y.checked_div(of).unwrap_or(0)),
+    }
+}
+
+/// Adds spots along a line that are in the frame, this far apart.
+fn add_samples(
+    spots: &mut Vec<Spot>,
+    view: &View,
+    from: Spot,
+    to: Spot,
+    apart: i64,
+) -> Result<(), AllocError> {
+    let across = (to.x - from.x).tenths.unsigned_abs();
+    let along = (to.y - from.y).tenths.unsigned_abs();
+    let length = i64::try_from(across.max(along)).unwrap_or(i64::MAX);
+    let count = length.checked_div(apart).unwrap_or(0).clamp(1, MOST_SPOTS);
+    for share in 0..count {
+        let spot = spot_between(from, to, share, count);
+        if view.frame.has(spot) {
+            spots.push(spot)?;
+        }
+    }
+    Ok(())
+}
+
+/// Adds spots along the parts of a shape that are in the frame.
+fn add_part_samples(
+    spots: &mut Vec<Spot>,
+    view: &View,
+    shape: &Shape,
+    apart: i64,
+) -> Result<(), AllocError> {
+    for at in 0..parts(shape) {
+        if let Some((from, to)) = part(shape, at.saturating_add(1)) {
+            add_samples(spots, view, view.spot(from), view.spot(to), apart)?;
+        }
+    }
+    Ok(())
+}
+
+/// Returns spots of a shape that are in the frame: of a point its own, and of a line some along it that are this far apart, in tenths of a
+/// pixel, or farther where it is long. Fails for want of memory alone.
+pub fn samples(
+    alloc: Global,
+    view: &View,
+    shape: &Shape,
+    apart: i64,
+) -> Result<Vec<Spot>, AllocError> {
+    let mut spots = Vec::new(alloc);
+    if let Shape::At(place) = shape {
+        let spot = view.spot(*place);
+        if view.frame.has(spot) {
+            spots.push(spot)?;
+        }
+        return Ok(spots);
+    }
+    add_part_samples(&mut spots, view, shape, apart)?;
+    Ok(spots)
+}
+
+/// The place halfway between two.
+fn halfway(from: Place, to: Place) -> Place {
+    Place {
+        x: from.x.saturating_add(to.x.saturating_sub(from.x) / 2),
+        y: from.y.saturating_add(to.y.saturating_sub(from.y) / 2),
+    }
+}
+
+/// Returns a place in the middle of a shape: of a point its own, of a line the middle of its middle part; or none where it has no vertices.
+pub fn middle_of(shape: &Shape) -> Option<Place> {
+    if let Shape::At(place) = shape {
+        return Some(*place);
+    }
+    let count = parts(shape);
+    match part(shape, (count / 2).saturating_add(count % 2)) {
+        Some((from, to)) => Some(halfway(from, to)),
+        None => None,
+    }
+}
