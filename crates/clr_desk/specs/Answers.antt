@@ -12,6 +12,7 @@ use Rattle.clr_desk_command_line.specs.declared.asks.Ask.TheVariants as ask
 use Rattle.clr_desk.specs.Certificates.{IsCertificatePrint}
 use Rattle.clr_desk.specs.Choices.{IsChoicePrint}
 use Rattle.clr_desk.specs.Formats.{IsFormatPrint}
+use Rattle.clr_desk.specs.Maps.{IsMapPrint}
 use Rattle.clr_desk.specs.Merges.{IsHintedMerge}
 use Rattle.clr_desk.specs.NameHints.{IsHinted}
 use Rattle.clr_desk.specs.Printing.{IsPrintIn, IsPrintOfCase, IsTextFault, Printed, Printout}
@@ -25,6 +26,7 @@ IsAnswerWithin (ask.Keep root names) office second print = IsPrintIn (IsHinted (
 IsAnswerWithin (ask.Clashes root names) office second print = print ≡ Err run_fault.OutOfMemory
 IsAnswerWithin (ask.Why kind) office second print = print ≡ Err run_fault.OutOfMemory
 IsAnswerWithin (ask.WorkOrder root names) office second print = print ≡ Err run_fault.OutOfMemory
+IsAnswerWithin (ask.Map root names) office second print = IsPrintIn (IsHinted (IsMapPrint (site root names)) (root ∷ names)) (draft_in office) print
 
 -- the same where `too_long` says whether a text is
 abbrev pub IsAnswerIf : Bool → Ask → List ℕ → List ℕ → Printed → Type 0

@@ -2,6 +2,7 @@ pub mod Answers
 pub mod Certificates
 pub mod Choices
 pub mod Formats
+pub mod Maps
 pub mod Merges
 pub mod NameHints
 pub mod Printing

@@ -7,6 +7,7 @@ ghost use Rattle.clr_desk.specs.Printing.{IsMade};
 use crate::certificates::answer_certificate;
 use crate::choices::answer_keep;
 use crate::formats::answer_format;
+use crate::maps::answer_map;
 use crate::merges::answer_merge;
 use crate::prints::Print;
 use clr_desk_command_line::Ask;
@@ -24,6 +25,7 @@ fn answer_texts(alloc: Global, ask: &Ask, office: &[u8], second: &[u8]) -> Resul
         Ask::Merge(names) => answer_merge(alloc, office, second, names.as_slice()),
         Ask::Format => answer_format(alloc, office),
         Ask::Keep(root, names) => answer_keep(alloc, office, root.as_str(), names.as_slice()),
+        Ask::Map(root, names) => answer_map(alloc, office, root.as_str(), names.as_slice()),
         Ask::Clashes(_, _) | Ask::Why(_) | Ask::WorkOrder(_, _) => Err(RunFault::OutOfMemory),
     }
 }

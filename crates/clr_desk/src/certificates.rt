@@ -24,7 +24,8 @@ pub fn plan_members(alloc: Global, office: &Office, root: &str, members: &[&str]
     plan(alloc, office, root, members)
 }
 
-fn is_out_of_memory(plan: &Plan) -> bool
+/// Whether a plan found no memory.
+pub(crate) fn is_out_of_memory(plan: &Plan) -> bool
     ensures { result ≡ is_lost_plan plan.now }
 {
     match plan {

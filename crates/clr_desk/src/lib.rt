@@ -7,7 +7,8 @@
 //!   run leaves as `perform_cleared` promises it, and the replies and the stop as notes; of `format` the
 //!   text of the same office, but for line ends, which is read as that office; of `keep` the certificate
 //!   of the members taken, each of which is cleared with those taken before it, and as notes who they
-//!   are and, of each other, the plan that isn't cleared (`IsChoicePrint`).
+//!   are and, of each other, the plan that isn't cleared (`IsChoicePrint`); of `map` the map of the plan of
+//!   the members (`IsMapPrint`).
 //! - [`silent`]: with status 3 nothing went to the sink of the text.
 //! - [`keeps`]: with any fault but WriteFailed nothing was written. After a failed write it isn't known
 //!   how much was; where the sink of the notes failed, nothing went to that of the text (`IsTorn`).
@@ -18,6 +19,7 @@ mod certificates;
 mod children;
 mod choices;
 mod formats;
+mod maps;
 mod merges;
 mod name_hints;
 mod names_lines;

@@ -5,7 +5,7 @@ use Rattle.clap.specs.Words.{Row, Text, first_of}
 use Rattle.clr_rows.specs.Names.{live_name}
 use Rattle.clr_command_line.specs.Asks.{database_and, database_of, names_of}
 use Rattle.clr_desk_command_line.specs.declared.asks.Ask.{Ask}
-use Rattle.clr_desk_command_line.specs.declared.asks.Ask.TheVariants.{Certificate, Merge, Format, Keep, Clashes, Why, WorkOrder}
+use Rattle.clr_desk_command_line.specs.declared.asks.Ask.TheVariants.{Certificate, Merge, Format, Keep, Clashes, Why, WorkOrder, Map}
 use Rattle.clr_desk_command_line.specs.declared.asks.TextKind.TheVariants as kind
 
 -- the root that is given, or LIVE
@@ -29,7 +29,8 @@ ask_by_name name rows =
     else (if bytes_eq name (codes "clashes") then Some (Clashes (root_of rows) (names_of rows), database_of rows)
     else (if bytes_eq name (codes "why") then Some (why_of rows)
     else (if bytes_eq name (codes "words") then Some (WorkOrder (root_of rows) (names_of rows), database_of rows)
-    else None))))))
+    else (if bytes_eq name (codes "map") then Some (Map (root_of rows) (names_of rows), database_of rows)
+    else None)))))))
 
 -- what the subcommand that words name asks for, if they name one
 abbrev pub ask_of : Option (Text × List Row) → Option (Ask × List Text)

@@ -51,6 +51,9 @@ why = with_rule (with_rule (database_command (codes "why")) (option (codes "scri
 abbrev pub words : App
 words = over_members (codes "words")
 
+abbrev pub map : App
+map = over_members (codes "map")
+
 -- a subcommand is demanded, and there is a version
 abbrev pub demanding : App
 demanding = let bare = new_app (codes "clr_desk") in record bare { top = record bare.top { has_version = true; subcommand_required = true } }
@@ -64,4 +67,4 @@ abbrev pub choosing : App
 choosing = with_subcommand (with_subcommand printing keep.top) clashes.top
 
 abbrev pub program : App
-program = with_subcommand (with_subcommand choosing why.top) words.top
+program = with_subcommand (with_subcommand (with_subcommand choosing why.top) words.top) map.top

@@ -28,4 +28,6 @@ pub enum Ask {
     Why(TextKind),
     /// The plan of these children of a root as a work order: the root, and the children.
     WorkOrder(Words, Names),
+    /// The map of the plan of these children of a root: the root, and the children.
+    Map(Words, Names),
 }

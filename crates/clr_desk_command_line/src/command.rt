@@ -3,11 +3,11 @@ ghost use Rattle.std.specs.Prelude.{◌≡◌, false, IfOk};
 ghost use Rattle.clap.specs.Words.{app_of, with_rule, with_subcommand};
 ghost use Rattle.clap.specs.declared.builder.command.Command.TheViews.{out-Command as fields_of};
 ghost use Rattle.clr_desk_command_line.specs.Program.{certificate, certificate_file, choosing, clashes, database_command, demanding, format, keep, merge};
-ghost use Rattle.clr_desk_command_line.specs.Program.{names as several_names, option as option_rule, over_members, printing, program, root as root_option, why, words};
+ghost use Rattle.clr_desk_command_line.specs.Program.{names as several_names, option as option_rule, over_members, printing, map as map_command, program, root as root_option, why, words};
 
 use crate::helps::{
-    ABOUT, CERTIFICATE_PRINTS, CLASHES_PRINTS, FORMAT_PRINTS, KEEP_PRINTS, MERGE_PRINTS, STATUSES,
-    VERSION, WHY_PRINTS, WORDS_PRINTS,
+    ABOUT, CERTIFICATE_PRINTS, CLASHES_PRINTS, FORMAT_PRINTS, KEEP_PRINTS, MAP_PRINTS, MERGE_PRINTS,
+    STATUSES, VERSION, WHY_PRINTS, WORDS_PRINTS,
 };
 use clap::{Arg, Command};
 use std::alloc::{AllocError, Global};
@@ -201,6 +201,18 @@ fn words<'a>(alloc: Global) -> Result<Command<'a>, AllocError>
     )
 }
 
+fn map<'a>(alloc: Global) -> Result<Command<'a>, AllocError>
+    ensures shape { IfOk result (λ c. app_of c ≡ map_command) }
+    ensures plain { IfOk result (λ c. (fields_of c).has_globals ≡ false) }
+{
+    over_members(
+        alloc,
+        "map",
+        "Draws the plan of designs, as a picture that browsers show",
+        MAP_PRINTS,
+    )
+}
+
 /// The command with one more subcommand.
 fn add<'a>(command: Command<'a>, subcommand: Command<'a>) -> Result<Command<'a>, AllocError>
     requires command { (fields_of command).has_globals ≡ false }
@@ -247,5 +259,6 @@ pub fn whole_command<'a>(alloc: Global) -> Result<Command<'a>, AllocError>
     ensures { IfOk result (λ c. app_of c ≡ program) }
 {
     let command = add(with_choices(alloc)?, why(alloc)?)?;
-    add(command, words(alloc)?)
+    let command = add(command, words(alloc)?)?;
+    add(command, map(alloc)?)
 }

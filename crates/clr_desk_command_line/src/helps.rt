@@ -68,3 +68,11 @@ help, each tried. The status is 0 where the designs are cleared, and 1 where the
 
 Example:
   clr_desk words office.json Renewal Extension Bypass";
+
+pub(crate) const MAP_PRINTS: &str =
+    "It prints the plan of the designs as a picture (SVG), with the rows round a cause, or else round what the
+designs change; the lines of the plan stand in its description. The status is 0 where the designs are
+cleared, and 1 where they aren't.
+
+Example:
+  clr_desk map office.json Renewal Extension Bypass > plan.svg";

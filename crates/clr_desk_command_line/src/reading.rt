@@ -67,6 +67,7 @@ fn ask_of_subcommand(
         "clashes" => (Ask::Clashes(root, names), database(alloc, matches)?),
         "why" => why(alloc, matches)?,
         "words" => (Ask::WorkOrder(root, names), database(alloc, matches)?),
+        "map" => (Ask::Map(root, names), database(alloc, matches)?),
         _ => unreachable!(),
     };
     Ok(found)
@@ -75,8 +76,8 @@ fn ask_of_subcommand(
 /// What the words of a command line ask for, with the program's name first, and the names of the
 /// files that it is asked of: that of the office text, and then that of the script or the certificate
 /// where there is one. The subcommands are `merge DB CERT NAME..`, `format DB`,
-/// `why DB [--script FILE] [--certificate FILE]`, and `certificate`, `keep`, `clashes` and `words`, each
-/// with `DB [--under ROOT] NAME..`. There are none or more names; the root is LIVE where none is given.
+/// `why DB [--script FILE] [--certificate FILE]`, and `certificate`, `keep`, `clashes`, `words` and
+/// `map`, each with `DB [--under ROOT] NAME..`. There are none or more names; the root is LIVE where none is given.
 ///
 /// Fails with `Refused` where the words name no subcommand or another count of values than it has,
 /// or ask for help, as `help`, `--help` and `-h`, or for the version, as `--version` and `-V`; and

@@ -1,0 +1,33 @@
+//! Lengths and places in metres.
+
+use clr_rows::Place;
+use std::fmt;
+
+/// How many millimetres a metre has.
+const MILLIMETRES: u64 = 1000;
+
+/// A length in millimetres, which is shown in metres with three decimals, as `12.345`.
+#[derive(Clone, Copy, Debug)]
+pub struct Metres(pub i64);
+
+impl fmt::Display for Metres {
+    fn fmt<W: fmt::Write>(&self, f: &mut fmt::Formatter<W>) -> fmt::Result {
+        let sign = if self.0 < 0 { "-" } else { "" };
+        let size = self.0.unsigned_abs();
+        let metres = size / MILLIMETRES;
+        let rest = size % MILLIMETRES;
+        write!(f, "{sign}{metres}.{rest:03}")
+    }
+}
+
+/// A place, which is shown by its coordinates in metres, as `(5.000, -1.250)`.
+#[derive(Clone, Copy, Debug)]
+pub struct At(pub Place);
+
+impl fmt::Display for At {
+    fn fmt<W: fmt::Write>(&self, f: &mut fmt::Formatter<W>) -> fmt::Result {
+        let x = Metres(self.0.x);
+        let y = Metres(self.0.y);
+        write!(f, "({x}, {y})")
+    }
+}
