@@ -1,21 +1,13 @@
-//! Tests of rows, segments and change sets, by their public calls.
+//! Tests of shapes, sheets, needs, the order of spots, and both finders of rows, by public calls.
 #![tactic(auto)]
 
 #[cfg(test)]
-mod answers;
+mod finders;
 #[cfg(test)]
-mod cases;
+mod needs;
 #[cfg(test)]
-mod changes;
-#[cfg(test)]
-mod copies;
-#[cfg(test)]
-mod places;
-#[cfg(test)]
-mod schemas;
-#[cfg(test)]
-mod segments;
+mod shapes;
 #[cfg(test)]
 mod sheets;
 #[cfg(test)]
-mod texts;
+mod spot_order;

@@ -1,15 +1,16 @@
-//! Tests of the texts that are read: edits, scripts, office texts and command lines, by public calls.
+//! Tests of the texts that are read and written: edits, scripts and office texts, and lines of replies, reports,
+//! verdicts and plans, by public calls.
 #![tactic(auto)]
 
 #[cfg(test)]
-mod command_lines;
+mod lines;
 #[cfg(test)]
-mod office_texts;
+mod plan_lines;
 #[cfg(test)]
-mod questions;
-#[cfg(test)]
-mod script_cases;
-#[cfg(test)]
-mod scripts;
+mod report_lines;
 #[cfg(test)]
 mod texts;
+#[cfg(test)]
+mod two_texts;
+#[cfg(test)]
+mod verdict_lines;

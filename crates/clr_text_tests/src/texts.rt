@@ -1,172 +1,53 @@
-//! Rows, edits and steps as texts, and pieces of texts that are read.
+//! Scripts and office texts of bytes that are no text, or have marks and carriage returns.
 
-use clr_change::Edit;
-use clr_rows::{CellId, Place, Row, Shape, Sheet, Value, Words};
-use clr_scripts::Step;
-use clr_steps::{Command, Keep};
+use clr_office_text::{TextFault, read_office};
+use clr_rows::Names;
+use clr_scripts::{RecordFault, read_edits, read_script};
+use clr_text_test_kit::{schema, text_answer, words};
 use std::alloc::Global;
+use std::test::Fail;
 
-/// So many coordinates, which are 0 and 1 in turn, each behind a comma.
-pub(crate) fn coordinates(alloc: Global, count: &str) -> Option<String> {
-    let mut text = String::new(alloc);
-    for n in 0..count.parse::<u16>().ok()? {
-        text.push_str(if n % 4 < 2 { ",0" } else { ",1" }).ok()?;
-    }
-    Some(text)
+/// A byte order mark, a quoted field, a blank line, quotes inside a field, a lone carriage return, and no line end at the end;
+/// with strokes in place of line ends.
+const EDITS: &str =
+    "\u{feff}insert,main,20,\"a,\"\"b\",-7,0,0,50000,0\r//\"up\"date,main,1,,3,1,2,3,4\rdelete,note,4";
+
+#[test]
+fn edits_and_their_rows(rt: HostRuntime) {
+    let wanted = "insert 1.20 'a,\"b -7 0,0 50000,0, update 1.1 ' 3 1,2 3,4, delete 2.4";
+    let edits = text_answer(rt.alloc(), "edits", EDITS);
+    assert!(rt; edits.as_ref().map(|text| text.as_str()) == Some(wanted));
 }
 
-/// Adds a text, after another where it isn't the first.
-pub(crate) fn add_part(line: &mut String, between: &str, part: &str) -> Option<()> {
-    if line.len() > 0 {
-        line.push_str(between).ok()?;
-    }
-    line.push_str(part).ok()
+#[test]
+fn bytes_that_are_no_text(rt: HostRuntime) -> Result<(), Fail> {
+    let schema = schema(rt.alloc()).ok_or("no schema")?;
+    let fault = Some((1, RecordFault::NotCsv));
+    assert!(rt; read_edits(rt.alloc(), &schema, b"move\n\xff").err() == fault);
+    assert!(rt; read_script(rt.alloc(), &schema, b"open\n\xff").err() == fault);
+    Ok(())
 }
 
-fn value_text(alloc: Global, value: &Value) -> Option<String> {
-    match value {
-        Value::Int(number) => format!(in alloc; "{number}").ok(),
-        Value::Words(text) => format!(in alloc; "'{}", text.as_str()).ok(),
-    }
+fn two_names(alloc: Global) -> Option<Names> {
+    let mut list = Vec::new(alloc);
+    list.push(words(alloc, "W1").ok()?).ok()?;
+    list.push(words(alloc, "W2").ok()?).ok()?;
+    Some(Names::new(list))
 }
 
-fn add_places(text: &mut String, alloc: Global, places: &[Place]) -> Option<()> {
-    for place in places {
-        let pair = format!(in alloc; "{},{}", place.x, place.y).ok()?;
-        add_part(text, " ", pair.as_str())?;
-    }
-    Some(())
+#[test]
+fn names_as_a_list(rt: HostRuntime) -> Result<(), Fail> {
+    let list = two_names(rt.alloc()).ok_or("no names")?.into_vec();
+    assert!(rt; list.len() == 2);
+    assert!(rt; list[1].as_str() == "W2");
+    Ok(())
 }
 
-/// The values of a row, each after a quote where it is a text, and its places, behind `path` where they are a chain.
-fn row_text(alloc: Global, row: &Row) -> Option<String> {
-    let mut text = String::new(alloc);
-    for value in row.values.as_slice() {
-        add_part(&mut text, " ", value_text(alloc, value)?.as_str())?;
-    }
-    match &row.shape {
-        Shape::Bare => {}
-        Shape::At(place) => add_places(&mut text, alloc, &[*place])?,
-        Shape::Line(first, second) => add_places(&mut text, alloc, &[*first, *second])?,
-        Shape::Chain(vertices) => {
-            add_part(&mut text, " ", "path")?;
-            add_places(&mut text, alloc, vertices.as_slice())?;
-        }
-    }
-    Some(text)
-}
-
-fn cell_text(alloc: Global, cell: CellId) -> Option<String> {
-    format!(in alloc; "{}.{}", cell.table, cell.key).ok()
-}
-
-/// A word, a cell, and a row.
-pub(crate) fn change_text(alloc: Global, word: &str, cell: CellId, row: &Row) -> Option<String> {
-    let (cell, row) = (cell_text(alloc, cell)?, row_text(alloc, row)?);
-    format!(in alloc; "{word} {} {}", cell.as_str(), row.as_str()).ok()
-}
-
-fn edit_text(alloc: Global, edit: &Edit) -> Option<String> {
-    match edit {
-        Edit::Insert(cell, row) => change_text(alloc, "insert", *cell, row),
-        Edit::Update(cell, row) => change_text(alloc, "update", *cell, row),
-        Edit::Delete(cell) => format!(in alloc; "delete {}.{}", cell.table, cell.key).ok(),
-    }
-}
-
-/// Edits in their order.
-pub(crate) fn edits_text(alloc: Global, edits: &[Edit]) -> Option<String> {
-    let mut text = String::new(alloc);
-    for edit in edits {
-        add_part(&mut text, ", ", edit_text(alloc, edit)?.as_str())?;
-    }
-    Some(text)
-}
-
-/// The rows of a sheet in the order of their cells.
-pub(crate) fn sheet_text(alloc: Global, sheet: &Sheet) -> Option<String> {
-    let mut text = String::new(alloc);
-    for (cell, row) in sheet.iter() {
-        add_part(
-            &mut text,
-            ", ",
-            change_text(alloc, "row", *cell, row)?.as_str(),
-        )?;
-    }
-    Some(text)
-}
-
-/// A command as its word, its workspace, and its other name or the word that ends it.
-fn fields(command: &Command) -> (&str, &str, &str) {
-    match command {
-        Command::Create { name, parent } => ("create", name.as_str(), parent.as_str()),
-        Command::Remove { ws } => ("remove", ws.as_str(), ""),
-        Command::Apply { ws, .. } => ("apply", ws.as_str(), ""),
-        Command::Mark { ws, name } => ("mark", ws.as_str(), name.as_str()),
-        Command::Unmark { ws, name } => ("unmark", ws.as_str(), name.as_str()),
-        Command::RollTo { ws, name } => ("rollto", ws.as_str(), name.as_str()),
-        Command::RollAll { ws } => ("rollall", ws.as_str(), ""),
-        Command::Refresh { ws } => ("refresh", ws.as_str(), ""),
-        Command::Merge { ws, remove } => ("merge", ws.as_str(), removal(*remove)),
-        Command::Resolve { ws, keep, .. } => ("resolve", ws.as_str(), keep_word(*keep)),
-        Command::Hold { ws } => ("hold", ws.as_str(), ""),
-        Command::Release { ws } => ("release", ws.as_str(), ""),
-    }
-}
-
-fn removal(remove: bool) -> &'static str {
-    if remove { "remove" } else { "keep" }
-}
-
-fn keep_word(keep: Keep) -> &'static str {
-    match keep {
-        Keep::Parent => "PARENT",
-        Keep::Child => "CHILD",
-        Keep::Base => "BASE",
-    }
-}
-
-/// The edits or the cell of a command.
-fn rest_text(alloc: Global, command: &Command) -> Option<String> {
-    match command {
-        Command::Apply { edits, .. } => edits_text(alloc, edits.as_slice()),
-        Command::Resolve { cell, .. } => cell_text(alloc, *cell),
-        _ => Some(String::new(alloc)),
-    }
-}
-
-fn command_text(alloc: Global, command: &Command) -> Option<String> {
-    let (word, workspace, other) = fields(command);
-    let rest = rest_text(alloc, command)?;
-    let space = if rest.len() > 0 { " " } else { "" };
-    format!(in alloc; "{word} [{workspace}] [{other}]{space}{}", rest.as_str()).ok()
-}
-
-/// Names, each behind a character.
-pub(crate) fn names_text(alloc: Global, before: char, names: &[Words]) -> Option<String> {
-    let mut text = String::new(alloc);
-    for name in names {
-        text.push(before).ok()?;
-        text.push_str(name.as_str()).ok()?;
-    }
-    Some(text)
-}
-
-fn step_text(alloc: Global, step: &Step) -> Option<String> {
-    match step {
-        Step::Act(command) => command_text(alloc, command),
-        Step::Report(word, names) => {
-            let names = names_text(alloc, '/', names.as_slice())?;
-            format!(in alloc; "{word:?}{}", names.as_str()).ok()
-        }
-    }
-}
-
-/// Steps in their order.
-pub(crate) fn steps_text(alloc: Global, steps: &[Step]) -> Option<String> {
-    let mut text = String::new(alloc);
-    for step in steps {
-        add_part(&mut text, "; ", step_text(alloc, step)?.as_str())?;
-    }
-    Some(text)
+/// A byte that is no text, and a byte order mark.
+#[test]
+fn bytes_that_are_no_json(rt: HostRuntime) {
+    let no_text = b"{\"format\":1,\"tables\":[],\"live\":[],\"note\":\"\xff\"}";
+    assert!(rt; read_office(rt.alloc(), no_text).err() == Some(TextFault::NotJson));
+    let marked = "\u{feff}{\"format\":1,\"tables\":[],\"live\":[]}";
+    assert!(rt; read_office(rt.alloc(), marked.as_bytes()).err() == Some(TextFault::NotJson));
 }

@@ -1,0 +1,66 @@
+//! Texts, values, rows and lists, whether they are the same, and copies of them.
+
+use crate::fields::{value, values, words};
+use crate::rows::row;
+use crate::schemas::columns;
+use crate::shapes::{place, places};
+use clr_rows::Vertices;
+use std::alloc::Global;
+
+/// Whether a text is the same as its copy, and as another, and the copy.
+pub(crate) fn words_text(alloc: Global, one: &str, other: &str) -> Option<String> {
+    let text = words(alloc, one)?;
+    let copy = text.copy().ok()?;
+    let (alike, same) = (copy.same(&text), words(alloc, other)?.same(&text));
+    let length = text.as_str().len();
+    let copy = copy.into_string();
+    format!(in alloc; "{alike} {same} {} {length}", copy.as_str()).ok()
+}
+
+pub(crate) fn value_text(alloc: Global, one: &str, other: &str) -> Option<String> {
+    let value_one = value(alloc, one)?;
+    let alike = value_one.copy().ok()?.same(&value_one);
+    let same = value_one.same(&value(alloc, other)?);
+    format!(in alloc; "{alike} {same}").ok()
+}
+
+/// Whether values are the same as their copy, and as others, in both orders, and how many there are.
+pub(crate) fn values_text(alloc: Global, one: &str, other: &str) -> Option<String> {
+    let (list, others) = (values(alloc, one)?, values(alloc, other)?);
+    let alike = list.same(&list.copy().ok()?);
+    let (same, back) = (list.same(&others), others.same(&list));
+    let length = list.as_slice().len();
+    let list = list.into_vec();
+    format!(in alloc; "{alike} {same} {back} {length} {}", list.len()).ok()
+}
+
+/// Whether a row is the same as its copy, as its clone, and as another.
+pub(crate) fn row_text(alloc: Global, one: &str, other: &str) -> Option<String> {
+    let row_one = row(alloc, one)?;
+    let copied = row_one.copy().ok()?.same(&row_one);
+    let cloned = row_one.clone().ok()?.same(&row_one);
+    let same = row(alloc, other)?.same(&row_one);
+    format!(in alloc; "{copied} {cloned} {same}").ok()
+}
+
+pub(crate) fn place_text(alloc: Global, one: &str, other: &str) -> Option<String> {
+    let same = place(one)?.same(&place(other)?);
+    format!(in alloc; "{same}").ok()
+}
+
+/// Whether vertices are the same as their copy, how many there are, and the list.
+pub(crate) fn vertices_text(alloc: Global, text: &str) -> Option<String> {
+    let vertices = Vertices::new(places(alloc, text)?);
+    let alike = vertices.copy().ok()?.same(&vertices);
+    let length = vertices.as_slice().len();
+    let list = vertices.into_vec();
+    format!(in alloc; "{alike} {length} {list:?}").ok()
+}
+
+/// Columns as a slice, and how many the list has.
+pub(crate) fn columns_text(alloc: Global, text: &str) -> Option<String> {
+    let columns = columns(alloc, text)?;
+    let slice = format!(in alloc; "{:?}", columns.as_slice()).ok()?;
+    let list = columns.into_vec();
+    format!(in alloc; "{} {}", slice.as_str(), list.len()).ok()
+}

@@ -1,0 +1,130 @@
+//! Why office texts are refused, by a part of each.
+
+use crate::step_texts::coordinates;
+use clr_office_text::read_office;
+use std::alloc::Global;
+
+/// An office text up to the first cell of LIVE: one table, of nodes with a kind and a size.
+const NODES: &str =
+    r#"{"format":1,"tables":[{"name":"node","columns":[["kind","TEXT"],["size","INT"]],"shape":"POINT"}],"live":["#;
+
+/// An office text up to its rules.
+const TABLES: &str = r#"{"format":1,"tables":[
+{"name":"node","columns":[["kind","TEXT"],["size","INT"]],"shape":"POINT"},
+{"name":"main","columns":[["code","TEXT"]],"shape":"SEGMENT"}],
+"live":[],"rules":["#;
+
+/// A good rule.
+const RULE: &str = r#"{"kind":"UNIQUE","subject":{"table":"main"},"columns":["code"]}"#;
+
+/// An office text of format 2 up to the first cell of LIVE: routes, which are paths, and mains.
+const ROUTES: &str = r#"{"format":2,"tables":[
+{"name":"route","columns":[["code","TEXT"]],"shape":"PATH"},
+{"name":"main","columns":[["code","TEXT"]],"shape":"SEGMENT"}],
+"live":["#;
+
+/// An office text behind its format, up to its first workspace.
+const PARTS: &str =
+    r#""tables":[{"name":"node","columns":[],"shape":"NONE"}],"live":[],"workspaces":["#;
+
+/// A workspace up to what stands behind its name and parent.
+const PART: &str = r#"{"name":"W1","parent":"LIVE","#;
+
+/// A text as often as a number says, with another between.
+fn repeat(alloc: Global, part: &str, between: &str, times: &str) -> Option<String> {
+    let mut text = String::new(alloc);
+    for n in 0..times.parse::<u16>().ok()? {
+        text.push_str(if n == 0 { "" } else { between }).ok()?;
+        text.push_str(part).ok()?;
+    }
+    Some(text)
+}
+
+/// An office text with these cells in LIVE, and then more keys.
+fn with_cells(alloc: Global, cells: &str, more: &str) -> Option<String> {
+    format!(in alloc; "{NODES}{cells}]{more}}}").ok()
+}
+
+/// An office text with an unknown key whose value has so many lists within one another.
+fn with_lists(alloc: Global, levels: &str) -> Option<String> {
+    let (open, close) = (
+        repeat(alloc, "[", "", levels)?,
+        repeat(alloc, "]", "", levels)?,
+    );
+    let more = format!(in alloc; r#","note":{}{}"#, open.as_str(), close.as_str()).ok()?;
+    with_cells(alloc, "", more.as_str())
+}
+
+/// An office text with these rules.
+fn with_rules(alloc: Global, rules: &str) -> Option<String> {
+    format!(in alloc; "{TABLES}{rules}]}}").ok()
+}
+
+/// An office text with a cell of this table, and so many coordinates, which are 0 and 1 in turn.
+pub(super) fn with_path(alloc: Global, table: &str, count: &str) -> Option<String> {
+    let coordinates = coordinates(alloc, count)?;
+    let list = coordinates.as_str().strip_prefix(",").unwrap_or("");
+    format!(in alloc; r#"{ROUTES}{{"t":"{table}","k":5,"v":["R"],"s":[{list}]}}]}}"#).ok()
+}
+
+/// An office text of a format with these workspaces.
+fn with_parts(alloc: Global, format: &str, parts: &str) -> Option<String> {
+    format!(in alloc; r#"{{"format":{format},{PARTS}{parts}]}}"#).ok()
+}
+
+/// An office text of a format with a workspace.
+fn with_part(alloc: Global, format: &str, part: &str) -> Option<String> {
+    format!(in alloc; r#"{{"format":{format},{PARTS}{PART}{part}}}]}}"#).ok()
+}
+
+fn office_text(alloc: Global, word: &str, part: &str) -> Option<String> {
+    match word {
+        "cells" => {
+            let (cells, more) = part.split_once('^')?;
+            with_cells(alloc, cells, more)
+        }
+        "path" => {
+            let (table, coordinates) = part.split_once(' ')?;
+            with_path(alloc, table, coordinates)
+        }
+        "lists" => with_lists(alloc, part),
+        "rules" => with_rules(alloc, part),
+        "many" => with_rules(alloc, repeat(alloc, RULE, ",", part)?.as_str()),
+        "parts" => with_parts(alloc, "3", part),
+        "part" => with_part(alloc, "3", part),
+        _ => String::from_str(alloc, part).ok(),
+    }
+}
+
+/// `fits`, or why a text is refused.
+fn fault_text(alloc: Global, text: &[u8]) -> Option<String> {
+    match read_office(alloc, text) {
+        Ok(_) => String::from_str(alloc, "fits").ok(),
+        Err(fault) => format!(in alloc; "{fault:?}").ok(),
+    }
+}
+
+/// `fits`, or why the office text of a word and a part is refused.
+pub(super) fn fault_answer(alloc: Global, word: &str, part: &str) -> Option<String> {
+    let text = office_text(alloc, word, part)?;
+    fault_text(alloc, text.as_str().as_bytes())
+}
+
+/// How many workspaces a text of a format has, and whether the first is kept by this flag; or why it is refused.
+fn flag_text(alloc: Global, format: &str, flag: &str) -> Option<String> {
+    let part = format!(in alloc; r#""kept":{flag}"#).ok()?;
+    let text = with_part(alloc, format, part.as_str())?;
+    match read_office(alloc, text.as_str().as_bytes()) {
+        Ok(parts) => {
+            let kept = parts.workspaces.first()?.layer.kept;
+            format!(in alloc; "{} {kept}", parts.workspaces.len()).ok()
+        }
+        Err(fault) => format!(in alloc; "{fault:?}").ok(),
+    }
+}
+
+/// What becomes of a flag behind a format.
+pub(super) fn flag_answer(alloc: Global, case: &str) -> Option<String> {
+    let (format, flag) = case.split_once(' ')?;
+    flag_text(alloc, format, flag)
+}

@@ -1,0 +1,75 @@
+//! Workspaces of office texts.
+
+use crate::step_texts::{add_part, change_text};
+use clr_differences::Differences;
+use clr_layers::StoredMark;
+use clr_office_text::{StoredPart, read_office};
+use clr_rows::{CellId, Row};
+use std::alloc::Global;
+
+/// Node 9 in LIVE, K under LIVE, which is kept, and V1 under K.
+const NESTED: &str =
+    r#"{"format":3,"tables":[{"name":"node","columns":[["kind","TEXT"]],"shape":"POINT"}],
+"live":[{"t":"node","k":9,"v":["valve"],"s":[5,5]}],
+"workspaces":[{"name":"K","parent":"LIVE","kept":true,
+"base":[{"t":"node","k":9,"gone":true,"v":null},{"t":"node","k":7,"v":["tap"],"s":[1,1]}],
+"rows":[{"t":"node","k":10,"v":["tee"],"s":[7,7],"gone":false}],
+"marks":[{"savepoint":"s1","rows":[{"t":"node","k":7,"gone":true}]},{"child":"V1","savepoint":1},{"savepoint":"LIVE"}]},
+{"name":"V1","parent":"K"}]}"#;
+
+fn difference_text(alloc: Global, cell: CellId, row: Option<&Row>) -> Option<String> {
+    match row {
+        Some(row) => change_text(alloc, "row", cell, row),
+        None => format!(in alloc; "gone {}.{}", cell.table, cell.key).ok(),
+    }
+}
+
+/// The differences by cell.
+fn differences_text(alloc: Global, differences: &Differences) -> Option<String> {
+    let mut text = String::new(alloc);
+    for (cell, row) in differences.rows().ok()?.as_slice() {
+        let part = difference_text(alloc, *cell, row.as_ref())?;
+        add_part(&mut text, ", ", part.as_str())?;
+    }
+    Some(text)
+}
+
+fn mark_text(alloc: Global, mark: &StoredMark) -> Option<String> {
+    match mark {
+        StoredMark::Saved(name, rows) => {
+            let rows = differences_text(alloc, rows)?;
+            format!(in alloc; "{} [{}]", name.as_str(), rows.as_str()).ok()
+        }
+        StoredMark::Child(name) => format!(in alloc; "child {}", name.as_str()).ok(),
+    }
+}
+
+fn marks_text(alloc: Global, marks: &[StoredMark]) -> Option<String> {
+    let mut text = String::new(alloc);
+    for mark in marks {
+        add_part(&mut text, ", ", mark_text(alloc, mark)?.as_str())?;
+    }
+    Some(text)
+}
+
+fn part_text(alloc: Global, part: &StoredPart) -> Option<String> {
+    let (name, parent) = (part.name.as_str(), part.layer.parent.as_str());
+    let base = differences_text(alloc, &part.layer.base)?;
+    let rows = differences_text(alloc, &part.layer.current)?;
+    let marks = marks_text(alloc, part.layer.marks.as_slice())?;
+    let (base, rows, kept) = (base.as_str(), rows.as_str(), part.layer.kept);
+    format!(in alloc;
+        "{name} under {parent} {kept} base [{base}] rows [{rows}] marks [{}]",
+        marks.as_str()
+    )
+    .ok()
+}
+
+/// The workspace of a number.
+pub(super) fn workspace_text(alloc: Global, number: &str) -> Option<String> {
+    let parts = read_office(alloc, NESTED.as_bytes()).ok()?;
+    match parts.workspaces.get(number.parse::<usize>().ok()?) {
+        Some(part) => part_text(alloc, part),
+        None => String::from_str(alloc, "None").ok(),
+    }
+}
