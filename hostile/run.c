@@ -18,7 +18,10 @@
  *       that of the session. Where the first of two equal steps was answered so and the second wasn't, the second has the lines
  *       that the step has in the session;
  *     - of words: the session's lines with its status; or with status 3 the line by which a plan or a verdict finds no memory;
- *       or, of a merge, the same as of a script, names being its steps.
+ *       or, of a merge, the same as of a script, names being its steps;
+ *     - of words of clr_desk, which a session's file `program` names: text, notes and status of the session; or with status 3 no text,
+ *       and no notes or such as have a line that says so; or, where the session is refused with status 2, its first note without what stands behind it, which is
+ *       where the fault is or what a misspelt name may have meant.
  *
  * Without a refusal the program has to print what the session says. The last line is 'N passed, M failed', a way of a session
  * being one of N.
@@ -63,6 +66,7 @@ struct session {
     char *words[MOST_WORDS];         /* the words, but for the names of a merge */
     int word_count;
     bool is_script, is_merge, is_doubled;
+    bool is_desk;                    /* of clr_desk, which prints a text and notes */
     struct bytes lines, error;       /* what is printed where nothing is refused, and the line on standard error */
     int status;
 };
@@ -227,13 +231,14 @@ static void read_script(struct session *session, struct bytes input) {
     read_steps(session, rest);
 }
 
-/* Words, one a line; the names of a merge are its steps. */
+/* Words, one a line; the names of a merge of clr_office are its steps. */
 static void read_words(struct session *session, struct bytes rest) {
     while (rest.length > 0) {
         struct bytes line = line_of(rest);
         rest = behind(rest, line.length);
         struct bytes word = {line.start, line.length - (line.start[line.length - 1] == '\n')};
-        session->is_merge = session->is_merge || (session->word_count == 0 && same(word, text("merge")));
+        bool is_merge = session->word_count == 0 && !session->is_desk && same(word, text("merge"));
+        session->is_merge = session->is_merge || is_merge;
         if (session->is_merge && session->word_count == 3) {
             add_step(session, word);
         } else if (session->word_count < MOST_WORDS) {
@@ -252,6 +257,7 @@ static struct session *read_session(const char *name, bool is_doubled) {
     session->error = file_of(name, "stderr", &is_there);
     struct bytes status = file_of(name, "status", &is_there);
     session->status = is_there ? atoi(status.start) : 0;
+    session->is_desk = begins(file_of(name, "program", &is_there), text("clr_desk"));
     struct bytes words = file_of(name, "words", &is_there);
     session->is_script = !is_there;
     if (is_there) {
@@ -457,6 +463,19 @@ static bool is_lost_answer(const struct session *session, const struct end *end)
     return is_line && end->status == 3 && end->err.length == 0;
 }
 
+/* Whether clr_desk finds no memory: it prints no text, and one of its notes, if it has any, says that something was lost; or it leaves
+ * out what stands behind the line of a fault. */
+static bool is_lost_text(const struct session *session, const struct end *end) {
+    if (end->out.length != 0) {
+        return false;
+    }
+    if (end->status == 3) {
+        const char *lost = memmem(end->err.start, end->err.length, NO_VERDICT, strlen(NO_VERDICT));
+        return end->err.length == 0 || lost != NULL;
+    }
+    return end->status == 2 && session->status == 2 && same(end->err, line_of(session->error));
+}
+
 static bool is_right(const struct session *session, const struct end *end) {
     if (end->refused > 0 && is_no_memory(end)) {
         return true;
@@ -466,6 +485,9 @@ static bool is_right(const struct session *session, const struct end *end) {
     }
     if (end->status == session->status && same(end->out, session->lines) && same(end->err, session->error)) {
         return true;
+    }
+    if (session->is_desk) {
+        return end->refused > 0 && is_lost_text(session, end);
     }
     return end->refused > 0 && (is_lost_answer(session, end) || (session->is_merge && is_right_merge(session, end)));
 }

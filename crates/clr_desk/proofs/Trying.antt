@@ -17,8 +17,8 @@ use Rattle.clr_office.specs.Outcomes.{IsPlanned}
 use Rattle.clr_cert.specs.Texts.{certificate_text}
 use Rattle.clr_desk.specs.Choices.{AreTrials, IsChoicePrint, IsTrialAt, Trial, is_taken, left_text, members_asked, members_of, names_line, of_trials}
 use Rattle.clr_desk.specs.Choices.{refusal_text, taken_in}
-use Rattle.clr_desk.specs.Printing.{print_of, printed}
-use Rattle.clr_desk.specs.declared.prints.Print.{Print}
+use Rattle.clr_prints.specs.Printing.{print_of, printed}
+use Rattle.clr_prints.specs.declared.prints.Print.{Print}
 use Rattle.clr_desk.specs.Trials.{IsAdded, IsChosen, IsTried}
 use Rattle.clr_desk.specs.declared.choices.Choice.{Choice}
 use Rattle.clr_desk.specs.declared.choices.Trial.{Trial as Answer}

@@ -13,11 +13,14 @@ use Rattle.clr_desk.specs.Certificates.{IsCertificatePrint}
 use Rattle.clr_desk.specs.Choices.{IsChoicePrint}
 use Rattle.clr_desk.specs.Clashes.{IsClashesPrint}
 use Rattle.clr_desk.specs.Formats.{IsFormatPrint}
+use Rattle.clr_desk.specs.Geographic.{IsGeographicAnswer}
 use Rattle.clr_desk.specs.Merges.{IsHintedMerge}
-use Rattle.clr_desk.specs.NameHints.{IsHinted}
+use Rattle.clr_prints.specs.NameHints.{IsHinted}
 use Rattle.clr_desk.specs.Orders.{IsOrderPrint}
-use Rattle.clr_desk.specs.Printing.{IsPrintIn, IsPrintOfCase, IsTextFault, Printed, Printout}
+use Rattle.clr_prints.specs.Printing.{IsPrintIn, IsPrintOfCase, IsTextFault, Printed, Printout}
 use Rattle.clr_desk.specs.Whys.{IsWhyPrint}
+use Rattle.clr_desk_pages.specs.Maps.{IsMapPrint}
+use Rattle.clr_desk_pages.specs.Reports.{IsReportPrint}
 
 -- what is to be printed for what is asked of an office text and a second text
 abbrev pub IsAnswerWithin : Ask → List ℕ → List ℕ → Printed → Type 0
@@ -27,7 +30,10 @@ IsAnswerWithin ask.Format office second print = IsPrintIn IsFormatPrint (draft_i
 IsAnswerWithin (ask.Keep root names) office second print = IsPrintIn (IsHinted (IsChoicePrint root names) (root ∷ names)) (draft_in office) print
 IsAnswerWithin (ask.Clashes root names) office second print = IsPrintIn (IsHinted (IsClashesPrint root names) (root ∷ names)) (draft_in office) print
 IsAnswerWithin (ask.Why kind) office second print = IsWhyPrint kind office second print
+IsAnswerWithin (ask.Map root names) office second print = IsPrintIn (IsHinted (IsMapPrint (site root names)) (root ∷ names)) (draft_in office) print
+IsAnswerWithin (ask.Report root names) office second print = IsPrintIn (IsHinted (IsReportPrint (site root names)) (root ∷ names)) (draft_in office) print
 IsAnswerWithin (ask.WorkOrder root names) office second print = IsPrintIn (IsHinted (IsOrderPrint (site root names)) (root ∷ names)) (draft_in office) print
+IsAnswerWithin (ask.Geographic asked) office second print = IsGeographicAnswer asked office print
 
 -- the same where `too_long` says whether a text is
 abbrev pub IsAnswerIf : Bool → Ask → List ℕ → List ℕ → Printed → Type 0

@@ -8,7 +8,7 @@ use Rattle.clr_plan.specs.declared.plans.Plan.TheVariants as plan
 use Rattle.clr_plan.specs.Promises.{is_out_of_memory}
 use Rattle.clr_plan_lines.specs.Plans.{plan_text}
 use Rattle.clr_office.specs.Outcomes.{IsPlanned}
-use Rattle.clr_desk.specs.Printing.{Printed, print_of}
+use Rattle.clr_prints.specs.Printing.{Printed, print_of}
 
 -- the certificate of a cleared plan; of any other its lines, as notes, which counts as a refusal
 abbrev pub plan_print : Office → Site → Plan → Printed

@@ -15,7 +15,7 @@ use Rattle.clr_plan.specs.Promises.{is_cleared, is_out_of_memory}
 use Rattle.clr_plan_lines.specs.Plans.{plan_text}
 use Rattle.clr_office.specs.Outcomes.{IsPlanned}
 use Rattle.clr_desk.specs.Certificates.{plan_print}
-use Rattle.clr_desk.specs.Printing.{Printed, print_of}
+use Rattle.clr_prints.specs.Printing.{Printed, print_of}
 
 -- the children of a root, in order of creation
 abbrev pub children_of : Office → Name → List Name

@@ -17,7 +17,7 @@ use Rattle.clr_site_clashes.specs.declared.site_sets.SiteClash.{SiteClash}
 use Rattle.clr_site_clashes.specs.declared.site_sets.SiteClashes.{SiteClashes}
 use Rattle.clr_desk.specs.Certificates.{plan_print}
 use Rattle.clr_desk.specs.Choices.{members_asked, names_line}
-use Rattle.clr_desk.specs.Printing.{Printed, print_of}
+use Rattle.clr_prints.specs.Printing.{Printed, print_of}
 
 -- the members of a set, and why they can't be merged together
 abbrev pub clash_text : List TableDef → Site → SiteClash → List ℕ

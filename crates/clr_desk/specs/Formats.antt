@@ -3,7 +3,7 @@ use Rattle.std.specs.Prelude.{◌≡◌, ◌==◌, ℕ, not, false, List, [], fi
 use Rattle.clr_steps.specs.Offices.{Office}
 use Rattle.clr_drafts.specs.Drafts.{draft_in}
 use Rattle.clr_office_writer.specs.Writing.{bytes_of}
-use Rattle.clr_desk.specs.Printing.{Printed, print_of}
+use Rattle.clr_prints.specs.Printing.{Printed, print_of}
 
 -- a text without its line ends
 abbrev pub without_line_ends : List ℕ → List ℕ

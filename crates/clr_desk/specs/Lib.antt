@@ -4,9 +4,8 @@ pub mod Choices
 pub mod Clashes
 pub mod FaultPlaces
 pub mod Formats
+pub mod Geographic
 pub mod Merges
-pub mod NameHints
 pub mod Orders
-pub mod Printing
 pub mod Trials
 pub mod Whys

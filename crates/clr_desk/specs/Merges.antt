@@ -13,8 +13,8 @@ use Rattle.clr_lines.specs.Replies.{reply_text}
 use Rattle.clr_verdict_lines.specs.Verdicts.{verdict_text}
 use Rattle.clr_office.specs.Clearances.{AreMerged, is_clear, is_without_memory, stop_text}
 use Rattle.clr_office.specs.Outcomes.{dump_text, is_refused}
-use Rattle.clr_desk.specs.NameHints.{IsHinted}
-use Rattle.clr_desk.specs.Printing.{Printed, print_of}
+use Rattle.clr_prints.specs.NameHints.{IsHinted}
+use Rattle.clr_prints.specs.Printing.{Printed, print_of}
 
 -- the text of the office that is left, and as notes a line of each reply and that of the stop
 abbrev pub merge_print : List Reply → Option ℕ → Office → Printed

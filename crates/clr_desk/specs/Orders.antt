@@ -4,7 +4,7 @@ use Rattle.clr_steps.specs.Offices.{Office}
 use Rattle.clr_steps.specs.Quiet.{Site}
 use Rattle.clr_words.specs.declared.work_orders.WorkOrder.{WorkOrder}
 use Rattle.clr_words.specs.WorkOrders.{IsWorkOrder}
-use Rattle.clr_desk.specs.Printing.{Printed, print_of}
+use Rattle.clr_prints.specs.Printing.{Printed, print_of}
 
 -- the text of the work order, which counts as a refusal where the members aren't cleared
 abbrev pub order_print : WorkOrder → Printed

@@ -1,19 +1,23 @@
+//! What is printed for what is asked of texts, and where it goes.
+
 ghost use Rattle.std.specs.Prelude.{◌≡◌, ◌≢◌, [], false, IfErr, IfOk};
 ghost use Rattle.std.specs.Io.KnownBytes.{Appends};
 ghost use Rattle.clr_office.specs.declared.faults.RunFault.TheVariants as run_fault;
 ghost use Rattle.clr_desk.specs.Answers.{IsAnswer, IsAnswerTo, IsAnswerWithin};
-ghost use Rattle.clr_desk.specs.Printing.{IsMade};
+ghost use Rattle.clr_prints.specs.Printing.{IsMade};
 
 use crate::certificates::answer_certificate;
 use crate::choices::answer_keep;
 use crate::clashes::answer_clashes;
 use crate::formats::answer_format;
+use crate::geographic::answer_geographic;
 use crate::merges::answer_merge;
 use crate::orders::answer_work_order;
-use crate::prints::Print;
 use crate::whys::answer_why;
 use clr_desk_command_line::Ask;
+use clr_desk_pages::{answer_map, answer_report};
 use clr_office::{MOST_INPUT_BYTES, RunFault, Sink};
+use clr_prints::Print;
 use std::alloc::Global;
 
 /// What is printed for what is asked of two texts.
@@ -29,6 +33,9 @@ fn answer_texts(alloc: Global, ask: &Ask, office: &[u8], second: &[u8]) -> Resul
         Ask::Keep(root, names) => answer_keep(alloc, office, root.as_str(), names.as_slice()),
         Ask::Clashes(root, names) => answer_clashes(alloc, office, root.as_str(), names.as_slice()),
         Ask::Why(kind) => answer_why(alloc, kind, office, second),
+        Ask::Geographic(ask) => answer_geographic(alloc, ask, office),
+        Ask::Map(root, names) => answer_map(alloc, office, root.as_str(), names.as_slice()),
+        Ask::Report(root, names) => answer_report(alloc, office, root.as_str(), names.as_slice()),
         Ask::WorkOrder(root, names) => {
             answer_work_order(alloc, office, root.as_str(), names.as_slice())
         }

@@ -2,36 +2,17 @@
 ghost use Rattle.std.specs.Prelude.{◌≡◌, ◌∷◌, false, map, IfOk};
 ghost use Rattle.clr_check.specs.SiteNames.{site};
 ghost use Rattle.clr_drafts.specs.Drafts.{draft_in};
-ghost use Rattle.clr_plan.specs.Promises.{is_cleared as is_cleared_plan, is_out_of_memory as is_lost_plan};
-ghost use Rattle.clr_office.specs.Outcomes.{IsPlanned};
+ghost use Rattle.clr_plan.specs.Promises.{is_cleared as is_cleared_plan};
 ghost use Rattle.clr_desk.specs.Certificates.{IsCertificatePrint, plan_print};
-ghost use Rattle.clr_desk.specs.NameHints.{IsHinted};
-ghost use Rattle.clr_desk.specs.Printing.{IsMade, IsPrintIn, printed};
+ghost use Rattle.clr_prints.specs.NameHints.{IsHinted};
+ghost use Rattle.clr_prints.specs.Printing.{IsMade, IsPrintIn, printed};
 
-use crate::name_hints::with_hints;
-use crate::prints::{Print, notes_of};
 use clr_cert::write_certificate;
 use clr_engine::Office;
 use clr_office::{Plan, RunFault, Words, open_office, texts};
-use clr_plan::plan;
 use clr_plan_lines::plan_lines;
+use clr_prints::{Print, is_out_of_memory, notes_of, plan_members, with_hints};
 use std::alloc::{AllocError, Global};
-
-/// The plan of members, with what it promises.
-pub fn plan_members(alloc: Global, office: &Office, root: &str, members: &[&str]) -> Plan
-    ensures { IsPlanned office.now (site root.now (map (λ name. name.now) members.now)) result }
-{
-    plan(alloc, office, root, members)
-}
-
-fn is_out_of_memory(plan: &Plan) -> bool
-    ensures { result ≡ is_lost_plan plan.now }
-{
-    match plan {
-        Plan::OutOfMemory => true,
-        _ => false,
-    }
-}
 
 /// The lines of a plan that isn't cleared, as notes. It fails for want of memory alone.
 fn refusal_print(

@@ -7,18 +7,17 @@ ghost use Rattle.clr_plan.specs.declared.plans.Plan.TheVariants as plan;
 ghost use Rattle.clr_office.specs.Outcomes.{IsPlanned};
 ghost use Rattle.clr_desk.specs.Choices.{IsChoicePrint, names_line, refusal_text};
 ghost use Rattle.clr_desk.specs.Trials.{IsAdded, IsChosen, IsTried};
-ghost use Rattle.clr_desk.specs.NameHints.{IsHinted};
-ghost use Rattle.clr_desk.specs.Printing.{IsMade, IsPrintIn, print_of, printed};
+ghost use Rattle.clr_prints.specs.NameHints.{IsHinted};
+ghost use Rattle.clr_prints.specs.Printing.{IsMade, IsPrintIn, print_of, printed};
 
-use crate::certificates::{plan_members, plan_print};
+use crate::certificates::plan_print;
 use crate::children::members_asked;
-use crate::name_hints::with_hints;
 use crate::names_lines::names_line;
-use crate::prints::{Print, notes_of};
 use clr_cert::{Certificate, write_certificate};
 use clr_engine::Office;
 use clr_office::{Plan, RunFault, Words, open_office, texts};
 use clr_plan_lines::plan_lines;
+use clr_prints::{Print, notes_of, plan_members, with_hints};
 use clr_rows::Schema;
 use std::alloc::{AllocError, Global};
 

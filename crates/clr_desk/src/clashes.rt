@@ -4,17 +4,16 @@ ghost use Rattle.clr_check.specs.SiteNames.{site};
 ghost use Rattle.clr_drafts.specs.Drafts.{draft_in};
 ghost use Rattle.clr_site_clashes.specs.SiteClashes.{IsFaultOfNames};
 ghost use Rattle.clr_desk.specs.Clashes.{IsClashesPrint, IsSitePrint, found_print};
-ghost use Rattle.clr_desk.specs.NameHints.{IsHinted};
-ghost use Rattle.clr_desk.specs.Printing.{IsMade, IsPrintIn, printed};
+ghost use Rattle.clr_prints.specs.NameHints.{IsHinted};
+ghost use Rattle.clr_prints.specs.Printing.{IsMade, IsPrintIn, printed};
 
 use crate::certificates::plan_print;
 use crate::children::members_asked;
 use crate::clash_lines::clashes_lines;
-use crate::name_hints::with_hints;
-use crate::prints::{Print, notes_of};
 use clr_clearance::Verdict;
 use clr_engine::Office;
 use clr_office::{Plan, RunFault, Words, open_office, texts};
+use clr_prints::{Print, notes_of, with_hints};
 use clr_site_clashes::{SiteClashes, site_clashes};
 use std::alloc::{AllocError, Global};
 

@@ -2,12 +2,12 @@
 ghost use Rattle.std.specs.Prelude.{◌≡◌, ◌++◌, ◌∷◌, [], IfOk, IsTrue, OnOk};
 ghost use Rattle.clr_drafts.specs.Drafts.{draft_in};
 ghost use Rattle.clr_desk.specs.Formats.{IsFormatPrint, IsInLines, without_line_ends};
-ghost use Rattle.clr_desk.specs.Printing.{IsMade, IsPrintIn, printed};
+ghost use Rattle.clr_prints.specs.Printing.{IsMade, IsPrintIn, printed};
 
-use crate::prints::{Print, notes_of};
 use clr_engine::Office;
 use clr_office::{RunFault, open_office};
 use clr_office_writer::write_office;
+use clr_prints::{Print, notes_of};
 use std::alloc::{AllocError, Global};
 
 /// How a JSON text goes on behind a byte: within a text, behind a `\` in one, or between texts.

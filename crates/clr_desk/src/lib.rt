@@ -12,7 +12,11 @@
 //!   (`IsClashesPrint`); of `why` status 2 exactly where
 //!   the text has a fault, and then lines that begin with it and have the line, the column and the path of
 //!   the item that has it, and 1 exactly where an office can be read and a rule doesn't hold (`IsWhyPrint`);
-//!   of `words` a work order that ends with the lines of the plan, with the plan's status (`IsOrderPrint`).
+//!   of `words` a work order that ends with the lines of the plan, with the plan's status
+//!   (`IsOrderPrint`); of `map` a page of vector graphics whose title begins with the word for what the plan says, which it shows, and whose
+//!   description ends with the lines of the plan, with the plan's status (`IsMapPrint`); of `report` a page of hypertext that
+//!   begins with that word and that picture, and ends with the command of `clr_office` and the lines of the plan (`IsReportPrint`); of
+//!   `geojson` the features of a plan, with the plan's status, and of `layer` the layer of a table (`IsGeographicAnswer`).
 //! - `fault_place` [`place`]: the file, the line and the column of the fault of a text, or nothing.
 //! - [`silent`]: with status 3 nothing went to the sink of the text.
 //! - [`keeps`]: with any fault but WriteFailed nothing was written. After a failed write it isn't known
@@ -28,11 +32,10 @@ mod clash_members;
 mod clashes;
 mod fault_places;
 mod formats;
+mod geographic;
 mod merges;
-mod name_hints;
 mod names_lines;
 mod orders;
-mod prints;
 mod whys;
 
 pub use answers::answer;

@@ -2,10 +2,8 @@
 ghost use Rattle.std.specs.Prelude.{◌≡◌, IfOk};
 ghost use Rattle.clr_check_texts.specs.Cases.{case_of};
 ghost use Rattle.clr_desk.specs.Merges.{IsHintedMerge, IsMergePrint, merge_print};
-ghost use Rattle.clr_desk.specs.Printing.{IsMade, IsPrintOfCase, printed};
+ghost use Rattle.clr_prints.specs.Printing.{IsMade, IsPrintOfCase, printed};
 
-use crate::name_hints::hint_lines;
-use crate::prints::{Print, notes_of};
 use clr_cert::Certificate;
 use clr_check::{ClearedRun, perform_cleared};
 use clr_check_texts::read_case;
@@ -14,6 +12,7 @@ use clr_office::{
     RunFault, Words, dump_text, fault_output, merge_commands, replies_output, stop_output,
     verdict_output,
 };
+use clr_prints::{Print, hint_lines, notes_of};
 use std::alloc::{AllocError, Global};
 
 /// The office that merges left, and as notes the lines of the merges. It fails for want of memory alone.

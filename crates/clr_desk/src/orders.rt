@@ -2,14 +2,13 @@
 ghost use Rattle.std.specs.Prelude.{◌≡◌, ◌∷◌, map, IfOk};
 ghost use Rattle.clr_check.specs.SiteNames.{site};
 ghost use Rattle.clr_drafts.specs.Drafts.{draft_in};
-ghost use Rattle.clr_desk.specs.NameHints.{IsHinted};
+ghost use Rattle.clr_prints.specs.NameHints.{IsHinted};
 ghost use Rattle.clr_desk.specs.Orders.{IsOrderPrint, order_print};
-ghost use Rattle.clr_desk.specs.Printing.{IsMade, IsPrintIn, printed};
+ghost use Rattle.clr_prints.specs.Printing.{IsMade, IsPrintIn, printed};
 
-use crate::name_hints::hint_lines;
-use crate::prints::{Print, notes_of};
 use clr_engine::Office;
 use clr_office::{RunFault, Words, open_office, texts};
+use clr_prints::{Print, hint_lines, notes_of};
 use clr_words::{WorkOrder, work_order};
 use std::alloc::{AllocError, Global};
 

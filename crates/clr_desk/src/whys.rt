@@ -1,11 +1,11 @@
 //! Whether a text can be used, and where its fault is.
 ghost use Rattle.std.specs.Prelude.{◌≡◌, IfOk};
-ghost use Rattle.clr_desk.specs.Printing.{IsMade, printed};
+ghost use Rattle.clr_prints.specs.Printing.{IsMade, printed};
 ghost use Rattle.clr_desk.specs.Whys.{IsWhy, IsWhyPrint, why_print};
 
-use crate::prints::{Ending, Print};
 use clr_desk_command_line::TextKind;
 use clr_office::RunFault;
+use clr_prints::{Ending, Print};
 use clr_why::{Why, why_certificate, why_office, why_script};
 use std::alloc::{AllocError, Global};
 

@@ -6,11 +6,11 @@ use Rattle.clap.specs.Words.{Text, subcommand_of}
 use Rattle.clap.specs.Faults.{fault_of, is_simple_and_free}
 use Rattle.clap.proofs.OnLiterals.{clap_on_literals}
 use Rattle.clr_command_line.proofs.Entering.{IsKnown, asks_something}
-use Rattle.clr_desk_command_line.specs.Asks.{ask_by_name, ask_of}
+use Rattle.clr_desk_command_line.specs.Asks.{ask_by_name, ask_of, geographic_asked, members_ask}
 use Rattle.clr_desk_command_line.specs.Program.{program}
 
 all_known : AllByRecursion (IsKnown ask_by_name) (built program).subs
-unfolding ask_by_name clap_on_literals
+unfolding ask_by_name geographic_asked members_ask clap_on_literals
 all_known = (
   (refl, inl (λ rows. refl)),
   (
@@ -23,7 +23,22 @@ all_known = (
           (refl, inl (λ rows. refl)),
           (
             (refl, inl (λ rows. refl)),
-            ((refl, inl (λ rows. refl)), ((refl, inr refl), tt)),
+            (
+              (refl, inl (λ rows. refl)),
+              (
+                (refl, inl (λ rows. refl)),
+                (
+                  (refl, inl (λ rows. refl)),
+                  (
+                    (refl, inl (λ rows. refl)),
+                    (
+                      (refl, inl (λ rows. refl)),
+                      ((refl, inr refl), tt),
+                    ),
+                  ),
+                ),
+              ),
+            ),
           ),
         ),
       ),

@@ -51,6 +51,18 @@ why = with_rule (with_rule (database_command (codes "why")) (option (codes "scri
 abbrev pub words : App
 words = over_members (codes "words")
 
+abbrev pub map : App
+map = over_members (codes "map")
+
+abbrev pub report : App
+report = over_members (codes "report")
+
+abbrev pub geojson : App
+geojson = with_rule (over_members (codes "geojson")) (option (codes "crs"))
+
+abbrev pub layer : App
+layer = with_rule (with_rule (database_command (codes "layer")) (value (codes "TABLE"))) (option (codes "in"))
+
 -- a subcommand is demanded, and there is a version
 abbrev pub demanding : App
 demanding = let bare = new_app (codes "clr_desk") in record bare { top = record bare.top { has_version = true; subcommand_required = true } }
@@ -63,5 +75,14 @@ printing = with_subcommand (with_subcommand (with_subcommand demanding certifica
 abbrev pub choosing : App
 choosing = with_subcommand (with_subcommand printing keep.top) clashes.top
 
+-- those that explain
+abbrev pub explaining : App
+explaining = with_subcommand (with_subcommand choosing why.top) words.top
+
+-- those that draw
+abbrev pub drawing : App
+drawing = with_subcommand (with_subcommand explaining map.top) report.top
+
+-- those that print texts of geographic information systems
 abbrev pub program : App
-program = with_subcommand (with_subcommand choosing why.top) words.top
+program = with_subcommand (with_subcommand drawing geojson.top) layer.top

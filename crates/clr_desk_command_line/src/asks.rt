@@ -1,3 +1,5 @@
+//! What can be asked.
+
 use clr_rows::{Names, Words};
 
 /// A kind of text that the program reads.
@@ -8,7 +10,17 @@ pub enum TextKind {
     Certificate,
 }
 
-/// What is asked of an office text, and of a second text where there is one.
+/// What is asked of an office text in the texts of geographic information systems.
+#[derive(Debug, Drop)]
+pub enum GeographicAsk {
+    /// What the plan of these children of a root is about, as features of a map: the root, the children, and the name of the reference system
+    /// of their coordinates, as it was given.
+    Features(Words, Names, Option<Words>),
+    /// The rows of a table in a workspace, as a layer: the table, and the workspace.
+    Layer(Words, Words),
+}
+
+/// What is asked of an office text, and of further texts where there are some.
 #[derive(Debug, Drop)]
 pub enum Ask {
     /// The certificate of these children of a root, alone: the root, and the children.
@@ -28,4 +40,10 @@ pub enum Ask {
     Why(TextKind),
     /// The plan of these children of a root as a work order: the root, and the children.
     WorkOrder(Words, Names),
+    /// The plan of these children of a root as a picture: the root, and the children.
+    Map(Words, Names),
+    /// The plan of these children of a root as a page with its picture: the root, and the children.
+    Report(Words, Names),
+    /// What is asked in the texts of geographic information systems.
+    Geographic(GeographicAsk),
 }

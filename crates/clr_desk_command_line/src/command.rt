@@ -2,18 +2,19 @@
 ghost use Rattle.std.specs.Prelude.{◌≡◌, false, IfOk};
 ghost use Rattle.clap.specs.Words.{app_of, with_rule, with_subcommand};
 ghost use Rattle.clap.specs.declared.builder.command.Command.TheViews.{out-Command as fields_of};
-ghost use Rattle.clr_desk_command_line.specs.Program.{certificate, certificate_file, choosing, clashes, database_command, demanding, format, keep, merge};
-ghost use Rattle.clr_desk_command_line.specs.Program.{names as several_names, option as option_rule, over_members, printing, program, root as root_option, why, words};
+ghost use Rattle.clr_desk_command_line.specs.Program.{certificate, certificate_file, choosing, clashes, database_command, demanding, explaining, format, keep, map, merge};
+ghost use Rattle.clr_desk_command_line.specs.Program.{names as several_names, option as option_rule, over_members, drawing, printing, program, report, root as root_option, why, words};
 
 use crate::helps::{
-    ABOUT, CERTIFICATE_PRINTS, CLASHES_PRINTS, FORMAT_PRINTS, KEEP_PRINTS, MERGE_PRINTS, STATUSES,
-    VERSION, WHY_PRINTS, WORDS_PRINTS,
+    ABOUT, CERTIFICATE_PRINTS, CLASHES_PRINTS, FORMAT_PRINTS, KEEP_PRINTS, MAP_PRINTS,
+    MERGE_PRINTS, REPORT_PRINTS, STATUSES, VERSION, WHY_PRINTS, WORDS_PRINTS,
 };
+use crate::layer_commands::{geojson, layer};
 use clap::{Arg, Command};
 use std::alloc::{AllocError, Global};
 
 /// A subcommand over an office text, with a line about it and with what it prints.
-fn over_database<'a>(
+pub(crate) fn over_database<'a>(
     alloc: Global,
     name: &'a str,
     about: &'a str,
@@ -71,7 +72,7 @@ fn with_certificate<'a>(alloc: Global, command: Command<'a>) -> Result<Command<'
 }
 
 /// A subcommand over an office text and designs of a root.
-fn over_members<'a>(
+pub(crate) fn over_members<'a>(
     alloc: Global,
     name: &'a str,
     about: &'a str,
@@ -201,6 +202,30 @@ fn words<'a>(alloc: Global) -> Result<Command<'a>, AllocError>
     )
 }
 
+fn map<'a>(alloc: Global) -> Result<Command<'a>, AllocError>
+    ensures shape { IfOk result (λ c. app_of c ≡ map) }
+    ensures plain { IfOk result (λ c. (fields_of c).has_globals ≡ false) }
+{
+    over_members(
+        alloc,
+        "map",
+        "Draws the plan of designs as a picture, an SVG",
+        MAP_PRINTS,
+    )
+}
+
+fn report<'a>(alloc: Global) -> Result<Command<'a>, AllocError>
+    ensures shape { IfOk result (λ c. app_of c ≡ report) }
+    ensures plain { IfOk result (λ c. (fields_of c).has_globals ≡ false) }
+{
+    over_members(
+        alloc,
+        "report",
+        "Tells the plan of designs in one page, an HTML file with its picture",
+        REPORT_PRINTS,
+    )
+}
+
 /// The command with one more subcommand.
 fn add<'a>(command: Command<'a>, subcommand: Command<'a>) -> Result<Command<'a>, AllocError>
     requires command { (fields_of command).has_globals ≡ false }
@@ -242,10 +267,28 @@ fn with_choices<'a>(alloc: Global) -> Result<Command<'a>, AllocError>
     add(command, clashes(alloc)?)
 }
 
-/// The whole command line. It fails for want of memory alone.
-pub fn whole_command<'a>(alloc: Global) -> Result<Command<'a>, AllocError>
-    ensures { IfOk result (λ c. app_of c ≡ program) }
+/// The command with those subcommands, too, that explain.
+fn with_explanations<'a>(alloc: Global) -> Result<Command<'a>, AllocError>
+    ensures shape { IfOk result (λ c. app_of c ≡ explaining) }
+    ensures plain { IfOk result (λ c. (fields_of c).has_globals ≡ false) }
 {
     let command = add(with_choices(alloc)?, why(alloc)?)?;
     add(command, words(alloc)?)
+}
+
+/// The command with those subcommands, too, that draw.
+fn with_pictures<'a>(alloc: Global) -> Result<Command<'a>, AllocError>
+    ensures shape { IfOk result (λ c. app_of c ≡ drawing) }
+    ensures plain { IfOk result (λ c. (fields_of c).has_globals ≡ false) }
+{
+    let command = add(with_explanations(alloc)?, map(alloc)?)?;
+    add(command, report(alloc)?)
+}
+
+/// Returns the whole command line.
+pub fn whole_command<'a>(alloc: Global) -> Result<Command<'a>, AllocError>
+    ensures { IfOk result (λ c. app_of c ≡ program) }
+{
+    let command = add(with_pictures(alloc)?, geojson(alloc)?)?;
+    add(command, layer(alloc)?)
 }

@@ -68,3 +68,34 @@ help, each tried. The status is 0 where the designs are cleared, and 1 where the
 
 Example:
   clr_desk words office.json Renewal Extension Bypass";
+
+pub(crate) const MAP_PRINTS: &str =
+    "It prints a picture of the plan as an SVG, which any browser shows: LIVE in grey, each design in a colour of
+its own, and where the designs can't be merged in every order the place of the cause, with words. The ticks and the
+scale are in metres. The status is 0 where the designs are cleared, and 1 where they aren't.
+
+Example:
+  clr_desk map office.json Renewal Extension Bypass > plan.svg";
+
+pub(crate) const REPORT_PRINTS: &str =
+    "It prints one HTML file that needs nothing beside it: the picture of the plan, why the designs can't be merged
+in every order and what would help, the designs with their rows, their clashes, the certificate, and the lines of
+`clr_office plan`. The status is 0 where the designs are cleared, and 1 where they aren't.
+
+Example:
+  clr_desk report office.json Renewal Extension Bypass > plan.html";
+
+pub(crate) const GEOJSON_PRINTS: &str =
+    "It prints what the plan is about as GeoJSON, for a geographic information system: the rows of the root, what
+each design adds, changes and removes, which rows the cause names, and the place of the cause. Coordinates are in
+metres. The status is 0 where the designs are cleared, and 1 where they aren't.
+
+Example:
+  clr_desk geojson office.json --crs EPSG:25832 Renewal Extension > plan.geojson";
+
+pub(crate) const LAYER_PRINTS: &str =
+    "It prints the rows of a table as CSV: their keys, their values and, in metres, their shapes as WKT.
+Where there is no such table or workspace it prints nothing, and says so on standard error, with status 1.
+
+Example:
+  clr_desk layer office.json main > main.csv";

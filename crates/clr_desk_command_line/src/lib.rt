@@ -8,8 +8,11 @@
 mod asks;
 mod command;
 mod helps;
+mod layer_commands;
+mod layer_reading;
 mod reading;
+mod values;
 
-pub use asks::{Ask, TextKind};
+pub use asks::{Ask, GeographicAsk, TextKind};
 pub use clr_command_line::AskFault;
 pub use reading::ask_of;

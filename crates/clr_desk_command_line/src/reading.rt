@@ -1,25 +1,19 @@
-ghost use Rattle.std.specs.Prelude.{◌≡◌, Some, IfOk, IfErr, is_some, map, true};
+//! Reading the words of a command line.
+
+ghost use Rattle.std.specs.Prelude.{◌≡◌, Some, IfOk, IfErr, is_some, map, option_map, true};
 ghost use Rattle.clap.specs.Words.{first_of, found_of, rows_of, subcommand_of, takes};
 ghost use Rattle.clr_command_line.specs.Asks.{IsMemory};
-ghost use Rattle.clr_desk_command_line.specs.Asks.{ask_of, ask_by_name, root_of, why_of};
+ghost use Rattle.clr_desk_command_line.specs.Asks.{ask_of, ask_by_name, members_ask, geographic_asked, members_asked, merge_of, or_members_asked, why_of};
 ghost use Rattle.clr_desk_command_line.specs.Program.{program};
 
 use crate::asks::{Ask, TextKind};
 use crate::command::whole_command;
+use crate::layer_reading::geographic;
+use crate::values::root;
 use clap::ArgMatches;
 use clr_command_line::{AskFault, database, database_with, names};
-use clr_rows::{LIVE, Words};
+use clr_rows::{Names, Words};
 use std::alloc::{AllocError, Global};
-
-/// The root that is given, or LIVE.
-fn root(alloc: Global, matches: &ArgMatches) -> Result<Words, AllocError>
-    ensures { IfOk result (λ root. root ≡ root_of (rows_of (found_of matches.now))) }
-{
-    match matches.get_str("under") {
-        Some(name) => Ok(Words::new(String::from_str(alloc, name)?)),
-        None => Ok(Words::new(String::from_str(alloc, LIVE)?)),
-    }
-}
 
 /// Whether an option has a value.
 fn has_value(matches: &ArgMatches, option: &str) -> bool
@@ -47,6 +41,62 @@ fn why(alloc: Global, matches: &ArgMatches) -> Result<(Ask, Vec<Words>), AllocEr
     }
 }
 
+/// What is asked of members of a root, if a subcommand of this name asks it.
+#[tactic(auto, unfolding(crate::specs::Asks::members_ask))]
+fn members_ask(name: &str, root: Words, names: Names) -> Option<Ask>
+    ensures { result ≡ members_ask name.now root names }
+{
+    match name {
+        "certificate" => Some(Ask::Certificate(root, names)),
+        "keep" => Some(Ask::Keep(root, names)),
+        "clashes" => Some(Ask::Clashes(root, names)),
+        "words" => Some(Ask::WorkOrder(root, names)),
+        "map" => Some(Ask::Map(root, names)),
+        "report" => Some(Ask::Report(root, names)),
+        _ => None,
+    }
+}
+
+/// What a subcommand over members asks for, and its file.
+fn over_members(
+    alloc: Global,
+    name: &str,
+    matches: &ArgMatches,
+) -> Result<(Ask, Vec<Words>), AllocError>
+    requires { is_some (members_asked name.now (rows_of (found_of matches.now))) ≡ true }
+    ensures { IfOk result (λ r. members_asked name.now (rows_of (found_of matches.now)) ≡ Some (r.0, r.1.items)) }
+{
+    let root = root(alloc, matches)?;
+    let names = names(alloc, matches)?;
+    let Some(ask) = members_ask(name, root, names) else {
+        unreachable!();
+    };
+    Ok((ask, database(alloc, matches)?))
+}
+
+/// What `merge` asks for, and its files.
+fn merge(alloc: Global, matches: &ArgMatches) -> Result<(Ask, Vec<Words>), AllocError>
+    ensures { IfOk result (λ r. merge_of (rows_of (found_of matches.now)) ≡ (r.0, r.1.items)) }
+{
+    let ask = Ask::Merge(names(alloc, matches)?);
+    Ok((ask, database_with(alloc, matches, "CERT")?))
+}
+
+/// What a subcommand over layers or members asks for, and its files.
+fn over_layers_or_members(
+    alloc: Global,
+    name: &str,
+    matches: &ArgMatches,
+) -> Result<(Ask, Vec<Words>), AllocError>
+    requires { is_some (or_members_asked (geographic_asked name.now (rows_of (found_of matches.now))) name.now (rows_of (found_of matches.now))) ≡ true }
+    ensures { IfOk result (λ r. or_members_asked (geographic_asked name.now (rows_of (found_of matches.now))) name.now (rows_of (found_of matches.now)) ≡ Some (r.0, r.1.items)) }
+{
+    match geographic(alloc, name, matches)? {
+        Some((ask, files)) => Ok((Ask::Geographic(ask), files)),
+        None => over_members(alloc, name, matches),
+    }
+}
+
 /// What a subcommand asks for, and its files.
 #[tactic(auto, unfolding(crate::specs::Asks::ask_by_name))]
 fn ask_of_subcommand(
@@ -57,26 +107,20 @@ fn ask_of_subcommand(
     requires { is_some (ask_by_name name.now (rows_of (found_of matches.now))) ≡ true }
     ensures { IfOk result (λ r. ask_by_name name.now (rows_of (found_of matches.now)) ≡ Some (r.0, r.1.items)) }
 {
-    let root = root(alloc, matches)?;
-    let names = names(alloc, matches)?;
-    let found = match name {
-        "certificate" => (Ask::Certificate(root, names), database(alloc, matches)?),
-        "merge" => (Ask::Merge(names), database_with(alloc, matches, "CERT")?),
-        "format" => (Ask::Format, database(alloc, matches)?),
-        "keep" => (Ask::Keep(root, names), database(alloc, matches)?),
-        "clashes" => (Ask::Clashes(root, names), database(alloc, matches)?),
-        "why" => why(alloc, matches)?,
-        "words" => (Ask::WorkOrder(root, names), database(alloc, matches)?),
-        _ => unreachable!(),
-    };
-    Ok(found)
+    match name {
+        "merge" => merge(alloc, matches),
+        "format" => Ok((Ask::Format, database(alloc, matches)?)),
+        "why" => why(alloc, matches),
+        _ => over_layers_or_members(alloc, name, matches),
+    }
 }
 
 /// What the words of a command line ask for, with the program's name first, and the names of the
 /// files that it is asked of: that of the office text, and then that of the script or the certificate
 /// where there is one. The subcommands are `merge DB CERT NAME..`, `format DB`,
-/// `why DB [--script FILE] [--certificate FILE]`, and `certificate`, `keep`, `clashes` and `words`, each
-/// with `DB [--under ROOT] NAME..`. There are none or more names; the root is LIVE where none is given.
+/// `why DB [--script FILE] [--certificate FILE]`, `certificate`, `keep`, `clashes`, `words`, `map` and
+/// `report`, each with `DB [--under ROOT] NAME..`, `geojson DB [--under ROOT] [--crs SYSTEM] NAME..`, and `layer DB TABLE [--in WORKSPACE]`.
+/// There are none or more names. The root, and the workspace of a layer, is LIVE where none is given.
 ///
 /// Fails with `Refused` where the words name no subcommand or another count of values than it has,
 /// or ask for help, as `help`, `--help` and `-h`, or for the version, as `--version` and `-V`; and

@@ -1,7 +1,8 @@
 //! Places for labels, so that none lies over another.
 
-ghost use Rattle.std.specs.Prelude.{IfOk, IfSome, IsTrue};
+ghost use Rattle.std.specs.Prelude.{◌≡◌, ◌++◌, ◌∷◌, [], IfOk, IfSome, IsTrue, OnOk};
 ghost use Rattle.clr_drawing.specs.Areas.{CoversNone};
+ghost use Rattle.clr_drawing.specs.Labels.{TakesPlace};
 
 use crate::areas::Area;
 use clr_svg::{Pixels, Spot};
@@ -47,7 +48,9 @@ pub struct Labels {
 
 impl Labels {
     /// Returns the labels of a frame of which nothing is taken.
-    pub fn new(alloc: Global, frame: Area) -> Labels {
+    pub fn new(alloc: Global, frame: Area) -> Labels
+        ensures { result.taken.items ≡ [] }
+    {
         Labels {
             alloc,
             frame,
@@ -57,27 +60,30 @@ impl Labels {
     }
 
     /// Takes an area, so that no label is placed over it. Fails for want of memory alone.
-    pub fn take(&mut self, area: Area) -> Result<(), AllocError> {
+    pub fn take(&mut self, area: Area) -> Result<(), AllocError>
+        ensures { OnOk result (self.new.taken.items ≡ self.old.taken.items ++ area ∷ []) }
+    {
         self.taken.push(area)?;
         Ok(())
     }
 
     /// Notes a spot that labels should leave free where they can. Fails for want of memory alone.
-    pub fn avoid(&mut self, spot: Spot) -> Result<(), AllocError> {
+    pub fn avoid(&mut self, spot: Spot) -> Result<(), AllocError>
+        ensures { self.new.taken.items ≡ self.old.taken.items }
+    {
         self.busy.push(spot)?;
         Ok(())
     }
 
-    /// Returns a place for a label of this size near one of these spots, or none where each is taken: the one beside which the fewest spots
-    /// are covered that should be left free, and of those the nearest. Fails for want of memory alone.
-    pub fn place(
+    /// The place for a label of this size near one of these spots that costs least, or none where each is taken.
+    fn place(
         &self,
         anchors: &[Spot],
         width: Pixels,
         height: Pixels,
         gap: Pixels,
     ) -> Result<Option<Placed>, AllocError>
-        ensures free { IfOk result (λ found. IfSome found (λ placed. CoversNone self.now.taken.items placed.area)) }
+        ensures { IfOk result (λ found. IfSome found (λ placed. CoversNone self.now.taken.items placed.area)) }
     {
         let places = places_for(self.alloc, anchors, width, height, gap)?;
         Ok(cheapest(
@@ -86,6 +92,27 @@ impl Labels {
             self.taken.as_slice(),
             self.busy.as_slice(),
         ))
+    }
+
+    /// Takes a place for a label of this size near one of these spots, and returns it; or takes none where each is taken. The place covers
+    /// nothing that was taken before. It is the one beneath which the fewest spots lie that should be left free, and of those the nearest.
+    /// Fails for want of memory alone.
+    pub fn put(
+        &mut self,
+        anchors: &[Spot],
+        width: Pixels,
+        height: Pixels,
+        gap: Pixels,
+    ) -> Result<Option<Placed>, AllocError>
+        ensures free { IfOk result (TakesPlace self.old.taken.items self.new.taken.items) }
+    {
+        match self.place(anchors, width, height, gap)? {
+            Some(placed) => {
+                self.take(placed.area)?;
+                Ok(Some(placed))
+            }
+            None => Ok(None),
+        }
     }
 }
 

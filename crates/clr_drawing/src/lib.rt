@@ -3,7 +3,8 @@
 //! pixel of the page. What would leave 64 bits stops at their limit.
 //!
 //! - Each call is safe, ends, and fails for want of memory alone. What a picture looks like is tested.
-//! - `Labels::place` [`free`]: the area of a label that is placed overlaps none of those that were taken.
+//! - `Labels::put` [`free`]: the area of a label that is placed overlaps none of those that were taken, and is taken itself; so no label
+//!   covers another.
 //! - `overlaps` of `Area`: exactly whether two areas have a point within both.
 #![tactic(auto)]
 

@@ -43,7 +43,7 @@ fn add_hex(text: &mut Vec<u8>, number: u8) -> Result<(), AllocError>
 
 /// Adds a colour, as `#0072b2`. Fails for want of memory alone.
 #[tactic(auto, unfolding(crate::specs::Numbers::colour_text))]
-pub(crate) fn add_colour(text: &mut Vec<u8>, colour: Colour) -> Result<(), AllocError>
+pub fn add_colour(text: &mut Vec<u8>, colour: Colour) -> Result<(), AllocError>
     ensures { OnOk result (text.new.items ≡ text.old.items ++ colour_text colour) }
 {
     text.extend_from_slice(b"#")?;

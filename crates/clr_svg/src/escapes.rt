@@ -35,7 +35,7 @@ fn add_byte(text: &mut Vec<u8>, byte: u8) -> Result<(), AllocError>
 /// Adds a text, with references for `<`, `>`, `&` and quotation marks, and a space for each control character but the end of a line.
 /// Fails for want of memory alone.
 #[tactic(auto, unfolding(crate::specs::Escapes::escaped))]
-pub(crate) fn add_escaped(text: &mut Vec<u8>, words: &[u8]) -> Result<(), AllocError>
+pub fn add_escaped(text: &mut Vec<u8>, words: &[u8]) -> Result<(), AllocError>
     ensures { OnOk result (text.new.items ≡ text.old.items ++ escaped words.now) }
 {
     for byte in words {

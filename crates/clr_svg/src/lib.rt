@@ -4,6 +4,7 @@
 //!   end, and of attributes in quotation marks, whose values are numbers, colours and fixed words.
 //! - `escaped_texts_are_harmless`: a title, a description or a label is a list of bytes none of which is `<`, `>`, `&`, a quotation mark
 //!   or a control character but the end of a line, and of references to these characters.
+//! - `add_escaped` and `add_colour` add such a text, and a colour, to a text that is made elsewhere.
 //! - `Pixels`: lengths in tenths of a pixel, whose sums, differences and products stop at the limits of 64 bits.
 #![tactic(auto)]
 
@@ -16,8 +17,9 @@ mod numbers;
 mod pages;
 mod pixels;
 
-pub use colours::Colour;
+pub use colours::{Colour, add_colour};
 pub use elements::{Anchor, Element, Label, Spot, Step, Weight};
+pub use escapes::add_escaped;
 pub use inks::{Dash, Ink, Stroke};
 pub use laws::escaped_texts_are_harmless;
 pub use pages::{Layer, Page, Window, write_page};

@@ -1,4 +1,3 @@
 pub mod Lists
 pub mod Savepoints
 pub mod TrialLemmas
-pub mod VersionLemmas

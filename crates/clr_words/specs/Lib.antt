@@ -1,4 +1,3 @@
 pub mod Making
 pub mod Trials
-pub mod Versions
 pub mod WorkOrders

@@ -1,12 +1,13 @@
 //! What may clear a set of members that is blocked, to be tried.
 
-use crate::causes::Setting;
-use crate::members::Members;
-use crate::servers::{ServerChange, server_changes};
-use crate::sites::{rule_of, server_side, site_of};
 use clr_change::{ChangeSet, Edit};
 use clr_clearance::Verdict;
+use clr_engine::Office;
 use clr_needs::{Need, VersionId};
+use clr_plan::Plan;
+use clr_plan_words::{
+    Members, ServerChange, Setting, rule_of, server_changes, server_side, site_of,
+};
 use clr_rows::{
     CellId, Form, GREATEST_KEY, Kind, Place, Row, Shape, Sheet, TableDef, Value, Values, Words,
 };
@@ -146,176 +147,204 @@ fn add_keeping(
     Ok(())
 }
 
-impl Setting<'_> {
-    /// A key of a table that is free in the root and in all members, or none where the greatest is taken.
-    fn free_key(&self, table: u16) -> Result<Option<i64>, AllocError> {
-        let mut greatest = match self.office.rows(self.members.root)? {
-            Some(rows) => greatest_standing(0, &rows, table),
-            None => 0,
-        };
-        for set in self.members.changes.as_slice() {
-            greatest = greatest_changed(greatest, set, table);
-        }
-        if greatest < GREATEST_KEY {
-            Ok(Some(greatest + 1))
-        } else {
-            Ok(None)
-        }
+/// A key of a table that is free in the root and in all members, or none where the greatest is taken.
+fn free_key(setting: Setting<'_>, table: u16) -> Result<Option<i64>, AllocError> {
+    let mut greatest = match setting.office.rows(setting.members.root)? {
+        Some(rows) => greatest_standing(0, &rows, table),
+        None => 0,
+    };
+    for set in setting.members.changes.as_slice() {
+        greatest = greatest_changed(greatest, set, table);
     }
+    if greatest < GREATEST_KEY {
+        Ok(Some(greatest + 1))
+    } else {
+        Ok(None)
+    }
+}
 
-    /// Adds that each of these members brings a row of a side at a place, where the table has points.
-    fn add_serving(
-        &self,
-        list: &mut Vec<Action>,
-        side: &Side,
-        place: Place,
-        members: &[usize],
-    ) -> Result<(), AllocError> {
-        let Some(table) = self.office.schema().def(side.table) else {
-            return Ok(());
-        };
-        let Some(key) = self.free_key(side.table)? else {
-            return Ok(());
-        };
-        if table.shape != Form::Point {
-            return Ok(());
-        }
-        let cell = CellId {
-            table: side.table,
-            key,
-        };
-        for member in members {
-            let row = serving_row(self.alloc, table, side, place)?;
-            list.push(Action::Make(*member, Edit::Insert(cell, row)))?;
-        }
-        Ok(())
+/// Adds that each of these members brings a row of a side at a place, where the table has points.
+fn add_serving(
+    setting: Setting<'_>,
+    list: &mut Vec<Action>,
+    side: &Side,
+    place: Place,
+    members: &[usize],
+) -> Result<(), AllocError> {
+    let Some(table) = setting.office.schema().def(side.table) else {
+        return Ok(());
+    };
+    let Some(key) = free_key(setting, side.table)? else {
+        return Ok(());
+    };
+    if table.shape != Form::Point {
+        return Ok(());
     }
+    let cell = CellId {
+        table: side.table,
+        key,
+    };
+    for member in members {
+        let row = serving_row(setting.alloc, table, side, place)?;
+        list.push(Action::Make(*member, Edit::Insert(cell, row)))?;
+    }
+    Ok(())
+}
 
-    /// Adds that a row is brought that serves a need, where the need asks for one at a place.
-    fn add_servers_for(
-        &self,
-        list: &mut Vec<Action>,
-        need: &Need,
-        order: &[usize],
-    ) -> Result<(), AllocError> {
-        let side = match rule_of(self.office, need) {
-            Some(rule) => server_side(rule),
-            None => None,
-        };
-        match (side, site_of(self.office, self.members, need)) {
-            (Some(side), Meeting::Whole(place)) => self.add_serving(list, side, place, order),
-            _ => Ok(()),
+/// Adds that a row is brought that serves a need, where the need asks for one at a place.
+fn add_servers_for(
+    setting: Setting<'_>,
+    list: &mut Vec<Action>,
+    need: &Need,
+    order: &[usize],
+) -> Result<(), AllocError> {
+    let side = match rule_of(setting.office, need) {
+        Some(rule) => server_side(rule),
+        None => None,
+    };
+    match (side, site_of(setting.office, setting.members, need)) {
+        (Some(side), Meeting::Whole(place)) => add_serving(setting, list, side, place, order),
+        _ => Ok(()),
+    }
+}
+
+/// Adds what may serve a need that nothing covers, or take it away.
+fn add_for_need(
+    setting: Setting<'_>,
+    list: &mut Vec<Action>,
+    need: &Need,
+    order: &[usize],
+) -> Result<(), AllocError> {
+    add_servers_for(setting, list, need, order)?;
+    let changes = server_changes(setting.alloc, setting.office, setting.members, need)?;
+    add_keeping(list, setting.members, changes.as_slice())?;
+    add_giving_up(list, setting.members, need.first)?;
+    match need.second {
+        Some(version) => add_giving_up(list, setting.members, version),
+        None => Ok(()),
+    }
+}
+
+/// Adds what may take a cause away.
+fn add_for_cause(
+    setting: Setting<'_>,
+    list: &mut Vec<Action>,
+    order: &[usize],
+    cause: &Verdict,
+) -> Result<(), AllocError> {
+    match cause {
+        Verdict::Conflict { member, cell, .. } => {
+            add_undoing(list, setting.members, *member, *cell)
+        }
+        Verdict::SharedCell {
+            cell,
+            first,
+            second,
+        } => {
+            add_undoing(list, setting.members, *first, *cell)?;
+            add_undoing(list, setting.members, *second, *cell)
+        }
+        Verdict::Uncovered(need) => add_for_need(setting, list, need, order),
+        _ => Ok(()),
+    }
+}
+
+/// Returns what may clear a set of members that is blocked in this order for this cause. That one is
+/// left out stands last, and isn't tried where there is but one.
+fn actions_for(
+    setting: Setting<'_>,
+    order: &[usize],
+    cause: &Verdict,
+) -> Result<Vec<Action>, AllocError> {
+    let mut list = Vec::new(setting.alloc);
+    add_for_cause(setting, &mut list, order, cause)?;
+    if setting.members.names.len() > 1 {
+        for member in order {
+            list.push(Action::LeaveOut(*member))?;
         }
     }
+    Ok(list)
+}
 
-    /// Adds what may serve a need that nothing covers, or take it away.
-    fn add_for_need(
-        &self,
-        list: &mut Vec<Action>,
-        need: &Need,
-        order: &[usize],
-    ) -> Result<(), AllocError> {
-        self.add_servers_for(list, need, order)?;
-        let changes = server_changes(self.alloc, self.office, self.members, need)?;
-        add_keeping(list, self.members, changes.as_slice())?;
-        add_giving_up(list, self.members, need.first)?;
-        match need.second {
-            Some(version) => add_giving_up(list, self.members, version),
-            None => Ok(()),
+/// Returns a row that is brought in words, as `with valve 11 at (30.000, 4.000) in Extension`.
+fn bringing_words(
+    setting: Setting<'_>,
+    name: &str,
+    cell: CellId,
+    row: &Row,
+) -> Result<String, AllocError> {
+    let label = setting.cell_label(cell)?;
+    let label = label.as_str();
+    match &row.shape {
+        Shape::At(place) => {
+            let place = At(*place);
+            format!(in setting.alloc; "with {label} at {place} in {name}")
+        }
+        _ => format!(in setting.alloc; "with {label} in {name}"),
+    }
+}
+
+/// Returns an edit of a member in words.
+fn edit_words(setting: Setting<'_>, name: &str, edit: &Edit) -> Result<String, AllocError> {
+    match edit {
+        Edit::Insert(cell, row) => bringing_words(setting, name, *cell, row),
+        Edit::Update(cell, _) => {
+            let label = setting.cell_label(*cell)?;
+            let label = label.as_str();
+            format!(in setting.alloc; "with {label} in {name} as it was taken over")
+        }
+        Edit::Delete(cell) => {
+            let label = setting.cell_label(*cell)?;
+            let label = label.as_str();
+            format!(in setting.alloc; "without {label} in {name}")
         }
     }
+}
 
-    /// Adds what may take a cause away.
-    fn add_for_cause(
-        &self,
-        list: &mut Vec<Action>,
-        order: &[usize],
-        cause: &Verdict,
-    ) -> Result<(), AllocError> {
-        match cause {
-            Verdict::Conflict { member, cell, .. } => {
-                add_undoing(list, self.members, *member, *cell)
-            }
-            Verdict::SharedCell {
-                cell,
-                first,
-                second,
-            } => {
-                add_undoing(list, self.members, *first, *cell)?;
-                add_undoing(list, self.members, *second, *cell)
-            }
-            Verdict::Uncovered(need) => self.add_for_need(list, need, order),
-            _ => Ok(()),
+/// Returns an action in words.
+fn action_words(setting: Setting<'_>, action: &Action) -> Result<Words, AllocError> {
+    let text = match action {
+        Action::LeaveOut(member) => {
+            let name = setting.members.name(*member);
+            format!(in setting.alloc; "without {name}")?
         }
-    }
+        Action::Make(member, edit) => edit_words(setting, setting.members.name(*member), edit)?,
+    };
+    Ok(Words::new(text))
+}
 
-    /// Returns what may clear a set of members that is blocked in this order for this cause. That one is
-    /// left out stands last, and isn't tried where there is but one.
-    fn actions_for(&self, order: &[usize], cause: &Verdict) -> Result<Vec<Action>, AllocError> {
-        let mut list = Vec::new(self.alloc);
-        self.add_for_cause(&mut list, order, cause)?;
-        if self.members.names.len() > 1 {
-            for member in order {
-                list.push(Action::LeaveOut(*member))?;
-            }
-        }
-        Ok(list)
+/// Returns what may clear a set of members that is blocked in this order for this cause, to be tried
+/// one by one. Fails for want of memory alone.
+fn remedies_for(
+    setting: Setting<'_>,
+    order: &[usize],
+    cause: &Verdict,
+) -> Result<Vec<Remedy>, AllocError> {
+    let mut told = Vec::new(setting.alloc);
+    for action in actions_for(setting, order, cause)? {
+        let words = action_words(setting, &action)?;
+        told.push(Remedy { words, action })?;
     }
+    Ok(told)
+}
 
-    /// Returns a row that is brought in words, as `with valve 11 at (30.000, 4.000) in Extension`.
-    fn bringing_words(&self, name: &str, cell: CellId, row: &Row) -> Result<String, AllocError> {
-        let label = self.cell_label(cell)?;
-        let label = label.as_str();
-        match &row.shape {
-            Shape::At(place) => {
-                let place = At(*place);
-                format!(in self.alloc; "with {label} at {place} in {name}")
-            }
-            _ => format!(in self.alloc; "with {label} in {name}"),
-        }
-    }
-
-    /// Returns an edit of a member in words.
-    fn edit_words(&self, name: &str, edit: &Edit) -> Result<String, AllocError> {
-        match edit {
-            Edit::Insert(cell, row) => self.bringing_words(name, *cell, row),
-            Edit::Update(cell, _) => {
-                let label = self.cell_label(*cell)?;
-                let label = label.as_str();
-                format!(in self.alloc; "with {label} in {name} as it was taken over")
-            }
-            Edit::Delete(cell) => {
-                let label = self.cell_label(*cell)?;
-                let label = label.as_str();
-                format!(in self.alloc; "without {label} in {name}")
-            }
-        }
-    }
-
-    /// Returns an action in words.
-    fn action_words(&self, action: &Action) -> Result<Words, AllocError> {
-        let text = match action {
-            Action::LeaveOut(member) => {
-                let name = self.members.name(*member);
-                format!(in self.alloc; "without {name}")?
-            }
-            Action::Make(member, edit) => self.edit_words(self.members.name(*member), edit)?,
-        };
-        Ok(Words::new(text))
-    }
-
-    /// Returns what may clear a set of members that is blocked in this order for this cause, to be tried
-    /// one by one. Fails for want of memory alone.
-    pub(crate) fn remedies_for(
-        &self,
-        order: &[usize],
-        cause: &Verdict,
-    ) -> Result<Vec<Remedy>, AllocError> {
-        let mut told = Vec::new(self.alloc);
-        for action in self.actions_for(order, cause)? {
-            let words = self.action_words(&action)?;
-            told.push(Remedy { words, action })?;
-        }
-        Ok(told)
-    }
+/// Returns what may clear members of a root that this plan says are blocked, to be tried one by one; nothing of any other plan. Fails for
+/// want of memory alone.
+pub(crate) fn plan_remedies(
+    alloc: Global,
+    office: &Office,
+    root: &str,
+    names: &[&str],
+    plan: &Plan,
+) -> Result<Vec<Remedy>, AllocError> {
+    let Plan::Blocked { order, cause } = plan else {
+        return Ok(Vec::new(alloc));
+    };
+    let members = Members::read(alloc, office, root, names)?;
+    let setting = Setting {
+        alloc,
+        office,
+        members: &members,
+    };
+    remedies_for(setting, order.as_slice(), cause)
 }

@@ -8,7 +8,7 @@ ghost use Rattle.clr_words.specs.declared.trials.TheConstants.{BEFORE_TRIAL as S
 ghost use Rattle.clr_words.specs.Making.{AddsTrial, IsBack, IsDone, IsEditJudged};
 ghost use Rattle.clr_words.specs.Trials.{IsEdited, IsJudged, IsTold, IsTrial};
 
-use crate::remedies::{Action, Remedy};
+use crate::remedies::{Action, Remedy, plan_remedies};
 use clr_change::{Edit, Edits};
 use clr_engine::Office;
 use clr_plan::{Plan, plan};
@@ -21,9 +21,9 @@ pub(crate) const BEFORE_TRIAL: &str = "before_trial";
 
 /// A remedy that was tried, in words, and whether the members are cleared with it.
 #[derive(Debug, Drop)]
-pub(crate) struct Trial {
-    pub(crate) words: Words,
-    pub(crate) is_cleared: bool,
+pub struct Trial {
+    pub words: Words,
+    pub is_cleared: bool,
 }
 
 /// Whether members are cleared, as `plan` answers. Fails for want of memory alone, also where the plan
@@ -226,7 +226,7 @@ fn add_trial(
 
 /// Tries remedies, one after another. The office is as before, but where it fails, which is for want of
 /// memory.
-pub(crate) fn try_all(
+fn try_all(
     alloc: Global,
     office: &mut Office,
     root: &str,
@@ -241,4 +241,22 @@ pub(crate) fn try_all(
         add_trial(alloc, office, root, names, remedy, &mut trials)?;
     }
     Ok(trials)
+}
+
+/// Tries what may clear members of a root that this plan says are blocked, each remedy by itself, and returns what `plan` answers of each;
+/// nothing is tried of any other plan. A remedy is a member left out, or a row brought or given up. One that can't be tried isn't
+/// told, nor is an edit in a workspace that has a savepoint `before_trial` or as many savepoints as there may be. The office is left as it
+/// was, but where it fails, which is for want of memory.
+pub fn try_remedies(
+    alloc: Global,
+    office: &mut Office,
+    root: &str,
+    names: &[&str],
+    plan: &Plan,
+) -> Result<Vec<Trial>, AllocError>
+    ensures tried { IfOk result (λ trials. All (IsTrial office.old (site root.now (map (λ name. name.now) names.now))) trials.items) }
+    ensures back { IfOk result (λ trials. office.new ≡ office.old) }
+{
+    let remedies = plan_remedies(alloc, office, root, names, plan)?;
+    try_all(alloc, office, root, names, remedies)
 }

@@ -5,17 +5,12 @@ ghost use Rattle.clr_check.specs.SiteNames.{site};
 ghost use Rattle.clr_plan.specs.Promises.{is_cleared as is_cleared_plan, is_out_of_memory as is_lost_plan};
 ghost use Rattle.clr_words.specs.WorkOrders.{IsWorkOrder, trials_text};
 
-use crate::causes::Setting;
-use crate::members::Members;
-use crate::remedies::Remedy;
+use crate::sentences::plan_sentences;
 use crate::trial_lines::add_trials;
-use crate::trials::{Trial, try_all};
-use crate::unfit::add_unfit;
-use clr_clearance::Verdict;
+use crate::trials::{Trial, try_remedies};
 use clr_engine::Office;
 use clr_plan::{Plan, plan};
 use clr_plan_lines::plan_lines;
-use clr_wording::add_names;
 use std::alloc::{AllocError, Global};
 
 /// A plan in words: the text, whether the members are cleared, and whether the plan found no memory.
@@ -24,13 +19,6 @@ pub struct WorkOrder {
     pub text: Vec<u8>,
     pub is_cleared: bool,
     pub is_lost: bool,
-}
-
-/// Sentences on a plan, and what may be tried where it is blocked.
-#[derive(Drop)]
-struct Told {
-    sentences: String,
-    remedies: Vec<Remedy>,
 }
 
 fn is_cleared(plan: &Plan) -> bool
@@ -49,75 +37,6 @@ fn is_lost(plan: &Plan) -> bool
         Plan::OutOfMemory => true,
         _ => false,
     }
-}
-
-impl Setting<'_> {
-    /// Adds in which order a merge is refused.
-    fn add_order(&self, text: &mut String, order: &[usize]) -> Result<(), AllocError> {
-        text.push_str("Merge ")?;
-        for (at, member) in order.iter().enumerate() {
-            if at > 0 {
-                text.push_str(", then ")?;
-            }
-            text.push_str(self.members.name(*member))?;
-        }
-        if order.len() == 1 {
-            text.push_str(": the merge is refused.\n\n")
-        } else {
-            text.push_str(", in this order: one of these merges is refused.\n\n")
-        }
-    }
-
-    /// Adds that members are blocked, in which order and why.
-    fn add_blocked(
-        &self,
-        text: &mut String,
-        order: &[usize],
-        cause: &Verdict,
-    ) -> Result<(), AllocError> {
-        let root = self.members.root;
-        text.push_str("NOT CLEARED. ")?;
-        add_names(text, self.members.names)?;
-        write!(text, " can't be merged into {root} in every order.\n")?;
-        self.add_order(text, order)?;
-        self.add_cause(text, cause)
-    }
-}
-
-/// Tells a plan in sentences, and what may be tried where it is blocked.
-fn tell(setting: Setting<'_>, plan: &Plan) -> Result<Told, AllocError> {
-    let mut sentences = String::new(setting.alloc);
-    let mut remedies = Vec::new(setting.alloc);
-    match plan {
-        Plan::Cleared(certificate) => setting.add_cleared(&mut sentences, certificate)?,
-        Plan::Blocked { order, cause } => {
-            setting.add_blocked(&mut sentences, order.as_slice(), cause)?;
-            remedies = setting.remedies_for(order.as_slice(), cause)?;
-        }
-        Plan::Unfit(verdict) => add_unfit(&mut sentences, setting.members, verdict)?,
-        Plan::OutOfMemory => {}
-    }
-    Ok(Told {
-        sentences,
-        remedies,
-    })
-}
-
-/// Tells the plan of members of a root in sentences, and what may be tried where it is blocked.
-fn tell_plan(
-    alloc: Global,
-    office: &Office,
-    root: &str,
-    names: &[&str],
-    plan: &Plan,
-) -> Result<Told, AllocError> {
-    let members = Members::read(alloc, office, root, names)?;
-    let setting = Setting {
-        alloc,
-        office,
-        members: &members,
-    };
-    tell(setting, plan)
 }
 
 /// Returns sentences, then the lines of trials, and behind an empty line the lines of a plan.
@@ -155,11 +74,11 @@ pub fn work_order(
 {
     let planned = plan(alloc, office, root, names);
     let lines = plan_lines(alloc, office.schema(), names, root, &planned)?;
-    let told = tell_plan(alloc, office, root, names, &planned)?;
-    let trials = try_all(alloc, office, root, names, told.remedies)?;
+    let sentences = plan_sentences(alloc, office, root, names, &planned)?;
+    let trials = try_remedies(alloc, office, root, names, &planned)?;
     let text = order_text(
         alloc,
-        told.sentences.as_str(),
+        sentences.as_str(),
         trials.as_slice(),
         lines.as_slice(),
     )?;

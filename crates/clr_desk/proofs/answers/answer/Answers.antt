@@ -1,5 +1,5 @@
 use Rattle.std.proofs.Common.{rules, sym}
-use Rattle.clr_desk.specs.Printing.{Printout, is_lost, status_by, unless_lost}
+use Rattle.clr_prints.specs.Printing.{Printout, is_lost, status_by, unless_lost}
 use Rattle.clr_desk.proofs.answers.answer.Goals as goal
 
 pub returns-in-Ok-put-clause-answers : goal.returns-in-Ok-put-clause-answers

@@ -2,9 +2,9 @@ use Rattle.std.proofs.Common.{◌∷◌}
 use Rattle.clr_check.specs.SiteNames.{site}
 use Rattle.clr_drafts.specs.Drafts.{draft_in}
 use Rattle.clr_desk.specs.Certificates.{IsCertificatePrint}
-use Rattle.clr_desk.specs.NameHints.{IsHinted}
-use Rattle.clr_desk.specs.Printing.{of_office, printed}
-use Rattle.clr_desk.proofs.PrintLemmas.{office_fault}
+use Rattle.clr_prints.specs.NameHints.{IsHinted}
+use Rattle.clr_prints.specs.Printing.{of_office, printed}
+use Rattle.clr_prints.proofs.PrintLemmas.{office_fault}
 use Rattle.clr_desk.proofs.certificates.answer_certificate.Goals as goal
 
 pub returns-in_ok-with_hints-in-Ok : goal.returns-in_ok-with_hints-in-Ok

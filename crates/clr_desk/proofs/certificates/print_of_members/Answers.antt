@@ -4,7 +4,7 @@ use Rattle.clr_workspaces.specs.Marks.{Name}
 use Rattle.clr_check.specs.SiteNames.{site}
 use Rattle.clr_office.specs.Outcomes.{IsPlanned}
 use Rattle.clr_desk.specs.Certificates.{plan_print}
-use Rattle.clr_desk.specs.Printing.{printed}
+use Rattle.clr_prints.specs.Printing.{printed}
 use Rattle.clr_desk.proofs.certificates.print_of_members.Goals as goal
 
 pub returns : goal.returns

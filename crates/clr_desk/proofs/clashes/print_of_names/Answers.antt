@@ -3,7 +3,7 @@ use Rattle.clr_workspaces.specs.Marks.{Name}
 use Rattle.clr_check.specs.SiteNames.{site}
 use Rattle.clr_desk.specs.Choices.{members_asked}
 use Rattle.clr_desk.specs.Clashes.{IsSitePrint}
-use Rattle.clr_desk.specs.Printing.{printed}
+use Rattle.clr_prints.specs.Printing.{printed}
 use Rattle.clr_desk.proofs.clashes.print_of_names.Goals as goal
 
 pub returns : goal.returns

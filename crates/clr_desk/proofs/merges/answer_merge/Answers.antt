@@ -2,9 +2,9 @@ use Rattle.std.proofs.Common.{◌≡◌, ◌∷◌, subst}
 use Rattle.clr_workspaces.specs.Marks.{Name}
 use Rattle.clr_check_texts.specs.Cases.{case_of}
 use Rattle.clr_desk.specs.Merges.{IsHintedMerge}
-use Rattle.clr_desk.specs.NameHints.{AreNameHints, with_lines}
-use Rattle.clr_desk.specs.Printing.{of_case, printed}
-use Rattle.clr_desk.proofs.PrintLemmas.{case_fault}
+use Rattle.clr_prints.specs.NameHints.{AreNameHints, with_lines}
+use Rattle.clr_prints.specs.Printing.{of_case, printed}
+use Rattle.clr_prints.proofs.PrintLemmas.{case_fault}
 use Rattle.clr_desk.proofs.merges.answer_merge.Goals as goal
 
 pub returns-in_ok-with_notes-in-Ok : goal.returns-in_ok-with_notes-in-Ok

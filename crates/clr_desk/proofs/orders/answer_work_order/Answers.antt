@@ -1,10 +1,10 @@
 use Rattle.std.proofs.Common.{◌≡◌, ◌∷◌, subst}
 use Rattle.clr_check.specs.SiteNames.{site}
 use Rattle.clr_drafts.specs.Drafts.{draft_in}
-use Rattle.clr_desk.specs.NameHints.{IsHinted, with_lines}
+use Rattle.clr_prints.specs.NameHints.{IsHinted, with_lines}
 use Rattle.clr_desk.specs.Orders.{IsOrderPrint}
-use Rattle.clr_desk.specs.Printing.{of_office, printed}
-use Rattle.clr_desk.proofs.PrintLemmas.{office_fault}
+use Rattle.clr_prints.specs.Printing.{of_office, printed}
+use Rattle.clr_prints.proofs.PrintLemmas.{office_fault}
 use Rattle.clr_desk.proofs.orders.answer_work_order.Goals as goal
 
 pub returns-in_ok-with_notes-in-Ok : goal.returns-in_ok-with_notes-in-Ok

@@ -1,4 +1,4 @@
-use Rattle.std.proofs.Common.{IfSome, ◌≡◌, length}
+use Rattle.std.proofs.Common.{IfSome}
 use Rattle.clr_drawing.specs.Areas.{CoversNone}
 use Rattle.clr_drawing.proofs.labels.cheapest.Given as goal
 

@@ -1,7 +1,0 @@
-use Rattle.std.specs.Prelude.{◌∷◌}
-use Rattle.clr_desk.specs.NameHints.{AreNameHints}
-use Rattle.clr_desk.proofs.name_hints.hint_lines.Given as goal
-
--- hints at the root and at the names so far
-abbrev pub invariant-loop-name : goal.invariant-loop-name
-invariant-loop-name l = AreNameHints l.fn.office (l.fn.root ∷ l.fn.names) l.lines.items

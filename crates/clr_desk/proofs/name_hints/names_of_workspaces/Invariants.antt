@@ -1,7 +1,0 @@
-use Rattle.std.specs.Prelude.{All}
-use Rattle.clr_desk.specs.NameHints.{IsNamed}
-use Rattle.clr_desk.proofs.name_hints.names_of_workspaces.Given as goal
-
--- those so far are names of workspaces
-abbrev pub invariant-loop-at : goal.invariant-loop-at
-invariant-loop-at l = All (λ name. IsNamed l.fn.office name.now) l.names.items

@@ -1,0 +1,33 @@
+//! What is printed in the texts of geographic information systems.
+
+ghost use Rattle.clr_desk.specs.Geographic.{IsGeographicAnswer};
+ghost use Rattle.clr_prints.specs.Printing.{IsMade};
+
+use clr_desk_command_line::GeographicAsk;
+use clr_desk_features::answer_geojson;
+use clr_desk_layers::answer_layer;
+use clr_office::RunFault;
+use clr_prints::Print;
+use std::alloc::Global;
+
+/// Returns what is printed for what is asked of an office text in the texts of geographic information systems.
+pub(crate) fn answer_geographic(
+    alloc: Global,
+    ask: &GeographicAsk,
+    office: &[u8],
+) -> Result<Print, RunFault>
+    ensures { IsMade (IsGeographicAnswer ask.now office.now) result }
+{
+    match ask {
+        GeographicAsk::Features(root, names, system) => answer_geojson(
+            alloc,
+            office,
+            root.as_str(),
+            names.as_slice(),
+            system.as_ref(),
+        ),
+        GeographicAsk::Layer(table, workspace) => {
+            answer_layer(alloc, office, table.as_str(), workspace.as_str())
+        }
+    }
+}

@@ -1,0 +1,43 @@
+//! What `clap` found of options.
+
+ghost use Rattle.std.specs.Prelude.{◌≡◌, IfOk};
+ghost use Rattle.clap.specs.Words.{first_of, found_of, rows_of};
+ghost use Rattle.clr_desk_command_line.specs.Asks.{given_or, root_of};
+
+use clap::ArgMatches;
+use clr_rows::{LIVE, Words};
+use std::alloc::{AllocError, Global};
+
+/// Returns the value that is given.
+pub(crate) fn given(
+    alloc: Global,
+    matches: &ArgMatches,
+    id: &str,
+) -> Result<Option<Words>, AllocError>
+    ensures { IfOk result (λ text. text ≡ first_of id.now (rows_of (found_of matches.now))) }
+{
+    match matches.get_str(id) {
+        Some(text) => Ok(Some(Words::new(String::from_str(alloc, text)?))),
+        None => Ok(None),
+    }
+}
+
+/// Returns the value that is given, or another.
+pub(crate) fn given_or(
+    alloc: Global,
+    matches: &ArgMatches,
+    id: &str,
+    otherwise: &str,
+) -> Result<Words, AllocError>
+    ensures { IfOk result (λ text. text ≡ given_or otherwise.now id.now (rows_of (found_of matches.now))) }
+{
+    let text = matches.get_str(id).unwrap_or(otherwise);
+    Ok(Words::new(String::from_str(alloc, text)?))
+}
+
+/// Returns the root that is given, or LIVE.
+pub(crate) fn root(alloc: Global, matches: &ArgMatches) -> Result<Words, AllocError>
+    ensures { IfOk result (λ root. root ≡ root_of (rows_of (found_of matches.now))) }
+{
+    given_or(alloc, matches, "under", LIVE)
+}

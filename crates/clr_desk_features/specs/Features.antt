@@ -1,0 +1,44 @@
+-- What is printed of the features of a plan.
+use Rattle.std.specs.Prelude.{◌≡◌, ◌≢◌, ℕ, ◌<◌, ◌^◌, List, [], ◌++◌, codes, decimal, not, Option, Some, None, Result, Ok}
+use Rattle.clr_workspaces.specs.Marks.{Name}
+use Rattle.clr_steps.specs.Offices.{Office}
+use Rattle.clr_steps.specs.Quiet.{Site}
+use Rattle.clr_plan.specs.declared.plans.Plan.{Plan}
+use Rattle.clr_plan.specs.Promises.{is_cleared, is_out_of_memory}
+use Rattle.clr_plan_features.specs.PlanFeatures.{AreFeatures}
+use Rattle.clr_office_text.specs.declared.faults.TextFault.{TextFault}
+use Rattle.clr_office.specs.Outcomes.{IsPlanned}
+use Rattle.clr_prints.specs.NameHints.{IsHinted}
+use Rattle.clr_prints.specs.Printing.{IsPrintIn, Printed, print_of}
+
+-- how a system of coordinates is named by its number in the register of EPSG, as `EPSG:25832`
+abbrev pub system_name : ℕ → List ℕ
+system_name code = codes "EPSG:" ++ decimal code
+
+-- a text names no system
+abbrev pub IsNoSystem : List ℕ → Type 0
+IsNoSystem text = (code : ℕ) → code < 2 ^ 32 → text ≢ system_name code
+
+-- the text of features, which counts as a refusal unless the plan is cleared
+abbrev pub features_print : List ℕ → Plan → Printed
+features_print text p = print_of text [] (not (is_cleared p)) (is_out_of_memory p)
+
+-- the features of a plan of the site, in a system of coordinates if one is given
+abbrev pub IsFeaturesPrint : Site → Option ℕ → Office → Printed → Type 0
+IsFeaturesPrint s system o print =
+    (p : Plan) × (text : List ℕ) × IsPlanned o s p × AreFeatures o s p system text × (print ≡ features_print text p)
+
+-- no text, and a note that this names no system
+abbrev pub no_system_print : List ℕ → Printed
+no_system_print text = Ok (record {
+  text = [];
+  notes = codes "'" ++ text ++ codes "' names no system of coordinates: write EPSG: and a number, as EPSG:25832\n";
+  status = 2;
+})
+
+-- what is printed of an office text and the text of a system, if one is given; the names are those at which hints are given
+pub data IsAnswer (s : Site) (names : List Name) (system : Option (List ℕ)) (given : Result Office TextFault) (print : Printed) : Type 0 where
+  without_system : system ≡ None → IsPrintIn (IsHinted (IsFeaturesPrint s None) names) given print → IsAnswer s names system given print
+  in_system : (code : ℕ) → system ≡ Some (system_name code) → IsPrintIn (IsHinted (IsFeaturesPrint s (Some code)) names) given print
+      → IsAnswer s names system given print
+  of_no_system : (text : List ℕ) → system ≡ Some text → IsNoSystem text → print ≡ no_system_print text → IsAnswer s names system given print

@@ -1,0 +1,4 @@
+pub mod Collections
+pub mod Features
+pub mod Laws
+pub mod Properties

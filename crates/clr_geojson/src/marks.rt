@@ -1,0 +1,23 @@
+//! What stands round the values of features and collections.
+
+/// What stands before the coordinates of a point.
+pub(crate) const POINT: &str = "{\"type\":\"Point\",\"coordinates\":";
+
+/// What stands before the coordinates of a line.
+pub(crate) const LINE: &str = "{\"type\":\"LineString\",\"coordinates\":[";
+
+/// What stands before the properties of a feature.
+pub(crate) const FEATURE: &str = "{\"type\":\"Feature\",\"properties\":{";
+
+/// What stands between the properties of a feature and its geometry.
+pub(crate) const GEOMETRY: &str = "},\"geometry\":";
+
+/// What stands before everything else of a collection.
+pub(crate) const COLLECTION: &str = "{\"type\":\"FeatureCollection\"";
+
+/// What stands before the number of a system of coordinates.
+pub(crate) const SYSTEM: &str =
+    ",\"crs\":{\"type\":\"name\",\"properties\":{\"name\":\"urn:ogc:def:crs:EPSG::";
+
+/// What stands before the features of a collection.
+pub(crate) const FEATURES: &str = ",\"features\":";

@@ -1,0 +1,4 @@
+pub mod Blocks
+pub mod Pages
+pub mod Tables
+pub mod Texts

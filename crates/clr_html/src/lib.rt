@@ -1,0 +1,17 @@
+//! Pages of hypertext (HTML), made of typed blocks and written as text: one file without a script, a font or a link, which prints on A4.
+//!
+//! - `write_page` [`written`]: the text is exactly `page_text` of the page, memory aside. Each text of the page is escaped; a picture
+//!   goes out as it is given.
+#![tactic(auto)]
+
+mod blocks;
+mod marks;
+mod pages;
+mod styles;
+mod tables;
+mod texts;
+
+pub use blocks::{Block, Tone};
+pub use pages::{Page, Section, write_page};
+pub use tables::{Fold, Row, Table};
+pub use texts::Text;

@@ -1,0 +1,5 @@
+pub mod Changes
+pub mod Keys
+pub mod LayerRows
+pub mod Turns
+pub mod Wanted

@@ -1,0 +1,21 @@
+//! What layers change: the content that they ask for, and the edits that lead to it.
+//!
+//! - `wanted_content` reads layers, each the text of a table, and gives LIVE's content with their rows in place of those of their tables, or
+//!   the first fault, with its layer and its record. A row without a key gets the least one that is free, from a first key on.
+//! - `edits_between` [`edits`, `leads`] gives an edit for each cell at which two contents differ; made one after another over the
+//!   first content they give the second.
+#![tactic(auto)]
+
+mod changes;
+mod faults;
+mod keys;
+mod layer_rows;
+mod limits;
+mod options;
+mod wanted;
+
+pub use changes::edits_between;
+pub use clr_layer_text::LayerFault;
+pub use faults::{FaultyLayer, LayersFault};
+pub use options::{GivenLayer, LayerOptions};
+pub use wanted::wanted_content;

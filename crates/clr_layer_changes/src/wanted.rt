@@ -1,0 +1,135 @@
+//! The content that layers ask for.
+
+ghost use Rattle.std.specs.Prelude.{◌≡◌, ◌++◌, IfOk, OnOk};
+ghost use Rattle.std.specs.FinMap as finite;
+ghost use Rattle.std.specs.List.{list_any};
+ghost use Rattle.clr_rows.specs.Sheets.{with_none, with_rows};
+ghost use Rattle.clr_layer_changes.specs.Wanted.{Replaces, cells_in, is_of, replaced, table_of, wanted, with_layer};
+
+use crate::faults::{FaultyLayer, LayersFault};
+use crate::layer_rows::layer_rows;
+use crate::options::{GivenLayer, LayerOptions};
+use clr_rows::{CellId, Row, Schema, Sheet};
+use std::alloc::{AllocError, Global};
+
+/// Returns that no row stands at each cell of a table that has one.
+fn without_rows(
+    alloc: Global,
+    content: &Sheet,
+    table: u16,
+) -> Result<Vec<(CellId, Option<Row>)>, AllocError>
+    ensures { IfOk result (λ cells. cells.items ≡ with_none (cells_in content.now table)) }
+{
+    let mut cells = Vec::new(alloc);
+    for (cell, _) in content.iter() {
+        if cell.table == table {
+            cells.push((*cell, None))?;
+        }
+    }
+    Ok(cells)
+}
+
+/// Adds the rows of a sheet behind others.
+fn add_rows(cells: &mut Vec<(CellId, Option<Row>)>, rows: &Sheet) -> Result<(), AllocError>
+    ensures { OnOk result (cells.new.items ≡ cells.old.items ++ with_rows (finite.entries rows.now)) }
+{
+    for (cell, row) in rows.iter() {
+        cells.push((*cell, Some(row.copy()?)))?;
+    }
+    Ok(())
+}
+
+/// Puts other rows in place of a table's.
+#[tactic(auto, unfolding(crate::specs::Wanted::replaced))]
+fn replace(alloc: Global, content: &mut Sheet, table: u16, rows: &Sheet) -> Result<(), AllocError>
+    ensures { OnOk result (content.new ≡ replaced content.old table rows.now) }
+{
+    let mut cells = without_rows(alloc, content, table)?;
+    add_rows(&mut cells, rows)?;
+    content.put_all(cells)
+}
+
+/// Returns whether one of some layers is of the table of this name.
+fn is_given(layers: &[GivenLayer], name: &str) -> bool
+    ensures { result ≡ list_any (is_of name.now) layers.now }
+{
+    layers.iter().any(|layer| layer.table.as_str() == name)
+}
+
+/// Returns the number of a layer's table. Fails with `TableTwice` at 0 where a layer before it has the same table, and with `NoTable` at 0
+/// where no table has the name.
+fn table_of(
+    schema: &Schema,
+    earlier: &[GivenLayer],
+    layer: &GivenLayer,
+) -> Result<u16, (usize, LayersFault)>
+    ensures { result ≡ table_of schema.now earlier.now layer.now }
+{
+    let name = layer.table.as_str();
+    if is_given(earlier, name) {
+        return Err((0, LayersFault::TableTwice));
+    }
+    schema.table(name).ok_or((0, LayersFault::NoTable))
+}
+
+/// Puts the rows of one more layer in place of its table's, or returns why it can't.
+#[tactic(auto, unfolding(crate::specs::Wanted::with_layer))]
+fn put_layer(
+    alloc: Global,
+    schema: &Schema,
+    live: &Sheet,
+    options: LayerOptions,
+    earlier: &[GivenLayer],
+    layer: &GivenLayer,
+    content: &mut Sheet,
+) -> Result<Result<(), (usize, LayersFault)>, AllocError>
+    ensures { IfOk result (Replaces (with_layer schema.now live.now options earlier.now content.old layer.now) content.new) }
+{
+    let table = match table_of(schema, earlier, layer) {
+        Ok(table) => table,
+        Err(fault) => return Ok(Err(fault)),
+    };
+    match layer_rows(alloc, schema, live, options, table, layer.text.as_slice())? {
+        Ok(rows) => {
+            replace(alloc, content, table, &rows)?;
+            Ok(Ok(()))
+        }
+        Err(fault) => Ok(Err(fault)),
+    }
+}
+
+/// Returns LIVE's content with the rows of layers in place of those of their tables. A row without a key gets the least key from the first
+/// one on at which neither LIVE nor the layer so far has a row, those with keys of their own being put first. The fault is that of the
+/// first layer that has one. In each the tests come in this order: `TableTwice` where a layer before it has the same table, and
+/// `NoTable` where no table has the name, both beside 0; then, beside the number of the record, `Unread` with the first fault of the
+/// text, `KeyTwice` for the first row with the key of a row before it, and `NoKey` for the first row for which no key is left.
+pub fn wanted_content(
+    alloc: Global,
+    schema: &Schema,
+    live: &Sheet,
+    options: LayerOptions,
+    layers: &[GivenLayer],
+) -> Result<Result<Sheet, FaultyLayer>, AllocError>
+    ensures { IfOk result (λ found. found ≡ wanted schema.now live.now options layers.now) }
+{
+    let mut content = live.copy()?;
+    for i in 0..layers.len() {
+        let put = put_layer(
+            alloc,
+            schema,
+            live,
+            options,
+            &layers[..i],
+            &layers[i],
+            &mut content,
+        )?;
+        if let Err((number, fault)) = put {
+            return Ok(Err(FaultyLayer {
+                layer: i,
+                number,
+                fault,
+            }));
+        }
+    }
+    Ok(Ok(content))
+}

@@ -1,0 +1,12 @@
+pub mod CutAgain
+pub mod FaultTurns
+pub mod FieldTurns
+pub mod HeaderAgain
+pub mod HeaderNames
+pub mod LayerAgain
+pub mod MetresAgain
+pub mod RowAgain
+pub mod ShapeAgain
+pub mod TableLemmas
+pub mod TextAgain
+pub mod Turns

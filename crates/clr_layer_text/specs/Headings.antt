@@ -1,0 +1,6 @@
+-- Where the fields of rows stand, as a clause sees it.
+use Rattle.clr_layer_text.specs.declared.headings.Headings.{Headings}
+use Rattle.clr_layer_text.specs.Layers.{Fields}
+
+abbrev pub seen : Headings → Fields
+seen h = record { width = h.width; key = h.key; columns = h.columns.items; shape = h.shape }

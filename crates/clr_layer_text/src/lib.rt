@@ -1,0 +1,24 @@
+//! Layers: the rows of a table as CSV, with their shapes as WKT in metres, read and written.
+#![tactic(auto)]
+
+mod faults;
+mod geometries;
+mod headings;
+mod laws;
+mod limits;
+mod metres;
+mod pieces;
+mod reading;
+mod rows;
+mod shape_reading;
+mod shape_writing;
+mod table_rows;
+mod writing;
+
+pub use faults::LayerFault;
+pub use laws::layer_is_read_back;
+pub use limits::SHAPE;
+pub use reading::read_layer;
+pub use rows::LayerRow;
+pub use table_rows::{rows_of_table, table_layer};
+pub use writing::write_layer;

@@ -1,0 +1,169 @@
+//! Layers, written as CSV.
+
+ghost use Rattle.std.specs.Prelude.{◌≡◌, ◌++◌, ◌∷◌, [], Ok, IfOk, OnOk, map};
+ghost use Rattle.csv.specs.Records.{fields_of, partial_of};
+ghost use Rattle.csv.specs.Writing.{default_writer, row_text};
+ghost use Rattle.clr_rows.specs.Schemas.{names_of};
+ghost use Rattle.clr_layer_text.specs.Layers.{header_of, key_text, layer_text, records_text, row_fields, shape_fields, shape_name, value_text};
+ghost use Rattle.std.specs.List.{All};
+ghost use Rattle.clr_layer_text.specs.ReadBack.{HasTexts, IsText};
+ghost use Rattle.clr_layer_text.specs.Writing.{IsBetween, text_of};
+
+use crate::limits::SHAPE;
+use crate::rows::LayerRow;
+use crate::shape_writing::shape_in_text;
+use clr_rows::{Form, KEY, Kind, Shape, TableDef, Value, Words};
+use csv::{ByteRecord, Writer, WriterBuilder};
+use itoa::Buffer;
+use std::alloc::{AllocError, Global};
+
+/// Adds a field to a record that has no field begun.
+fn add_field(fields: &mut ByteRecord, field: &[u8]) -> Result<(), AllocError>
+    requires { partial_of fields.old ≡ [] }
+    ensures added { OnOk result (fields_of fields.new ≡ fields_of fields.old ++ field.now ∷ []) }
+    ensures whole { OnOk result (partial_of fields.new ≡ []) }
+{
+    fields.push_field(field)
+}
+
+/// Adds the names of columns.
+fn add_names(fields: &mut ByteRecord, columns: &[(Words, Kind)]) -> Result<(), AllocError>
+    requires { partial_of fields.old ≡ [] }
+    ensures added { OnOk result (fields_of fields.new ≡ fields_of fields.old ++ names_of columns.now) }
+    ensures whole { OnOk result (partial_of fields.new ≡ []) }
+{
+    for column in columns {
+        add_field(fields, column.0.as_str().as_bytes())?;
+    }
+    Ok(())
+}
+
+/// Adds the name of the field of shapes, in a table whose rows have any.
+fn add_shape_name(fields: &mut ByteRecord, form: Form) -> Result<(), AllocError>
+    requires { partial_of fields.old ≡ [] }
+    ensures added { OnOk result (fields_of fields.new ≡ fields_of fields.old ++ shape_name form) }
+{
+    match form {
+        Form::Bare => Ok(()),
+        _ => add_field(fields, SHAPE.as_bytes()),
+    }
+}
+
+/// Returns the header of a table's layers.
+fn header(alloc: Global, table: &TableDef) -> Result<ByteRecord, AllocError>
+    ensures { IfOk result (λ made. fields_of made ≡ header_of table.now) }
+{
+    let mut line = ByteRecord::new(alloc);
+    add_field(&mut line, KEY.as_bytes())?;
+    add_names(&mut line, table.columns.as_slice())?;
+    add_shape_name(&mut line, table.shape)?;
+    Ok(line)
+}
+
+fn add_key(fields: &mut ByteRecord, key: Option<i64>) -> Result<(), AllocError>
+    requires { partial_of fields.old ≡ [] }
+    ensures added { OnOk result (fields_of fields.new ≡ fields_of fields.old ++ key_text key ∷ []) }
+    ensures whole { OnOk result (partial_of fields.new ≡ []) }
+{
+    match key {
+        None => add_field(fields, b""),
+        Some(key) => add_field(fields, Buffer::new().format(key).as_bytes()),
+    }
+}
+
+fn add_value(fields: &mut ByteRecord, value: &Value) -> Result<(), AllocError>
+    requires { partial_of fields.old ≡ [] }
+    ensures text { OnOk result (IsText value.now) }
+    ensures added { OnOk result (fields_of fields.new ≡ fields_of fields.old ++ value_text value.now ∷ []) }
+    ensures whole { OnOk result (partial_of fields.new ≡ []) }
+{
+    match value {
+        Value::Int(number) => add_field(fields, Buffer::new().format(*number).as_bytes()),
+        Value::Words(text) => add_field(fields, text.as_str().as_bytes()),
+    }
+}
+
+fn add_values(fields: &mut ByteRecord, values: &[Value]) -> Result<(), AllocError>
+    requires { partial_of fields.old ≡ [] }
+    ensures texts { OnOk result (All IsText values.now) }
+    ensures added { OnOk result (fields_of fields.new ≡ fields_of fields.old ++ map value_text values.now) }
+    ensures whole { OnOk result (partial_of fields.new ≡ []) }
+{
+    for value in values {
+        add_value(fields, value)?;
+    }
+    Ok(())
+}
+
+fn add_shape(alloc: Global, fields: &mut ByteRecord, shape: &Shape) -> Result<(), AllocError>
+    requires { partial_of fields.old ≡ [] }
+    ensures added { OnOk result (fields_of fields.new ≡ fields_of fields.old ++ shape_fields shape.now) }
+{
+    match shape {
+        Shape::Bare => Ok(()),
+        _ => add_field(fields, shape_in_text(alloc, shape)?.as_slice()),
+    }
+}
+
+/// Returns the record of a row.
+fn record_of(alloc: Global, row: &LayerRow) -> Result<ByteRecord, AllocError>
+    ensures fields { IfOk result (λ made. fields_of made ≡ row_fields row.now) }
+    ensures texts { OnOk result (HasTexts row.now) }
+{
+    let mut line = ByteRecord::new(alloc);
+    add_key(&mut line, row.key)?;
+    add_values(&mut line, row.row.values.as_slice())?;
+    add_shape(alloc, &mut line, &row.row.shape)?;
+    Ok(line)
+}
+
+/// Writes a record by a writer that is between two records.
+fn add_record(writer: &mut Writer<Vec<u8>>, line: &ByteRecord) -> Result<(), AllocError>
+    requires { IsBetween writer.old }
+    ensures between { OnOk result (IsBetween writer.new) }
+    ensures written { OnOk result (text_of writer.new ≡ text_of writer.old ++ row_text default_writer (fields_of line.now)) }
+{
+    match writer.write_byte_record(line) {
+        Ok(()) => Ok(()),
+        Err(_) => Err(AllocError),
+    }
+}
+
+fn add_rows(
+    alloc: Global,
+    writer: &mut Writer<Vec<u8>>,
+    rows: &[LayerRow],
+) -> Result<(), AllocError>
+    requires { IsBetween writer.old }
+    ensures between { OnOk result (IsBetween writer.new) }
+    ensures written { OnOk result (text_of writer.new ≡ text_of writer.old ++ records_text (map row_fields rows.now)) }
+    ensures texts { OnOk result (All HasTexts rows.now) }
+{
+    for row in rows {
+        let line = record_of(alloc, row)?;
+        add_record(writer, &line)?;
+    }
+    Ok(())
+}
+
+/// Returns the text of a table's layer with these rows in their order: CSV with a header, a row on each
+/// line, ended by `\n`. The header is `KEY`, the columns in their order, and `WKT` where the table's rows have
+/// shapes. Coordinates are metres with three decimals. Where each row fits the table and no column is called
+/// `WKT` beside shapes, the text is read as the same rows.
+pub fn write_layer(
+    alloc: Global,
+    table: &TableDef,
+    rows: &[LayerRow],
+) -> Result<Vec<u8>, AllocError>
+    ensures written { IfOk result (λ text. text.items ≡ layer_text table.now rows.now) }
+    ensures texts { OnOk result (All HasTexts rows.now) }
+{
+    let mut writer = WriterBuilder::new().from_writer(Vec::new(alloc));
+    let names = header(alloc, table)?;
+    add_record(&mut writer, &names)?;
+    add_rows(alloc, &mut writer, rows)?;
+    match writer.into_inner() {
+        Ok(text) => Ok(text),
+        Err(_) => Err(AllocError),
+    }
+}

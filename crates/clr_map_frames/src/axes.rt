@@ -1,0 +1,177 @@
+//! Lines at round numbers, their numbers, and the scale.
+
+use clr_drawing::{
+    Area, FAINT, GRID, GROUND, INK, SOFT, Sketch, round_metres, round_step, ticks, words_width,
+};
+use clr_plan_scenes::{LEFT, Scene};
+use clr_rows::Place;
+use clr_svg::{Anchor, Ink, Pixels, Spot, Step, Weight};
+use std::alloc::AllocError;
+
+/// The size of the numbers.
+const SMALL: Pixels = Pixels { tenths: 115 };
+
+/// The distance between two lines, in millimetres.
+fn step_of(scene: &Scene<'_>) -> i64 {
+    round_step(scene.view.width() / 4)
+}
+
+/// Where a number of the axis to the right stands.
+fn across(scene: &Scene<'_>, x: i64) -> Pixels {
+    let y = scene.view.world.least.y;
+    scene.view.spot(Place { x, y }).x
+}
+
+/// Where a number of the axis upwards stands.
+fn along(scene: &Scene<'_>, y: i64) -> Pixels {
+    let x = scene.view.world.least.x;
+    scene.view.spot(Place { x, y }).y
+}
+
+/// Draws the lines at round numbers.
+pub fn add_grid(sketch: &mut Sketch, scene: &Scene<'_>) -> Result<(), AllocError> {
+    let alloc = sketch.allocator();
+    let (world, frame) = (scene.view.world, scene.frame());
+    let mut steps = Vec::new(alloc);
+    for x in &ticks(alloc, world.least.x, world.most.x, step_of(scene))? {
+        let x = across(scene, *x);
+        steps.push(Step::Begin(Spot { x, y: frame.top }))?;
+        steps.push(Step::Line(Spot { x, y: frame.bottom }))?;
+    }
+    add_level_lines(&mut steps, scene)?;
+    sketch.add_path(steps, Ink::drawn(GRID, Pixels::of_tenths(10)))
+}
+
+fn add_level_lines(steps: &mut Vec<Step>, scene: &Scene<'_>) -> Result<(), AllocError> {
+    let alloc = scene.field.alloc;
+    let (world, frame) = (scene.view.world, scene.frame());
+    for y in &ticks(alloc, world.least.y, world.most.y, step_of(scene))? {
+        let y = along(scene, *y);
+        steps.push(Step::Begin(Spot { x: frame.left, y }))?;
+        steps.push(Step::Line(Spot { x: frame.right, y }))?;
+    }
+    Ok(())
+}
+
+/// Writes the numbers below the map.
+fn add_numbers_below(sketch: &mut Sketch, scene: &Scene<'_>) -> Result<(), AllocError> {
+    let alloc = sketch.allocator();
+    let (world, frame) = (scene.view.world, scene.frame());
+    for x in &ticks(alloc, world.least.x, world.most.x, step_of(scene))? {
+        let words = round_metres(alloc, *x)?;
+        let at = Spot {
+            x: across(scene, *x),
+            y: frame.bottom + Pixels::whole(17),
+        };
+        sketch.add_words(
+            words.as_str(),
+            at,
+            SMALL,
+            SOFT,
+            Anchor::Middle,
+            Weight::Plain,
+        )?;
+    }
+    Ok(())
+}
+
+/// Writes the numbers at the left side, where there is room within the frame.
+fn add_numbers_beside(sketch: &mut Sketch, scene: &Scene<'_>) -> Result<(), AllocError> {
+    let alloc = sketch.allocator();
+    let (world, frame) = (scene.view.world, scene.frame());
+    for y in &ticks(alloc, world.least.y, world.most.y, step_of(scene))? {
+        let words = round_metres(alloc, *y)?;
+        let at = Spot {
+            x: LEFT + Pixels::whole(6),
+            y: along(scene, *y) - Pixels::whole(4),
+        };
+        if frame.top + Pixels::whole(12) < at.y && at.y < frame.bottom {
+            let room = Area {
+                left: at.x - Pixels::whole(2),
+                top: at.y - Pixels::whole(10),
+                right: at.x + words_width(words.as_str(), SMALL) + Pixels::whole(2),
+                bottom: at.y + Pixels::whole(2),
+            };
+            sketch.add_area(room, Pixels::whole(2), Ink::filled(GROUND))?;
+            sketch.add_words(
+                words.as_str(),
+                at,
+                SMALL,
+                SOFT,
+                Anchor::Start,
+                Weight::Plain,
+            )?;
+        }
+    }
+    Ok(())
+}
+
+/// The length that the scale shows, in millimetres.
+fn length_of_scale(scene: &Scene<'_>) -> i64 {
+    round_step(scene.view.width() / 5)
+}
+
+/// Returns where the scale stands.
+pub fn area_of_scale(scene: &Scene<'_>) -> Area {
+    let frame = scene.frame();
+    let right = frame.right - Pixels::whole(18);
+    Area {
+        left: right - scene.view.length(length_of_scale(scene)) - Pixels::whole(8),
+        top: frame.bottom - Pixels::whole(34),
+        right: right + Pixels::whole(8),
+        bottom: frame.bottom - Pixels::whole(6),
+    }
+}
+
+/// Draws the scale: a length, and how many metres it is.
+fn add_scale(sketch: &mut Sketch, scene: &Scene<'_>) -> Result<(), AllocError> {
+    let alloc = sketch.allocator();
+    let area = area_of_scale(scene);
+    let metres = round_metres(alloc, length_of_scale(scene))?;
+    let words = format!(in alloc; "{metres} m")?;
+    let (left, right) = (area.left + Pixels::whole(8), area.right - Pixels::whole(8));
+    let (high, low) = (
+        area.bottom - Pixels::whole(14),
+        area.bottom - Pixels::whole(8),
+    );
+    sketch.add_area(area, Pixels::whole(4), Ink::filled(GROUND))?;
+    let mut steps = Vec::with_capacity(alloc, 4)?;
+    steps.push(Step::Begin(Spot { x: left, y: high }))?;
+    steps.push(Step::Line(Spot { x: left, y: low }))?;
+    steps.push(Step::Line(Spot { x: right, y: low }))?;
+    steps.push(Step::Line(Spot { x: right, y: high }))?;
+    sketch.add_path(steps, Ink::drawn(INK, Pixels::of_tenths(16)))?;
+    let at = Spot {
+        x: area.middle().x,
+        y: high - Pixels::whole(1),
+    };
+    sketch.add_words(
+        words.as_str(),
+        at,
+        Pixels::whole(12),
+        INK,
+        Anchor::Middle,
+        Weight::Plain,
+    )
+}
+
+/// Draws the numbers, the frame and the scale. Fails for want of memory alone.
+pub fn add_axes(sketch: &mut Sketch, scene: &Scene<'_>) -> Result<(), AllocError> {
+    add_numbers_below(sketch, scene)?;
+    add_numbers_beside(sketch, scene)?;
+    let frame = Ink::drawn(FAINT, Pixels::whole(1));
+    sketch.add_area(scene.frame(), Pixels::whole(6), frame)?;
+    add_scale(sketch, scene)?;
+    let at = Spot {
+        x: LEFT,
+        y: scene.frame().bottom + Pixels::whole(34),
+    };
+    sketch.add_words(
+        "metres, y upwards",
+        at,
+        SMALL,
+        SOFT,
+        Anchor::Start,
+        Weight::Plain,
+    )
+}

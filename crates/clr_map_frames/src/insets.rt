@@ -1,0 +1,158 @@
+//! A small plan of everything, with the map's window in it.
+
+use clr_drawing::{
+    ALARM, Area, FAINT, GROUND, INK, PLAIN, SOFT, Sketch, View, add_shape, extent_of, grown,
+};
+use clr_plan_scenes::{BESIDE, EDGE, Scene};
+use clr_rows::Row;
+use clr_segments::Bounds;
+use clr_svg::{Anchor, Ink, Pixels, Spot, Step, Weight};
+use std::alloc::{AllocError, Global};
+
+/// The least and the greatest height of the small plan, in tenths of a pixel.
+const HEIGHTS: (i64, i64) = (900, 2000);
+
+/// Whether the map shows so little of everything that a small plan helps.
+fn helps(scene: &Scene<'_>) -> bool {
+    let whole = scene.whole.most.x.saturating_sub(scene.whole.least.x);
+    let tall = scene.whole.most.y.saturating_sub(scene.whole.least.y);
+    scene.view.width().saturating_mul(100) < whole.max(tall).saturating_mul(55)
+}
+
+/// Where the small plan stands below this height, if there is room.
+fn area_below(scene: &Scene<'_>, down: Pixels) -> Option<Area> {
+    let bottom = scene.frame().bottom;
+    let room = (bottom - down).tenths;
+    if room < HEIGHTS.0 {
+        return None;
+    }
+    Some(Area {
+        left: BESIDE,
+        top: bottom - Pixels::of_tenths(room.min(HEIGHTS.1)),
+        right: EDGE,
+        bottom,
+    })
+}
+
+/// The spot on whole pixels.
+fn on_pixels(spot: Spot) -> Spot {
+    Spot {
+        x: Pixels::whole(spot.x.tenths / 10),
+        y: Pixels::whole(spot.y.tenths / 10),
+    }
+}
+
+/// The same steps on whole pixels, without lines of no length.
+fn coarse(alloc: Global, steps: &[Step]) -> Result<Vec<Step>, AllocError> {
+    let mut coarse = Vec::new(alloc);
+    let mut last = None;
+    for step in steps {
+        match step {
+            Step::Begin(spot) => last = Some(on_pixels(*spot)),
+            Step::Line(spot) => {
+                let to = on_pixels(*spot);
+                if let Some(from) = last {
+                    clr_drawing::add_line(&mut coarse, from, to)?;
+                }
+                last = Some(to);
+            }
+            Step::Close => {}
+        }
+    }
+    Ok(coarse)
+}
+
+/// Draws the lines of all rows.
+fn add_rows(sketch: &mut Sketch, scene: &Scene<'_>, view: &View) -> Result<(), AllocError> {
+    let alloc = sketch.allocator();
+    let mut steps = Vec::new(alloc);
+    for (_, row) in scene.field.rows.iter() {
+        add_shape(&mut steps, view, &row.shape)?;
+    }
+    let steps = coarse(alloc, steps.as_slice())?;
+    sketch.add_path(steps, Ink::drawn(PLAIN, Pixels::of_tenths(6)))
+}
+
+fn with_row(extent: Option<Bounds>, row: Option<&Row>) -> Option<Bounds> {
+    match row {
+        Some(row) => extent_of(extent, &row.shape),
+        None => extent,
+    }
+}
+
+/// An area that is at least this wide and high.
+fn at_least(area: Area, width: i64, height: i64) -> Area {
+    let width = area.width().tenths.max(width.saturating_mul(10));
+    let height = area.height().tenths.max(height.saturating_mul(10));
+    Area::around(
+        area.middle(),
+        Pixels::of_tenths(width),
+        Pixels::of_tenths(height),
+    )
+}
+
+/// Draws a box where a design changes something.
+fn add_design(
+    sketch: &mut Sketch,
+    scene: &Scene<'_>,
+    view: &View,
+    at: usize,
+) -> Result<(), AllocError> {
+    let Some(set) = scene.field.designs.changes(at) else {
+        return Ok(());
+    };
+    let mut extent = None;
+    for (_, change) in set.iter() {
+        extent = with_row(extent, change.before.as_ref());
+        extent = with_row(extent, change.after.as_ref());
+    }
+    let Some(bounds) = extent else {
+        return Ok(());
+    };
+    let colours = scene.field.designs.colours(at);
+    let colour = if scene.is_aside(at) {
+        colours.pale
+    } else {
+        colours.line
+    };
+    let area = at_least(view.area(bounds), 5, 5);
+    sketch.add_area(area, Pixels::of_tenths(15), Ink::filled(colour))
+}
+
+/// Draws the window of the map.
+fn add_window(sketch: &mut Sketch, scene: &Scene<'_>, view: &View) -> Result<(), AllocError> {
+    let colour = if scene.cause.is_some() { ALARM } else { INK };
+    let area = at_least(view.area(scene.view.world), 12, 9);
+    sketch.add_area(area, Pixels::whole(2), Ink::drawn(colour, Pixels::whole(2)))
+}
+
+/// Draws a small plan of everything below this height, where it helps and there is room. Fails for want of memory alone.
+pub fn add_inset(sketch: &mut Sketch, scene: &Scene<'_>, down: Pixels) -> Result<(), AllocError> {
+    if !helps(scene) {
+        return Ok(());
+    }
+    let Some(area) = area_below(scene, down) else {
+        return Ok(());
+    };
+    let view = View::new(grown(scene.whole, 106, 1000), area);
+    let frame = Ink::drawn(FAINT, Pixels::whole(1)).over(GROUND);
+    sketch.add_area(area, Pixels::whole(6), frame)?;
+    add_rows(sketch, scene, &view)?;
+    for at in scene.field.designs.order().iter().rev() {
+        add_design(sketch, scene, &view, *at)?;
+    }
+    add_window(sketch, scene, &view)?;
+    let at = Spot {
+        x: BESIDE,
+        y: area.bottom + Pixels::whole(17),
+    };
+    let words = "everything; the frame is the map";
+    sketch.add_words(
+        words,
+        at,
+        Pixels::of_tenths(115),
+        SOFT,
+        Anchor::Start,
+        Weight::Plain,
+    )
+}

@@ -1,0 +1,17 @@
+//! What a map has round its rows: lines and numbers of the axes, the scale, frames round what designs change, the legend, a small plan of
+//! everything, and the heading. A scene says what the map shows; each call adds elements to a sketch and states nothing.
+//!
+//! - Each call is safe, ends, and fails for want of memory alone. What it looks like is tested.
+#![tactic(auto)]
+
+mod axes;
+mod frames;
+mod headings;
+mod insets;
+mod legends;
+
+pub use axes::{add_axes, add_grid, area_of_scale};
+pub use frames::{add_grounds, add_outlines, frames_of, has_frames, largest};
+pub use headings::{VERDICT_SIZE, add_heading, names_text};
+pub use insets::add_inset;
+pub use legends::legend_of;

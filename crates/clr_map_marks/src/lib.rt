@@ -1,0 +1,17 @@
+//! What a map draws of rows: those of the root, what designs add, change and remove of them, and what a cause names. A scene says which rows
+//! these are and how much detail there is room for; each call adds elements to a sketch and states nothing.
+//!
+//! - A row that a design adds is a full line or a filled sign, one that it changes a double line or a hollow sign, and one that it removes
+//!   dashes with a cross. So each is told apart without colours too.
+//! - Each call is safe, ends, and fails for want of memory alone. What it looks like is tested.
+#![tactic(auto)]
+
+mod grounds;
+mod haloes;
+mod line_marks;
+mod point_marks;
+
+pub use grounds::{add_lines, add_signs, sign_of_table};
+pub use haloes::{Marked, add_haloes, add_mark, marked_spot};
+pub use line_marks::add_line_marks;
+pub use point_marks::{add_point_marks, mark_radius, marks_at};

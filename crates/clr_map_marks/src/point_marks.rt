@@ -1,0 +1,265 @@
+//! What designs add, change and remove of points.
+
+use crate::grounds::sign_of_table;
+use clr_change::ChangeSet;
+use clr_drawing::{GROUND, PAPER, Sign, Sketch, add_cross, add_sign};
+use clr_plan_scenes::Scene;
+use clr_rows::{CellId, Change, Place, Row, Shape};
+use clr_svg::{Colour, Ink, Pixels, Spot};
+use std::alloc::AllocError;
+
+/// What becomes of a point: it goes, it moves away, it comes, or it is another row at its place.
+#[derive(Clone, Copy, PartialEq, Eq, PartialOrd, Ord)]
+enum Deed {
+    Goes,
+    Leaves,
+    Comes,
+    Changes,
+}
+
+/// A point that a design adds, changes or removes.
+#[derive(Clone, Copy)]
+struct PointMark {
+    at: usize,
+    deed: Deed,
+    sign: Sign,
+    place: Place,
+}
+
+/// How large the signs of designs are.
+pub fn mark_radius(scene: &Scene<'_>) -> Pixels {
+    if scene.changes.is_fine() {
+        Pixels::of_tenths(66)
+    } else {
+        Pixels::of_tenths(27)
+    }
+}
+
+/// Adds a mark for a row that is a point and is seen.
+fn add_point(
+    marks: &mut Vec<PointMark>,
+    scene: &Scene<'_>,
+    at: usize,
+    cell: CellId,
+    row: &Row,
+    deed: Deed,
+) -> Result<(), AllocError> {
+    if let Shape::At(place) = &row.shape
+        && scene.view.sees(&row.shape)
+    {
+        marks.push(PointMark {
+            at,
+            deed,
+            sign: sign_of_table(scene.field.schema, cell.table),
+            place: *place,
+        })?;
+    }
+    Ok(())
+}
+
+/// Adds the marks of a change.
+fn add_change(
+    marks: &mut Vec<PointMark>,
+    scene: &Scene<'_>,
+    at: usize,
+    cell: CellId,
+    change: &Change,
+) -> Result<(), AllocError> {
+    match (&change.before, &change.after) {
+        (None, Some(after)) => add_point(marks, scene, at, cell, after, Deed::Comes),
+        (Some(before), None) => add_point(marks, scene, at, cell, before, Deed::Goes),
+        (Some(before), Some(after)) => {
+            if !before.shape.same(&after.shape) {
+                add_point(marks, scene, at, cell, before, Deed::Leaves)?;
+            }
+            add_point(marks, scene, at, cell, after, Deed::Changes)
+        }
+        (None, None) => Ok(()),
+    }
+}
+
+fn add_set(
+    marks: &mut Vec<PointMark>,
+    scene: &Scene<'_>,
+    at: usize,
+    set: &ChangeSet,
+) -> Result<(), AllocError> {
+    for (cell, change) in set.iter() {
+        add_change(marks, scene, at, *cell, change)?;
+    }
+    Ok(())
+}
+
+/// The marks of all designs, those at one place beside one another.
+fn marks_of(scene: &Scene<'_>) -> Result<Vec<PointMark>, AllocError> {
+    let mut marks = Vec::new(scene.field.alloc);
+    for at in scene.field.designs.order() {
+        if let Some(set) = scene.field.designs.changes(*at) {
+            add_set(&mut marks, scene, *at, set)?;
+        }
+    }
+    marks.sort_by_key(|mark| (mark.place.x, mark.place.y, mark.deed, mark.at))?;
+    Ok(marks)
+}
+
+/// Of a point in a set of changes, whether it stands at a place before or after.
+fn stands_at(row: Option<&Row>, place: Place) -> bool {
+    match row {
+        Some(row) => match &row.shape {
+            Shape::At(other) => other.same(&place),
+            _ => false,
+        },
+        None => false,
+    }
+}
+
+fn count_at(set: &ChangeSet, place: Place) -> u32 {
+    let mut count = 0u32;
+    for (_, change) in set.iter() {
+        if stands_at(change.before.as_ref(), place) || stands_at(change.after.as_ref(), place) {
+            count = count.saturating_add(1);
+        }
+    }
+    count
+}
+
+/// Returns how many points at a place designs change.
+pub fn marks_at(scene: &Scene<'_>, place: Place) -> u32 {
+    let mut count = 0u32;
+    for at in scene.field.designs.order() {
+        if let Some(set) = scene.field.designs.changes(*at) {
+            count = count.saturating_add(count_at(set, place));
+        }
+    }
+    count
+}
+
+/// How many marks stand at the place of the one at a position, before it and in all.
+fn neighbours(marks: &[PointMark], at: usize, place: Place) -> (i64, i64) {
+    let (mut before, mut all) = (0i64, 0i64);
+    let first = at.saturating_sub(8);
+    for (number, mark) in marks.iter().enumerate().skip(first).take(17) {
+        if mark.place.same(&place) {
+            all = all.saturating_add(1);
+            if number < at {
+                before = before.saturating_add(1);
+            }
+        }
+    }
+    (before, all)
+}
+
+/// The spot of a mark, beside others at its place.
+fn spot_of(scene: &Scene<'_>, marks: &[PointMark], at: usize, mark: &PointMark) -> Spot {
+    let spot = scene.view.spot(mark.place);
+    let (before, all) = neighbours(marks, at, mark.place);
+    let shift = before
+        .saturating_mul(2)
+        .saturating_sub(all)
+        .saturating_add(1);
+    let by = mark_radius(scene)
+        .tenths
+        .saturating_mul(shift)
+        .saturating_mul(115)
+        / 100;
+    Spot {
+        x: spot.x + Pixels::of_tenths(by),
+        y: spot.y,
+    }
+}
+
+/// Draws a mark in its colour.
+fn add_mark(
+    sketch: &mut Sketch,
+    mark: &PointMark,
+    spot: Spot,
+    radius: Pixels,
+    colour: Colour,
+) -> Result<(), AllocError> {
+    let hollow = Ink::drawn(colour, Pixels::of_tenths(17)).over(GROUND);
+    let hollow = hollow.dashed(Pixels::of_tenths(25), Pixels::of_tenths(20));
+    match mark.deed {
+        Deed::Goes => {
+            add_sign(sketch, mark.sign, spot, radius, hollow)?;
+            let cross = Pixels::of_tenths(radius.tenths.saturating_mul(62) / 100);
+            add_cross(sketch, spot, cross, colour, PAPER)
+        }
+        Deed::Leaves => add_sign(sketch, mark.sign, spot, radius, hollow),
+        Deed::Comes => {
+            let full = Ink::drawn(PAPER, Pixels::of_tenths(15)).over(colour);
+            add_sign(sketch, mark.sign, spot, radius, full)
+        }
+        Deed::Changes => {
+            let ring = Ink::drawn(colour, Pixels::of_tenths(26)).over(PAPER);
+            add_sign(sketch, mark.sign, spot, radius, ring)
+        }
+    }
+}
+
+/// Draws a small mark, full or hollow.
+fn add_small_mark(
+    sketch: &mut Sketch,
+    mark: &PointMark,
+    spot: Spot,
+    radius: Pixels,
+    colour: Colour,
+) -> Result<(), AllocError> {
+    let ink = match mark.deed {
+        Deed::Comes => Ink::filled(colour),
+        Deed::Changes => Ink::drawn(colour, Pixels::of_tenths(12)).over(PAPER),
+        Deed::Goes | Deed::Leaves => {
+            let thin = Ink::drawn(colour, Pixels::of_tenths(12)).over(GROUND);
+            thin.dashed(Pixels::of_tenths(20), Pixels::of_tenths(15))
+        }
+    };
+    add_sign(sketch, mark.sign, spot, radius, ink)
+}
+
+/// The square of the page, of the size of a sign, in which a mark stands, and which mark of that square it is.
+fn square_of(scene: &Scene<'_>, mark: &PointMark) -> (i64, i64, usize, Deed) {
+    let side = mark_radius(scene).tenths.saturating_mul(2).max(1);
+    let spot = scene.view.spot(mark.place);
+    let x = spot.x.tenths.checked_div(side).unwrap_or(0);
+    let y = spot.y.tenths.checked_div(side).unwrap_or(0);
+    (x, y, mark.at, mark.deed)
+}
+
+/// Draws one mark for each square of the page, design and deed.
+fn add_small_marks(
+    sketch: &mut Sketch,
+    scene: &Scene<'_>,
+    mut marks: Vec<PointMark>,
+) -> Result<(), AllocError> {
+    marks.sort_by_key(|mark| square_of(scene, mark))?;
+    let mut last = None;
+    for mark in &marks {
+        let square = square_of(scene, mark);
+        if last != Some(square) {
+            let colour = scene.field.designs.colours(mark.at).line;
+            add_small_mark(
+                sketch,
+                mark,
+                scene.view.spot(mark.place),
+                mark_radius(scene),
+                colour,
+            )?;
+        }
+        last = Some(square);
+    }
+    Ok(())
+}
+
+/// Draws what designs change of points. Where there is little room, marks of one kind that are nearer than their size are drawn once.
+/// Fails for want of memory alone.
+pub fn add_point_marks(sketch: &mut Sketch, scene: &Scene<'_>) -> Result<(), AllocError> {
+    let marks = marks_of(scene)?;
+    if !scene.changes.is_fine() {
+        return add_small_marks(sketch, scene, marks);
+    }
+    for (at, mark) in marks.iter().enumerate() {
+        let spot = spot_of(scene, marks.as_slice(), at, mark);
+        let colour = scene.field.designs.colours(mark.at).line;
+        add_mark(sketch, mark, spot, mark_radius(scene), colour)?;
+    }
+    Ok(())
+}

@@ -1,0 +1,3 @@
+pub mod ChangeFeatures
+pub mod PlanFeatures
+pub mod RowFeatures

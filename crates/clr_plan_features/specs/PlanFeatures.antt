@@ -1,0 +1,73 @@
+-- The features of a plan.
+use Rattle.std.specs.Prelude.{◌≡◌, ℕ, pos, Bool, true, false, List, [], ◌∷◌, ◌++◌, codes, Option, Some, None, is_some, unwrap_or}
+use Rattle.clr_rows.specs.declared.cells.CellId.{CellId}
+use Rattle.clr_rows.specs.declared.places.Shape.TheVariants.{At}
+use Rattle.clr_rows.specs.Contents.{Content, no_rows}
+use Rattle.clr_workspaces.specs.Marks.{Name}
+use Rattle.clr_needs.specs.declared.needs.VersionId.{VersionId}
+use Rattle.clr_steps.specs.Offices.{Office, content_of}
+use Rattle.clr_steps.specs.Quiet.{Site}
+use Rattle.clr_steps.specs.Readings.{if_stands}
+use Rattle.clr_clearance.specs.declared.verdicts.Verdict.{Verdict}
+use Rattle.clr_clearance.specs.declared.verdicts.Verdict.TheVariants as verdict
+use Rattle.clr_clearance.specs.Sites.{change_sets}
+use Rattle.clr_plan.specs.declared.plans.Plan.{Plan}
+use Rattle.clr_plan.specs.declared.plans.Plan.TheVariants as plan
+use Rattle.clr_geojson.specs.declared.features.Feature.{Feature}
+use Rattle.clr_geojson.specs.Collections.{collection_text}
+use Rattle.clr_geojson.specs.Properties.{flag_property, number_property, text_property}
+use Rattle.clr_plan_features.specs.declared.places.Spot.{Spot}
+use Rattle.clr_plan_features.specs.ChangeFeatures.{changed_features, standing_features}
+
+-- what a cause names -------------------------------------------------------------------------
+
+abbrev pub second_cell : Option VersionId → List CellId
+second_cell None = []
+second_cell (Some v) = v.cell ∷ []
+
+-- the cells that a verdict names: of the rows that need something, or the one cell that is changed twice
+abbrev pub named_cells : Verdict → List CellId
+named_cells (verdict.Conflict member cell count) = cell ∷ []
+named_cells (verdict.SharedCell cell first second) = cell ∷ []
+named_cells (verdict.Uncovered need) = need.first.cell ∷ second_cell need.second
+named_cells _ = []
+
+-- the cells that the cause of a plan names, if it has one
+abbrev pub cause_cells : Plan → List CellId
+cause_cells (plan.Blocked order cause) = named_cells cause
+cause_cells _ = []
+
+abbrev pub is_blocked : Plan → Bool
+is_blocked (plan.Blocked order cause) = true
+is_blocked _ = false
+
+-- where the cause is -------------------------------------------------------------------------
+
+unfoldable pub spot_feature : Spot → Feature
+spot_feature spot = record {
+  properties =
+      text_property (codes "table") [] ∷ number_property (codes "key") (pos 0) ∷ text_property (codes "workspace") [] ∷ text_property (codes "what") (codes "site")
+      ∷ flag_property (codes "cause") true ∷ text_property (codes "says") spot.says ∷ [];
+  shape = At spot.place;
+}
+
+abbrev pub spot_features : Option Spot → List Feature
+spot_features None = []
+spot_features (Some spot) = spot_feature spot ∷ []
+
+-- all ----------------------------------------------------------------------------------------
+
+-- the rows of a root, and none where it doesn't stand
+abbrev pub rows_of_root : Office → Name → Content
+rows_of_root o root = unwrap_or (if_stands o root (content_of o root)) no_rows
+
+-- what stands and isn't changed, what each member changes, and the place of the cause, if it has one
+abbrev pub plan_features : Office → Site → Plan → Option Spot → List Feature
+plan_features o s p spot =
+    standing_features o.schema (cause_cells p) s.root (change_sets o s) (rows_of_root o s.root)
+    ++ changed_features o.schema (cause_cells p) s.members (change_sets o s) ++ spot_features spot
+
+-- the text of these features; a plan that blocks nothing has no place of a cause
+abbrev pub AreFeatures : Office → Site → Plan → Option ℕ → List ℕ → Type 0
+AreFeatures o s p system text =
+    (spot : Option Spot) × (is_some spot ≡ true → is_blocked p ≡ true) × (text ≡ collection_text system (plan_features o s p spot))

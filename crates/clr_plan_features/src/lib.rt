@@ -1,0 +1,15 @@
+//! The features of a plan, for systems of maps: the rows of the root, what the designs change, and where a cause is.
+//!
+//! - `plan_features`: exactly one feature for each row of the root that no design changes, one for each change of each design, with its
+//!   kind, its table, its key and its values, and one for the place of the cause, if the plan is blocked and the cause has a place.
+//! - Whether the cause names a row is told of each by its cell. Where the place is, and what is said of it, is what a map shows, and tested.
+#![tactic(auto)]
+
+mod causes;
+mod changes;
+mod places;
+mod plans;
+mod row_features;
+mod standing;
+
+pub use plans::plan_features;

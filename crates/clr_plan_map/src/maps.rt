@@ -1,0 +1,200 @@
+//! The map of a plan.
+
+ghost use Rattle.std.specs.Prelude.{map, IfOk};
+ghost use Rattle.clr_plan_map.specs.Maps.{IsMap, IsMapPage, ShowsOver, plan_word};
+
+use crate::labels::add_labels;
+use crate::sentences::plan_sentence;
+use crate::titles::{description_of, plan_word, title_of, verdict_layer};
+use clr_drawing::{Area, GROUND, PAPER, Sketch};
+use clr_engine::Office;
+use clr_map_frames::{
+    add_axes, add_grid, add_grounds, add_heading, add_inset, add_outlines, has_frames, legend_of,
+    names_text,
+};
+use clr_map_marks::{add_haloes, add_line_marks, add_lines, add_mark, add_point_marks, add_signs};
+use clr_plan::Plan;
+use clr_plan_scenes::{Cause, Designs, FOOT, Field, PAGE_WIDTH, Scene, cause_of};
+use clr_rows::{Schema, Sheet};
+use clr_svg::{Ink, Layer, Page, Pixels, Spot, write_page};
+use std::alloc::{AllocError, Global};
+
+/// What is drawn of a plan beside its verdict.
+#[derive(Drop)]
+struct Drawn {
+    height: Pixels,
+    layers: Vec<Layer>,
+    names: String,
+    sentence: String,
+}
+
+/// The sheet of the page, and the ground of the map.
+fn paper(scene: &Scene<'_>, height: Pixels) -> Result<Layer, AllocError> {
+    let mut sketch = Sketch::new(scene.field.alloc);
+    let corner = Spot {
+        x: Pixels::ZERO,
+        y: Pixels::ZERO,
+    };
+    let page = Area {
+        left: corner.x,
+        top: corner.y,
+        right: PAGE_WIDTH,
+        bottom: height,
+    };
+    sketch.add_area(page, Pixels::ZERO, Ink::filled(PAPER))?;
+    sketch.add_area(scene.frame(), Pixels::whole(6), Ink::filled(GROUND))?;
+    Ok(sketch.into_layer())
+}
+
+/// What is seen through the window of the map.
+fn inner(scene: &Scene<'_>) -> Result<Layer, AllocError> {
+    let mut sketch = Sketch::new(scene.field.alloc);
+    if has_frames(scene) {
+        add_grounds(&mut sketch, scene)?;
+    }
+    add_grid(&mut sketch, scene)?;
+    if let Some(cause) = scene.cause {
+        add_haloes(&mut sketch, scene, cause)?;
+    }
+    add_lines(&mut sketch, scene)?;
+    add_signs(&mut sketch, scene)?;
+    if has_frames(scene) {
+        add_outlines(&mut sketch, scene)?;
+    }
+    add_line_marks(&mut sketch, scene)?;
+    add_point_marks(&mut sketch, scene)?;
+    if let Some(cause) = scene.cause {
+        add_mark(&mut sketch, scene, cause)?;
+    }
+    Ok(sketch.into_layer_within(scene.frame()))
+}
+
+/// What stands over the map and round it, and below the legend, which goes this far down.
+fn outer(
+    scene: &Scene<'_>,
+    plan: &Plan,
+    names: &str,
+    sentence: &str,
+    down: Pixels,
+) -> Result<Layer, AllocError> {
+    let mut sketch = Sketch::new(scene.field.alloc);
+    add_axes(&mut sketch, scene)?;
+    add_labels(&mut sketch, scene, plan)?;
+    add_heading(&mut sketch, plan_word(plan), names, sentence)?;
+    add_inset(&mut sketch, scene, down)?;
+    Ok(sketch.into_layer())
+}
+
+/// What is drawn of a plan with this cause, if it has one.
+fn drawn_with(field: Field<'_>, plan: &Plan, cause: Option<&Cause>) -> Result<Drawn, AllocError> {
+    let scene = Scene::new(field, cause);
+    let height = scene.frame().bottom + FOOT;
+    let names = names_text(field)?;
+    let sentence = plan_sentence(field, plan)?;
+    let mut layers = Vec::with_capacity(field.alloc, 4)?;
+    layers.push(paper(&scene, height)?)?;
+    layers.push(inner(&scene)?)?;
+    let (legend, down) = legend_of(&scene)?;
+    layers.push(outer(&scene, plan, names.as_str(), sentence.as_str(), down)?)?;
+    layers.push(legend)?;
+    Ok(Drawn {
+        height,
+        layers,
+        names,
+        sentence,
+    })
+}
+
+/// The members that a plan's order names.
+fn leaders_of(plan: &Plan) -> &[usize] {
+    match plan {
+        Plan::Blocked { order, .. } => order.as_slice(),
+        _ => &[],
+    }
+}
+
+/// The rows of a root, or none where it doesn't stand.
+fn rows_of(alloc: Global, office: &Office, root: &str) -> Result<Sheet, AllocError> {
+    match office.rows(root)? {
+        Some(rows) => Ok(rows),
+        None => Ok(Sheet::new(alloc)),
+    }
+}
+
+/// What is drawn of a plan.
+fn drawn_plan(
+    alloc: Global,
+    office: &Office,
+    root: &str,
+    members: &[&str],
+    plan: &Plan,
+) -> Result<Drawn, AllocError> {
+    let rows = rows_of(alloc, office, root)?;
+    let designs = Designs::read(alloc, office, root, members, leaders_of(plan))?;
+    let field = Field {
+        alloc,
+        office,
+        schema: office.schema(),
+        root,
+        rows: &rows,
+        designs: &designs,
+    };
+    let cause = cause_of(field, plan)?;
+    drawn_with(field, plan, cause.as_ref())
+}
+
+/// Layers with the word for what a plan says over them.
+fn with_verdict(
+    alloc: Global,
+    plan: &Plan,
+    mut layers: Vec<Layer>,
+) -> Result<Vec<Layer>, AllocError>
+    ensures { IfOk result (λ shown. ShowsOver shown.items (plan_word plan.now)) }
+{
+    let verdict = verdict_layer(alloc, plan)?;
+    layers.push(verdict)?;
+    Ok(layers)
+}
+
+/// The page of what is drawn of a plan, with its verdict over it.
+fn page_of(
+    alloc: Global,
+    schema: &Schema,
+    root: &str,
+    members: &[&str],
+    plan: &Plan,
+    drawn: Drawn,
+) -> Result<Page, AllocError>
+    ensures { IfOk result (IsMapPage schema.now (map (λ name. name.now) members.now) root.now plan.now) }
+{
+    let title = title_of(alloc, plan, drawn.names.as_str())?;
+    let sentence = drawn.sentence.as_str();
+    let description = description_of(alloc, schema, members, root, plan, sentence)?;
+    let layers = with_verdict(alloc, plan, drawn.layers)?;
+    Ok(Page {
+        width: PAGE_WIDTH,
+        height: drawn.height,
+        title,
+        description,
+        layers,
+    })
+}
+
+/// Returns the map of a plan of members of a root, as the text of a page of vector graphics. Its title begins with the word for what the
+/// plan says, its last layer shows that word, and its description ends with the lines of the plan. Each text of the office is escaped. The
+/// rows are those of the root, with what each member changes over them; the map shows what is round the cause, or else round the changes.
+/// Fails for want of memory alone.
+pub fn plan_map(
+    alloc: Global,
+    office: &Office,
+    root: &str,
+    members: &[&str],
+    plan: &Plan,
+) -> Result<Vec<u8>, AllocError>
+    ensures map { IfOk result (λ text. IsMap office.now.schema (map (λ name. name.now) members.now) root.now plan.now text.items) }
+{
+    let drawn = drawn_plan(alloc, office, root, members, plan)?;
+    let page = page_of(alloc, office.schema(), root, members, plan, drawn)?;
+    let text = write_page(alloc, &page)?;
+    Ok(text)
+}

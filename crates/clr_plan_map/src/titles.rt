@@ -1,0 +1,95 @@
+//! The words of a map: its verdict, its title and its description.
+
+ghost use Rattle.std.specs.Prelude.{◌≡◌, ◌++◌, codes, map, string_bytes, IfOk};
+ghost use Rattle.clr_plan_lines.specs.Plans.{plan_text};
+ghost use Rattle.clr_plan_map.specs.Maps.{ShowsFirst, plan_word};
+
+use clr_drawing::{ALARM, CAUTION, CLEAR};
+use clr_map_frames::VERDICT_SIZE;
+use clr_plan::Plan;
+use clr_plan_lines::plan_lines;
+use clr_plan_scenes::LEFT;
+use clr_rows::Schema;
+use clr_svg::{Anchor, Colour, Element, Label, Layer, Pixels, Spot, Weight};
+use std::alloc::{AllocError, Global};
+
+/// Returns the word for what a plan says.
+pub(crate) fn plan_word(plan: &Plan) -> &'static str
+    ensures { result.now ≡ plan_word plan.now }
+{
+    match plan {
+        Plan::Cleared(_) => "Cleared",
+        Plan::Blocked { .. } => "Not cleared",
+        Plan::Unfit(_) => "Not looked at",
+        Plan::OutOfMemory => "Not decided",
+    }
+}
+
+/// The colour of the word for what a plan says.
+fn plan_colour(plan: &Plan) -> Colour {
+    match plan {
+        Plan::Cleared(_) => CLEAR,
+        Plan::Blocked { .. } => ALARM,
+        Plan::Unfit(_) | Plan::OutOfMemory => CAUTION,
+    }
+}
+
+/// The word for what a plan says, as a label.
+fn verdict_label(alloc: Global, plan: &Plan) -> Result<Label, AllocError>
+    ensures { IfOk result (λ label. string_bytes label.words ≡ plan_word plan.now) }
+{
+    let words = String::from_str(alloc, plan_word(plan))?;
+    Ok(Label {
+        at: Spot {
+            x: LEFT,
+            y: Pixels::whole(46),
+        },
+        anchor: Anchor::Start,
+        size: VERDICT_SIZE,
+        weight: Weight::Strong,
+        colour: plan_colour(plan),
+        words,
+    })
+}
+
+/// Returns the layer with the word for what a plan says. Fails for want of memory alone.
+pub(crate) fn verdict_layer(alloc: Global, plan: &Plan) -> Result<Layer, AllocError>
+    ensures { IfOk result (λ layer. ShowsFirst layer.elements.items (plan_word plan.now)) }
+{
+    let label = verdict_label(alloc, plan)?;
+    let mut elements = Vec::new(alloc);
+    elements.push(Element::Words(label))?;
+    Ok(Layer {
+        window: None,
+        elements,
+    })
+}
+
+/// Returns the title of a map: the word for what the plan says, and names. Fails for want of memory alone.
+pub(crate) fn title_of(alloc: Global, plan: &Plan, names: &str) -> Result<Vec<u8>, AllocError>
+    ensures { IfOk result (λ title. title.items ≡ plan_word plan.now ++ codes ": " ++ names.now) }
+{
+    let mut title = Vec::from_slice(alloc, plan_word(plan).as_bytes())?;
+    title.extend_from_slice(b": ")?;
+    title.extend_from_slice(names.as_bytes())?;
+    Ok(title)
+}
+
+/// Returns the description of a map: a sentence, and the lines of the plan. Fails for want of memory alone.
+pub(crate) fn description_of(
+    alloc: Global,
+    schema: &Schema,
+    members: &[&str],
+    root: &str,
+    plan: &Plan,
+    sentence: &str,
+) -> Result<Vec<u8>, AllocError>
+    ensures { IfOk result (λ text. text.items
+        ≡ sentence.now ++ codes "\n" ++ plan_text schema.now (map (λ name. name.now) members.now) root.now plan.now) }
+{
+    let lines = plan_lines(alloc, schema, members, root, plan)?;
+    let mut text = Vec::from_slice(alloc, sentence.as_bytes())?;
+    text.extend_from_slice(b"\n")?;
+    text.extend_from_slice(lines.as_slice())?;
+    Ok(text)
+}

@@ -1,0 +1,51 @@
+//! What serves each need that cleared members touch.
+
+use crate::sections::{Builder, row_of, table_of};
+use clr_cert::Entry;
+use clr_html::{Block, Table};
+use clr_plan_words::Setting;
+use std::alloc::AllocError;
+
+/// How many needs are told one by one.
+const MOST_NEEDS: usize = 400;
+
+/// Adds the row of a need.
+fn add_need(table: &mut Table, setting: Setting<'_>, entry: &Entry) -> Result<(), AllocError> {
+    let need = setting.need_words(entry)?;
+    let cells = [
+        need.rule.as_str(),
+        need.rows.as_str(),
+        need.servers.as_str(),
+    ];
+    Ok(table.rows.push(row_of(setting.alloc, &cells)?)?)
+}
+
+/// Adds that needs are left out, if some are.
+fn add_rest(section: &mut Builder, count: usize) -> Result<(), AllocError> {
+    if count <= MOST_NEEDS {
+        return Ok(());
+    }
+    let rest = count - MOST_NEEDS;
+    let words = format!(in section.alloc;
+        "And {rest} more, which the certificate at the end names."
+    )?;
+    section.add_paragraph(words.as_str())
+}
+
+/// Adds the needs of a certificate, each with what serves it and until when. Fails for want of memory alone.
+pub(crate) fn add_needs(
+    section: &mut Builder,
+    setting: Setting<'_>,
+    entries: &[Entry],
+) -> Result<(), AllocError> {
+    if entries.is_empty() {
+        return section.add_paragraph("No rule is touched.");
+    }
+    section.add_paragraph("Each need that the designs touch is served, whatever is merged first.")?;
+    let mut table = table_of(setting.alloc, &["Rule", "Asked by", "Served by"])?;
+    for entry in entries.iter().take(MOST_NEEDS) {
+        add_need(&mut table, setting, entry)?;
+    }
+    section.add(Block::Table(table))?;
+    add_rest(section, entries.len())
+}

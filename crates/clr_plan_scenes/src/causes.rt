@@ -1,0 +1,222 @@
+//! What a cause is about: its rows, where they fail, and the few words that say why.
+
+use crate::badges::badge_of_need;
+use crate::fields::Field;
+use crate::places::{CausePlace, place_of_need};
+use clr_clearance::Verdict;
+use clr_drawing::middle_of;
+use clr_needs::{Need, VersionId};
+use clr_plan::Plan;
+use clr_plan_words::{ServerChange, Standing, rule_of, server_changes};
+use clr_rows::{CellId, Row};
+use clr_rules::Rule;
+use std::alloc::AllocError;
+
+/// A row that a cause names, and the design that lays, changes or removes it, if one does.
+#[derive(Drop)]
+pub struct CauseRow {
+    pub cell: CellId,
+    pub owner: Option<usize>,
+    pub row: Row,
+}
+
+/// How the place of a cause is marked.
+#[derive(Clone, Copy)]
+pub enum Mark {
+    /// By a ring round the place.
+    Ring(CausePlace),
+    /// By a dotted line between the two rows.
+    Link,
+    /// By a line between the two points, and a circle of this many millimetres round each.
+    Near(i64),
+    /// By nothing.
+    Nothing,
+}
+
+/// A cause: the rows that it names, the rows beside them that served and go, how its place is marked, and the few words that say why.
+#[derive(Drop)]
+pub struct Cause {
+    pub rows: Vec<CauseRow>,
+    pub goers: Vec<CauseRow>,
+    pub mark: Mark,
+    pub says: String,
+}
+
+/// The design that brings, changes or removes a row.
+fn owner_of(standing: Standing) -> Option<usize> {
+    match standing {
+        Standing::New(at)
+        | Standing::Changed(at)
+        | Standing::Removed(at)
+        | Standing::TakenOver(at) => Some(at),
+        Standing::Stays | Standing::Now => None,
+    }
+}
+
+/// Adds the row of a version, where it has one.
+fn add_version(
+    rows: &mut Vec<CauseRow>,
+    field: Field<'_>,
+    version: VersionId,
+) -> Result<(), AllocError> {
+    let members = &field.designs.members;
+    if let Some(row) = members.row_of(field.office, version) {
+        rows.push(CauseRow {
+            cell: version.cell,
+            owner: owner_of(members.standing(version)),
+            row: row.copy()?,
+        })?;
+    }
+    Ok(())
+}
+
+/// The rows of the subjects of a need.
+fn subjects_of(field: Field<'_>, need: &Need) -> Result<Vec<CauseRow>, AllocError> {
+    let mut rows = Vec::new(field.alloc);
+    add_version(&mut rows, field, need.first)?;
+    if let Some(version) = need.second {
+        add_version(&mut rows, field, version)?;
+    }
+    Ok(rows)
+}
+
+/// How the place of a need under a rule is marked.
+fn mark_of(field: Field<'_>, rule: &Rule, need: &Need, rows: &[CauseRow]) -> Mark {
+    match rule {
+        Rule::Unique { .. } => Mark::Link,
+        Rule::Near { d, .. } => Mark::Near(*d),
+        _ => match place_of_need(field, need, rows) {
+            Some(site) => Mark::Ring(site),
+            None => Mark::Nothing,
+        },
+    }
+}
+
+/// Adds the row that a change takes away, where it takes one away.
+fn add_goer(
+    goers: &mut Vec<CauseRow>,
+    field: Field<'_>,
+    change: ServerChange,
+) -> Result<(), AllocError> {
+    if !change.leaves {
+        return Ok(());
+    }
+    let members = &field.designs.members;
+    if let Some(row) = members.row_before(change.member, change.cell) {
+        goers.push(CauseRow {
+            cell: change.cell,
+            owner: Some(change.member),
+            row: row.copy()?,
+        })?;
+    }
+    Ok(())
+}
+
+/// The rows that served a need and go with a design.
+fn goers_of(field: Field<'_>, need: &Need) -> Result<Vec<CauseRow>, AllocError> {
+    let changes = server_changes(field.alloc, field.office, &field.designs.members, need)?;
+    let mut goers = Vec::new(field.alloc);
+    for change in &changes {
+        add_goer(&mut goers, field, *change)?;
+    }
+    Ok(goers)
+}
+
+/// A need that nothing covers.
+fn uncovered(field: Field<'_>, need: &Need) -> Result<Option<Cause>, AllocError> {
+    let Some(rule) = rule_of(field.office, need) else {
+        return Ok(None);
+    };
+    let rows = subjects_of(field, need)?;
+    let goers = goers_of(field, need)?;
+    let mark = mark_of(field, rule, need, rows.as_slice());
+    let says = badge_of_need(field.alloc, field.schema, rule, mark, goers.len())?;
+    Ok(Some(Cause {
+        rows,
+        goers,
+        mark,
+        says,
+    }))
+}
+
+/// Adds the row that a design has at a cell, or else the one that stood there before.
+fn add_row_of_design(
+    rows: &mut Vec<CauseRow>,
+    field: Field<'_>,
+    at: usize,
+    cell: CellId,
+) -> Result<(), AllocError> {
+    let members = &field.designs.members;
+    let row = match members.row_after(at, cell) {
+        Some(row) => Some(row),
+        None => members.row_before(at, cell),
+    };
+    if let Some(row) = row {
+        rows.push(CauseRow {
+            cell,
+            owner: Some(at),
+            row: row.copy()?,
+        })?;
+    }
+    Ok(())
+}
+
+/// A ring round the middle of the first of these rows, where it has one.
+fn ring_round(rows: &[CauseRow]) -> Mark {
+    let Some(first) = rows.first() else {
+        return Mark::Nothing;
+    };
+    match middle_of(&first.row.shape) {
+        Some(place) => Mark::Ring(CausePlace {
+            place,
+            is_whole: true,
+        }),
+        None => Mark::Nothing,
+    }
+}
+
+/// A cell at which designs meet one another or the root.
+fn contested(
+    field: Field<'_>,
+    cell: CellId,
+    members: &[usize],
+    says: String,
+) -> Result<Option<Cause>, AllocError> {
+    let mut rows = Vec::new(field.alloc);
+    for at in members {
+        add_row_of_design(&mut rows, field, *at, cell)?;
+    }
+    let mark = ring_round(rows.as_slice());
+    Ok(Some(Cause {
+        rows,
+        goers: Vec::new(field.alloc),
+        mark,
+        says,
+    }))
+}
+
+/// Returns what the cause of a plan is about, or none where the plan has no cause. Fails for want of memory alone.
+pub fn cause_of(field: Field<'_>, plan: &Plan) -> Result<Option<Cause>, AllocError> {
+    let Plan::Blocked { cause, .. } = plan else {
+        return Ok(None);
+    };
+    match cause {
+        Verdict::Uncovered(need) => uncovered(field, need),
+        Verdict::Conflict { member, cell, .. } => {
+            let root = field.root;
+            let says = format!(in field.alloc; "{root} changed too")?;
+            contested(field, *cell, &[*member], says)
+        }
+        Verdict::SharedCell {
+            cell,
+            first,
+            second,
+        } => {
+            let table = field.schema.name_of_table(cell.table);
+            let key = cell.key;
+            let says = format!(in field.alloc; "both change {table} {key}")?;
+            contested(field, *cell, &[*first, *second], says)
+        }
+        _ => Ok(None),
+    }
+}

@@ -1,0 +1,27 @@
+//! A plan in words, part by part: the answer, the cause with its rows, where they meet and what stands there, what each member changes,
+//! and what serves each need.
+//!
+//! - `Members::read`, `row_of`: each row that is told of a cause is the version that the cause names.
+//! - A place where rows meet lies on both parts. Which words stand for what is tested.
+//! - `Setting` tells what an office and members are about. Each of its calls fails for want of memory alone.
+#![tactic(auto)]
+
+mod answers;
+mod causes;
+mod changes;
+mod members;
+mod needs;
+mod rules;
+mod servers;
+mod settings;
+mod sites;
+mod unfit;
+
+pub use answers::answer_words;
+pub use causes::{CauseWords, RowWords};
+pub use changes::{Counts, count_rows};
+pub use members::{Members, Standing};
+pub use needs::NeedWords;
+pub use servers::{ServerChange, server_changes};
+pub use settings::Setting;
+pub use sites::{rule_of, server_side, site_of};

@@ -1,0 +1,71 @@
+//! The place that the rows of a need have in common.
+
+use crate::members::Members;
+use clr_engine::Office;
+use clr_needs::Need;
+use clr_rows::{Place, Row, Shape};
+use clr_rules::{Rule, Side, Tip};
+use clr_segments::part;
+use clr_wording::{Meeting, meet_parts};
+
+/// The first or the last vertex of a segment or a path.
+fn end_of(tip: Tip, shape: &Shape) -> Option<Place> {
+    match (tip, shape) {
+        (Tip::First, Shape::Line(place, _)) => Some(*place),
+        (Tip::Second, Shape::Line(_, place)) => Some(*place),
+        (Tip::First, Shape::Chain(vertices)) => vertices.as_slice().first().copied(),
+        (Tip::Second, Shape::Chain(vertices)) => vertices.as_slice().last().copied(),
+        _ => None,
+    }
+}
+
+/// Where two rows meet, by the parts of a need.
+fn crossing_site(need: &Need, first: &Row, second: &Row) -> Meeting {
+    let one = part(&first.shape, need.first_part);
+    let two = part(&second.shape, need.second_part);
+    match (one, two) {
+        (Some(one), Some(two)) => meet_parts(one, two),
+        _ => Meeting::NoParts,
+    }
+}
+
+/// The end of a row as a place where a row that serves it would have to stand.
+fn end_site(tip: Tip, row: &Row) -> Meeting {
+    match end_of(tip, &row.shape) {
+        Some(place) => Meeting::Whole(place),
+        None => Meeting::NoParts,
+    }
+}
+
+/// The rule of a need.
+pub fn rule_of<'a>(office: &'a Office, need: &Need) -> Option<&'a Rule> {
+    office.book().rules().get(need.rule as usize)
+}
+
+/// Where a row that serves a need would have to stand: the place where its rows meet, or the end of the
+/// one row. No place is told where the rule asks for none.
+pub fn site_of(office: &Office, members: &Members<'_>, need: &Need) -> Meeting {
+    let Some(first) = members.row_of(office, need.first) else {
+        return Meeting::NoParts;
+    };
+    let second = match need.second {
+        Some(version) => members.row_of(office, version),
+        None => None,
+    };
+    match (rule_of(office, need), second) {
+        (Some(Rule::EndNode { tip, .. }), _) => end_site(*tip, first),
+        (Some(Rule::Crossing { .. }), Some(second)) => crossing_site(need, first, second),
+        _ => Meeting::NoParts,
+    }
+}
+
+/// The side whose rows serve under a rule, if any can.
+pub fn server_side(rule: &Rule) -> Option<&Side> {
+    match rule {
+        Rule::Partner { server, .. } => Some(server),
+        Rule::EndNode { server, .. } => Some(server),
+        Rule::Crossing { server, .. } => Some(server),
+        Rule::Unique { .. } => None,
+        Rule::Near { .. } => None,
+    }
+}

@@ -1,0 +1,2 @@
+pub mod NameHints
+pub mod Printing

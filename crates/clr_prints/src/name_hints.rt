@@ -1,0 +1,101 @@
+//! Hints at names that no workspace has.
+ghost use Rattle.std.specs.Prelude.{◌≡◌, ◌∷◌, All, Contains, IfOk, IfSome, OnOk};
+ghost use Rattle.clr_prints.specs.NameHints.{AddsHint, AreNameHints, HintsAt, IsNamed, IsNobody, hint_text};
+ghost use Rattle.clr_prints.specs.Printing.{printed};
+
+use crate::prints::Print;
+use clr_engine::Office;
+use clr_hints::nearest;
+use clr_office::Words;
+use clr_rows::LIVE;
+use std::alloc::{AllocError, Global};
+
+/// The names of all workspaces, that of LIVE first.
+fn names_of_workspaces<'a>(alloc: Global, office: &'a Office) -> Result<Vec<&'a str>, AllocError>
+    ensures { IfOk result (λ names. All (λ name. IsNamed office.now name.now) names.items) }
+{
+    let mut names = Vec::new(alloc);
+    for at in 0..office.len() {
+        if let Some(name) = office.name_at(at) {
+            names.push(name)?;
+        }
+    }
+    Ok(names)
+}
+
+/// The name of a workspace that may be meant by a name that no workspace has.
+fn meant<'a>(
+    alloc: Global,
+    office: &Office,
+    known: &[&'a str],
+    name: &str,
+) -> Result<Option<&'a str>, AllocError>
+    ensures { IfOk result (λ near. IfSome near (λ other. Contains known.now other × IsNobody office.now name.now)) }
+{
+    if name == LIVE || office.parent_of(name).is_some() {
+        return Ok(None);
+    }
+    nearest(alloc, name, known)
+}
+
+/// The line of a hint at a name, and at the one that may be meant by it.
+fn hint_line(alloc: Global, name: &str, near: &str) -> Result<Vec<u8>, AllocError>
+    ensures { IfOk result (λ line. line.items ≡ hint_text (record { name = name.now; near = near.now })) }
+{
+    let mut line = Vec::from_slice(alloc, b"hint: no workspace is named '")?;
+    line.extend_from_slice(name.as_bytes())?;
+    line.extend_from_slice(b"'; did you mean '")?;
+    line.extend_from_slice(near.as_bytes())?;
+    line.extend_from_slice(b"'?\n")?;
+    Ok(line)
+}
+
+/// Adds the line of a hint at a name, where no workspace has it and one has a name like it.
+fn add_hint(
+    alloc: Global,
+    office: &Office,
+    known: &[&str],
+    name: &str,
+    lines: &mut Vec<u8>,
+) -> Result<(), AllocError>
+    requires { All (λ other. IsNamed office.now other.now) known.now }
+    ensures { OnOk result (AddsHint office.now name.now lines.old.items lines.new.items) }
+{
+    if let Some(near) = meant(alloc, office, known, name)? {
+        let line = hint_line(alloc, name, near)?;
+        lines.extend_from_slice(line.as_slice())?;
+    }
+    Ok(())
+}
+
+/// The lines of hints at names that no workspace has, where one has a name like them: the root, and the others.
+pub fn hint_lines(
+    alloc: Global,
+    office: &Office,
+    root: &str,
+    names: &[Words],
+) -> Result<Vec<u8>, AllocError>
+    ensures { IfOk result (λ lines. AreNameHints office.now (root.now ∷ names.now) lines.items) }
+{
+    let known = names_of_workspaces(alloc, office)?;
+    let mut lines = Vec::new(alloc);
+    add_hint(alloc, office, known.as_slice(), root, &mut lines)?;
+    for name in names {
+        add_hint(alloc, office, known.as_slice(), name.as_str(), &mut lines)?;
+    }
+    Ok(lines)
+}
+
+/// What is printed for a root and names, and behind its notes hints at those that no workspace has.
+pub fn with_hints(
+    alloc: Global,
+    office: &Office,
+    root: &str,
+    names: &[Words],
+    print: Print,
+) -> Result<Print, AllocError>
+    ensures { IfOk result (λ p. HintsAt office.now (root.now ∷ names.now) (printed print) (printed p)) }
+{
+    let lines = hint_lines(alloc, office, root, names)?;
+    print.with_notes(lines.as_slice())
+}

@@ -1,0 +1,4 @@
+mod EditAgain
+mod RecordsAgain
+mod ScriptAgain
+pub mod Turns
