@@ -5,7 +5,7 @@ use Rattle.std.proofs.lemmas.Bool.{false≢true}
 use Rattle.clr_rows.specs.Contents.{Content}
 use Rattle.clr_workspaces.specs.Marks.{Name}
 use Rattle.clr_grid.specs.RowMaps.{Rows}
-use Rattle.clr_grid.specs.Sharing.{IsSettledFor}
+use Rattle.clr_finders.specs.Sharing.{IsSettledFor}
 use Rattle.clr_steps.specs.Offices.{Office, content_of, is_kept, stands}
 use Rattle.clr_engine.specs.Finders.{IsFinderAt, IsPositionOf, current_at, kept_at}
 use Rattle.clr_check.proofs.NameLemmas.{not_kept}

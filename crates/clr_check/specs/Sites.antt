@@ -1,6 +1,6 @@
 -- What is read of a site in an office, and the scene that it makes.
 use Rattle.std.specs.Prelude.{◌≡◌, None}
-use Rattle.clr_grid.specs.Sharing.{IsSettledFor, Settled}
+use Rattle.clr_finders.specs.Sharing.{IsSettledFor, Settled}
 use Rattle.clr_needs.specs.Members.{AreApart}
 use Rattle.clr_foot.specs.Scenes.{IsReady, SceneModel, setting_of}
 use Rattle.clr_steps.specs.Offices.{Office}

@@ -15,8 +15,8 @@ ghost use Rattle.clr_check.specs.Entries.{HasCover, IsLeastUncovered, IsTold, la
 
 use crate::entries::{entries_of, sort_entries};
 use clr_cert::Entry;
+use clr_finders::RowFinder;
 use clr_foot::Scene;
-use clr_grid::RowFinder;
 use clr_needs::{Life, Need, VersionId};
 use clr_rows::RowView;
 use std::alloc::{AllocError, Global};

@@ -2,7 +2,7 @@
 //! changed.
 
 ghost use Rattle.std.specs.Prelude.{◌≡◌, [], None, true, map, option_map, unwrap_or, IfErr, IfOk};
-ghost use Rattle.clr_grid.specs.Sharing.{IsSettledFor};
+ghost use Rattle.clr_finders.specs.Sharing.{IsSettledFor};
 ghost use Rattle.clr_rows.specs.Contents.{least_and_count};
 ghost use Rattle.clr_needs.specs.Members.{IsSceneFault};
 ghost use Rattle.clr_foot.specs.Scenes.{model_of};

@@ -1,7 +1,7 @@
 use Rattle.std.proofs.Common.{◌≤◌, length, subst, sym, arith}
 use Rattle.std.proofs.lemmas.List.{length-map}
 use Rattle.clr_needs.specs.declared.limits.TheConstants.{MOST_MEMBERS}
-use Rattle.clr_grid.specs.Sharing.{IsSettledFor}
+use Rattle.clr_finders.specs.Sharing.{IsSettledFor}
 use Rattle.clr_steps.specs.Quiet.{root_content}
 use Rattle.clr_steps.specs.Readings.{changes_in}
 use Rattle.clr_clearance.proofs.ClearLemmas.{faultless}

@@ -1,5 +1,5 @@
 use Rattle.std.proofs.Common.{◌≡◌, ◌∙◌, ap, subst, sym}
-use Rattle.clr_grid.specs.Sharing.{IsSettledFor}
+use Rattle.clr_finders.specs.Sharing.{IsSettledFor}
 use Rattle.clr_needs.specs.Members.{AreApart, setting}
 use Rattle.clr_foot.specs.Scenes.{IsReady, setting_of}
 use Rattle.clr_foot.specs.Versions.{FitsSetting}

@@ -4,6 +4,7 @@ use Rattle.std.proofs.lemmas.List.Kept.{IsStrictlySortedBy-filter}
 use Rattle.std.specs.Cmp.{Equal-is, tied_itself}
 use Rattle.std.specs.FinMap.{FinMap, get, entries, find, get-entries, entries_sorted, is_sorted}
 use Rattle.std.specs.FinMap.Entries.{below_all}
+use Rattle.std.specs.List.{list_any}
 use Rattle.std.specs.List.Sorted.{IsStrictlySortedBy}
 use Rattle.std.specs.Ordering.{eq_by_cmp, is_eq, is_lt, ordering_reverse}
 use Rattle.std.specs.declared.cmp.Ordering.{Ordering}
@@ -13,14 +14,13 @@ use Rattle.clr_rows.specs.Cells.{cell_cmp}
 use Rattle.clr_rows.proofs.CellOrder.{cell_cmp_total, cell_cmp_exact}
 use Rattle.clr_rows.proofs.Tests.{less}
 use Rattle.clr_rules.proofs.Elements.{Among, some_of, all_by, kept_among, among_kept, mapped_among, among_mapped, rising_mapped}
-use Rattle.clr_grid.specs.CellSets.{is_one_of}
 
 both : (a b : Bool) → T (a && b) → T a × T b
 both true b h = (tt, h)
 both false b h = absurd h
 
 -- a cell that is one of a list
-pub one_among : (cells : List CellId) (q : CellId) → is_one_of cells q ≡ true → Among q cells
+pub one_among : (cells : List CellId) (q : CellId) → list_any (eq_by_cmp cell_cmp q) cells ≡ true → Among q cells
 one_among cells q e =
     let (k, h, tie) = some_of (eq_by_cmp cell_cmp q) cells e in
     subst (λ z. Among z cells) (sym (cell_cmp_exact q k ((Equal-is (cell_cmp q k)).0 tie))) h

@@ -3,7 +3,7 @@ use Rattle.std.specs.Prelude.{◌≡◌, ◌<◌, ℕ, false, true, List, length
 use Rattle.clr_rows.specs.Contents.{Content}
 use Rattle.clr_rows.specs.Held.{Held}
 use Rattle.clr_rules.specs.declared.rules.Rule.{Rule}
-use Rattle.clr_grid.specs.Sharing.{Settled, IsSettledFor, found_cells, rule_spots, sharing, sharing_servers}
+use Rattle.clr_finders.specs.Sharing.{Settled, IsSettledFor, found_cells, rule_spots, sharing, sharing_servers}
 
 -- a finder that has settled a content finds exactly the rows that share with a row
 abbrev pub FindsSharing : Type 0

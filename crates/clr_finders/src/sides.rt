@@ -3,7 +3,7 @@
 ghost use Rattle.std.specs.Prelude.{◌≡◌};
 ghost use Rattle.clr_rows.specs.Held.{held_of};
 ghost use Rattle.clr_rules.specs.Sides.{has_role_in};
-ghost use Rattle.clr_grid.specs.Sharing.{may_serve};
+ghost use Rattle.clr_finders.specs.Sharing.{may_serve};
 
 use clr_rows::Held;
 use clr_rules::{Rule, is_of_side};

@@ -4,7 +4,7 @@ ghost use Rattle.std.specs.Prelude.{◌≡◌, ◌<◌, ◌∷◌, [], length, s
 ghost use Rattle.std.specs.Option.{option_copied, option_map};
 ghost use Rattle.clr_rows.specs.Held.{held_of};
 ghost use Rattle.clr_rules.specs.Books.{FitTogether};
-ghost use Rattle.clr_grid.specs.Sharing.{row_spots, rows_at, rule_spots};
+ghost use Rattle.clr_finders.specs.Sharing.{row_spots, rows_at, rule_spots};
 
 use crate::sides::{has_role, may_serve};
 use clr_rows::{CellId, Held, Row};
@@ -23,9 +23,10 @@ pub struct RuleSpots {
 }
 
 impl RuleSpots {
-    /// The spots of a row under the rule of a number.
+    /// Returns the spots of a row under the rule of a number, which is below the book's `len`. The
+    /// book and the row fit one schema.
     #[tactic(auto, unfolding(crate::specs::Sharing::rule_spots, clr_rules::specs::Sides::has_role, crate::specs::Sharing::may_serve_under))]
-    pub(crate) fn new(
+    pub fn new(
         alloc: Global,
         book: &RuleBook,
         rule: u16,
@@ -51,7 +52,7 @@ pub struct RowSpots {
 
 impl Model for RowSpots {
     ghost use Rattle.std.specs.Prelude.{List};
-    ghost use Rattle.clr_grid.specs.declared.row_spots.RuleSpots.{RuleSpots as OfRule};
+    ghost use Rattle.clr_finders.specs.declared.row_spots.RuleSpots.{RuleSpots as OfRule};
 
     ghost Value = { List OfRule };
 
@@ -59,8 +60,8 @@ impl Model for RowSpots {
 }
 
 impl RowSpots {
-    /// The spots of a row under each rule of a book. The book and the row fit one schema.
-    pub(crate) fn new(alloc: Global, book: &RuleBook, held: Held) -> Result<RowSpots, AllocError>
+    /// Returns the spots of a row under each rule of a book. The book and the row fit one schema.
+    pub fn new(alloc: Global, book: &RuleBook, held: Held) -> Result<RowSpots, AllocError>
         requires { FitTogether book.now (held_of held ∷ []) }
         ensures { IfOk result (λ spots. spots ≡ row_spots book.now (held_of held.entry)) }
     {
@@ -72,23 +73,24 @@ impl RowSpots {
         Ok(RowSpots { list })
     }
 
-    /// The spots under the rule of a number, or none where there is no such rule.
-    pub(crate) fn get(&self, rule: u16) -> Option<&RuleSpots>
+    /// Returns the spots under the rule of a number, or none where there is no such rule.
+    pub fn get(&self, rule: u16) -> Option<&RuleSpots>
         ensures { option_copied result ≡ slice_get self.now rule }
     {
         self.list.get(rule as usize)
     }
 
-    /// The spots under all rules, in the order of their numbers.
-    pub(crate) fn as_slice(&self) -> &[RuleSpots]
+    /// Returns the spots under all rules, in the order of their numbers.
+    pub fn as_slice(&self) -> &[RuleSpots]
         ensures { result.now ≡ self.now }
     {
         self.list.as_slice()
     }
 }
 
-/// The spots of the row at a cell, or none.
-pub(crate) fn row_spots_at(
+/// Returns the spots of the row at a cell under each rule of a book, or none where no row is given.
+/// The book and the row fit one schema.
+pub fn row_spots_at(
     alloc: Global,
     book: &RuleBook,
     cell: CellId,

@@ -3,8 +3,8 @@ use Rattle.std.proofs.lemmas.List.{take_all}
 use Rattle.std.specs.List.{list_any}
 use Rattle.clr_spots.specs.SpotOrder.{same_spot}
 use Rattle.clr_rules.proofs.Elements.{among, any_by}
-use Rattle.clr_grid.proofs.SpotLemmas.{some_in, common_turned}
-use Rattle.clr_grid.proofs.meetings.have_common_spot.Goals as goal
+use Rattle.clr_finders.proofs.CommonSpots.{some_in, common_turned}
+use Rattle.clr_finders.proofs.meetings.have_common_spot.Goals as goal
 
 pub returns-then-contains : goal.returns-then-contains
 returns-then-contains c =

@@ -1,6 +1,6 @@
 //! Laws of finders, each proved by a function that does nothing.
 
-ghost use Rattle.clr_grid.specs.Laws.{FindsServers, FindsSharing};
+ghost use Rattle.clr_finders.specs.Laws.{FindsServers, FindsSharing};
 
 /// A finder that has settled a content finds exactly the rows that share with a row.
 #[tactic(auto, using(crate::proofs::SharingLemmas::found_sharing))]

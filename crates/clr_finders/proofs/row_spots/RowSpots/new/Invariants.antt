@@ -1,7 +1,7 @@
 use Rattle.std.proofs.Common.{◌≡◌, map}
 use Rattle.std.specs.List.{range_with_len}
-use Rattle.clr_grid.specs.Sharing.{rule_spots}
-use Rattle.clr_grid.proofs.row_spots.RowSpots.new.Given as goal
+use Rattle.clr_finders.specs.Sharing.{rule_spots}
+use Rattle.clr_finders.proofs.row_spots.RowSpots.new.Given as goal
 
 -- the spots under the rules so far
 abbrev pub invariant-loop-rule : goal.invariant-loop-rule

@@ -12,7 +12,7 @@ use Rattle.clr_rules.specs.declared.rules.Rule.TheVariants.{Unique, Partner, End
 use Rattle.clr_rows.specs.Held.{Held}
 use Rattle.clr_rules.specs.Sides.{has_role, is_of_side}
 use Rattle.clr_spots.specs.Spots.{are_sharing, have_common_spot, spots_under, is_wide_under}
-use Rattle.clr_grid.specs.declared.row_spots.RuleSpots.{RuleSpots}
+use Rattle.clr_finders.specs.declared.row_spots.RuleSpots.{RuleSpots}
 
 -- rows ---------------------------------------------------------------------------------------
 

@@ -12,9 +12,9 @@ use Rattle.clr_rules.specs.declared.rules.Rule.{Rule}
 use Rattle.clr_rules.specs.Sides.{has_role}
 use Rattle.clr_spots.specs.Spots.{are_sharing, share, share_by, share_under, spots_by, spots_under, is_wide_by, is_wide_under, have_common_spot}
 use Rattle.clr_rules.proofs.Elements.{same_rising}
-use Rattle.clr_grid.specs.Sharing.{Settled, IsSettledFor, are_meeting, found_cells, is_met, is_met_at, may_serve_under, row_spots, rule_spots, sharing, sharing_servers}
-use Rattle.clr_grid.specs.declared.row_spots.RuleSpots.{RuleSpots}
-use Rattle.clr_grid.proofs.EntryLemmas.{passing_cells, passing_rise, passes_in, in_passes}
+use Rattle.clr_finders.specs.Sharing.{Settled, IsSettledFor, are_meeting, found_cells, is_met, is_met_at, may_serve_under, row_spots, rule_spots, sharing, sharing_servers}
+use Rattle.clr_finders.specs.declared.row_spots.RuleSpots.{RuleSpots}
+use Rattle.clr_finders.proofs.EntryLemmas.{passing_cells, passing_rise, passes_in, in_passes}
 
 get_mapped_range : {X : Type 0} (f : ℕ → X) (from n k m : ℕ) → k < n → m ≡ from + k → slice_get (map f (range_with_len from n)) k ≡ Some (f m)
 get_mapped_range f from zero k m less is = absurd (omega (arith, less))

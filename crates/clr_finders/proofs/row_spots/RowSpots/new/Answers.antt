@@ -1,7 +1,7 @@
 use Rattle.std.proofs.Common.{refl}
-use Rattle.clr_grid.specs.Sharing.{rule_spots}
-use Rattle.clr_grid.proofs.FoundLemmas.{counted_more}
-use Rattle.clr_grid.proofs.row_spots.RowSpots.new.Goals as goal
+use Rattle.clr_finders.specs.Sharing.{rule_spots}
+use Rattle.clr_finders.proofs.CountedLists.{counted_more}
+use Rattle.clr_finders.proofs.row_spots.RowSpots.new.Goals as goal
 
 pub loop-rule-preserved : goal.loop-rule-preserved
 loop-rule-preserved c =

@@ -6,18 +6,23 @@ ghost use Rattle.std.specs.Option.{option_copied, option_map};
 ghost use Rattle.clr_rows.specs.declared.cells.CellId.{CellId as Cell};
 ghost use Rattle.clr_rows.specs.Held.{held_of};
 ghost use Rattle.clr_rules.specs.Books.{FitTogether};
-ghost use Rattle.clr_grid.specs.Sharing.{Pending, Settled, found_cells, next_at, row_spots, rows_at, rule_spots};
+ghost use Rattle.clr_finders.specs.Sharing.{Pending, Settled, found_cells, next_at, row_spots, rows_at, rule_spots};
 
 use clr_rows::{CellId, Held, Row};
 use clr_rules::RuleBook;
-use std::alloc::AllocError;
+use std::alloc::{AllocError, Global};
 
 /// A map from cells to the spots of their rows under each rule of one book, with pending changes
 /// beside it. Every call is given that same book, and rows that fit a schema which the book fits.
-pub trait RowFinder {
+pub trait RowFinder: Drop {
     ghost settled: { Self → Settled };
 
     ghost pending: { Self → Pending };
+
+    /// Returns a finder without rows. It takes no memory.
+    fn without_rows(alloc: Global) -> Self
+        ensures settled { settled result ≡ finite.empty }
+        ensures pending { pending result ≡ finite.empty };
 
     /// Returns the cells whose row shares a spot with this one under a rule, ascending, each once.
     /// Where one of the two rows is wide, it is enough that both have a role in the rule. A row

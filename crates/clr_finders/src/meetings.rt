@@ -3,7 +3,7 @@
 ghost use Rattle.std.specs.Prelude.{◌≡◌};
 ghost use Rattle.std.specs.Option.{option_copied};
 ghost use Rattle.clr_spots.specs.Spots.{have_common_spot};
-ghost use Rattle.clr_grid.specs.Sharing.{are_meeting, is_met};
+ghost use Rattle.clr_finders.specs.Sharing.{are_meeting, is_met};
 
 use crate::row_spots::RuleSpots;
 use clr_spots::Spot;
@@ -32,8 +32,10 @@ fn are_meeting(first: &RuleSpots, second: &RuleSpots) -> bool
             || have_common_spot(first.spots.list.as_slice(), second.spots.list.as_slice()))
 }
 
-/// Whether a row of these spots is found, servers alone or all.
-pub(crate) fn is_met(servers: bool, spots: &RuleSpots, other: Option<&RuleSpots>) -> bool
+/// Tests whether a row of the other spots, if there is one, is found with a row of the first: both
+/// have a role, and they share a spot or one of them is wide. Where servers alone are looked for,
+/// it is of the side that serves, too.
+pub fn is_met(servers: bool, spots: &RuleSpots, other: Option<&RuleSpots>) -> bool
     ensures { result ≡ is_met servers spots.now (option_copied other.entry) }
 {
     match other {
