@@ -1,0 +1,3 @@
+pub mod DesignLemmas
+pub mod EditLemmas
+pub mod LiveLemmas

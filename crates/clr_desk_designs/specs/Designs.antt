@@ -20,13 +20,13 @@ use Rattle.clr_layer_changes.specs.declared.options.LayerOptions.{LayerOptions}
 use Rattle.clr_script_text.specs.Scripts.{design_script, design_steps}
 use Rattle.clr_designs.specs.Designs.{design_commands, design_refusal, with_design, with_live}
 use Rattle.clr_drafts.specs.Drafts.{draft_in}
-use Rattle.clr_office_writer.specs.Writing.{bytes_of}
+use Rattle.clr_office.specs.Outcomes.{dump_text}
 use Rattle.clr_prints.specs.Printing.{Printed, print_of}
 use Rattle.clr_desk_designs.specs.Faults.{fault_line}
 
--- the text of an office, which is read as the same office
+-- the text of an office, ended by `\n`, which is read as the same office
 pub record IsOfficeText (o : Office) (text : List ℕ) : Type 0 where
-  pub bytes : text ≡ bytes_of o
+  pub bytes : text ≡ dump_text o
   pub again : draft_in text ≡ Ok o
 
 -- a text alone, with status 0

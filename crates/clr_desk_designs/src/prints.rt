@@ -3,7 +3,7 @@
 ghost use Rattle.std.specs.Prelude.{◌≡◌, IfOk};
 ghost use Rattle.clr_rows.specs.Schemas.{FitsSchema};
 ghost use Rattle.clr_prints.specs.Printing.{printed};
-ghost use Rattle.clr_desk_designs.specs.Designs.{IsDesignPrint, IsDesignScriptPrint, IsOfficePrint, IsPrintOfDesign, IsPrintOfLive, IsPrintOfScript};
+ghost use Rattle.clr_desk_designs.specs.Designs.{IsDesignPrint, IsDesignScriptPrint, IsOfficePrint, IsOfficeText, IsPrintOfDesign, IsPrintOfLive, IsPrintOfScript};
 ghost use Rattle.clr_desk_designs.specs.Designs.{fault_print, refusal_print};
 
 use crate::fault_lines::fault_line;
@@ -41,6 +41,15 @@ fn print_of_refusal(alloc: Global, schema: &Schema, reply: &Reply) -> Result<Pri
     Ok(Print::new(Vec::new(alloc), line, true, false))
 }
 
+/// Returns the text of an office, ended by `\n`.
+fn office_text(alloc: Global, office: &Office) -> Result<Vec<u8>, AllocError>
+    ensures { IfOk result (λ text. IsOfficeText office.now text.items) }
+{
+    let mut text = write_office(alloc, office)?;
+    text.push(b'\n')?;
+    Ok(text)
+}
+
 /// Makes the design that has a content, and returns the text of the office, or why the design's workspace can't be created.
 fn print_of_design(
     alloc: Global,
@@ -52,7 +61,7 @@ fn print_of_design(
     ensures { IfOk result (λ p. IsPrintOfDesign name.now office.old content.now (printed p)) }
 {
     match make_design(alloc, office, name, content)? {
-        None => Ok(Print::of_text(alloc, write_office(alloc, office)?)),
+        None => Ok(Print::of_text(alloc, office_text(alloc, office)?)),
         Some(reply) => print_of_refusal(alloc, office.schema(), &reply),
     }
 }
@@ -81,7 +90,7 @@ fn print_of_live(alloc: Global, office: &mut Office, content: &Sheet) -> Result<
     ensures { IfOk result (λ p. IsPrintOfLive office.old content.now (printed p)) }
 {
     match replace_live(alloc, office, content)? {
-        None => Ok(Print::of_text(alloc, write_office(alloc, office)?)),
+        None => Ok(Print::of_text(alloc, office_text(alloc, office)?)),
         Some(need) => print_of_refusal(alloc, office.schema(), &Reply::RuleBroken(need)),
     }
 }
