@@ -15,21 +15,22 @@ use Rattle.clr_workspaces.specs.Workspaces.{Workspace, live_workspace}
 use Rattle.clr_steps.specs.declared.commands.Command.{Command}
 use Rattle.clr_steps.specs.declared.commands.Command.TheVariants.{Apply, Create}
 use Rattle.clr_steps.specs.declared.commands.Reply.{Reply}
-use Rattle.clr_steps.specs.declared.commands.Reply.TheVariants.{Done, NoWorkspace}
+use Rattle.clr_steps.specs.declared.commands.Reply.TheVariants.{BadName, Done, NameTaken, NoWorkspace, TooMany}
 use Rattle.clr_steps.specs.Effects.{after_apply, after_create, edited_content, effect}
 use Rattle.clr_steps.specs.Invariants.{OfficeFits}
 use Rattle.clr_steps.specs.Names.{is_live, same_name}
 use Rattle.clr_steps.specs.Offices.{Office, content_of, find_name, is_kept, modify, modify_marks, set_content, stands, with_workspaces, workspace}
 use Rattle.clr_steps.specs.Refusals.{bad_edit, breaks, edit_refusal, first_of, is_deep, is_full, refusal, when}
-use Rattle.clr_steps.specs.Steps.{Answer, answer, refused_or_done, run, step}
+use Rattle.clr_steps.specs.Steps.{answer, step}
 use Rattle.clr_steps.proofs.FindLemmas.{same_itself}
 use Rattle.clr_steps.proofs.ModifyLemmas.{modify_below}
 use Rattle.clr_steps.proofs.SeenLemmas.{only_at}
 use Rattle.clr_layer_changes.specs.Changes.{edits_between}
 use Rattle.clr_layer_changes.proofs.EditLemmas.{edits_lead}
-use Rattle.clr_designs.specs.Designs.{design_commands, design_of, design_refusal, with_design}
+use Rattle.clr_designs.specs.Designs.{AreDone, IsDesignMade, IsPerformed, design_of, design_refusal, with_design}
 use Rattle.clr_designs.specs.Laws.{DesignLaw}
 use Rattle.clr_designs.proofs.EditLemmas.{edits_are_made}
+use Rattle.clr_designs.proofs.PerformLemmas.{not_refused}
 
 -- one more workspace at the end ------------------------------------------------------------------
 
@@ -138,11 +139,41 @@ module _ (o : Office) (name : Name) (may : design_refusal o name ≡ None) where
     unfolding step
     one_step before c next none is = rw (none, is) refl
 
-    pub both_steps : IsSound (live_workspace o.live ∷ o.workspaces) → OfficeFits o → FitsSchema o.schema content
-        → run o (design_commands name edits) (λ k. false) ≡ record { replies = Done ∷ Done ∷ []; office = with_design o name content }
+    pub both_steps : IsSound (live_workspace o.live ∷ o.workspaces) → OfficeFits o → FitsSchema o.schema content → AreDone o name content (with_design o name content)
     both_steps sound fits content_fits =
         rw (one_step o (Create name live_name) with_leaf may (created sound))
         (rw (one_step with_leaf (Apply name edits) (with_design o name content) (may_apply fits content_fits) applied) refl)
+
+    -- what performing the commands leaves ------------------------------------------------------------------
+
+    -- whatever is answered to the second command behind the first, it is done
+    pub edits_apply : IsSound (live_workspace o.live ∷ o.workspaces) → OfficeFits o → FitsSchema o.schema content → (mid left : Office) (refused : Option Reply)
+        → mid ≡ with_leaf → IsPerformed mid (Apply name edits) refused left → IsDesignMade o name content refused left
+    edits_apply sound fits content_fits mid left None is done =
+        let all = one_step with_leaf (Apply name edits) (with_design o name content) (may_apply fits content_fits) applied in
+        let answered : answer Done (with_design o name content) ≡ answer Done left = sym all ∙ ap (λ m. step m (Apply name edits)) (sym is) ∙ done in
+        let same : left ≡ with_design o name content = cc in
+        (may, subst (AreDone o name content) (sym same) (both_steps sound fits content_fits), same)
+    edits_apply sound fits content_fits mid left (Some reply) is refused = absurd (none-some reply (sym (may_apply fits content_fits) ∙ ap (λ m. refusal m (Apply name edits)) (sym is) ∙ refused.0))
+
+-- that a workspace can't be created is never answered as done
+create_not_done : (o : Office) (name : Name) → design_refusal o name ≡ Some Done → ⊥
+unfolding refusal
+create_not_done o name h = by (not (stands o live_name)) (not (is_good_name name)) (stands o name) (is_full o || is_deep o live_name) h
+  where
+    by : (a b c d : Bool) → first_of (when a NoWorkspace ∷ when b BadName ∷ when c NameTaken ∷ when d TooMany ∷ []) ≡ Some Done → ⊥
+    by true b c d h = cc
+    by false true c d h = cc
+    by false false true d h = cc
+    by false false false true h = cc
+    by false false false false h = cc
+
+-- the first command is done, so the workspace may be created, and it stands
+pub creates : (o : Office) (name : Name) (mid : Office) → IsSound (live_workspace o.live ∷ o.workspaces) → step o (Create name live_name) ≡ answer Done mid
+    → (design_refusal o name ≡ None) × (mid ≡ with_design o name o.live)
+creates o name mid sound done =
+    let is = not_refused o (Create name live_name) mid (create_not_done o name) done in
+    (is.0, is.1 ∙ created o name is.0 sound)
 
 pub design_law : DesignLaw
 design_law o name content sound fits content_fits may = both_steps o name may content sound fits content_fits

@@ -1,6 +1,6 @@
 -- What is left where LIVE gets another content.
-use Rattle.std.proofs.Common.{◌≡◌, true, Option, Some, None, refl, ap, ◌∙◌}
-use Rattle.std.specs.Option.{option_map}
+use Rattle.std.proofs.Common.{◌≡◌, Option, Some, None, refl, ap, ◌∙◌}
+use Rattle.std.specs.Option.{option_map, option_or}
 use Rattle.clr_rows.specs.Contents.{Content}
 use Rattle.clr_rows.specs.Names.{live_name}
 use Rattle.clr_rows.specs.Schemas.{FitsSchema}
@@ -34,8 +34,9 @@ module _ (o : Office) (content : Content) where
   unfolding refusal edit_refusal breaks stands is_kept is_live
   live_refusal fits content_fits = rw (live_edited, edits_are_made o.schema o.live content fits.live content_fits 1) (last (first_broken o.book content))
     where
-      last : (found : Option Broken) → ? ≡ option_map RuleBroken found
-      last found = ?
+      last : (found : Option Broken) → option_or (option_map RuleBroken found) None ≡ option_map RuleBroken found
+      last None = refl
+      last (Some need) = refl
 
   pub live_effect : effect o (Apply live_name (edits_between o.live content)) ≡ with_live o content
   unfolding effect after_apply set_content is_live

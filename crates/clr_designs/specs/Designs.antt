@@ -1,5 +1,5 @@
 -- Designs that have a wanted content, and LIVE with another content: what is left, or why it isn't done.
-use Rattle.std.specs.Prelude.{◌≡◌, List, [], ◌∷◌, ◌++◌, Option, Some, None}
+use Rattle.std.specs.Prelude.{◌≡◌, ◌⊎◌, false, List, [], ◌∷◌, ◌++◌, Option, Some, None}
 use Rattle.clr_rows.specs.Contents.{Content}
 use Rattle.clr_rows.specs.Names.{live_name}
 use Rattle.clr_change.specs.declared.edits.Edit.{Edit}
@@ -9,13 +9,15 @@ use Rattle.clr_workspaces.specs.Workspaces.{Workspace}
 use Rattle.clr_steps.specs.declared.commands.Command.{Command}
 use Rattle.clr_steps.specs.declared.commands.Command.TheVariants.{Create, Apply}
 use Rattle.clr_steps.specs.declared.commands.Reply.{Reply}
+use Rattle.clr_steps.specs.declared.commands.Reply.TheVariants.{Done}
 use Rattle.clr_steps.specs.Offices.{Office, with_workspaces}
-use Rattle.clr_steps.specs.Effects.{effect}
 use Rattle.clr_steps.specs.Refusals.{first_broken, refusal}
+use Rattle.clr_steps.specs.Steps.{answer, run, step}
+use Rattle.clr_layer_changes.specs.Changes.{edits_between}
 
 -- a command is done, or refused for the first reason that applies, and then nothing changes
 abbrev pub IsPerformed : Office → Command → Option Reply → Office → Type 0
-IsPerformed o c None left = (refusal o c ≡ None) × (left ≡ effect o c)
+IsPerformed o c None left = step o c ≡ answer Done left
 IsPerformed o c (Some reply) left = (refusal o c ≡ Some reply) × (left ≡ o)
 
 -- designs ------------------------------------------------------------------------------------
@@ -36,10 +38,19 @@ with_design o name content = with_workspaces o (o.workspaces ++ design_of name o
 abbrev pub design_refusal : Office → Name → Option Reply
 design_refusal o name = refusal o (Create name live_name)
 
+-- both commands are done, the second with the edits that lead from LIVE's content to another, and this office is left
+abbrev pub AreDone : Office → Name → Content → Office → Type 0
+AreDone o name content left =
+    run o (design_commands name (edits_between o.live content)) (λ k. false) ≡ record { replies = Done ∷ Done ∷ []; office = left }
+
 -- a design has this content; or it can't be made for this reason, and nothing changes
 abbrev pub IsDesignMade : Office → Name → Content → Option Reply → Office → Type 0
-IsDesignMade o name content None left = (design_refusal o name ≡ None) × (left ≡ with_design o name content)
+IsDesignMade o name content None left = (design_refusal o name ≡ None) × AreDone o name content left × (left ≡ with_design o name content)
 IsDesignMade o name content (Some reply) left = (design_refusal o name ≡ Some reply) × (left ≡ o)
+
+-- nothing changes, or the workspace of a design stands with LIVE's content
+abbrev pub IsDesignBegun : Office → Name → Office → Type 0
+IsDesignBegun o name left = (left ≡ o) ⊎ (left ≡ with_design o name o.live)
 
 -- LIVE ---------------------------------------------------------------------------------------
 

@@ -10,10 +10,14 @@ use Rattle.json.specs.Token.{Token, bad, boolean, null, number}
 use Rattle.json.specs.Text.{Within, after_backslash, after_high, after_u, code_unit, content, is_high_surrogate, is_low_surrogate, plain, prepend, short_escape, surrogate_pair}
 use Rattle.json.specs.Word.{after_digits, after_exponent, after_fraction, after_minus, after_number, after_sign, after_whole, ends_word, head, literal, number_before, word}
 use Rattle.json.specs.Lex.{Class, Lexeme, Mode, backslash, between, class, in_escape, in_string, in_word, lex, lex_byte, operator, other, punctuate, fresh, quote, space, string_token, token, tokens}
-use Rattle.serde_json.specs.Read.{read}
+use Rattle.json.specs.Json as json
+use Rattle.serde_json.specs.Read.{max_depth, of_json, read}
 use Rattle.clr_steps.specs.Offices.{Office}
-use Rattle.clr_office_text.specs.Offices.{office_if_read, office_in}
-use Rattle.clr_drafts.specs.Drafts.{draft_in}
+use Rattle.clr_office_text.specs.Fields.{◌>>=◌}
+use Rattle.clr_office_text.specs.Offices.{OfficeText, office_if_read, office_in}
+use Rattle.clr_office_text.specs.declared.faults.TextFault.{TextFault}
+use Rattle.clr_office_text.specs.declared.faults.TextFault.TheVariants.{NotJson}
+use Rattle.clr_drafts.specs.Drafts.{draft_in, if_standing, whole_office}
 
 -- a text with a line end behind it
 abbrev pub ended : List ℕ → List ℕ
@@ -61,14 +65,14 @@ ends_word-ended (x ∷ t) = refl
 -- no line end stands in a name
 abbrev IsOneLine : List ℕ → Type 0
 IsOneLine [] = Unit {0}
-IsOneLine (n ∷ ns) = (nat_eq n 10 ≡ false) × IsOneLine ns
+IsOneLine (n ∷ ns) = (nat_eq 10 n ≡ false) × IsOneLine ns
 
 abbrev begins : List ℕ → List ℕ → Bool
 begins name t = pointwise nat_eq (take (length name) t) name && ends_word (drop (length name) t)
 
 begins-ended : (name t : List ℕ) → IsOneLine name → begins name (ended t) ≡ begins name t
 begins-ended [] t one = ends_word-ended t
-begins-ended (n ∷ ns) [] one = ?
+begins-ended (n ∷ ns) [] one = rw one.0 refl
 begins-ended (n ∷ ns) (x ∷ t) one = by (nat_eq x n) (begins-ended ns t one.1)
   where
     by : (b : Bool) → begins ns (ended t) ≡ begins ns t
@@ -195,14 +199,26 @@ lex-ended in_escape [] = refl
 lex-ended m (x ∷ t) = byte-ended m (class x) x t (λ n. lex n (ended t)) (λ n. lex n t) (λ n. lex-ended n t)
 
 read-ended : (t : List ℕ) → read (ended t) ≡ read t
-read-ended t = ?
+read-ended t = ap (λ (ls : List Lexeme). option_and_then of_json (option_and_then (λ p. json.if_last p.0 p.1) (json.value max_depth (punctuate fresh ls)))) (lex-ended between t)
 
 utf8-ended : (t : List ℕ) → is_utf8 t ≡ true → is_utf8 (ended t) ≡ true
 utf8-ended t h = is_utf8-from_IsUtf8 (ended t) (IsUtf8-append t (10 ∷ []) (IsUtf8-from_is_utf8 t h) (IsUtf8-from_is_utf8 (10 ∷ []) refl))
 
-office-ended : (t : List ℕ) → office_in (ended t) ≡ office_in t
+office-ended : (t : List ℕ) → is_utf8 t ≡ true → office_in (ended t) ≡ office_in t
 unfolding office_in
-office-ended t = ?
+office-ended t h = rw (utf8-ended t h, h) (ap office_if_read (read-ended t))
+
+no_office : (t : List ℕ) → is_utf8 t ≡ false → office_in t ≡ Err NotJson
+unfolding office_in
+no_office t h = rw h refl
 
 pub draft-ended : (t : List ℕ) (o : Office) → draft_in t ≡ Ok o → draft_in (ended t) ≡ Ok o
-draft-ended t o is = ?
+unfolding draft_in
+draft-ended t o is = by (is_utf8 t) refl
+  where
+    standing : Result OfficeText TextFault → Result Office TextFault
+    standing read = read >>= λ text. if_standing (whole_office text)
+
+    by : (b : Bool) → is_utf8 t ≡ b → draft_in (ended t) ≡ Ok o
+    by true e = ap standing (office-ended t e) ∙ is
+    by false e = let never : ◌≡◌ {A = Result Office TextFault} (Err NotJson) (Ok o) = sym (ap standing (no_office t e)) ∙ is in cc

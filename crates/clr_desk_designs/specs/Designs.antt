@@ -1,15 +1,14 @@
 -- What is printed of layers: the office that has their rows, the office with a design that has them, or the script that makes this design.
-use Rattle.std.specs.Prelude.{◌≡◌, ℕ, true, false, List, [], ◌∷◌, Some, None, Ok, Err}
+use Rattle.std.specs.Prelude.{◌≡◌, ℕ, true, false, List, [], Some, None, Ok, Err}
 use Rattle.clr_rows.specs.Contents.{Content}
 use Rattle.clr_rows.specs.Names.{live_name}
 use Rattle.clr_rows.specs.declared.tables.TableDef.{TableDef}
 use Rattle.clr_rules.specs.declared.needs.Broken.{Broken}
 use Rattle.clr_workspaces.specs.Marks.{Name}
 use Rattle.clr_steps.specs.declared.commands.Reply.{Reply}
-use Rattle.clr_steps.specs.declared.commands.Reply.TheVariants.{Done, RuleBroken}
+use Rattle.clr_steps.specs.declared.commands.Reply.TheVariants.{RuleBroken}
 use Rattle.clr_steps.specs.Offices.{Office}
 use Rattle.clr_steps.specs.Refusals.{first_broken}
-use Rattle.clr_steps.specs.Steps.{run}
 use Rattle.clr_lines.specs.Replies.{reply_text}
 use Rattle.clr_scripts.specs.Scripts.{script_in_text}
 use Rattle.clr_layer_changes.specs.Changes.{edits_between}
@@ -18,7 +17,7 @@ use Rattle.clr_layer_changes.specs.declared.faults.FaultyLayer.{FaultyLayer}
 use Rattle.clr_layer_changes.specs.declared.options.GivenLayer.{GivenLayer}
 use Rattle.clr_layer_changes.specs.declared.options.LayerOptions.{LayerOptions}
 use Rattle.clr_script_text.specs.Scripts.{design_script, design_steps}
-use Rattle.clr_designs.specs.Designs.{design_commands, design_refusal, with_design, with_live}
+use Rattle.clr_designs.specs.Designs.{AreDone, design_refusal, with_design, with_live}
 use Rattle.clr_drafts.specs.Drafts.{draft_in}
 use Rattle.clr_office.specs.Outcomes.{dump_text}
 use Rattle.clr_prints.specs.Printing.{Printed, print_of}
@@ -59,8 +58,7 @@ pub data IsPrintOfDesign (name : Name) (o : Office) (content : Content) (print :
 pub record IsDesignScript (name : Name) (o : Office) (content : Content) (text : List ℕ) : Type 0 where
   pub bytes : text ≡ design_script o.schema name live_name (edits_between o.live content)
   pub steps : script_in_text o.schema text ≡ Ok (design_steps name live_name (edits_between o.live content))
-  pub run : run o (design_commands name (edits_between o.live content)) (λ k. false)
-      ≡ record { replies = Done ∷ Done ∷ []; office = with_design o name content }
+  pub done : AreDone o name content (with_design o name content)
 
 -- this script; or why the workspace of the design can't be created
 pub data IsPrintOfScript (name : Name) (o : Office) (content : Content) (print : Printed) : Type 0 where
