@@ -4,7 +4,7 @@ use Rattle.std.specs.FinMap as finite
 use Rattle.clr_rows.specs.declared.cells.CellId.{CellId}
 use Rattle.clr_rows.specs.declared.cells.Change.{Change}
 use Rattle.clr_rows.specs.declared.rows.Row.{Row}
-use Rattle.clr_rows.specs.Contents.{Content, changes, over, set_cell, taken_over}
+use Rattle.clr_rows.specs.Contents.{Content, changes, over, set_cell}
 use Rattle.clr_rows.proofs.ChangeLemmas.{taken_over-own}
 use Rattle.clr_change.specs.Edits.{after_edit, after_edits}
 use Rattle.clr_layer_changes.specs.Changes.{edit_of, edit_to, edits_between}

@@ -1,5 +1,5 @@
 -- The content that layers ask for fits the schema, if LIVE's content does.
-use Rattle.std.proofs.Common.{◌≡◌, ℕ, ℤ, pos, ◌+◌, ◌-◌, ◌<◌, ◌≤◌, ◌==◌, ◌&&◌, ◌++◌, Bool, true, false, cond, List, [], ◌∷◌, map, Option, Some, None, is_none, nat_le, nat_lt, Result, Ok, Err, unsigned_abs, refl, sym, ap, subst, ◌∙◌, length, arith, zero, suc, take, is_some}
+use Rattle.std.proofs.Common.{◌≡◌, ℕ, ℤ, pos, ◌+◌, ◌-◌, ◌<◌, ◌≤◌, ◌==◌, ◌&&◌, ◌++◌, Bool, true, false, cond, List, [], ◌∷◌, Option, Some, None, is_none, nat_le, nat_lt, Result, Ok, Err, unsigned_abs, refl, ap, subst, length, arith, zero, suc, take, is_some}
 use Rattle.std.specs.FinMap as finite
 use Rattle.std.specs.Prelude.{slice_get}
 use Rattle.std.specs.List.{AllByRecursion, find, range_with_len}
@@ -16,12 +16,12 @@ use Rattle.clr_rows.specs.Sheets.{with_none, with_rows}
 use Rattle.clr_rows.proofs.CellOrder.{cell_cmp_exact, cell_cmp_total}
 use Rattle.clr_rows.proofs.FitLemmas.{none_fit, put_keeps, take_keeps}
 use Rattle.clr_rows.proofs.Fronts.{get_at}
-use Rattle.clr_records.specs.Records.{◌>>=◌, at_record, in_turn, or_fault, records_in}
-use Rattle.clr_layer_text.specs.Layers.{Fields, cell_of, fields_of_table, fitting, if_fits, key_of, layer_in, layer_of, row_of, rows_from, shape_in, values_of, whole_row_of}
+use Rattle.clr_records.specs.Records.{◌>>=◌, at_record, field_of, in_turn, or_fault, records_in}
+use Rattle.clr_layer_text.specs.Layers.{Fields, cell_of, fields_of_table, if_fits, key_of, layer_in, layer_of, row_of, shape_in, values_of, whole_row_of}
 use Rattle.clr_layer_text.specs.declared.faults.LayerFault.{LayerFault}
+use Rattle.clr_layer_text.specs.declared.faults.LayerFault.TheVariants.{FieldCount}
 use Rattle.clr_layer_text.specs.declared.rows.LayerRow.{LayerRow}
 use Rattle.clr_layer_text.proofs.TableLemmas.{FitsAt}
-use Rattle.clr_layer_changes.specs.declared.faults.FaultyLayer.{FaultyLayer}
 use Rattle.clr_layer_changes.specs.declared.faults.LayersFault.{LayersFault}
 use Rattle.clr_layer_changes.specs.declared.limits.TheConstants.{FIRST_RECORD}
 use Rattle.clr_layer_changes.specs.declared.options.GivenLayer.{GivenLayer}
@@ -72,11 +72,12 @@ module _ {X S E : Type 0} (P : S → Type 0) (Q : X → Type 0) (f : ℕ → S �
 
 found_within : (p : ℕ → Bool) (a n k : ℕ) → find p (range_with_len a n) ≡ Some k → (p k ≡ true) × (a ≤ k) × (k < a + n)
 found_within p a zero k e = absurd (none-some k e)
-found_within p a (suc n) k e = by (p a) refl e
+found_within p a (suc n) k e = by (p a) refl e (λ h. found_within p (a + 1) n k h)
   where
-    by : (b : Bool) → p a ≡ b → cond b (Some a) (find p (range_with_len (a + 1) n)) ≡ Some k → (p k ≡ true) × (a ≤ k) × (k < a + suc n)
-    by true t h = let same = same_Some a k h in (subst (λ m. p m ≡ true) same t, omega (arith, same), omega (arith, same))
-    by false t h = let rest = found_within p (a + 1) n k h in (rest.0, omega (arith, rest.1), omega (arith, rest.2))
+    by : (b : Bool) → p a ≡ b → cond b (Some a) (find p (range_with_len (a + 1) n)) ≡ Some k
+        → (find p (range_with_len (a + 1) n) ≡ Some k → (p k ≡ true) × (a + 1 ≤ k) × (k < a + 1 + n)) → (p k ≡ true) × (a ≤ k) × (k < a + suc n)
+    by true t h rest = let same = same_Some a k h in (subst (λ m. p m ≡ true) same t, omega (arith, same), omega (arith, same))
+    by false t h rest = let later = rest h in (later.0, omega (arith, later.1), omega (arith, later.2))
 
 free_is_key : (live rows : Content) (table first key : ℕ) → least_free live rows table first ≡ Some key → is_key (pos key) ≡ true
 unfolding keys_from
@@ -108,18 +109,18 @@ module _ (tables : List TableDef) where
   fitted table (Some why) r read is e = cc
 
   row_fits : (table : ℕ) (rounded : Bool) (at : Fields) (fields : List (List ℕ)) (read : LayerRow) → row_of tables table rounded at fields ≡ Ok read → FitsAt tables table read
+  unfolding whole_row_of
   row_fits table rounded at fields read e = by (length fields == at.width) e
     where
       whole : whole_row_of tables table rounded at fields ≡ Ok read → FitsAt tables table read
-      unfolding whole_row_of
       whole h =
-          let key = both_read (key_of _) _ read h in
+          let key = both_read (key_of (field_of fields at.key)) _ read h in
           let values = both_read (values_of at.columns fields) _ read key.2 in
           let shape = both_read (shape_in rounded at.shape fields) _ read values.2 in
           let r : LayerRow = record { key = key.0; row = record { values = values.0; shape = shape.0 } } in
           fitted table (row_fault tables (cell_of table r.key) r.row) r read refl shape.2
 
-      by : (b : Bool) → cond b (whole_row_of tables table rounded at fields) _ ≡ Ok read → FitsAt tables table read
+      by : (b : Bool) → cond b (whole_row_of tables table rounded at fields) (Err FieldCount) ≡ Ok read → FitsAt tables table read
       by true h = whole h
       by false h = cc
 

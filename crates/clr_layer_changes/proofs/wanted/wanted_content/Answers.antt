@@ -1,10 +1,9 @@
-use Rattle.std.proofs.Common.{◌≡◌, ◌+◌, List, Result, Ok, Err, refl, sym, ap, subst, ◌∙◌, arith}
+use Rattle.std.proofs.Common.{◌≡◌, ◌+◌, List, Ok, Err, sym, ap, subst, arith}
 use Rattle.clr_rows.specs.declared.tables.TableDef.{TableDef}
 use Rattle.clr_rows.specs.Contents.{Content}
 use Rattle.clr_layer_changes.specs.declared.faults.FaultyLayer.{FaultyLayer}
 use Rattle.clr_layer_changes.specs.declared.options.GivenLayer.{GivenLayer}
 use Rattle.clr_layer_changes.specs.declared.options.LayerOptions.{LayerOptions}
-use Rattle.clr_layer_changes.specs.Turns.{after_each}
 use Rattle.clr_layer_changes.specs.Wanted.{at_layer, wanted, with_layer_at}
 use Rattle.clr_layer_changes.proofs.FitLemmas.{wanted_fits}
 use Rattle.clr_layer_changes.proofs.TurnLemmas.{after_rest, begins, ends, goes_on, stops}
