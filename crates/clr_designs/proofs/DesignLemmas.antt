@@ -1,7 +1,6 @@
 -- What the two commands leave that make a design.
-use Rattle.std.proofs.Common.{◌≡◌, ℕ, Bool, true, false, cond, not, List, [], ◌∷◌, ◌++◌, Option, Some, None, refl, sym, ap, subst, ◌∙◌}
+use Rattle.std.proofs.Common.{◌≡◌, Bool, true, false, cond, not, List, [], ◌∷◌, ◌++◌, Option, Some, None, refl, sym, ap, subst, ◌∙◌}
 use Rattle.std.specs.Prelude.{◌||◌, is_some}
-use Rattle.std.specs.Option.{option_map}
 use Rattle.std.proofs.lemmas.Option.{none-some}
 use Rattle.clr_rows.specs.Contents.{Content}
 use Rattle.clr_rows.specs.Names.{is_good_name, live_name}
@@ -19,9 +18,9 @@ use Rattle.clr_steps.specs.declared.commands.Reply.TheVariants.{BadName, Done, N
 use Rattle.clr_steps.specs.Effects.{after_apply, after_create, edited_content, effect}
 use Rattle.clr_steps.specs.Invariants.{OfficeFits}
 use Rattle.clr_steps.specs.Names.{is_live, same_name}
-use Rattle.clr_steps.specs.Offices.{Office, content_of, find_name, is_kept, modify, modify_marks, set_content, stands, with_workspaces, workspace}
-use Rattle.clr_steps.specs.Refusals.{bad_edit, breaks, edit_refusal, first_of, is_deep, is_full, refusal, when}
-use Rattle.clr_steps.specs.Steps.{answer, step}
+use Rattle.clr_steps.specs.Offices.{Office, content_of, find_name, is_kept, modify, set_content, stands, with_workspaces, workspace}
+use Rattle.clr_steps.specs.Refusals.{breaks, edit_refusal, first_of, is_deep, is_full, refusal, when}
+use Rattle.clr_steps.specs.Steps.{Answer, answer, step}
 use Rattle.clr_steps.proofs.FindLemmas.{same_itself}
 use Rattle.clr_steps.proofs.ModifyLemmas.{modify_below}
 use Rattle.clr_steps.proofs.SeenLemmas.{only_at}
@@ -55,9 +54,11 @@ module _ (name : Name) (leaf : Workspace) (named : same_name name leaf.name ≡ 
 
 -- refusals that don't apply ------------------------------------------------------------------------
 
-passed : (b : Bool) (reply : Reply) (rs : List (Option Reply)) → first_of (when b reply ∷ rs) ≡ None → (b ≡ false) × (first_of rs ≡ None)
-passed true reply rs none = absurd (none-some reply (sym none))
-passed false reply rs none = (refl, none)
+third_passed : (a b c d : Bool) → first_of (when a NoWorkspace ∷ when b BadName ∷ when c NameTaken ∷ when d TooMany ∷ []) ≡ None → c ≡ false
+third_passed true b c d none = cc
+third_passed false true c d none = cc
+third_passed false false true d none = cc
+third_passed false false false d none = refl
 
 neither : (a b : Bool) → (a || b) ≡ false → (a ≡ false) × (b ≡ false)
 neither true b e = cc
@@ -70,7 +71,7 @@ nothing (Some a) e = cc
 module _ (o : Office) (name : Name) (may : design_refusal o name ≡ None) where
   free : stands o name ≡ false
   unfolding refusal
-  free = (passed (stands o name) _ _ (passed (not (is_good_name name)) _ _ (passed (not (stands o live_name)) _ _ may).1).1).0
+  free = third_passed (not (stands o live_name)) (not (is_good_name name)) (stands o name) (is_full o || is_deep o live_name) may
 
   not_live : is_live name ≡ false
   unfolding stands
@@ -152,7 +153,7 @@ module _ (o : Office) (name : Name) (may : design_refusal o name ≡ None) where
     edits_apply sound fits content_fits mid left None is done =
         let all = one_step with_leaf (Apply name edits) (with_design o name content) (may_apply fits content_fits) applied in
         let answered : answer Done (with_design o name content) ≡ answer Done left = sym all ∙ ap (λ m. step m (Apply name edits)) (sym is) ∙ done in
-        let same : left ≡ with_design o name content = cc in
+        let same : left ≡ with_design o name content = sym (ap (λ (a : Answer). a.office) answered) in
         (may, subst (AreDone o name content) (sym same) (both_steps sound fits content_fits), same)
     edits_apply sound fits content_fits mid left (Some reply) is refused = absurd (none-some reply (sym (may_apply fits content_fits) ∙ ap (λ m. refusal m (Apply name edits)) (sym is) ∙ refused.0))
 

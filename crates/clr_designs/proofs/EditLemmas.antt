@@ -1,5 +1,5 @@
 -- The edits between two contents that fit a schema fit it too, and each of them can be made over what those before it left.
-use Rattle.std.proofs.Common.{◌≡◌, ℕ, ◌+◌, Bool, true, false, cond, T, List, [], ◌∷◌, map, Option, Some, None, refl, sym, ap, subst, ◌∙◌}
+use Rattle.std.proofs.Common.{◌≡◌, ℕ, zero, suc, ◌+◌, Bool, true, false, not, cond, T, List, [], ◌∷◌, map, Option, Some, None, refl, sym, ap, subst, ◌∙◌, arith}
 use Rattle.std.specs.FinMap as finite
 use Rattle.std.specs.FinMap.Entries.{find, is_sorted}
 use Rattle.std.specs.List.{All, AllByRecursion}
@@ -11,15 +11,13 @@ use Rattle.clr_rows.specs.declared.cells.Change.{Change}
 use Rattle.clr_rows.specs.declared.rows.Row.{Row}
 use Rattle.clr_rows.specs.declared.tables.TableDef.{TableDef}
 use Rattle.clr_rows.specs.Cells.{cell_cmp}
-use Rattle.clr_rows.specs.Contents.{Content, change_of, changes, is_changed, row_at, set_cell}
+use Rattle.clr_rows.specs.Contents.{Content, change_of, changes, is_changed, row_at}
 use Rattle.clr_rows.specs.Same.{same}
 use Rattle.clr_rows.specs.Schemas.{FitsSchema, cell_fault, row_fault}
 use Rattle.clr_rows.proofs.ChangeLemmas.{find_below, get-changes, row-set_cell, tied_self}
 use Rattle.clr_rows.proofs.RowLemmas.{tied_cells}
 use Rattle.clr_rows.proofs.SchemaLemmas.{cell_named, fits_table}
 use Rattle.clr_rows.proofs.Tests.{first, second}
-use Rattle.clr_change.specs.declared.edits.Edit.{Edit}
-use Rattle.clr_change.specs.declared.edits.EditFault.{EditFault}
 use Rattle.clr_change.specs.Edits.{after_edit, edit_fault, first_bad_edit, first_fault}
 use Rattle.clr_layer_changes.specs.Changes.{edit_of, edit_to, edits_between}
 use Rattle.clr_layer_changes.proofs.EditLemmas.{after_edit_to}
@@ -67,7 +65,7 @@ module _ (tables : List TableDef) (base current : Content) (base_fits : FitsSche
   are_changes q change is = by (same (row_at base q) (row_at current q)) refl (sym (get-changes base current q) ∙ finite.get-entries (changes base current) q ∙ is)
     where
       by : (b : Bool) → same (row_at base q) (row_at current q) ≡ b → cond (is_changed base current q) (Some (change_of base current q)) None ≡ Some change → IsChange q change
-      by true e h = absurd (none-some change (ap (λ (s : Bool). cond s None (Some (change_of base current q))) (sym e) ∙ h))
+      by true e h = absurd (none-some change (sym (ap (λ (s : Bool). cond (not s) (Some (change_of base current q)) None) e) ∙ h))
       by false e h =
           let one = (cond_some (is_changed base current q) (change_of base current q) change h).1 in
           record {
@@ -113,8 +111,8 @@ module _ (tables : List TableDef) (base current : Content) (base_fits : FitsSche
       let made = edit_is_made content e.0 e.1.before e.1.after one.before one.after one.differ (ready e.0 e.1 (found_first e es)) in
       ap (λ why. first_fault n why (first_bad_edit tables next (n + 1) (map edit_of es))) made
       ∙ none_bad next (n + 1) es (second _ _ sorted) (λ q change is. are q change (found_later e es q change sorted is)) (λ q change is.
-          ap (λ (m : Content). row_at m q) (after_edit_to content e.0 e.1.before e.1.after) ∙ row-set_cell content e.0 e.1.after q
-          ∙ ap (λ t. cond t e.1.after (row_at content q)) (apart_from_first e es q change sorted is) ∙ ready q change (found_later e es q change sorted is))
+      ap (λ (m : Content). row_at m q) (after_edit_to content e.0 e.1.before e.1.after) ∙ row-set_cell content e.0 e.1.after q
+      ∙ ap (λ t. cond t e.1.after (row_at content q)) (apart_from_first e es q change sorted is) ∙ ready q change (found_later e es q change sorted is))
 
   pub edits_are_made : (n : ℕ) → first_bad_edit tables base n (edits_between base current) ≡ None
   edits_are_made n =
@@ -122,7 +120,9 @@ module _ (tables : List TableDef) (base current : Content) (base_fits : FitsSche
 
 -- what holds of each of a list, told by recursion or by positions
 all_at : {X : Type 0} (P : X → Type 0) (xs : List X) → AllByRecursion P xs → All P xs
-all_at P xs all = ?
+all_at P [] all k d lt = absurd (omega arith)
+all_at P (x ∷ xs) all zero d lt = all.0
+all_at P (x ∷ xs) all (suc k) d lt = all_at P xs all.1 k d (omega arith)
 
 pub edits_fit : EditsFitLaw
 edits_fit tables base current base_fits current_fits =
