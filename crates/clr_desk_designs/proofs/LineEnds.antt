@@ -1,16 +1,17 @@
 -- An office text with a line end behind it is read as the same office.
-use Rattle.std.proofs.Common.{◌≡◌, ℕ, zero, suc, ◌+◌, ◌-◌, ◌≤◌, Bool, true, false, cond, not, ◌&&◌, ◌||◌, ◌==◌, List, [], ◌∷◌, ◌++◌, length, take, drop, Option, Some, None, option_and_then, option_map, Result, Ok, Err, refl, sym, ap, ap₂, ◌∙◌, subst, arith, length-append, nat_eq, nat_lt}
-use Rattle.std.specs.List.{pointwise, prefix_len}
+use Rattle.std.proofs.Common.{◌≡◌, ℕ, suc, ◌+◌, ◌-◌, ◌≤◌, Bool, true, false, cond, ◌&&◌, ◌||◌, ◌==◌, List, [], ◌∷◌, ◌++◌, length, take, drop, Option, Some, None, option_and_then, option_map, Result, Ok, Err, refl, sym, ap, ap₂, ◌∙◌, arith, length-append, nat_eq, nat_lt}
+use Rattle.std.specs.Cmp.Lexicographic.{pointwise}
+use Rattle.std.specs.List.{prefix_len}
 use Rattle.std.specs.Char.{encode_utf8, is_ascii_digit, is_digit}
-use Rattle.std.specs.Str.{IsUtf8, is_utf8}
-use Rattle.std.proofs.lemmas.Bool.{and_parts, not-true}
+use Rattle.std.specs.Str.{is_utf8}
 use Rattle.std.proofs.lemmas.List.{take-append-le}
 use Rattle.std.proofs.lemmas.Str.{IsUtf8-append, IsUtf8-from_is_utf8, is_utf8-from_IsUtf8}
 use Rattle.json.specs.Token.{Token, bad, boolean, null, number}
 use Rattle.json.specs.Text.{Within, after_backslash, after_high, after_u, code_unit, content, is_high_surrogate, is_low_surrogate, plain, prepend, short_escape, surrogate_pair}
-use Rattle.json.specs.Word.{after_digits, after_exponent, after_fraction, after_minus, after_number, after_sign, after_whole, ends_word, head, literal, number_before, word}
-use Rattle.json.specs.Lex.{Class, Lexeme, Mode, backslash, between, class, in_escape, in_string, in_word, lex, lex_byte, operator, other, punctuate, fresh, quote, space, string_token, token, tokens}
+use Rattle.json.specs.Word.{after_digits, after_exponent, after_fraction, after_minus, after_number, after_sign, after_whole, ends_word, literal, number_before, word}
+use Rattle.json.specs.Lex.{Class, Lexeme, Mode, backslash, between, class, in_escape, in_string, in_word, lex, lex_byte, operator, operator_lexeme, other, punctuate, fresh, quote, space, string_token, token}
 use Rattle.json.specs.Json as json
+use Rattle.json.proofs.Printed.Utf8.{IsUtf8-are_ascii}
 use Rattle.serde_json.specs.Read.{max_depth, of_json, read}
 use Rattle.clr_steps.specs.Offices.{Office}
 use Rattle.clr_office_text.specs.Fields.{◌>>=◌}
@@ -52,7 +53,7 @@ content-ended (after_high h) (s ∷ []) = refl
 content-ended (after_high h) (s ∷ u ∷ []) = refl
 content-ended (after_high h) (s ∷ u ∷ a ∷ []) = refl
 content-ended (after_high h) (s ∷ u ∷ a ∷ b ∷ []) = refl
-content-ended (after_high h) (s ∷ u ∷ a ∷ b ∷ c ∷ []) = rw (no_unit a b c) (elim ((s == 92) && (u == 117)) as (λ b. cond b None None ≡ None) [ true ↦ refl | false ↦ refl ])
+content-ended (after_high h) (s ∷ u ∷ a ∷ b ∷ c ∷ []) = rw (no_unit a b c) (elim ((s == 92) && (u == 117)) as (λ b. cond {A = Option (List ℕ)} b None None ≡ None) [ true ↦ refl | false ↦ refl ])
 content-ended (after_high h) (s ∷ u ∷ a ∷ b ∷ c ∷ d ∷ xs) =
     λ i. cond ((s == 92) && (u == 117)) (option_and_then (λ l. cond (is_low_surrogate l) (prepend (encode_utf8 (surrogate_pair h l)) (content-ended plain xs i)) None) (code_unit a b c d)) None
 
@@ -65,18 +66,18 @@ ends_word-ended (x ∷ t) = refl
 -- no line end stands in a name
 abbrev IsOneLine : List ℕ → Type 0
 IsOneLine [] = Unit {0}
-IsOneLine (n ∷ ns) = (nat_eq 10 n ≡ false) × IsOneLine ns
+IsOneLine (n ∷ ns) = (nat_eq n 10 ≡ false) × IsOneLine ns
 
 abbrev begins : List ℕ → List ℕ → Bool
-begins name t = pointwise nat_eq (take (length name) t) name && ends_word (drop (length name) t)
+begins name t = pointwise nat_eq name (take (length name) t) && ends_word (drop (length name) t)
 
 begins-ended : (name t : List ℕ) → IsOneLine name → begins name (ended t) ≡ begins name t
 begins-ended [] t one = ends_word-ended t
 begins-ended (n ∷ ns) [] one = rw one.0 refl
-begins-ended (n ∷ ns) (x ∷ t) one = by (nat_eq x n) (begins-ended ns t one.1)
+begins-ended (n ∷ ns) (x ∷ t) one = by (nat_eq n x) (begins-ended ns t one.1)
   where
     by : (b : Bool) → begins ns (ended t) ≡ begins ns t
-        → ((b && pointwise nat_eq (take (length ns) (ended t)) ns) && ends_word (drop (length ns) (ended t))) ≡ ((b && pointwise nat_eq (take (length ns) t) ns) && ends_word (drop (length ns) t))
+        → ((b && pointwise nat_eq ns (take (length ns) (ended t))) && ends_word (drop (length ns) (ended t))) ≡ ((b && pointwise nat_eq ns (take (length ns) t)) && ends_word (drop (length ns) t))
     by true rest = rest
     by false rest = refl
 
@@ -166,21 +167,21 @@ word-ended x t =
     let u = x ∷ t in
     let as_number : number_before (ended u) (after_number (ended u)) ≡ number_before u (after_number u) =
     ap (number_before (ended u)) (after_number-ended u) ∙ number-ended u (after_number u) in
-    λ i. cond (x == 116) (literal-ended (116 ∷ 114 ∷ 117 ∷ 101 ∷ []) (boolean true) u (refl, refl, refl, refl, tt) i)
-    (cond (x == 102) (literal-ended (102 ∷ 97 ∷ 108 ∷ 115 ∷ 101 ∷ []) (boolean false) u (refl, refl, refl, refl, refl, tt) i)
-    (cond (x == 110) (literal-ended (110 ∷ 117 ∷ 108 ∷ 108 ∷ []) null u (refl, refl, refl, refl, tt) i) (as_number i)))
+    λ i. cond (x == 116) (literal-ended (116 ∷ 114 ∷ 117 ∷ 101 ∷ []) (boolean true) u (refl, (refl, (refl, (refl, tt)))) i)
+    (cond (x == 102) (literal-ended (102 ∷ 97 ∷ 108 ∷ 115 ∷ 101 ∷ []) (boolean false) u (refl, (refl, (refl, (refl, (refl, tt))))) i)
+    (cond (x == 110) (literal-ended (110 ∷ 117 ∷ 108 ∷ 108 ∷ []) null u (refl, (refl, (refl, (refl, tt)))) i) (as_number i)))
 
 -- a whole text ----------------------------------------------------------------------------------------------------------
 
 byte-ended : (m : Mode) (c : Class) (x : ℕ) (t : List ℕ) (k l : Mode → List Lexeme) → ((n : Mode) → k n ≡ l n) → lex_byte m c x (ended t) k ≡ lex_byte m c x t l
 byte-ended between quote x t k l same = ap₂ (λ s rest. token (string_token s) ∷ rest) (content-ended plain t) (same in_string)
 byte-ended between backslash x t k l same = ap (λ rest. token bad ∷ rest) (same in_word)
-byte-ended between operator x t k l same = ap (λ rest. _ ∷ rest) (same between)
+byte-ended between operator x t k l same = ap (λ rest. operator_lexeme x ∷ rest) (same between)
 byte-ended between space x t k l same = same between
 byte-ended between other x t k l same = ap₂ (λ w rest. token w ∷ rest) (word-ended x t) (same in_word)
 byte-ended in_word quote x t k l same = same in_word
 byte-ended in_word backslash x t k l same = same in_word
-byte-ended in_word operator x t k l same = ap (λ rest. _ ∷ rest) (same between)
+byte-ended in_word operator x t k l same = ap (λ rest. operator_lexeme x ∷ rest) (same between)
 byte-ended in_word space x t k l same = same between
 byte-ended in_word other x t k l same = same in_word
 byte-ended in_string quote x t k l same = same between
@@ -202,7 +203,7 @@ read-ended : (t : List ℕ) → read (ended t) ≡ read t
 read-ended t = ap (λ (ls : List Lexeme). option_and_then of_json (option_and_then (λ p. json.if_last p.0 p.1) (json.value max_depth (punctuate fresh ls)))) (lex-ended between t)
 
 utf8-ended : (t : List ℕ) → is_utf8 t ≡ true → is_utf8 (ended t) ≡ true
-utf8-ended t h = is_utf8-from_IsUtf8 (ended t) (IsUtf8-append t (10 ∷ []) (IsUtf8-from_is_utf8 t h) (IsUtf8-from_is_utf8 (10 ∷ []) refl))
+utf8-ended t h = is_utf8-from_IsUtf8 (ended t) (IsUtf8-append t (10 ∷ []) (IsUtf8-from_is_utf8 t h) (IsUtf8-are_ascii (10 ∷ []) refl))
 
 office-ended : (t : List ℕ) → is_utf8 t ≡ true → office_in (ended t) ≡ office_in t
 unfolding office_in

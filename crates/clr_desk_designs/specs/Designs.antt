@@ -41,8 +41,8 @@ abbrev pub fault_print : List GivenLayer → FaultyLayer → Printed
 fault_print layers faulty = Ok (record { text = []; notes = fault_line layers faulty; status = 2 })
 
 -- what is to be printed of LIVE's content with the rows of layers in place of those of their tables; or the first layer with a fault
-pub data IsPrintOfLayers (options : LayerOptions) (layers : List GivenLayer) (IsPrint : Office → Content → Printed → Type 0) (o : Office) (print : Printed) : Type 0
-where
+pub data IsPrintOfLayers (options : LayerOptions) (layers : List GivenLayer) (IsPrint : Office → Content → Printed → Type 0)
+    (o : Office) (print : Printed) : Type 0 where
   of_content : (content : Content) → wanted o.schema o.live options layers ≡ Ok content → IsPrint o content print
       → IsPrintOfLayers options layers IsPrint o print
   of_fault : (faulty : FaultyLayer) → wanted o.schema o.live options layers ≡ Err faulty → print ≡ fault_print layers faulty
@@ -64,13 +64,15 @@ pub record IsDesignScript (name : Name) (o : Office) (content : Content) (text :
 pub data IsPrintOfScript (name : Name) (o : Office) (content : Content) (print : Printed) : Type 0 where
   of_script : (text : List ℕ) → design_refusal o name ≡ None → IsDesignScript name o content text → print ≡ text_print text
       → IsPrintOfScript name o content print
-  of_refused_script : (reply : Reply) → design_refusal o name ≡ Some reply → print ≡ refusal_print o.schema reply → IsPrintOfScript name o content print
+  of_refused_script : (reply : Reply) → design_refusal o name ≡ Some reply → print ≡ refusal_print o.schema reply
+      → IsPrintOfScript name o content print
 
 -- the text of the office in which LIVE has a content; or the least need that this content breaks
 pub data IsPrintOfLive (o : Office) (content : Content) (print : Printed) : Type 0 where
   of_live : (text : List ℕ) → first_broken o.book content ≡ None → IsOfficeText (with_live o content) text → print ≡ text_print text
       → IsPrintOfLive o content print
-  of_broken : (need : Broken) → first_broken o.book content ≡ Some need → print ≡ refusal_print o.schema (RuleBroken need) → IsPrintOfLive o content print
+  of_broken : (need : Broken) → first_broken o.book content ≡ Some need → print ≡ refusal_print o.schema (RuleBroken need)
+      → IsPrintOfLive o content print
 
 -- what is to be printed of an office and layers: the office with the design that has their rows
 abbrev pub IsDesignPrint : Name → LayerOptions → List GivenLayer → Office → Printed → Type 0

@@ -3,8 +3,8 @@
 ghost use Rattle.std.specs.Prelude.{◌≡◌, IfOk};
 ghost use Rattle.clr_rows.specs.Schemas.{FitsSchema};
 ghost use Rattle.clr_prints.specs.Printing.{printed};
-ghost use Rattle.clr_desk_designs.specs.Designs.{IsDesignPrint, IsDesignScriptPrint, IsOfficePrint, IsOfficeText, IsPrintOfDesign, IsPrintOfLive, IsPrintOfScript};
-ghost use Rattle.clr_desk_designs.specs.Designs.{fault_print, refusal_print};
+ghost use Rattle.clr_desk_designs.specs.Designs.{IsDesignPrint, IsDesignScriptPrint, IsOfficePrint, IsOfficeText};
+ghost use Rattle.clr_desk_designs.specs.Designs.{IsPrintOfDesign, IsPrintOfLive, IsPrintOfScript, fault_print, refusal_print};
 
 use crate::fault_lines::fault_line;
 use clr_designs::{make_design, replace_live};
