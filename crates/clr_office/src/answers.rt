@@ -1,7 +1,7 @@
 //! Answers to what is asked of one or two texts.
 
 ghost use Rattle.std.specs.Prelude.{◌≡◌, ◌≢◌, false, IfOk, IfErr};
-ghost use Rattle.clr_check.specs.SiteNames.{site};
+ghost use Rattle.clr_sites.specs.SiteNames.{site};
 ghost use Rattle.clr_command_line.specs.declared.asks.Ask.TheVariants as ask;
 ghost use Rattle.clr_drafts.specs.Drafts.{draft_in};
 ghost use Rattle.clr_office.specs.Answers.{IsAnswer, IsAnswerTo, IsAnswerWithin, IsPlanPrint, audit_of, audit_print};
