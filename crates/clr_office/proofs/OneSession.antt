@@ -19,7 +19,7 @@ use Rattle.clr_office.specs.Clearances.{IsMergeOutcome, IsPrintOfCase, IsVerdict
 use Rattle.clr_office.specs.OneSession.{FoundMemory, OneAnswerLaw, OneSessionLaw}
 use Rattle.clr_office.specs.Outcomes.{Outcome}
 use Rattle.clr_office.specs.Printing.{ArePrinted, IsPrintIn, IsPrintOf, IsPrintWhereHeld, IsScriptPrint, Printed, print_of, status_of}
-use Rattle.clr_office.specs.Separator.{around_separator}
+use Rattle.clr_devices.specs.Separator.{around_separator}
 use Rattle.clr_office.specs.Session.{IsSessionOf}
 use Rattle.clr_office.proofs.OneOutcome.{IsOne, one_check, one_merge, one_planned, one_script}
 

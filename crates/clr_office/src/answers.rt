@@ -9,7 +9,6 @@ ghost use Rattle.clr_office.specs.Printing.{IsMade, IsPrintIn, print_of};
 ghost use Rattle.clr_office.specs.declared.faults.RunFault.TheVariants as run_fault;
 
 use crate::certificates::{check_output, fault_output};
-use crate::devices::Sink;
 use crate::faults::RunFault;
 use crate::merges::merge_members;
 use crate::offices::{draft_of, open_office};
@@ -20,6 +19,7 @@ use crate::run_script::run_text;
 use clr_audit::audit;
 use clr_check_texts::read_case;
 use clr_command_line::Ask;
+use clr_devices::Sink;
 use clr_engine::Draft;
 use clr_lines::audit_lines;
 use clr_rows::{LIVE, Words};

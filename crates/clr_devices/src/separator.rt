@@ -2,7 +2,7 @@
 
 ghost use Rattle.std.specs.Prelude.{◌≡◌, length, option_map};
 ghost use Rattle.std.specs.Io.BufRead.{take_through};
-ghost use Rattle.clr_office.specs.Separator.{is_separator as separates, around_separator};
+ghost use Rattle.clr_devices.specs.Separator.{is_separator as separates, around_separator};
 
 /// How many bytes the first line of a text has, with the `\n` that ends it.
 fn line_len(text: &[u8]) -> usize

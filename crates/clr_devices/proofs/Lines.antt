@@ -3,7 +3,7 @@ use Rattle.std.proofs.Common.{◌≡◌, ℕ, suc, ◌+◌, ◌==◌, ◌<◌, �
 use Rattle.std.proofs.lemmas.List.{drop_all}
 use Rattle.std.specs.List.{concat, position, position_or_len}
 use Rattle.std.specs.Io.BufRead.{take_through}
-use Rattle.clr_office.specs.Separator.{lines_of, onto_first, is_separator, around_line, around_separator}
+use Rattle.clr_devices.specs.Separator.{lines_of, onto_first, is_separator, around_line, around_separator}
 
 -- how long a text's first line is
 abbrev pub line_size : List ℕ → ℕ

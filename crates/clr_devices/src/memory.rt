@@ -64,7 +64,7 @@ pub struct Page {
 
 impl Model for Page {
     ghost use Rattle.std.specs.Prelude.{◌≤◌, length, vec_capacity};
-    ghost use Rattle.clr_office.specs.Devices.{PageState};
+    ghost use Rattle.clr_devices.specs.Devices.{PageState};
 
     ghost Value = { PageState };
 

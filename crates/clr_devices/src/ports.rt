@@ -15,7 +15,7 @@ pub struct Port<T> {
 }
 
 impl<T> Model for Port<T> {
-    ghost use Rattle.clr_office.specs.Devices.{PortState};
+    ghost use Rattle.clr_devices.specs.Devices.{PortState};
 
     ghost Value = { PortState T };
 

@@ -1,7 +1,7 @@
 use Rattle.std.proofs.Common.{◌≡◌, ◌-◌, ◌≤◌, length, take, drop}
-use Rattle.clr_office.specs.Separator.{around_separator}
-use Rattle.clr_office.proofs.Lines.{with_front}
-use Rattle.clr_office.proofs.separator.split_at_separator.Given as goal
+use Rattle.clr_devices.specs.Separator.{around_separator}
+use Rattle.clr_devices.proofs.Lines.{with_front}
+use Rattle.clr_devices.proofs.separator.split_at_separator.Given as goal
 
 abbrev pub invariant-loop-start : goal.invariant-loop-start
 invariant-loop-start l = record {

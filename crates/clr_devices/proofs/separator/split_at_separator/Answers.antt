@@ -1,7 +1,7 @@
 use Rattle.std.proofs.Common.{◌≡◌, ◌∙◌, take, drop, true, false, sym, arith}
-use Rattle.clr_office.specs.Separator.{is_separator}
-use Rattle.clr_office.proofs.Lines.{line_size, size_within, size_inside, found_at, passed_at, none_left}
-use Rattle.clr_office.proofs.separator.split_at_separator.Goals as goal
+use Rattle.clr_devices.specs.Separator.{is_separator}
+use Rattle.clr_devices.proofs.Lines.{line_size, size_within, size_inside, found_at, passed_at, none_left}
+use Rattle.clr_devices.proofs.separator.split_at_separator.Goals as goal
 
 pub split_at-requires-in-loop-start : goal.split_at-requires-in-loop-start
 split_at-requires-in-loop-start c = rw c.line_len.ensures (size_within c.split_at.result.1.now)
