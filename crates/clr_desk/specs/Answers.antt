@@ -1,7 +1,7 @@
 -- What is printed for what is asked of one or two texts, and what is left of the sinks.
 use Rattle.std.specs.Prelude.{◌≡◌, ◌∷◌, ◌||◌, ◌⊎◌, ℕ, Bool, true, false, List, Option, Result, Ok, Err}
 use Rattle.std.specs.Io.KnownBytes.{Appends}
-use Rattle.clr_check.specs.SiteNames.{site}
+use Rattle.clr_sites.specs.SiteNames.{site}
 use Rattle.clr_check_texts.specs.Cases.{case_of}
 use Rattle.clr_drafts.specs.Drafts.{draft_in}
 use Rattle.clr_office.specs.Answers.{is_too_long}
