@@ -99,3 +99,22 @@ Where there is no such table or workspace it prints nothing, and says so on stan
 
 Example:
   clr_desk layer office.json main > main.csv";
+
+pub(crate) const OFFICE_PRINTS: &str =
+    "It prints the office in which LIVE has the rows of the layers in place of those of their tables, and nothing else,
+with status 0. A layer is CSV, as `clr_desk layer` prints it, with shapes as WKT in metres. A row with an empty KEY, or
+without one, gets the least key that is free. Where a layer can't be read, nothing is printed, and on standard error the
+line of its fault, with status 2; where a rule doesn't hold, the line that says so, with status 1.
+
+Example:
+  clr_desk office schema.json main=main.csv valve=valve.csv > office.json";
+
+pub(crate) const DESIGN_PRINTS: &str =
+    "It prints the office with one more design under LIVE, which has the rows of the layers in place of those of their
+tables, and nothing else, with status 0; with --script the script that makes the design, for `clr_office run`. A layer is
+CSV, as `clr_desk layer` prints it, with shapes as WKT in metres. A row with an empty KEY, or without one, gets the least
+key from N on that is free. Where a layer can't be read, nothing is printed, and on standard error the line of its fault,
+with status 2; where the design can't be made, the line that says so, with status 1.
+
+Example:
+  clr_desk design office.json Bypass main=main.csv valve=valve.csv > with_bypass.json";
