@@ -13,7 +13,7 @@ use Rattle.clr_desk_command_line.specs.Program.{program}
 
 -- something is asked, or layers are read
 abbrev known : Text → List Row → Option (Unit {0})
-known name rows = if reads_layers name then Some tt else option_map (λ asked. tt) (ask_by_name name rows)
+known name rows = if reads_layers name then Some (tt {0}) else option_map (λ asked. tt {0}) (ask_by_name name rows)
 
 all_known : AllByRecursion (IsKnown known) (built program).subs
 unfolding ask_by_name geographic_asked members_ask clap_on_literals
@@ -30,7 +30,7 @@ pub free : is_simple_and_free program ≡ true
 unfolding clap_on_literals
 free = refl
 
-either : (b : Bool) (o : Option (Ask × List Text)) → is_some (if b then Some tt else option_map (λ asked. tt) o) ≡ true → (not b || is_some o) ≡ true → is_some o ≡ true
+either : (b : Bool) (o : Option (Ask × List Text)) → is_some (if b then Some (tt {0}) else option_map (λ asked. tt {0}) o) ≡ true → (not b || is_some o) ≡ true → is_some o ≡ true
 either true o some readable = readable
 either false (Some asked) some readable = refl
 either false None some readable = absurd cc
