@@ -1,3 +1,4 @@
 pub mod EditLemmas
+pub mod FitLemmas
 pub mod KeyLemmas
 pub mod TurnLemmas

@@ -1,5 +1,5 @@
 -- The edits that lead from one content to another.
-use Rattle.std.specs.Prelude.{List, Option, Some, None, map, is_some, if◌then◌else◌}
+use Rattle.std.specs.Prelude.{List, Option, Some, None, map}
 use Rattle.std.specs.FinMap as finite
 use Rattle.clr_rows.specs.declared.cells.CellId.{CellId}
 use Rattle.clr_rows.specs.declared.cells.Change.{Change}

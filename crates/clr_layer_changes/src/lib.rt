@@ -1,7 +1,8 @@
 //! What layers change: the content that they ask for, and the edits that lead to it.
 //!
-//! - `wanted_content` reads layers, each the text of a table, and gives LIVE's content with their rows in place of those of their tables, or
-//!   the first fault, with its layer and its record. A row without a key gets the least one that is free, from a first key on.
+//! - `wanted_content` [`content`, `fit`] reads layers, each the text of a table, and gives LIVE's content with their rows in place of those of
+//!   their tables, or the first fault, with its layer and its record. A row without a key gets the least one that is free, from a first key on.
+//!   The content fits the schema.
 //! - `edits_between` [`edits`, `leads`] gives an edit for each cell at which two contents differ; made one after another over the
 //!   first content they give the second.
 #![tactic(auto)]

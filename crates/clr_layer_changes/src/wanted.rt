@@ -3,6 +3,7 @@
 ghost use Rattle.std.specs.Prelude.{◌≡◌, ◌++◌, IfOk, OnOk};
 ghost use Rattle.std.specs.FinMap as finite;
 ghost use Rattle.std.specs.List.{list_any};
+ghost use Rattle.clr_rows.specs.Schemas.{FitsSchema};
 ghost use Rattle.clr_rows.specs.Sheets.{with_none, with_rows};
 ghost use Rattle.clr_layer_changes.specs.Wanted.{Replaces, cells_in, is_of, replaced, table_of, wanted, with_layer};
 
@@ -102,7 +103,8 @@ fn put_layer(
 /// one on at which neither LIVE nor the layer so far has a row, those with keys of their own being put first. The fault is that of the
 /// first layer that has one. In each the tests come in this order: `TableTwice` where a layer before it has the same table, and
 /// `NoTable` where no table has the name, both beside 0; then, beside the number of the record, `Unread` with the first fault of the
-/// text, `KeyTwice` for the first row with the key of a row before it, and `NoKey` for the first row for which no key is left.
+/// text, `KeyTwice` for the first row with the key of a row before it, and `NoKey` for the first row for which no key is left. Where LIVE's
+/// content fits the schema, so does the one that is returned.
 pub fn wanted_content(
     alloc: Global,
     schema: &Schema,
@@ -110,7 +112,8 @@ pub fn wanted_content(
     options: LayerOptions,
     layers: &[GivenLayer],
 ) -> Result<Result<Sheet, FaultyLayer>, AllocError>
-    ensures { IfOk result (λ found. found ≡ wanted schema.now live.now options layers.now) }
+    ensures content { IfOk result (λ found. found ≡ wanted schema.now live.now options layers.now) }
+    ensures fit { FitsSchema schema.now live.now → IfOk result (λ found. IfOk found (FitsSchema schema.now)) }
 {
     let mut content = live.copy()?;
     for i in 0..layers.len() {

@@ -1,11 +1,11 @@
-use Rattle.std.proofs.Common.{◌≡◌, ◌+◌, List, Result, Ok, Err, refl, sym, ap, subst, ◌∙◌, arith}
+use Rattle.std.proofs.Common.{◌≡◌, ◌+◌, List, Ok, Err, sym, ap, subst, arith}
 use Rattle.clr_rows.specs.declared.tables.TableDef.{TableDef}
 use Rattle.clr_rows.specs.Contents.{Content}
 use Rattle.clr_layer_changes.specs.declared.faults.FaultyLayer.{FaultyLayer}
 use Rattle.clr_layer_changes.specs.declared.options.GivenLayer.{GivenLayer}
 use Rattle.clr_layer_changes.specs.declared.options.LayerOptions.{LayerOptions}
-use Rattle.clr_layer_changes.specs.Turns.{after_each}
 use Rattle.clr_layer_changes.specs.Wanted.{at_layer, wanted, with_layer_at}
+use Rattle.clr_layer_changes.proofs.FitLemmas.{wanted_fits}
 use Rattle.clr_layer_changes.proofs.TurnLemmas.{after_rest, begins, ends, goes_on, stops}
 use Rattle.clr_layer_changes.proofs.wanted.wanted_content.Goals as goal
 
@@ -37,11 +37,13 @@ returns-in-Err c =
     let same : c.loop-i.i ≡ 0 + c.loop-i.i = omega arith in
     let why : FaultyLayer = record { layer = c.loop-i.i; number = c.in-Err.number; fault = c.in-Err.fault } in
     let refused : f c.loop-i.i c.loop-i.content layer ≡ Err why = ap (at_layer c.loop-i.i) (rw c.in-Err.is at c.in_ok-put.ensures) in
-    sym (stops f 0 c.loop-i.i c.loop-i.content why layer layers (wanted c.args.schema.now c.args.live.now c.args.options layers) c.loop-i-test.true c.index-layers-i.is
-    (subst (λ n. f n c.loop-i.content layer ≡ Err why) same refused) c.loop-i.invariant)
+    let read = sym (stops f 0 c.loop-i.i c.loop-i.content why layer layers (wanted c.args.schema.now c.args.live.now c.args.options layers) c.loop-i-test.true c.index-layers-i.is
+    (subst (λ n. f n c.loop-i.content layer ≡ Err why) same refused) c.loop-i.invariant) in
+    record { content = read; fit = λ fits. tt }
 
 pub returns : goal.returns
 returns c =
     let layers = c.args.layers.now in
     let f = with_layer_at c.args.schema.now c.args.live.now c.args.options layers in
-    sym (ends f 0 c.loop-i.i c.loop-i.content layers (wanted c.args.schema.now c.args.live.now c.args.options layers) c.loop-i-test.false c.loop-i.invariant)
+    let read = ends f 0 c.loop-i.i c.loop-i.content layers (wanted c.args.schema.now c.args.live.now c.args.options layers) c.loop-i-test.false c.loop-i.invariant in
+    record { content = sym read; fit = λ fits. wanted_fits c.args.schema.now c.args.live.now c.args.options layers c.loop-i.content fits read }

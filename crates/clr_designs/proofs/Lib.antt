@@ -1,0 +1,4 @@
+pub mod DesignLemmas
+pub mod EditLemmas
+pub mod LiveLemmas
+pub mod PerformLemmas

@@ -1,0 +1,25 @@
+-- What holds of designs by their definitions, whatever the code does.
+use Rattle.std.specs.Prelude.{◌≡◌, ◌∷◌, List, None}
+use Rattle.std.specs.List.{All}
+use Rattle.clr_rows.specs.declared.tables.TableDef.{TableDef}
+use Rattle.clr_rows.specs.Contents.{Content}
+use Rattle.clr_rows.specs.Schemas.{FitsSchema}
+use Rattle.clr_workspaces.specs.Marks.{Name}
+use Rattle.clr_workspaces.specs.Soundness.{IsSound}
+use Rattle.clr_workspaces.specs.Workspaces.{live_workspace}
+use Rattle.clr_steps.specs.Invariants.{OfficeFits}
+use Rattle.clr_steps.specs.Offices.{Office}
+use Rattle.clr_layer_changes.specs.Changes.{edits_between}
+use Rattle.clr_script_text.specs.ReadBack.{Fits}
+use Rattle.clr_designs.specs.Designs.{AreDone, design_refusal, with_design}
+
+-- the edits that lead from one content to another fit the schema, if both contents do
+abbrev pub EditsFitLaw : Type 0
+EditsFitLaw = (tables : List TableDef) (base content : Content)
+    → FitsSchema tables base → FitsSchema tables content → All (Fits tables) (edits_between base content)
+
+-- where the workspace of a design may be created, both of its commands are done, and they leave the office with the design
+abbrev pub DesignLaw : Type 0
+DesignLaw = (o : Office) (name : Name) (content : Content)
+    → IsSound (live_workspace o.live ∷ o.workspaces) → OfficeFits o → FitsSchema o.schema content → design_refusal o name ≡ None
+    → AreDone o name content (with_design o name content)

@@ -1,0 +1,106 @@
+//! A design that has a wanted content, and LIVE with another content.
+
+ghost use Rattle.std.specs.Prelude.{◌≡◌, IfOk, OnErr};
+ghost use Rattle.clr_rows.specs.Names.{live_name};
+ghost use Rattle.clr_rows.specs.Schemas.{FitsSchema};
+ghost use Rattle.clr_steps.specs.declared.commands.Command.TheVariants as command;
+ghost use Rattle.clr_designs.specs.Designs.{IsDesignBegun, IsDesignMade, IsLiveReplaced, IsPerformed};
+
+use clr_engine::Office;
+use clr_layer_changes::edits_between;
+use clr_rows::{LIVE, Sheet, Words};
+use clr_rules::Broken;
+use clr_steps::{Command, Edits, Reply};
+use std::alloc::{AllocError, Global};
+
+/// Returns a text of these words.
+fn words_of(alloc: Global, text: &str) -> Result<Words, AllocError>
+    ensures { IfOk result (λ words. words ≡ text.now) }
+{
+    Ok(Words::new(String::from_str(alloc, text)?))
+}
+
+/// Performs a command, and returns why it is refused, if it is; then nothing changes. Fails for want of memory alone, and changes nothing then.
+fn perform(office: &mut Office, command: &Command) -> Result<Option<Reply>, AllocError>
+    ensures performed { IfOk result (λ refused. IsPerformed office.old command.now refused office.new) }
+    ensures err { OnErr result (office.new ≡ office.old) }
+{
+    match office.perform(command) {
+        Reply::Done => Ok(None),
+        Reply::OutOfMemory => Err(AllocError),
+        reply => Ok(Some(reply)),
+    }
+}
+
+/// Creates a workspace under LIVE, or returns why it can't be created. Fails for want of memory alone, and changes nothing then.
+fn create_workspace(
+    alloc: Global,
+    office: &mut Office,
+    name: &str,
+) -> Result<Option<Reply>, AllocError>
+    ensures performed { IfOk result (λ refused. IsPerformed office.old (command.Create name.now live_name) refused office.new) }
+    ensures err { OnErr result (office.new ≡ office.old) }
+{
+    let command = Command::Create {
+        name: words_of(alloc, name)?,
+        parent: words_of(alloc, LIVE)?,
+    };
+    perform(office, &command)
+}
+
+/// Makes edits in LIVE or in a workspace, or returns why they can't be made. Fails for want of memory alone, and changes nothing then.
+fn apply_edits(
+    alloc: Global,
+    office: &mut Office,
+    ws: &str,
+    edits: Edits,
+) -> Result<Option<Reply>, AllocError>
+    ensures performed { IfOk result (λ refused. IsPerformed office.old (command.Apply ws.now edits) refused office.new) }
+    ensures err { OnErr result (office.new ≡ office.old) }
+{
+    let command = Command::Apply {
+        ws: words_of(alloc, ws)?,
+        edits,
+    };
+    perform(office, &command)
+}
+
+/// Makes a design: a workspace of this name under LIVE, whose base is LIVE's content and whose current content is this one. Returns why its
+/// workspace can't be created, if it can't: `BadName`, `NameTaken` or `TooMany`, in this order; then nothing changes. Nothing else is refused.
+/// Where it fails, which is for want of memory alone, nothing changes, or the workspace stands with LIVE's content.
+pub fn make_design(
+    alloc: Global,
+    office: &mut Office,
+    name: &str,
+    content: &Sheet,
+) -> Result<Option<Reply>, AllocError>
+    requires { FitsSchema office.old.schema content.now }
+    ensures made { IfOk result (λ refused. IsDesignMade office.old name.now content.now refused office.new) }
+    ensures err { OnErr result (IsDesignBegun office.old name.now office.new) }
+{
+    let _sound = office.len();
+    let edits = edits_between(alloc, office.live(), content)?;
+    if let Some(reply) = create_workspace(alloc, office, name)? {
+        return Ok(Some(reply));
+    }
+    apply_edits(alloc, office, name, edits)
+}
+
+/// Puts another content in place of LIVE's. Where it breaks a rule, the least need that it breaks is returned, and nothing changes. Nothing else
+/// is refused. Where it fails, which is for want of memory alone, nothing changes.
+pub fn replace_live(
+    alloc: Global,
+    office: &mut Office,
+    content: &Sheet,
+) -> Result<Option<Broken>, AllocError>
+    requires { FitsSchema office.old.schema content.now }
+    ensures replaced { IfOk result (λ broken. IsLiveReplaced office.old content.now broken office.new) }
+    ensures err { OnErr result (office.new ≡ office.old) }
+{
+    let edits = edits_between(alloc, office.live(), content)?;
+    match apply_edits(alloc, office, LIVE, edits)? {
+        None => Ok(None),
+        Some(Reply::RuleBroken(need)) => Ok(Some(need)),
+        Some(_) => Err(AllocError),
+    }
+}

@@ -1,0 +1,44 @@
+-- The line of a layer that can't be read.
+use Rattle.std.specs.Prelude.{ℕ, List, [], ◌++◌, codes, slice_get}
+use Rattle.std.specs.Fmt.{decimal}
+use Rattle.std.specs.Option.{option_map_or}
+use Rattle.clr_lines.specs.Replies.{row_fault_name}
+use Rattle.clr_layer_text.specs.declared.faults.LayerFault.{LayerFault}
+use Rattle.clr_layer_text.specs.declared.faults.LayerFault.TheVariants as of_text
+use Rattle.clr_layer_changes.specs.declared.faults.FaultyLayer.{FaultyLayer}
+use Rattle.clr_layer_changes.specs.declared.faults.LayersFault.{LayersFault}
+use Rattle.clr_layer_changes.specs.declared.faults.LayersFault.TheVariants as of_layer
+use Rattle.clr_layer_changes.specs.declared.options.GivenLayer.{GivenLayer}
+
+-- the number and the name of a fault of a layer's text, and behind them the name of the row's fault, where it is one of the row
+abbrev pub text_fault_word : LayerFault → List ℕ
+text_fault_word of_text.OutOfMemory = codes "0 OutOfMemory"
+text_fault_word of_text.NotCsv = codes "1 NotCsv"
+text_fault_word of_text.NoColumn = codes "2 NoColumn"
+text_fault_word of_text.ColumnTwice = codes "3 ColumnTwice"
+text_fault_word of_text.FieldCount = codes "4 FieldCount"
+text_fault_word of_text.BadNumber = codes "5 BadNumber"
+text_fault_word of_text.NotWkt = codes "6 NotWkt"
+text_fault_word of_text.NotFlat = codes "7 NotFlat"
+text_fault_word of_text.Curve = codes "8 Curve"
+text_fault_word of_text.SeveralParts = codes "9 SeveralParts"
+text_fault_word of_text.NotDecimal = codes "10 NotDecimal"
+text_fault_word of_text.Finer = codes "11 Finer"
+text_fault_word (of_text.Unfit why) = codes "12 Unfit " ++ row_fault_name why
+
+-- the same of a fault of a layer
+abbrev pub fault_word : LayersFault → List ℕ
+fault_word of_layer.NoTable = codes "13 NoTable"
+fault_word of_layer.TableTwice = codes "14 TableTwice"
+fault_word (of_layer.Unread fault) = text_fault_word fault
+fault_word of_layer.KeyTwice = codes "15 KeyTwice"
+fault_word of_layer.NoKey = codes "16 NoKey"
+
+-- the table of the layer at a position, as it is named with the layer
+abbrev pub table_at : List GivenLayer → ℕ → List ℕ
+table_at layers at = option_map_or (λ layer. layer.table) (slice_get layers at) []
+
+-- the line of the first layer with a fault: the name of its table, the fault, and the record that has it, or 0 where it is one of the whole layer
+abbrev pub fault_line : List GivenLayer → FaultyLayer → List ℕ
+fault_line layers faulty =
+    codes "unreadable layer " ++ table_at layers faulty.layer ++ codes " " ++ fault_word faulty.fault ++ codes " at " ++ decimal faulty.number ++ codes "\n"
