@@ -12,5 +12,7 @@ pub(crate) fn complaint(alloc: Global, matches: &ArgMatches) -> Result<String, A
         }
     }
     let key = matches.get_str("keys").unwrap_or("");
-    format!(in alloc; "invalid value '{key}' for '--keys <N>': it is no whole number from 1 to {GREATEST_KEY}")
+    format!(in alloc;
+        "invalid value '{key}' for '--keys <N>': it is no whole number from 1 to {GREATEST_KEY}"
+    )
 }

@@ -8,8 +8,8 @@ ghost use Rattle.clr_desk_command_line.specs.Program.{program};
 
 use crate::asks::{Ask, TextKind};
 use crate::command::whole_command;
-use crate::layer_reading::geographic;
 use crate::complaints::complaint;
+use crate::layer_reading::geographic;
 use crate::values::root;
 use clap::ArgMatches;
 use clap::error::ErrorKind;
