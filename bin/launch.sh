@@ -80,12 +80,12 @@ follow() {
     return 1
 }
 
-# Proves the crates side by side by `rt ci`, which makes the program of them. From kit 13f on it keeps on this machine what it has proved,
-# so that after an interrupt the next start goes on where this one was.
+# Proves the crates side by side by `rt ci`, which makes the program of them. It keeps on this machine what it has proved, so that after an
+# interrupt the next start goes on where this one was.
 build() {
     local digest before made
     command -v rt >/dev/null || refuse "the program isn't built from these sources, and there is no command rt to build it"
-    say "proving the program once, ${#crates[@]} crates: 25 to 40 minutes on 4 idle cores, an hour on 2; after an interrupt the next start goes on where this one was, with kit 13f, or begins anew, with 13b"
+    say "proving the program once, ${#crates[@]} crates: half an hour on 4 idle cores, 45 minutes on 2; after an interrupt the next start goes on where this one was"
     room=$(mktemp -d "${TMPDIR:-/tmp}/$program.XXXXXX") || refuse "there is no room for a folder in which the program can be built"
     digest=$(digest_of_sources) before=$(listing)
     copy_sources || refuse "the sources can't be copied into $room"

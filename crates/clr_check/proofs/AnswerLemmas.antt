@@ -1,5 +1,5 @@
--- What the scene of a site tells of its verdict.
-use Rattle.std.proofs.Common.{◌≡◌, ℕ, List, None, refl, subst}
+-- What an answer says, and what the scene of a site tells of its verdict.
+use Rattle.std.proofs.Common.{◌≡◌, ◌∙◌, ℕ, List, None, refl, subst, sym}
 use Rattle.clr_needs.specs.declared.faults.SceneFault.{SceneFault}
 use Rattle.clr_needs.specs.declared.faults.SceneFault.TheVariants as scene
 use Rattle.clr_needs.specs.declared.needs.Need.{Need}
@@ -8,15 +8,44 @@ use Rattle.clr_needs.specs.Members.{AreApart, IsSceneFault}
 use Rattle.clr_needs.specs.Settings.{Setting}
 use Rattle.clr_steps.specs.Offices.{Office}
 use Rattle.clr_steps.specs.Quiet.{Site}
+use Rattle.clr_clearance.specs.declared.verdicts.Verdict.{Verdict}
 use Rattle.clr_clearance.specs.declared.verdicts.Verdict.TheVariants as verdict
-use Rattle.clr_clearance.specs.Sites.{change_sets, setting_by_position}
-use Rattle.clr_clearance.specs.Verdicts.{member_fault, of_cell, of_need, of_none}
+use Rattle.clr_clearance.specs.Headline.{Headline, RunsAreCleared}
+use Rattle.clr_clearance.specs.Laws.{StaysFree}
+use Rattle.clr_clearance.specs.Safety.{Safe}
+use Rattle.clr_clearance.specs.Sites.{RootHolds, change_sets, setting_by_position}
+use Rattle.clr_clearance.specs.Verdicts.{IsVerdict, member_fault, of_cell, of_need, of_none}
+use Rattle.clr_clearance.specs.Verdicts.{of_member as member}
 use Rattle.clr_check.specs.Answers.{IsAnswer, IsRefusal, of_memory, of_verdict, verdict_of}
 use Rattle.clr_check.specs.Entries.{IsLeastUncovered}
-use Rattle.clr_clearance.specs.Sites.{RootHolds}
 use Rattle.clr_clearance.proofs.ClearLemmas.{clear_covers, no_member_fault}
+use Rattle.clr_clearance.proofs.HeadlineLemmas.{headline}
+use Rattle.clr_clearance.proofs.ReplyLemmas.{quiet_run}
+use Rattle.clr_clearance.proofs.RunLemmas.{clear_is_safe}
 use Rattle.clr_engine.specs.Drafts.{IsAdmitted}
-use Rattle.clr_check.proofs.SiteLemmas.{clear_verdict, names_free, root_holds}
+use Rattle.clr_sites.specs.Faults.{IsFault, of_member, without_memory}
+use Rattle.clr_sites.proofs.SiteLemmas.{names_free, root_holds}
+
+-- what an answer says ------------------------------------------------------------------------------
+
+module _ (o : Office) (s : Site) (entries : List Entry) where
+  pub fault_answers : (v : Verdict) → IsFault o s v → IsAnswer o s entries v
+  fault_answers v (of_member e) = of_verdict (member e)
+  fault_answers v (without_memory e f) = of_memory e f
+
+  pub clear_verdict : (v : Verdict) → IsAnswer o s entries v → v ≡ verdict.Clear → IsVerdict o s entries verdict.Clear
+  clear_verdict v (of_verdict h) e = subst (IsVerdict o s entries) e h
+  clear_verdict v (of_memory none f) e = absurd (let both : verdict.OutOfMemory ≡ verdict.Clear = sym f ∙ e in cc)
+
+  -- all that a clear answer promises
+  pub clear_promises : IsAdmitted o → (v : Verdict) → IsAnswer o s entries v → v ≡ verdict.Clear → StaysFree o s × Safe o s × Headline o s × RunsAreCleared o s
+  clear_promises admitted v answer e =
+      let clear = clear_verdict v answer e in
+      let holds = root_holds o admitted s (clear_covers o s entries clear).mergeable.kept in
+      let (free, safe) = clear_is_safe o s entries clear holds in
+      (free, safe, headline o s entries clear holds, quiet_run o s safe)
+
+-- what a scene tells --------------------------------------------------------------------------------
 
 module _ (o : Office) (s : Site) (entries : List Entry) (free : member_fault o s ≡ None) where
   pub memory_answers : IsAnswer o s entries verdict.OutOfMemory

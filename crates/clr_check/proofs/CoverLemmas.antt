@@ -13,9 +13,10 @@ use Rattle.clr_needs.proofs.NeedSubjects.{subjects_once}
 use Rattle.clr_needs.proofs.Reading.{none_taken, one_more, all_taken}
 use Rattle.clr_needs.proofs.PickLaws.{listed_serves, serving_listed}
 use Rattle.clr_clearance.proofs.CheckLemmas.{one_lived}
-use Rattle.clr_check.specs.Entries.{HasCover, IsTold, lasts, same_too}
+use Rattle.clr_check.specs.Entries.{HasCover, lasts, same_too}
+use Rattle.clr_sites.specs.Told.{IsTold}
 use Rattle.clr_cert.specs.declared.certificates.Entry.{Entry}
-use Rattle.clr_check.proofs.SearchLemmas.{either_told, it_is_not, told_as, told_by}
+use Rattle.clr_sites.proofs.SearchLemmas.{either_told, it_is_not, told_as, told_by}
 
 -- lives ------------------------------------------------------------------------------------------
 

@@ -2,9 +2,3 @@ pub mod AnswerLemmas
 pub mod CoverLemmas
 pub mod EntryLemmas
 pub mod JudgeLemmas
-pub mod MemberLemmas
-pub mod NameLemmas
-pub mod RepeatLemmas
-pub mod RootLemmas
-pub mod SearchLemmas
-pub mod SiteLemmas

@@ -1,5 +1,5 @@
 -- What is answered: the verdict, or want of memory where no test of names fails.
-use Rattle.std.specs.Prelude.{◌≡◌, List, Some, None}
+use Rattle.std.specs.Prelude.{◌≡◌, List, None}
 use Rattle.clr_needs.specs.declared.faults.SceneFault.{SceneFault}
 use Rattle.clr_needs.specs.declared.faults.SceneFault.TheVariants as scene
 use Rattle.clr_needs.specs.Covers.{Entry}
@@ -7,7 +7,7 @@ use Rattle.clr_steps.specs.Offices.{Office}
 use Rattle.clr_steps.specs.Quiet.{Site}
 use Rattle.clr_clearance.specs.declared.verdicts.Verdict.{Verdict}
 use Rattle.clr_clearance.specs.declared.verdicts.Verdict.TheVariants as verdict
-use Rattle.clr_clearance.specs.Verdicts.{IsVerdict, member_fault, name_fault}
+use Rattle.clr_clearance.specs.Verdicts.{IsVerdict, name_fault}
 
 pub data IsAnswer (o : Office) (s : Site) (entries : List Entry) (v : Verdict) : Type 0 where
   of_verdict : IsVerdict o s entries v → IsAnswer o s entries v
@@ -17,11 +17,6 @@ pub data IsAnswer (o : Office) (s : Site) (entries : List Entry) (v : Verdict) :
 pub record IsRefusal (o : Office) (s : Site) (entries : List Entry) (v : Verdict) : Type 0 where
   pub answer : IsAnswer o s entries v
   pub not_clear : ¬ (v ≡ verdict.Clear)
-
--- the first that fails of the tests that look at one member at a time
-pub data IsFault (o : Office) (s : Site) (v : Verdict) : Type 0 where
-  of_member : member_fault o s ≡ Some v → IsFault o s v
-  without_memory : name_fault o s ≡ None → v ≡ verdict.OutOfMemory → IsFault o s v
 
 -- what is said where change sets make no scene
 abbrev pub verdict_of : SceneFault → Verdict

@@ -1,5 +1,5 @@
 -- Entries by need, and which of them cover one.
-use Rattle.std.specs.Prelude.{◌≡◌, ℕ, Bool, true, false, ◌||◌, List, Option, Some, None, Contains}
+use Rattle.std.specs.Prelude.{◌≡◌, ℕ, Bool, false, ◌||◌, List, Option, Some, None, Contains}
 use Rattle.std.specs.List.Sorted.{IsSortedByKey}
 use Rattle.clr_cert.specs.declared.certificates.Entry.{Entry}
 use Rattle.clr_needs.specs.declared.needs.Need.{Need}
@@ -8,11 +8,6 @@ use Rattle.clr_needs.specs.Covers.{Entry as Witnesses, WitnessesCover}
 use Rattle.clr_needs.specs.Orders.{need_cmp}
 use Rattle.clr_needs.specs.Settings.{Setting, Lifetime, Always, Lived}
 use Rattle.clr_clearance.specs.Verdicts.{IsFirstUncovered}
-
--- a test tells whether it is so
-abbrev pub IsTold : Bool → Type 0 → Type 0
-IsTold true P = P
-IsTold false P = ¬ P
 
 abbrev pub RiseByNeed : List Entry → Type 0
 RiseByNeed entries = IsSortedByKey (λ (e : Entry). e.need) need_cmp entries

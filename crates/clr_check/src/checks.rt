@@ -8,16 +8,15 @@ ghost use Rattle.clr_clearance.specs.declared.verdicts.Verdict.TheVariants as ve
 ghost use Rattle.clr_steps.specs.Quiet.{Site};
 ghost use Rattle.clr_engine.specs.Drafts.{IsAdmitted};
 ghost use Rattle.clr_check.specs.Answers.{IsAnswer, verdict_of};
-ghost use Rattle.clr_check.specs.Certificates.{entries_in, site_of};
-ghost use Rattle.clr_check.specs.Sites.{AreOfSite, AreParts};
+ghost use Rattle.clr_sites.specs.Certificates.{entries_in, site_of};
+ghost use Rattle.clr_sites.specs.Sites.{AreOfSite, AreParts};
 
 use crate::covers::first_uncovered;
-use crate::site_parts::SiteParts;
-use crate::sites::read_site;
 use clr_cert::{Certificate, Entry};
 use clr_clearance::Verdict;
 use clr_engine::Office;
 use clr_needs::SceneFault;
+use clr_sites::{SiteParts, read_site};
 use std::alloc::Global;
 
 /// What is said where change sets make no scene.

@@ -10,13 +10,14 @@ ghost use Rattle.clr_needs.specs.Needs.{AreServers, IsPossible, IsPossibleNeed};
 ghost use Rattle.clr_needs.specs.Orders.{version_cmp};
 ghost use Rattle.clr_foot.specs.Scenes.{IsReady, model_of, setting_of};
 ghost use Rattle.clr_needs.specs.Settings.{Lived};
-ghost use Rattle.clr_check.specs.Certificates.{entries_in};
-ghost use Rattle.clr_check.specs.Entries.{HasCover, IsLeastUncovered, IsTold, lasts, same_too};
+ghost use Rattle.clr_sites.specs.Certificates.{entries_in};
+ghost use Rattle.clr_check.specs.Entries.{HasCover, IsLeastUncovered, lasts, same_too};
+ghost use Rattle.clr_sites.specs.Told.{IsTold};
 
 use crate::entries::{entries_of, sort_entries};
 use clr_cert::Entry;
+use clr_finders::RowFinder;
 use clr_foot::Scene;
-use clr_grid::RowFinder;
 use clr_needs::{Life, Need, VersionId};
 use clr_rows::RowView;
 use std::alloc::{AllocError, Global};

@@ -18,25 +18,17 @@
 //!   merge or refresh of a member among them is answered Conflict or RuleBroken, and the root has
 //!   the changes of the merged members over its first rows. Nothing is promised of commands after
 //!   one that isn't quiet.
-//! - `name_fault`, `read_site` and `SiteParts::scene`: the tests of names, without memory, the
-//!   parts that a check and a plan look at, and the scene that they make.
+//! - `name_fault`, `read_site`, `SiteParts` and `NameList` are those of `clr_sites`, which reads what
+//!   a check and a plan look at.
 #![tactic(auto)]
 
 mod checks;
 mod covers;
 mod entries;
-mod name_lists;
-mod name_tests;
 mod quiet;
-mod repeats;
 mod runs;
-mod site_parts;
-mod sites;
 
 pub use checks::check;
 pub use clr_clearance::Verdict;
-pub use name_lists::NameList;
-pub use name_tests::name_fault;
+pub use clr_sites::{NameList, SiteParts, name_fault, read_site};
 pub use runs::{ClearedRun, perform_cleared};
-pub use site_parts::SiteParts;
-pub use sites::read_site;

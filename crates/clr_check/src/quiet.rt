@@ -4,7 +4,7 @@
 ghost use Rattle.std.specs.Prelude.{◌≡◌, ◌||◌, ◌&&◌, not};
 ghost use Rattle.clr_steps.specs.Names.{has};
 ghost use Rattle.clr_steps.specs.Quiet.{is_other, is_quiet, is_root, is_under_other};
-ghost use Rattle.clr_check.specs.Certificates.{site_of};
+ghost use Rattle.clr_sites.specs.Certificates.{site_of};
 
 use clr_cert::Certificate;
 use clr_engine::{Command, Office};

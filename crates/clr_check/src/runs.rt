@@ -5,7 +5,7 @@ ghost use Rattle.clr_clearance.specs.ClearedRuns.{IsClearedRun, IsQuietStart};
 ghost use Rattle.clr_clearance.specs.Verdicts.{IsVerdict};
 ghost use Rattle.clr_clearance.specs.declared.verdicts.Verdict.TheVariants as verdict;
 ghost use Rattle.clr_check.specs.Answers.{IsRefusal};
-ghost use Rattle.clr_check.specs.Certificates.{entries_in, site_of};
+ghost use Rattle.clr_sites.specs.Certificates.{entries_in, site_of};
 
 use crate::checks::check;
 use crate::quiet::is_quiet;

@@ -8,7 +8,7 @@ use Rattle.clr_clearance.specs.Laws.{StaysFree}
 use Rattle.clr_clearance.specs.Safety.{Safe}
 use Rattle.clr_cert.specs.declared.certificates.Certificate.{Certificate}
 use Rattle.clr_check.specs.Answers.{IsAnswer}
-use Rattle.clr_check.specs.Certificates.{entries_in, site_of}
+use Rattle.clr_sites.specs.Certificates.{entries_in, site_of}
 use Rattle.clr_check_texts.specs.Cases.{Case}
 use Rattle.clr_check_texts.specs.declared.cases.CaseFault.{CaseFault}
 use Rattle.clr_check_texts.specs.declared.cases.CaseFault.TheVariants as fault

@@ -8,8 +8,8 @@ ghost use Rattle.clr_foot.specs.Scenes.{IsReady, model_of, setting_of};
 ghost use Rattle.clr_clashes.specs.Keeping.{IsNoted, is_within, with_clash};
 ghost use Rattle.clr_clashes.specs.ListedClashes.{AreSmallestClashes, clash_of};
 
+use clr_finders::RowFinder;
 use clr_foot::Scene;
-use clr_grid::RowFinder;
 use clr_needs::Need;
 use clr_rows::RowView;
 use std::alloc::{AllocError, Global};

@@ -8,7 +8,7 @@ use Rattle.clr_workspaces.specs.Workspaces.{Workspace}
 use Rattle.clr_steps.specs.Offices.{Office}
 use Rattle.clr_steps.specs.Readings.{name_at}
 use Rattle.clr_clearance.specs.Sites.{is_child}
-use Rattle.clr_check.specs.SiteNames.{site}
+use Rattle.clr_sites.specs.SiteNames.{site}
 use Rattle.clr_desk.specs.Choices.{child_in, children_of}
 
 module _ (o : Office) (root : Name) where

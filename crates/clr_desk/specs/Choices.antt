@@ -8,7 +8,7 @@ use Rattle.clr_steps.specs.Offices.{Office}
 use Rattle.clr_clearance.specs.Sites.{is_child}
 use Rattle.clr_cert.specs.declared.certificates.Certificate.{Certificate}
 use Rattle.clr_cert.specs.Texts.{certificate_text}
-use Rattle.clr_check.specs.SiteNames.{site}
+use Rattle.clr_sites.specs.SiteNames.{site}
 use Rattle.clr_plan.specs.declared.plans.Plan.{Plan}
 use Rattle.clr_plan.specs.declared.plans.Plan.TheVariants as plan
 use Rattle.clr_plan.specs.Promises.{is_cleared, is_out_of_memory}

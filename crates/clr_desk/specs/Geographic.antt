@@ -1,6 +1,6 @@
 -- What is printed in the texts of geographic information systems, and of such texts.
 use Rattle.std.specs.Prelude.{ℕ, Bool, List, [], ◌∷◌}
-use Rattle.clr_check.specs.SiteNames.{site}
+use Rattle.clr_sites.specs.SiteNames.{site}
 use Rattle.clr_drafts.specs.Drafts.{draft_in}
 use Rattle.clr_desk_command_line.specs.declared.asks.GeographicAsk.{GeographicAsk}
 use Rattle.clr_desk_command_line.specs.declared.asks.GeographicAsk.TheVariants as ask

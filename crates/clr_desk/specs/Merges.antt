@@ -8,7 +8,7 @@ use Rattle.clr_steps.specs.Steps.{is_lost}
 use Rattle.clr_clearance.specs.declared.verdicts.Verdict.{Verdict}
 use Rattle.clr_cert.specs.declared.certificates.Certificate.{Certificate}
 use Rattle.clr_check.specs.Answers.{IsRefusal}
-use Rattle.clr_check.specs.Certificates.{entries_in, site_of}
+use Rattle.clr_sites.specs.Certificates.{entries_in, site_of}
 use Rattle.clr_lines.specs.Replies.{reply_text}
 use Rattle.clr_verdict_lines.specs.Verdicts.{verdict_text}
 use Rattle.clr_office.specs.Clearances.{AreMerged, is_clear, is_without_memory, stop_text}

@@ -1,7 +1,7 @@
 //! The members that names ask for.
 ghost use Rattle.std.specs.Prelude.{◌≡◌, ◌++◌, [], IfOk, OnOk};
 ghost use Rattle.clr_steps.specs.Readings.{name_at};
-ghost use Rattle.clr_check.specs.SiteNames.{site};
+ghost use Rattle.clr_sites.specs.SiteNames.{site};
 ghost use Rattle.clr_clearance.specs.Sites.{is_child};
 ghost use Rattle.clr_desk.specs.Choices.{child_in, children_of, members_asked};
 

@@ -1,7 +1,7 @@
 //! Members that are taken in their order, as long as they are cleared together.
 ghost use Rattle.std.specs.Prelude.{◌≡◌, ◌∷◌, ◌++◌, [], codes, false, map, IfOk, OnOk};
 ghost use Rattle.clr_cert.specs.Texts.{certificate_text};
-ghost use Rattle.clr_check.specs.SiteNames.{site};
+ghost use Rattle.clr_sites.specs.SiteNames.{site};
 ghost use Rattle.clr_drafts.specs.Drafts.{draft_in};
 ghost use Rattle.clr_plan.specs.declared.plans.Plan.TheVariants as plan;
 ghost use Rattle.clr_office.specs.Outcomes.{IsPlanned};

@@ -1,7 +1,7 @@
 //! The lines of sets of members that can't be merged together.
 ghost use Rattle.std.specs.Prelude.{◌≡◌, ◌++◌, [], map, IfOk, OnOk};
 ghost use Rattle.std.specs.List.{flat_map};
-ghost use Rattle.clr_check.specs.SiteNames.{site};
+ghost use Rattle.clr_sites.specs.SiteNames.{site};
 ghost use Rattle.clr_desk.specs.Clashes.{clash_text, clashes_text, line_of_some};
 
 use crate::clash_members::{beside, in_no_set};

@@ -1,7 +1,7 @@
 //! The members that are in no set, and those that weren't looked at with the others.
 ghost use Rattle.std.specs.Prelude.{◌≡◌, ◌++◌, ◌∷◌, [], filter, map, IfOk, OnOk};
 ghost use Rattle.std.specs.List.{list_any, range_with_len};
-ghost use Rattle.clr_check.specs.SiteNames.{site};
+ghost use Rattle.clr_sites.specs.SiteNames.{site};
 ghost use Rattle.clr_desk.specs.Clashes.{beside, in_no_set, is_among, is_beside, is_in_no_set};
 
 use clr_site_clashes::{SiteClash, names_at};

@@ -2,7 +2,7 @@
 
 ghost use Rattle.std.specs.Prelude.{◌≡◌, ◌∷◌, IfOk};
 ghost use Rattle.std.specs.Option.{option_copied};
-ghost use Rattle.clr_check.specs.SiteNames.{site};
+ghost use Rattle.clr_sites.specs.SiteNames.{site};
 ghost use Rattle.clr_drafts.specs.Drafts.{draft_in};
 ghost use Rattle.clr_desk_features.specs.Features.{IsAnswer, IsFeaturesPrint, features_print};
 ghost use Rattle.clr_prints.specs.NameHints.{IsHinted};

@@ -1,6 +1,6 @@
 //! The maps of plans.
 ghost use Rattle.std.specs.Prelude.{◌≡◌, ◌∷◌, IfOk};
-ghost use Rattle.clr_check.specs.SiteNames.{site};
+ghost use Rattle.clr_sites.specs.SiteNames.{site};
 ghost use Rattle.clr_drafts.specs.Drafts.{draft_in};
 ghost use Rattle.clr_desk_pages.specs.Maps.{IsMapPrint, map_print};
 ghost use Rattle.clr_prints.specs.NameHints.{IsHinted};

@@ -13,9 +13,9 @@ use Rattle.clr_rows.specs.Contents.{Changes, Content, row_at, taken_over}
 use Rattle.clr_rows.proofs.ChangeLemmas.{after_of, row-taken_over}
 use Rattle.clr_rules.specs.Books.{FitTogether, FitsCell, FitsContent}
 use Rattle.clr_rules.specs.declared.rules.Rule.{Rule}
-use Rattle.clr_grid.specs.declared.row_spots.RuleSpots.{RuleSpots}
+use Rattle.clr_finders.specs.declared.row_spots.RuleSpots.{RuleSpots}
 use Rattle.clr_grid.specs.RowMaps.{Rows}
-use Rattle.clr_grid.specs.Sharing.{next_at, next_of, row_spots, rows_at}
+use Rattle.clr_finders.specs.Sharing.{next_at, next_of, row_spots, rows_at}
 use Rattle.clr_engine.specs.Finders.{AreFinders, ArePending, FitAfter, HasForgotten, HasNoted, HasSettled, IsChangedAt, IsFinderAt, IsFinderOf, spots_after}
 
 -- ---- rows that fit

@@ -11,7 +11,7 @@ use Rattle.std.specs.declared.alloc.AllocError.{AllocError}
 use Rattle.clr_rules.specs.Books.{FitsCell}
 use Rattle.clr_rules.specs.Needs.{IsFirstBroken}
 use Rattle.clr_rules.specs.declared.needs.Broken.{Broken}
-use Rattle.clr_grid.specs.Sharing.{IsSettledFor}
+use Rattle.clr_finders.specs.Sharing.{IsSettledFor}
 use Rattle.clr_needs.proofs.AuditLaws.{first_listed}
 use Rattle.clr_needs.specs.Broken.{view_after_merge}
 use Rattle.clr_foot.specs.Scenes.{IsReady, SceneModel, setting_of}

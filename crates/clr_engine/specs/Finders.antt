@@ -10,11 +10,11 @@ use Rattle.clr_rules.specs.Books.{FitTogether}
 use Rattle.clr_rules.specs.declared.rules.Rule.{Rule}
 use Rattle.clr_workspaces.specs.Marks.{Name}
 use Rattle.clr_workspaces.specs.Workspaces.{Workspace, workspace_at}
-use Rattle.clr_grid.specs.declared.row_spots.RuleSpots.{RuleSpots}
+use Rattle.clr_finders.specs.declared.row_spots.RuleSpots.{RuleSpots}
 use Rattle.clr_grid.specs.RowMaps.{Rows}
 use Rattle.clr_steps.specs.Offices.{Office, content_of, is_kept}
 use Rattle.clr_steps.specs.Readings.{name_at}
-use Rattle.clr_grid.specs.Sharing.{IsSettledFor, Pending, next_at, row_spots, rows_at}
+use Rattle.clr_finders.specs.Sharing.{IsSettledFor, Pending, next_at, row_spots, rows_at}
 
 -- a finder has settled just the rows of a content, and nothing is pending
 abbrev pub IsFinderOf : List Rule → Content → Rows → Type 0

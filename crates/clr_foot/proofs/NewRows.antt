@@ -11,8 +11,8 @@ use Rattle.clr_rows.specs.Contents.{Changes}
 use Rattle.clr_rows.proofs.CellOrder.{cell_cmp_exact, cell_cmp_total}
 use Rattle.clr_rules.specs.declared.rules.Rule.{Rule}
 use Rattle.clr_rules.proofs.Elements.{contained}
-use Rattle.clr_grid.specs.declared.row_spots.RuleSpots.{RuleSpots}
-use Rattle.clr_grid.specs.Sharing.{Pending, Settled, next_at, next_of, row_spots}
+use Rattle.clr_finders.specs.declared.row_spots.RuleSpots.{RuleSpots}
+use Rattle.clr_finders.specs.Sharing.{Pending, Settled, next_at, next_of, row_spots}
 use Rattle.clr_needs.specs.Members.{ChangesCell, after_of, changed_cells, positions}
 use Rattle.clr_needs.specs.Settings.{Lived, first_changer, new_row, new_version}
 use Rattle.clr_foot.specs.Versions.{AreNewRowsFiled, new_version_at}

@@ -16,7 +16,7 @@ use Rattle.clr_rows.specs.Contents.{Changes}
 use Rattle.clr_rows.proofs.CellOrder.{cell_cmp_total}
 use Rattle.clr_rules.proofs.Elements.{Among, among_left, among_right, not_itself}
 use Rattle.clr_rules.proofs.BrokenLemmas.{lt_is}
-use Rattle.clr_grid.proofs.EntryLemmas.{one_among}
+use Rattle.clr_finders.proofs.EntryLemmas.{one_among}
 use Rattle.clr_foot.specs.declared.changers.Changers.{Changers}
 use Rattle.clr_needs.specs.declared.shared_cells.SharedCell.{SharedCell}
 use Rattle.clr_needs.specs.Members.{AreApart, AreFirstTwo, ChangesCell, IsApart, IsFirstChanger, IsFound, IsLeastShared, after_in, changed_cells}

@@ -25,10 +25,10 @@ use Rattle.clr_rules.proofs.RoleLemmas.{servers_have_roles, subjects_have_roles}
 use Rattle.clr_spots.proofs.RoleLaws.{subjects_beside}
 use Rattle.clr_spots.proofs.ShareLaws.{servers_share, subjects_share}
 use Rattle.clr_spots.proofs.SharedSpots.{share_back}
-use Rattle.clr_grid.specs.declared.row_spots.RuleSpots.{RuleSpots}
-use Rattle.clr_grid.specs.Sharing.{IsSettledFor, Settled, found_cells, is_met_at, may_serve, may_serve_by, may_serve_under, row_spots, rule_spots, sharing, sharing_servers}
-use Rattle.clr_grid.proofs.EntryLemmas.{in_passes, passes_in}
-use Rattle.clr_grid.proofs.SharingLemmas.{found_servers, found_sharing}
+use Rattle.clr_finders.specs.declared.row_spots.RuleSpots.{RuleSpots}
+use Rattle.clr_finders.specs.Sharing.{IsSettledFor, Settled, found_cells, is_met_at, may_serve, may_serve_by, may_serve_under, row_spots, rule_spots, sharing, sharing_servers}
+use Rattle.clr_finders.proofs.EntryLemmas.{in_passes, passes_in}
+use Rattle.clr_finders.proofs.SharingLemmas.{found_servers, found_sharing}
 use Rattle.clr_foot.specs.Candidates.{is_of_two, is_of_two_by, is_of_two_under, may_be_paired}
 use Rattle.clr_needs.specs.Settings.{Setting}
 use Rattle.clr_foot.specs.Touches.{IsNear}

@@ -4,7 +4,7 @@ use Rattle.std.specs.Option.{option_map}
 use Rattle.std.proofs.lemmas.Bool.{and_parts, false≢true}
 use Rattle.clr_rules.specs.Calls.{calls, serves}
 use Rattle.clr_spots.specs.Spots.{are_sharing}
-use Rattle.clr_grid.specs.Sharing.{may_serve_under}
+use Rattle.clr_finders.specs.Sharing.{may_serve_under}
 use Rattle.clr_rows.specs.Held.{Held}
 use Rattle.clr_rows.specs.Cells.{cell_cmp}
 use Rattle.clr_needs.specs.declared.needs.Need.{Need}

@@ -11,7 +11,7 @@ use Rattle.clr_rows.specs.Held.{Held}
 use Rattle.clr_rules.specs.Calls.{calls}
 use Rattle.clr_rules.proofs.AskLemmas.{rule_there}
 use Rattle.clr_rules.proofs.Elements.{Among, among, among_either, contained}
-use Rattle.clr_grid.specs.Sharing.{may_serve_under}
+use Rattle.clr_finders.specs.Sharing.{may_serve_under}
 use Rattle.clr_needs.specs.declared.needs.Need.{Need}
 use Rattle.clr_needs.specs.declared.needs.VersionId.{VersionId}
 use Rattle.clr_foot.specs.declared.versions.Version.{Version}

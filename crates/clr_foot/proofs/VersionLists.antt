@@ -7,7 +7,7 @@ use Rattle.clr_rows.specs.Contents.{Changes, Content}
 use Rattle.clr_rows.specs.Held.{Held}
 use Rattle.clr_rules.specs.declared.rules.Rule.{Rule}
 use Rattle.clr_rules.proofs.Elements.{among, contained}
-use Rattle.clr_grid.specs.Sharing.{IsSettledFor, Settled, found_cells, row_spots, rule_spots}
+use Rattle.clr_finders.specs.Sharing.{IsSettledFor, Settled, found_cells, row_spots, rule_spots}
 use Rattle.clr_foot.specs.declared.versions.Version.{Version}
 use Rattle.clr_needs.specs.declared.needs.VersionId.{VersionId}
 use Rattle.clr_needs.specs.Members.{setting}

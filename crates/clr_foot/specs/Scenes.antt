@@ -2,7 +2,8 @@
 use Rattle.std.specs.Prelude.{ℕ, List, map}
 use Rattle.clr_rows.specs.Contents.{Changes, Content}
 use Rattle.clr_rules.specs.declared.rules.Rule.{Rule}
-use Rattle.clr_grid.specs.Sharing.{IsSettledFor, Settled}
+use Rattle.clr_finders.specs.declared.finders.RowFinder.{Ghosts}
+use Rattle.clr_finders.specs.Sharing.{IsSettledFor, Settled}
 use Rattle.clr_foot.specs.declared.scenes.Scene.{Scene}
 use Rattle.clr_needs.specs.Members.{setting}
 use Rattle.clr_needs.specs.Parts.{sets_at}
@@ -16,7 +17,7 @@ pub record SceneModel (F : Type 0) : Type 0 where
   pub finder : F
 
 -- a scene by its own parts, its root by the content that such roots are seen as
-abbrev pub model_of : {V F : Type 0} → (V → Content) → Scene V F → SceneModel F
+abbrev pub model_of : {V F : Type 0} {finder : Ghosts F} → (V → Content) → Scene V F finder → SceneModel F
 model_of content scene = record {
   rules = scene.book.now;
   root = content scene.root.now;
@@ -29,7 +30,7 @@ abbrev pub setting_of : {F : Type 0} → SceneModel F → Setting ℕ
 setting_of m = setting m.rules m.root m.sets
 
 -- the setting of a scene, by the scene's own parts
-abbrev pub setting_in : {V F : Type 0} → (V → Content) → Scene V F → Setting ℕ
+abbrev pub setting_in : {V F : Type 0} {finder : Ghosts F} → (V → Content) → Scene V F finder → Setting ℕ
 setting_in content scene = setting_of (model_of content scene)
 
 -- the rules and rows of a scene fit one schema, and its finder has settled the root's rows

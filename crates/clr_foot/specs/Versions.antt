@@ -8,7 +8,7 @@ use Rattle.clr_rows.specs.Contents.{Changes}
 use Rattle.clr_rows.specs.Held.{Held}
 use Rattle.clr_rules.specs.declared.rules.Rule.{Rule}
 use Rattle.clr_rules.specs.Books.{FitTogether, FitsBook, FitsCell}
-use Rattle.clr_grid.specs.Sharing.{Settled, row_spots}
+use Rattle.clr_finders.specs.Sharing.{Settled, row_spots}
 use Rattle.clr_needs.specs.declared.needs.VersionId.{VersionId}
 use Rattle.clr_foot.specs.declared.versions.Version.{Version}
 use Rattle.clr_needs.specs.Members.{after_of, lifetime, positions}

@@ -1,13 +1,13 @@
 //! Of how many rows a rule is asked, and which rows may serve.
 
 ghost use Rattle.std.specs.Prelude.{◌≡◌, ◌<◌, length};
-ghost use Rattle.clr_grid.specs.Sharing.{may_serve_under};
+ghost use Rattle.clr_finders.specs.Sharing.{may_serve_under};
 ghost use Rattle.clr_foot.specs.Candidates.{is_of_two, is_of_two_under, may_be_paired};
 ghost use Rattle.clr_foot.specs.Versions.{row_of};
 
 use crate::scenes::Scene;
 use crate::versions::Version;
-use clr_grid::{RowFinder, may_serve};
+use clr_finders::{RowFinder, may_serve};
 use clr_rows::RowView;
 use clr_rules::Rule;
 
@@ -45,7 +45,7 @@ impl<V: RowView, F: RowFinder> Scene<'_, V, F> {
     }
 
     /// Whether a version is of the side that serves.
-    #[tactic(auto, unfolding(clr_grid::specs::Sharing::may_serve_under))]
+    #[tactic(auto, unfolding(clr_finders::specs::Sharing::may_serve_under))]
     pub(crate) fn may_serve(&self, rule: u16, version: Version) -> bool
         requires { rule < length self.now.book.now }
         ensures { result ≡ may_serve_under self.now.book.now rule (row_of version.entry) }

@@ -12,7 +12,7 @@ ghost use Rattle.clr_needs.specs.Settings.{version};
 ghost use Rattle.clr_needs.specs.Witnesses.{IsLeastPassing, has_life_at};
 
 use crate::scenes::Scene;
-use clr_grid::RowFinder;
+use clr_finders::RowFinder;
 use clr_needs::{Life, Need, VersionId};
 use clr_rows::RowView;
 use std::alloc::AllocError;

@@ -11,7 +11,7 @@ ghost use Rattle.clr_needs.specs.Settings.{Lived, version};
 ghost use Rattle.clr_needs.specs.declared.needs.VersionId.{VersionId as Id};
 
 use crate::scenes::Scene;
-use clr_grid::RowFinder;
+use clr_finders::RowFinder;
 use clr_needs::{Life, Need, VersionId};
 use clr_rows::RowView;
 use clr_rules::Broken;

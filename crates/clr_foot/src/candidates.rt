@@ -10,7 +10,7 @@ ghost use Rattle.clr_foot.specs.Versions.{AreAt, FitsSetting, IsAt, IsAtToo};
 
 use crate::scenes::Scene;
 use crate::versions::{Version, held_if_any};
-use clr_grid::RowFinder;
+use clr_finders::RowFinder;
 use clr_needs::{Life, Need, VersionId};
 use clr_rows::RowView;
 use clr_rules::Ask;

@@ -10,7 +10,7 @@ ghost use Rattle.clr_needs.specs.declared.needs.VersionId.{VersionId as Id};
 
 use crate::involvement::is_named;
 use crate::scenes::Scene;
-use clr_grid::RowFinder;
+use clr_finders::RowFinder;
 use clr_needs::{Need, VersionId};
 use clr_rows::RowView;
 use std::alloc::AllocError;

@@ -15,7 +15,7 @@ ghost use Rattle.clr_foot.specs.Versions.{AreNewRowsFiled, FitNewRows, new_versi
 use crate::changers::{Changers, changers_of};
 use crate::versions::Version;
 use clr_change::ChangeSet;
-use clr_grid::{RowFinder, SpotIndex};
+use clr_finders::RowFinder;
 use clr_needs::{Life, SharedCell, VersionId};
 use clr_rows::CellId;
 use clr_rules::RuleBook;
@@ -136,21 +136,21 @@ impl<'a> Members<'a> {
     }
 
     /// The rows that members bring, filed by their spots.
-    pub(crate) fn file_new_rows(
+    pub(crate) fn file_new_rows<F: RowFinder>(
         &self,
         alloc: Global,
         book: &RuleBook,
-    ) -> Result<SpotIndex, AllocError>
+    ) -> Result<F, AllocError>
         requires fit { FitNewRows book.now (map (λ s. s.now) self.now.sets.items) }
-        ensures { IfOk result (λ index. AreNewRowsFiled index.settled book.now (map (λ s. s.now) self.now.sets.items)) }
+        ensures { IfOk result (λ finder. AreNewRowsFiled (F.settled finder) book.now (map (λ s. s.now) self.now.sets.items)) }
     {
-        let mut index = SpotIndex::new(alloc);
+        let mut finder = F::without_rows(alloc);
         for cell in &self.cells {
             if let Some(version) = self.new_version(*cell) {
-                index.note(book, *cell, Some(version.row))?;
-                index.settle();
+                finder.note(book, *cell, Some(version.row))?;
+                finder.settle();
             }
         }
-        Ok(index)
+        Ok(finder)
     }
 }

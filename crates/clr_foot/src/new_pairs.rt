@@ -11,7 +11,7 @@ ghost use Rattle.clr_foot.specs.Versions.{AreAt, FitsSetting, IsAt, row_of};
 use crate::candidates::are_opposed;
 use crate::scenes::Scene;
 use crate::versions::Version;
-use clr_grid::RowFinder;
+use clr_finders::RowFinder;
 use clr_needs::Need;
 use clr_rows::RowView;
 use clr_rules::Ask;

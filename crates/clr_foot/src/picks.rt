@@ -10,7 +10,7 @@ ghost use Rattle.clr_needs.specs.Witnesses.{IsFirstPair, IsLeastPassing, IsPairO
 
 use crate::blockers::are_same;
 use crate::scenes::Scene;
-use clr_grid::RowFinder;
+use clr_finders::RowFinder;
 use clr_needs::{Life, Need, VersionId};
 use clr_rows::RowView;
 use std::alloc::AllocError;

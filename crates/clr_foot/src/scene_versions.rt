@@ -12,7 +12,7 @@ use crate::members::Members;
 use crate::scenes::Scene;
 use crate::versions::Version;
 use clr_change::ChangeSet;
-use clr_grid::RowFinder;
+use clr_finders::RowFinder;
 use clr_needs::{Life, SceneFault, VersionId};
 use clr_rows::{CellId, Row, RowView};
 use clr_rules::RuleBook;

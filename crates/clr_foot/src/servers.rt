@@ -10,7 +10,7 @@ ghost use Rattle.clr_foot.specs.Versions.{IsAt, IsAtToo, IsNamedToo, row_of};
 
 use crate::scenes::Scene;
 use crate::versions::Version;
-use clr_grid::RowFinder;
+use clr_finders::RowFinder;
 use clr_needs::{Need, VersionId};
 use clr_rows::RowView;
 use clr_rules::Ask;

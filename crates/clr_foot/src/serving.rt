@@ -10,7 +10,7 @@ ghost use Rattle.clr_foot.specs.Versions.{FindsAll, FitsSetting, IsAt, row_of};
 
 use crate::scenes::Scene;
 use crate::versions::Version;
-use clr_grid::RowFinder;
+use clr_finders::RowFinder;
 use clr_rows::{Place, RowView, Shape};
 use clr_rules::{Rule, point_in};
 use clr_segments::{lies_on, part, parts};

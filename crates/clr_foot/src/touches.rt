@@ -2,7 +2,7 @@
 //! and each changed one is tried as a server of versions that share with it.
 
 ghost use Rattle.std.specs.Prelude.{◌≡◌, ◌<◌, ◌∷◌, [], false, true, length, Contains, IfOk, OnErr, OnOk};
-ghost use Rattle.clr_grid.specs.Sharing.{found_cells, rule_spots};
+ghost use Rattle.clr_finders.specs.Sharing.{found_cells, rule_spots};
 ghost use Rattle.clr_rows.specs.Held.{held_of};
 ghost use Rattle.clr_rules.specs.Books.{FitTogether};
 ghost use Rattle.clr_foot.specs.Candidates.{IsNeedAt, IsNeedBesideOld, IsNeedServedBy, IsNeedWith};
@@ -14,7 +14,7 @@ ghost use Rattle.clr_foot.specs.Versions.{AreAt, Finds, FindsAll, FitsSetting, I
 
 use crate::scenes::Scene;
 use crate::versions::Version;
-use clr_grid::RowFinder;
+use clr_finders::RowFinder;
 use clr_needs::{Need, VersionId};
 use clr_rows::{CellId, Held, RowView};
 use clr_rules::RuleBook;

@@ -14,7 +14,7 @@ use Rattle.clr_engine.specs.Drafts.{IsAdmitted}
 use Rattle.clr_clearance.specs.Sites.{change_sets, setting_by_position}
 use Rattle.clr_clearance.specs.Verdicts.{member_fault}
 use Rattle.clr_clearance.proofs.ClearLemmas.{faultless}
-use Rattle.clr_check.proofs.SiteLemmas.{root_holds}
+use Rattle.clr_sites.proofs.SiteLemmas.{root_holds}
 
 module _ (o : Office) (s : Site) (rules : List Rule) (root : Content) (sets : List Changes) (is : setting rules root sets ≡ setting_by_position o s) where
   pub members_counted : length sets ≡ length s.members

@@ -19,7 +19,7 @@ use Rattle.clr_grid.proofs.SetLemmas.{or_group, or_none}
 use Rattle.clr_grid.specs.CellSets.{Cells, is_one}
 use Rattle.clr_grid.specs.Filing.{Key, All, Wide, At, has_cell, has_key, has_key_of, keeps_number, is_filed, is_looked_at, keeps_role, keeps_wide, stays}
 use Rattle.clr_grid.specs.SpotNumbers.{has_number, number_of}
-use Rattle.clr_grid.specs.declared.row_spots.RuleSpots.{RuleSpots}
+use Rattle.clr_finders.specs.declared.row_spots.RuleSpots.{RuleSpots}
 use Rattle.clr_grid.specs.declared.side_index.SideIndex.{SideIndex}
 
 -- ---- sets

@@ -1,20 +1,19 @@
 -- What is found: the cells of some that pass, where each that passes is among them.
-use Rattle.std.proofs.Common.{◌≡◌, ◌+◌, ◌<◌, ℕ, zero, suc, Bool, true, cond, List, [], ◌∷◌, ◌++◌, map, filter, length, take, get_or, Option, Some, None, refl, sym, ap, ◌∙◌, arith}
+use Rattle.std.proofs.Common.{◌≡◌, ◌+◌, ◌<◌, ℕ, Bool, true, cond, List, [], ◌∷◌, ◌++◌, map, filter, length, take, get_or, Option, Some, None, refl, sym, ap, ◌∙◌}
 use Rattle.std.proofs.lemmas.Bool.{false≢true}
 use Rattle.std.proofs.lemmas.List.{take_more}
 use Rattle.std.proofs.lemmas.List.Elements.{filter-append}
 use Rattle.std.proofs.lemmas.List.Kept.{IsStrictlySortedBy-filter}
 use Rattle.std.specs.FinMap as finite
-use Rattle.std.specs.List.{range_with_len}
 use Rattle.std.specs.List.Sorted.{IsStrictlySortedBy}
 use Rattle.clr_rows.specs.declared.cells.CellId.{CellId}
 use Rattle.clr_rows.specs.Cells.{cell_cmp}
 use Rattle.clr_rows.proofs.CellOrder.{cell_cmp_total}
 use Rattle.clr_rules.proofs.Elements.{Among, kept_among, among_kept, same_rising}
 use Rattle.clr_grid.specs.CellSets.{is_one_of}
-use Rattle.clr_grid.specs.Sharing.{Settled, is_met_at, found_cells}
-use Rattle.clr_grid.specs.declared.row_spots.RuleSpots.{RuleSpots}
-use Rattle.clr_grid.proofs.EntryLemmas.{one_among, passing_rise, passes_in, in_passes}
+use Rattle.clr_finders.specs.Sharing.{Settled, is_met_at, found_cells}
+use Rattle.clr_finders.specs.declared.row_spots.RuleSpots.{RuleSpots}
+use Rattle.clr_finders.proofs.EntryLemmas.{one_among, passing_rise, passes_in, in_passes}
 
 -- ---- a filter in a loop
 pub kept_more : {X : Type 0} (p : X → Bool) (xs : List X) (k : ℕ) (b : Bool) (old new : List X) (d : X) → k < length xs → b ≡ p (get_or xs k d) → new ≡ old ++ cond b (get_or xs k d ∷ []) [] → old ≡ filter p (take k xs) → new ≡ filter p (take (k + 1) xs)
@@ -42,12 +41,3 @@ found_is servers settled number x cells rising all =
         go : (o : Option (List RuleSpots)) → finite.get settled q ≡ o → is_met_at servers x number o ≡ true → Among q (map (λ (e : CellId × List RuleSpots). e.0) (filter (λ e. is_met_at servers x number (Some e.1)) (finite.entries settled)))
         go None e f = absurd (false≢true f)
         go (Some ys) e f = passes_in (λ e. is_met_at servers x number (Some e.1)) settled q ys e f
-
--- ---- lists by number
-counted_next : {X : Type 0} (f : ℕ → X) (from n m : ℕ) → m ≡ from + n → map f (range_with_len from (suc n)) ≡ map f (range_with_len from n) ++ f m ∷ []
-counted_next f from zero m is = let same : from ≡ m = omega arith in ap (λ k. f k ∷ []) same
-counted_next f from (suc n) m is = ap (λ ys. f from ∷ ys) (counted_next f (from + 1) n m (omega arith))
-
-pub counted_more : {X : Type 0} (f : ℕ → X) (n m : ℕ) (old new : List X) (x : X) → m ≡ n + 1 → old ≡ map f (range_with_len 0 n) → new ≡ old ++ x ∷ [] → x ≡ f n → new ≡ map f (range_with_len 0 m)
-counted_more f n m old new x next is push same =
-    push ∙ ap (λ ys. ys ++ x ∷ []) is ∙ ap (λ y. map f (range_with_len 0 n) ++ y ∷ []) same ∙ sym (counted_next f 0 n n (omega arith)) ∙ ap (λ k. map f (range_with_len 0 k)) (let up : suc n ≡ m = omega arith in up)

@@ -11,7 +11,7 @@ use Rattle.clr_rows.specs.declared.cells.CellId.{CellId}
 use Rattle.clr_rows.specs.Cells.{cell_cmp}
 use Rattle.clr_rules.proofs.Elements.{any_by, some_of}
 use Rattle.clr_spots.specs.declared.spots.Spot.{Spot}
-use Rattle.clr_grid.specs.declared.row_spots.RuleSpots.{RuleSpots}
+use Rattle.clr_finders.specs.declared.row_spots.RuleSpots.{RuleSpots}
 use Rattle.clr_grid.specs.declared.side_index.SideIndex.{SideIndex}
 use Rattle.clr_grid.specs.CellSets.{Cells, is_one_of, with_cells}
 use Rattle.clr_grid.specs.Filing.{All, At, Wide, has_cell}

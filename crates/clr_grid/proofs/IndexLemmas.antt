@@ -18,8 +18,8 @@ use Rattle.clr_rules.proofs.Elements.{some_of, any_by}
 use Rattle.clr_grid.specs.CellSets.{is_one, is_one_of}
 use Rattle.clr_grid.specs.Filing.{Key, All, Wide, At, has_key, is_filed, is_filed_under, is_looked_at, side_of, keeps_number, keeps_role, keeps_wide, same_side, of_side, spots_at, stays, IsFiled, IsFiledToo, AreFiled, AreOfRows, AreGone, GainNone, GainOnly, HasRowFor, HoldCells, AllHoldCells, StayFiled, StayFiledBut, AreNear, has_key_of, has_key_under}
 use Rattle.clr_grid.specs.RowMaps.{Rows, RowOrNone, IsRowAt, no_rows, with_pending, with_row, with_settled, without_pending}
-use Rattle.clr_grid.specs.Sharing.{are_meeting, is_met, is_met_at}
-use Rattle.clr_grid.specs.declared.row_spots.RuleSpots.{RuleSpots}
+use Rattle.clr_finders.specs.Sharing.{are_meeting, is_met, is_met_at}
+use Rattle.clr_finders.specs.declared.row_spots.RuleSpots.{RuleSpots}
 use Rattle.clr_grid.specs.declared.rule_index.RuleIndex.{RuleIndex}
 use Rattle.clr_grid.specs.SpotNumbers.{has_number, number_of}
 use Rattle.clr_grid.proofs.FilingLemmas.{number_itself}

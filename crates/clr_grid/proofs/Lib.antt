@@ -1,4 +1,3 @@
-pub mod EntryLemmas
 pub mod FoundLemmas
 pub mod MapLemmas
 pub mod SetLemmas
@@ -6,4 +5,3 @@ pub mod SpotLemmas
 pub mod FilingLemmas
 pub mod GainLemmas
 pub mod IndexLemmas
-pub mod SharingLemmas

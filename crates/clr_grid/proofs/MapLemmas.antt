@@ -15,8 +15,8 @@ use Rattle.clr_rows.specs.Cells.{cell_cmp}
 use Rattle.clr_rows.proofs.CellOrder.{cell_cmp_total, cell_cmp_exact}
 use Rattle.clr_grid.specs.CellSets.{is_one_of}
 use Rattle.clr_grid.specs.RowMaps.{RowOrNone, Rows, set_at, settled_of, pending_of, with_settled}
-use Rattle.clr_grid.specs.Sharing.{Settled, Pending, next_of, next_at}
-use Rattle.clr_grid.specs.declared.row_spots.RuleSpots.{RuleSpots}
+use Rattle.clr_finders.specs.Sharing.{Settled, Pending, next_of, next_at}
+use Rattle.clr_finders.specs.declared.row_spots.RuleSpots.{RuleSpots}
 
 -- what a tree has at a cell
 abbrev pub at_cell : {X : Type 0} → List (CellId × X) → CellId → Option X

@@ -6,7 +6,7 @@ use Rattle.std.specs.List.{list_any}
 use Rattle.clr_rows.specs.declared.cells.CellId.{CellId}
 use Rattle.std.specs.Ordering.{nat_cmp}
 use Rattle.clr_grid.specs.CellSets.{Cells, is_one, is_one_of}
-use Rattle.clr_grid.specs.declared.row_spots.RuleSpots.{RuleSpots}
+use Rattle.clr_finders.specs.declared.row_spots.RuleSpots.{RuleSpots}
 use Rattle.clr_grid.specs.declared.side_index.SideIndex.{SideIndex}
 use Rattle.clr_grid.specs.declared.rule_index.RuleIndex.{RuleIndex}
 use Rattle.clr_grid.specs.RowMaps.{Rows, IsRowAt}

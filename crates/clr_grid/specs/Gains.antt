@@ -4,7 +4,7 @@ use Rattle.std.specs.FinSet as set
 use Rattle.clr_rows.specs.declared.cells.CellId.{CellId}
 use Rattle.clr_grid.specs.CellSets.{Cells}
 use Rattle.clr_grid.specs.Filing.{Key, is_filed, is_looked_at}
-use Rattle.clr_grid.specs.declared.row_spots.RuleSpots.{RuleSpots}
+use Rattle.clr_finders.specs.declared.row_spots.RuleSpots.{RuleSpots}
 use Rattle.clr_grid.specs.declared.side_index.SideIndex.{SideIndex}
 
 -- the later set has the cells of the earlier one, and besides them allowed ones alone

@@ -6,9 +6,9 @@ use Rattle.std.specs.FinMap as finite
 use Rattle.std.specs.Option.{option_flatten}
 use Rattle.clr_rows.specs.declared.cells.CellId.{CellId}
 use Rattle.clr_rows.specs.Cells.{cell_cmp, coded_cell}
-use Rattle.clr_grid.specs.contracts.row_spots.RuleSpots as spots_type
-use Rattle.clr_grid.specs.declared.row_spots.RuleSpots.{RuleSpots}
-use Rattle.clr_grid.specs.Sharing.{Settled, Pending}
+use Rattle.clr_finders.specs.contracts.row_spots.RuleSpots as spots_type
+use Rattle.clr_finders.specs.declared.row_spots.RuleSpots.{RuleSpots}
+use Rattle.clr_finders.specs.Sharing.{Settled, Pending}
 
 -- a row that is to stand, or none
 abbrev pub RowOrNone : Type 0

@@ -1,3 +1,5 @@
+//! Sets of cells.
+
 ghost use Rattle.std.specs.Prelude.{◌≡◌, ◌⊎◌, ◌||◌, ◌&&◌, true, false, option_to_list, OnOk, OnErr, IfOk};
 ghost use Rattle.std.specs.FinSet as set;
 ghost use Rattle.std.specs.List.Sorted.{IsStrictlySortedBy};

@@ -4,11 +4,10 @@ ghost use Rattle.std.specs.Prelude.{◌≡◌, ◌<◌, ◌∷◌, [], length, I
 ghost use Rattle.clr_rows.specs.Held.{held_of};
 ghost use Rattle.clr_rules.specs.Books.{FitTogether};
 ghost use Rattle.clr_grid.specs.RowMaps.{no_rows};
-ghost use Rattle.clr_grid.specs.Sharing.{found_cells, rule_spots};
+ghost use Rattle.clr_finders.specs.Sharing.{found_cells, rule_spots};
 
-use crate::finders::RowFinder;
 use crate::row_maps::RowMap;
-use crate::row_spots::{RuleSpots, row_spots_at};
+use clr_finders::{RowFinder, RuleSpots, row_spots_at};
 use clr_rows::{CellId, Held, Row};
 use clr_rules::RuleBook;
 use std::alloc::{AllocError, Global};
@@ -65,6 +64,10 @@ impl RowFinder for ListFinder {
     ghost settled = { λ finder. finder.settled };
 
     ghost pending = { λ finder. finder.pending };
+
+    fn without_rows(alloc: Global) -> ListFinder {
+        ListFinder::new(alloc)
+    }
 
     fn sharing(&self, book: &RuleBook, rule: u16, held: Held) -> Result<Vec<CellId>, AllocError> {
         self.find(book, rule, held, false)

@@ -9,10 +9,9 @@ ghost use Rattle.clr_rows.specs.Cells.{cell_cmp};
 ghost use Rattle.clr_rows.specs.declared.cells.CellId.{CellId as Cell};
 ghost use Rattle.clr_grid.specs.CellSets.{is_one_of};
 ghost use Rattle.clr_grid.specs.RowMaps.{no_rows, settled_of, with_row, with_settled, without_pending};
-ghost use Rattle.clr_grid.specs.Sharing.{found_cells, is_met_at, next_at};
+ghost use Rattle.clr_finders.specs.Sharing.{found_cells, is_met_at, next_at};
 
-use crate::meetings::is_met;
-use crate::row_spots::{RowSpots, RuleSpots};
+use clr_finders::{RowSpots, RuleSpots, is_met};
 use clr_rows::CellId;
 use std::alloc::{AllocError, Global};
 use std::collections::BTreeMap;

@@ -10,8 +10,8 @@ ghost use Rattle.clr_grid.specs.Filing.{AllHoldCells, AreGone, AreNear, GainNone
 ghost use Rattle.clr_grid.specs.Filing.{is_filed, is_filed_under, is_looked_at, of_side, side_of, spots_at, stays};
 
 use crate::cell_sets::CellSet;
-use crate::row_spots::{RowSpots, RuleSpots};
 use crate::side_index::SideIndex;
+use clr_finders::{RowSpots, RuleSpots};
 use clr_rows::CellId;
 use std::alloc::{AllocError, Global};
 

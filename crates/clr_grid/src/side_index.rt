@@ -1,3 +1,5 @@
+//! The cells of the rows of one side of a rule, filed by the numbers of their spots.
+
 ghost use Rattle.std.specs.Prelude.{◌≡◌, ◌⊎◌, ◌||◌, ◌&&◌, ℕ, not, true, false, IfOk, OnOk, OnErr, Some, None, IsSome, is_some, unwrap_or, if◌then◌else◌};
 ghost use Rattle.std.specs.BTreeMap.{get, is_at};
 ghost use Rattle.std.specs.FinSet as set;
@@ -11,9 +13,9 @@ ghost use Rattle.clr_grid.specs.Filing.{HoldCells, Key, has_cell, has_key, has_k
 ghost use Rattle.clr_grid.specs.SpotNumbers.{has_number, number_of};
 
 use crate::cell_sets::CellSet;
-use crate::row_spots::RuleSpots;
 use crate::spot_cells::SpotCells;
 use crate::spot_numbers::{have_number, number_of};
+use clr_finders::RuleSpots;
 use clr_rows::CellId;
 use clr_spots::Spot;
 use std::alloc::{AllocError, Global};

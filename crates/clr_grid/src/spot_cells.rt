@@ -1,3 +1,5 @@
+//! The cells at one number of spots.
+
 ghost use Rattle.std.specs.Prelude.{◌≡◌, ◌||◌, ◌&&◌, not, true, false, option_to_list, OnOk, OnErr};
 ghost use Rattle.std.specs.FinSet as set;
 ghost use Rattle.std.specs.Ordering.{eq_by_cmp};

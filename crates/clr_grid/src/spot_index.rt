@@ -5,12 +5,11 @@ ghost use Rattle.std.specs.FinMap as finite;
 ghost use Rattle.clr_rows.specs.Held.{held_of};
 ghost use Rattle.clr_rules.specs.Books.{FitTogether};
 ghost use Rattle.clr_grid.specs.RowMaps.{no_rows, with_pending, with_row, with_settled, without_pending};
-ghost use Rattle.clr_grid.specs.Sharing.{found_cells, row_spots, rule_spots};
+ghost use Rattle.clr_finders.specs.Sharing.{found_cells, row_spots, rule_spots};
 
-use crate::finders::RowFinder;
 use crate::row_maps::RowMap;
-use crate::row_spots::{RowSpots, RuleSpots, row_spots_at};
 use crate::rule_index::{RuleIndex, cells_near, file_row, unfile_row};
+use clr_finders::{RowFinder, RowSpots, RuleSpots, row_spots_at};
 use clr_rows::{CellId, Held, Row};
 use clr_rules::RuleBook;
 use std::alloc::{AllocError, Global};
@@ -139,6 +138,10 @@ impl RowFinder for SpotIndex {
     ghost settled = { λ finder. finder.settled };
 
     ghost pending = { λ finder. finder.pending };
+
+    fn without_rows(alloc: Global) -> SpotIndex {
+        SpotIndex::new(alloc)
+    }
 
     fn sharing(&self, book: &RuleBook, rule: u16, held: Held) -> Result<Vec<CellId>, AllocError> {
         self.find(book, rule, held, false)

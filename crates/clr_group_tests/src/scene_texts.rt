@@ -6,8 +6,8 @@ ghost use Rattle.clr_foot.specs.Scenes.{IsReady, model_of, setting_of};
 ghost use Rattle.clr_groups.specs.Groups.{AreGroups};
 
 use crate::memory::answer;
+use clr_finders::RowFinder;
 use clr_foot::Scene;
-use clr_grid::RowFinder;
 use clr_groups::groups;
 use clr_hoard::Hoard;
 use clr_rows::RowView;

@@ -1,14 +1,14 @@
 //! What is said of the members of a root, by names.
 
 ghost use Rattle.std.specs.Prelude.{◌≡◌, map};
-ghost use Rattle.clr_check.specs.SiteNames.{site};
-ghost use Rattle.clr_check.specs.Sites.{AreOfSite, AreParts};
+ghost use Rattle.clr_sites.specs.SiteNames.{site};
+ghost use Rattle.clr_sites.specs.Sites.{AreOfSite, AreParts};
 
 use crate::scene_texts::scene_text;
-use clr_check::{SiteParts, read_site};
 use clr_engine::Office;
 use clr_groups::groups;
 use clr_hoard::Hoard;
+use clr_sites::{SiteParts, read_site};
 use std::alloc::{AllocError, Global};
 
 /// What is said of the scene that the parts of a site make; nothing where two members change one cell.

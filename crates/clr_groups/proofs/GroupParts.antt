@@ -4,7 +4,7 @@ use Rattle.std.proofs.Common.{All, ◌<◌, ◌≤◌, ℕ, List, [], ◌∷◌,
 use Rattle.std.proofs.lemmas.Map.Views.{length-le_from_below}
 use Rattle.clr_rules.specs.Books.{FitsCell}
 use Rattle.clr_rules.proofs.Elements.{Among, contained}
-use Rattle.clr_grid.specs.Sharing.{Settled}
+use Rattle.clr_finders.specs.Sharing.{Settled}
 use Rattle.clr_needs.specs.declared.limits.TheConstants.{MOST_MEMBERS}
 use Rattle.clr_needs.specs.Members.{AreApart}
 use Rattle.clr_foot.specs.Scenes.{model_at, IsReady, SceneModel, setting_of}

@@ -7,8 +7,8 @@ ghost use Rattle.clr_needs.specs.declared.limits.TheConstants.{MOST_MEMBERS};
 ghost use Rattle.clr_foot.specs.Scenes.{IsReady, model_of, setting_of};
 ghost use Rattle.clr_groups.specs.Labels.{AreBelow, AreLabels, AreMoved, AreNotedBelow, IsNoted, label, moved_label};
 
+use clr_finders::RowFinder;
 use clr_foot::Scene;
-use clr_grid::RowFinder;
 use clr_needs::Need;
 use clr_rows::RowView;
 use std::alloc::{AllocError, Global};

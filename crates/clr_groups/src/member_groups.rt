@@ -9,8 +9,8 @@ ghost use Rattle.clr_groups.specs.Groups.{AreGroups};
 ghost use Rattle.clr_groups.specs.Labels.{AreGroupsBy, IsLabelled};
 
 use crate::labels::labels_of;
+use clr_finders::RowFinder;
 use clr_foot::Scene;
-use clr_grid::RowFinder;
 use clr_rows::RowView;
 use std::alloc::{AllocError, Global};
 

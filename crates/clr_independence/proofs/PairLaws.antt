@@ -9,7 +9,7 @@ use Rattle.std.proofs.lemmas.List.Elements.{Contains-append_cases}
 use Rattle.clr_rules.proofs.Elements.{among}
 use Rattle.clr_needs.specs.declared.needs.Need.{Need}
 use Rattle.clr_needs.specs.Settings.{Setting}
-use Rattle.clr_check.specs.Entries.{IsTold}
+use Rattle.clr_sites.specs.Told.{IsTold}
 use Rattle.clr_independence.specs.declared.member_pairs.Pair.{Pair}
 use Rattle.clr_independence.specs.Pairs.{AddsPairs, AreAscending, AreNeedsOf, ArePairs, IsApart, IsPairOf, ShareOne, members_of, pairs_below, pairs_with}
 use Rattle.clr_independence.proofs.NeedLaws.{pair_is_independent}

@@ -6,16 +6,16 @@ ghost use Rattle.clr_steps.specs.Offices.{Office};
 ghost use Rattle.clr_steps.specs.Quiet.{Site};
 ghost use Rattle.clr_clearance.specs.Sites.{change_sets};
 ghost use Rattle.clr_clearance.specs.Verdicts.{member_fault};
-ghost use Rattle.clr_check.specs.Answers.{IsFault};
-ghost use Rattle.clr_check.specs.SiteNames.{site};
-ghost use Rattle.clr_check.specs.Sites.{AreParts};
+ghost use Rattle.clr_sites.specs.Faults.{IsFault};
+ghost use Rattle.clr_sites.specs.SiteNames.{site};
+ghost use Rattle.clr_sites.specs.Sites.{AreParts};
 ghost use Rattle.clr_independence.specs.Independences.{IsIndependenceOf};
 
 use crate::member_pairs::{Pair, pairs};
-use clr_check::{SiteParts, read_site};
 use clr_clearance::Verdict;
 use clr_engine::Office;
 use clr_needs::SceneFault;
+use clr_sites::{SiteParts, read_site};
 use std::alloc::{AllocError, Global};
 
 /// Which members of a root are independent, or why it can't be said.

@@ -4,11 +4,11 @@ ghost use Rattle.std.specs.Prelude.{◌≡◌, ◌<◌, ◌≤◌, length, map, 
 ghost use Rattle.std.specs.List.Sorted.{IsStrictlySortedBy};
 ghost use Rattle.clr_needs.specs.Orders.{need_cmp};
 ghost use Rattle.clr_foot.specs.Scenes.{IsReady, model_of, setting_of};
-ghost use Rattle.clr_check.specs.Entries.{IsTold};
+ghost use Rattle.clr_sites.specs.Told.{IsTold};
 ghost use Rattle.clr_independence.specs.Pairs.{AreNeedsOf, ShareOne};
 
+use clr_finders::RowFinder;
 use clr_foot::Scene;
-use clr_grid::RowFinder;
 use clr_needs::Need;
 use clr_rows::RowView;
 use std::alloc::{AllocError, Global};

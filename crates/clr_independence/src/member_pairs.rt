@@ -5,8 +5,8 @@ ghost use Rattle.clr_foot.specs.Scenes.{IsReady, model_of, setting_of};
 ghost use Rattle.clr_independence.specs.Pairs.{AddsPairs, AreAscending, ArePairs};
 
 use crate::member_needs::{needs_of_members, share_one};
+use clr_finders::RowFinder;
 use clr_foot::Scene;
-use clr_grid::RowFinder;
 use clr_needs::Need;
 use clr_rows::RowView;
 use std::alloc::{AllocError, Global};

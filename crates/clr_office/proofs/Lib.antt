@@ -1,5 +1,4 @@
 pub mod CaseTexts
-pub mod Lines
 pub mod OneOutcome
 pub mod OneSession
 pub mod Outcomes

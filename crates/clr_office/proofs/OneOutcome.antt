@@ -23,8 +23,8 @@ use Rattle.clr_clearance.proofs.OneAnswerLemmas.{one_start}
 use Rattle.clr_clearance.proofs.VerdictLemmas.{not_apart, not_both, one_verdict}
 use Rattle.clr_cert.specs.declared.certificates.Certificate.{Certificate}
 use Rattle.clr_check.specs.Answers.{IsAnswer, of_memory, of_verdict}
-use Rattle.clr_check.specs.Certificates.{entries_in, site_of}
-use Rattle.clr_check.specs.SiteNames.{site}
+use Rattle.clr_sites.specs.Certificates.{entries_in, site_of}
+use Rattle.clr_sites.specs.SiteNames.{site}
 use Rattle.clr_verdict_lines.specs.Verdicts.{verdict_text}
 use Rattle.clr_independence.specs.declared.independences.Independence.{Independence}
 use Rattle.clr_independence.specs.declared.independences.Independence.TheVariants as said

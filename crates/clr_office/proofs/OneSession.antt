@@ -5,7 +5,7 @@ use Rattle.clr_rules.specs.declared.needs.Broken.{Broken}
 use Rattle.clr_steps.specs.Offices.{Office}
 use Rattle.clr_engine.specs.Drafts.{unheld_in}
 use Rattle.clr_cert.specs.declared.certificates.Certificate.{Certificate}
-use Rattle.clr_check.specs.SiteNames.{site}
+use Rattle.clr_sites.specs.SiteNames.{site}
 use Rattle.clr_check_texts.specs.Cases.{Case, case_of}
 use Rattle.clr_drafts.specs.Drafts.{draft_in}
 use Rattle.clr_office_text.specs.declared.faults.TextFault.{TextFault}
@@ -19,7 +19,7 @@ use Rattle.clr_office.specs.Clearances.{IsMergeOutcome, IsPrintOfCase, IsVerdict
 use Rattle.clr_office.specs.OneSession.{FoundMemory, OneAnswerLaw, OneSessionLaw}
 use Rattle.clr_office.specs.Outcomes.{Outcome}
 use Rattle.clr_office.specs.Printing.{ArePrinted, IsPrintIn, IsPrintOf, IsPrintWhereHeld, IsScriptPrint, Printed, print_of, status_of}
-use Rattle.clr_office.specs.Separator.{around_separator}
+use Rattle.clr_devices.specs.Separator.{around_separator}
 use Rattle.clr_office.specs.Session.{IsSessionOf}
 use Rattle.clr_office.proofs.OneOutcome.{IsOne, one_check, one_merge, one_planned, one_script}
 

@@ -1,6 +1,6 @@
 -- An input without a separator.
 use Rattle.std.proofs.Common.{◌≡◌, ℕ, List, None, Err, refl, subst}
-use Rattle.clr_office.specs.Separator.{around_separator}
+use Rattle.clr_devices.specs.Separator.{around_separator}
 use Rattle.clr_office.specs.Session.{IsSession, IsSessionOf}
 use Rattle.clr_office.specs.declared.faults.RunFault.TheVariants as run_fault
 

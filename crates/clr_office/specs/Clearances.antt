@@ -13,7 +13,7 @@ use Rattle.clr_clearance.specs.Plans.{merges}
 use Rattle.clr_clearance.specs.Verdicts.{IsVerdict}
 use Rattle.clr_cert.specs.declared.certificates.Certificate.{Certificate}
 use Rattle.clr_check.specs.Answers.{IsRefusal}
-use Rattle.clr_check.specs.Certificates.{entries_in, site_of}
+use Rattle.clr_sites.specs.Certificates.{entries_in, site_of}
 use Rattle.clr_check_texts.specs.Cases.{Case}
 use Rattle.clr_check_texts.specs.Checks.{IsJudged}
 use Rattle.clr_check_texts.specs.declared.cases.CaseFault.{CaseFault}

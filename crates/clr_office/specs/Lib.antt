@@ -1,9 +1,7 @@
 pub mod Answers
 pub mod Clearances
-pub mod Devices
 pub mod Input
 pub mod OneSession
 pub mod Outcomes
 pub mod Printing
-pub mod Separator
 pub mod Session

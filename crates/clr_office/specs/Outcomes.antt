@@ -13,7 +13,7 @@ use Rattle.clr_steps.specs.Offices.{Office, content_of, stands}
 use Rattle.clr_steps.specs.Quiet.{Site}
 use Rattle.clr_steps.specs.Readings.{changes_in, conflicts_in}
 use Rattle.clr_steps.specs.Steps.{TakesNoMemory, step_or_lost}
-use Rattle.clr_check.specs.SiteNames.{site}
+use Rattle.clr_sites.specs.SiteNames.{site}
 use Rattle.clr_independence.specs.declared.independences.Independence.{Independence}
 use Rattle.clr_independence.specs.declared.independences.Independence.TheVariants as said
 use Rattle.clr_independence.specs.Independences.{IsIndependenceOf}

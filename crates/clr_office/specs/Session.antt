@@ -5,7 +5,7 @@ use Rattle.clr_command_line.specs.declared.asks.Ask.TheVariants as ask
 use Rattle.clr_office.specs.Answers.{IsAnswerWithin}
 use Rattle.clr_office.specs.Input.{GivesInput, GivesTooMuch}
 use Rattle.clr_office.specs.Printing.{Printed}
-use Rattle.clr_office.specs.Separator.{around_separator}
+use Rattle.clr_devices.specs.Separator.{around_separator}
 use Rattle.clr_office.specs.declared.faults.RunFault.{RunFault}
 use Rattle.clr_office.specs.declared.faults.RunFault.TheVariants as run_fault
 

@@ -1,7 +1,7 @@
 //! Answers to what is asked of one or two texts.
 
 ghost use Rattle.std.specs.Prelude.{◌≡◌, ◌≢◌, false, IfOk, IfErr};
-ghost use Rattle.clr_check.specs.SiteNames.{site};
+ghost use Rattle.clr_sites.specs.SiteNames.{site};
 ghost use Rattle.clr_command_line.specs.declared.asks.Ask.TheVariants as ask;
 ghost use Rattle.clr_drafts.specs.Drafts.{draft_in};
 ghost use Rattle.clr_office.specs.Answers.{IsAnswer, IsAnswerTo, IsAnswerWithin, IsPlanPrint, audit_of, audit_print};
@@ -9,7 +9,6 @@ ghost use Rattle.clr_office.specs.Printing.{IsMade, IsPrintIn, print_of};
 ghost use Rattle.clr_office.specs.declared.faults.RunFault.TheVariants as run_fault;
 
 use crate::certificates::{check_output, fault_output};
-use crate::devices::Sink;
 use crate::faults::RunFault;
 use crate::merges::merge_members;
 use crate::offices::{draft_of, open_office};
@@ -20,6 +19,7 @@ use crate::run_script::run_text;
 use clr_audit::audit;
 use clr_check_texts::read_case;
 use clr_command_line::Ask;
+use clr_devices::Sink;
 use clr_engine::Draft;
 use clr_lines::audit_lines;
 use clr_rows::{LIVE, Words};

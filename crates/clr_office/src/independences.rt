@@ -1,7 +1,7 @@
 //! Which members are independent, where they are given by their names.
 ghost use Rattle.std.specs.Prelude.{◌≡◌, not, IfOk};
 ghost use Rattle.std.specs.List.{list_any};
-ghost use Rattle.clr_check.specs.SiteNames.{site};
+ghost use Rattle.clr_sites.specs.SiteNames.{site};
 ghost use Rattle.clr_office.specs.Outcomes.{IsIndependenceOutcome, has_dependence, outcome_of};
 
 use crate::outputs::Output;

@@ -38,28 +38,24 @@
 //!   answered in its place; and the lines of parts, `verdict_output`, `fault_output`,
 //!   `replies_output`, `stop_output` and `dump_text`, by which what such a program prints is the
 //!   same. `merge_commands`, `texts`.
-//! - `Text` and `Page`, over memory, tell their bytes; a `put` within the room of a page succeeds.
-//!   `Port` is over any reader or writer of `std`, and tells what that one tells.
+//! - `Source`, `Sink`, `Text`, `Page` and `Port`, what a run reads from and writes to, are those of
+//!   `clr_devices`.
 #![tactic(auto)]
 
 mod answers;
 mod certificates;
-mod devices;
 mod faults;
 mod independences;
 mod laws;
-mod memory;
 mod merges;
 mod offices;
 mod outputs;
 mod plans;
-mod ports;
 mod reading;
 mod replies;
 mod reports;
 mod run;
 mod run_script;
-mod separator;
 
 pub use answers::answer;
 pub use certificates::{fault_output, verdict_output};
@@ -67,20 +63,18 @@ pub use clr_cert::{CertFault, Certificate, Entries, Entry};
 pub use clr_check_texts::{Checked, check_texts};
 pub use clr_clearance::Verdict;
 pub use clr_command_line::{Ask, AskFault, ask_of};
+pub use clr_devices::{DeviceFault, Page, Port, Sink, Source, Text};
 pub use clr_needs::{Need, VersionId};
 pub use clr_plan::Plan;
 pub use clr_rows::{CellId, Names, Words};
 pub use clr_rules::Broken;
 pub use clr_texts::{RecordFault, TextFault};
-pub use devices::{DeviceFault, Sink, Source};
 pub use faults::RunFault;
 pub use laws::inputs_have_one_session;
-pub use memory::{Page, Text};
 pub use merges::{merge_commands, replies_output, stop_output};
 pub use offices::open_office;
 pub use outputs::Output;
 pub use plans::texts;
-pub use ports::Port;
 pub use reading::{MOST_INPUT_BYTES, read_input};
 pub use reports::dump_text;
 pub use run::run_office;

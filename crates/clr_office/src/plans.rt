@@ -1,6 +1,6 @@
 //! Plans of members, which are given by their names.
 ghost use Rattle.std.specs.Prelude.{◌≡◌, map, IfOk};
-ghost use Rattle.clr_check.specs.SiteNames.{site};
+ghost use Rattle.clr_sites.specs.SiteNames.{site};
 ghost use Rattle.clr_plan.specs.Promises.{is_cleared as is_cleared_plan, is_out_of_memory as is_lost_plan};
 ghost use Rattle.clr_office.specs.Outcomes.{IsPlanOutcome, outcome_of};
 

@@ -3,8 +3,8 @@
 ghost use Rattle.std.specs.Prelude.{◌≡◌, ◌<◌, false, vec_len, IfOk, IfErr};
 ghost use Rattle.clr_office.specs.Input.{GivesInput, IsReadFault};
 
-use crate::devices::Source;
 use crate::faults::RunFault;
+use clr_devices::Source;
 use std::alloc::{AllocError, Global};
 
 /// The most bytes of an input.

@@ -5,10 +5,9 @@ ghost use Rattle.clr_office.specs.Session.{Answers};
 ghost use Rattle.clr_office.specs.declared.faults.RunFault.TheVariants as run_fault;
 
 use crate::answers::answer_run;
-use crate::devices::{Sink, Source};
 use crate::faults::RunFault;
 use crate::reading::read_input;
-use crate::separator::split_at_separator;
+use clr_devices::{Sink, Source, split_at_separator};
 use std::alloc::Global;
 
 /// Reads an office text, a separator line and a script to the end of the reader, writes the lines

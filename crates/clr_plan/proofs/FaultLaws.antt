@@ -16,7 +16,7 @@ use Rattle.clr_clearance.specs.declared.verdicts.Verdict.TheVariants as verdict
 use Rattle.clr_clearance.specs.Plans.{IsBlocked, IsUnfit, of_conflict, of_shared, of_unpicked}
 use Rattle.clr_clearance.specs.Sites.{change_sets, setting_by_position}
 use Rattle.clr_clearance.specs.Verdicts.{first_conflict, first_repeated, member_fault, missing_member, name_fault, repeated_member, root_fault, stray_member}
-use Rattle.clr_check.specs.Answers.{IsFault, of_member, without_memory}
+use Rattle.clr_sites.specs.Faults.{IsFault, of_member, without_memory}
 use Rattle.clr_plan.specs.declared.plans.Plan.{Plan}
 use Rattle.clr_plan.specs.declared.plans.Plan.TheVariants as plan
 use Rattle.clr_plan.specs.Plans.{IsBlockedIn, IsPlan, IsScenePlan}

@@ -7,7 +7,7 @@ use Rattle.clr_steps.specs.Offices.{Office}
 use Rattle.clr_steps.specs.Quiet.{Site}
 use Rattle.clr_clearance.proofs.OneAnswerLemmas.{one_blocked, one_cleared, one_kind, one_unfit}
 use Rattle.clr_clearance.specs.declared.verdicts.Verdict.TheVariants as verdict
-use Rattle.clr_check.specs.Certificates.{entries_in, site_of, witnesses_of}
+use Rattle.clr_sites.specs.Certificates.{entries_in, site_of, witnesses_of}
 use Rattle.clr_plan.specs.declared.plans.Plan.{Plan}
 use Rattle.clr_plan.specs.declared.plans.Plan.TheVariants as plan
 use Rattle.clr_plan.specs.OnePlan.{OnePlanLaw}

@@ -20,7 +20,7 @@ use Rattle.clr_clearance.proofs.LastingLemmas.{lasting_reordered}
 use Rattle.clr_clearance.proofs.PlanLemmas as plans
 use Rattle.clr_plan.specs.declared.plans.Plan.{Plan}
 use Rattle.clr_plan.specs.declared.plans.Plan.TheVariants as plan
-use Rattle.clr_check.specs.Certificates.{entries_in}
+use Rattle.clr_sites.specs.Certificates.{entries_in}
 use Rattle.clr_plan.specs.Plans.{IsPlan}
 use Rattle.clr_plan.specs.Promises.{IsExact, IsUnfitWhere, Lasts, Promises, is_cleared, is_out_of_memory}
 use Rattle.clr_plan.proofs.FaultLaws.{no_name_fault}

@@ -2,7 +2,7 @@
 use Rattle.std.specs.Prelude.{◌≡◌, ℕ, List, Some, map, slice_get}
 use Rattle.std.specs.Ordering.{nat_cmp, ordering_then}
 use Rattle.std.specs.declared.cmp.Ordering.{Ordering}
-use Rattle.clr_grid.specs.Sharing.{Settled}
+use Rattle.clr_finders.specs.Sharing.{Settled}
 use Rattle.clr_needs.specs.Needs.{IsTouched}
 use Rattle.clr_needs.specs.Orders.{need_cmp}
 use Rattle.clr_foot.specs.Scenes.{model_at, IsReady, SceneModel, setting_of}

@@ -10,7 +10,7 @@ use Rattle.clr_clearance.specs.declared.verdicts.Verdict.{Verdict}
 use Rattle.clr_clearance.specs.declared.verdicts.Verdict.TheVariants as verdict
 use Rattle.clr_clearance.specs.Plans.{ArePicked, IsBlocked, IsCleared, IsFirstUnpicked, IsUnfit}
 use Rattle.clr_clearance.specs.Verdicts.{name_fault}
-use Rattle.clr_check.specs.Certificates.{entries_in, site_of}
+use Rattle.clr_sites.specs.Certificates.{entries_in, site_of}
 use Rattle.clr_plan.specs.declared.plans.Plan.{Plan}
 use Rattle.clr_plan.specs.declared.plans.Plan.TheVariants as plan
 

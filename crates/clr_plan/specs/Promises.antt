@@ -14,7 +14,7 @@ use Rattle.clr_clearance.specs.Runs.{AreQuiet}
 use Rattle.clr_clearance.specs.Safety.{Safe}
 use Rattle.clr_clearance.specs.Sites.{Covers, RootHolds}
 use Rattle.clr_clearance.specs.Verdicts.{IsVerdict, name_fault, repeated_member}
-use Rattle.clr_check.specs.Certificates.{entries_in, site_of}
+use Rattle.clr_sites.specs.Certificates.{entries_in, site_of}
 use Rattle.clr_plan.specs.declared.plans.Plan.{Plan}
 use Rattle.clr_plan.specs.declared.plans.Plan.TheVariants as plan
 

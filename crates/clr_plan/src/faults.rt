@@ -6,7 +6,7 @@ ghost use Rattle.clr_steps.specs.Offices.{Office};
 ghost use Rattle.clr_steps.specs.Quiet.{Site};
 ghost use Rattle.clr_clearance.specs.Sites.{change_sets};
 ghost use Rattle.clr_clearance.specs.Verdicts.{member_fault};
-ghost use Rattle.clr_check.specs.Answers.{IsFault};
+ghost use Rattle.clr_sites.specs.Faults.{IsFault};
 ghost use Rattle.clr_plan.specs.Plans.{IsBlockedIn, IsPlan};
 
 use crate::plans::Plan;

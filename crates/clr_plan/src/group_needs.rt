@@ -6,8 +6,8 @@ ghost use Rattle.clr_foot.specs.Scenes.{IsReady, model_of, setting_of};
 ghost use Rattle.clr_plan.specs.GroupNeeds.{AreReady, IsOf, IsTouchedIn, group_need_cmp};
 ghost use Rattle.clr_plan.specs.declared.group_needs.GroupNeed.{GroupNeed as Touched};
 
+use clr_finders::RowFinder;
 use clr_foot::Scene;
-use clr_grid::RowFinder;
 use clr_needs::Need;
 use clr_rows::RowView;
 use clr_spots::put_in_order;

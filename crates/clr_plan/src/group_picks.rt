@@ -10,8 +10,8 @@ use crate::group_needs::group_needs;
 use crate::group_scenes::group_scenes;
 use crate::picked::Picked;
 use clr_cert::{Entries, Entry};
+use clr_finders::RowFinder;
 use clr_foot::Scene;
-use clr_grid::RowFinder;
 use clr_rows::RowView;
 use std::alloc::{AllocError, Global};
 

@@ -6,8 +6,8 @@ ghost use Rattle.clr_foot.specs.Scenes.{IsReady, model_of, setting_of};
 ghost use Rattle.clr_groups.specs.Groups.{AreGroups};
 ghost use Rattle.clr_plan.specs.GroupNeeds.{models_at};
 
+use clr_finders::RowFinder;
 use clr_foot::Scene;
-use clr_grid::RowFinder;
 use clr_rows::RowView;
 use std::alloc::{AllocError, Global};
 

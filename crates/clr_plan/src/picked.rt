@@ -7,8 +7,8 @@ ghost use Rattle.clr_plan.specs.Picked.{ArePickedFor};
 
 use crate::group_picks::pick_by_group;
 use clr_cert::{Entries, Entry};
+use clr_finders::RowFinder;
 use clr_foot::Scene;
-use clr_grid::RowFinder;
 use clr_groups::groups;
 use clr_needs::Need;
 use clr_rows::RowView;

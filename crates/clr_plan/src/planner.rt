@@ -2,16 +2,16 @@
 
 ghost use Rattle.std.specs.Prelude.{map};
 ghost use Rattle.clr_steps.specs.Quiet.{Site};
-ghost use Rattle.clr_check.specs.SiteNames.{site};
-ghost use Rattle.clr_check.specs.Sites.{AreParts};
+ghost use Rattle.clr_sites.specs.SiteNames.{site};
+ghost use Rattle.clr_sites.specs.Sites.{AreParts};
 ghost use Rattle.clr_plan.specs.Plans.{IsPlan};
 ghost use Rattle.clr_plan.specs.Promises.{IsExact, IsUnfitWhere, Lasts, Promises};
 
 use crate::faults::{plan_fault, plan_shared};
 use crate::plans::Plan;
 use crate::scene_plans::plan_scene;
-use clr_check::{SiteParts, read_site};
 use clr_engine::Office;
+use clr_sites::{SiteParts, read_site};
 use std::alloc::Global;
 
 /// The plan that the parts of a site decide.

@@ -1,7 +1,7 @@
 //! The features of a plan.
 
 ghost use Rattle.std.specs.Prelude.{◌≡◌, map, IfOk};
-ghost use Rattle.clr_check.specs.SiteNames.{site};
+ghost use Rattle.clr_sites.specs.SiteNames.{site};
 ghost use Rattle.clr_plan_features.specs.PlanFeatures.{AreFeatures, rows_of_root};
 
 use crate::causes::cause_cells;

@@ -1,7 +1,7 @@
 //! The report of a plan.
 
 ghost use Rattle.std.specs.Prelude.{◌≡◌, map, IfOk};
-ghost use Rattle.clr_check.specs.SiteNames.{site};
+ghost use Rattle.clr_sites.specs.SiteNames.{site};
 ghost use Rattle.clr_plan_report.specs.Reports.{IsReport, IsReportPage};
 
 use crate::causes::add_cause;

@@ -1,6 +1,6 @@
 //! Plans of members that are printed, and how they ended.
 ghost use Rattle.std.specs.Prelude.{◌≡◌, map};
-ghost use Rattle.clr_check.specs.SiteNames.{site};
+ghost use Rattle.clr_sites.specs.SiteNames.{site};
 ghost use Rattle.clr_plan.specs.Promises.{is_cleared as is_cleared_plan, is_out_of_memory as is_lost_plan};
 ghost use Rattle.clr_office.specs.Outcomes.{IsPlanned};
 

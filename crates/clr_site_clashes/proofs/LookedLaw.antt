@@ -17,7 +17,7 @@ use Rattle.clr_clearance.specs.Plans.{names_at}
 use Rattle.clr_clearance.specs.Sites.{change_sets}
 use Rattle.clr_clearance.specs.Verdicts.{member_fault}
 use Rattle.clr_clearance.proofs.ClearLemmas.{faultless, has_at}
-use Rattle.clr_check.specs.SiteNames.{site}
+use Rattle.clr_sites.specs.SiteNames.{site}
 use Rattle.clr_site_clashes.specs.Conflicts.{conflict_clash, conflict_clashes, conflict_in, conflict_of, free_positions, is_free}
 use Rattle.clr_site_clashes.specs.Laws.{AreLookedAt}
 use Rattle.clr_site_clashes.specs.SharedCells.{cell_of_two, earlier_clash, earlier_clashes, is_apart_at, is_changed_in, pair_clash, shared_cell, shared_clashes}

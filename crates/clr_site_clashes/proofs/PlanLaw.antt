@@ -27,8 +27,8 @@ use Rattle.clr_clearance.specs.Verdicts.{member_fault}
 use Rattle.clr_clearance.proofs.ClearLemmas.{no_member_fault}
 use Rattle.clr_clearance.proofs.PickLemmas.{picked_cover, unpicked_is_uncovered}
 use Rattle.clr_clearance.proofs.StaticLemmas.{apart_sets}
-use Rattle.clr_check.specs.Certificates.{entries_in}
-use Rattle.clr_check.proofs.SiteLemmas.{names_free}
+use Rattle.clr_sites.specs.Certificates.{entries_in}
+use Rattle.clr_sites.proofs.SiteLemmas.{names_free}
 use Rattle.clr_plan.specs.declared.plans.Plan.{Plan}
 use Rattle.clr_plan.specs.declared.plans.Plan.TheVariants as plan
 use Rattle.clr_plan.specs.Plans.{IsPlan}

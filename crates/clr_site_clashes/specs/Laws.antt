@@ -8,7 +8,7 @@ use Rattle.clr_needs.specs.Members.{AreApart}
 use Rattle.clr_clearance.specs.Plans.{names_at}
 use Rattle.clr_clearance.specs.Sites.{RootHolds, change_sets, setting_by_position}
 use Rattle.clr_clearance.specs.Verdicts.{member_fault}
-use Rattle.clr_check.specs.SiteNames.{site}
+use Rattle.clr_sites.specs.SiteNames.{site}
 use Rattle.clr_plan.specs.declared.plans.Plan.{Plan}
 use Rattle.clr_plan.specs.Plans.{IsPlan}
 use Rattle.clr_plan.specs.Promises.{is_cleared, is_out_of_memory}

@@ -10,7 +10,7 @@ use Rattle.clr_clearance.specs.declared.verdicts.Verdict.TheVariants as verdict
 use Rattle.clr_clearance.specs.Plans.{names_at}
 use Rattle.clr_clearance.specs.Sites.{change_sets, setting_by_position}
 use Rattle.clr_clearance.specs.Verdicts.{member_fault, name_fault}
-use Rattle.clr_check.specs.SiteNames.{site}
+use Rattle.clr_sites.specs.SiteNames.{site}
 use Rattle.clr_clashes.specs.ListedClashes.{AreSmallestClashes, ListedClash}
 use Rattle.clr_site_clashes.specs.Conflicts.{conflict_clashes, free_positions}
 use Rattle.clr_site_clashes.specs.SharedCells.{apart_positions, shared_clashes}

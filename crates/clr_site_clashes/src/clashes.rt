@@ -1,7 +1,7 @@
 //! The smallest sets of the members of a site that can't be merged together.
 ghost use Rattle.std.specs.Prelude.{◌≡◌, None, map, IfOk};
 ghost use Rattle.clr_steps.specs.Readings.{changes_in};
-ghost use Rattle.clr_check.specs.SiteNames.{site};
+ghost use Rattle.clr_sites.specs.SiteNames.{site};
 ghost use Rattle.clr_clearance.specs.Verdicts.{name_fault};
 ghost use Rattle.clr_site_clashes.specs.SiteClashes.{AreFound, IsFound};
 
@@ -11,9 +11,9 @@ use crate::pairs::pairs_of;
 use crate::places::names_at;
 use crate::site_sets::SiteClashes;
 use clr_change::ChangeSet;
-use clr_check::name_fault;
 use clr_clearance::Verdict;
 use clr_engine::Office;
+use clr_sites::name_fault;
 use std::alloc::{AllocError, Global};
 
 /// What a workspace changed, and nothing where there is none. It fails for want of memory alone.

@@ -1,16 +1,16 @@
 //! Members that break needs which nothing covers.
 ghost use Rattle.std.specs.Prelude.{◌≡◌, map, IfOk};
-ghost use Rattle.clr_check.specs.SiteNames.{site};
+ghost use Rattle.clr_sites.specs.SiteNames.{site};
 ghost use Rattle.clr_clashes.specs.ListedClashes.{clash_of as listed_of};
 ghost use Rattle.clr_site_clashes.specs.SiteClashes.{AreNeedClashes, need_clash};
 ghost use Rattle.clr_site_clashes.specs.SiteSets.{clash_of};
 
 use crate::places::numbers_at;
 use crate::site_sets::SiteClash;
-use clr_check::read_site;
 use clr_clashes::{Clash, clashes};
 use clr_clearance::Verdict;
 use clr_engine::Office;
+use clr_sites::read_site;
 use std::alloc::{AllocError, Global};
 
 /// A set of those looked at, by positions among all. It fails for want of memory alone.

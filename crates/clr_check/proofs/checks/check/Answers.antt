@@ -1,9 +1,10 @@
 use Rattle.std.proofs.Common.{subst}
-use Rattle.clr_check.specs.Answers.{IsAnswer, IsFault}
-use Rattle.clr_check.specs.Certificates.{entries_in, site_of}
-use Rattle.clr_check.specs.SiteNames.{site}
-use Rattle.clr_check.specs.Sites.{AreParts}
-use Rattle.clr_check.proofs.SiteLemmas.{clear_promises, fault_answers}
+use Rattle.clr_check.specs.Answers.{IsAnswer}
+use Rattle.clr_sites.specs.Faults.{IsFault}
+use Rattle.clr_sites.specs.Certificates.{entries_in, site_of}
+use Rattle.clr_sites.specs.SiteNames.{site}
+use Rattle.clr_sites.specs.Sites.{AreParts}
+use Rattle.clr_check.proofs.AnswerLemmas.{clear_promises, fault_answers}
 use Rattle.clr_check.proofs.checks.check.Goals as goal
 
 pub returns-in-Ok-clause-answer : goal.returns-in-Ok-clause-answer

@@ -1,5 +1,5 @@
-use Rattle.clr_check.specs.Certificates.{site_of}
-use Rattle.clr_check.proofs.NameLemmas.{none_under, under_by_parent}
+use Rattle.clr_sites.specs.Certificates.{site_of}
+use Rattle.clr_sites.proofs.NameLemmas.{none_under, under_by_parent}
 use Rattle.clr_check.proofs.quiet.is_under_other.Goals as goal
 
 pub returns-in-Some : goal.returns-in-Some

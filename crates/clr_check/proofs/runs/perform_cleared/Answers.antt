@@ -1,9 +1,8 @@
 use Rattle.std.proofs.Common.{refl}
 use Rattle.clr_clearance.specs.declared.verdicts.Verdict.TheVariants as verdict
 use Rattle.clr_clearance.proofs.RunLemmas.{cleared_run}
-use Rattle.clr_check.specs.Certificates.{entries_in, site_of}
-use Rattle.clr_check.proofs.AnswerLemmas.{clear_holds, clear_refused}
-use Rattle.clr_check.proofs.SiteLemmas.{clear_verdict}
+use Rattle.clr_sites.specs.Certificates.{entries_in, site_of}
+use Rattle.clr_check.proofs.AnswerLemmas.{clear_holds, clear_refused, clear_verdict}
 use Rattle.clr_check.proofs.runs.perform_cleared.Goals as goal
 
 pub returns-in_default-with_capacity-clause-refused : goal.returns-in_default-with_capacity-clause-refused

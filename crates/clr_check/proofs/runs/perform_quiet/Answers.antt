@@ -7,7 +7,7 @@ use Rattle.clr_steps.specs.declared.commands.Reply.{Reply}
 use Rattle.clr_steps.specs.Steps.{AreAnswers, lost_in}
 use Rattle.clr_clearance.specs.Runs.{AreQuiet}
 use Rattle.clr_clearance.proofs.CheckLemmas.{one_more}
-use Rattle.clr_check.specs.Certificates.{site_of}
+use Rattle.clr_sites.specs.Certificates.{site_of}
 use Rattle.clr_check.proofs.runs.perform_quiet.Goals as goal
 
 pub loop-command-preserved : goal.loop-command-preserved

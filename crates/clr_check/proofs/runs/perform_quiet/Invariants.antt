@@ -1,7 +1,7 @@
 use Rattle.std.proofs.Common.{◌≡◌, ◌≤◌, length, take, vec_len, vec_capacity}
 use Rattle.clr_steps.specs.Steps.{AreAnswers, lost_in}
 use Rattle.clr_clearance.specs.Runs.{AreQuiet}
-use Rattle.clr_check.specs.Certificates.{site_of}
+use Rattle.clr_sites.specs.Certificates.{site_of}
 use Rattle.clr_check.proofs.runs.perform_quiet.Given as goal
 
 -- the commands so far are quiet, and were answered

@@ -1,7 +1,7 @@
 use Rattle.std.proofs.Common.{◌≡◌, List, map, subst}
 use Rattle.std.proofs.lemmas.Result.{IfOk-weaker}
 use Rattle.clr_workspaces.specs.Marks.{Name}
-use Rattle.clr_check.specs.SiteNames.{site}
+use Rattle.clr_sites.specs.SiteNames.{site}
 use Rattle.clr_office.specs.Outcomes.{IsPlanned}
 use Rattle.clr_desk.specs.Certificates.{plan_print}
 use Rattle.clr_prints.specs.Printing.{printed}

@@ -1,6 +1,6 @@
 use Rattle.std.proofs.Common.{◌≡◌, [], filter, map, take}
 use Rattle.clr_clearance.specs.Sites.{is_child}
-use Rattle.clr_check.specs.SiteNames.{site}
+use Rattle.clr_sites.specs.SiteNames.{site}
 use Rattle.clr_desk.proofs.children.children_of.Given as goal
 
 -- the children so far

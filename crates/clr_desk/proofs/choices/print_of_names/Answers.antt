@@ -1,7 +1,7 @@
 use Rattle.std.proofs.Common.{◌≡◌, [], List, false, map, rules, subst, sym}
 use Rattle.std.proofs.lemmas.Result.{IfOk-weaker}
 use Rattle.clr_workspaces.specs.Marks.{Name}
-use Rattle.clr_check.specs.SiteNames.{site}
+use Rattle.clr_sites.specs.SiteNames.{site}
 use Rattle.clr_plan.specs.declared.plans.Plan.{Plan}
 use Rattle.clr_plan.specs.Promises.{is_cleared}
 use Rattle.clr_office.specs.Outcomes.{IsPlanned}

@@ -1,6 +1,6 @@
 use Rattle.std.proofs.Common.{◌≡◌, map, take}
 use Rattle.std.specs.List.{flat_map}
-use Rattle.clr_check.specs.SiteNames.{site}
+use Rattle.clr_sites.specs.SiteNames.{site}
 use Rattle.clr_desk.specs.Clashes.{clash_text}
 use Rattle.clr_desk.proofs.clash_lines.sets_lines.Given as goal
 

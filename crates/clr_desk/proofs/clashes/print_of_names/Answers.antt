@@ -1,6 +1,6 @@
 use Rattle.std.proofs.Common.{◌≡◌, ◌∙◌, IfOk, List, map, rules, subst}
 use Rattle.clr_workspaces.specs.Marks.{Name}
-use Rattle.clr_check.specs.SiteNames.{site}
+use Rattle.clr_sites.specs.SiteNames.{site}
 use Rattle.clr_desk.specs.Choices.{members_asked}
 use Rattle.clr_desk.specs.Clashes.{IsSitePrint}
 use Rattle.clr_prints.specs.Printing.{printed}

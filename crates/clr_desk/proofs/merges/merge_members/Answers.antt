@@ -3,7 +3,7 @@ use Rattle.std.proofs.lemmas.Result.{IfOk-weaker}
 use Rattle.clr_steps.specs.Offices.{Office}
 use Rattle.clr_clearance.specs.ClearedRuns.{IsClearedRun, IsQuietStart}
 use Rattle.clr_clearance.specs.Plans.{merges}
-use Rattle.clr_check.specs.Certificates.{site_of}
+use Rattle.clr_sites.specs.Certificates.{site_of}
 use Rattle.clr_verdict_lines.specs.Verdicts.{verdict_text}
 use Rattle.clr_office.specs.Clearances.{AreMerged}
 use Rattle.clr_desk.specs.Merges.{of_merges, of_verdict}

@@ -1,6 +1,6 @@
 use Rattle.std.proofs.Common.{◌≡◌, List, map, subst}
 use Rattle.clr_workspaces.specs.Marks.{Name}
-use Rattle.clr_check.specs.SiteNames.{site}
+use Rattle.clr_sites.specs.SiteNames.{site}
 use Rattle.clr_words.specs.WorkOrders.{IsWorkOrder}
 use Rattle.clr_desk.proofs.orders.print_of_members.Goals as goal
 

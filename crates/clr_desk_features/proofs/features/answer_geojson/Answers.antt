@@ -1,6 +1,6 @@
 use Rattle.std.proofs.Common.{◌≡◌, ◌∙◌, ◌∷◌, Some, None, ap, sym}
 use Rattle.std.specs.Option.{option_copied}
-use Rattle.clr_check.specs.SiteNames.{site}
+use Rattle.clr_sites.specs.SiteNames.{site}
 use Rattle.clr_drafts.specs.Drafts.{draft_in}
 use Rattle.clr_prints.specs.NameHints.{IsHinted}
 use Rattle.clr_prints.specs.Printing.{IsPrintIn}

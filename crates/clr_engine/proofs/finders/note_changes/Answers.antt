@@ -5,7 +5,7 @@ use Rattle.std.specs.Map.Iter.{deref_pair}
 use Rattle.std.proofs.lemmas.Map.Iter.{rest_all, rest_more}
 use Rattle.clr_rows.specs.declared.rows.Row.{Row}
 use Rattle.clr_rules.specs.Books.{FitTogether}
-use Rattle.clr_grid.specs.Sharing.{row_spots, rows_at}
+use Rattle.clr_finders.specs.Sharing.{row_spots, rows_at}
 use Rattle.clr_engine.specs.Finders.{spots_after}
 use Rattle.clr_engine.proofs.Noting.{AreLeft, all_left, next_among, next_free, none_left, one_noted}
 use Rattle.clr_engine.proofs.finders.note_changes.Goals as goal

@@ -4,7 +4,7 @@ use Rattle.std.specs.Map.Iter.{deref_pair}
 use Rattle.std.proofs.lemmas.Map.Iter.{rest_more, rest_all}
 use Rattle.clr_rows.specs.declared.cells.CellId.{CellId}
 use Rattle.clr_rows.specs.declared.cells.Change.{Change}
-use Rattle.clr_grid.proofs.FilingLemmas.{on_err}
+use Rattle.clr_spot_maps.proofs.Beginnings.{on_err}
 use Rattle.clr_foot.proofs.ChangedCells.{AreReadTo, all_read, none_read, one_read, some_read}
 use Rattle.clr_foot.proofs.members.add_cells.Goals as goal
 

@@ -1,9 +1,17 @@
-use Rattle.std.proofs.Common.{get_or}
+use Rattle.std.proofs.Common.{None, get_or, pos}
 use Rattle.clr_foot.specs.Scenes.{model_of, setting_of}
+use Rattle.clr_needs.specs.declared.needs.Need.{Need}
+use Rattle.clr_needs.specs.declared.needs.VersionId.{VersionId}
 use Rattle.clr_needs.proofs.BreakLaws.{touched_possible}
 use Rattle.clr_needs.proofs.Reading.{read_of}
-use Rattle.clr_check.proofs.JudgeLemmas.{no_need}
 use Rattle.clr_foot_tests.proofs.lines.need_lines.Goals as goal
+
+-- what a read past the end would give
+abbrev no_version : VersionId
+no_version = record { cell = record { table = 0; key = pos 0 }; fresh = false }
+
+abbrev no_need : Need
+no_need = record { rule = 0; first = no_version; second = None; first_part = 0; second_part = 0 }
 
 pub need_line-requires-clause-possible : goal.need_line-requires-clause-possible
 need_line-requires-clause-possible g c =

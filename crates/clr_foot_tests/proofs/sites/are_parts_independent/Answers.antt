@@ -1,7 +1,7 @@
 use Rattle.std.proofs.Common.{◌∙◌, ◌<◌, map, subst, sym}
 use Rattle.std.proofs.lemmas.List.{length-map}
 use Rattle.clr_foot.specs.Scenes.{model_of}
-use Rattle.clr_check.specs.SiteNames.{site}
+use Rattle.clr_sites.specs.SiteNames.{site}
 use Rattle.clr_foot_tests.proofs.SceneLemmas.{members_counted}
 use Rattle.clr_foot_tests.proofs.sites.are_parts_independent.Goals as goal
 

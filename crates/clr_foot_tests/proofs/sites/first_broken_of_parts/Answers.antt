@@ -1,7 +1,7 @@
 use Rattle.std.proofs.Common.{◌∙◌, map}
 use Rattle.std.proofs.lemmas.List.{length-map}
 use Rattle.clr_foot.specs.Scenes.{model_of}
-use Rattle.clr_check.specs.SiteNames.{site}
+use Rattle.clr_sites.specs.SiteNames.{site}
 use Rattle.clr_foot_tests.proofs.SceneLemmas.{members_counted, root_keeps_rules}
 use Rattle.clr_foot_tests.proofs.sites.first_broken_of_parts.Goals as goal
 

@@ -1,6 +1,6 @@
 use Rattle.clr_grid.specs.Filing.{GainOnly}
 use Rattle.std.proofs.Common.{◌≡◌, inl, Some, slice_get, subst, sym, arith, List}
-use Rattle.clr_grid.specs.declared.row_spots.RuleSpots.{RuleSpots}
+use Rattle.clr_finders.specs.declared.row_spots.RuleSpots.{RuleSpots}
 use Rattle.clr_grid.proofs.IndexLemmas.{filed_next, gained_next, below_it}
 use Rattle.clr_grid.proofs.rule_index.file_at_each.Goals as goal
 

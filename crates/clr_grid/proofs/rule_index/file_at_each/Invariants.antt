@@ -1,6 +1,6 @@
 use Rattle.std.proofs.Common.{◌≡◌, ◌<◌, ◌≤◌, ℕ, true, Some, slice_get, length}
 use Rattle.clr_grid.specs.Filing.{AllHoldCells, GainOnly, Key, StayFiled, has_key, is_filed_under}
-use Rattle.clr_grid.specs.declared.row_spots.RuleSpots.{RuleSpots}
+use Rattle.clr_finders.specs.declared.row_spots.RuleSpots.{RuleSpots}
 use Rattle.clr_grid.proofs.rule_index.file_at_each.Given as goal
 
 -- what was filed stays, nothing more is filed than the cell, and it is filed under the rules so far

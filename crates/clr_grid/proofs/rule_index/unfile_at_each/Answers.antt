@@ -2,7 +2,7 @@ use Rattle.std.proofs.Common.{◌≡◌, ◌∙◌, ap, sym, subst, true, inl, i
 use Rattle.std.proofs.lemmas.Bool.{cases_lt}
 use Rattle.std.specs.Option.{option_copied}
 use Rattle.clr_grid.specs.Filing.{has_key_of, has_key_under, of_side, spots_at, stays}
-use Rattle.clr_grid.specs.declared.row_spots.RuleSpots.{RuleSpots}
+use Rattle.clr_finders.specs.declared.row_spots.RuleSpots.{RuleSpots}
 use Rattle.clr_grid.proofs.IndexLemmas.{gone_next, none_under}
 use Rattle.clr_grid.proofs.rule_index.unfile_at_each.Goals as goal
 

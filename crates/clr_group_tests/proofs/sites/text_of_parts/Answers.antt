@@ -1,5 +1,5 @@
 use Rattle.std.proofs.Common.{map, refl}
-use Rattle.clr_check.specs.SiteNames.{site}
+use Rattle.clr_sites.specs.SiteNames.{site}
 use Rattle.clr_clearance.specs.Sites.{change_sets}
 use Rattle.clr_plan.proofs.FaultLaws.{apart_sets}
 use Rattle.clr_group_tests.proofs.sites.text_of_parts.Goals as goal

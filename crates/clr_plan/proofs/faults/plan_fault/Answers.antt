@@ -1,5 +1,5 @@
 use Rattle.std.proofs.Common.{subst}
-use Rattle.clr_check.specs.Answers.{IsFault}
+use Rattle.clr_sites.specs.Faults.{IsFault}
 use Rattle.clr_plan.proofs.FaultLaws.{conflict_plan, memory_fault, unfit_plan}
 use Rattle.clr_plan.proofs.faults.plan_fault.Goals as goal
 

@@ -3,7 +3,7 @@ use Rattle.std.proofs.lemmas.List.{map-append}
 use Rattle.clr_workspaces.specs.Marks.{Name}
 use Rattle.clr_clearance.specs.Plans.{names_at}
 use Rattle.clr_clearance.specs.Sites.{change_sets}
-use Rattle.clr_check.specs.SiteNames.{site}
+use Rattle.clr_sites.specs.SiteNames.{site}
 use Rattle.clr_site_clashes.specs.declared.site_sets.SiteClash.{SiteClash as Stored}
 use Rattle.clr_site_clashes.specs.Conflicts.{free_positions}
 use Rattle.clr_site_clashes.specs.SharedCells.{apart_positions, shared_clashes}

@@ -1,5 +1,5 @@
 use Rattle.std.proofs.Common.{◌∙◌, ap}
-use Rattle.clr_check.proofs.SiteLemmas.{cells_are}
+use Rattle.clr_sites.proofs.SiteLemmas.{cells_are}
 use Rattle.clr_site_clashes.specs.Conflicts.{conflict_in}
 use Rattle.clr_site_clashes.proofs.conflicts.conflict_of.Goals as goal
 

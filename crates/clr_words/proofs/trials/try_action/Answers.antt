@@ -3,7 +3,7 @@ use Rattle.std.specs.Prelude.{IfOk, IfSome, slice_get}
 use Rattle.std.specs.Option.{option_map}
 use Rattle.std.proofs.lemmas.Option.{slice_get-map, slice_get_read}
 use Rattle.std.proofs.lemmas.Result.{IfOk-weaker}
-use Rattle.clr_check.specs.SiteNames.{site}
+use Rattle.clr_sites.specs.SiteNames.{site}
 use Rattle.clr_words.specs.declared.remedies.Action.{Action}
 use Rattle.clr_words.specs.Trials.{IsTold}
 use Rattle.clr_words.proofs.TrialLemmas.{told_as}

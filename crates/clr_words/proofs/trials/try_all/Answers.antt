@@ -1,5 +1,5 @@
 use Rattle.std.proofs.Common.{map}
-use Rattle.clr_check.specs.SiteNames.{site}
+use Rattle.clr_sites.specs.SiteNames.{site}
 use Rattle.clr_words.proofs.TrialLemmas.{more_trials}
 use Rattle.clr_words.proofs.trials.try_all.Goals as goal
 

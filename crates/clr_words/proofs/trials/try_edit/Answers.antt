@@ -1,6 +1,6 @@
 use Rattle.std.proofs.Common.{◌≡◌, Bool, codes, map, rules, subst, true}
 use Rattle.clr_steps.specs.declared.commands.Command.TheVariants as command
-use Rattle.clr_check.specs.SiteNames.{site}
+use Rattle.clr_sites.specs.SiteNames.{site}
 use Rattle.clr_words.specs.Making.{IsDone}
 use Rattle.clr_words.proofs.TrialLemmas.{back_to, told_of}
 use Rattle.clr_words.proofs.trials.try_edit.Goals as goal

@@ -1,5 +1,5 @@
 use Rattle.std.proofs.Common.{◌∙◌, ap}
-use Rattle.clr_grid.specs.Sharing.{found_cells, rule_spots}
+use Rattle.clr_finders.specs.Sharing.{found_cells, rule_spots}
 use Rattle.clr_foot.specs.Scenes.{setting_in}
 use Rattle.clr_foot.specs.Versions.{row_of}
 use Rattle.clr_foot.proofs.Searches.{sets_of}
@@ -14,6 +14,6 @@ pub returns : goal.returns
 returns g c =
     let scene = c.args.self.now in
     let rules = scene.book.now in
-    let settled = scene.new_rows.settled in
+    let settled = g.F.RowFinder.settled scene.new_rows in
     let cells = c.as_slice.ensures.value ∙ c.in_ok-cells.ensures ∙ ap (λ h. found_cells c.args.servers settled c.args.rule (rule_spots rules c.args.rule h)) c.as_held.ensures in
     new_found rules (g.V.RowView.content scene.root.now) (sets_of scene.members.sets.items) c.args.servers c.args.rule (row_of c.args.version) c.requires.number settled _ _ scene.filed cells c.in_ok-list.ensures

@@ -1,5 +1,5 @@
 use Rattle.std.proofs.Common.{◌∙◌, ap}
-use Rattle.clr_grid.specs.Sharing.{found_cells, rule_spots}
+use Rattle.clr_finders.specs.Sharing.{found_cells, rule_spots}
 use Rattle.clr_foot.specs.Scenes.{setting_in}
 use Rattle.clr_foot.specs.Versions.{row_of}
 use Rattle.clr_foot.proofs.Searches.{sets_of}

@@ -2,7 +2,7 @@ use Rattle.std.proofs.Common.{◌∙◌, ap, sym, filter, true, false, Bool, app
 use Rattle.std.proofs.lemmas.List.{take_all}
 use Rattle.std.specs.FinMap as finite
 use Rattle.clr_rows.specs.declared.cells.CellId.{CellId}
-use Rattle.clr_grid.specs.Sharing.{is_met_at}
+use Rattle.clr_finders.specs.Sharing.{is_met_at}
 use Rattle.clr_grid.proofs.FoundLemmas.{kept_more, found_is}
 use Rattle.clr_grid.proofs.row_maps.RowMap.find_among.Goals as goal
 use Rattle.clr_grid.proofs.row_maps.RowMap.find_among.Goals.{then-is_found+in_ok-push, else-is_found}

@@ -1,6 +1,6 @@
 use Rattle.std.proofs.Common.{◌≡◌, filter, take}
 use Rattle.std.specs.FinMap as finite
-use Rattle.clr_grid.specs.Sharing.{is_met_at}
+use Rattle.clr_finders.specs.Sharing.{is_met_at}
 use Rattle.clr_grid.proofs.row_maps.RowMap.find_among.Given as goal
 
 -- the cells found among those so far

@@ -1,7 +1,7 @@
 use Rattle.std.proofs.Common.{◌≡◌}
 use Rattle.std.specs.FinMap as finite
 use Rattle.clr_rows.specs.declared.cells.CellId.{CellId}
-use Rattle.clr_grid.specs.Sharing.{next_at}
+use Rattle.clr_finders.specs.Sharing.{next_at}
 use Rattle.clr_grid.proofs.row_maps.RowMap.settle.Given as goal
 
 -- what stands at each cell at the end stays

@@ -1,0 +1,67 @@
+//! Sources and sinks over readers and writers of `std`.
+
+ghost use Rattle.std.specs.Prelude.{◌≡◌, false};
+
+use crate::devices::{DeviceFault, Sink, Source};
+use std::io::{Read, Write};
+use std::marker::Model;
+
+/// A source over a reader of `std`, or a sink over a writer. Contracts know its bytes where they
+/// know those of the reader or writer.
+#[derive(Drop)]
+pub struct Port<T> {
+    inner: T,
+    failed: bool,
+}
+
+impl<T> Model for Port<T> {
+    ghost use Rattle.clr_devices.specs.Devices.{PortState};
+
+    ghost Value = { PortState T };
+
+    ghost view = { λ a. record { inner = a.inner; failed = a.failed } };
+}
+
+impl<T> Port<T> {
+    /// Returns a port over this reader or writer.
+    pub fn new(inner: T) -> Port<T>
+        ensures { result ≡ record { inner = inner; failed = false } }
+    {
+        Port {
+            inner,
+            failed: false,
+        }
+    }
+}
+
+impl<R: Read> Source for Port<R> {
+    ghost remaining = { λ port. R.remaining port.inner };
+
+    ghost failed = { λ port. port.failed };
+
+    /// Makes one read. It fails where the reader gives an error, also that it was interrupted.
+    fn read_some(&mut self, buffer: &mut [u8]) -> Result<usize, DeviceFault> {
+        match self.inner.read(buffer) {
+            Ok(count) => Ok(count),
+            Err(_) => {
+                self.failed = true;
+                Err(DeviceFault)
+            }
+        }
+    }
+}
+
+impl<W: Write> Sink for Port<W> {
+    ghost contents = { λ port. W.contents port.inner };
+
+    ghost failed = { λ port. port.failed };
+
+    /// Writes all the bytes and flushes the writer. It fails where either gives an error.
+    fn put(&mut self, bytes: &[u8]) -> Result<(), DeviceFault> {
+        if self.inner.write_all(bytes).is_ok() && self.inner.flush().is_ok() {
+            return Ok(());
+        }
+        self.failed = true;
+        Err(DeviceFault)
+    }
+}

@@ -1,0 +1,4 @@
+pub mod CommonSpots
+pub mod CountedLists
+pub mod EntryLemmas
+pub mod SharingLemmas

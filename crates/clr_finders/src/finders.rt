@@ -1,0 +1,65 @@
+//! What every finder of rows promises.
+
+ghost use Rattle.std.specs.Prelude.{◌≡◌, ◌<◌, ◌∷◌, [], length, true, false, Some, None, IfOk, OnOk, OnErr};
+ghost use Rattle.std.specs.FinMap as finite;
+ghost use Rattle.std.specs.Option.{option_copied, option_map};
+ghost use Rattle.clr_rows.specs.declared.cells.CellId.{CellId as Cell};
+ghost use Rattle.clr_rows.specs.Held.{held_of};
+ghost use Rattle.clr_rules.specs.Books.{FitTogether};
+ghost use Rattle.clr_finders.specs.Sharing.{Pending, Settled, found_cells, next_at, row_spots, rows_at, rule_spots};
+
+use clr_rows::{CellId, Held, Row};
+use clr_rules::RuleBook;
+use std::alloc::{AllocError, Global};
+
+/// A map from cells to the spots of their rows under each rule of one book, with pending changes
+/// beside it. Every call is given that same book, and rows that fit a schema which the book fits.
+pub trait RowFinder: Drop {
+    ghost settled: { Self → Settled };
+
+    ghost pending: { Self → Pending };
+
+    /// Returns a finder without rows. It takes no memory.
+    fn without_rows(alloc: Global) -> Self
+        ensures settled { settled result ≡ finite.empty }
+        ensures pending { pending result ≡ finite.empty };
+
+    /// Returns the cells whose row shares a spot with this one under a rule, ascending, each once.
+    /// Where one of the two rows is wide, it is enough that both have a role in the rule. A row
+    /// without a role shares with none. The rule's number is below the book's `len`.
+    fn sharing(&self, book: &RuleBook, rule: u16, held: Held) -> Result<Vec<CellId>, AllocError>
+        requires number { rule < length book.now }
+        requires fit { FitTogether book.now (held_of held ∷ []) }
+        ensures { IfOk result (λ cells. cells.items ≡ found_cells false (settled self.now) rule (rule_spots book.now rule (held_of held.entry))) };
+
+    /// Returns those cells of `sharing` whose row is of the side that serves.
+    fn sharing_servers(
+        &self,
+        book: &RuleBook,
+        rule: u16,
+        held: Held,
+    ) -> Result<Vec<CellId>, AllocError>
+        requires number { rule < length book.now }
+        requires fit { FitTogether book.now (held_of held ∷ []) }
+        ensures { IfOk result (λ cells. cells.items ≡ found_cells true (settled self.now) rule (rule_spots book.now rule (held_of held.entry))) };
+
+    /// Adds a pending change of a cell that has none yet: the row that is to stand there, or none.
+    /// If memory runs out, nothing changes.
+    fn note(&mut self, book: &RuleBook, cell: CellId, row: Option<&Row>) -> Result<(), AllocError>
+        requires fit { FitTogether book.now (rows_at cell (option_copied row)) }
+        requires free { finite.get (pending self.old) cell ≡ None }
+        ensures settled { settled self.new ≡ settled self.old }
+        ensures ok { OnOk result (pending self.new
+            ≡ finite.insert (pending self.old) cell (option_map (λ r. row_spots book.now (cell, r)) (option_copied row.entry))) }
+        ensures err { OnErr result (pending self.new ≡ pending self.old) };
+
+    /// Takes the pending changes over. It takes no memory.
+    fn settle(&mut self)
+        ensures settled { (q : Cell) → finite.get (settled self.new) q ≡ next_at (settled self.old) (pending self.old) q }
+        ensures pending { pending self.new ≡ finite.empty };
+
+    /// Drops the pending changes. It takes no memory.
+    fn forget(&mut self)
+        ensures settled { settled self.new ≡ settled self.old }
+        ensures pending { pending self.new ≡ finite.empty };
+}

@@ -1,0 +1,5 @@
+pub mod Certificates
+pub mod Faults
+pub mod SiteNames
+pub mod Sites
+pub mod Told
