@@ -1,9 +1,11 @@
--- What is printed for what is asked of one or two texts, and what is left of the sinks.
+-- What is printed for what is asked of one or two texts and of layers, and what is left of the sinks.
 use Rattle.std.specs.Prelude.{◌≡◌, ◌∷◌, ◌||◌, ◌⊎◌, ℕ, Bool, true, false, List, Option, Result, Ok, Err}
+use Rattle.std.specs.List.{list_any}
 use Rattle.std.specs.Io.KnownBytes.{Appends}
 use Rattle.clr_sites.specs.SiteNames.{site}
 use Rattle.clr_check_texts.specs.Cases.{case_of}
 use Rattle.clr_drafts.specs.Drafts.{draft_in}
+use Rattle.clr_layer_changes.specs.declared.options.GivenLayer.{GivenLayer}
 use Rattle.clr_office.specs.Answers.{is_too_long}
 use Rattle.clr_office.specs.declared.faults.RunFault.{RunFault}
 use Rattle.clr_office.specs.declared.faults.RunFault.TheVariants as run_fault
@@ -22,26 +24,29 @@ use Rattle.clr_desk.specs.Whys.{IsWhyPrint}
 use Rattle.clr_desk_pages.specs.Maps.{IsMapPrint}
 use Rattle.clr_desk_pages.specs.Reports.{IsReportPrint}
 
--- what is to be printed for what is asked of an office text and a second text
-abbrev pub IsAnswerWithin : Ask → List ℕ → List ℕ → Printed → Type 0
-IsAnswerWithin (ask.Certificate root names) office second print = IsPrintIn (IsHinted (IsCertificatePrint (site root names)) (root ∷ names)) (draft_in office) print
-IsAnswerWithin (ask.Merge names) office certificate print = IsPrintOfCase (IsHintedMerge names) (case_of office certificate) print
-IsAnswerWithin ask.Format office second print = IsPrintIn IsFormatPrint (draft_in office) print
-IsAnswerWithin (ask.Keep root names) office second print = IsPrintIn (IsHinted (IsChoicePrint root names) (root ∷ names)) (draft_in office) print
-IsAnswerWithin (ask.Clashes root names) office second print = IsPrintIn (IsHinted (IsClashesPrint root names) (root ∷ names)) (draft_in office) print
-IsAnswerWithin (ask.Why kind) office second print = IsWhyPrint kind office second print
-IsAnswerWithin (ask.Map root names) office second print = IsPrintIn (IsHinted (IsMapPrint (site root names)) (root ∷ names)) (draft_in office) print
-IsAnswerWithin (ask.Report root names) office second print = IsPrintIn (IsHinted (IsReportPrint (site root names)) (root ∷ names)) (draft_in office) print
-IsAnswerWithin (ask.WorkOrder root names) office second print = IsPrintIn (IsHinted (IsOrderPrint (site root names)) (root ∷ names)) (draft_in office) print
-IsAnswerWithin (ask.Geographic asked) office second print = IsGeographicAnswer asked office print
+-- what is to be printed for what is asked of an office text, a second text and layers
+abbrev pub IsAnswerWithin : Ask → List ℕ → List ℕ → List GivenLayer → Printed → Type 0
+IsAnswerWithin (ask.Certificate root names) office second layers print = IsPrintIn (IsHinted (IsCertificatePrint (site root names)) (root ∷ names)) (draft_in office) print
+IsAnswerWithin (ask.Merge names) office certificate layers print = IsPrintOfCase (IsHintedMerge names) (case_of office certificate) print
+IsAnswerWithin ask.Format office second layers print = IsPrintIn IsFormatPrint (draft_in office) print
+IsAnswerWithin (ask.Keep root names) office second layers print = IsPrintIn (IsHinted (IsChoicePrint root names) (root ∷ names)) (draft_in office) print
+IsAnswerWithin (ask.Clashes root names) office second layers print = IsPrintIn (IsHinted (IsClashesPrint root names) (root ∷ names)) (draft_in office) print
+IsAnswerWithin (ask.Why kind) office second layers print = IsWhyPrint kind office second print
+IsAnswerWithin (ask.Map root names) office second layers print = IsPrintIn (IsHinted (IsMapPrint (site root names)) (root ∷ names)) (draft_in office) print
+IsAnswerWithin (ask.Report root names) office second layers print = IsPrintIn (IsHinted (IsReportPrint (site root names)) (root ∷ names)) (draft_in office) print
+IsAnswerWithin (ask.WorkOrder root names) office second layers print = IsPrintIn (IsHinted (IsOrderPrint (site root names)) (root ∷ names)) (draft_in office) print
+IsAnswerWithin (ask.Geographic asked) office second layers print = IsGeographicAnswer asked office layers print
 
 -- the same where `too_long` says whether a text is
-abbrev pub IsAnswerIf : Bool → Ask → List ℕ → List ℕ → Printed → Type 0
-IsAnswerIf true asked office second print = print ≡ Err run_fault.TooLong
-IsAnswerIf false asked office second print = IsAnswerWithin asked office second print
+abbrev pub IsAnswerIf : Bool → Ask → List ℕ → List ℕ → List GivenLayer → Printed → Type 0
+IsAnswerIf true asked office second layers print = print ≡ Err run_fault.TooLong
+IsAnswerIf false asked office second layers print = IsAnswerWithin asked office second layers print
 
-abbrev pub IsAnswerTo : Ask → List ℕ → List ℕ → Printed → Type 0
-IsAnswerTo asked office second print = IsAnswerIf (is_too_long office || is_too_long second) asked office second print
+abbrev pub is_too_long_layer : GivenLayer → Bool
+is_too_long_layer layer = is_too_long layer.text.items
+
+abbrev pub IsAnswerTo : Ask → List ℕ → List ℕ → List GivenLayer → Printed → Type 0
+IsAnswerTo asked office second layers print = IsAnswerIf (is_too_long office || is_too_long second || list_any is_too_long_layer layers) asked office second layers print
 
 -- the sink of the text and that of the notes: what each held before and holds now, where it tells, and whether it failed
 pub record Sinks : Type 0 where

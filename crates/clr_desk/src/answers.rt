@@ -1,9 +1,10 @@
 //! What is printed for what is asked of texts, and where it goes.
 
 ghost use Rattle.std.specs.Prelude.{◌≡◌, ◌≢◌, [], false, IfErr, IfOk};
+ghost use Rattle.std.specs.List.{list_any};
 ghost use Rattle.std.specs.Io.KnownBytes.{Appends};
 ghost use Rattle.clr_office.specs.declared.faults.RunFault.TheVariants as run_fault;
-ghost use Rattle.clr_desk.specs.Answers.{IsAnswer, IsAnswerTo, IsAnswerWithin};
+ghost use Rattle.clr_desk.specs.Answers.{IsAnswer, IsAnswerTo, IsAnswerWithin, is_too_long_layer};
 ghost use Rattle.clr_prints.specs.Printing.{IsMade};
 
 use crate::certificates::answer_certificate;
@@ -15,14 +16,21 @@ use crate::merges::answer_merge;
 use crate::orders::answer_work_order;
 use crate::whys::answer_why;
 use clr_desk_command_line::Ask;
+use clr_desk_designs::GivenLayer;
 use clr_desk_pages::{answer_map, answer_report};
 use clr_office::{MOST_INPUT_BYTES, RunFault, Sink};
 use clr_prints::Print;
 use std::alloc::Global;
 
-/// What is printed for what is asked of two texts.
-fn answer_texts(alloc: Global, ask: &Ask, office: &[u8], second: &[u8]) -> Result<Print, RunFault>
-    ensures { IsMade (IsAnswerWithin ask.now office.now second.now) result }
+/// What is printed for what is asked of two texts and of layers.
+fn answer_texts(
+    alloc: Global,
+    ask: &Ask,
+    office: &[u8],
+    second: &[u8],
+    layers: &[GivenLayer],
+) -> Result<Print, RunFault>
+    ensures { IsMade (IsAnswerWithin ask.now office.now second.now layers.now) result }
 {
     match ask {
         Ask::Certificate(root, names) => {
@@ -33,7 +41,7 @@ fn answer_texts(alloc: Global, ask: &Ask, office: &[u8], second: &[u8]) -> Resul
         Ask::Keep(root, names) => answer_keep(alloc, office, root.as_str(), names.as_slice()),
         Ask::Clashes(root, names) => answer_clashes(alloc, office, root.as_str(), names.as_slice()),
         Ask::Why(kind) => answer_why(alloc, kind, office, second),
-        Ask::Geographic(ask) => answer_geographic(alloc, ask, office),
+        Ask::Geographic(ask) => answer_geographic(alloc, ask, office, layers),
         Ask::Map(root, names) => answer_map(alloc, office, root.as_str(), names.as_slice()),
         Ask::Report(root, names) => answer_report(alloc, office, root.as_str(), names.as_slice()),
         Ask::WorkOrder(root, names) => {
@@ -42,13 +50,23 @@ fn answer_texts(alloc: Global, ask: &Ask, office: &[u8], second: &[u8]) -> Resul
     }
 }
 
-/// Writes what is to be printed for what is asked of an office text and of a second text, which is the
-/// script or the certificate where there is one: the notes by one put, and then the text by another.
+/// Returns whether a layer has more than `MOST_INPUT_BYTES`.
+fn is_any_too_long(layers: &[GivenLayer]) -> bool
+    ensures { result ≡ list_any is_too_long_layer layers.now }
+{
+    layers
+        .iter()
+        .any(|layer| layer.text.len() > MOST_INPUT_BYTES)
+}
+
+/// Writes what is to be printed for what is asked of an office text, of a second text, which is the
+/// script or the certificate where there is one, and of layers, where they are asked for, each with its
+/// table: the notes by one put, and then the text by another.
 /// Returns the exit status: 0 all done or cleared, or no fault; 1 something refused, members that can't be
-/// merged in every order, or a rule that doesn't hold; 2 a fault, where `why` asks for it; 3 a plan, a
-/// verdict or a merge found no memory, and then there is no text. Where a rule doesn't hold the line that
+/// merged in every order, or a rule that doesn't hold; 2 a fault, where `why` asks for it, or the fault of
+/// a layer; 3 a plan, a verdict or a merge found no memory, and then there is no text. Where a rule doesn't hold the line that
 /// says so is the only note, and there is no text, unless `why` asks for it. The first fault that applies
-/// answers, and nothing is written then, unless a sink failed. Fails with `TooLong` where a text has more
+/// answers, and nothing is written then, unless a sink failed. Fails with `TooLong` where a text or a layer has more
 /// than `MOST_INPUT_BYTES`, with `BadOffice` where the first text is no office, with `BadCertificate` where
 /// the second is no certificate, neither of them for `why`, and with `WriteFailed` where a sink fails:
 /// where it is that of the notes, nothing went to that of the text; how much else went out is not known.
@@ -58,12 +76,13 @@ pub fn answer<W: Sink, N: Sink>(
     ask: &Ask,
     office: &[u8],
     second: &[u8],
+    layers: &[GivenLayer],
     writer: &mut W,
     notes: &mut N,
 ) -> Result<u8, RunFault>
     requires writer { W.failed writer.old ≡ false }
     requires notes { N.failed notes.old ≡ false }
-    ensures answers { IsAnswer (IsAnswerTo ask.now office.now second.now) (record {
+    ensures answers { IsAnswer (IsAnswerTo ask.now office.now second.now layers.now) (record {
       text_held = W.contents writer.old;
       text_holds = W.contents writer.new;
       text_failed = W.failed writer.new;
@@ -74,10 +93,13 @@ pub fn answer<W: Sink, N: Sink>(
     ensures silent { IfOk result (λ status. status ≡ 3 → Appends (W.contents writer.old) (W.contents writer.new) []) }
     ensures keeps { IfErr result (λ e. e ≢ run_fault.WriteFailed → (writer.new ≡ writer.old) × (notes.new ≡ notes.old)) }
 {
-    if office.len() > MOST_INPUT_BYTES || second.len() > MOST_INPUT_BYTES {
+    if office.len() > MOST_INPUT_BYTES
+        || second.len() > MOST_INPUT_BYTES
+        || is_any_too_long(layers)
+    {
         return Err(RunFault::TooLong);
     }
-    let print = match answer_texts(alloc, ask, office, second) {
+    let print = match answer_texts(alloc, ask, office, second, layers) {
         Ok(print) => print,
         Err(fault) => return Err(fault),
     };

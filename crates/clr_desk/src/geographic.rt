@@ -1,22 +1,32 @@
-//! What is printed in the texts of geographic information systems.
+//! What is printed in the texts of geographic information systems, and of such texts.
 
-ghost use Rattle.clr_desk.specs.Geographic.{IsGeographicAnswer};
+ghost use Rattle.std.specs.Prelude.{◌≡◌};
+ghost use Rattle.clr_desk.specs.Geographic.{IsGeographicAnswer, options_of};
 ghost use Rattle.clr_prints.specs.Printing.{IsMade};
 
 use clr_desk_command_line::GeographicAsk;
+use clr_desk_designs::{GivenLayer, LayerOptions, answer_design, answer_design_script, answer_office};
 use clr_desk_features::answer_geojson;
 use clr_desk_layers::answer_layer;
 use clr_office::RunFault;
 use clr_prints::Print;
 use std::alloc::Global;
 
-/// Returns what is printed for what is asked of an office text in the texts of geographic information systems.
+/// Returns how layers are read.
+fn options_of(first_key: u64, rounded: bool) -> LayerOptions
+    ensures { result ≡ options_of first_key rounded }
+{
+    LayerOptions { first_key, rounded }
+}
+
+/// Returns what is printed for what is asked of an office text and layers in the texts of geographic information systems.
 pub(crate) fn answer_geographic(
     alloc: Global,
     ask: &GeographicAsk,
     office: &[u8],
+    layers: &[GivenLayer],
 ) -> Result<Print, RunFault>
-    ensures { IsMade (IsGeographicAnswer ask.now office.now) result }
+    ensures { IsMade (IsGeographicAnswer ask.now office.now layers.now) result }
 {
     match ask {
         GeographicAsk::Features(root, names, system) => answer_geojson(
@@ -28,6 +38,17 @@ pub(crate) fn answer_geographic(
         ),
         GeographicAsk::Layer(table, workspace) => {
             answer_layer(alloc, office, table.as_str(), workspace.as_str())
+        }
+        GeographicAsk::Office(_, rounded) => {
+            answer_office(alloc, office, options_of(1, *rounded), layers)
+        }
+        GeographicAsk::Design(design) => {
+            let options = options_of(design.first_key, design.is_rounded);
+            answer_design(alloc, office, design.name.as_str(), options, layers)
+        }
+        GeographicAsk::DesignScript(design) => {
+            let options = options_of(design.first_key, design.is_rounded);
+            answer_design_script(alloc, office, design.name.as_str(), options, layers)
         }
     }
 }

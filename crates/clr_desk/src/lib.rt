@@ -16,7 +16,9 @@
 //!   (`IsOrderPrint`); of `map` a page of vector graphics whose title begins with the word for what the plan says, which it shows, and whose
 //!   description ends with the lines of the plan, with the plan's status (`IsMapPrint`); of `report` a page of hypertext that
 //!   begins with that word and that picture, and ends with the command of `clr_office` and the lines of the plan (`IsReportPrint`); of
-//!   `geojson` the features of a plan, with the plan's status, and of `layer` the layer of a table (`IsGeographicAnswer`).
+//!   `geojson` the features of a plan, with the plan's status, and of `layer` the layer of a table; of `office` the text of the office whose LIVE
+//!   has the rows of layers, and of `design` that of the office with one more design that has them, or the script that makes it, or why there is
+//!   none (`IsGeographicAnswer`).
 //! - `fault_place` [`place`]: the file, the line and the column of the fault of a text, or nothing.
 //! - [`silent`]: with status 3 nothing went to the sink of the text.
 //! - [`keeps`]: with any fault but WriteFailed nothing was written. After a failed write it isn't known
@@ -39,5 +41,6 @@ mod orders;
 mod whys;
 
 pub use answers::answer;
-pub use clr_desk_command_line::{Ask, AskFault, ask_of};
+pub use clr_desk_command_line::{Ask, AskFault, GeographicAsk, ask_of};
+pub use clr_desk_designs::GivenLayer;
 pub use fault_places::fault_place;

@@ -1,50 +1,23 @@
 -- Where words have no fault, something is asked.
-use Rattle.std.proofs.Common.{◌≡◌, inl, inr, List, [], true, false, is_some, refl}
+use Rattle.std.proofs.Common.{◌≡◌, ◌∙◌, ◌||◌, ap, inl, inr, Bool, not, List, [], Option, Some, None, true, false, is_some, option_map, refl, sym}
+use Rattle.std.specs.Prelude.{if◌then◌else◌}
 use Rattle.std.specs.List.{AllByRecursion}
 use Rattle.clap.specs.Simple.{built}
-use Rattle.clap.specs.Words.{Text, subcommand_of}
+use Rattle.clap.specs.Words.{Row, Text, subcommand_of}
 use Rattle.clap.specs.Faults.{fault_of, is_simple_and_free}
 use Rattle.clap.proofs.OnLiterals.{clap_on_literals}
-use Rattle.clr_command_line.proofs.Entering.{IsKnown, asks_something}
-use Rattle.clr_desk_command_line.specs.Asks.{ask_by_name, ask_of, geographic_asked, members_ask}
+use Rattle.clr_command_line.proofs.Entering.{IsKnown, asked_of, asks_something}
+use Rattle.clr_desk_command_line.specs.declared.asks.Ask.{Ask}
+use Rattle.clr_desk_command_line.specs.Asks.{ask_by_name, geographic_asked, is_readable, members_ask, reads_layers}
 use Rattle.clr_desk_command_line.specs.Program.{program}
 
-all_known : AllByRecursion (IsKnown ask_by_name) (built program).subs
+-- something is asked, or layers are read
+abbrev known : Text → List Row → Option (Unit {0})
+known name rows = if reads_layers name then Some (tt {0}) else option_map (λ asked. tt {0}) (ask_by_name name rows)
+
+all_known : AllByRecursion (IsKnown known) (built program).subs
 unfolding ask_by_name geographic_asked members_ask clap_on_literals
-all_known = (
-  (refl, inl (λ rows. refl)),
-  (
-    (refl, inl (λ rows. refl)),
-    (
-      (refl, inl (λ rows. refl)),
-      (
-        (refl, inl (λ rows. refl)),
-        (
-          (refl, inl (λ rows. refl)),
-          (
-            (refl, inl (λ rows. refl)),
-            (
-              (refl, inl (λ rows. refl)),
-              (
-                (refl, inl (λ rows. refl)),
-                (
-                  (refl, inl (λ rows. refl)),
-                  (
-                    (refl, inl (λ rows. refl)),
-                    (
-                      (refl, inl (λ rows. refl)),
-                      ((refl, inr refl), tt),
-                    ),
-                  ),
-                ),
-              ),
-            ),
-          ),
-        ),
-      ),
-    ),
-  ),
-)
+all_known = ((refl, inl (λ rows. refl)), ((refl, inl (λ rows. refl)), ((refl, inl (λ rows. refl)), ((refl, inl (λ rows. refl)), ((refl, inl (λ rows. refl)), ((refl, inl (λ rows. refl)), ((refl, inl (λ rows. refl)), ((refl, inl (λ rows. refl)), ((refl, inl (λ rows. refl)), ((refl, inl (λ rows. refl)), ((refl, inl (λ rows. refl)), ((refl, inl (λ rows. refl)), ((refl, inl (λ rows. refl)), ((refl, inr refl), tt))))))))))))))
 
 demands : (built program).top.subcommand_required ≡ true
 demands = refl
@@ -57,5 +30,13 @@ pub free : is_simple_and_free program ≡ true
 unfolding clap_on_literals
 free = refl
 
-pub something_is_asked : (words : List Text) → fault_of program words ≡ [] → is_some (ask_of (subcommand_of program words)) ≡ true
-something_is_asked words e = asks_something ask_by_name program all_known demands has_help words e
+either : (b : Bool) (o : Option (Ask × List Text)) → is_some (if b then Some (tt {0}) else option_map (λ asked. tt {0}) o) ≡ true → (not b || is_some o) ≡ true → is_some o ≡ true
+either true o some readable = readable
+either false (Some asked) some readable = refl
+either false None some readable = absurd cc
+
+pub something_is_asked : (words : List Text) (name : Text) (rows : List Row) → fault_of program words ≡ [] → subcommand_of program words ≡ Some (name, rows)
+    → is_readable (Some (name, rows)) ≡ true → is_some (ask_by_name name rows) ≡ true
+something_is_asked words name rows e found readable =
+    let some = ap (λ o. is_some (asked_of known o)) (sym found) ∙ asks_something known program all_known demands has_help words e in
+    either (reads_layers name) (ask_by_name name rows) some readable

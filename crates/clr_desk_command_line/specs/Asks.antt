@@ -1,13 +1,18 @@
 -- What a subcommand and its values ask for.
-use Rattle.std.specs.Prelude.{List, [], codes, Option, Some, None, if◌then◌else◌, is_some, option_and_then, option_map, unwrap_or}
+use Rattle.std.specs.Prelude.{ℕ, ◌==◌, ◌||◌, not, Bool, true, false, List, [], ◌∷◌, map, codes, Option, Some, None, if◌then◌else◌, is_some, option_and_then, option_map, unwrap_or, unsigned_abs}
+use Rattle.std.specs.List.{after_first, before_first, list_all, list_any}
+use Rattle.std.specs.Option.{option_map_or}
 use Rattle.std.specs.Str.{bytes_eq}
-use Rattle.clap.specs.Words.{Row, Text, first_of}
+use Rattle.clap.specs.Words.{Row, Text, all_of, first_of}
 use Rattle.clr_rows.specs.Names.{live_name}
-use Rattle.clr_command_line.specs.Asks.{database_and, database_of, names_of}
+use Rattle.clr_rows.specs.Schemas.{is_key}
+use Rattle.clr_records.specs.Decimals.{number_of}
+use Rattle.clr_command_line.specs.Asks.{database_and, database_of, names_of, value_of}
 use Rattle.clr_desk_command_line.specs.declared.asks.Ask.{Ask}
 use Rattle.clr_desk_command_line.specs.declared.asks.Ask.TheVariants.{Certificate, Merge, Format, Keep, Clashes, Why, WorkOrder, Map, Report, Geographic}
+use Rattle.clr_desk_command_line.specs.declared.asks.DesignAsk.{DesignAsk}
 use Rattle.clr_desk_command_line.specs.declared.asks.GeographicAsk.{GeographicAsk}
-use Rattle.clr_desk_command_line.specs.declared.asks.GeographicAsk.TheVariants.{Features, Layer}
+use Rattle.clr_desk_command_line.specs.declared.asks.GeographicAsk.TheVariants.{Features, Layer, Office, Design, DesignScript}
 use Rattle.clr_desk_command_line.specs.declared.asks.TextKind.TheVariants as kind
 
 -- the value that is given, or another
@@ -42,7 +47,7 @@ members_asked name rows = option_map (λ asked. (asked, database_of rows)) (memb
 abbrev pub merge_of : List Row → Ask × List Text
 merge_of rows = (Merge (names_of rows), database_and (codes "CERT") rows)
 
--- texts of geographic information systems ------------------------------------------------------
+-- tables and designs as texts for geographic information systems ---------------------------------
 
 abbrev pub features_of : List Row → GeographicAsk × List Text
 features_of rows = (Features (root_of rows) (names_of rows) (first_of (codes "crs") rows), database_of rows)
@@ -50,12 +55,70 @@ features_of rows = (Features (root_of rows) (names_of rows) (first_of (codes "cr
 abbrev pub layer_of : List Row → GeographicAsk × List Text
 layer_of rows = (Layer (given_or [] (codes "TABLE") rows) (given_or live_name (codes "in") rows), database_of rows)
 
--- what is asked in the texts of geographic information systems, and the files
+-- layers, each a word of a table's name, `=` and a file's name ----------------------------------------
+
+abbrev pub is_equals_sign : ℕ → Bool
+is_equals_sign byte = byte == 61
+
+-- a word names a table and a file
+abbrev pub is_layer : Text → Bool
+is_layer word = list_any is_equals_sign word
+
+-- the names round the first `=`
+abbrev pub table_in : Text → Text
+table_in word = before_first is_equals_sign word
+
+abbrev pub file_in : Text → Text
+file_in word = after_first is_equals_sign word
+
+-- the tables and the files that words name, if each of them names a table and a file
+abbrev pub tables_and_files : List Text → Option (List Text × List Text)
+tables_and_files words = if list_all is_layer words then Some (map table_in words, map file_in words) else None
+
+abbrev pub layers_of : List Row → Option (List Text × List Text)
+layers_of rows = tables_and_files (unwrap_or (all_of (codes "TABLE=FILE") rows) [])
+
+-- an option without a value is given
+abbrev pub is_set : Text → List Row → Bool
+is_set name rows = option_map_or (λ value. bytes_eq value (codes "true")) (first_of name rows) false
+
+-- the key that a text is, if it is one
+abbrev pub key_in : Text → Option ℕ
+key_in text = option_and_then (λ key. if is_key key then Some (unsigned_abs key) else None) (number_of text)
+
+-- the key from which on rows get keys: the one that is given, if it is a key, or 1
+abbrev pub first_key_of : List Row → Option ℕ
+first_key_of rows = option_map_or key_in (first_of (codes "keys") rows) (Some 1)
+
+-- what is asked of the tables of layers, and the file of an office text before the files of the layers
+abbrev pub asked_of_layers : Text → (List Text → GeographicAsk) → List Row → Option (GeographicAsk × List Text)
+asked_of_layers database ask rows = option_map (λ layers. (ask layers.0, value_of database rows ∷ layers.1)) (layers_of rows)
+
+abbrev pub office_of : List Row → Option (GeographicAsk × List Text)
+office_of rows = asked_of_layers (codes "SCHEMA") (λ tables. Office tables (is_set (codes "round") rows)) rows
+
+-- a design of these tables, whose rows get keys from this one on
+abbrev pub design_in : List Row → ℕ → List Text → DesignAsk
+design_in rows first_key tables =
+    record { name = value_of (codes "NAME") rows; tables = tables; first_key = first_key; is_rounded = is_set (codes "round") rows }
+
+abbrev pub as_script_or_office : Bool → DesignAsk → GeographicAsk
+as_script_or_office true design = DesignScript design
+as_script_or_office false design = Design design
+
+abbrev pub design_of : List Row → Option (GeographicAsk × List Text)
+design_of rows =
+    option_and_then (λ first_key. asked_of_layers (codes "DB") (λ tables. as_script_or_office (is_set (codes "script") rows) (design_in rows first_key tables)) rows)
+    (first_key_of rows)
+
+-- what is asked in the texts of geographic information systems, and the files; or nothing where a layer or a key can't be read
 unfoldable pub geographic_asked : Text → List Row → Option (GeographicAsk × List Text)
 geographic_asked name rows =
     if bytes_eq name (codes "geojson") then Some (features_of rows)
     else (if bytes_eq name (codes "layer") then Some (layer_of rows)
-    else None)
+    else (if bytes_eq name (codes "office") then office_of rows
+    else (if bytes_eq name (codes "design") then design_of rows
+    else None)))
 
 -- what a subcommand asks for ------------------------------------------------------------------
 
@@ -74,3 +137,11 @@ ask_by_name name rows =
 -- what the subcommand that words name asks for, if they name one
 abbrev pub ask_of : Option (Text × List Row) → Option (Ask × List Text)
 ask_of found = option_and_then (λ p. ask_by_name p.0 p.1) found
+
+-- a subcommand reads layers
+abbrev pub reads_layers : Text → Bool
+reads_layers name = bytes_eq name (codes "office") || bytes_eq name (codes "design")
+
+-- where a subcommand reads layers, each layer and the first key can be read
+abbrev pub is_readable : Option (Text × List Row) → Bool
+is_readable found = option_map_or (λ p. not (reads_layers p.0) || is_some (ask_by_name p.0 p.1)) found true

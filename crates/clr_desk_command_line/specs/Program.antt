@@ -2,6 +2,7 @@
 use Rattle.std.specs.Prelude.{true, codes, Some}
 use Rattle.clap.specs.Lexer.{usize_max}
 use Rattle.clap.specs.Words.{App, Rule, Text, new_app, new_rule, with_rule, with_subcommand}
+use Rattle.clap.specs.declared.builder.action.ArgAction.TheVariants.{SetTrue}
 
 -- a value that has to be given
 abbrev pub value : Text → Rule
@@ -17,6 +18,18 @@ names = record (new_rule (codes "NAME")) { range = Some (record { start_inclusiv
 -- an option with one value
 abbrev pub option : Text → Rule
 option name = record (new_rule name) { long = Some name; value_names = 1 }
+
+-- an option without a value
+abbrev pub flag : Text → Rule
+flag name = record (new_rule name) { long = Some name; action = Some SetTrue }
+
+-- the option by which coordinates are rounded
+abbrev pub round : Rule
+round = flag (codes "round")
+
+-- layers at the end, one or more
+abbrev pub layers : Rule
+layers = record (new_rule (codes "TABLE=FILE")) { required = true; range = Some (record { start_inclusive = 1; end_inclusive = usize_max }) }
 
 -- the option with the name of the root
 abbrev pub root : Rule
@@ -63,6 +76,16 @@ geojson = with_rule (over_members (codes "geojson")) (option (codes "crs"))
 abbrev pub layer : App
 layer = with_rule (with_rule (database_command (codes "layer")) (value (codes "TABLE"))) (option (codes "in"))
 
+abbrev pub office : App
+office = with_rule (with_rule (with_rule (new_app (codes "office")) (value (codes "SCHEMA"))) layers) round
+
+-- the design's name, and its layers
+abbrev pub design_of_layers : App
+design_of_layers = with_rule (with_rule (database_command (codes "design")) (value (codes "NAME"))) layers
+
+abbrev pub design : App
+design = with_rule (with_rule (with_rule design_of_layers (flag (codes "script"))) (option (codes "keys"))) round
+
 -- a subcommand is demanded, and there is a version
 abbrev pub demanding : App
 demanding = let bare = new_app (codes "clr_desk") in record bare { top = record bare.top { has_version = true; subcommand_required = true } }
@@ -83,6 +106,10 @@ explaining = with_subcommand (with_subcommand choosing why.top) words.top
 abbrev pub drawing : App
 drawing = with_subcommand (with_subcommand explaining map.top) report.top
 
--- those that print texts of geographic information systems
+-- those that print texts for geographic information systems
+abbrev pub exporting : App
+exporting = with_subcommand (with_subcommand drawing geojson.top) layer.top
+
+-- those that read layers
 abbrev pub program : App
-program = with_subcommand (with_subcommand drawing geojson.top) layer.top
+program = with_subcommand (with_subcommand exporting office.top) design.top

@@ -10,6 +10,18 @@ pub enum TextKind {
     Certificate,
 }
 
+/// A design that has the rows of layers.
+#[derive(Debug, Drop)]
+pub struct DesignAsk {
+    pub name: Words,
+    /// The tables of the layers, in the order of their files.
+    pub tables: Names,
+    /// The least key that a row without one gets.
+    pub first_key: u64,
+    /// Whether coordinates finer than a millimetre are rounded.
+    pub is_rounded: bool,
+}
+
 /// What is asked of an office text in the texts of geographic information systems.
 #[derive(Debug, Drop)]
 pub enum GeographicAsk {
@@ -18,6 +30,13 @@ pub enum GeographicAsk {
     Features(Words, Names, Option<Words>),
     /// The rows of a table in a workspace, as a layer: the table, and the workspace.
     Layer(Words, Words),
+    /// The office in which LIVE has the rows of layers: the tables of the layers, in the order of their files, and whether coordinates finer than
+    /// a millimetre are rounded.
+    Office(Names, bool),
+    /// The office with one more design.
+    Design(DesignAsk),
+    /// The script that makes this design.
+    DesignScript(DesignAsk),
 }
 
 /// What is asked of an office text, and of further texts where there are some.

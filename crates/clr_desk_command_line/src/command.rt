@@ -2,9 +2,10 @@
 ghost use Rattle.std.specs.Prelude.{◌≡◌, false, IfOk};
 ghost use Rattle.clap.specs.Words.{app_of, with_rule, with_subcommand};
 ghost use Rattle.clap.specs.declared.builder.command.Command.TheViews.{out-Command as fields_of};
-ghost use Rattle.clr_desk_command_line.specs.Program.{certificate, certificate_file, choosing, clashes, database_command, demanding, explaining, format, keep, map, merge};
+ghost use Rattle.clr_desk_command_line.specs.Program.{certificate, certificate_file, choosing, clashes, database_command, demanding, explaining, exporting, format, keep, map, merge};
 ghost use Rattle.clr_desk_command_line.specs.Program.{names as several_names, option as option_rule, over_members, drawing, printing, program, report, root as root_option, why, words};
 
+use crate::design_commands::{design, office};
 use crate::helps::{
     ABOUT, CERTIFICATE_PRINTS, CLASHES_PRINTS, FORMAT_PRINTS, KEEP_PRINTS, MAP_PRINTS,
     MERGE_PRINTS, REPORT_PRINTS, STATUSES, VERSION, WHY_PRINTS, WORDS_PRINTS,
@@ -285,10 +286,19 @@ fn with_pictures<'a>(alloc: Global) -> Result<Command<'a>, AllocError>
     add(command, report(alloc)?)
 }
 
+/// The command with those subcommands, too, that print texts for geographic information systems.
+fn with_exports<'a>(alloc: Global) -> Result<Command<'a>, AllocError>
+    ensures shape { IfOk result (λ c. app_of c ≡ exporting) }
+    ensures plain { IfOk result (λ c. (fields_of c).has_globals ≡ false) }
+{
+    let command = add(with_pictures(alloc)?, geojson(alloc)?)?;
+    add(command, layer(alloc)?)
+}
+
 /// Returns the whole command line.
 pub fn whole_command<'a>(alloc: Global) -> Result<Command<'a>, AllocError>
     ensures { IfOk result (λ c. app_of c ≡ program) }
 {
-    let command = add(with_pictures(alloc)?, geojson(alloc)?)?;
-    add(command, layer(alloc)?)
+    let command = add(with_exports(alloc)?, office(alloc)?)?;
+    add(command, design(alloc)?)
 }

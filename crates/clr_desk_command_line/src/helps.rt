@@ -99,3 +99,22 @@ Where there is no such table or workspace it prints nothing, and says so on stan
 
 Example:
   clr_desk layer office.json main > main.csv";
+
+pub(crate) const OFFICE_PRINTS: &str =
+    "It prints the office in which LIVE has the rows of the layers in place of those of their tables, and nothing else,
+with status 0. A layer is CSV, as `clr_desk layer` prints it, with shapes as WKT in metres; a row whose KEY is empty
+gets the least key that is free. Where a layer can't be read or a rule doesn't hold it prints nothing, and on standard
+error the line that says so, with status 2 or 1.
+
+Example:
+  clr_desk office schema.json main=main.csv valve=valve.csv > office.json";
+
+pub(crate) const DESIGN_PRINTS: &str =
+    "It prints the office with one more design under LIVE, which has the rows of the layers in place of those of their
+tables, and nothing else, with status 0; with --script it prints the script for `clr_office run` that makes the design.
+A layer is CSV, as `clr_desk layer` prints it, with shapes as WKT in metres; a row whose KEY is empty gets the least key
+from N on that is free. Where a layer can't be read or the design can't be made it prints nothing, and on standard error
+the line that says so, with status 2 or 1.
+
+Example:
+  clr_desk design office.json Bypass main=main.csv valve=valve.csv > with_bypass.json";

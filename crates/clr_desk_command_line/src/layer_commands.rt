@@ -11,7 +11,7 @@ use clap::{Arg, Command};
 use std::alloc::{AllocError, Global};
 
 /// Returns the command with one more value, which has to be given.
-fn with_value<'a>(
+pub(crate) fn with_value<'a>(
     alloc: Global,
     command: Command<'a>,
     id: &'a str,
@@ -25,7 +25,7 @@ fn with_value<'a>(
 }
 
 /// Returns the command with one more option, which has a value.
-fn with_option<'a>(
+pub(crate) fn with_option<'a>(
     alloc: Global,
     command: Command<'a>,
     name: &'a str,

@@ -5,6 +5,7 @@ ghost use Rattle.clap.specs.Words.{found_of, rows_of};
 ghost use Rattle.clr_desk_command_line.specs.Asks.{features_of, geographic_asked, layer_of};
 
 use crate::asks::GeographicAsk;
+use crate::design_reading::{Asked, design, office};
 use crate::values::{given, given_or, root};
 use clap::ArgMatches;
 use clr_command_line::{database, names};
@@ -12,7 +13,7 @@ use clr_rows::{LIVE, Words};
 use std::alloc::{AllocError, Global};
 
 /// Returns what `geojson` asks for, and its file.
-fn features(alloc: Global, matches: &ArgMatches) -> Result<(GeographicAsk, Vec<Words>), AllocError>
+fn features(alloc: Global, matches: &ArgMatches) -> Result<Asked, AllocError>
     ensures { IfOk result (λ r. features_of (rows_of (found_of matches.now)) ≡ (r.0, r.1.items)) }
 {
     let root = root(alloc, matches)?;
@@ -25,7 +26,7 @@ fn features(alloc: Global, matches: &ArgMatches) -> Result<(GeographicAsk, Vec<W
 }
 
 /// Returns what `layer` asks for, and its file.
-fn layer(alloc: Global, matches: &ArgMatches) -> Result<(GeographicAsk, Vec<Words>), AllocError>
+fn layer(alloc: Global, matches: &ArgMatches) -> Result<Asked, AllocError>
     ensures { IfOk result (λ r. layer_of (rows_of (found_of matches.now)) ≡ (r.0, r.1.items)) }
 {
     let table = given_or(alloc, matches, "TABLE", "")?;
@@ -36,18 +37,21 @@ fn layer(alloc: Global, matches: &ArgMatches) -> Result<(GeographicAsk, Vec<Word
     ))
 }
 
-/// Returns what a subcommand over layers or features asks for, and its files, or nothing where no such subcommand has the name.
+/// Returns what a subcommand over layers or features asks for, and its files, or nothing where no such subcommand has the name, or where its layers
+/// or its first key can't be read.
 #[tactic(auto, unfolding(crate::specs::Asks::geographic_asked))]
 pub(crate) fn geographic(
     alloc: Global,
     name: &str,
     matches: &ArgMatches,
-) -> Result<Option<(GeographicAsk, Vec<Words>)>, AllocError>
+) -> Result<Option<Asked>, AllocError>
     ensures { IfOk result (λ r. geographic_asked name.now (rows_of (found_of matches.now)) ≡ option_map (λ p. (p.0, p.1.items)) r) }
 {
     match name {
         "geojson" => Ok(Some(features(alloc, matches)?)),
         "layer" => Ok(Some(layer(alloc, matches)?)),
+        "office" => office(alloc, matches),
+        "design" => design(alloc, matches),
         _ => Ok(None),
     }
 }

@@ -1,18 +1,23 @@
 //! What the words of the second program's command line ask for.
 //!
 //! - `ask_of` [`asks`, `takes`]: what is asked, and the files, are what `clap`'s definition of a
-//!   simple command finds in the words; where that takes the words, they are refused for want of
-//!   memory alone. Texts of help and usage are tested only.
+//!   simple command finds in the words; where that takes the words, and each layer and the first key
+//!   can be read where a subcommand has them, they are refused for want of memory alone. Texts of help,
+//!   usage and refusals are tested only.
 #![tactic(auto)]
 
 mod asks;
 mod command;
+mod complaints;
+mod design_commands;
+mod design_reading;
 mod helps;
 mod layer_commands;
 mod layer_reading;
+mod named_layers;
 mod reading;
 mod values;
 
-pub use asks::{Ask, GeographicAsk, TextKind};
+pub use asks::{Ask, DesignAsk, GeographicAsk, TextKind};
 pub use clr_command_line::AskFault;
 pub use reading::ask_of;

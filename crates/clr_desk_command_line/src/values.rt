@@ -2,7 +2,7 @@
 
 ghost use Rattle.std.specs.Prelude.{◌≡◌, IfOk};
 ghost use Rattle.clap.specs.Words.{first_of, found_of, rows_of};
-ghost use Rattle.clr_desk_command_line.specs.Asks.{given_or, root_of};
+ghost use Rattle.clr_desk_command_line.specs.Asks.{given_or, is_set, root_of};
 
 use clap::ArgMatches;
 use clr_rows::{LIVE, Words};
@@ -40,4 +40,14 @@ pub(crate) fn root(alloc: Global, matches: &ArgMatches) -> Result<Words, AllocEr
     ensures { IfOk result (λ root. root ≡ root_of (rows_of (found_of matches.now))) }
 {
     given_or(alloc, matches, "under", LIVE)
+}
+
+/// Returns whether an option without a value is given.
+pub(crate) fn is_set(matches: &ArgMatches, name: &str) -> bool
+    ensures { result ≡ is_set name.now (rows_of (found_of matches.now)) }
+{
+    match matches.get_str(name) {
+        Some(value) => value == "true",
+        None => false,
+    }
 }

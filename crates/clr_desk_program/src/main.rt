@@ -4,9 +4,9 @@
 //! It is safe; what it does with words, files, streams and statuses no contract says.
 #![tactic(auto)]
 
-use clr_desk::{Ask, AskFault, answer, ask_of, fault_place};
+use clr_desk::{Ask, AskFault, GeographicAsk, GivenLayer, answer, ask_of, fault_place};
 use clr_office::{Port, RunFault, Sink, Words};
-use clr_terminal::{BAD_WORDS, read_files, refuse, refuse_words, texts, words};
+use clr_terminal::{BAD_WORDS, read_files, refuse, refuse_words, text_at, texts, words};
 use std::io::ErrorKind;
 use std::process::ExitCode;
 
@@ -26,13 +26,42 @@ fn refuse_texts(
     status
 }
 
+/// The tables of the layers that are asked for, in the order of their files.
+fn tables_of(ask: &Ask) -> &[Words] {
+    match ask {
+        Ask::Geographic(GeographicAsk::Office(tables, _)) => tables.as_slice(),
+        Ask::Geographic(GeographicAsk::Design(design) | GeographicAsk::DesignScript(design)) => {
+            design.tables.as_slice()
+        }
+        _ => &[],
+    }
+}
+
+/// The layers that are asked for, each with its table: their texts stand behind that of the office, which stays.
+fn take_layers(
+    rt: &HostRuntime,
+    ask: &Ask,
+    texts: &mut Vec<Vec<u8>>,
+) -> Result<Vec<GivenLayer>, RunFault> {
+    let mut layers = Vec::new(rt.alloc());
+    for table in tables_of(ask).iter().rev() {
+        if let Some(text) = texts.pop() {
+            let table = table.copy()?;
+            layers.push(GivenLayer { table, text })?;
+        }
+    }
+    layers.reverse();
+    Ok(layers)
+}
+
 /// Answers what the words ask of files, and gives the exit status.
 fn answer_files(rt: &HostRuntime, ask: &Ask, files: &[Words]) -> Result<u8, RunFault> {
-    let (office, second) = read_files(rt, files)?;
-    let mut writer = Port::new(rt.stdout());
-    let mut notes = Port::new(rt.stderr());
-    let (office, second) = (office.as_slice(), second.as_slice());
-    match answer(rt.alloc(), ask, office, second, &mut writer, &mut notes) {
+    let mut texts = read_files(rt, files)?;
+    let layers = take_layers(rt, ask, &mut texts)?;
+    let (office, second) = (text_at(&texts, 0), text_at(&texts, 1));
+    let (mut writer, mut notes) = (Port::new(rt.stdout()), Port::new(rt.stderr()));
+    let layers = layers.as_slice();
+    match answer(rt.alloc(), ask, office, second, layers, &mut writer, &mut notes) {
         Ok(status) => Ok(status),
         Err(fault) => Ok(refuse_texts(rt, fault, files, office, second)),
     }

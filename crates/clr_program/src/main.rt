@@ -6,7 +6,7 @@
 #![tactic(auto)]
 
 use clr_office::{Ask, AskFault, Port, RunFault, Words, answer, ask_of, run_office};
-use clr_terminal::{BAD_WORDS, has_words, read_files, refuse, refuse_words, texts, words};
+use clr_terminal::{BAD_WORDS, has_words, read_files, refuse, refuse_words, text_at, texts, words};
 use std::io::ErrorKind;
 use std::process::ExitCode;
 
@@ -19,15 +19,10 @@ fn run(rt: &HostRuntime) -> Result<u8, RunFault> {
 
 /// Answers what the words ask of files on standard output, and gives the exit status.
 fn answer_files(rt: &HostRuntime, ask: &Ask, files: &[Words]) -> Result<u8, RunFault> {
-    let (office, second) = read_files(rt, files)?;
+    let texts = read_files(rt, files)?;
+    let (office, second) = (text_at(&texts, 0), text_at(&texts, 1));
     let mut writer = Port::new(rt.stdout());
-    answer(
-        rt.alloc(),
-        ask,
-        office.as_slice(),
-        second.as_slice(),
-        &mut writer,
-    )
+    answer(rt.alloc(), ask, office, second, &mut writer)
 }
 
 /// Does what the words ask for, and gives the exit status.

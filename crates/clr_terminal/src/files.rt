@@ -13,27 +13,29 @@ fn read_file(rt: &HostRuntime, name: &str) -> Result<Vec<u8>, RunFault> {
     }
 }
 
-/// The bytes of the second file, where there is one.
-fn read_second(rt: &HostRuntime, files: &[Words]) -> Result<Vec<u8>, RunFault> {
-    match files.get(1) {
-        Some(name) => read_file(rt, name.as_str()),
-        None => Ok(Vec::new(rt.alloc())),
+/// The bytes of files, in their order. Fails with `ReadFailed` where a file can't be opened or read,
+/// with `TooLong` where one has more than `MOST_INPUT_BYTES`, and with `OutOfMemory` for want of memory.
+/// A file that can't be read is told before one that is too long.
+pub fn read_files(rt: &HostRuntime, files: &[Words]) -> Result<Vec<Vec<u8>>, RunFault> {
+    let mut texts = Vec::new(rt.alloc());
+    let mut is_too_long = false;
+    for name in files {
+        match read_file(rt, name.as_str()) {
+            Ok(text) => texts.push(text)?,
+            Err(RunFault::TooLong) => is_too_long = true,
+            Err(fault) => return Err(fault),
+        }
     }
+    if is_too_long {
+        return Err(RunFault::TooLong);
+    }
+    Ok(texts)
 }
 
-/// The bytes of the first file and of the second, no bytes where there is none. Fails with
-/// `ReadFailed` where a file can't be opened or read, with `TooLong` where one has more than
-/// `MOST_INPUT_BYTES`, and with `OutOfMemory` for want of memory. A file that can't be read is told
-/// before one that is too long.
-pub fn read_files(rt: &HostRuntime, files: &[Words]) -> Result<(Vec<u8>, Vec<u8>), RunFault> {
-    let office = match files.first() {
-        Some(name) => read_file(rt, name.as_str()),
-        None => Ok(Vec::new(rt.alloc())),
-    };
-    match (office, read_second(rt, files)) {
-        (Ok(office), Ok(second)) => Ok((office, second)),
-        (Err(RunFault::TooLong), Err(fault)) => Err(fault),
-        (Err(fault), _) => Err(fault),
-        (_, Err(fault)) => Err(fault),
+/// The bytes of the file at a position, no bytes where there is none.
+pub fn text_at(texts: &[Vec<u8>], at: usize) -> &[u8] {
+    match texts.get(at) {
+        Some(text) => text.as_slice(),
+        None => &[],
     }
 }

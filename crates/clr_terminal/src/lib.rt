@@ -10,4 +10,4 @@ mod files;
 
 pub use arguments::{has_words, texts, words};
 pub use faults::{BAD_WORDS, refuse, refuse_words};
-pub use files::read_files;
+pub use files::{read_files, text_at};

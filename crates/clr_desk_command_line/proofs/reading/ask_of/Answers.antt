@@ -1,4 +1,4 @@
-use Rattle.std.proofs.Common.{◌≡◌, ◌∙◌, Some, None, List, Option, ap, sym, refl, true, map, option_map, Box, is_some}
+use Rattle.std.proofs.Common.{◌≡◌, ◌∙◌, Some, None, List, Option, ap, sym, refl, true, false, map, option_map, Box, is_some}
 use Rattle.std.specs.Box.{box_value}
 use Rattle.clap.specs.Words.{Row, Text, is_simple, takes, subcommand_of, subcommand_rows}
 use Rattle.clap.specs.declared.parser.matches.ArgMatches.TheViews.{out-SubCommand}
@@ -6,7 +6,7 @@ use Rattle.clap.specs.declared.parser.matches.SubCommand.{SubCommand}
 use Rattle.clap.specs.Faults.{fault_of, is_simple_and_free}
 use Rattle.clap.proofs.OnLiterals.{clap_on_literals}
 use Rattle.clr_desk_command_line.specs.Program.{program}
-use Rattle.clr_desk_command_line.specs.Asks.{ask_of}
+use Rattle.clr_desk_command_line.specs.Asks.{ask_of, is_readable}
 use Rattle.clr_desk_command_line.proofs.Known.{free, something_is_asked}
 use Rattle.clr_desk_command_line.proofs.reading.ask_of.Goals as goal
 
@@ -21,21 +21,25 @@ pair_is None n r e h = absurd cc
 pair_is (Some b) n r e h = cc
 
 pub returns-in-Err-clause-takes : goal.returns-in-Err-clause-takes
-returns-in-Err-clause-takes c = λ t. c.of.ensures (c.in-Err.ensures.passes (ap (λ a. takes a (map (λ s. s.now) c.args.words.now)) c.in_ok-command.ensures ∙ t))
+returns-in-Err-clause-takes c = λ t readable. c.of.ensures (c.in-Err.ensures.passes (ap (λ a. takes a (map (λ s. s.now) c.args.words.now)) c.in_ok-command.ensures ∙ t))
 
-pub ask_of_subcommand-requires : goal.ask_of_subcommand-requires
-ask_of_subcommand-requires c =
+pub returns-in-Some-2-clause-asks : goal.returns-in-Some-2-clause-asks
+returns-in-Some-2-clause-asks c =
     let command_is = c.in_ok-command.ensures in
     let words = map (λ s. s.now) c.args.words.now in
     let sub = (c.in-Ok.ensures.matches (ap is_simple command_is ∙ simple)).1 ∙ ap (λ a. subcommand_of a words) command_is in
     let found = pair_is _ c.in-Some.name.now _ c.in-Some.ensures.name c.in-Some.ensures.rows in
+    let asked = rw (c.in-Some-2.is) at c.in_ok-asked.ensures in
+    ap ask_of (sym sub ∙ found) ∙ asked
+
+pub returns-clause-takes : goal.returns-clause-takes
+returns-clause-takes c = λ t readable.
+    let command_is = c.in_ok-command.ensures in
+    let words = map (λ s. s.now) c.args.words.now in
+    let sub = (c.in-Ok.ensures.matches (ap is_simple command_is ∙ simple)).1 ∙ ap (λ a. subcommand_of a words) command_is in
+    let found = sym sub ∙ pair_is _ c.in-Some.name.now _ c.in-Some.ensures.name c.in-Some.ensures.rows in
     let no_fault = sym (ap (λ a. fault_of a words) command_is) ∙ c.in-Ok.ensures.kinds (ap is_simple_and_free command_is ∙ free) in
-    ap (λ o. is_some (ask_of o)) (sym found ∙ sub) ∙ something_is_asked words no_fault
-
-pub returns-clause-asks : goal.returns-clause-asks
-returns-clause-asks c =
-    let command_is = c.in_ok-command.ensures in
-    let words = map (λ s. s.now) c.args.words.now in
-    let sub = (c.in-Ok.ensures.matches (ap is_simple command_is ∙ simple)).1 ∙ ap (λ a. subcommand_of a words) command_is in
-    let found = pair_is _ c.in-Some.name.now _ c.in-Some.ensures.name c.in-Some.ensures.rows in
-    ap ask_of (sym sub ∙ found) ∙ c.in_ok-ask_of_subcommand.ensures
+    let asked = something_is_asked words _ _ no_fault found (ap is_readable (sym found) ∙ readable) in
+    let none = rw (c.in-None.is) at c.in_ok-asked.ensures in
+    let no : false ≡ true = ap is_some (sym none) ∙ asked in
+    absurd cc

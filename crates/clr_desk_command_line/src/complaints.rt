@@ -1,0 +1,18 @@
+//! What is said of words that can't be read.
+
+use clap::ArgMatches;
+use clr_rows::GREATEST_KEY;
+use std::alloc::{AllocError, Global};
+
+/// Returns what is wrong with the words of a subcommand that reads layers: that a layer has no `=`, or else that the first key is none.
+pub(crate) fn complaint(alloc: Global, matches: &ArgMatches) -> Result<String, AllocError> {
+    for word in matches.get_strs("TABLE=FILE").unwrap_or(&[]) {
+        if !word.contains('=') {
+            return format!(in alloc; "invalid value '{word}' for '<TABLE=FILE>...': it has no '='");
+        }
+    }
+    let key = matches.get_str("keys").unwrap_or("");
+    format!(in alloc;
+        "invalid value '{key}' for '--keys <N>': it is no whole number from 1 to {GREATEST_KEY}"
+    )
+}
