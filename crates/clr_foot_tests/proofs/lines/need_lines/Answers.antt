@@ -1,4 +1,4 @@
-use Rattle.std.proofs.Common.{None, get_or, pos}
+use Rattle.std.proofs.Common.{None, false, get_or, pos}
 use Rattle.clr_foot.specs.Scenes.{model_of, setting_of}
 use Rattle.clr_needs.specs.declared.needs.Need.{Need}
 use Rattle.clr_needs.specs.declared.needs.VersionId.{VersionId}
