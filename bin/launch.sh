@@ -1,4 +1,5 @@
-# Runs the program that `program` names, clr_office or clr_desk, with the words and streams that are given; `top` is the repository's folder.
+# Runs the program that `program` names, clr_office or clr_desk, with the words and streams that are given; `top` is the repository's folder, and `takes`
+# says how long it takes to prove the program.
 # It is proved and built once, into bin/out, and anew where a source has changed since; it is never run for other sources than those
 # that it was built from. To be read by the launchers bin/clr_office and bin/clr_desk.
 
@@ -85,7 +86,7 @@ follow() {
 build() {
     local digest before made
     command -v rt >/dev/null || refuse "the program isn't built from these sources, and there is no command rt to build it"
-    say "proving the program once, ${#crates[@]} crates: half an hour on 4 idle cores, 45 minutes on 2; after an interrupt the next start goes on where this one was"
+    say "proving the program once, ${#crates[@]} crates: $takes; after an interrupt the next start goes on where this one was"
     room=$(mktemp -d "${TMPDIR:-/tmp}/$program.XXXXXX") || refuse "there is no room for a folder in which the program can be built"
     digest=$(digest_of_sources) before=$(listing)
     copy_sources || refuse "the sources can't be copied into $room"

@@ -8,6 +8,7 @@ use Rattle.clr_rows.specs.Schemas.{FitsSchema}
 use Rattle.clr_change.specs.Edits.{after_edits, first_bad_edit}
 use Rattle.clr_rules.specs.declared.needs.Broken.{Broken}
 use Rattle.clr_steps.specs.declared.commands.Command.TheVariants.{Apply}
+use Rattle.clr_steps.specs.declared.commands.Reply.{Reply}
 use Rattle.clr_steps.specs.declared.commands.Reply.TheVariants.{Done, RuleBroken}
 use Rattle.clr_steps.specs.Effects.{after_apply, edited_content, effect}
 use Rattle.clr_steps.specs.Invariants.{OfficeFits}
@@ -57,15 +58,16 @@ module _ (o : Office) (content : Content) where
   none_broken None e = refl
   none_broken (Some need) e = absurd (none-some (RuleBroken need) (sym e))
 
-  this_broken : (found : Option Broken) (need : Broken) → option_map RuleBroken found ≡ Some (RuleBroken need) → found ≡ Some need
-  this_broken None need e = absurd (none-some (RuleBroken need) e)
-  this_broken (Some other) need e = let h : RuleBroken other ≡ RuleBroken need = same_Some (RuleBroken other) (RuleBroken need) e in cc
+  this_broken : (found : Option Broken) (reply : Reply) → option_map RuleBroken found ≡ Some reply → (need : Broken) × (found ≡ Some need) × (reply ≡ RuleBroken need)
+  this_broken None reply e = absurd (none-some reply e)
+  this_broken (Some need) reply e = (need, refl, sym (same_Some (RuleBroken need) reply e))
 
-  pub live_replaced : OfficeFits o → FitsSchema o.schema content → (left : Office) → IsPerformed o (Apply live_name (edits_between o.live content)) None left → IsLiveReplaced o content None left
-  live_replaced fits content_fits left done =
+  pub live_replaced : OfficeFits o → FitsSchema o.schema content → (left : Office) (refused : Option Reply)
+      → IsPerformed o (Apply live_name (edits_between o.live content)) refused left → IsLiveReplaced o content refused left
+  live_replaced fits content_fits left None done =
       let refusal_is = live_refusal fits content_fits in
       let is = not_refused o (Apply live_name (edits_between o.live content)) left (λ h. never_done (first_broken o.book content) (sym refusal_is ∙ h)) done in
       (none_broken (first_broken o.book content) (sym refusal_is ∙ is.0), is.1 ∙ live_effect)
-
-  pub live_broken : OfficeFits o → FitsSchema o.schema content → (need : Broken) (left : Office) → IsPerformed o (Apply live_name (edits_between o.live content)) (Some (RuleBroken need)) left → IsLiveReplaced o content (Some need) left
-  live_broken fits content_fits need left refused = (this_broken (first_broken o.book content) need (sym (live_refusal fits content_fits) ∙ refused.0), refused.1)
+  live_replaced fits content_fits left (Some reply) refused =
+      let broken = this_broken (first_broken o.book content) reply (sym (live_refusal fits content_fits) ∙ refused.0) in
+      (broken.0, broken.1, broken.2, refused.1)

@@ -9,7 +9,7 @@ use Rattle.clr_workspaces.specs.Workspaces.{Workspace}
 use Rattle.clr_steps.specs.declared.commands.Command.{Command}
 use Rattle.clr_steps.specs.declared.commands.Command.TheVariants.{Create, Apply}
 use Rattle.clr_steps.specs.declared.commands.Reply.{Reply}
-use Rattle.clr_steps.specs.declared.commands.Reply.TheVariants.{Done}
+use Rattle.clr_steps.specs.declared.commands.Reply.TheVariants.{Done, RuleBroken}
 use Rattle.clr_steps.specs.Offices.{Office, with_workspaces}
 use Rattle.clr_steps.specs.Refusals.{first_broken, refusal}
 use Rattle.clr_steps.specs.Steps.{answer, run, step}
@@ -58,7 +58,7 @@ IsDesignBegun o name left = (left ≡ o) ⊎ (left ≡ with_design o name o.live
 abbrev pub with_live : Office → Content → Office
 with_live o content = record o { live = content }
 
--- LIVE has this content; or this is the least need that it breaks, and nothing changes
-abbrev pub IsLiveReplaced : Office → Content → Option Broken → Office → Type 0
+-- LIVE has this content; or it breaks a rule, the reply names the least need that it breaks, and nothing changes
+abbrev pub IsLiveReplaced : Office → Content → Option Reply → Office → Type 0
 IsLiveReplaced o content None left = (first_broken o.book content ≡ None) × (left ≡ with_live o content)
-IsLiveReplaced o content (Some need) left = (first_broken o.book content ≡ Some need) × (left ≡ o)
+IsLiveReplaced o content (Some reply) left = (need : Broken) × (first_broken o.book content ≡ Some need) × (reply ≡ RuleBroken need) × (left ≡ o)

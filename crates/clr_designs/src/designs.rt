@@ -9,7 +9,6 @@ ghost use Rattle.clr_designs.specs.Designs.{IsDesignBegun, IsDesignMade, IsLiveR
 use clr_engine::Office;
 use clr_layer_changes::edits_between;
 use clr_rows::{LIVE, Sheet, Words};
-use clr_rules::Broken;
 use clr_steps::{Command, Edits, Reply};
 use std::alloc::{AllocError, Global};
 
@@ -86,21 +85,17 @@ pub fn make_design(
     apply_edits(alloc, office, name, edits)
 }
 
-/// Puts another content in place of LIVE's. Where it breaks a rule, the least need that it breaks is returned, and nothing changes. Nothing else
-/// is refused. Where it fails, which is for want of memory alone, nothing changes.
+/// Puts another content in place of LIVE's. Where it breaks a rule, `RuleBroken` with the least need that it breaks is returned, and nothing changes.
+/// Nothing else is refused. Where it fails, which is for want of memory alone, nothing changes.
 pub fn replace_live(
     alloc: Global,
     office: &mut Office,
     content: &Sheet,
-) -> Result<Option<Broken>, AllocError>
+) -> Result<Option<Reply>, AllocError>
     requires { FitsSchema office.old.schema content.now }
-    ensures replaced { IfOk result (λ broken. IsLiveReplaced office.old content.now broken office.new) }
+    ensures replaced { IfOk result (λ refused. IsLiveReplaced office.old content.now refused office.new) }
     ensures err { OnErr result (office.new ≡ office.old) }
 {
     let edits = edits_between(alloc, office.live(), content)?;
-    match apply_edits(alloc, office, LIVE, edits)? {
-        None => Ok(None),
-        Some(Reply::RuleBroken(need)) => Ok(Some(need)),
-        Some(_) => Err(AllocError),
-    }
+    apply_edits(alloc, office, LIVE, edits)
 }

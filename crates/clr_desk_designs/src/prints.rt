@@ -91,7 +91,7 @@ fn print_of_live(alloc: Global, office: &mut Office, content: &Sheet) -> Result<
 {
     match replace_live(alloc, office, content)? {
         None => Ok(Print::of_text(alloc, office_text(alloc, office)?)),
-        Some(need) => print_of_refusal(alloc, office.schema(), &Reply::RuleBroken(need)),
+        Some(reply) => print_of_refusal(alloc, office.schema(), &reply),
     }
 }
 

@@ -1,7 +1,6 @@
 use Rattle.std.proofs.Common.{Option, ap, subst, ◌∙◌}
 use Rattle.std.proofs.lemmas.Result.{IfOk-weaker}
-use Rattle.clr_rules.specs.declared.needs.Broken.{Broken}
-use Rattle.clr_steps.specs.declared.commands.Reply.TheVariants.{RuleBroken}
+use Rattle.clr_steps.specs.declared.commands.Reply.{Reply}
 use Rattle.clr_steps.specs.Offices.{Office}
 use Rattle.clr_designs.specs.Designs.{IsLiveReplaced}
 use Rattle.clr_desk_designs.specs.Designs.{IsOfficeText, of_broken, of_live, refusal_print}
@@ -11,7 +10,7 @@ pub returns-in_ok-office_text-in-None : goal.returns-in_ok-office_text-in-None
 returns-in_ok-office_text-in-None c =
     let o = c.args.office.now in
     let left = c.replace_live.new.office in
-    let replaced = subst (λ (broken : Option Broken). IsLiveReplaced o c.args.content.now broken left) c.in-None.is c.in_ok-replace_live.ensures.replaced in
+    let replaced = subst (λ (refused : Option Reply). IsLiveReplaced o c.args.content.now refused left) c.in-None.is c.in_ok-replace_live.ensures.replaced in
     let text = c.in_ok-office_text-in-None.field-0.items in
     of_live text replaced.0 (subst (λ (next : Office). IsOfficeText next text) replaced.1 c.in_ok-office_text-in-None.ensures) c.of_text.ensures
 
@@ -19,6 +18,6 @@ pub returns-in-Some : goal.returns-in-Some
 returns-in-Some c =
     let o = c.args.office.now in
     let left = c.replace_live.new.office in
-    let replaced = subst (λ (broken : Option Broken). IsLiveReplaced o c.args.content.now broken left) c.in-Some.is c.in_ok-replace_live.ensures.replaced in
-    let schema = c.schema.ensures.value ∙ ap (λ (next : Office). next.schema) replaced.1 in
-    IfOk-weaker c.print_of_refusal.result _ _ (λ p is. of_broken c.in-Some.need replaced.0 (is ∙ ap (λ tables. refusal_print tables (RuleBroken c.in-Some.need)) schema)) c.print_of_refusal.ensures
+    let replaced = subst (λ (refused : Option Reply). IsLiveReplaced o c.args.content.now refused left) c.in-Some.is c.in_ok-replace_live.ensures.replaced in
+    let schema = c.schema.ensures.value ∙ ap (λ (next : Office). next.schema) replaced.3 in
+    IfOk-weaker c.print_of_refusal.result _ _ (λ p is. of_broken replaced.0 replaced.1 (is ∙ (λ i. refusal_print (schema i) (replaced.2 i)))) c.print_of_refusal.ensures
