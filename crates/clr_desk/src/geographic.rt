@@ -4,7 +4,9 @@ ghost use Rattle.clr_desk.specs.Geographic.{IsGeographicAnswer};
 ghost use Rattle.clr_prints.specs.Printing.{IsMade};
 
 use clr_desk_command_line::GeographicAsk;
-use clr_desk_designs::{GivenLayer, LayerOptions, answer_design, answer_design_script, answer_office};
+use clr_desk_designs::{
+    GivenLayer, LayerOptions, answer_design, answer_design_script, answer_office,
+};
 use clr_desk_features::answer_geojson;
 use clr_desk_layers::answer_layer;
 use clr_office::RunFault;
