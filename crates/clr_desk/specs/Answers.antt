@@ -26,15 +26,18 @@ use Rattle.clr_desk_pages.specs.Reports.{IsReportPrint}
 
 -- what is to be printed for what is asked of an office text, a second text and layers
 abbrev pub IsAnswerWithin : Ask → List ℕ → List ℕ → List GivenLayer → Printed → Type 0
-IsAnswerWithin (ask.Certificate root names) office second layers print = IsPrintIn (IsHinted (IsCertificatePrint (site root names)) (root ∷ names)) (draft_in office) print
+IsAnswerWithin (ask.Certificate root names) office second layers print =
+    IsPrintIn (IsHinted (IsCertificatePrint (site root names)) (root ∷ names)) (draft_in office) print
 IsAnswerWithin (ask.Merge names) office certificate layers print = IsPrintOfCase (IsHintedMerge names) (case_of office certificate) print
 IsAnswerWithin ask.Format office second layers print = IsPrintIn IsFormatPrint (draft_in office) print
 IsAnswerWithin (ask.Keep root names) office second layers print = IsPrintIn (IsHinted (IsChoicePrint root names) (root ∷ names)) (draft_in office) print
 IsAnswerWithin (ask.Clashes root names) office second layers print = IsPrintIn (IsHinted (IsClashesPrint root names) (root ∷ names)) (draft_in office) print
 IsAnswerWithin (ask.Why kind) office second layers print = IsWhyPrint kind office second print
 IsAnswerWithin (ask.Map root names) office second layers print = IsPrintIn (IsHinted (IsMapPrint (site root names)) (root ∷ names)) (draft_in office) print
-IsAnswerWithin (ask.Report root names) office second layers print = IsPrintIn (IsHinted (IsReportPrint (site root names)) (root ∷ names)) (draft_in office) print
-IsAnswerWithin (ask.WorkOrder root names) office second layers print = IsPrintIn (IsHinted (IsOrderPrint (site root names)) (root ∷ names)) (draft_in office) print
+IsAnswerWithin (ask.Report root names) office second layers print =
+    IsPrintIn (IsHinted (IsReportPrint (site root names)) (root ∷ names)) (draft_in office) print
+IsAnswerWithin (ask.WorkOrder root names) office second layers print =
+    IsPrintIn (IsHinted (IsOrderPrint (site root names)) (root ∷ names)) (draft_in office) print
 IsAnswerWithin (ask.Geographic asked) office second layers print = IsGeographicAnswer asked office layers print
 
 -- the same where `too_long` says whether a text is
@@ -46,7 +49,8 @@ abbrev pub is_too_long_layer : GivenLayer → Bool
 is_too_long_layer layer = is_too_long layer.text.items
 
 abbrev pub IsAnswerTo : Ask → List ℕ → List ℕ → List GivenLayer → Printed → Type 0
-IsAnswerTo asked office second layers print = IsAnswerIf (is_too_long office || is_too_long second || list_any is_too_long_layer layers) asked office second layers print
+IsAnswerTo asked office second layers print =
+    IsAnswerIf (is_too_long office || is_too_long second || list_any is_too_long_layer layers) asked office second layers print
 
 -- the sink of the text and that of the notes: what each held before and holds now, where it tells, and whether it failed
 pub record Sinks : Type 0 where

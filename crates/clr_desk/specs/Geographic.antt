@@ -19,7 +19,8 @@ options_of first_key rounded = record { first_key = first_key; rounded = rounded
 -- what is to be printed for what is asked of an office text and layers
 abbrev pub IsGeographicAnswer : GeographicAsk → List ℕ → List GivenLayer → Printed → Type 0
 IsGeographicAnswer (ask.Features root names system) office layers print = IsFeaturesAnswer (site root names) (root ∷ names) system (draft_in office) print
-IsGeographicAnswer (ask.Layer table workspace) office layers print = IsPrintIn (IsHinted (IsLayerPrint table workspace) (workspace ∷ [])) (draft_in office) print
+IsGeographicAnswer (ask.Layer table workspace) office layers print =
+    IsPrintIn (IsHinted (IsLayerPrint table workspace) (workspace ∷ [])) (draft_in office) print
 IsGeographicAnswer (ask.Office tables rounded) office layers print = IsPrintIn (IsOfficePrint (options_of 1 rounded) layers) (draft_in office) print
 IsGeographicAnswer (ask.Design design) office layers print =
     IsPrintIn (IsDesignPrint design.name (options_of design.first_key design.is_rounded) layers) (draft_in office) print

@@ -1,23 +1,17 @@
 //! What is printed in the texts of geographic information systems, and of such texts.
 
-ghost use Rattle.std.specs.Prelude.{◌≡◌};
-ghost use Rattle.clr_desk.specs.Geographic.{IsGeographicAnswer, options_of};
+ghost use Rattle.clr_desk.specs.Geographic.{IsGeographicAnswer};
 ghost use Rattle.clr_prints.specs.Printing.{IsMade};
 
 use clr_desk_command_line::GeographicAsk;
-use clr_desk_designs::{GivenLayer, LayerOptions, answer_design, answer_design_script, answer_office};
+use clr_desk_designs::{
+    GivenLayer, LayerOptions, answer_design, answer_design_script, answer_office,
+};
 use clr_desk_features::answer_geojson;
 use clr_desk_layers::answer_layer;
 use clr_office::RunFault;
 use clr_prints::Print;
 use std::alloc::Global;
-
-/// Returns how layers are read.
-fn options_of(first_key: u64, rounded: bool) -> LayerOptions
-    ensures { result ≡ options_of first_key rounded }
-{
-    LayerOptions { first_key, rounded }
-}
 
 /// Returns what is printed for what is asked of an office text and layers in the texts of geographic information systems.
 pub(crate) fn answer_geographic(
@@ -40,14 +34,24 @@ pub(crate) fn answer_geographic(
             answer_layer(alloc, office, table.as_str(), workspace.as_str())
         }
         GeographicAsk::Office(_, rounded) => {
-            answer_office(alloc, office, options_of(1, *rounded), layers)
+            let options = LayerOptions {
+                first_key: 1,
+                rounded: *rounded,
+            };
+            answer_office(alloc, office, options, layers)
         }
         GeographicAsk::Design(design) => {
-            let options = options_of(design.first_key, design.is_rounded);
+            let options = LayerOptions {
+                first_key: design.first_key,
+                rounded: design.is_rounded,
+            };
             answer_design(alloc, office, design.name.as_str(), options, layers)
         }
         GeographicAsk::DesignScript(design) => {
-            let options = options_of(design.first_key, design.is_rounded);
+            let options = LayerOptions {
+                first_key: design.first_key,
+                rounded: design.is_rounded,
+            };
             answer_design_script(alloc, office, design.name.as_str(), options, layers)
         }
     }

@@ -61,7 +61,15 @@ fn answer_files(rt: &HostRuntime, ask: &Ask, files: &[Words]) -> Result<u8, RunF
     let (office, second) = (text_at(&texts, 0), text_at(&texts, 1));
     let (mut writer, mut notes) = (Port::new(rt.stdout()), Port::new(rt.stderr()));
     let layers = layers.as_slice();
-    match answer(rt.alloc(), ask, office, second, layers, &mut writer, &mut notes) {
+    match answer(
+        rt.alloc(),
+        ask,
+        office,
+        second,
+        layers,
+        &mut writer,
+        &mut notes,
+    ) {
         Ok(status) => Ok(status),
         Err(fault) => Ok(refuse_texts(rt, fault, files, office, second)),
     }
