@@ -40,7 +40,8 @@ is_broken rules content b h = record {
   named = h.named;
 }
 
-none_serves : (rules : List Rule) (content : Content) (ask : Ask) (s : Held) (t : Option Held) → (IsMet rules (row_at content) ask s t → ⊥) → list_any (serves rules ask s t) (rows_in content) ≡ false
+none_serves : (rules : List Rule) (content : Content) (ask : Ask) (s : Held) (t : Option Held) → (IsMet rules (row_at content) ask s t → ⊥)
+    → list_any (serves rules ask s t) (rows_in content) ≡ false
 none_serves rules content ask s t unmet = go (list_any (serves rules ask s t) (rows_in content)) refl
   where
     go : (b : Bool) → list_any (serves rules ask s t) (rows_in content) ≡ b → b ≡ false
@@ -60,8 +61,10 @@ broken_among rules content b h = record {
 
 -- the audit --------------------------------------------------------------------------------------
 -- the rows are those of a content, and the list has gained the needs of all rules
-pub audit_is : (rules : List Rule) (content : Content) (rows : List Held) (gained list : List Broken) (count : ℕ) → rows ≡ rows_in content → length rules ≡ count
-    → Gains rules rows (λ b h. b.rule < count) [] gained → IsStrictlySortedBy broken_cmp list → ((b : Broken) → (Contains list b → Contains gained b) × (Contains gained b → Contains list b))
+pub audit_is : (rules : List Rule) (content : Content) (rows : List Held) (gained list : List Broken) (count : ℕ) → rows ≡ rows_in content → length rules
+    ≡ count
+    → Gains rules rows (λ b h. b.rule < count) [] gained → IsStrictlySortedBy broken_cmp list → ((b : Broken) → (Contains list b → Contains gained b)
+    × (Contains gained b → Contains list b))
     → list ≡ broken_needs rules content
 audit_is rules content rows gained list count rows_are all gains rising same =
     let whole = lists_broken rules content in

@@ -38,14 +38,19 @@ module _ (index : RoleIndex) (roles : Roles) (xs : List Spot) (wide : Bool) (old
   partners_begun new begun = then_begun old (partners index roles xs wide) old new [] (near index.boths xs wide)
       (cond roles.second (near index.firsts xs wide) [] ++ cond roles.first (near index.seconds xs wide) []) (sym (append-nil old)) refl begun
 
-  pub firsts_begun : (mid new : List FiledPart) → roles.second ≡ true → mid ≡ old ++ near index.boths xs wide → IsBegun mid (near index.firsts xs wide) new → IsBegun old (partners index roles xs wide) new
-  firsts_begun mid new second is begun = then_begun old (partners index roles xs wide) mid new (near index.boths xs wide) (near index.firsts xs wide) (cond roles.first (near index.seconds xs wide) []) is
+  pub firsts_begun : (mid new : List FiledPart) → roles.second ≡ true → mid ≡ old ++ near index.boths xs wide → IsBegun mid (near index.firsts xs wide) new
+      → IsBegun old (partners index roles xs wide) new
+  firsts_begun mid new second is begun = then_begun old (partners index roles xs wide) mid new (near index.boths xs wide) (near index.firsts xs wide)
+      (cond roles.first (near index.seconds xs wide) []) is
       (ap (λ b. near index.boths xs wide ++ (cond b (near index.firsts xs wide) [] ++ cond roles.first (near index.seconds xs wide) [])) second) begun
 
-  pub seconds_begun : (mid new : List FiledPart) → roles.first ≡ true → mid ≡ (old ++ near index.boths xs wide) ++ cond roles.second (near index.firsts xs wide) []
+  pub seconds_begun : (mid new : List FiledPart) → roles.first ≡ true → mid ≡ (old ++ near index.boths xs wide)
+      ++ cond roles.second (near index.firsts xs wide) []
       → IsBegun mid (near index.seconds xs wide) new → IsBegun old (partners index roles xs wide) new
   seconds_begun mid new first is begun =
       let firsts = cond roles.second (near index.firsts xs wide) [] in
-      then_begun old (partners index roles xs wide) mid new (near index.boths xs wide ++ firsts) (near index.seconds xs wide) [] (is ∙ append_assoc old (near index.boths xs wide) firsts)
+      then_begun old (partners index roles xs wide) mid new (near index.boths xs wide ++ firsts) (near index.seconds xs wide) [] (is
+      ∙ append_assoc old (near index.boths xs wide) firsts)
       (ap (λ b. near index.boths xs wide ++ (firsts ++ cond b (near index.seconds xs wide) [])) first
-      ∙ sym (append_assoc (near index.boths xs wide) firsts (near index.seconds xs wide)) ∙ ap (λ es. (near index.boths xs wide ++ firsts) ++ es) (sym (append-nil (near index.seconds xs wide)))) begun
+      ∙ sym (append_assoc (near index.boths xs wide) firsts (near index.seconds xs wide)) ∙ ap (λ es. (near index.boths xs wide ++ firsts)
+      ++ es) (sym (append-nil (near index.seconds xs wide)))) begun

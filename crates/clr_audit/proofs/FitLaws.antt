@@ -11,7 +11,8 @@ use Rattle.clr_rules.proofs.Elements.{Among, among_left, among_right}
 use Rattle.clr_rules.proofs.Fits.{AreAmong, fit_part}
 
 -- the subjects and one of the rows
-pub fit_served : (rules : List Rule) (s r : Held) (t : Option Held) (rows : List Held) → FitTogether rules (s ∷ (option_to_list t ++ rows)) → Among r rows → FitTogether rules (s ∷ r ∷ option_to_list t)
+pub fit_served : (rules : List Rule) (s r : Held) (t : Option Held) (rows : List Held) → FitTogether rules (s ∷ (option_to_list t ++ rows)) → Among r rows
+    → FitTogether rules (s ∷ r ∷ option_to_list t)
 fit_served rules s r t rows fit h = fit_part rules (s ∷ r ∷ option_to_list t) (s ∷ (option_to_list t ++ rows)) fit each
   where
     each : AreAmong (s ∷ r ∷ option_to_list t) (s ∷ (option_to_list t ++ rows))
@@ -54,5 +55,7 @@ fit_again rules s rows fit h = fit_part rules (s ∷ rows) rows fit each
     each x (inr k) = k
 
 -- the rows up to one of them
-pub rows_more : (rows : List Borrowed) (k : ℕ) (row : Borrowed) → k < length rows → row ≡ slice_index_or rows k row → map held_of (take (k + 1) rows) ≡ map held_of (take k rows) ++ held_of row ∷ []
-rows_more rows k row less is = ap (map held_of) (take_more rows k row less ∙ ap (λ r. take k rows ++ r ∷ []) (sym is)) ∙ map-append held_of (take k rows) (row ∷ [])
+pub rows_more : (rows : List Borrowed) (k : ℕ) (row : Borrowed) → k < length rows → row ≡ slice_index_or rows k row → map held_of (take (k + 1) rows)
+    ≡ map held_of (take k rows) ++ held_of row ∷ []
+rows_more rows k row less is = ap (map held_of) (take_more rows k row less ∙ ap (λ r. take k rows ++ r ∷ []) (sym is))
+    ∙ map-append held_of (take k rows) (row ∷ [])

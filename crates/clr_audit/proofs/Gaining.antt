@@ -26,11 +26,13 @@ module _ (rules : List Rule) (rows : List Held) where
   }
 
   -- less is wanted
-  pub gains_less : (V W : Wanted) (xs ys : List Broken) → Gains rules rows V xs ys → ((b : Broken) (h : IsBrokenAmong rules rows b) → W b h → V b h) → Gains rules rows W xs ys
+  pub gains_less : (V W : Wanted) (xs ys : List Broken) → Gains rules rows V xs ys → ((b : Broken) (h : IsBrokenAmong rules rows b) → W b h → V b h)
+      → Gains rules rows W xs ys
   gains_less V W xs ys g less = record { stay = g.stay; only = g.only; found = λ b h w. g.found b h (less b h w) }
 
   -- a list of the same needs
-  pub gains_same : (W : Wanted) (xs ys zs : List Broken) → Gains rules rows W xs ys → ((b : Broken) → (Contains zs b → Contains ys b) × (Contains ys b → Contains zs b)) → Gains rules rows W xs zs
+  pub gains_same : (W : Wanted) (xs ys zs : List Broken) → Gains rules rows W xs ys → ((b : Broken) → (Contains zs b → Contains ys b)
+      × (Contains ys b → Contains zs b)) → Gains rules rows W xs zs
   gains_same W xs ys zs g same = record {
     stay = λ b h. (same b).1 (g.stay b h);
     only = λ b h. g.only b ((same b).0 h);
@@ -42,7 +44,11 @@ module _ (rules : List Rule) (rows : List Held) where
       → ((b : Broken) (h : IsBrokenAmong rules rows b) → W b h → Among b more) → Gains rules rows W xs ys
   gains_listed W xs ys more is each all = record {
     stay = λ b h. subst (λ l. Contains l b) (sym is) (contained b (xs ++ more) (among_left b xs more (among b xs h)));
-    only = λ b h. elim (among_either b xs more (among b (xs ++ more) (subst (λ l. Contains l b) is h))) [ inl m ↦ inl (contained b xs m) | inr m ↦ inr (each b m) ];
+    only = λ b h. elim (among_either b xs more (among b (xs ++ more) (subst (λ l. Contains l b) is h))) [
+      | inl m ↦ inl (contained b xs m)
+      | inr m ↦ inr
+          (each b m)
+    ];
     found = λ b h w. subst (λ l. Contains l b) (sym is) (contained b (xs ++ more) (among_right b xs more (all b h w)));
   }
 
@@ -52,7 +58,8 @@ module _ (rules : List Rule) (rows : List Held) where
   gains_no_more xs ys same = subst (λ l. Gains rules rows (λ b h. ⊥) xs l) (sym same) (gains_none (λ b h. ⊥) xs (λ b h w. w))
 
   -- a beginning of a list of broken needs is added
-  pub gains_begun : (xs ys more : List Broken) → IsBegun xs more ys → ((b : Broken) → Among b more → IsBrokenAmong rules rows b) → Gains rules rows (λ b h. ⊥) xs ys
+  pub gains_begun : (xs ys more : List Broken) → IsBegun xs more ys → ((b : Broken) → Among b more → IsBrokenAmong rules rows b)
+      → Gains rules rows (λ b h. ⊥) xs ys
   gains_begun xs ys more begun each =
       let added = drop (length xs) ys in
       gains_listed (λ b h. ⊥) xs ys added (added_is xs more ys begun)

@@ -50,7 +50,8 @@ by_cells a b = ordering_then (cell_cmp a.first b.first) (by_others a b)
 
 lower_first : (m c : Broken) → m.rule ≡ c.rule → cell_cmp m.first c.first ≡ Less → is_gt (broken_cmp m c) ≡ false
 unfolding broken_cmp
-lower_first m c same less = ap is_gt (ap (λ o. ordering_then o (by_cells m c)) (ap (nat_cmp m.rule) (sym same) ∙ tied_itself nat_cmp_total m.rule) ∙ first_differs (cell_cmp m.first c.first) (by_others m c) less)
+lower_first m c same less = ap is_gt (ap (λ o. ordering_then o (by_cells m c)) (ap (nat_cmp m.rule) (sym same) ∙ tied_itself nat_cmp_total m.rule)
+    ∙ first_differs (cell_cmp m.first c.first) (by_others m c) less)
 
 before_next : (a x y : CellId) → is_gt (cell_cmp a x) ≡ false → cell_cmp x y ≡ Less → cell_cmp a y ≡ Less
 before_next a x y not_after less = go (cell_cmp a x) refl
@@ -68,7 +69,8 @@ not_greater Greater h = absurd (false≢true h)
 up_to : (n : ℕ) (cell : CellId) (m : Broken) → is_up_to n cell m ≡ true → (m.rule < n) ⊎ ((m.rule ≡ n) × (is_gt (cell_cmp m.first cell) ≡ false))
 up_to n cell m e = go (nat_cmp m.rule n) refl e
   where
-    go : (r : Ordering) → r ≡ nat_cmp m.rule n → is_le (ordering_then r (cell_cmp m.first cell)) ≡ true → (m.rule < n) ⊎ ((m.rule ≡ n) × (is_gt (cell_cmp m.first cell) ≡ false))
+    go : (r : Ordering) → r ≡ nat_cmp m.rule n → is_le (ordering_then r (cell_cmp m.first cell)) ≡ true → (m.rule < n)
+        ⊎ ((m.rule ≡ n) × (is_gt (cell_cmp m.first cell) ≡ false))
     go Less is h = inl (ranked m.rule n Less is)
     go Equal is h = inr (ranked m.rule n Equal is, not_greater (cell_cmp m.first cell) h)
     go Greater is h = absurd (false≢true h)
@@ -82,7 +84,8 @@ same_least m b h k = go (broken_cmp m b) refl
     go Greater e = absurd (true≢false (sym (ap is_gt e) ∙ h))
 
 -- ---- a list in order
-pub least_listed : (old new : List Broken) (m : Broken) → IsStrictlySortedBy broken_cmp new → ((b : Broken) → (Contains new b → Contains old b) × (Contains old b → Contains new b)) → slice_get new 0 ≡ Some m → IsLeastListed old m
+pub least_listed : (old new : List Broken) (m : Broken) → IsStrictlySortedBy broken_cmp new → ((b : Broken) → (Contains new b → Contains old b)
+    × (Contains old b → Contains new b)) → slice_get new 0 ≡ Some m → IsLeastListed old m
 unfolding IsStrictlySortedBy
 least_listed old new m rising same is = record {
   listed = (same m).0 (contained m new (there new is));
@@ -96,13 +99,16 @@ least_listed old new m rising same is = record {
     go : (xs : List Broken) → IsStrictlySortedBy broken_cmp xs → slice_get xs 0 ≡ Some m → (c : Broken) → Among c xs → is_gt (broken_cmp m c) ≡ false
     go [] p e c h = absurd (cc)
     go (x ∷ xs) p e c (inl one) = let first : x ≡ m = cc in ap is_gt (ap (λ z. broken_cmp m z) (sym one ∙ first) ∙ tied_itself broken_total m)
-    go (x ∷ xs) p e c (inr later) = let first : x ≡ m = cc in ap is_gt (ap (λ z. broken_cmp z c) (sym first) ∙ each_of (λ y. broken_cmp x y ≡ Less) c xs p.0 later)
+    go (x ∷ xs) p e c (inr later) = let first : x ≡ m = cc in ap is_gt (ap (λ z. broken_cmp z c) (sym first)
+        ∙ each_of (λ y. broken_cmp x y ≡ Less) c xs p.0 later)
 
 -- ---- rows in order
-later_row : (rows : List Borrowed) → AreInOrder (map held_of rows) → (i : ℕ) (s : Borrowed) (t : Held) → i < length rows → s ≡ get_or rows i s → Among t (map held_of (drop (i + 1) rows)) → cell_cmp s.cell t.0 ≡ Less
+later_row : (rows : List Borrowed) → AreInOrder (map held_of rows) → (i : ℕ) (s : Borrowed) (t : Held) → i < length rows → s ≡ get_or rows i s
+    → Among t (map held_of (drop (i + 1) rows)) → cell_cmp s.cell t.0 ≡ Less
 unfolding IsStrictlySortedBy
 later_row [] p i s t less is h = absurd (omega (arith, less))
-later_row (r ∷ rows) p zero s t less is h = subst (λ (x : Borrowed). cell_cmp x.cell t.0 ≡ Less) (sym is) (each_of (λ y. cell_cmp r.cell y.0 ≡ Less) t (map held_of rows) p.0 h)
+later_row (r ∷ rows) p zero s t less is h = subst (λ (x : Borrowed). cell_cmp x.cell t.0 ≡ Less) (sym is) (each_of (λ y. cell_cmp r.cell y.0
+    ≡ Less) t (map held_of rows) p.0 h)
 later_row (r ∷ rows) p (suc i) s t less is h = later_row rows p.1 i s t (omega (arith, less)) is
     (let next : suc i + 1 ≡ suc (i + 1) = omega arith in subst (λ (k : ℕ). Among t (map held_of (drop k (r ∷ rows)))) next h)
 
@@ -118,16 +124,19 @@ pub row_gained : (rules : List Rule) (rows : List Borrowed) (n i : ℕ) (s : Bor
     → Gains rules (map held_of rows) (IsOfRow n (held_of s)) list after
     → Gains rules (map held_of rows) (λ b h. (b.rule ≡ n) × Contains (map held_of (take (i + 1) rows)) h.first) before after
 row_gained rules rows n i s before list after less is g k =
-    gains_more rules (map held_of rows) (λ b h. (b.rule ≡ n) × Contains (map held_of (take i rows)) h.first) (IsOfRow n (held_of s)) (λ b h. (b.rule ≡ n) × Contains (map held_of (take (i + 1) rows)) h.first)
+    gains_more rules (map held_of rows) (λ b h. (b.rule ≡ n) × Contains (map held_of (take i rows)) h.first) (IsOfRow n (held_of s)) (λ b h. (b.rule ≡ n)
+    × Contains (map held_of (take (i + 1) rows)) h.first)
     before list after g k
-    (λ b h w. elim (among_either h.first (map held_of (take i rows)) (held_of s ∷ []) (subst (Among h.first) (rows_more rows i s less is) (among h.first (map held_of (take (i + 1) rows)) w.1))) [
+    (λ b h w. elim (among_either h.first (map held_of (take i rows)) (held_of s
+    ∷ []) (subst (Among h.first) (rows_more rows i s less is) (among h.first (map held_of (take (i + 1) rows)) w.1))) [
       | inl l ↦ inl (w.0, contained h.first (map held_of (take i rows)) l)
       | inr (inl e) ↦ inr (w.0, sym e)
       | inr (inr l) ↦ absurd l
     ])
 
 -- ---- the least
-pub least_found : (rules : List Rule) (rows : List Borrowed) (n i : ℕ) (s : Borrowed) (before list : List Broken) (m : Broken) → i < length rows → s ≡ get_or rows i s → AreInOrder (map held_of rows)
+pub least_found : (rules : List Rule) (rows : List Borrowed) (n i : ℕ) (s : Borrowed) (before list : List Broken) (m : Broken) → i < length rows → s
+    ≡ get_or rows i s → AreInOrder (map held_of rows)
     → Gains rules (map held_of rows) (λ b h. (b.rule ≡ n) × Contains (map held_of (take (i + 1) rows)) h.first) before list
     → IsLeastListed list m → is_up_to n s.cell m ≡ true → IsLeastAmong rules (map held_of rows) n before m
 least_found rules rows n i s before list m less is rise gains first early = record { broken = gains.only m first.listed; least = least }
@@ -138,7 +147,8 @@ least_found rules rows n i s before list m less is rise gains first early = reco
     rule_low : (k : ℕ) → n < k → m.rule < k
     rule_low k more = elim up [ inl lower ↦ omega (arith, lower, more) | inr same ↦ omega (arith, same.0, more) ]
 
-    later : (c : Broken) (h : IsBrokenAmong rules (map held_of rows) c) → c.rule ≡ n → Among h.first (map held_of (drop (i + 1) rows)) → is_gt (broken_cmp m c) ≡ false
+    later : (c : Broken) (h : IsBrokenAmong rules (map held_of rows) c) → c.rule ≡ n → Among h.first (map held_of (drop (i + 1) rows)) → is_gt (broken_cmp m c)
+        ≡ false
     later c h same there = elim up [
       | inl lower ↦ lower_rule m c (omega (arith, lower, same))
       | inr equal ↦ lower_first m c (equal.0 ∙ sym same) (subst (λ q. cell_cmp m.first q ≡ Less) (sym (ap (λ (b : Broken). b.first) h.named))
@@ -149,14 +159,16 @@ least_found rules rows n i s before list m less is rise gains first early = reco
     least c h (inl old) = first.least c (gains.stay c old)
     least c h (inr from) = elim (cases_lt n c.rule) [
       | inl more ↦ lower_rule m c (rule_low c.rule more)
-      | inr no_more ↦ (let same : c.rule ≡ n = omega (arith, from, no_more) in elim (either_part rows (i + 1) h.first (among h.first (map held_of rows) h.listed)) [
-        | inl found ↦ first.least c (gains.found c h (same, contained h.first (map held_of (take (i + 1) rows)) found))
-        | inr there ↦ later c h same there
-      ])
+      | inr no_more ↦ (let same : c.rule ≡ n = omega (arith, from, no_more) in
+          elim (either_part rows (i + 1) h.first (among h.first (map held_of rows) h.listed)) [
+            | inl found ↦ first.least c (gains.found c h (same, contained h.first (map held_of (take (i + 1) rows)) found))
+            | inr there ↦ later c h same there
+          ])
     ]
 
 -- the least of all is the first that an audit lists
-pub first_is : (rules : List Rule) (content : Content) (rows : List Held) (n : ℕ) (before : List Broken) (m : Broken) → rows ≡ rows_in content → Gains rules rows (λ b h. b.rule < n) [] before
+pub first_is : (rules : List Rule) (content : Content) (rows : List Held) (n : ℕ) (before : List Broken) (m : Broken) → rows ≡ rows_in content
+    → Gains rules rows (λ b h. b.rule < n) [] before
     → IsLeastAmong rules rows n before m → Some m ≡ slice_get (broken_needs rules content) 0
 first_is rules content rows n before m rows_are gains_rows least_rows = go (slice_get (broken_needs rules content) 0) (lists_broken rules content).first
   where

@@ -64,7 +64,8 @@ pub record IsReady (search : Search) (spots : Spots) (part : ℕ) (s : Held) : T
   pub wide : spots.wide ≡ are_many (subject_spots_under search.book.now search.rule part s)
 
 -- a row is filed at its position
-row_filed : (search : Search) (spots : Spots) (part : ℕ) (s : Held) → IsReady search spots part s → (k : ℕ) (t : Held) → slice_get (map held_of search.rows.now) k ≡ Some t
+row_filed : (search : Search) (spots : Spots) (part : ℕ) (s : Held) → IsReady search spots part s → (k : ℕ) (t : Held)
+    → slice_get (map held_of search.rows.now) k ≡ Some t
     → IsRowFiled search.book.now search.rule search.index.now k t
 row_filed search spots part s ready k t at =
     let here : 0 + k ≡ k = omega arith in
@@ -73,7 +74,8 @@ row_filed search spots part s ready k t at =
     (rows_filed search.book.now search.rule no_rows_filed 0 (map held_of search.rows.now) k t at))
 
 -- servers ----------------------------------------------------------------------------------------
-served_by_row : (rules : List Rule) (ask : Ask) (rows : List Held) (s : Held) (t : Option Held) (e : FiledPart) → serves_at rules ask rows s t e ≡ true → list_any (serves rules ask s t) rows ≡ true
+served_by_row : (rules : List Rule) (ask : Ask) (rows : List Held) (s : Held) (t : Option Held) (e : FiledPart) → serves_at rules ask rows s t e ≡ true
+    → list_any (serves rules ask s t) rows ≡ true
 served_by_row rules ask rows s t e f = go (slice_get rows e.position) refl f
   where
     go : (o : Option Held) → slice_get rows e.position ≡ o → serves_if rules ask s t o ≡ true → list_any (serves rules ask s t) rows ≡ true
@@ -91,8 +93,10 @@ abbrev pub FindAll : Search → ℕ → Held → List FiledPart → Type 0
 FindAll search part s servers = (other : ℕ) (t : Held) → FindServers search part other s (Some t) servers
 
 -- a server is found near the first subject's spots exactly where some row serves
-served_alike : (search : Search) (spots : Spots) (part other : ℕ) (s : Held) (t : Option Held) → IsReady search spots part s → calls search.book.now (ask_of_parts search.rule part other) s t ≡ true
-    → list_any (serves_at search.book.now (ask_of_parts search.rule part other) (map held_of search.rows.now) s t) (near search.index.now.servers spots.list spots.wide)
+served_alike : (search : Search) (spots : Spots) (part other : ℕ) (s : Held) (t : Option Held) → IsReady search spots part s
+    → calls search.book.now (ask_of_parts search.rule part other) s t ≡ true
+    → list_any (serves_at search.book.now (ask_of_parts search.rule part other) (map held_of search.rows.now) s t)
+    (near search.index.now.servers spots.list spots.wide)
     ≡ list_any (serves search.book.now (ask_of_parts search.rule part other) s t) (map held_of search.rows.now)
 served_alike search spots part other s t ready called =
     let rules = search.book.now in
@@ -108,7 +112,8 @@ served_alike search spots part other s t ready called =
     let filed = (row_filed search spots part s ready k r at).server (server_role rules ask s t r g) in
     let found : Among (entry k 1) (near servers (unless_many xs) (are_many xs)) = found_among servers (entry k 1) xs (server_spots_under rules n r) filed (servers_meet rules ask s t r called g) in
     let here : Among (entry k 1) (near servers spots.list spots.wide) =
-    subst (λ (ys : List Spot). Among (entry k 1) (near servers ys spots.wide)) (sym ready.list) (subst (λ (b : Bool). Among (entry k 1) (near servers (unless_many xs) b)) (sym ready.wide) found) in
+    subst (λ (ys : List Spot). Among (entry k 1) (near servers ys spots.wide)) (sym ready.list)
+    (subst (λ (b : Bool). Among (entry k 1) (near servers (unless_many xs) b)) (sym ready.wide) found) in
     any_by (serves_at rules ask rows s t) (entry k 1) (near servers spots.list spots.wide) here (ap (serves_if rules ask s t) at ∙ g))
 
 -- what serves two parts may serve the first of them
@@ -117,7 +122,8 @@ crossed None f p h = absurd (false≢true h)
 crossed (Some a) None p h = absurd (false≢true h)
 crossed (Some a) (Some b) None h = absurd (false≢true h)
 crossed (Some a) (Some b) (Some p) h =
-    (and_parts (lies_on p a.0 a.1) (lies_on p b.0 b.1) (and_parts (not (have_two_common_points a.0 a.1 b.0 b.1)) (lies_on p a.0 a.1 && lies_on p b.0 b.1) h).1).0
+    (and_parts (lies_on p a.0 a.1) (lies_on p b.0 b.1) (and_parts (not (have_two_common_points a.0 a.1 b.0 b.1)) (lies_on p a.0 a.1
+    && lies_on p b.0 b.1) h).1).0
 
 part_served : (rule : Option Rule) (ask : Ask) (s t r : Held) → is_server_of rule ask s (Some t) r ≡ true → may_serve_part_by rule ask.first_part s r ≡ true
 unfolding is_server may_serve_part
@@ -130,16 +136,19 @@ part_served (Some (Crossing a b server)) ask s t r h =
     crossed (part_of s.1.shape ask.first_part) (part_of t.1.shape ask.second_part) (point_of r)
     (and_parts (is_of_side server r) (is_crossing_at (part_of s.1.shape ask.first_part) (part_of t.1.shape ask.second_part) (point_of r)) h).1
 
-entry_served : (search : Search) (part other : ℕ) (s t : Held) (e : FiledPart) → serves_at search.book.now (ask_of_parts search.rule part other) (map held_of search.rows.now) s (Some t) e ≡ true → may_serve_at search part s e ≡ true
+entry_served : (search : Search) (part other : ℕ) (s t : Held) (e : FiledPart)
+    → serves_at search.book.now (ask_of_parts search.rule part other) (map held_of search.rows.now) s (Some t) e ≡ true → may_serve_at search part s e ≡ true
 unfolding serves
 entry_served search part other s t e h = go (slice_get (map held_of search.rows.now) e.position) h
   where
-    go : (o : Option Held) → serves_if search.book.now (ask_of_parts search.rule part other) s (Some t) o ≡ true → may_serve_if search.book.now search.rule part s o ≡ true
+    go : (o : Option Held) → serves_if search.book.now (ask_of_parts search.rule part other) s (Some t) o ≡ true
+        → may_serve_if search.book.now search.rule part s o ≡ true
     go None g = absurd (false≢true g)
     go (Some r) g = part_served (slice_get search.book.now search.rule) (ask_of_parts search.rule part other) s t r g
 
 -- so only those are looked at
-pub part_alike : (search : Search) (spots : Spots) (part : ℕ) (s : Held) → IsReady search spots part s → FindAll search part s (servers_of_part search part s spots)
+pub part_alike : (search : Search) (spots : Spots) (part : ℕ) (s : Held) → IsReady search spots part s
+    → FindAll search part s (servers_of_part search part s spots)
 part_alike search spots part s ready other t called =
     let rules = search.book.now in
     let ask = ask_of_parts search.rule part other in
@@ -158,22 +167,26 @@ abbrev need_of : List Rule → Ask → List Held → Held → Option Held → Li
 need_of rules ask rows s t = cond (calls rules ask s t && not (list_any (serves rules ask s t) rows)) (broken_at ask s t ∷ []) []
 
 need_is : (search : Search) (servers : List FiledPart) (part other : ℕ) (s : Held) (t : Option Held) → FindServers search part other s t servers
-    → need_if_broken search servers (ask_of_parts search.rule part other) s t ≡ need_of search.book.now (ask_of_parts search.rule part other) (map held_of search.rows.now) s t
+    → need_if_broken search servers (ask_of_parts search.rule part other) s t
+    ≡ need_of search.book.now (ask_of_parts search.rule part other) (map held_of search.rows.now) s t
 need_is search servers part other s t alike = go (calls search.book.now (ask_of_parts search.rule part other) s t) refl
   where
     ask : Ask
     ask = ask_of_parts search.rule part other
 
     go : (b : Bool) → calls search.book.now ask s t ≡ b
-        → ◌≡◌ {A = List Broken} (cond (b && not (list_any (serves_at search.book.now ask (map held_of search.rows.now) s t) servers)) (broken_at ask s t ∷ []) [])
+        → ◌≡◌ {A = List Broken} (cond (b && not (list_any (serves_at search.book.now ask (map held_of search.rows.now) s t) servers)) (broken_at ask s t
+        ∷ []) [])
         (cond (b && not (list_any (serves search.book.now ask s t) (map held_of search.rows.now))) (broken_at ask s t ∷ []) [])
     go false e = refl
     go true e = ap (λ (served : Bool). cond (not served) (broken_at ask s t ∷ []) []) (alike e)
 
-need_broken : (rules : List Rule) (ask : Ask) (rows : List Held) (s : Held) (t : Option Held) (b : Broken) → Contains rows s → IsBeside rows s t → Among b (need_of rules ask rows s t) → IsBrokenAmong rules rows b
+need_broken : (rules : List Rule) (ask : Ask) (rows : List Held) (s : Held) (t : Option Held) (b : Broken) → Contains rows s → IsBeside rows s t
+    → Among b (need_of rules ask rows s t) → IsBrokenAmong rules rows b
 need_broken rules ask rows s t b listed beside h = go (calls rules ask s t && not (list_any (serves rules ask s t) rows)) refl h
   where
-    go : (c : Bool) → (calls rules ask s t && not (list_any (serves rules ask s t) rows)) ≡ c → Among b (cond c (broken_at ask s t ∷ []) []) → IsBrokenAmong rules rows b
+    go : (c : Bool) → (calls rules ask s t && not (list_any (serves rules ask s t) rows)) ≡ c → Among b (cond c (broken_at ask s t ∷ []) [])
+        → IsBrokenAmong rules rows b
     go false e k = absurd k
     go true e (inr k) = absurd k
     go true e (inl is) =
@@ -195,22 +208,26 @@ record IsNeeded (rules : List Rule) (rows : List Held) (ask : Ask) (s : Held) (t
   pub unmet : list_any (serves rules ask s t) rows ≡ false
   pub named : b ≡ broken_at ask s t
 
-needed : (rules : List Rule) (rows : List Held) (n part other : ℕ) (s : Held) (b : Broken) (h : IsBrokenAmong rules rows b) → b.rule ≡ n → b.first_part ≡ part → b.second_part ≡ other → h.first ≡ s
+needed : (rules : List Rule) (rows : List Held) (n part other : ℕ) (s : Held) (b : Broken) (h : IsBrokenAmong rules rows b) → b.rule ≡ n → b.first_part ≡ part
+    → b.second_part ≡ other → h.first ≡ s
     → IsNeeded rules rows (ask_of_parts n part other) s h.second b
 needed rules rows n part other s b h number one two first =
     let is : ask_of b ≡ ask_of_parts n part other = λ i. ask_of_parts (number i) (one i) (two i) in
     subst (λ (ask : Ask). IsNeeded rules rows ask s h.second b) is (subst (λ (f : Held). IsNeeded rules rows (ask_of b) f h.second b) first
     (record { beside = h.beside; they_call = h.they_call; unmet = h.unmet; named = h.named }))
 
-needed_listed : (rules : List Rule) (rows : List Held) (ask : Ask) (s : Held) (t : Option Held) (b : Broken) → IsNeeded rules rows ask s t b → Among b (need_of rules ask rows s t)
+needed_listed : (rules : List Rule) (rows : List Held) (ask : Ask) (s : Held) (t : Option Held) (b : Broken) → IsNeeded rules rows ask s t b
+    → Among b (need_of rules ask rows s t)
 needed_listed rules rows ask s t b h = rw (h.they_call, h.unmet) (inl (sym h.named))
 
 -- a row alone --------------------------------------------------------------------------------------
 -- a need whose second subject is known
-at_second : (rules : List Rule) (rows : List Held) (ask : Ask) (s : Held) (t u : Option Held) (b : Broken) → t ≡ u → IsNeeded rules rows ask s t b → IsNeeded rules rows ask s u b
+at_second : (rules : List Rule) (rows : List Held) (ask : Ask) (s : Held) (t u : Option Held) (b : Broken) → t ≡ u → IsNeeded rules rows ask s t b
+    → IsNeeded rules rows ask s u b
 at_second rules rows ask s t u b is h = subst (λ (o : Option Held). IsNeeded rules rows ask s o b) is h
 
-pub alone_gains : (search : Search) (spots : Spots) (s : Held) (before after : List Broken) → IsReady search spots 1 s → Contains (map held_of search.rows.now) s
+pub alone_gains : (search : Search) (spots : Spots) (s : Held) (before after : List Broken) → IsReady search spots 1 s
+    → Contains (map held_of search.rows.now) s
     → after ≡ before ++ need_if_broken search (near search.index.now.servers spots.list spots.wide) (plain_ask search.rule) s None
     → Gains search.book.now (map held_of search.rows.now) (IsAlone search.rule s) before after
 alone_gains search spots s before after ready listed added =
@@ -228,40 +245,51 @@ alone_gains search spots s before after ready listed added =
     (at_second rules rows ask s h.second None b w.2 (needed rules rows search.rule 1 1 s b h w.0 parts.0 parts.1 w.1))))
 
 -- two rows -----------------------------------------------------------------------------------------
-beside_broken : (search : Search) (servers : List FiledPart) (part : ℕ) (s : Held) → FindAll search part s servers → Contains (map held_of search.rows.now) s → (es : List FiledPart) (b : Broken)
+beside_broken : (search : Search) (servers : List FiledPart) (part : ℕ) (s : Held) → FindAll search part s servers → Contains (map held_of search.rows.now) s
+    → (es : List FiledPart) (b : Broken)
     → Among b (flat_map (need_beside search servers s part) es) → IsBrokenAmong search.book.now (map held_of search.rows.now) b
 beside_broken search servers part s alike listed es b h =
     let (e, _, m) = among_flat (need_beside search servers s part) b es h in
     go e (slice_get (map held_of search.rows.now) e.position) refl m
   where
-    by : (e : FiledPart) (t : Held) (after : Bool) → is_after s t ≡ after → Contains (map held_of search.rows.now) t → Among b (cond after (need_if_broken search servers (ask_of_parts search.rule part e.part) s (Some t)) [])
+    by : (e : FiledPart) (t : Held) (after : Bool) → is_after s t ≡ after → Contains (map held_of search.rows.now) t
+        → Among b (cond after (need_if_broken search servers (ask_of_parts search.rule part e.part) s (Some t)) [])
         → IsBrokenAmong search.book.now (map held_of search.rows.now) b
     by e t false after here k = absurd k
-    by e t true after here k = need_broken search.book.now (ask_of_parts search.rule part e.part) (map held_of search.rows.now) s (Some t) b listed (here, after)
+    by e t true after here k = need_broken search.book.now (ask_of_parts search.rule part e.part) (map held_of search.rows.now) s (Some t) b listed
+        (here, after)
         (subst (Among b) (need_is search servers part e.part s (Some t) (alike e.part t)) k)
 
-    go : (e : FiledPart) (o : Option Held) → slice_get (map held_of search.rows.now) e.position ≡ o → Among b (need_with search servers (ask_of_parts search.rule part e.part) s o)
+    go : (e : FiledPart) (o : Option Held) → slice_get (map held_of search.rows.now) e.position ≡ o
+        → Among b (need_with search servers (ask_of_parts search.rule part e.part) s o)
         → IsBrokenAmong search.book.now (map held_of search.rows.now) b
     go e None at m = absurd m
     go e (Some t) at m = by e t (is_after s t) refl (contained t (map held_of search.rows.now) (at_among (map held_of search.rows.now) e.position t at)) m
 
 -- the entry of a row that may stand beside another is one of its partners
 partner_found : (index : RoleIndex) (roles others : Roles) (e : FiledPart) (xs ys : List Spot) → IsSubjectFiled index others e ys → Common xs ys
-    → ((roles.first ≡ true) × (others.second ≡ true)) ⊎ ((others.first ≡ true) × (roles.second ≡ true)) → Among e (partners index roles (unless_many xs) (are_many xs))
+    → ((roles.first ≡ true) × (others.second ≡ true)) ⊎ ((others.first ≡ true) × (roles.second ≡ true))
+    → Among e (partners index roles (unless_many xs) (are_many xs))
 partner_found index roles others e xs ys filed common (inl h) = elim (cases_Bool others.first) [
   | inl both ↦ among_left e _ _ (found_among index.boths e xs ys (filed.both both h.1) common)
-  | inr alone ↦ among_right e (near index.boths (unless_many xs) (are_many xs)) _ (among_right e (cond roles.second (near index.firsts (unless_many xs) (are_many xs)) []) _
-      (subst (λ (b : Bool). Among e (cond b (near index.seconds (unless_many xs) (are_many xs)) [])) (sym h.0) (found_among index.seconds e xs ys (filed.second alone h.1) common)))
+  | inr alone ↦ among_right e (near index.boths (unless_many xs) (are_many xs)) _
+      (among_right e (cond roles.second (near index.firsts (unless_many xs) (are_many xs)) []) _
+      (subst (λ (b : Bool). Among e (cond b (near index.seconds (unless_many xs) (are_many xs)) [])) (sym h.0)
+      (found_among index.seconds e xs ys (filed.second alone h.1) common)))
 ]
 partner_found index roles others e xs ys filed common (inr h) = elim (cases_Bool others.second) [
   | inl both ↦ among_left e _ _ (found_among index.boths e xs ys (filed.both h.0 both) common)
-  | inr alone ↦ among_right e (near index.boths (unless_many xs) (are_many xs)) _ (among_left e (cond roles.second (near index.firsts (unless_many xs) (are_many xs)) []) _
-      (subst (λ (b : Bool). Among e (cond b (near index.firsts (unless_many xs) (are_many xs)) [])) (sym h.1) (found_among index.firsts e xs ys (filed.first h.0 alone) common)))
+  | inr alone ↦ among_right e (near index.boths (unless_many xs) (are_many xs)) _
+      (among_left e (cond roles.second (near index.firsts (unless_many xs) (are_many xs)) []) _
+      (subst (λ (b : Bool). Among e (cond b (near index.firsts (unless_many xs) (are_many xs)) [])) (sym h.1)
+      (found_among index.firsts e xs ys (filed.first h.0 alone) common)))
 ]
 
-pair_found : (search : Search) (spots : Spots) (servers : List FiledPart) (part other : ℕ) (s : Held) (roles : Roles) (es : List FiledPart) → IsReady search spots part s → FindAll search part s servers → roles ≡ roles_under search.book.now search.rule s
+pair_found : (search : Search) (spots : Spots) (servers : List FiledPart) (part other : ℕ) (s : Held) (roles : Roles) (es : List FiledPart)
+    → IsReady search spots part s → FindAll search part s servers → roles ≡ roles_under search.book.now search.rule s
     → ((e : FiledPart) → Among e (partners search.index.now roles spots.list spots.wide) → Among e es) → (t : Held) (b : Broken)
-    → IsNeeded search.book.now (map held_of search.rows.now) (ask_of_parts search.rule part other) s (Some t) b → Among b (flat_map (need_beside search servers s part) es)
+    → IsNeeded search.book.now (map held_of search.rows.now) (ask_of_parts search.rule part other) s (Some t) b
+    → Among b (flat_map (need_beside search servers s part) es)
 pair_found search spots servers part other s roles es ready alike is all t b h =
     let rules = search.book.now in
     let n = search.rule in
@@ -272,35 +300,43 @@ pair_found search spots servers part other s roles es ready alike is all t b h =
     let xs = subject_spots_under rules n part s in
     let there = second_part_there rules ask s t h.they_call in
     let filed : IsSubjectFiled index (roles_under rules n t) (entry k other) (subject_spots_under rules n other t) =
-    subst (λ (j : ℕ). IsSubjectFiled index (roles_under rules n t) (entry k j) (subject_spots_under rules n j t)) (sym there.2) ((row_filed search spots part s ready k t at).subject there.0 there.1) in
+    subst (λ (j : ℕ). IsSubjectFiled index (roles_under rules n t) (entry k j) (subject_spots_under rules n j t)) (sym there.2)
+    ((row_filed search spots part s ready k t at).subject there.0 there.1) in
     let beside = subst (λ (r : Roles). ((r.first ≡ true) × ((roles_under rules n t).second ≡ true)) ⊎ (((roles_under rules n t).first ≡ true) × (r.second ≡ true))) (sym is) (subjects_beside rules ask s t h.they_call) in
     let found : Among (entry k other) (partners index roles (unless_many xs) (are_many xs)) =
-    partner_found index roles (roles_under rules n t) (entry k other) xs (subject_spots_under rules n other t) filed (subjects_meet rules rows ask s t ready.fit h.they_call) beside in
+    partner_found index roles (roles_under rules n t) (entry k other) xs (subject_spots_under rules n other t) filed
+    (subjects_meet rules rows ask s t ready.fit h.they_call) beside in
     let here : Among (entry k other) (partners index roles spots.list spots.wide) =
-    subst (λ (ys : List Spot). Among (entry k other) (partners index roles ys spots.wide)) (sym ready.list) (subst (λ (w : Bool). Among (entry k other) (partners index roles (unless_many xs) w)) (sym ready.wide) found) in
+    subst (λ (ys : List Spot). Among (entry k other) (partners index roles ys spots.wide)) (sym ready.list)
+    (subst (λ (w : Bool). Among (entry k other) (partners index roles (unless_many xs) w)) (sym ready.wide) found) in
     let one : Among b (need_if_broken search servers ask s (Some t)) = subst (Among b) (sym (need_is search servers part other s (Some t) (alike other t))) (needed_listed rules rows ask s (Some t) b h) in
     let own : Among b (need_beside search servers s part (entry k other)) =
-    subst (λ (o : Option Held). Among b (need_with search servers ask s o)) (sym at) (subst (λ (after : Bool). Among b (cond after (need_if_broken search servers ask s (Some t)) [])) (sym h.beside.1) one) in
+    subst (λ (o : Option Held). Among b (need_with search servers ask s o)) (sym at)
+    (subst (λ (after : Bool). Among b (cond after (need_if_broken search servers ask s (Some t)) [])) (sym h.beside.1) one) in
     flat_among (need_beside search servers s part) (entry k other) b es (all (entry k other) here) own
 
 -- the broken needs of a part of a row are gained
-pub part_gains : (search : Search) (spots : Spots) (servers : List FiledPart) (part : ℕ) (s : Held) (roles : Roles) (es : List FiledPart) (before after : List Broken) → IsReady search spots part s
+pub part_gains : (search : Search) (spots : Spots) (servers : List FiledPart) (part : ℕ) (s : Held) (roles : Roles) (es : List FiledPart)
+    (before after : List Broken) → IsReady search spots part s
     → FindAll search part s servers
     → Contains (map held_of search.rows.now) s → roles ≡ roles_under search.book.now search.rule s
     → ((e : FiledPart) → Among e (partners search.index.now roles spots.list spots.wide) → Among e es)
     → after ≡ before ++ flat_map (need_beside search servers s part) es
     → Gains search.book.now (map held_of search.rows.now) (IsOfPart search.rule s part) before after
 part_gains search spots servers part s roles es before after ready alike listed is all added =
-    gains_listed search.book.now (map held_of search.rows.now) (IsOfPart search.rule s part) before after (flat_map (need_beside search servers s part) es) added
+    gains_listed search.book.now (map held_of search.rows.now) (IsOfPart search.rule s part) before after (flat_map (need_beside search servers s part) es)
+    added
     (λ b k. beside_broken search servers part s alike listed es b k)
     (λ b h w. go h.second b w.2 (needed search.book.now (map held_of search.rows.now) search.rule part b.second_part s b h w.0 w.3 refl w.1))
   where
-    go : (o : Option Held) (b : Broken) → IsSome o → IsNeeded search.book.now (map held_of search.rows.now) (ask_of_parts search.rule part b.second_part) s o b → Among b (flat_map (need_beside search servers s part) es)
+    go : (o : Option Held) (b : Broken) → IsSome o → IsNeeded search.book.now (map held_of search.rows.now) (ask_of_parts search.rule part b.second_part) s o b
+        → Among b (flat_map (need_beside search servers s part) es)
     go None b some k = absurd (false≢true some)
     go (Some t) b some k = pair_found search spots servers part b.second_part s roles es ready alike is all t b k
 
 -- the first of them
-pub part_some : (search : Search) (servers : List FiledPart) (part : ℕ) (s : Held) (es : List FiledPart) (before after : List Broken) → FindAll search part s servers
+pub part_some : (search : Search) (servers : List FiledPart) (part : ℕ) (s : Held) (es : List FiledPart) (before after : List Broken)
+    → FindAll search part s servers
     → Contains (map held_of search.rows.now) s
     → IsBegun before (flat_map (need_beside search servers s part) es) after
     → GainsSome search before after
@@ -309,32 +345,42 @@ part_some search servers part s es before after alike listed begun =
     (λ b k. beside_broken search servers part s alike listed es b k)
 
 -- the part of a broken need is there
-pub first_there : (rules : List Rule) (rows : List Held) (n : ℕ) (s : Held) (b : Broken) (h : IsBrokenAmong rules rows b) → b.rule ≡ n → h.first ≡ s → (k : ℕ) × (k < part_count rules n s) × (b.first_part ≡ suc k)
+pub first_there : (rules : List Rule) (rows : List Held) (n : ℕ) (s : Held) (b : Broken) (h : IsBrokenAmong rules rows b) → b.rule ≡ n → h.first ≡ s → (k : ℕ)
+    × (k < part_count rules n s) × (b.first_part ≡ suc k)
 first_there rules rows n s b h number first =
-    first_part_there rules (ask_of_parts n b.first_part b.second_part) s h.second (needed rules rows n b.first_part b.second_part s b h number refl refl first).they_call
+    first_part_there rules (ask_of_parts n b.first_part b.second_part) s h.second (needed rules rows n b.first_part b.second_part s b h number refl refl
+    first).they_call
 
 -- the need with the row of an entry
-pub beside_is : (search : Search) (servers : List FiledPart) (s : Held) (part k j : ℕ) (o : Option Held) (t : Held) → o ≡ slice_get (map held_of search.rows.now) k → o ≡ Some t → is_after s t ≡ true
+pub beside_is : (search : Search) (servers : List FiledPart) (s : Held) (part k j : ℕ) (o : Option Held) (t : Held) → o
+    ≡ slice_get (map held_of search.rows.now) k → o ≡ Some t → is_after s t ≡ true
     → need_beside search servers s part (entry k j) ≡ need_if_broken search servers (ask_of_parts search.rule part j) s (Some t)
-beside_is search servers s part k j o t at is after = ap (need_with search servers (ask_of_parts search.rule part j) s) (sym at ∙ is) ∙ ap (λ (b : Bool). cond b (need_if_broken search servers (ask_of_parts search.rule part j) s (Some t)) []) after
+beside_is search servers s part k j o t at is after = ap (need_with search servers (ask_of_parts search.rule part j) s) (sym at ∙ is)
+    ∙ ap (λ (b : Bool). cond b (need_if_broken search servers (ask_of_parts search.rule part j) s (Some t)) []) after
 
-pub beside_before : (search : Search) (servers : List FiledPart) (s : Held) (part k j : ℕ) (o : Option Held) (t : Held) → o ≡ slice_get (map held_of search.rows.now) k → o ≡ Some t → is_after s t ≡ false
+pub beside_before : (search : Search) (servers : List FiledPart) (s : Held) (part k j : ℕ) (o : Option Held) (t : Held) → o
+    ≡ slice_get (map held_of search.rows.now) k → o ≡ Some t → is_after s t ≡ false
     → need_beside search servers s part (entry k j) ≡ []
-beside_before search servers s part k j o t at is after = ap (need_with search servers (ask_of_parts search.rule part j) s) (sym at ∙ is) ∙ ap (λ (b : Bool). cond b (need_if_broken search servers (ask_of_parts search.rule part j) s (Some t)) []) after
+beside_before search servers s part k j o t at is after = ap (need_with search servers (ask_of_parts search.rule part j) s) (sym at ∙ is)
+    ∙ ap (λ (b : Bool). cond b (need_if_broken search servers (ask_of_parts search.rule part j) s (Some t)) []) after
 
-pub beside_none : (search : Search) (servers : List FiledPart) (s : Held) (part k j : ℕ) (o : Option Held) → o ≡ slice_get (map held_of search.rows.now) k → o ≡ None → need_beside search servers s part (entry k j) ≡ []
+pub beside_none : (search : Search) (servers : List FiledPart) (s : Held) (part k j : ℕ) (o : Option Held) → o ≡ slice_get (map held_of search.rows.now) k → o
+    ≡ None → need_beside search servers s part (entry k j) ≡ []
 beside_none search servers s part k j o at is = ap (need_with search servers (ask_of_parts search.rule part j) s) (sym at ∙ is)
 
 -- rows ---------------------------------------------------------------------------------------------
 -- a row that may not be a subject alone has no broken need alone
-pub none_alone : (rules : List Rule) (rows : List Held) (n : ℕ) (s : Held) (roles : Roles) (xs : List Broken) → roles ≡ roles_under rules n s → roles.alone ≡ false → Gains rules rows (IsAlone n s) xs xs
+pub none_alone : (rules : List Rule) (rows : List Held) (n : ℕ) (s : Held) (roles : Roles) (xs : List Broken) → roles ≡ roles_under rules n s → roles.alone
+    ≡ false → Gains rules rows (IsAlone n s) xs xs
 none_alone rules rows n s roles xs is none = gains_none rules rows (IsAlone n s) xs (λ b h w.
     let whole = at_second rules rows (ask_of_parts n b.first_part b.second_part) s h.second None b w.2 (needed rules rows n b.first_part b.second_part s b h w.0 refl refl w.1) in
     false≢true (sym none ∙ ap (λ (r : Roles). r.alone) is ∙ subject_alone rules (ask_of_parts n b.first_part b.second_part) s whole.they_call))
 
 -- nor has one that may be neither of two subjects a broken need with another
-pub none_paired : (rules : List Rule) (rows : List Held) (n : ℕ) (s : Held) (roles : Roles) (xs : List Broken) → roles ≡ roles_under rules n s → roles.first ≡ false → roles.second ≡ false → Gains rules rows (IsPaired n s) xs xs
-none_paired rules rows n s roles xs is not_first not_second = gains_none rules rows (IsPaired n s) xs (λ b h w. go h.second b w.2 (needed rules rows n b.first_part b.second_part s b h w.0 refl refl w.1))
+pub none_paired : (rules : List Rule) (rows : List Held) (n : ℕ) (s : Held) (roles : Roles) (xs : List Broken) → roles ≡ roles_under rules n s → roles.first
+    ≡ false → roles.second ≡ false → Gains rules rows (IsPaired n s) xs xs
+none_paired rules rows n s roles xs is not_first not_second = gains_none rules rows (IsPaired n s) xs
+    (λ b h w. go h.second b w.2 (needed rules rows n b.first_part b.second_part s b h w.0 refl refl w.1))
   where
     go : (o : Option Held) (b : Broken) → IsSome o → IsNeeded rules rows (ask_of_parts n b.first_part b.second_part) s o b → ⊥
     go None b some k = false≢true some
@@ -344,7 +390,8 @@ none_paired rules rows n s roles xs is not_first not_second = gains_none rules r
     ]
 
 -- alone and with others
-pub row_gains : (rules : List Rule) (rows : List Held) (n : ℕ) (s : Held) (xs ys zs : List Broken) → Gains rules rows (IsAlone n s) xs ys → Gains rules rows (IsPaired n s) ys zs → Gains rules rows (IsOfRow n s) xs zs
+pub row_gains : (rules : List Rule) (rows : List Held) (n : ℕ) (s : Held) (xs ys zs : List Broken) → Gains rules rows (IsAlone n s) xs ys
+    → Gains rules rows (IsPaired n s) ys zs → Gains rules rows (IsOfRow n s) xs zs
 row_gains rules rows n s xs ys zs g k = gains_more rules rows (IsAlone n s) (IsPaired n s) (IsOfRow n s) xs ys zs g k
     (λ b h w. elim (either h.second) [ inl none ↦ inl (w.0, w.1, none) | inr some ↦ inr (w.0, w.1, some) ])
   where

@@ -62,14 +62,16 @@ pub record IsSubjectFiled (index : RoleIndex) (roles : Roles) (e : FiledPart) (x
   pub first : roles.first ≡ true → roles.second ≡ false → IsFiled index.firsts e xs
   pub second : roles.first ≡ false → roles.second ≡ true → IsFiled index.seconds e xs
 
-subject_stays : (index index' : RoleIndex) (roles : Roles) (e : FiledPart) (xs : List Spot) → Grows index index' → IsSubjectFiled index roles e xs → IsSubjectFiled index' roles e xs
+subject_stays : (index index' : RoleIndex) (roles : Roles) (e : FiledPart) (xs : List Spot) → Grows index index' → IsSubjectFiled index roles e xs
+    → IsSubjectFiled index' roles e xs
 subject_stays index index' roles e xs g h = record {
   both = λ a b. g.boths e xs (h.both a b);
   first = λ a b. g.firsts e xs (h.first a b);
   second = λ a b. g.seconds e xs (h.second a b);
 }
 
-subject_filed : (index : RoleIndex) (roles : Roles) (e : FiledPart) (xs : List Spot) → IsSubjectFiled (with_subject index roles e (unless_many xs) (are_many xs)) roles e xs
+subject_filed : (index : RoleIndex) (roles : Roles) (e : FiledPart) (xs : List Spot)
+    → IsSubjectFiled (with_subject index roles e (unless_many xs) (are_many xs)) roles e xs
 subject_filed index roles e xs = record {
   both = λ a b. rw (a, b) (entry_filed index.boths e xs);
   first = λ a b. rw (a, b) (entry_filed index.firsts e xs);
@@ -81,8 +83,10 @@ entry position part = record { position = position; part = part }
 
 grows_parts : (rules : List Rule) (n : ℕ) (index : RoleIndex) (position : ℕ) (s : Held) (k : ℕ) → Grows index (with_parts rules n index position s k)
 grows_parts rules n index position s zero = grows_same index
-grows_parts rules n index position s (suc k) = grows_on index (with_parts rules n index position s k) (with_parts rules n index position s (suc k)) (grows_parts rules n index position s k)
-    (grows_subject (with_parts rules n index position s k) (roles_under rules n s) (entry position (suc k)) (unless_many (subject_spots_under rules n (suc k) s)) (are_many (subject_spots_under rules n (suc k) s)))
+grows_parts rules n index position s (suc k) = grows_on index (with_parts rules n index position s k) (with_parts rules n index position s (suc k))
+    (grows_parts rules n index position s k)
+    (grows_subject (with_parts rules n index position s k) (roles_under rules n s) (entry position (suc k))
+    (unless_many (subject_spots_under rules n (suc k) s)) (are_many (subject_spots_under rules n (suc k) s)))
 
 part_filed : (rules : List Rule) (n : ℕ) (index : RoleIndex) (position : ℕ) (s : Held) (k part : ℕ) → part < k
     → IsSubjectFiled (with_parts rules n index position s k) (roles_under rules n s) (entry position (suc part)) (subject_spots_under rules n (suc part) s)
@@ -90,10 +94,13 @@ part_filed rules n index position s zero part less = absurd (omega (arith, less)
 part_filed rules n index position s (suc k) part less =
     let before = with_parts rules n index position s k in
     elim (cases_lt part k) [
-      | inl l ↦ subject_stays before (with_parts rules n index position s (suc k)) (roles_under rules n s) (entry position (suc part)) (subject_spots_under rules n (suc part) s)
-          (grows_subject before (roles_under rules n s) (entry position (suc k)) (unless_many (subject_spots_under rules n (suc k) s)) (are_many (subject_spots_under rules n (suc k) s))) (part_filed rules n index position s k part l)
+      | inl l ↦ subject_stays before (with_parts rules n index position s (suc k)) (roles_under rules n s) (entry position (suc part))
+          (subject_spots_under rules n (suc part) s)
+          (grows_subject before (roles_under rules n s) (entry position (suc k)) (unless_many (subject_spots_under rules n (suc k) s))
+          (are_many (subject_spots_under rules n (suc k) s))) (part_filed rules n index position s k part l)
       | inr l ↦ (let same : k ≡ part = omega (arith, less, l) in
-          subst (λ (i : ℕ). IsSubjectFiled (with_parts rules n index position s (suc k)) (roles_under rules n s) (entry position (suc i)) (subject_spots_under rules n (suc i) s)) same
+          subst (λ (i : ℕ). IsSubjectFiled (with_parts rules n index position s (suc k)) (roles_under rules n s) (entry position (suc i))
+          (subject_spots_under rules n (suc i) s)) same
           (subject_filed before (roles_under rules n s) (entry position (suc k)) (subject_spots_under rules n (suc k) s)))
     ]
 
@@ -110,7 +117,8 @@ pair_filed : (rules : List Rule) (n : ℕ) (index : RoleIndex) (position : ℕ) 
 pair_filed rules n index position s part less = go ((roles_under rules n s).first || (roles_under rules n s).second) refl
   where
     go : (b : Bool) → ((roles_under rules n s).first || (roles_under rules n s).second) ≡ b
-        → IsSubjectFiled (cond b (with_parts rules n index position s (part_count rules n s)) index) (roles_under rules n s) (entry position (suc part)) (subject_spots_under rules n (suc part) s)
+        → IsSubjectFiled (cond b (with_parts rules n index position s (part_count rules n s)) index) (roles_under rules n s) (entry position (suc part))
+        (subject_spots_under rules n (suc part) s)
     go true e = part_filed rules n index position s (part_count rules n s) part less
     go false e = record {
       both = λ a b. absurd (false≢true (sym e ∙ or_left _ _ a));
@@ -123,21 +131,34 @@ pair_filed rules n index position s part less = go ((roles_under rules n s).firs
 grows_server : (rules : List Rule) (n : ℕ) (index : RoleIndex) (position : ℕ) (s : Held) → Grows index (with_server rules n index position s)
 grows_server rules n index position s = go (roles_under rules n s).server
   where
-    go : (b : Bool) → Grows index (cond b (record index { servers = filed_entry index.servers (entry position 1) (unless_many (server_spots_under rules n s)) (are_many (server_spots_under rules n s)) }) index)
-    go true = record { firsts = λ q ys h. h; seconds = λ q ys h. h; boths = λ q ys h. h; servers = more_stays index.servers (entry position 1) (unless_many (server_spots_under rules n s)) (are_many (server_spots_under rules n s)) }
+    go : (b : Bool) → Grows index (cond b (record index {
+      servers = filed_entry index.servers (entry position 1) (unless_many (server_spots_under rules n s))
+          (are_many (server_spots_under rules n s));
+    }) index)
+    go true = record {
+      firsts = λ q ys h. h;
+      seconds = λ q ys h. h;
+      boths = λ q ys h. h;
+      servers = more_stays index.servers (entry position 1)
+          (unless_many (server_spots_under rules n s)) (are_many (server_spots_under rules n s));
+    }
     go false = grows_same index
 
-server_filed : (rules : List Rule) (n : ℕ) (index : RoleIndex) (position : ℕ) (s : Held) → (roles_under rules n s).server ≡ true → IsFiled (with_server rules n index position s).servers (entry position 1) (server_spots_under rules n s)
+server_filed : (rules : List Rule) (n : ℕ) (index : RoleIndex) (position : ℕ) (s : Held) → (roles_under rules n s).server ≡ true
+    → IsFiled (with_server rules n index position s).servers (entry position 1) (server_spots_under rules n s)
 server_filed rules n index position s has = rw has (entry_filed index.servers (entry position 1) (server_spots_under rules n s))
 
 -- a row is filed at its position
 pub record IsRowFiled (rules : List Rule) (n : ℕ) (index : RoleIndex) (position : ℕ) (s : Held) : Type 0 where
-  pub subject : (part : ℕ) → part < part_count rules n s → IsSubjectFiled index (roles_under rules n s) (entry position (suc part)) (subject_spots_under rules n (suc part) s)
+  pub subject : (part : ℕ) → part < part_count rules n s → IsSubjectFiled index (roles_under rules n s) (entry position (suc part))
+      (subject_spots_under rules n (suc part) s)
   pub server : (roles_under rules n s).server ≡ true → IsFiled index.servers (entry position 1) (server_spots_under rules n s)
 
-row_stays : (rules : List Rule) (n : ℕ) (index index' : RoleIndex) (position : ℕ) (s : Held) → Grows index index' → IsRowFiled rules n index position s → IsRowFiled rules n index' position s
+row_stays : (rules : List Rule) (n : ℕ) (index index' : RoleIndex) (position : ℕ) (s : Held) → Grows index index' → IsRowFiled rules n index position s
+    → IsRowFiled rules n index' position s
 row_stays rules n index index' position s g h = record {
-  subject = λ part less. subject_stays index index' (roles_under rules n s) (entry position (suc part)) (subject_spots_under rules n (suc part) s) g (h.subject part less);
+  subject = λ part less. subject_stays index index' (roles_under rules n s) (entry position (suc part)) (subject_spots_under rules n (suc part) s) g
+      (h.subject part less);
   server = λ has. g.servers (entry position 1) (server_spots_under rules n s) (h.server has);
 }
 
@@ -145,27 +166,33 @@ row_filed : (rules : List Rule) (n : ℕ) (index : RoleIndex) (position : ℕ) (
 row_filed rules n index position s =
     let before = with_server rules n index position s in record {
       subject = λ part less. pair_filed rules n before position s part less;
-      server = λ has. (grows_pairs rules n before position s).servers (entry position 1) (server_spots_under rules n s) (server_filed rules n index position s has);
+      server = λ has. (grows_pairs rules n before position s).servers (entry position 1) (server_spots_under rules n s)
+          (server_filed rules n index position s has);
     }
 
 grows_row : (rules : List Rule) (n : ℕ) (index : RoleIndex) (position : ℕ) (s : Held) → Grows index (with_row rules n index position s)
-grows_row rules n index position s = grows_on index (with_server rules n index position s) (with_row rules n index position s) (grows_server rules n index position s)
+grows_row rules n index position s = grows_on index (with_server rules n index position s) (with_row rules n index position s)
+    (grows_server rules n index position s)
     (grows_pairs rules n (with_server rules n index position s) position s)
 
 grows_rows : (rules : List Rule) (n : ℕ) (index : RoleIndex) (position : ℕ) (rows : List Held) → Grows index (filed_rows rules n index position rows)
 grows_rows rules n index position [] = grows_same index
-grows_rows rules n index position (s ∷ rows) = grows_on index (with_row rules n index position s) (filed_rows rules n index position (s ∷ rows)) (grows_row rules n index position s)
+grows_rows rules n index position (s ∷ rows) = grows_on index (with_row rules n index position s) (filed_rows rules n index position (s ∷ rows))
+    (grows_row rules n index position s)
     (grows_rows rules n (with_row rules n index position s) (suc position) rows)
 
-pub rows_filed : (rules : List Rule) (n : ℕ) (index : RoleIndex) (position : ℕ) (rows : List Held) (k : ℕ) (t : Held) → slice_get rows k ≡ Some t → IsRowFiled rules n (filed_rows rules n index position rows) (position + k) t
+pub rows_filed : (rules : List Rule) (n : ℕ) (index : RoleIndex) (position : ℕ) (rows : List Held) (k : ℕ) (t : Held) → slice_get rows k ≡ Some t
+    → IsRowFiled rules n (filed_rows rules n index position rows) (position + k) t
 rows_filed rules n index position [] k t e = absurd (cc)
 rows_filed rules n index position (s ∷ rows) zero t e =
     let same : s ≡ t = cc in
     let here : position ≡ position + 0 = omega arith in
     subst (λ (u : Held). IsRowFiled rules n (filed_rows rules n index position (s ∷ rows)) (position + 0) u) same
     (subst (λ (i : ℕ). IsRowFiled rules n (filed_rows rules n index position (s ∷ rows)) i s) here
-    (row_stays rules n (with_row rules n index position s) (filed_rows rules n index position (s ∷ rows)) position s (grows_rows rules n (with_row rules n index position s) (suc position) rows)
+    (row_stays rules n (with_row rules n index position s) (filed_rows rules n index position (s ∷ rows)) position s
+    (grows_rows rules n (with_row rules n index position s) (suc position) rows)
     (row_filed rules n index position s)))
 rows_filed rules n index position (s ∷ rows) (suc k) t e =
     let there : suc position + k ≡ position + suc k = omega arith in
-    subst (λ (i : ℕ). IsRowFiled rules n (filed_rows rules n index position (s ∷ rows)) i t) there (rows_filed rules n (with_row rules n index position s) (suc position) rows k t e)
+    subst (λ (i : ℕ). IsRowFiled rules n (filed_rows rules n index position (s ∷ rows)) i t) there (rows_filed rules n (with_row rules n index position s)
+    (suc position) rows k t e)

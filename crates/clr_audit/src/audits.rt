@@ -1,3 +1,5 @@
+//! All broken needs of a content, and the least of them.
+
 ghost use Rattle.std.specs.Prelude.{◌≡◌, ◌<◌, length, map, slice_get, IfOk, MatchOption, OnOk};
 ghost use Rattle.clr_rows.specs.Contents.{row_at};
 ghost use Rattle.clr_rows.specs.Held.{held_of};
@@ -12,7 +14,7 @@ use clr_rules::{Broken, RuleBook};
 use clr_spots::put_in_order;
 use std::alloc::{AllocError, Global};
 
-/// All rows of a sheet, in the order of cells.
+/// Returns all rows of a sheet, in the order of cells.
 fn rows_of<'a>(alloc: Global, sheet: &'a Sheet) -> Result<Vec<Held<'a>>, AllocError>
     ensures { IfOk result (λ rows. map held_of rows.items ≡ rows_in sheet.now) }
 {
@@ -88,9 +90,9 @@ fn add_of_rule_until_least(
     search.add_until_least(alloc, list)
 }
 
-/// The least broken need of a content, or none where every rule holds: the first that `audit` would
-/// list. No other need is kept for it than those of the row that has it. The book and the rows fit
-/// one schema. It fails for want of memory alone.
+/// Returns the least broken need of a content, or none where every rule holds: the first that
+/// `audit` would list. No other need is kept for it than those of the row that has it. The book and
+/// the rows fit one schema.
 pub fn first_broken(
     alloc: Global,
     book: &RuleBook,

@@ -11,7 +11,7 @@ use clr_rows::{Held, Place};
 use clr_rules::{Rule, point_in};
 use clr_segments::{lies_on, part};
 
-/// Whether a place is a point of a segment.
+/// Returns whether a place is a point of a segment.
 fn is_on_segment(place: Place, segment: (Place, Place)) -> bool
     requires place { InRange place }
     requires segment { IsSoundSegment segment }
@@ -20,7 +20,7 @@ fn is_on_segment(place: Place, segment: (Place, Place)) -> bool
     lies_on(place, segment.0, segment.1)
 }
 
-/// Whether a place and a segment are there, and the place is a point of the segment.
+/// Returns whether a place and a segment are there, and the place is a point of the segment.
 fn is_on(place: Option<Place>, segment: Option<(Place, Place)>) -> bool
     requires place { IfSome place InRange }
     requires segment { IfSome segment IsSoundSegment }
@@ -32,8 +32,8 @@ fn is_on(place: Option<Place>, segment: Option<(Place, Place)>) -> bool
     }
 }
 
-/// Whether a row may serve a part of another one beside some other subject: under a crossing it is
-/// a point of that part.
+/// Returns whether a row may serve a part of another one beside some other subject: under a
+/// crossing it is a point of that part.
 #[tactic(auto, unfolding(crate::specs::PartServers::may_serve_part))]
 pub(crate) fn may_serve_part(rule: &Rule, number: u16, first: Held, server: Held) -> bool
     requires first { IsSound first.row.now.shape }

@@ -99,7 +99,7 @@ impl RoleIndex {
         Ok(())
     }
 
-    /// The rows filed under a rule, by their positions.
+    /// Returns the rows filed under a rule, by their positions.
     pub(crate) fn of_rows(
         alloc: Global,
         book: &RuleBook,

@@ -21,7 +21,8 @@ use clr_spot_maps::FiledPart;
 use clr_spots::{Spot, Spots, put_in_order, subject_spots};
 use std::alloc::{AllocError, Global};
 
-/// Whether a broken need comes at or before all those of a rule whose first subject is at a cell.
+/// Returns whether a broken need comes at or before all those of a rule whose first subject is at a
+/// cell.
 fn is_up_to(rule: u16, cell: CellId, need: &Broken) -> bool
     ensures { result ≡ is_up_to rule cell need.now }
 {
@@ -64,7 +65,7 @@ impl<'a> Search<'a> {
         row_by_position(self.rows, position).copied()
     }
 
-    /// Whether the row of an entry serves these subjects.
+    /// Returns whether the row of an entry serves these subjects.
     fn serves_at(&self, ask: Ask, first: Held, second: Option<Held>, entry: FiledPart) -> bool
         requires number { ask.rule < length self.now.book.now }
         requires fit { FitTogether self.now.book.now (held_of first ∷ (option_to_list (option_map held_of second) ++ rows_of self.now)) }
@@ -108,7 +109,7 @@ impl<'a> Search<'a> {
         false
     }
 
-    /// Whether a server serves these subjects, the first one being a row of these spots.
+    /// Returns whether a server serves these subjects, the first one being a row of these spots.
     fn is_served(&self, ask: Ask, first: Held, second: Option<Held>, spots: &Spots) -> bool
         requires number { ask.rule < length self.now.book.now }
         requires fit { FitTogether self.now.book.now (held_of first ∷ (option_to_list (option_map held_of second) ++ rows_of self.now)) }
@@ -130,7 +131,8 @@ impl<'a> Search<'a> {
     ) -> Result<(), AllocError>
         requires number { self.now.rule < length self.now.book.now }
         requires fit { FitTogether self.now.book.now (held_of first ∷ rows_of self.now) }
-        ensures ok { OnOk result (list.new.items ≡ list.old.items ++ need_if_broken self.now (servers_near self.now spots.now) (plain_ask self.now.rule) (held_of first.entry) None) }
+        ensures ok { OnOk result (list.new.items ≡ list.old.items
+            ++ need_if_broken self.now (servers_near self.now spots.now) (plain_ask self.now.rule) (held_of first.entry) None) }
         ensures err { OnErr result (list.new.items ≡ list.old.items) }
     {
         let ask = Ask::plain(self.rule);
@@ -201,7 +203,8 @@ impl<'a> Search<'a> {
         requires number { self.now.rule < length self.now.book.now }
         requires fit { FitTogether self.now.book.now (held_of first ∷ rows_of self.now) }
         ensures ok { OnOk result (list.new.items ≡ list.old.items ++ flat_map (need_beside self.now servers.now (held_of first.entry) part) entries.now) }
-        ensures err { OnErr result (IsBegun list.old.items (flat_map (need_beside self.now servers.now (held_of first.entry) part) entries.now) list.new.items) }
+        ensures err { OnErr result (IsBegun list.old.items
+            (flat_map (need_beside self.now servers.now (held_of first.entry) part) entries.now) list.new.items) }
     {
         for entry in entries {
             self.add_beside(first, part, servers, *entry, list)?;
@@ -228,7 +231,7 @@ impl<'a> Search<'a> {
         Ok(())
     }
 
-    /// Whether the row of an entry may serve a part of a row.
+    /// Returns whether the row of an entry may serve a part of a row.
     fn may_serve_at(&self, part: u16, first: Held, entry: FiledPart) -> bool
         requires number { self.now.rule < length self.now.book.now }
         requires fit { FitTogether self.now.book.now (held_of first ∷ rows_of self.now) }
@@ -275,7 +278,7 @@ impl<'a> Search<'a> {
         Ok(())
     }
 
-    /// The servers that may serve a part of a row of these spots.
+    /// Returns the servers that may serve a part of a row of these spots.
     fn servers_of_part(
         &self,
         alloc: Global,
@@ -383,7 +386,6 @@ impl<'a> Search<'a> {
 
     /// Adds the broken needs of the rule, row by row, and answers the least of the list as soon as
     /// no later row or rule can have a lesser one. None is answered where all of them were added.
-    /// It fails for want of memory alone.
     pub(crate) fn add_until_least(
         &self,
         alloc: Global,
@@ -393,7 +395,8 @@ impl<'a> Search<'a> {
         requires fit { FitTogether self.now.book.now (rows_of self.now) }
         requires filed { AreRowsFiled self.now }
         requires in_order { AreInOrder (rows_of self.now) }
-        ensures { IfOk result (λ found. MatchOption found (GainsAll self.now (IsOfRule self.now.rule) list.old.items list.new.items) (IsLeastFrom self.now list.old.items)) }
+        ensures { IfOk result (λ found. MatchOption found
+            (GainsAll self.now (IsOfRule self.now.rule) list.old.items list.new.items) (IsLeastFrom self.now list.old.items)) }
     {
         for first in self.rows {
             self.add_of_row(alloc, *first, list)?;

@@ -1,4 +1,4 @@
-//! What is asked in an office, by words.
+//! What is asked in an office, by words. About no office is asked in src/trees.rt.
 //!
 //! | words | what is asked |
 //! |---|---|
@@ -17,7 +17,7 @@ use crate::plans::plan_lines;
 use crate::runs::{cleared_lines, lines_where_clear, lines_with_office};
 use crate::steps::script_lines;
 use clr_engine::Office;
-use clr_trials::replies_to;
+use clr_office_test_kit::replies_to;
 use std::alloc::Global;
 
 /// The lines that a case is answered in its office, whose text is given too; none where nothing can be asked by its words, or it

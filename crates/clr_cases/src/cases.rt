@@ -11,10 +11,10 @@
 //! what is answered
 //! ```
 //!
-//! What stands before the first case says what the cases of the text are about.
+//! Where nothing is asked about an office, the parts with it and with the script are left out. What stands before the first case
+//! says what the cases of the text are about.
 
-/// A case: in the office of a text, behind a script that is done, what is asked is answered by these
-/// lines.
+/// A case: in the office of a text, if there is one, behind a script that is done, what is asked is answered by these lines.
 #[derive(Drop)]
 pub struct Case<'a> {
     pub name: &'a str,
@@ -24,9 +24,10 @@ pub struct Case<'a> {
     pub lines: &'a str,
 }
 
-/// Where the text of an office stands.
+/// Where the text of an office stands, if there is one.
 #[derive(Drop)]
 pub enum OfficeText<'a> {
+    None,
     File(&'a str),
     Whole(&'a str),
 }
@@ -50,16 +51,25 @@ fn first_line(text: &str) -> (&str, &str) {
     text.split_once("\n").unwrap_or((text, ""))
 }
 
+/// The text of an office, and a script, which stand before what is asked.
+fn setting_of(text: &str) -> Option<(OfficeText<'_>, &str)> {
+    if text.is_empty() {
+        return Some((OfficeText::None, ""));
+    }
+    let (office, script) = text.strip_prefix("== office")?.split_once("\n== script\n")?;
+    Some((office_text(office), script))
+}
+
 /// The case that stands behind its `== case `; none where a part is missing.
 pub fn case_of(text: &str) -> Option<Case<'_>> {
-    let (name, rest) = text.split_once("\n== office")?;
-    let (office, rest) = rest.split_once("\n== script\n")?;
-    let (script, rest) = rest.split_once("== ask ")?;
+    let (before, rest) = text.split_once("== ask ")?;
     let (ask, rest) = rest.split_once("== lines\n")?;
+    let (name, setting) = first_line(before);
+    let (office, script) = setting_of(setting)?;
     let (words, text) = first_line(ask);
     Some(Case {
         name,
-        office: office_text(office),
+        office,
         script,
         ask: Ask { words, text },
         lines: rest.strip_suffix("\n").unwrap_or(rest),

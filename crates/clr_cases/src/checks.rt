@@ -2,8 +2,8 @@
 
 use clr_cert::read_certificate;
 use clr_check::check;
-use clr_clearance_trials::{certificate_of, line_of};
 use clr_engine::Office;
+use clr_office_test_kit::{certificate_of, line_of};
 use std::alloc::Global;
 
 /// The line of the verdict on the certificate of a text.

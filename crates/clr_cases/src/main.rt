@@ -10,6 +10,7 @@ mod plans;
 mod reports;
 mod runs;
 mod steps;
+mod trees;
 
 use asks::answer;
 use cases::{Case, OfficeText, case_of};
@@ -18,6 +19,7 @@ use std::alloc::Global;
 use std::fs::read_to_string;
 use std::io::Result as IoResult;
 use std::process::ExitCode;
+use trees::answer_alone;
 
 /// How many cases were run, and how many of them were answered otherwise.
 #[derive(Clone, Copy, Drop)]
@@ -35,6 +37,7 @@ fn lines_over(alloc: Global, text: &str, case: &Case<'_>) -> Option<Vec<u8>> {
 /// The lines that a case is answered.
 fn lines_of(rt: &HostRuntime, case: &Case<'_>) -> IoResult<Option<Vec<u8>>> {
     match case.office {
+        OfficeText::None => Ok(answer_alone(rt.alloc(), case.ask.words, case.ask.text)),
         OfficeText::Whole(text) => Ok(lines_over(rt.alloc(), text, case)),
         OfficeText::File(name) => {
             let text = read_to_string(rt, name)?;

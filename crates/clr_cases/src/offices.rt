@@ -1,7 +1,7 @@
 //! Offices of texts, in which a script is done.
 
 use clr_engine::Office;
-use clr_trials::{office_of, perform_script};
+use clr_office_test_kit::{office_of, perform_script};
 use std::alloc::Global;
 
 /// The office of a text, in which each command of a script was done; none where one wasn't.

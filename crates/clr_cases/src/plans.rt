@@ -2,21 +2,11 @@
 
 use clr_cert::Certificate;
 use clr_check::{Verdict, check};
-use clr_clearance_trials::certificate_of;
 use clr_engine::Office;
+use clr_office_test_kit::{certificate_of, members_of};
 use clr_plan::{Plan, plan};
 use clr_verdict_lines::verdict_line;
 use std::alloc::Global;
-
-/// A root and members, whose names stand in a line.
-fn members_of(alloc: Global, line: &str) -> Option<(&str, Vec<&str>)> {
-    let (root, rest) = line.split_once(" ").unwrap_or((line, ""));
-    let mut members = Vec::new(alloc);
-    for name in rest.split_whitespace() {
-        members.push(name).ok()?;
-    }
-    Some((root, members))
-}
 
 /// Whether two certificates name the same root and members and have the same entries.
 fn are_same(one: &Certificate, other: &Certificate) -> bool {

@@ -2,9 +2,9 @@
 
 use clr_engine::Office;
 use clr_lines::{changes_lines, conflicts_lines, rows_lines};
+use clr_office_test_kit::picture;
 use clr_rows::{Sheet, Words};
 use clr_scripts::Word;
-use clr_trials::picture;
 use std::alloc::Global;
 
 /// What is answered where there is no workspace of a name.

@@ -5,8 +5,8 @@ use crate::offices::office_after;
 use crate::reports::report_lines;
 use clr_engine::Office;
 use clr_lines::reply_line;
+use clr_office_test_kit::{add_picture, replies_to, steps_of};
 use clr_scripts::Step;
-use clr_trials::{add_picture, replies_to, steps_of};
 use std::alloc::Global;
 
 /// What the steps of a script are answered, and what its commands are, with all that the office has

@@ -7,7 +7,8 @@ use Rattle.std.proofs.lemmas.Str.Ascii.{IsAscii-nil}
 use Rattle.csv.specs.Records.{field_at}
 use Rattle.clr_rows.specs.declared.tables.TableDef.{TableDef}
 use Rattle.clr_rows.specs.Names.{is_good_name, live_name}
-use Rattle.clr_records.proofs.RecordsAgain.{IsPlain, records_again}
+use Rattle.clr_records.proofs.RecordsAgain.{IsPlain, ascii_records_again}
+use Rattle.clr_records.proofs.Turns.{joined}
 use Rattle.clr_cert.specs.declared.certificates.Certificate.{Certificate}
 use Rattle.clr_cert.specs.declared.certificates.Entry.{Entry}
 use Rattle.clr_cert.specs.declared.items.Item.TheVariants.{Root, Member, Need}
@@ -15,11 +16,13 @@ use Rattle.clr_cert.specs.Certificates.{certificate_from, certificate_in, certif
 use Rattle.clr_cert.specs.Texts.{IsReadBack, certificate_records, certificate_text, entry_fields, member_fields, name_fields, root_records}
 use Rattle.clr_cert.proofs.EntryAgain.{name_ascii}
 
-member_again : (tables : List TableDef) (rooted : Bool) (name : List ℕ) → is_good_name name ≡ true → item_of tables rooted (member_fields name) ≡ Ok (Member name)
+member_again : (tables : List TableDef) (rooted : Bool) (name : List ℕ) → is_good_name name ≡ true → item_of tables rooted (member_fields name)
+    ≡ Ok (Member name)
 unfolding item_of field_at
 member_again tables rooted name good = rw good refl
 
-root_again : (tables : List TableDef) (name : List ℕ) → is_live name ≡ false → is_good_name name ≡ true → item_of tables false (name_fields (codes "root") name) ≡ Ok (Root name)
+root_again : (tables : List TableDef) (name : List ℕ) → is_live name ≡ false → is_good_name name ≡ true → item_of tables false (name_fields (codes "root") name)
+    ≡ Ok (Root name)
 unfolding item_of field_at
 root_again tables name other good = rw (other, good) refl
 
@@ -27,20 +30,28 @@ need_again : (tables : List TableDef) (rooted : Bool) (e : Entry) → IsReadBack
 unfolding item_of field_at
 need_again tables rooted e is = rw is.entry refl
 
-entries_again : (tables : List TableDef) (rooted : Bool) (n : ℕ) (es : List Entry) → All (IsReadBack tables) es → certificate_from tables rooted n (map (entry_fields tables) es) ≡ Ok (record { root = live_name; members = []; entries = es })
+entries_again : (tables : List TableDef) (rooted : Bool) (n : ℕ) (es : List Entry) → All (IsReadBack tables) es
+    → certificate_from tables rooted n (map (entry_fields tables) es) ≡ Ok (record { root = live_name; members = []; entries = es })
 unfolding certificate_from
 entries_again tables rooted n [] all = refl
 entries_again tables rooted n (e ∷ es) all =
     rw (need_again tables rooted e (all 0 e (omega arith)), entries_again tables (rooted || false) (n + 1) es (λ k d lt. all (suc k) d (omega arith))) refl
 
-members_again : (tables : List TableDef) (rooted : Bool) (n : ℕ) (names : List (List ℕ)) (es : List Entry) → All (λ name. is_good_name name ≡ true) names → All (IsReadBack tables) es
-    → certificate_from tables rooted n (map member_fields names ++ map (entry_fields tables) es) ≡ Ok (record { root = live_name; members = names; entries = es })
+members_again : (tables : List TableDef) (rooted : Bool) (n : ℕ) (names : List (List ℕ)) (es : List Entry) → All (λ name. is_good_name name ≡ true) names
+    → All (IsReadBack tables) es
+    → certificate_from tables rooted n (map member_fields names ++ map (entry_fields tables) es)
+    ≡ Ok (record { root = live_name; members = names; entries = es })
 unfolding certificate_from
 members_again tables rooted n [] es good all = entries_again tables rooted n es all
 members_again tables rooted n (name ∷ names) es good all =
-    rw (member_again tables rooted name (good 0 name (omega arith)), members_again tables (rooted || false) (n + 1) names es (λ k d lt. good (suc k) d (omega arith)) all) refl
+    rw (
+      member_again tables rooted name (good 0 name (omega arith)),
+      members_again tables (rooted
+          || false) (n + 1) names es (λ k d lt. good (suc k) d (omega arith)) all,
+    ) refl
 
-certificate_again : (tables : List TableDef) (c : Certificate) → is_good_name c.root ≡ true → All (λ name. is_good_name name ≡ true) c.members → All (IsReadBack tables) c.entries
+certificate_again : (tables : List TableDef) (c : Certificate) → is_good_name c.root ≡ true → All (λ name. is_good_name name ≡ true) c.members
+    → All (IsReadBack tables) c.entries
     → certificate_of tables (certificate_records tables c) ≡ Ok c
 unfolding certificate_from certificate_records
 certificate_again tables c root good all = by (is_live c.root) refl
@@ -51,19 +62,18 @@ certificate_again tables c root good all = by (is_live c.root) refl
 
 -- the records are in ASCII, each with a field ------------------------------------------------------
 
-joined : {A : Type 0} (P : A → Type 0) (xs ys : List A) → AllByRecursion P xs → AllByRecursion P ys → AllByRecursion P (xs ++ ys)
-joined P [] ys all more = more
-joined P (x ∷ xs) ys all more = (all.0, joined P xs ys all.1 more)
-
 mapped : {A B : Type 0} (P : B → Type 0) (f : A → B) (Q : A → Type 0) (xs : List A) → ((x : A) → Q x → P (f x)) → All Q xs → AllByRecursion P (map f xs)
 mapped P f Q [] so all = tt
 mapped P f Q (x ∷ xs) so all = (so x (all 0 x (omega arith)), mapped P f Q xs so (λ k d lt. all (suc k) d (omega arith)))
 
-name_plain : (word name : List ℕ) → IsAscii word → is_good_name name ≡ true → IsPlain (name_fields word name)
-name_plain word name ascii good = record { some = refl; ascii = (ascii, (name_ascii name good, (IsAscii-nil, (IsAscii-nil, (IsAscii-nil, (IsAscii-nil, tt)))))) }
+name_plain : (word name : List ℕ) → IsAscii word → is_good_name name ≡ true → IsPlain IsAscii (name_fields word name)
+name_plain word name ascii good = record {
+  some = refl;
+  each = (ascii, (name_ascii name good, (IsAscii-nil, (IsAscii-nil, (IsAscii-nil, (IsAscii-nil, tt))))));
+}
 
-entry_plain : (tables : List TableDef) (e : Entry) → IsReadBack tables e → IsPlain (entry_fields tables e)
-entry_plain tables e is = record { some = refl; ascii = is.ascii }
+entry_plain : (tables : List TableDef) (e : Entry) → IsReadBack tables e → IsPlain IsAscii (entry_fields tables e)
+entry_plain tables e is = record { some = refl; each = is.ascii }
 
 root_word : is_good_name (codes "root") ≡ true
 unfolding is_good_name
@@ -73,21 +83,25 @@ member_word : is_good_name (codes "member") ≡ true
 unfolding is_good_name
 member_word = refl
 
-root_plain : (root : List ℕ) → is_good_name root ≡ true → AllByRecursion IsPlain (root_records root)
+root_plain : (root : List ℕ) → is_good_name root ≡ true → AllByRecursion (IsPlain IsAscii) (root_records root)
 root_plain root good = by (is_live root) refl
   where
-    by : (live : Bool) → is_live root ≡ live → AllByRecursion IsPlain (root_records root)
+    by : (live : Bool) → is_live root ≡ live → AllByRecursion (IsPlain IsAscii) (root_records root)
     by true e = rw e tt
     by false e = rw e (name_plain (codes "root") root (name_ascii (codes "root") root_word) good, tt)
 
-records_plain : (tables : List TableDef) (c : Certificate) → is_good_name c.root ≡ true → All (λ name. is_good_name name ≡ true) c.members → All (IsReadBack tables) c.entries → AllByRecursion IsPlain (certificate_records tables c)
+records_plain : (tables : List TableDef) (c : Certificate) → is_good_name c.root ≡ true → All (λ name. is_good_name name ≡ true) c.members
+    → All (IsReadBack tables) c.entries → AllByRecursion (IsPlain IsAscii) (certificate_records tables c)
 unfolding certificate_records
 records_plain tables c root good all =
-    joined IsPlain (root_records c.root) (map member_fields c.members ++ map (entry_fields tables) c.entries) (root_plain c.root root)
-    (joined IsPlain (map member_fields c.members) (map (entry_fields tables) c.entries) (mapped IsPlain member_fields _ c.members (λ name is. name_plain (codes "member") name (name_ascii (codes "member") member_word) is) good)
-    (mapped IsPlain (entry_fields tables) (IsReadBack tables) c.entries (entry_plain tables) all))
+    joined (IsPlain IsAscii) (root_records c.root) (map member_fields c.members ++ map (entry_fields tables) c.entries) (root_plain c.root root)
+    (joined (IsPlain IsAscii) (map member_fields c.members) (map (entry_fields tables) c.entries) (mapped (IsPlain IsAscii) member_fields _ c.members
+    (λ name is. name_plain (codes "member") name (name_ascii (codes "member") member_word) is) good)
+    (mapped (IsPlain IsAscii) (entry_fields tables) (IsReadBack tables) c.entries (entry_plain tables) all))
 
 -- the text of a certificate is read as the certificate
-pub read_again : (tables : List TableDef) (c : Certificate) → is_good_name c.root ≡ true → All (λ name. is_good_name name ≡ true) c.members → All (IsReadBack tables) c.entries
+pub read_again : (tables : List TableDef) (c : Certificate) → is_good_name c.root ≡ true → All (λ name. is_good_name name ≡ true) c.members
+    → All (IsReadBack tables) c.entries
     → certificate_in tables (certificate_text tables c) ≡ Ok c
-read_again tables c root good all = rw (records_again (certificate_records tables c) (records_plain tables c root good all)) (certificate_again tables c root good all)
+read_again tables c root good all = rw (ascii_records_again (certificate_records tables c) (records_plain tables c root good all))
+    (certificate_again tables c root good all)

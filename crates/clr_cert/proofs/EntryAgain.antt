@@ -23,6 +23,7 @@ use Rattle.clr_rows.proofs.SchemaLemmas.{cell_parts, good_table_name, key_of, ta
 use Rattle.clr_needs.specs.declared.needs.VersionId.{VersionId}
 use Rattle.clr_records.specs.Decimals.{number_of}
 use Rattle.clr_records.proofs.Decimals.{number_again}
+use Rattle.clr_records.proofs.Utf8.{name_byte_low}
 use Rattle.clr_cert.specs.declared.certificates.Entry.{Entry}
 use Rattle.clr_cert.specs.declared.limits.TheConstants.{GREATEST_PART}
 use Rattle.clr_cert.specs.Texts.{IsNamed, IsWellFormedEntry, IsPart, IsReadBack, entry_fields, fresh_word, part_text, second_text, subject_text, two_text, version_text}
@@ -62,19 +63,18 @@ decimal_plain n lt = digits_plain (decimal n) (decimal_is_IsNumeral n lt).0.1
 
 -- names ------------------------------------------------------------------------------------------
 
-name_byte_low : (b : ℕ) → is_name_byte b ≡ true → b < 128
-name_byte_low b e = grind (arith, nat_tests)
-
 name_byte_plain : (b : ℕ) → is_name_byte b ≡ true → (b == 47) ≡ false
 name_byte_plain b e = grind (arith, nat_tests)
 
 bytes_ascii : (s : List ℕ) → list_all is_name_byte s ≡ true → IsAscii s
 bytes_ascii [] e = IsAscii-nil
-bytes_ascii (b ∷ s) e = IsAscii-cons b s (name_byte_low b (and_left (is_name_byte b) (list_all is_name_byte s) e)) (bytes_ascii s (and_right (is_name_byte b) (list_all is_name_byte s) e))
+bytes_ascii (b ∷ s) e = IsAscii-cons b s (name_byte_low b (and_left (is_name_byte b) (list_all is_name_byte s) e))
+    (bytes_ascii s (and_right (is_name_byte b) (list_all is_name_byte s) e))
 
 bytes_plain : (s : List ℕ) → list_all is_name_byte s ≡ true → list_all no_slash s ≡ true
 bytes_plain [] e = refl
-bytes_plain (b ∷ s) e = rw (name_byte_plain b (and_left (is_name_byte b) (list_all is_name_byte s) e)) (bytes_plain s (and_right (is_name_byte b) (list_all is_name_byte s) e))
+bytes_plain (b ∷ s) e = rw (name_byte_plain b (and_left (is_name_byte b) (list_all is_name_byte s) e))
+    (bytes_plain s (and_right (is_name_byte b) (list_all is_name_byte s) e))
 
 name_bytes : (name : List ℕ) → is_good_name name ≡ true → list_all is_name_byte name ≡ true
 unfolding is_good_name
@@ -117,7 +117,14 @@ cell_again tables cell rest sound e =
     let low = k.key_low in
     let digits : list_all no_slash (signed_decimal cell.key) ≡ true = rw k.key_is (decimal_plain k.key (omega arith)) in
     let number : number_of (signed_decimal cell.key) ≡ Some cell.key = rw k.key_is (number_again (pos k.key) (within k.key low)) in
-    rw (cut_again (name_of_table tables cell.table) (signed_decimal cell.key ++ 47 ∷ rest) (bytes_plain (name_of_table tables cell.table) k.bytes), cut_again (signed_decimal cell.key) rest digits, k.name, number, e) refl
+    rw (
+      cut_again (name_of_table tables cell.table) (signed_decimal cell.key ++ 47 ∷ rest) (bytes_plain (name_of_table tables cell.table) k.bytes),
+      cut_again
+          (signed_decimal cell.key) rest digits,
+      k.name,
+      number,
+      e,
+    ) refl
 
 cell_ascii : (tables : List TableDef) (cell : CellId) (rest : List ℕ) → schema_fault tables ≡ None → cell_fault tables cell ≡ None → IsAscii rest
     → IsAscii (name_of_table tables cell.table ++ 47 ∷ (signed_decimal cell.key ++ 47 ∷ rest))
@@ -126,7 +133,8 @@ cell_ascii tables cell rest sound e h =
     let low = k.key_low in
     let digits : IsAscii (signed_decimal cell.key) = rw k.key_is (IsAscii-decimal k.key (omega arith)) in
     IsAscii-append (name_of_table tables cell.table) (47 ∷ (signed_decimal cell.key ++ 47 ∷ rest)) (bytes_ascii (name_of_table tables cell.table) k.bytes)
-    (IsAscii-cons 47 (signed_decimal cell.key ++ 47 ∷ rest) (omega arith) (IsAscii-append (signed_decimal cell.key) (47 ∷ rest) digits (IsAscii-cons 47 rest (omega arith) h)))
+    (IsAscii-cons 47 (signed_decimal cell.key ++ 47 ∷ rest) (omega arith) (IsAscii-append (signed_decimal cell.key) (47
+    ∷ rest) digits (IsAscii-cons 47 rest (omega arith) h)))
 
 -- versions and subjects --------------------------------------------------------------------------
 
@@ -153,7 +161,11 @@ version_ascii tables v sound is = cell_ascii tables v.cell (fresh_word v.fresh) 
 subject_is : (tables : List TableDef) (v : VersionId) (part : ℕ)
     → subject_text tables v part ≡ name_of_table tables v.cell.table ++ 47 ∷ (signed_decimal v.cell.key ++ 47 ∷ (fresh_word v.fresh ++ part_text part))
 subject_is tables v part =
-    rw (append_assoc (name_of_table tables v.cell.table) (47 ∷ (signed_decimal v.cell.key ++ 47 ∷ fresh_word v.fresh)) (part_text part), append_assoc (signed_decimal v.cell.key) (47 ∷ fresh_word v.fresh) (part_text part)) refl
+    rw (
+      append_assoc (name_of_table tables v.cell.table) (47 ∷ (signed_decimal v.cell.key ++ 47 ∷ fresh_word v.fresh)) (part_text part),
+      append_assoc
+          (signed_decimal v.cell.key) (47 ∷ fresh_word v.fresh) (part_text part),
+    ) refl
 
 no_part : (b : Bool) → word_and_part (fresh_word b) ≡ Some (fresh_word b, 1)
 unfolding cut_of
@@ -168,7 +180,14 @@ part_again b part is = by (part == 1) refl
     by false e =
         let more : 1 < part = grind (arith, nat_tests, is.0) in
         let most = is.1 in
-        rw (e, cut_again (fresh_word b) (decimal part) (fresh_plain b), number_again (pos part) (within part (omega arith)), lt-ltb 1 part more, le-leb part GREATEST_PART most) refl
+        rw (
+          e,
+          cut_again (fresh_word b) (decimal part) (fresh_plain b),
+          number_again (pos part) (within part (omega arith)),
+          lt-ltb 1 part more,
+          le-leb part
+              GREATEST_PART most,
+        ) refl
 
 part_ascii : (b : Bool) (part : ℕ) → IsPart part → IsAscii (fresh_word b ++ part_text part)
 part_ascii b part is = IsAscii-append (fresh_word b) (part_text part) (fresh_ascii b) (by (part == 1) refl)
@@ -177,33 +196,48 @@ part_ascii b part is = IsAscii-append (fresh_word b) (part_text part) (fresh_asc
     by true e = rw e IsAscii-nil
     by false e = let most = is.1 in rw e (IsAscii-cons 47 (decimal part) (omega arith) (IsAscii-decimal part (omega arith)))
 
-subject_again : (tables : List TableDef) (v : VersionId) (part : ℕ) → schema_fault tables ≡ None → IsNamed tables v → IsPart part → subject_of tables (subject_text tables v part) ≡ Some (v, part)
+subject_again : (tables : List TableDef) (v : VersionId) (part : ℕ) → schema_fault tables ≡ None → IsNamed tables v → IsPart part
+    → subject_of tables (subject_text tables v part) ≡ Some (v, part)
 unfolding subject_of
 subject_again tables v part sound is one =
-    rw (subject_is tables v part, cell_again tables v.cell (fresh_word v.fresh ++ part_text part) sound is, part_again v.fresh part one, fresh_again v.fresh) refl
+    rw (subject_is tables v part, cell_again tables v.cell (fresh_word v.fresh ++ part_text part) sound is, part_again v.fresh part one, fresh_again v.fresh)
+    refl
 
-subject_ascii : (tables : List TableDef) (v : VersionId) (part : ℕ) → schema_fault tables ≡ None → IsNamed tables v → IsPart part → IsAscii (subject_text tables v part)
-subject_ascii tables v part sound is one = rw (subject_is tables v part) (cell_ascii tables v.cell (fresh_word v.fresh ++ part_text part) sound is (part_ascii v.fresh part one))
+subject_ascii : (tables : List TableDef) (v : VersionId) (part : ℕ) → schema_fault tables ≡ None → IsNamed tables v → IsPart part
+    → IsAscii (subject_text tables v part)
+subject_ascii tables v part sound is one = rw (subject_is tables v part) (cell_ascii tables v.cell (fresh_word v.fresh
+    ++ part_text part) sound is (part_ascii v.fresh part one))
 
 -- a subject's text, and a version's, has a byte
 subject_long : (tables : List TableDef) (v : VersionId) (part : ℕ) → (length (subject_text tables v part) == 0) ≡ false
 subject_long tables v part =
-    rw (subject_is tables v part) (ne_eqb _ 0 (λ e. omega (arith, length-append (name_of_table tables v.cell.table) (47 ∷ (signed_decimal v.cell.key ++ 47 ∷ (fresh_word v.fresh ++ part_text part))))))
+    rw (subject_is tables v part) (ne_eqb _ 0 (λ e. omega (
+      arith,
+      length-append (name_of_table tables v.cell.table) (47
+          ∷ (signed_decimal v.cell.key ++ 47 ∷ (fresh_word v.fresh ++ part_text part))),
+    )))
 
 version_long : (tables : List TableDef) (v : VersionId) → (length (version_text tables v) == 0) ≡ false
-version_long tables v = ne_eqb _ 0 (λ e. omega (arith, length-append (name_of_table tables v.cell.table) (47 ∷ (signed_decimal v.cell.key ++ 47 ∷ fresh_word v.fresh))))
+version_long tables v = ne_eqb _ 0 (λ e. omega (
+  arith,
+  length-append (name_of_table tables v.cell.table) (47
+      ∷ (signed_decimal v.cell.key ++ 47 ∷ fresh_word v.fresh)),
+))
 
-second_again : (tables : List TableDef) (second : Option VersionId) (part : ℕ) → schema_fault tables ≡ None → MatchOption second (part ≡ 1) (λ v. IsNamed tables v × IsPart part)
+second_again : (tables : List TableDef) (second : Option VersionId) (part : ℕ) → schema_fault tables ≡ None
+    → MatchOption second (part ≡ 1) (λ v. IsNamed tables v × IsPart part)
     → second_of tables (second_text tables second part) ≡ Some (second, part)
 second_again tables None part sound is = rw is refl
 second_again tables (Some v) part sound is = rw (subject_long tables v part, subject_again tables v part sound is.0 is.1) refl
 
-second_ascii : (tables : List TableDef) (second : Option VersionId) (part : ℕ) → schema_fault tables ≡ None → MatchOption second (part ≡ 1) (λ v. IsNamed tables v × IsPart part)
+second_ascii : (tables : List TableDef) (second : Option VersionId) (part : ℕ) → schema_fault tables ≡ None
+    → MatchOption second (part ≡ 1) (λ v. IsNamed tables v × IsPart part)
     → IsAscii (second_text tables second part)
 second_ascii tables None part sound is = IsAscii-nil
 second_ascii tables (Some v) part sound is = subject_ascii tables v part sound is.0 is.1
 
-two_again : (tables : List TableDef) (two : Option VersionId) → schema_fault tables ≡ None → IfSome two (IsNamed tables) → two_of tables (two_text tables two) ≡ Some two
+two_again : (tables : List TableDef) (two : Option VersionId) → schema_fault tables ≡ None → IfSome two (IsNamed tables) → two_of tables (two_text tables two)
+    ≡ Some two
 two_again tables None sound is = refl
 two_again tables (Some v) sound is = rw (version_long tables v, version_again tables v sound is) refl
 
@@ -213,7 +247,8 @@ two_ascii tables (Some v) sound is = version_ascii tables v sound is
 
 -- entries ----------------------------------------------------------------------------------------
 
-entry_again : (tables : List TableDef) (e : Entry) → schema_fault tables ≡ None → IsWellFormedEntry tables e → e.need.rule < 2 ^ 16 → entry_of tables (entry_fields tables e) ≡ Some e
+entry_again : (tables : List TableDef) (e : Entry) → schema_fault tables ≡ None → IsWellFormedEntry tables e → e.need.rule < 2 ^ 16
+    → entry_of tables (entry_fields tables e) ≡ Some e
 unfolding entry_of field_at
 entry_again tables e sound is lt =
     rw (
@@ -225,7 +260,8 @@ entry_again tables e sound is lt =
       two_again tables e.two sound is.two,
     ) refl
 
-pub entry_read_back : (tables : List TableDef) (e : Entry) → schema_fault tables ≡ None → IsWellFormedEntry tables e → e.need.rule < 2 ^ 16 → IsReadBack tables e
+pub entry_read_back : (tables : List TableDef) (e : Entry) → schema_fault tables ≡ None → IsWellFormedEntry tables e → e.need.rule < 2 ^ 16
+    → IsReadBack tables e
 entry_read_back tables e sound is lt = record {
   ascii = (
     bytes_ascii (codes "need") refl,
@@ -233,7 +269,13 @@ entry_read_back tables e sound is lt = record {
       IsAscii-decimal e.need.rule (omega arith),
       (
         subject_ascii tables e.need.first e.need.first_part sound is.first is.first_part,
-        (second_ascii tables e.need.second e.need.second_part sound is.second, (version_ascii tables e.one sound is.one, (two_ascii tables e.two sound is.two, tt))),
+        (
+          second_ascii tables e.need.second e.need.second_part sound is.second,
+          (
+            version_ascii tables e.one sound is.one,
+            (two_ascii tables e.two sound is.two, tt),
+          ),
+        ),
       ),
     ),
   );

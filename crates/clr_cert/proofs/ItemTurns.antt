@@ -27,7 +27,8 @@ after rooted front read = read >>= λ c. Ok (together rooted front c)
 
 -- behind a root record there is no other
 root_or_not : (a b c d : Bool) (name : Option (List ℕ)) (entry : Option Entry) (item : Item)
-    → cond a (cond b (Err fault.BadReference) (cond c (or_fault fault.BadReference (option_map Member name)) (cond d (or_fault fault.BadReference (option_map Need entry)) (Err fault.BadKind)))) (Err fault.FieldCount) ≡ Ok item → is_root item ≡ false
+    → cond a (cond b (Err fault.BadReference) (cond c (or_fault fault.BadReference (option_map Member name))
+    (cond d (or_fault fault.BadReference (option_map Need entry)) (Err fault.BadKind)))) (Err fault.FieldCount) ≡ Ok item → is_root item ≡ false
 root_or_not false b c d name entry item e = absurd cc
 root_or_not true true c d name entry item e = absurd cc
 root_or_not true false true d (Some name) entry (Member other) e = refl
@@ -40,10 +41,12 @@ root_or_not true false false true name (Some entry) (Member other) e = refl
 root_or_not true false false true name None item e = absurd cc
 root_or_not true false false false name entry item e = absurd cc
 
-one_root : (tables : List TableDef) (rooted : Bool) (fields : List (List ℕ)) (item : Item) → item_of tables rooted fields ≡ Ok item → rooted ≡ true → is_root item ≡ false
+one_root : (tables : List TableDef) (rooted : Bool) (fields : List (List ℕ)) (item : Item) → item_of tables rooted fields ≡ Ok item → rooted ≡ true
+    → is_root item ≡ false
 unfolding item_of
 one_root tables true fields item e is =
-    root_or_not (length fields == RECORD_FIELDS) (bytes_eq (field_of fields 0) (codes "root")) (bytes_eq (field_of fields 0) (codes "member")) (bytes_eq (field_of fields 0) (codes "need")) (name_of fields) (entry_of tables fields) item e
+    root_or_not (length fields == RECORD_FIELDS) (bytes_eq (field_of fields 0) (codes "root")) (bytes_eq (field_of fields 0) (codes "member"))
+    (bytes_eq (field_of fields 0) (codes "need")) (name_of fields) (entry_of tables fields) item e
 one_root tables false fields item e is = absurd cc
 
 regroup : (rooted : Bool) (front : Certificate) (item : Item) (read : Result Certificate (ℕ × CertFault)) → (rooted ≡ true → is_root item ≡ false)
@@ -58,22 +61,27 @@ regroup false front (Need entry) (Ok c) one = rw append_assoc refl
 
 next : (tables : List TableDef) (rooted : Bool) (n : ℕ) (rows : List Row) (i : ℕ) (row : Row) → i < length rows → row ≡ get_or rows i row
     → certificate_from tables rooted n (map fields_of (drop i rows))
-    ≡ (at_record n (item_of tables rooted (fields_of row)) >>= λ item. certificate_from tables (rooted || is_root item) (n + 1) (map fields_of (drop (i + 1) rows)) >>= λ others. Ok (with_item item others))
+    ≡ (at_record n (item_of tables rooted (fields_of row)) >>= λ item. certificate_from tables (rooted
+    || is_root item) (n + 1) (map fields_of (drop (i + 1) rows)) >>= λ others. Ok (with_item item others))
 unfolding certificate_from
 next tables rooted n rows i row lt is = rw (add-one i, drop-cons rows i row) (rw (← is) refl)
 
 -- one more record is read
-pub one_more : (tables : List TableDef) (rooted : Bool) (front : Certificate) (n : ℕ) (rows : List Row) (i : ℕ) (row : Row) (item : Item) (total : Result Certificate (ℕ × CertFault)) → i < length rows → row ≡ get_or rows i row → item_of tables rooted (fields_of row) ≡ Ok item
+pub one_more : (tables : List TableDef) (rooted : Bool) (front : Certificate) (n : ℕ) (rows : List Row) (i : ℕ) (row : Row) (item : Item)
+    (total : Result Certificate (ℕ × CertFault)) → i < length rows → row ≡ get_or rows i row → item_of tables rooted (fields_of row) ≡ Ok item
     → after rooted front (certificate_from tables rooted n (map fields_of (drop i rows))) ≡ total
-    → after (rooted || is_root item) (with_next front item) (certificate_from tables (rooted || is_root item) (n + 1) (map fields_of (drop (i + 1) rows))) ≡ total
+    → after (rooted || is_root item) (with_next front item) (certificate_from tables (rooted || is_root item) (n + 1) (map fields_of (drop (i + 1) rows)))
+    ≡ total
 one_more tables rooted front n rows i row item total lt is h so_far =
     sym (regroup rooted front item _ (one_root tables rooted (fields_of row) item h)) ∙ (sym (rw (next tables rooted n rows i row lt is, h) refl) ∙ so_far)
 
-fault_of : (tables : List TableDef) (e : CertFault) (rooted : Bool) (front : Certificate) (n : ℕ) (rows : List Row) (i : ℕ) (row : Row) (total : Result Certificate (ℕ × CertFault)) → i < length rows → row ≡ get_or rows i row → item_of tables rooted (fields_of row) ≡ Err e
+fault_of : (tables : List TableDef) (e : CertFault) (rooted : Bool) (front : Certificate) (n : ℕ) (rows : List Row) (i : ℕ) (row : Row)
+    (total : Result Certificate (ℕ × CertFault)) → i < length rows → row ≡ get_or rows i row → item_of tables rooted (fields_of row) ≡ Err e
     → after rooted front (certificate_from tables rooted n (map fields_of (drop i rows))) ≡ total → total ≡ Err (n, e)
 fault_of tables e rooted front n rows i row total lt is h so_far = sym so_far ∙ rw (next tables rooted n rows i row lt is, h) refl
 
-fails_so : {A : Type 0} (e : CertFault) (n : ℕ) (read : Result A CertFault) (total : Result Certificate (ℕ × CertFault)) → ((f : CertFault) → read ≡ Err f → total ≡ Err (n, f)) → Fails e read → FailsAt (numbered_fault n e).0 (numbered_fault n e).1 total
+fails_so : {A : Type 0} (e : CertFault) (n : ℕ) (read : Result A CertFault) (total : Result Certificate (ℕ × CertFault))
+    → ((f : CertFault) → read ≡ Err f → total ≡ Err (n, f)) → Fails e read → FailsAt (numbered_fault n e).0 (numbered_fault n e).1 total
 fails_so fault.OutOfMemory n read total so h = refl
 fails_so fault.NotCsv n read total so h = so fault.NotCsv h
 fails_so fault.FieldCount n read total so h = so fault.FieldCount h
@@ -81,7 +89,8 @@ fails_so fault.BadKind n read total so h = so fault.BadKind h
 fails_so fault.BadReference n read total so h = so fault.BadReference h
 
 -- the fault of a record is that of the whole text
-pub stops : (tables : List TableDef) (e : CertFault) (rooted : Bool) (front : Certificate) (n : ℕ) (rows : List Row) (i : ℕ) (row : Row) (total : Result Certificate (ℕ × CertFault)) → i < length rows → row ≡ get_or rows i row → Fails e (item_of tables rooted (fields_of row))
+pub stops : (tables : List TableDef) (e : CertFault) (rooted : Bool) (front : Certificate) (n : ℕ) (rows : List Row) (i : ℕ) (row : Row)
+    (total : Result Certificate (ℕ × CertFault)) → i < length rows → row ≡ get_or rows i row → Fails e (item_of tables rooted (fields_of row))
     → after rooted front (certificate_from tables rooted n (map fields_of (drop i rows))) ≡ total → FailsAt (numbered_fault n e).0 (numbered_fault n e).1 total
 stops tables e rooted front n rows i row total lt is h so_far =
     fails_so e n (item_of tables rooted (fields_of row)) total (λ f k. fault_of tables f rooted front n rows i row total lt is k so_far) h
@@ -96,7 +105,8 @@ live_still true front live = rw (append-nil front.members, append-nil front.entr
 live_still false front live = rw (append-nil front.members, append-nil front.entries, ← live refl) refl
 
 -- no record is left
-pub whole : (tables : List TableDef) (rooted : Bool) (front : Certificate) (n : ℕ) (rows : List Row) (i : ℕ) (total : Result Certificate (ℕ × CertFault)) → length rows ≤ i → (rooted ≡ false → front.root ≡ nothing_said.root)
+pub whole : (tables : List TableDef) (rooted : Bool) (front : Certificate) (n : ℕ) (rows : List Row) (i : ℕ) (total : Result Certificate (ℕ × CertFault))
+    → length rows ≤ i → (rooted ≡ false → front.root ≡ nothing_said.root)
     → after rooted front (certificate_from tables rooted n (map fields_of (drop i rows))) ≡ total → total ≡ Ok front
 unfolding certificate_from
 whole tables rooted front n rows i total le live so_far = sym so_far ∙ rw (drop_all i rows le) (ap (λ c. Ok c) (live_still rooted front live))

@@ -105,7 +105,8 @@ IsSecond tables found = MatchOption found.0 (found.1 ≡ 1) (λ v. IsNamed table
 second_named : (tables : List TableDef) (text : List ℕ) (found : Option VersionId × ℕ) → second_of tables text ≡ Some found → IsSecond tables found
 second_named tables text found e = by (is_empty text) e
   where
-    by : (b : Bool) → cond b (Some (None, 1)) (option_map (λ (subject : VersionId × ℕ). (Some subject.0, subject.1)) (subject_of tables text)) ≡ Some found → IsSecond tables found
+    by : (b : Bool) → cond b (Some (None, 1)) (option_map (λ (subject : VersionId × ℕ). (Some subject.0, subject.1)) (subject_of tables text)) ≡ Some found
+        → IsSecond tables found
     by true e =
         let none : Option VersionId × ℕ = (None, 1) in
         let same : none ≡ found = cc in
@@ -119,7 +120,8 @@ two_named tables text found e = by (is_empty text) e
     by true e =
         let same : ◌≡◌ {A = Option VersionId} None found = cc in
         subst (λ (o : Option VersionId). IfSome o (IsNamed tables)) same tt
-    by false e = map_so (version_of tables text) _ found (λ version e1 same. subst (λ (o : Option VersionId). IfSome o (IsNamed tables)) same (version_named tables text version e1)) e
+    by false e = map_so (version_of tables text) _ found (λ version e1 same. subst (λ (o : Option VersionId). IfSome o (IsNamed tables)) same
+        (version_named tables text version e1)) e
 
 entry_named : (tables : List TableDef) (fields : List (List ℕ)) (entry : Entry) → entry_of tables fields ≡ Some entry → IsWellFormedEntry tables entry
 unfolding entry_of
@@ -132,7 +134,12 @@ entry_named tables fields entry e =
     then_so (two_of tables (field_of fields 5)) _ entry (λ two e6 f6.
     let subject = subject_named tables (field_of fields 2) first e3 in
     subst (IsWellFormedEntry tables)
-    (same_Some (record { need = record { rule = rule; first = first.0; second = second.0; first_part = first.1; second_part = second.1 }; one = one; two = two }) entry f6) (record {
+    (same_Some (record {
+      need = record { rule = rule; first = first.0; second = second.0; first_part = first.1; second_part = second.1 };
+      one = one;
+      two =
+          two;
+    }) entry f6) (record {
       first = subject.0;
       first_part = subject.1;
       second = second_named tables (field_of fields 3) second e4;
@@ -169,19 +176,26 @@ root_good rooted fields name e = by (rooted || is_live (field_of fields 1)) e
     by true e = absurd cc
     by false e = name_good fields name e
 
-from_so : {A G : Type 0} (f : A → Item) (o : Option A) (item : Item) → ((x : A) → o ≡ Some x → f x ≡ item → G) → or_fault fault.BadReference (option_map f o) ≡ Ok item → G
+from_so : {A G : Type 0} (f : A → Item) (o : Option A) (item : Item) → ((x : A) → o ≡ Some x → f x ≡ item → G) → or_fault fault.BadReference (option_map f o)
+    ≡ Ok item → G
 from_so f None item so e = absurd cc
 from_so f (Some x) item so e = so x refl cc
 
-item_named : (tables : List TableDef) (rooted : Bool) (fields : List (List ℕ)) (item : Item) → item_of tables rooted fields ≡ Ok item → IsWellFormedItem tables item
+item_named : (tables : List TableDef) (rooted : Bool) (fields : List (List ℕ)) (item : Item) → item_of tables rooted fields ≡ Ok item
+    → IsWellFormedItem tables item
 unfolding item_of
-item_named tables rooted fields item e = by _ (bytes_eq (field_of fields 0) (codes "root")) (bytes_eq (field_of fields 0) (codes "member")) (bytes_eq (field_of fields 0) (codes "need")) e
+item_named tables rooted fields item e = by _ (bytes_eq (field_of fields 0) (codes "root")) (bytes_eq (field_of fields 0) (codes "member"))
+    (bytes_eq (field_of fields 0) (codes "need")) e
   where
-    by : (a b c d : Bool) → cond a (cond b (or_fault fault.BadReference (option_map Root (root_of rooted fields))) (cond c (or_fault fault.BadReference (option_map Member (name_of fields))) (cond d (or_fault fault.BadReference (option_map Need (entry_of tables fields))) (Err fault.BadKind)))) (Err fault.FieldCount) ≡ Ok item → IsWellFormedItem tables item
+    by : (a b c d : Bool) → cond a (cond b (or_fault fault.BadReference (option_map Root (root_of rooted fields)))
+        (cond c (or_fault fault.BadReference (option_map Member (name_of fields)))
+        (cond d (or_fault fault.BadReference (option_map Need (entry_of tables fields))) (Err fault.BadKind)))) (Err fault.FieldCount) ≡ Ok item
+        → IsWellFormedItem tables item
     by false b c d e = absurd cc
     by true true c d e = from_so Root (root_of rooted fields) item (λ name e1 same. subst (IsWellFormedItem tables) same (root_good rooted fields name e1)) e
     by true false true d e = from_so Member (name_of fields) item (λ name e1 same. subst (IsWellFormedItem tables) same (name_good fields name e1)) e
-    by true false false true e = from_so Need (entry_of tables fields) item (λ entry e1 same. subst (IsWellFormedItem tables) same (entry_named tables fields entry e1)) e
+    by true false false true e = from_so Need (entry_of tables fields) item (λ entry e1 same. subst (IsWellFormedItem tables) same
+        (entry_named tables fields entry e1)) e
     by true false false false e = absurd cc
 
 -- certificates -------------------------------------------------------------------------------------
@@ -190,10 +204,21 @@ each_of : {A : Type 0} (P : A → Type 0) (x : A) (xs : List A) → P x → All 
 each_of P x xs one all zero d lt = one
 each_of P x xs one all (suc k) d lt = all k d (omega arith)
 
-with_named : (tables : List TableDef) (item : Item) (c : Certificate) → IsWellFormedItem tables item → IsWellFormed tables c → IsWellFormed tables (with_item item c)
+with_named : (tables : List TableDef) (item : Item) (c : Certificate) → IsWellFormedItem tables item → IsWellFormed tables c
+    → IsWellFormed tables (with_item item c)
 with_named tables (Root name) c one all = record { root = one; members = all.members; entries = all.entries }
-with_named tables (Member name) c one all = record { root = all.root; members = each_of (λ (n : List ℕ). is_good_name n ≡ true) name c.members one all.members; entries = all.entries }
-with_named tables (Need entry) c one all = record { root = all.root; members = all.members; entries = each_of (IsWellFormedEntry tables) entry c.entries one all.entries }
+with_named tables (Member name) c one all = record {
+  root = all.root;
+  members = each_of (λ (n : List ℕ). is_good_name n
+      ≡ true) name c.members one all.members;
+  entries = all.entries;
+}
+with_named tables (Need entry) c one all = record {
+  root = all.root;
+  members = all.members;
+  entries = each_of (IsWellFormedEntry tables) entry c.entries one
+      all.entries;
+}
 
 live_good : is_good_name live_name ≡ true
 unfolding is_good_name
@@ -213,14 +238,16 @@ then_ok (Err fault) next y so e = absurd cc
 same_ok : {A E : Type 0} (x y : A) → ◌≡◌ {A = Result A E} (Ok x) (Ok y) → x ≡ y
 same_ok x y e = cc
 
-from_named : (tables : List TableDef) (rooted : Bool) (n : ℕ) (rows : List (List (List ℕ))) (c : Certificate) → certificate_from tables rooted n rows ≡ Ok c → IsWellFormed tables c
+from_named : (tables : List TableDef) (rooted : Bool) (n : ℕ) (rows : List (List (List ℕ))) (c : Certificate) → certificate_from tables rooted n rows ≡ Ok c
+    → IsWellFormed tables c
 unfolding certificate_from
 from_named tables rooted n [] c e = subst (IsWellFormed tables) (same_ok nothing_said c e) (nothing_named tables)
 from_named tables rooted n (fields ∷ rest) c e =
     then_ok (at_record n (item_of tables rooted fields)) _ c (λ item e1 f1.
     then_ok (certificate_from tables (rooted || is_root item) (n + 1) rest) _ c (λ others e2 f2.
     subst (IsWellFormed tables) (same_ok (with_item item others) c f2)
-    (with_named tables item others (item_named tables rooted fields item (numbered_ok n (item_of tables rooted fields) item e1)) (from_named tables (rooted || is_root item) (n + 1) rest others e2)))
+    (with_named tables item others (item_named tables rooted fields item (numbered_ok n (item_of tables rooted fields) item e1)) (from_named tables (rooted
+    || is_root item) (n + 1) rest others e2)))
     f1)
     e
 

@@ -2,16 +2,13 @@
 use Rattle.std.specs.Prelude.{◌≡◌, ℕ, ◌==◌, List, [], ◌∷◌, ◌++◌, map, codes}
 use Rattle.std.specs.Prelude.{Bool, true, false, ◌≤◌, Option, Some, None, IfSome, MatchOption, option_map, slice_get, unwrap_or, if◌then◌else◌}
 use Rattle.std.specs.Fmt.{decimal, signed_decimal}
-use Rattle.std.specs.List.{All, AllByRecursion, flat_map}
+use Rattle.std.specs.List.{All, AllByRecursion}
 use Rattle.std.specs.Str.{IsAscii}
-use Rattle.std.specs.declared.alloc.Global.{Global}
-use Rattle.std.specs.declared.vec.Vec.{Vec}
-use Rattle.csv.specs.Writing.{default_writer, fields_written, has_written, row_text, writer_pending, writer_setup, writer_under}
-use Rattle.csv.specs.declared.writer.Writer.{Writer}
 use Rattle.clr_rows.specs.declared.tables.TableDef.{TableDef}
 use Rattle.clr_rows.specs.Names.{is_good_name}
 use Rattle.clr_rows.specs.Schemas.{cell_fault, name_of_table}
 use Rattle.clr_needs.specs.declared.needs.VersionId.{VersionId}
+use Rattle.clr_records.specs.Writing.{records_text}
 use Rattle.clr_cert.specs.declared.certificates.Certificate.{Certificate}
 use Rattle.clr_cert.specs.declared.certificates.Entry.{Entry}
 use Rattle.clr_cert.specs.declared.limits.TheConstants.{GREATEST_PART}
@@ -62,10 +59,6 @@ root_records name = if is_live name then [] else name_fields (codes "root") name
 unfoldable pub certificate_records : List TableDef → Certificate → List (List (List ℕ))
 certificate_records tables c = root_records c.root ++ (map member_fields c.members ++ map (entry_fields tables) c.entries)
 
--- the text of records, each a line
-abbrev pub records_text : List (List (List ℕ)) → List ℕ
-records_text rows = flat_map (row_text default_writer) rows
-
 -- the text of a certificate
 abbrev pub certificate_text : List TableDef → Certificate → List ℕ
 certificate_text tables c = records_text (certificate_records tables c)
@@ -94,16 +87,6 @@ pub record IsWellFormed (tables : List TableDef) (c : Certificate) : Type 0 wher
   pub entries : All (IsWellFormedEntry tables) c.entries
 
 -- writing ------------------------------------------------------------------------------------
-
--- a writer with csv's defaults that has ended its last record
-pub record IsBetween {W : Type 0} (writer : Writer W) : Type 0 where
-  pub ended : fields_written writer ≡ 0
-  pub clean : has_written writer ≡ false
-  pub setup : writer_setup writer ≡ default_writer
-
--- what a writer over a list has written, also what it still holds back
-abbrev pub text_of : Writer (Vec ℕ Global) → List ℕ
-text_of writer = (writer_under writer).items ++ writer_pending writer
 
 -- the record of an entry is ASCII, and is read as the entry
 pub record IsReadBack (tables : List TableDef) (e : Entry) : Type 0 where

@@ -62,13 +62,6 @@ fn root(rooted: bool, fields: &StringRecord) -> Option<&str>
     name(fields)
 }
 
-/// Returns a copy of a name.
-fn words(alloc: Global, name: &str) -> Result<Words, AllocError>
-    ensures { IfOk result (λ words. words ≡ name.now) }
-{
-    Ok(Words::new(String::from_str(alloc, name)?))
-}
-
 /// Returns what a record of the right count of fields says. `rooted` says whether a root record
 /// stands before it.
 fn item_of_six(
@@ -82,11 +75,11 @@ fn item_of_six(
     match field(fields, 0) {
         "root" => {
             let name = root(rooted, fields).ok_or(CertFault::BadReference)?;
-            Ok(Item::Root(words(alloc, name)?))
+            Ok(Item::Root(Words::from_str(alloc, name)?))
         }
         "member" => {
             let name = name(fields).ok_or(CertFault::BadReference)?;
-            Ok(Item::Member(words(alloc, name)?))
+            Ok(Item::Member(Words::from_str(alloc, name)?))
         }
         "need" => {
             let entry = read_entry(schema, fields).ok_or(CertFault::BadReference)?;

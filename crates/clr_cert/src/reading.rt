@@ -20,7 +20,7 @@ fn empty(alloc: Global) -> Result<Certificate, AllocError>
     ensures { IfOk result (λ certificate. certificate ≡ nothing_said) }
 {
     Ok(Certificate {
-        root: Words::new(String::from_str(alloc, LIVE)?),
+        root: Words::from_str(alloc, LIVE)?,
         members: Names::new(Vec::new(alloc)),
         entries: Entries::new(Vec::new(alloc)),
     })

@@ -6,9 +6,10 @@ ghost use Rattle.csv.specs.Writing.{default_writer, row_text};
 ghost use Rattle.clr_rows.specs.Beginnings.{IsBegun};
 ghost use Rattle.clr_rows.specs.Schemas.{schema_fault};
 ghost use Rattle.clr_cert.specs.Certificates.{certificate_in};
-ghost use Rattle.clr_cert.specs.Texts.{IsBetween, IsReadBackWhereNamed, IsWellFormed, certificate_text, entry_fields, member_fields, name_fields};
-ghost use Rattle.clr_cert.specs.Texts.{fresh_word, part_text, records_text, root_records};
-ghost use Rattle.clr_cert.specs.Texts.{second_text, subject_text, text_of, two_text, version_text};
+ghost use Rattle.clr_records.specs.Writing.{IsBetween, records_text, written_by};
+ghost use Rattle.clr_cert.specs.Texts.{IsReadBackWhereNamed, IsWellFormed, certificate_text, entry_fields, member_fields, name_fields};
+ghost use Rattle.clr_cert.specs.Texts.{fresh_word, part_text, root_records};
+ghost use Rattle.clr_cert.specs.Texts.{second_text, subject_text, two_text, version_text};
 
 use crate::certificates::{Certificate, Entry};
 use clr_needs::VersionId;
@@ -127,7 +128,7 @@ fn two_in_text(
 fn add_record(writer: &mut Writer<Vec<u8>>, fields: &[&[u8]]) -> Result<(), AllocError>
     requires { IsBetween writer.old }
     ensures between { OnOk result (IsBetween writer.new) }
-    ensures written { OnOk result (text_of writer.new ≡ text_of writer.old ++ row_text default_writer (map (λ field. field.now) fields.now)) }
+    ensures written { OnOk result (written_by writer.new ≡ written_by writer.old ++ row_text default_writer (map (λ field. field.now) fields.now)) }
 {
     match writer.write_fields(fields) {
         Ok(()) => Ok(()),
@@ -139,7 +140,7 @@ fn add_record(writer: &mut Writer<Vec<u8>>, fields: &[&[u8]]) -> Result<(), Allo
 fn add_name(writer: &mut Writer<Vec<u8>>, word: &str, name: &str) -> Result<(), AllocError>
     requires { IsBetween writer.old }
     ensures between { OnOk result (IsBetween writer.new) }
-    ensures written { OnOk result (text_of writer.new ≡ text_of writer.old ++ row_text default_writer (name_fields word.now name.now)) }
+    ensures written { OnOk result (written_by writer.new ≡ written_by writer.old ++ row_text default_writer (name_fields word.now name.now)) }
 {
     let empty = b"".as_slice();
     add_record(
@@ -152,7 +153,7 @@ fn add_name(writer: &mut Writer<Vec<u8>>, word: &str, name: &str) -> Result<(), 
 fn add_root(writer: &mut Writer<Vec<u8>>, root: &str) -> Result<(), AllocError>
     requires { IsBetween writer.old }
     ensures between { OnOk result (IsBetween writer.new) }
-    ensures written { OnOk result (text_of writer.new ≡ text_of writer.old ++ records_text (root_records root.now)) }
+    ensures written { OnOk result (written_by writer.new ≡ written_by writer.old ++ records_text (root_records root.now)) }
 {
     if root == LIVE {
         return Ok(());
@@ -163,7 +164,7 @@ fn add_root(writer: &mut Writer<Vec<u8>>, root: &str) -> Result<(), AllocError>
 fn add_members(writer: &mut Writer<Vec<u8>>, members: &[Words]) -> Result<(), AllocError>
     requires { IsBetween writer.old }
     ensures between { OnOk result (IsBetween writer.new) }
-    ensures written { OnOk result (text_of writer.new ≡ text_of writer.old ++ records_text (map member_fields members.now)) }
+    ensures written { OnOk result (written_by writer.new ≡ written_by writer.old ++ records_text (map member_fields members.now)) }
 {
     for name in members {
         add_name(writer, "member", name.as_str())?;
@@ -179,7 +180,7 @@ fn add_entry(
 ) -> Result<(), AllocError>
     requires { IsBetween writer.old }
     ensures between { OnOk result (IsBetween writer.new) }
-    ensures written { OnOk result (text_of writer.new ≡ text_of writer.old ++ row_text default_writer (entry_fields schema.now entry)) }
+    ensures written { OnOk result (written_by writer.new ≡ written_by writer.old ++ row_text default_writer (entry_fields schema.now entry)) }
     ensures read_back { OnOk result (IsReadBackWhereNamed schema.now entry) }
 {
     let need = entry.need;
@@ -210,7 +211,7 @@ fn add_entries(
 ) -> Result<(), AllocError>
     requires { IsBetween writer.old }
     ensures between { OnOk result (IsBetween writer.new) }
-    ensures written { OnOk result (text_of writer.new ≡ text_of writer.old ++ records_text (map (entry_fields schema.now) entries.now)) }
+    ensures written { OnOk result (written_by writer.new ≡ written_by writer.old ++ records_text (map (entry_fields schema.now) entries.now)) }
     ensures read_back { OnOk result (All (IsReadBackWhereNamed schema.now) entries.now) }
 {
     for entry in entries {

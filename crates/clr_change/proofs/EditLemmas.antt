@@ -26,12 +26,14 @@ use Rattle.clr_change.specs.Edits.{taken_fault, missing, edit_fault, after_edit,
 -- a row set over changes -----------------------------------------------------------------------
 
 -- a row set at a cell, over the changes to a content, gives the changes to that with the row
-pub set_change_is : (content current : Content) (cell : CellId) (row : Option Row) → set_change (changes content current) cell (row_at content cell) row ≡ changes content (set_cell current cell row)
+pub set_change_is : (content current : Content) (cell : CellId) (row : Option Row) → set_change (changes content current) cell (row_at content cell) row
+    ≡ changes content (set_cell current cell row)
 set_change_is content current cell row = same_changes _ _ (λ q.
     get-set_change (changes content current) cell (row_at content cell) row q ∙ go q (eq_by_cmp cell_cmp q cell) refl
     ∙ ap (change_from (row_at content q)) (sym (row-set_cell current cell row q)) ∙ sym (get-changes content (set_cell current cell row) q))
   where
-    go : (q : CellId) (t : Bool) → eq_by_cmp cell_cmp q cell ≡ t → cond t (change_from (row_at content cell) row) (finite.get (changes content current) q) ≡ change_from (row_at content q) (cond t row (row_at current q))
+    go : (q : CellId) (t : Bool) → eq_by_cmp cell_cmp q cell ≡ t → cond t (change_from (row_at content cell) row) (finite.get (changes content current) q)
+        ≡ change_from (row_at content q) (cond t row (row_at current q))
     go q true tie = ap (λ c. change_from (row_at content c) row) (sym (tied_cells q cell tie))
     go q false tie = get-changes content current q
 
@@ -42,27 +44,45 @@ module _ (tables : List TableDef) (content : Content) (cell : CellId) (old : Cha
   has_row : (current : Content) → old ≡ changes content current → row_at (taken_over content old) cell ≡ row_at current cell
   has_row current is = ap (λ (s : Changes). row_at (taken_over content s) cell) is ∙ ap (λ (m : Content). row_at m cell) (taken_over-own content current)
 
-  set_from : (current : Content) (row : Option Row) → old ≡ changes content current → set_change old cell (row_at content cell) row ≡ changes content (set_cell current cell row)
+  set_from : (current : Content) (row : Option Row) → old ≡ changes content current → set_change old cell (row_at content cell) row
+      ≡ changes content (set_cell current cell row)
   set_from current row is = ap (λ (s : Changes). set_change s cell (row_at content cell) row) is ∙ set_change_is content current cell row
 
   abbrev HasRow : Bool → Type 0
   HasRow b = is_some (row_at (taken_over content old) cell) ≡ b
 
-  no_fault : (judged : Option RowFault) (later : Option Row → Option EditFault) (row : Option Row) → option_map fault.Row judged ≡ None → later row ≡ None → option_or (option_map fault.Row judged) (later row) ≡ None
+  no_fault : (judged : Option RowFault) (later : Option Row → Option EditFault) (row : Option Row) → option_map fault.Row judged ≡ None → later row ≡ None
+      → option_or (option_map fault.Row judged) (later row) ≡ None
   no_fault None later row e h = h
   no_fault (Some why) later row e h = cc
 
-  pub insert_made : (row : Row) → option_map fault.Row (row_fault tables cell row) ≡ None → HasRow false → IsMade tables content (Insert cell row) old (set_change old cell (row_at content cell) (Some row))
-  insert_made row fits none = λ current is. (no_fault _ taken_fault (row_at current cell) fits (ap (λ b. cond b (Some fault.KeyTaken) None) (ap is_some (sym (has_row current is)) ∙ none)), set_from current (Some row) is)
+  pub insert_made : (row : Row) → option_map fault.Row (row_fault tables cell row) ≡ None → HasRow false
+      → IsMade tables content (Insert cell row) old (set_change old cell (row_at content cell) (Some row))
+  insert_made row fits none = λ current is. (
+    no_fault _ taken_fault (row_at current cell) fits (ap (λ b. cond b (Some fault.KeyTaken) None)
+        (ap is_some (sym (has_row current is)) ∙ none)),
+    set_from current (Some row) is,
+  )
 
-  pub update_made : (row : Row) → option_map fault.Row (row_fault tables cell row) ≡ None → HasRow true → IsMade tables content (Update cell row) old (set_change old cell (row_at content cell) (Some row))
-  update_made row fits some = λ current is. (no_fault _ missing (row_at current cell) fits (ap (λ b. cond b None (Some fault.NoRow)) (ap is_some (sym (has_row current is)) ∙ some)), set_from current (Some row) is)
+  pub update_made : (row : Row) → option_map fault.Row (row_fault tables cell row) ≡ None → HasRow true
+      → IsMade tables content (Update cell row) old (set_change old cell (row_at content cell) (Some row))
+  update_made row fits some = λ current is. (
+    no_fault _ missing (row_at current cell) fits (ap (λ b. cond b None (Some fault.NoRow))
+        (ap is_some (sym (has_row current is)) ∙ some)),
+    set_from current (Some row) is,
+  )
 
-  pub delete_made : option_map fault.Row (cell_fault tables cell) ≡ None → HasRow true → IsMade tables content (Delete cell) old (set_change old cell (row_at content cell) None)
-  delete_made fits some = λ current is. (no_fault _ missing (row_at current cell) fits (ap (λ b. cond b None (Some fault.NoRow)) (ap is_some (sym (has_row current is)) ∙ some)), set_from current None is)
+  pub delete_made : option_map fault.Row (cell_fault tables cell) ≡ None → HasRow true
+      → IsMade tables content (Delete cell) old (set_change old cell (row_at content cell) None)
+  delete_made fits some = λ current is. (
+    no_fault _ missing (row_at current cell) fits (ap (λ b. cond b None (Some fault.NoRow))
+        (ap is_some (sym (has_row current is)) ∙ some)),
+    set_from current None is,
+  )
 
   -- a fault of the row
-  row_refused : (edit : Edit) (judged : Option RowFault) (later : Content → Option EditFault) → ((current : Content) → edit_fault tables current edit ≡ option_or (option_map fault.Row judged) (later current))
+  row_refused : (edit : Edit) (judged : Option RowFault) (later : Content → Option EditFault) → ((current : Content) → edit_fault tables current edit
+      ≡ option_or (option_map fault.Row judged) (later current))
       → (e : EditFault) → option_map fault.Row judged ≡ Some e → FaultIs tables content edit old e
   row_refused edit None later is e h = cc
   row_refused edit (Some why) later is e h = subst (FaultIs tables content edit old) (same_Some (fault.Row why) e h) (λ current _. is current)
@@ -76,22 +96,29 @@ module _ (tables : List TableDef) (content : Content) (cell : CellId) (old : Cha
   pub delete_refused : (e : EditFault) → option_map fault.Row (cell_fault tables cell) ≡ Some e → FaultIs tables content (Delete cell) old e
   delete_refused = row_refused (Delete cell) (cell_fault tables cell) (λ current. missing (row_at current cell)) (λ _. refl)
 
-  later_fault : (judged : Option RowFault) (later : Option EditFault) (e : EditFault) → option_map fault.Row judged ≡ None → later ≡ Some e → option_or (option_map fault.Row judged) later ≡ Some e
+  later_fault : (judged : Option RowFault) (later : Option EditFault) (e : EditFault) → option_map fault.Row judged ≡ None → later ≡ Some e
+      → option_or (option_map fault.Row judged) later ≡ Some e
   later_fault None later e fits h = h
   later_fault (Some why) later e fits h = cc
 
-  pub insert_taken : (row : Row) → option_map fault.Row (row_fault tables cell row) ≡ None → HasRow true → FaultIs tables content (Insert cell row) old fault.KeyTaken
-  insert_taken row fits some = λ current is. later_fault _ (taken_fault (row_at current cell)) fault.KeyTaken fits (ap (λ b. cond b (Some fault.KeyTaken) None) (ap is_some (sym (has_row current is)) ∙ some))
+  pub insert_taken : (row : Row) → option_map fault.Row (row_fault tables cell row) ≡ None → HasRow true
+      → FaultIs tables content (Insert cell row) old fault.KeyTaken
+  insert_taken row fits some = λ current is. later_fault _ (taken_fault (row_at current cell)) fault.KeyTaken fits (ap (λ b. cond b (Some fault.KeyTaken) None)
+      (ap is_some (sym (has_row current is)) ∙ some))
 
-  pub update_missing : (row : Row) → option_map fault.Row (row_fault tables cell row) ≡ None → HasRow false → FaultIs tables content (Update cell row) old fault.NoRow
-  update_missing row fits none = λ current is. later_fault _ (missing (row_at current cell)) fault.NoRow fits (ap (λ b. cond b None (Some fault.NoRow)) (ap is_some (sym (has_row current is)) ∙ none))
+  pub update_missing : (row : Row) → option_map fault.Row (row_fault tables cell row) ≡ None → HasRow false
+      → FaultIs tables content (Update cell row) old fault.NoRow
+  update_missing row fits none = λ current is. later_fault _ (missing (row_at current cell)) fault.NoRow fits (ap (λ b. cond b None (Some fault.NoRow))
+      (ap is_some (sym (has_row current is)) ∙ none))
 
   pub delete_missing : option_map fault.Row (cell_fault tables cell) ≡ None → HasRow false → FaultIs tables content (Delete cell) old fault.NoRow
-  delete_missing fits none = λ current is. later_fault _ (missing (row_at current cell)) fault.NoRow fits (ap (λ b. cond b None (Some fault.NoRow)) (ap is_some (sym (has_row current is)) ∙ none))
+  delete_missing fits none = λ current is. later_fault _ (missing (row_at current cell)) fault.NoRow fits (ap (λ b. cond b None (Some fault.NoRow))
+      (ap is_some (sym (has_row current is)) ∙ none))
 
 -- edits one after another ----------------------------------------------------------------------
 
-pub all_edited_more : (content : Content) (edits : List Edit) (edit : Edit) → after_edits content (edits ++ edit ∷ []) ≡ after_edit (after_edits content edits) edit
+pub all_edited_more : (content : Content) (edits : List Edit) (edit : Edit) → after_edits content (edits ++ edit ∷ [])
+    ≡ after_edit (after_edits content edits) edit
 unfolding after_edits
 all_edited_more content [] edit = refl
 all_edited_more content (e ∷ es) edit = all_edited_more (after_edit content e) es edit
@@ -100,11 +127,13 @@ all_edited_none : (content : Content) → after_edits content [] ≡ content
 unfolding after_edits
 all_edited_none content = refl
 
-first_bad_more : (tables : List TableDef) (current : Content) (n : ℕ) (edit : Edit) (rest : List Edit) → edit_fault tables current edit ≡ None → first_bad_edit tables current n (edit ∷ rest) ≡ first_bad_edit tables (after_edit current edit) (n + 1) rest
+first_bad_more : (tables : List TableDef) (current : Content) (n : ℕ) (edit : Edit) (rest : List Edit) → edit_fault tables current edit ≡ None
+    → first_bad_edit tables current n (edit ∷ rest) ≡ first_bad_edit tables (after_edit current edit) (n + 1) rest
 unfolding first_bad_edit
 first_bad_more tables current n edit rest none = ap (λ why. first_fault n why (first_bad_edit tables (after_edit current edit) (n + 1) rest)) none
 
-first_bad_here : (tables : List TableDef) (current : Content) (n : ℕ) (edit : Edit) (rest : List Edit) (why : EditFault) → edit_fault tables current edit ≡ Some why → first_bad_edit tables current n (edit ∷ rest) ≡ Some (n, why)
+first_bad_here : (tables : List TableDef) (current : Content) (n : ℕ) (edit : Edit) (rest : List Edit) (why : EditFault) → edit_fault tables current edit
+    ≡ Some why → first_bad_edit tables current n (edit ∷ rest) ≡ Some (n, why)
 unfolding first_bad_edit
 first_bad_here tables current n edit rest why is = ap (λ found. first_fault n found (first_bad_edit tables (after_edit current edit) (n + 1) rest)) is
 
@@ -123,7 +152,8 @@ module _ (tables : List TableDef) (content : Content) (edits : List Edit) where
       let start = sym (all_edited_none content) in
       record { staged_is = sym (changes-self content) ∙ ap (changes content) start; passed = ap (λ (m : Content). first_bad_edit tables m 1 edits) start }
 
-  pub one_staged : (at : ℕ) (edit : Edit) (old new : Changes) → at < length edits → edit ≡ get_or edits at edit → IsStagedTo at old → IsMade tables content edit old new → IsStagedTo (at + 1) new
+  pub one_staged : (at : ℕ) (edit : Edit) (old new : Changes) → at < length edits → edit ≡ get_or edits at edit → IsStagedTo at old
+      → IsMade tables content edit old new → IsStagedTo (at + 1) new
   one_staged at edit old new within is so_far made =
       let current = after_edits content (take at edits) in
       let one = made current so_far.staged_is in
@@ -135,13 +165,16 @@ module _ (tables : List TableDef) (content : Content) (edits : List Edit) where
             ∙ ap (λ (m : Content). first_bad_edit tables m (at + 1 + 1) (drop (at + 1) edits)) (sym next);
       }
 
-  pub one_refused : (at : ℕ) (edit : Edit) (old : Changes) (why : EditFault) → at < length edits → edit ≡ get_or edits at edit → IsStagedTo at old → FaultIs tables content edit old why → IsRefused (first_bad_edit tables content 1 edits) (number_of at why, why)
+  pub one_refused : (at : ℕ) (edit : Edit) (old : Changes) (why : EditFault) → at < length edits → edit ≡ get_or edits at edit → IsStagedTo at old
+      → FaultIs tables content edit old why → IsRefused (first_bad_edit tables content 1 edits) (number_of at why, why)
   one_refused at edit old why within is so_far = go why
     where
-      first : (why : EditFault) → edit_fault tables (after_edits content (take at edits)) edit ≡ Some why → first_bad_edit tables content 1 edits ≡ Some (at + 1, why)
+      first : (why : EditFault) → edit_fault tables (after_edits content (take at edits)) edit ≡ Some why → first_bad_edit tables content 1 edits
+          ≡ Some (at + 1, why)
       first why e =
           let current = after_edits content (take at edits) in
-          so_far.passed ∙ ap (first_bad_edit tables current (at + 1)) (drop_more edits at edit within ∙ ap (λ e. e ∷ drop (at + 1) edits) (sym is)) ∙ first_bad_here tables current (at + 1) edit (drop (at + 1) edits) why e
+          so_far.passed ∙ ap (first_bad_edit tables current (at + 1)) (drop_more edits at edit within ∙ ap (λ e. e ∷ drop (at + 1) edits) (sym is))
+          ∙ first_bad_here tables current (at + 1) edit (drop (at + 1) edits) why e
 
       go : (why : EditFault) → FaultIs tables content edit old why → IsRefused (first_bad_edit tables content 1 edits) (number_of at why, why)
       go fault.OutOfMemory h = refl
@@ -149,7 +182,8 @@ module _ (tables : List TableDef) (content : Content) (edits : List Edit) where
       go fault.KeyTaken h = first fault.KeyTaken (h (after_edits content (take at edits)) so_far.staged_is)
       go fault.NoRow h = first fault.NoRow (h (after_edits content (take at edits)) so_far.staged_is)
 
-  pub all_staged : (at : ℕ) (set : Changes) → length edits ≤ at → IsStagedTo at set → (first_bad_edit tables content 1 edits ≡ None) × (set ≡ changes content (after_edits content edits))
+  pub all_staged : (at : ℕ) (set : Changes) → length edits ≤ at → IsStagedTo at set → (first_bad_edit tables content 1 edits ≡ None)
+      × (set ≡ changes content (after_edits content edits))
   all_staged at set past so_far = (
     so_far.passed ∙ ap (first_bad_edit tables (after_edits content (take at edits)) (at + 1)) (drop_all at edits past) ∙ first_bad_none tables _ (at + 1),
     so_far.staged_is ∙ ap (λ es. changes content (after_edits content es)) (take_all at edits past),
@@ -165,7 +199,8 @@ module _ (tables : List TableDef) where
   fits_first None later e = refl
   fits_first (Some why) later e = cc
 
-  edited_fits : (content : Content) (edit : Edit) → FitsSchema tables content → edit_fault tables content edit ≡ None → FitsSchema tables (after_edit content edit)
+  edited_fits : (content : Content) (edit : Edit) → FitsSchema tables content → edit_fault tables content edit ≡ None
+      → FitsSchema tables (after_edit content edit)
   edited_fits content (Insert cell row) all none = put_keeps fits content cell row all (fits_first _ _ none)
   edited_fits content (Update cell row) all none = put_keeps fits content cell row all (fits_first _ _ none)
   edited_fits content (Delete cell) all none = take_keeps fits content cell all
@@ -174,7 +209,8 @@ module _ (tables : List TableDef) where
   first_passed n None later e = (refl, e)
   first_passed n (Some why) later e = cc
 
-  all_fit_from : (n : ℕ) (content : Content) (edits : List Edit) → FitsSchema tables content → first_bad_edit tables content n edits ≡ None → FitsSchema tables (after_edits content edits)
+  all_fit_from : (n : ℕ) (content : Content) (edits : List Edit) → FitsSchema tables content → first_bad_edit tables content n edits ≡ None
+      → FitsSchema tables (after_edits content edits)
   unfolding after_edits first_bad_edit
   all_fit_from n content [] all none = all
   all_fit_from n content (edit ∷ edits) all none =
@@ -182,5 +218,6 @@ module _ (tables : List TableDef) where
       all_fit_from (n + 1) (after_edit content edit) edits (edited_fits content edit all parts.0) parts.1
 
   -- edits that can all be made leave rows that fit, if the rows before fit
-  pub all_edited_fits : (content : Content) (edits : List Edit) → FitsSchema tables content → first_bad_edit tables content 1 edits ≡ None → FitsSchema tables (after_edits content edits)
+  pub all_edited_fits : (content : Content) (edits : List Edit) → FitsSchema tables content → first_bad_edit tables content 1 edits ≡ None
+      → FitsSchema tables (after_edits content edits)
   all_edited_fits = all_fit_from 1

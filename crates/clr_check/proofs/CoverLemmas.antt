@@ -77,7 +77,8 @@ module _ (c : Setting ℕ) where
   lived_at : (v : VersionId) (life : Lifetime ℕ) → Some life ≡ life_at v → (l : Lived ℕ) × (version c v ≡ Some l) × (l.life ≡ life)
   lived_at v life e = by (version c v) refl e
     where
-      by : (r : Option (Lived ℕ)) → version c v ≡ r → Some life ≡ option_map (λ (l : Lived ℕ). l.life) r → (l : Lived ℕ) × (version c v ≡ Some l) × (l.life ≡ life)
+      by : (r : Option (Lived ℕ)) → version c v ≡ r → Some life ≡ option_map (λ (l : Lived ℕ). l.life) r → (l : Lived ℕ) × (version c v ≡ Some l)
+          × (l.life ≡ life)
       by None is f = absurd (cc)
       by (Some l) is f = (l, is, let one : life ≡ l.life = cc in sym one)
 
@@ -92,7 +93,8 @@ module _ (c : Setting ℕ) where
     pub unlisted : (v : VersionId) → ¬ (Contains servers v) → ¬ (CoversAlone c n a b v)
     unlisted v out (l, serves, lasting) = out (serving_listed c n servers are a b possible v l serves)
 
-    pub alone_told : (v : VersionId) (life : Lifetime ℕ) (first second : Option (Lifetime ℕ)) (told : Bool) → Contains servers v → Some life ≡ life_at v → first ≡ life_at n.first → second ≡ life_at_too n.second
+    pub alone_told : (v : VersionId) (life : Lifetime ℕ) (first second : Option (Lifetime ℕ)) (told : Bool) → Contains servers v → Some life ≡ life_at v → first
+        ≡ life_at n.first → second ≡ life_at_too n.second
         → told ≡ lasts life first second → IsTold told (CoversAlone c n a b v)
     alone_told v life first second told h at e f is =
         let (l, there, same) = lived_at v life at in
@@ -111,7 +113,8 @@ module _ (c : Setting ℕ) where
     pub other_unlisted : (v w : VersionId) → ¬ (Contains servers w) → ¬ (CoverTogether c n a b v w)
     other_unlisted v w out (l, m, serves, serves_too, opposed) = out (serving_listed c n servers are a b possible w m serves_too)
 
-    pub together_told : (v w : VersionId) (one two : Lifetime ℕ) (told : Bool) → Contains servers v → Contains servers w → Some one ≡ life_at v → Some two ≡ life_at w → told ≡ are_opposed one two
+    pub together_told : (v w : VersionId) (one two : Lifetime ℕ) (told : Bool) → Contains servers v → Contains servers w → Some one ≡ life_at v → Some two
+        ≡ life_at w → told ≡ are_opposed one two
         → IsTold told (CoverTogether c n a b v w)
     together_told v w one two told h k at at_too is =
         let (l, there, same) = lived_at v one at in
@@ -121,14 +124,24 @@ module _ (c : Setting ℕ) where
         let whole : told ≡ are_opposed l.life m.life = is ∙ (λ i. are_opposed (sym same i) (sym same_too i)) in
         subst (λ t. IsTold t (CoverTogether c n a b v w)) (sym whole)
         (told_as _ (AreOpposed l.life m.life) (CoverTogether c n a b v w)
-        (λ opposed. (l, m, subst (Serves c n a b v) (one_lived c v x l serves.is there) serves, subst (Serves c n a b w) (one_lived c w y m serves_too.is there_too) serves_too, opposed))
-        (λ (p, q, serving, serving_too, opposed). (let first : AreOpposed l.life q.life = subst (λ (z : Lived ℕ). AreOpposed z.life q.life) (one_lived c v p l serving.is there) opposed in
+        (λ opposed. (
+          l,
+          m,
+          subst (Serves c n a b v) (one_lived c v x l serves.is there) serves,
+          subst (Serves c n a b w)
+              (one_lived c w y m serves_too.is there_too) serves_too,
+          opposed,
+        ))
+        (λ (p, q, serving, serving_too, opposed).
+        (let first : AreOpposed l.life q.life = subst (λ (z : Lived ℕ). AreOpposed z.life q.life) (one_lived c v p l serving.is there) opposed in
         subst (λ (z : Lived ℕ). AreOpposed l.life z.life) (one_lived c w q m serving_too.is there_too) first)) (opposed_told l.life m.life))
 
   module _ (n : Need) (a : Lived ℕ) (b : Option (Lived ℕ)) where
     -- the versions of an entry
-    pub two_told : (v w : VersionId) (x y z : Bool) → IsTold x (CoversAlone c n a b v) → IsTold y (CoversAlone c n a b w) → IsTold z (CoverTogether c n a b v w) → IsTold (x || (y || z)) (WitnessesCover c n a b v (Some w))
-    two_told v w x y z one two both = either_told _ _ (CoversAlone c n a b v) _ one (either_told _ _ (CoversAlone c n a b w) (CoverTogether c n a b v w) two both)
+    pub two_told : (v w : VersionId) (x y z : Bool) → IsTold x (CoversAlone c n a b v) → IsTold y (CoversAlone c n a b w) → IsTold z (CoverTogether c n a b v w)
+        → IsTold (x || (y || z)) (WitnessesCover c n a b v (Some w))
+    two_told v w x y z one two both = either_told _ _ (CoversAlone c n a b v) _ one (either_told _ _ (CoversAlone c n a b w) (CoverTogether c n a b v w) two
+        both)
 
     -- none of the entries so far covers
     abbrev pub NoneCovers : List Entry → Type 0
@@ -137,7 +150,9 @@ module _ (c : Setting ℕ) where
     pub none_yet : (entries : List Entry) → NoneCovers (take 0 entries)
     none_yet entries k h = absurd (none_taken entries k h)
 
-    pub one_not : (entries : List Entry) (at : ℕ) (d : Entry) (told : Bool) → at < length entries → told ≡ false → IsTold told (WitnessesCover c n a b (get_or entries at d).one (get_or entries at d).two) → NoneCovers (take at entries) → NoneCovers (take (at + 1) entries)
+    pub one_not : (entries : List Entry) (at : ℕ) (d : Entry) (told : Bool) → at < length entries → told ≡ false
+        → IsTold told (WitnessesCover c n a b (get_or entries at d).one (get_or entries at d).two) → NoneCovers (take at entries)
+        → NoneCovers (take (at + 1) entries)
     one_not entries at d told less e here before k h = by (one_more entries at d k less h)
       where
         by : Contains (take at entries) k ⊎ (k ≡ get_or entries at d) → ¬ (WitnessesCover c n a b k.one k.two)

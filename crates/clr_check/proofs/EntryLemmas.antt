@@ -128,7 +128,11 @@ module _ (c : Setting ℕ) (n : Need) (a : Lived ℕ) (b : Option (Lived ℕ)) w
 
   pub has_entry : (entries : List Entry) (e : Entry) → IsCovering entries e → HasEntry c n a b (entries_in entries)
   has_entry [] e (h, same, covers) = absurd h
-  has_entry (f ∷ fs) e (inl is, same, covers) = inl (ap (λ (x : Entry). x.need) is ∙ same, subst (λ (x : Entry). WitnessesCover c n a b x.one x.two) (sym is) covers)
+  has_entry (f ∷ fs) e (inl is, same, covers) = inl (
+    ap (λ (x : Entry). x.need) is
+        ∙ same,
+    subst (λ (x : Entry). WitnessesCover c n a b x.one x.two) (sym is) covers,
+  )
   has_entry (f ∷ fs) e (inr h, same, covers) = inr (has_entry fs e (h, same, covers))
 
   pub entry_of : (entries : List Entry) → HasEntry c n a b (entries_in entries) → (e : Entry) × IsCovering entries e

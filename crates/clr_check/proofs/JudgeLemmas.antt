@@ -40,7 +40,8 @@ module _ (c : Setting ℕ) (entries : List Entry) (n : Need) where
   need_covered judged a b possible = covered_has c n a b entries judged.sorted judged.found judged.same judged.those (judged.tells a b possible)
 
   pub need_uncovered : AreJudged c entries n false → IsPossibleNeed c n → ¬ (IsCovered c (entries_in entries) n)
-  need_uncovered judged (a, b, possible) covered = judged.tells a b possible (has_covered c n a b entries judged.sorted judged.found judged.same judged.those (covered a b possible))
+  need_uncovered judged (a, b, possible) covered = judged.tells a b possible (has_covered c n a b entries judged.sorted judged.found judged.same judged.those
+      (covered a b possible))
 
 -- one after another ----------------------------------------------------------------------------------
 
@@ -51,10 +52,12 @@ module _ (c : Setting ℕ) (entries : List Witnesses) where
   pub none_before : (needs : List Need) → AllBefore needs 0
   none_before needs before m less e = absurd (omega (arith, less))
 
-  pub one_before : (needs : List Need) (at : ℕ) (d : Need) → at < length needs → IsCovered c entries (get_or needs at d) → AllBefore needs at → AllBefore needs (at + 1)
+  pub one_before : (needs : List Need) (at : ℕ) (d : Need) → at < length needs → IsCovered c entries (get_or needs at d) → AllBefore needs at
+      → AllBefore needs (at + 1)
   one_before needs at d within covered earlier before m less e = elim (side before less) [
     | inl h ↦ earlier before m h e
-    | inr h ↦ subst (IsCovered c entries) (let both : Some (get_or needs at d) ≡ Some m = sym (slice_get-get_or needs at d within) ∙ ap (slice_get needs) (sym h) ∙ e in cc) covered
+    | inr h ↦ subst (IsCovered c entries)
+        (let both : Some (get_or needs at d) ≡ Some m = sym (slice_get-get_or needs at d within) ∙ ap (slice_get needs) (sym h) ∙ e in cc) covered
   ]
     where
       side : (k : ℕ) → k < at + 1 → (k < at) ⊎ (k ≡ at)
@@ -66,6 +69,8 @@ module _ (c : Setting ℕ) (entries : List Witnesses) where
       here : (n : Need) → Contains read n → IsCovered c entries n
       here n (k, within, is) = earlier k n (omega (arith, within, past)) (slice_get-get_or read k n within ∙ ap Some is)
 
-  pub first_after : (needs read : List Need) (at : ℕ) (d : Need) → AreTouchedNeeds c needs → read ≡ needs → at < length read → AllBefore read at → ¬ (IsCovered c entries (get_or read at d))
+  pub first_after : (needs read : List Need) (at : ℕ) (d : Need) → AreTouchedNeeds c needs → read ≡ needs → at < length read → AllBefore read at
+      → ¬ (IsCovered c entries (get_or read at d))
       → IsLeastUncovered c entries (get_or read at d)
-  first_after needs read at d are same within earlier bare = first_judged c entries read at (get_or read at d) (subst (AreTouchedNeeds c) (sym same) are) (slice_get-get_or read at d within) earlier bare
+  first_after needs read at d are same within earlier bare = first_judged c entries read at (get_or read at d) (subst (AreTouchedNeeds c) (sym same) are)
+      (slice_get-get_or read at d within) earlier bare

@@ -6,7 +6,7 @@ ghost use Rattle.clr_clearance.specs.Laws.{StaysFree};
 ghost use Rattle.clr_clearance.specs.Safety.{Safe};
 ghost use Rattle.clr_clearance.specs.declared.verdicts.Verdict.TheVariants as verdict;
 ghost use Rattle.clr_steps.specs.Quiet.{Site};
-ghost use Rattle.clr_engine.specs.Drafts.{IsAdmitted};
+ghost use Rattle.clr_kept_finders.specs.Fitting.{IsAdmitted};
 ghost use Rattle.clr_check.specs.Answers.{IsAnswer, verdict_of};
 ghost use Rattle.clr_sites.specs.Certificates.{entries_in, site_of};
 ghost use Rattle.clr_sites.specs.Sites.{AreOfSite, AreParts};
@@ -19,7 +19,7 @@ use clr_needs::SceneFault;
 use clr_sites::{SiteParts, read_site};
 use std::alloc::Global;
 
-/// What is said where change sets make no scene.
+/// Returns what is said where change sets make no scene.
 fn verdict_of(fault: SceneFault) -> Verdict
     ensures { result ≡ verdict_of fault }
 {
@@ -37,7 +37,7 @@ fn verdict_of(fault: SceneFault) -> Verdict
     }
 }
 
-/// What the tests of cells and needs say of the parts of a site.
+/// Returns what the tests of cells and needs say of the parts of a site.
 fn judge_parts(alloc: Global, office: &Office, parts: &SiteParts, entries: &[Entry]) -> Verdict
     requires { AreOfSite office.now parts.now }
     ensures { (s : Site) → AreParts office.now s parts.now → IsAnswer office.now s (entries_in entries.now) result }

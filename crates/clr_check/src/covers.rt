@@ -22,7 +22,7 @@ use clr_needs::{Life, Need, VersionId};
 use clr_rows::RowView;
 use std::alloc::{AllocError, Global};
 
-/// Whether two lives are one.
+/// Returns whether two lives are one.
 fn are_same(one: Life, other: Life) -> bool
     ensures { result ≡ same_life (lifetime one) (lifetime other) }
 {
@@ -34,7 +34,7 @@ fn are_same(one: Life, other: Life) -> bool
     }
 }
 
-/// Whether of two versions one lives with a member and the other without it.
+/// Returns whether of two versions one lives with a member and the other without it.
 fn are_opposed(one: Life, other: Life) -> bool
     ensures { result ≡ are_opposed (lifetime one) (lifetime other) }
 {
@@ -45,7 +45,7 @@ fn are_opposed(one: Life, other: Life) -> bool
     }
 }
 
-/// Whether a life is that of a subject, if there is one.
+/// Returns whether a life is that of a subject, if there is one.
 fn is_life_of(life: Life, subject: Option<Life>) -> bool
     ensures { result ≡ same_too (lifetime life) (option_map lifetime subject) }
 {
@@ -55,14 +55,14 @@ fn is_life_of(life: Life, subject: Option<Life>) -> bool
     }
 }
 
-/// Whether what lives so stands wherever the subjects do.
+/// Returns whether what lives so stands wherever the subjects do.
 fn lasts(life: Life, first: Option<Life>, second: Option<Life>) -> bool
     ensures { result ≡ lasts (lifetime life) (option_map lifetime first) (option_map lifetime second) }
 {
     are_same(life, Life::Always) || is_life_of(life, first) || is_life_of(life, second)
 }
 
-/// Whether a version is among some.
+/// Returns whether a version is among some.
 fn is_among(versions: &[VersionId], id: VersionId) -> bool
     requires { IsStrictlySortedBy version_cmp versions.now }
     ensures { IsTold result (Contains versions.now id) }
@@ -70,7 +70,7 @@ fn is_among(versions: &[VersionId], id: VersionId) -> bool
     versions.binary_search(&id).is_ok()
 }
 
-/// Whether a version covers a need alone: it serves, and stands wherever the subjects do.
+/// Returns whether a version covers a need alone: it serves, and stands wherever the subjects do.
 fn covers_alone<V: RowView, F: RowFinder>(
     scene: &Scene<'_, V, F>,
     need: &Need,
@@ -94,7 +94,7 @@ fn covers_alone<V: RowView, F: RowFinder>(
     }
 }
 
-/// Whether two versions cover a need together: both serve, and one of them stands always.
+/// Returns whether two versions cover a need together: both serve, and one of them stands always.
 fn cover_together<V: RowView, F: RowFinder>(
     scene: &Scene<'_, V, F>,
     need: &Need,
@@ -116,7 +116,7 @@ fn cover_together<V: RowView, F: RowFinder>(
     }
 }
 
-/// Whether the versions of an entry cover a need.
+/// Returns whether the versions of an entry cover a need.
 fn covers<V: RowView, F: RowFinder>(
     scene: &Scene<'_, V, F>,
     need: &Need,
@@ -137,7 +137,7 @@ fn covers<V: RowView, F: RowFinder>(
     }
 }
 
-/// Whether one of some entries covers a possible need.
+/// Returns whether one of some entries covers a possible need.
 fn is_covered<V: RowView, F: RowFinder>(
     scene: &Scene<'_, V, F>,
     need: &Need,
@@ -160,7 +160,7 @@ fn is_covered<V: RowView, F: RowFinder>(
     Ok(false)
 }
 
-/// The least touched need of a scene that no entry covers, if there is one.
+/// Returns the least touched need of a scene that no entry covers, if there is one.
 pub(crate) fn first_uncovered<V: RowView, F: RowFinder>(
     alloc: Global,
     scene: &Scene<'_, V, F>,

@@ -18,7 +18,7 @@ pub(crate) fn sort_entries(alloc: Global, entries: &[Entry]) -> Result<Vec<Entry
     Ok(list)
 }
 
-/// The entries of a need, among entries by need.
+/// Returns the entries of a need, among entries by need.
 pub(crate) fn entries_of<'a>(entries: &'a [Entry], need: &Need) -> &'a [Entry]
     requires { RiseByNeed entries.now }
     ensures { (e : OneEntry) → Contains result.now e ↔ IsEntryOf entries.entry.now need.now e }

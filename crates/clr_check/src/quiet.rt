@@ -9,7 +9,7 @@ ghost use Rattle.clr_sites.specs.Certificates.{site_of};
 use clr_cert::Certificate;
 use clr_engine::{Command, Office};
 
-/// Whether a name is that of a member.
+/// Returns whether a name is that of a member.
 fn is_member(certificate: &Certificate, name: &str) -> bool
     ensures { result ≡ has certificate.now.members name.now }
 {
@@ -21,7 +21,7 @@ fn is_member(certificate: &Certificate, name: &str) -> bool
     false
 }
 
-/// Whether a name is that of the root.
+/// Returns whether a name is that of the root.
 #[tactic(auto, unfolding(clr_steps::specs::Quiet::is_root, clr_steps::specs::Names::same_name))]
 fn is_root(certificate: &Certificate, name: &str) -> bool
     ensures { result ≡ is_root (site_of certificate.now) name.now }
@@ -29,7 +29,7 @@ fn is_root(certificate: &Certificate, name: &str) -> bool
     name == certificate.root.as_str()
 }
 
-/// Whether a name is neither that of the root nor that of a member.
+/// Returns whether a name is neither that of the root nor that of a member.
 #[tactic(auto, unfolding(clr_steps::specs::Quiet::is_other))]
 fn is_other(certificate: &Certificate, name: &str) -> bool
     ensures { result ≡ is_other (site_of certificate.now) name.now }
@@ -37,7 +37,7 @@ fn is_other(certificate: &Certificate, name: &str) -> bool
     !is_root(certificate, name) && !is_member(certificate, name)
 }
 
-/// Whether a workspace stands and its parent is neither the root nor a member.
+/// Returns whether a workspace stands and its parent is neither the root nor a member.
 fn is_under_other(office: &Office, certificate: &Certificate, ws: &str) -> bool
     ensures { result ≡ is_under_other office.now (site_of certificate.now) ws.now }
 {
@@ -47,14 +47,15 @@ fn is_under_other(office: &Office, certificate: &Certificate, ws: &str) -> bool
     }
 }
 
-/// Whether a name is that of a member, or neither that of the root nor of a member.
+/// Returns whether a name is that of a member, or neither that of the root nor of a member.
 fn is_member_or_other(certificate: &Certificate, name: &str) -> bool
     ensures { result ≡ has certificate.now.members name.now || is_other (site_of certificate.now) name.now }
 {
     is_member(certificate, name) || is_other(certificate, name)
 }
 
-/// Whether a merge is quiet: of a member, or of a workspace under neither the root nor a member.
+/// Returns whether a merge is quiet: of a member, or of a workspace under neither the root nor a
+/// member.
 fn is_quiet_merge(office: &Office, certificate: &Certificate, ws: &str) -> bool
     ensures { result ≡ has certificate.now.members ws.now
         || (not (is_root (site_of certificate.now) ws.now) && is_under_other office.now (site_of certificate.now) ws.now) }
@@ -63,7 +64,7 @@ fn is_quiet_merge(office: &Office, certificate: &Certificate, ws: &str) -> bool
         || (!is_root(certificate, ws) && is_under_other(office, certificate, ws))
 }
 
-/// Whether a command is quiet for the root and members of a certificate in an office.
+/// Returns whether a command is quiet for the root and members of a certificate in an office.
 #[tactic(auto, unfolding(clr_steps::specs::Quiet::is_quiet))]
 pub(crate) fn is_quiet(office: &Office, certificate: &Certificate, command: &Command) -> bool
     ensures { result ≡ is_quiet office.now (site_of certificate.now) command.now }

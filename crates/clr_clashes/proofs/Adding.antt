@@ -27,14 +27,16 @@ hold_one ks members = list_any (λ (j : Clash). is_within j.members.items member
 abbrev pub stays : List ℕ → ListedClash → Bool
 stays members j = not (is_within members j.members)
 
-pub told : (r b : Bool) (ks read : List Clash) (members listed : List ℕ) → r ≡ hold_one read listed → read ≡ ks → listed ≡ members → r ≡ b → hold_one ks members ≡ b
+pub told : (r b : Bool) (ks read : List Clash) (members listed : List ℕ) → r ≡ hold_one read listed → read ≡ ks → listed ≡ members → r ≡ b → hold_one ks members
+    ≡ b
 told r b ks read members listed is same same_members e = (λ i. hold_one (sym same i) (sym same_members i)) ∙ sym is ∙ e
 
 module _ (ks : List Clash) (k : Clash) where
   abbrev members : List ℕ
   members = k.members.items
 
-  added_by : (b : Bool) → hold_one ks members ≡ b → with_clash (map clash_of ks) (clash_of k) ≡ cond b (map clash_of ks) (filter (stays members) (map clash_of ks) ++ clash_of k ∷ [])
+  added_by : (b : Bool) → hold_one ks members ≡ b → with_clash (map clash_of ks) (clash_of k)
+      ≡ cond b (map clash_of ks) (filter (stays members) (map clash_of ks) ++ clash_of k ∷ [])
   added_by b e =
       ap (λ t. cond t (map clash_of ks) (filter (stays members) (map clash_of ks) ++ clash_of k ∷ []))
       (any_mapped clash_of (λ (j : ListedClash). is_within j.members members) ks ∙ e)

@@ -56,7 +56,8 @@ module _ (rules : List Rule) (root : Content) (sets : List Changes) where
     ];
   }) within
 
-  module _ (list : List ℕ) (apart : AreApart sets) (holds : Holds rules (row_at root)) (ascending : IsStrictlySortedBy nat_cmp list) (below : (k : ℕ) → Contains list k → k < length sets) where
+  module _ (list : List ℕ) (apart : AreApart sets) (holds : Holds rules (row_at root)) (ascending : IsStrictlySortedBy nat_cmp list) (below : (k : ℕ)
+      → Contains list k → k < length sets) where
     abbrev d : Setting ℕ
     d = setting_at rules root sets list
 

@@ -7,7 +7,8 @@ use Rattle.std.proofs.lemmas.Cmp.{nat_cmp_total}
 use Rattle.clr_rules.proofs.Elements.{Among, each_of, not_both, not_itself}
 
 -- an ascending list within another one is shorter, or the same
-pub shorter_or_same : (xs ys : List ℕ) → IsStrictlySortedBy nat_cmp xs → IsStrictlySortedBy nat_cmp ys → ((k : ℕ) → Among k ys → Among k xs) → (length ys < length xs) ⊎ (ys ≡ xs)
+pub shorter_or_same : (xs ys : List ℕ) → IsStrictlySortedBy nat_cmp xs → IsStrictlySortedBy nat_cmp ys → ((k : ℕ) → Among k ys → Among k xs)
+    → (length ys < length xs) ⊎ (ys ≡ xs)
 unfolding IsStrictlySortedBy
 shorter_or_same [] [] p q within = inr refl
 shorter_or_same [] (y ∷ ys) p q within = absurd (within y (inl refl))
@@ -25,10 +26,11 @@ shorter_or_same (x ∷ xs) (y ∷ ys) p q within = by (within y (inl refl)) (sho
     Rest zs = ((k : ℕ) → Among k zs → Among k xs) → (length zs < length xs) ⊎ (zs ≡ xs)
 
     by : (x ≡ y) ⊎ Among y xs → Rest ys → Rest (y ∷ ys) → (length (y ∷ ys) < length (x ∷ xs)) ⊎ (y ∷ ys ≡ x ∷ xs)
-    by (inl e) rest whole = elim (rest (λ k h. later k (λ f. not_itself nat_cmp_total y (subst (λ z. nat_cmp y z ≡ Less) (sym f ∙ e) (after k h))) (within k (inr h)))) [
-      | inl less ↦ inl (omega (arith, less))
-      | inr same ↦ inr (λ i. sym e i ∷ same i)
-    ]
+    by (inl e) rest whole = elim (rest (λ k h. later k (λ f. not_itself nat_cmp_total y (subst (λ z. nat_cmp y z ≡ Less) (sym f ∙ e) (after k h)))
+        (within k (inr h)))) [
+          | inl less ↦ inl (omega (arith, less))
+          | inr same ↦ inr (λ i. sym e i ∷ same i)
+        ]
     by (inr there) rest whole = elim (whole (λ k h. later k (differs there k h) (within k h))) [
       | inl less ↦ inl (omega (arith, less))
       | inr same ↦ inl (let long = ap length same in omega (arith, long))
@@ -36,4 +38,5 @@ shorter_or_same (x ∷ xs) (y ∷ ys) p q within = by (within y (inl refl)) (sho
       where
         differs : Among y xs → (k : ℕ) → Among k (y ∷ ys) → ¬ (x ≡ k)
         differs there k (inl e) f = not_itself nat_cmp_total x (subst (λ z. nat_cmp x z ≡ Less) (e ∙ sym f) (each_of (λ z. nat_cmp x z ≡ Less) y xs p.0 there))
-        differs there k (inr h) f = not_both nat_cmp_total x y (each_of (λ z. nat_cmp x z ≡ Less) y xs p.0 there) (subst (λ z. nat_cmp y z ≡ Less) (sym f) (after k h))
+        differs there k (inr h) f = not_both nat_cmp_total x y (each_of (λ z. nat_cmp x z ≡ Less) y xs p.0 there) (subst (λ z. nat_cmp y z
+            ≡ Less) (sym f) (after k h))

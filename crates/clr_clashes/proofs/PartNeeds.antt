@@ -78,7 +78,8 @@ module _ {A B : Type 0} (c : Setting B) (d : Setting A) (stands : A → B → Ty
       e ∙ ap With (part.one.one_left x z y is its) ∙ sym f
   same_down l k (Without y) h j = by (without_down l y h) (without_down k y j)
     where
-      by : ((l ≡ Always) × ¬ (IsInside stands y)) ⊎ ((x : A) × (l ≡ Without x) × stands x y) → ((k ≡ Always) × ¬ (IsInside stands y)) ⊎ ((x : A) × (k ≡ Without x) × stands x y) → l ≡ k
+      by : ((l ≡ Always) × ¬ (IsInside stands y)) ⊎ ((x : A) × (l ≡ Without x) × stands x y) → ((k ≡ Always) × ¬ (IsInside stands y))
+          ⊎ ((x : A) × (k ≡ Without x) × stands x y) → l ≡ k
       by (inl (e, out)) (inl (f, gone)) = e ∙ sym f
       by (inl (e, out)) (inr (x, f, is)) = absurd (out (x, is))
       by (inr (x, e, is)) (inl (f, out)) = absurd (out (x, is))
@@ -110,10 +111,13 @@ module _ {A B : Type 0} (c : Setting B) (d : Setting A) (stands : A → B → Ty
 
   -- ---- one need
 
-  module _ (n : Need) (p : Lived A) (q : Option (Lived A)) (a : Lived B) (b : Option (Lived B)) (first : IsVersionIn stands p a) (second : IsSecondIn stands q b) where
+  module _ (n : Need) (p : Lived A) (q : Option (Lived A)) (a : Lived B) (b : Option (Lived B)) (first : IsVersionIn stands p a)
+      (second : IsSecondIn stands q b) where
     same_serves : (v : VersionId) (l : Lived A) (m : Lived B) → l.row ≡ m.row
-        → serves d.rules (ask_of n) (held_row n.first p) (held_too n.second q) (held_row v l) ≡ serves c.rules (ask_of n) (held_row n.first a) (held_too n.second b) (held_row v m)
-    same_serves v l m row = λ i. serves (part.rules i) (ask_of n) (same_held n.first p a first.row i) (same_second n.second q b second i) (same_held v l m row i)
+        → serves d.rules (ask_of n) (held_row n.first p) (held_too n.second q) (held_row v l)
+        ≡ serves c.rules (ask_of n) (held_row n.first a) (held_too n.second b) (held_row v m)
+    same_serves v l m row = λ i. serves (part.rules i) (ask_of n) (same_held n.first p a first.row i) (same_second n.second q b second i)
+        (same_held v l m row i)
 
     up_serves : (v : VersionId) (l : Lived A) → Serves d n p q v l → (m : Lived B) × Serves c n a b v m × IsVersionIn stands l m
     up_serves v l serve = by (version c v) refl (subst (λ o. IsVersionOfPart stands o (version c v)) serve.is (part.versions v))
@@ -123,7 +127,15 @@ module _ {A B : Type 0} (c : Setting B) (d : Setting A) (stands : A → B → Ty
         by (Some m) is h = (m, record { is = is; it_serves = sym (same_serves v l m h.row) ∙ serve.it_serves }, h)
 
     down_serves : (v : VersionId) (m : Lived B) → Serves c n a b v m → ¬ (IsHidden stands m.life) → (l : Lived A) × Serves d n p q v l × IsVersionIn stands l m
-    down_serves v m serve seen = let (l, is, same) = shown v m serve.is seen in (l, record { is = is; it_serves = same_serves v l m same.row ∙ serve.it_serves }, same)
+    down_serves v m serve seen = let (l, is, same) = shown v m serve.is seen in (
+      l,
+      record {
+        is = is;
+        it_serves = same_serves v l m same.row
+            ∙ serve.it_serves;
+      },
+      same,
+    )
 
     -- ---- what covers
 
@@ -295,11 +307,19 @@ module _ {A B : Type 0} (c : Setting B) (d : Setting A) (stands : A → B → Ty
         in_second = others;
       }
     where
-      second : (p : Lived A) → IsVersionIn stands p a → (w : Option VersionId) (b : Option (Lived B)) → IsBesideToo c n.first a w b → ((y : B) → IsLifeOf (With y) b → IsInside stands y)
+      second : (p : Lived A) → IsVersionIn stands p a → (w : Option VersionId) (b : Option (Lived B)) → IsBesideToo c n.first a w b
+          → ((y : B) → IsLifeOf (With y) b → IsInside stands y)
           → (q : Option (Lived A)) × IsBesideToo d n.first p w q × IsSecondIn stands q b
       second p same None None is in_it = (None, tt, tt)
       second p same None (Some m) is in_it = absurd is
       second p same (Some w) None is in_it = absurd is
       second p same (Some w) (Some m) is in_it =
-          let (l, at, alike) = shown w m is.is (seen_with m.life (λ y e. in_it y (sym e))) in
-          (Some l, record { is = at; ascending = is.ascending; not_opposed = λ e. is.not_opposed (opposed_up p.life l.life a.life m.life same.life alike.life e) }, alike)
+          let (l, at, alike) = shown w m is.is (seen_with m.life (λ y e. in_it y (sym e))) in (
+            Some l,
+            record {
+              is = at;
+              ascending = is.ascending;
+              not_opposed = λ e. is.not_opposed (opposed_up p.life l.life a.life m.life same.life alike.life e);
+            },
+            alike,
+          )

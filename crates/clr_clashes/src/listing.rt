@@ -21,14 +21,14 @@ pub struct Clash {
     pub need: Need,
 }
 
-/// Whether all of some members are among others.
+/// Returns whether all of some members are among others.
 fn is_within(members: &[u16], others: &[u16]) -> bool
     ensures { result ≡ is_within members.now others.now }
 {
     members.iter().all(|member| others.contains(member))
 }
 
-/// Whether the members of one of some clashes are all among some members.
+/// Returns whether the members of one of some clashes are all among some members.
 fn hold_clash(clashes: &[Clash], members: &[u16]) -> bool
     ensures { result ≡ list_any (λ k. is_within k.members.items members.now) clashes.now }
 {

@@ -46,7 +46,8 @@ not_live o name w e = by (is_live name) e
 
 pub of_standing : (o : Office) (c : Command) (w : Workspace) → workspace o (name_in c) ≡ Some w → refusal_on o c ≡ first_of (refusals_of o w c)
 of_standing o c w e =
-    ap (λ b. cond b (Some LiveIsFixed) (option_map_or (λ v. first_of (refusals_of o v c)) (workspace o (name_in c)) (Some NoWorkspace))) (not_live o (name_in c) w e)
+    ap (λ b. cond b (Some LiveIsFixed) (option_map_or (λ v. first_of (refusals_of o v c)) (workspace o (name_in c)) (Some NoWorkspace)))
+    (not_live o (name_in c) w e)
     ∙ ap (λ r. option_map_or (λ v. first_of (refusals_of o v c)) r (Some NoWorkspace)) e
 
 of_absent : (o : Office) (c : Command) → workspace o (name_in c) ≡ None → (refusal_on o c ≡ Some LiveIsFixed) ⊎ (refusal_on o c ≡ Some NoWorkspace)
@@ -58,11 +59,13 @@ of_absent o c e = by (is_live (name_in c)) refl
         ap (λ b. cond b (Some LiveIsFixed) (option_map_or (λ v. first_of (refusals_of o v c)) (workspace o (name_in c)) (Some NoWorkspace))) h
         ∙ ap (λ r. option_map_or (λ v. first_of (refusals_of o v c)) r (Some NoWorkspace)) e)
 
-pub broken_or_none : (o : Office) (name : Name) (content : Content) → (breaks o name content ≡ None) ⊎ ((need : Broken) × (breaks o name content ≡ Some (RuleBroken need)))
+pub broken_or_none : (o : Office) (name : Name) (content : Content) → (breaks o name content ≡ None)
+    ⊎ ((need : Broken) × (breaks o name content ≡ Some (RuleBroken need)))
 unfolding breaks
 broken_or_none o name content = by (is_kept o name) (first_broken o.book content)
   where
-    by : (b : Bool) (r : Option Broken) → (cond b (option_map RuleBroken r) None ≡ None) ⊎ ((need : Broken) × (cond b (option_map RuleBroken r) None ≡ Some (RuleBroken need)))
+    by : (b : Bool) (r : Option Broken) → (cond b (option_map RuleBroken r) None ≡ None)
+        ⊎ ((need : Broken) × (cond b (option_map RuleBroken r) None ≡ Some (RuleBroken need)))
     by true None = inl refl
     by true (Some need) = inr (need, refl)
     by false r = inl refl
@@ -90,7 +93,8 @@ data IsAnswered (o : Office) (c : Command) (next : Workspace → Office) : Type 
   refused : (reply : Reply) → is_done reply ≡ false → step o c ≡ answer reply o → IsAnswered o c next
   performed : (w : Workspace) → workspace o (name_in c) ≡ Some w → step o c ≡ answer Done (next w) → IsAnswered o c next
 
-pub performed_as : (o : Office) (c : Command) (next : Workspace → Office) (w : Workspace) → workspace o (name_in c) ≡ Some w → effect o c ≡ option_map_or next (workspace o (name_in c)) o → refusal o c ≡ None → step o c ≡ answer Done (next w)
+pub performed_as : (o : Office) (c : Command) (next : Workspace → Office) (w : Workspace) → workspace o (name_in c) ≡ Some w → effect o c
+    ≡ option_map_or next (workspace o (name_in c)) o → refusal o c ≡ None → step o c ≡ answer Done (next w)
 performed_as o c next w is of e = step_as o c None e ∙ ap (answer Done) (of ∙ ap (λ r. option_map_or next r o) is)
 
 absent_answered : (o : Office) (c : Command) (next : Workspace → Office) → refusal o c ≡ refusal_on o c → workspace o (name_in c) ≡ None → IsAnswered o c next
@@ -114,13 +118,15 @@ merged_by-refused site name remove _ e = refl
 abbrev after_either : Office → Bool → Workspace → Office
 after_either o remove w = cond remove (after_remove (after_merge o w) w) (after_merge o w)
 
-module _ (first : Office) (site : Site) (mergeable : AreMergeable first site) (names : List Name) (now : Office) (inv : Invariant first site names now) (name : Name) (member : is_member site name ≡ true) where
+module _ (first : Office) (site : Site) (mergeable : AreMergeable first site) (names : List Name) (now : Office) (inv : Invariant first site names now)
+    (name : Name) (member : is_member site name ≡ true) where
   merge_refusal : (remove : Bool) (w : Workspace) → workspace now name ≡ Some w
       → refusal now (command.Merge name remove) ≡ first_of (when (remove && has_child now w.name) NotLeaf ∷ breaks now w.parent (merged_content now w) ∷ [])
   unfolding refusal refusals_of
   merge_refusal remove w e =
       of_standing now (command.Merge name remove) w e
-      ∙ ap (λ r. first_of (when (remove && has_child now w.name) NotLeaf ∷ r ∷ breaks now w.parent (merged_content now w) ∷ [])) (no_conflict_now first site mergeable names now inv name member w e)
+      ∙ ap (λ r. first_of (when (remove && has_child now w.name) NotLeaf ∷ r ∷ breaks now w.parent (merged_content now w) ∷ []))
+      (no_conflict_now first site mergeable names now inv name member w e)
 
   refresh_refusal : (w : Workspace) → workspace now name ≡ Some w → refusal now (command.Refresh name) ≡ breaks now w.name (merged_content now w)
   unfolding refusal refusals_of
@@ -137,8 +143,10 @@ module _ (first : Office) (site : Site) (mergeable : AreMergeable first site) (n
   unfolding refusal effect
   merge_answered remove = by (workspace now name) refl
     where
-      standing : (w : Workspace) → workspace now name ≡ Some w → (b : Bool) → (remove && has_child now w.name) ≡ b → IsAnswered now (command.Merge name remove) (after_either now remove)
-      standing w e true h = refused NotLeaf refl (step_as now (command.Merge name remove) _ (merge_refusal remove w e ∙ ap (λ b. first_of (when b NotLeaf ∷ breaks now w.parent (merged_content now w) ∷ [])) h))
+      standing : (w : Workspace) → workspace now name ≡ Some w → (b : Bool) → (remove && has_child now w.name) ≡ b
+          → IsAnswered now (command.Merge name remove) (after_either now remove)
+      standing w e true h = refused NotLeaf refl (step_as now (command.Merge name remove) _ (merge_refusal remove w e
+          ∙ ap (λ b. first_of (when b NotLeaf ∷ breaks now w.parent (merged_content now w) ∷ [])) h))
       standing w e false h =
           let is = merge_refusal remove w e ∙ ap (λ b. first_of (when b NotLeaf ∷ breaks now w.parent (merged_content now w) ∷ [])) h in
           elim (broken_or_none now w.parent (merged_content now w)) [
@@ -180,7 +188,8 @@ module _ (first : Office) (site : Site) (mergeable : AreMergeable first site) (n
     either_lasts true book = remove_lasts first site mergeable names now inv w its_member its_own book
     either_lasts false book = merge_lasts first site mergeable names now inv w its_member its_own book
 
-  merge_kept : (remove : Bool) → let a = step now (command.Merge name remove) in Invariant first site (names ++ merged_by site (command.Merge name remove) a.reply) a.office
+  merge_kept : (remove : Bool) → let a = step now (command.Merge name remove) in Invariant first site (names
+      ++ merged_by site (command.Merge name remove) a.reply) a.office
   merge_kept remove = by (merge_answered remove)
     where
       After : Answer → Type 0
@@ -188,7 +197,8 @@ module _ (first : Office) (site : Site) (mergeable : AreMergeable first site) (n
 
       by : IsAnswered now (command.Merge name remove) (after_either now remove) → After (step now (command.Merge name remove))
       by (refused reply undone e) =
-          subst After (sym e) (subst (λ ns. Invariant first site ns now) (sym (ap (λ ns. names ++ ns) (merged_by-refused site name remove reply undone) ∙ append-nil names)) inv)
+          subst After (sym e) (subst (λ ns. Invariant first site ns now) (sym (ap (λ ns. names ++ ns) (merged_by-refused site name remove reply undone)
+          ∙ append-nil names)) inv)
       by (performed w is e) =
           let next = after_either now remove w in
           let one : names ++ w.name ∷ [] ≡ names ++ merged_by site (command.Merge name remove) Done =
@@ -207,14 +217,17 @@ module _ (first : Office) (site : Site) (mergeable : AreMergeable first site) (n
   -- where every rule holds in each merge, no answer is a clash --------------------------------------------------
 
   module _ (keeps : KeepsRules first site) where
-    pub is_merge : (others : List Name) (content : Content) → AreAmong (setting_of first site) others site.members → ((cell : CellId) → row_at content cell ≡ rows_with first site others cell) → IsMergeOf first site others content
+    pub is_merge : (others : List Name) (content : Content) → AreAmong (setting_of first site) others site.members → ((cell : CellId) → row_at content cell
+        ≡ rows_with first site others cell) → IsMergeOf first site others content
     is_merge others content part rows = record { rows = rows; holds = subst (Holds first.book) (λ i cell. sym (rows cell) i) (keeps others part) }
 
     merged_is : (w : Workspace) → workspace now name ≡ Some w → IsMergeOf first site (name ∷ names) (merged_content now w)
-    merged_is w e = is_merge (name ∷ names) (merged_content now w) (part_with first site mergeable names now inv name member) (merged_rows first site mergeable names now inv name member w e)
+    merged_is w e = is_merge (name ∷ names) (merged_content now w) (part_with first site mergeable names now inv name member)
+        (merged_rows first site mergeable names now inv name member w e)
 
     unbroken : (above : Name) (w : Workspace) → workspace now name ≡ Some w → breaks now above (merged_content now w) ≡ None
-    unbroken above w e = none_breaks now above (merged_content now w) (subst (λ b. Holds b (row_at (merged_content now w))) (sym inv.book) (merged_is w e).holds)
+    unbroken above w e = none_breaks now above (merged_content now w) (subst (λ b. Holds b (row_at (merged_content now w))) (sym inv.book)
+        (merged_is w e).holds)
 
     merge_safe : (remove : Bool) → IsSafeAnswer now (command.Merge name remove)
     unfolding refusal
@@ -228,10 +241,15 @@ module _ (first : Office) (site : Site) (mergeable : AreMergeable first site) (n
         leaf true false h e = false≢true e
         leaf false d h e = false≢true h
 
-        standing : (w : Workspace) → workspace now name ≡ Some w → (b : Bool) → (remove && has_child now w.name) ≡ b → IsSafeAnswer now (command.Merge name remove)
-        standing w e true h = safe_as now (command.Merge name remove) _ (merge_refusal remove w e ∙ ap (λ b. first_of (when b NotLeaf ∷ breaks now w.parent (merged_content now w) ∷ [])) h) refl
-            (λ ready. absurd (leaf (is_some (workspace now name)) (remove && has_child now name) ready (ap (λ n. remove && has_child now n) (sym (same w e)) ∙ h)))
-        standing w e false h = safe_as now (command.Merge name remove) _ (merge_refusal remove w e ∙ ap (λ b. first_of (when b NotLeaf ∷ breaks now w.parent (merged_content now w) ∷ [])) h ∙ ap (λ r. first_of (r ∷ [])) (unbroken w.parent w e)) refl (λ ready. refl)
+        standing : (w : Workspace) → workspace now name ≡ Some w → (b : Bool) → (remove && has_child now w.name) ≡ b
+            → IsSafeAnswer now (command.Merge name remove)
+        standing w e true h = safe_as now (command.Merge name remove) _ (merge_refusal remove w e
+            ∙ ap (λ b. first_of (when b NotLeaf ∷ breaks now w.parent (merged_content now w) ∷ [])) h) refl
+            (λ ready. absurd (leaf (is_some (workspace now name)) (remove && has_child now name) ready (ap (λ n. remove && has_child now n) (sym (same w e))
+            ∙ h)))
+        standing w e false h = safe_as now (command.Merge name remove) _ (merge_refusal remove w e
+            ∙ ap (λ b. first_of (when b NotLeaf ∷ breaks now w.parent (merged_content now w) ∷ [])) h ∙ ap (λ r. first_of (r ∷ [])) (unbroken w.parent w e))
+            refl (λ ready. refl)
 
         by : (r : Option Workspace) → workspace now name ≡ r → IsSafeAnswer now (command.Merge name remove)
         by None e = elim (of_absent now (command.Merge name remove) e) [
@@ -252,7 +270,8 @@ module _ (first : Office) (site : Site) (mergeable : AreMergeable first site) (n
         by (Some w) e = safe_as now (command.Refresh name) _ (refresh_refusal w e ∙ unbroken w.name w e) refl (λ h. refl)
 
     -- what a refresh leaves in the member
-    refreshed_is : (v : Workspace) → (step now (command.Refresh name)).reply ≡ Done → workspace (step now (command.Refresh name)).office name ≡ Some v → IsMergeOf first site (name ∷ names) v.current
+    refreshed_is : (v : Workspace) → (step now (command.Refresh name)).reply ≡ Done → workspace (step now (command.Refresh name)).office name ≡ Some v
+        → IsMergeOf first site (name ∷ names) v.current
     unfolding merged_content
     refreshed_is v done found = by refresh_answered
       where
@@ -263,16 +282,25 @@ module _ (first : Office) (site : Site) (mergeable : AreMergeable first site) (n
             let at : shown (after_refresh now w) w.name ≡ Some (member_of v) =
             ap (shown (after_refresh now w)) (same w is) ∙ sym (ap (λ (a : Answer). shown a.office name) e) ∙ ap (option_map member_of) found in
             let one : Some (member_refreshed (content_of now w.parent) (member_of w)) ≡ Some (member_of v) = sym steps.here ∙ at in
-            subst (IsMergeOf first site (name ∷ names)) (current_is (member_refreshed (content_of now w.parent) (member_of w)) (member_of v) one) (merged_is w is)
+            subst (IsMergeOf first site (name ∷ names)) (current_is (member_refreshed (content_of now w.parent) (member_of w)) (member_of v) one)
+            (merged_is w is)
           where
             current_is : (m k : Member) → Some m ≡ Some k → m.current ≡ k.current
             current_is m k e = let one : m ≡ k = cc in ap (λ (x : Member). x.current) one
 
 pub merge_claim : MergeLaw
-merge_claim first site names now name remove mergeable inv member = (merge_kept first site mergeable names now inv name member remove, λ keeps. merge_safe first site mergeable names now inv name member keeps remove)
+merge_claim first site names now name remove mergeable inv member = (
+  merge_kept first site mergeable names now inv name member remove,
+  λ keeps. merge_safe first
+      site mergeable names now inv name member keeps remove,
+)
 
 pub refresh_claim : RefreshLaw
 refresh_claim first site names now name mergeable inv member = (
   refresh_kept first site mergeable names now inv name member,
-  λ keeps. record { answer = refresh_safe first site mergeable names now inv name member keeps; content = refreshed_is first site mergeable names now inv name member keeps },
+  λ keeps. record {
+    answer = refresh_safe first site mergeable names now inv name member keeps;
+    content = refreshed_is first site mergeable names now inv name
+        member keeps;
+  },
 )

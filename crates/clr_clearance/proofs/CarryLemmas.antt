@@ -125,7 +125,8 @@ module _ {A B : Type 0} (c : Setting A) (next : Setting B) (fate : A → Fate B)
   stay_opposed : (f : Fate B) (k j : Lifetime B) → goes_with f ≡ Some k → goes_without f ≡ Some j → AreOpposed k j
   stay_opposed Merged k j g h = absurd (cc)
   stay_opposed Gone k j g h = absurd (cc)
-  stay_opposed (Stays y) k j g h = let one : With y ≡ k = cc in let two : Without y ≡ j = cc in subst (λ l. AreOpposed l j) one (subst (AreOpposed (With y)) two refl)
+  stay_opposed (Stays y) k j g h = let one : With y ≡ k = cc in let two : Without y ≡ j = cc in subst (λ l. AreOpposed l j) one
+      (subst (AreOpposed (With y)) two refl)
 
   still_opposed : (l m : Lifetime A) (k j : Lifetime B) → goes l ≡ Some k → goes m ≡ Some j → AreOpposed l m → AreOpposed k j
   still_opposed (With x) (Without z) k j g h same = stay_opposed (fate x) k j g (ap (λ n. goes_without (fate n)) same ∙ h)
@@ -156,7 +157,8 @@ module _ {A B : Type 0} (c : Setting A) (next : Setting B) (fate : A → Fate B)
 
         by : (x : Option A) → IsChanger c c.members q x → (y : Option B) → IsChanger next next.members q y → y ≡ moved x
         by None idle None h = refl
-        by None idle (Some y) h = let (row, changed) = changes_of next y q h.0 h.1 in let (x, before, e) = later.came y q row changed in absurd (idle_or_changed c x q row idle before)
+        by None idle (Some y) h = let (row, changed) = changes_of next y q h.0 h.1 in let (x, before, e) = later.came y q row changed in
+            absurd (idle_or_changed c x q row idle before)
         by (Some x) h None idle = let (row, changed) = changes_of c x q h.0 h.1 in leaves x row changed idle (fate x) refl
         by (Some x) h (Some y) k =
             let (row, changed) = changes_of next y q k.0 k.1 in
@@ -199,25 +201,31 @@ module _ {A B : Type 0} (c : Setting A) (next : Setting B) (fate : A → Fate B)
     same_life r k j e = ap (λ o. Some (with_life r (unwrap_or o k))) e
 
     -- a version that goes on is there
-    goes_on : (v : VersionId) (l : Lived A) (life : Lifetime B) → version c v ≡ Some l → goes l.life ≡ Some life → version next (on v) ≡ Some (with_life l.row life)
+    goes_on : (v : VersionId) (l : Lived A) (life : Lifetime B) → version c v ≡ Some l → goes l.life ≡ Some life → version next (on v)
+        ≡ Some (with_life l.row life)
     goes_on v l life e g = next_version (on v) ∙ by v.fresh (changer c v.cell) (changer_is c v.cell) (sym (version_by_changer c v) ∙ e)
       where
-        of_old : (f : Fate B) (after : Option (Option Row)) (row : Option Row) → row ≡ Some l.row → goes_without f ≡ Some life → old_version (stays f) (root_by f after row) ≡ Some (with_life l.row life)
+        of_old : (f : Fate B) (after : Option (Option Row)) (row : Option Row) → row ≡ Some l.row → goes_without f ≡ Some life
+            → old_version (stays f) (root_by f after row) ≡ Some (with_life l.row life)
         of_old Merged after row d h = absurd (cc)
         of_old Gone after row d h = ap (old_version None) d ∙ same_life l.row Always life h
         of_old (Stays y) after row d h = ap (old_version (Some y)) d ∙ same_life l.row (Without y) life h
 
         of_new : (x : A) (f : Fate B) → fate x ≡ f → Changes c x v.cell (Some l.row) → goes_with f ≡ Some life
-            → cond (not (merges f)) (new_version next.after v.cell (stays f)) (old_version (stays f) (root_by f (c.after x v.cell) (c.root v.cell))) ≡ Some (with_life l.row life)
+            → cond (not (merges f)) (new_version next.after v.cell (stays f)) (old_version (stays f) (root_by f (c.after x v.cell) (c.root v.cell)))
+            ≡ Some (with_life l.row life)
         of_new x Merged d changed h = ap (λ r. old_version None (unwrap_or r (c.root v.cell))) changed.after ∙ same_life l.row Always life h
         of_new x Gone d changed h = absurd (cc)
         of_new x (Stays y) d changed h = ap (new_row y) (later.stayed x y v.cell (Some l.row) changed d).after ∙ same_life l.row (With y) life h
 
-        by : (fresh : Bool) (x : Option A) → IsChanger c c.members v.cell x → version_by c fresh v.cell x ≡ Some l → next_by (fresh && not (is_merged x)) v.cell x ≡ Some (with_life l.row life)
+        by : (fresh : Bool) (x : Option A) → IsChanger c c.members v.cell x → version_by c fresh v.cell x ≡ Some l
+            → next_by (fresh && not (is_merged x)) v.cell x ≡ Some (with_life l.row life)
         by false None h is = let p = old_is c None (c.root v.cell) l is in ap (old_version None) p.0 ∙ same_life l.row Always life (sym (ap goes p.1) ∙ g)
-        by false (Some x) h is = let p = old_is c (Some x) (c.root v.cell) l is in of_old (fate x) (c.after x v.cell) (c.root v.cell) p.0 (sym (ap goes p.1) ∙ g)
+        by false (Some x) h is = let p = old_is c (Some x) (c.root v.cell) l is in of_old (fate x) (c.after x v.cell) (c.root v.cell) p.0 (sym (ap goes p.1)
+            ∙ g)
         by true None h is = absurd (cc)
-        by true (Some x) h is = let p = new_is c x (c.after x v.cell) l is in of_new x (fate x) refl (record { member = h.0; after = p.0 }) (sym (ap goes p.1) ∙ g)
+        by true (Some x) h is = let p = new_is c x (c.after x v.cell) l is in of_new x (fate x) refl (record { member = h.0; after = p.0 }) (sym (ap goes p.1)
+            ∙ g)
 
     -- a version that is there was there, with the same row
     record Came (v : VersionId) (l : Lived B) : Type 0 where
@@ -231,7 +239,8 @@ module _ {A B : Type 0} (c : Setting A) (next : Setting B) (fate : A → Fate B)
     came_from : (v : VersionId) (l : Lived B) → version next v ≡ Some l → Came v l
     came_from v l e = by v.fresh (changer c v.cell) refl (changer_is c v.cell) (sym (next_version v) ∙ e)
       where
-        came_as : (fresh was : Bool) (life : Lifetime A) (x : Option A) → changer c v.cell ≡ x → version_by c was v.cell x ≡ Some (record { row = l.row; life = life }) → (was && not (is_merged x)) ≡ fresh → goes life ≡ Some l.life
+        came_as : (fresh was : Bool) (life : Lifetime A) (x : Option A) → changer c v.cell ≡ x → version_by c was v.cell x
+            ≡ Some (record { row = l.row; life = life }) → (was && not (is_merged x)) ≡ fresh → goes life ≡ Some l.life
             → Came (record { cell = v.cell; fresh = fresh }) l
         came_as fresh was life x k is f g = record {
           id = record { cell = v.cell; fresh = was };
@@ -242,18 +251,23 @@ module _ {A B : Type 0} (c : Setting A) (next : Setting B) (fate : A → Fate B)
           life = g;
         }
 
-        of_old : (x : A) (row : Option Row) → changer c v.cell ≡ Some x → Changes c x v.cell row → (f : Fate B) → fate x ≡ f → old_version (stays f) (root_by f (c.after x v.cell) (c.root v.cell)) ≡ Some l
+        of_old : (x : A) (row : Option Row) → changer c v.cell ≡ Some x → Changes c x v.cell row → (f : Fate B) → fate x ≡ f
+            → old_version (stays f) (root_by f (c.after x v.cell) (c.root v.cell)) ≡ Some l
             → Came (record { cell = v.cell; fresh = false }) l
         of_old x row k changed Merged d is =
             let p = old_is next None (unwrap_or (c.after x v.cell) (c.root v.cell)) l is in
             let same : row ≡ Some l.row = sym (ap (λ r. unwrap_or r (c.root v.cell)) changed.after) ∙ p.0 in
-            came_as false true (With x) (Some x) k (ap (new_row x) (changed.after ∙ ap Some same)) (ap (λ f. not (merges f)) d) (ap goes_with d ∙ ap Some (sym p.1))
+            came_as false true (With x) (Some x) k (ap (new_row x) (changed.after ∙ ap Some same)) (ap (λ f. not (merges f)) d) (ap goes_with d
+            ∙ ap Some (sym p.1))
         of_old x row k changed Gone d is =
-            let p = old_is next None (c.root v.cell) l is in came_as false false (Without x) (Some x) k (ap (old_version (Some x)) p.0) refl (ap goes_without d ∙ ap Some (sym p.1))
+            let p = old_is next None (c.root v.cell) l is in came_as false false (Without x) (Some x) k (ap (old_version (Some x)) p.0) refl (ap goes_without d
+            ∙ ap Some (sym p.1))
         of_old x row k changed (Stays y) d is =
-            let p = old_is next (Some y) (c.root v.cell) l is in came_as false false (Without x) (Some x) k (ap (old_version (Some x)) p.0) refl (ap goes_without d ∙ ap Some (sym p.1))
+            let p = old_is next (Some y) (c.root v.cell) l is in came_as false false (Without x) (Some x) k (ap (old_version (Some x)) p.0) refl
+            (ap goes_without d ∙ ap Some (sym p.1))
 
-        of_new : (x : A) (row : Option Row) → changer c v.cell ≡ Some x → Changes c x v.cell row → (f : Fate B) → fate x ≡ f → new_version next.after v.cell (stays f) ≡ Some l
+        of_new : (x : A) (row : Option Row) → changer c v.cell ≡ Some x → Changes c x v.cell row → (f : Fate B) → fate x ≡ f
+            → new_version next.after v.cell (stays f) ≡ Some l
             → Came (record { cell = v.cell; fresh = true }) l
         of_new x row k changed Merged d is = absurd (cc)
         of_new x row k changed Gone d is = absurd (cc)
@@ -262,8 +276,10 @@ module _ {A B : Type 0} (c : Setting A) (next : Setting B) (fate : A → Fate B)
             let same : Some row ≡ Some (Some l.row) = sym (later.stayed x y v.cell row changed d).after ∙ p.0 in
             came_as true true (With x) (Some x) k (ap (new_row x) (changed.after ∙ same)) (ap (λ f. not (merges f)) d) (ap goes_with d ∙ ap Some (sym p.1))
 
-        by : (fresh : Bool) (x : Option A) → changer c v.cell ≡ x → IsChanger c c.members v.cell x → next_by fresh v.cell x ≡ Some l → Came (record { cell = v.cell; fresh = fresh }) l
-        by false None k h is = let p = old_is next None (c.root v.cell) l is in came_as false false Always None k (ap (old_version None) p.0) refl (ap Some (sym p.1))
+        by : (fresh : Bool) (x : Option A) → changer c v.cell ≡ x → IsChanger c c.members v.cell x → next_by fresh v.cell x ≡ Some l
+            → Came (record { cell = v.cell; fresh = fresh }) l
+        by false None k h is = let p = old_is next None (c.root v.cell) l is in came_as false false Always None k (ap (old_version None) p.0) refl
+            (ap Some (sym p.1))
         by false (Some x) k h is = let (row, changed) = changes_of c x v.cell h.0 h.1 in of_old x row k changed (fate x) refl is
         by true None k h is = absurd (cc)
         by true (Some x) k h is = let (row, changed) = changes_of c x v.cell h.0 h.1 in of_new x row k changed (fate x) refl is
@@ -271,7 +287,8 @@ module _ {A B : Type 0} (c : Setting A) (next : Setting B) (fate : A → Fate B)
     -- needs ----------------------------------------------------------------------------------------------------
 
     abbrev AsksSame : Need → Lived A → Option (Lived A) → Need → Lived B → Option (Lived B) → Type 0
-    AsksSame m a b n d e = (h : Held) → serves next.rules (ask_of n) (held_row n.first d) (held_too n.second e) h ≡ serves c.rules (ask_of m) (held_row m.first a) (held_too m.second b) h
+    AsksSame m a b n d e = (h : Held) → serves next.rules (ask_of n) (held_row n.first d) (held_too n.second e) h
+        ≡ serves c.rules (ask_of m) (held_row m.first a) (held_too m.second b) h
 
     -- a possible need was possible: the old versions of its subjects call it
     record OldNeed (n : Need) (d : Lived B) (e : Option (Lived B)) : Type 0 where
@@ -307,7 +324,8 @@ module _ {A B : Type 0} (c : Setting A) (next : Setting B) (fate : A → Fate B)
         one : held_row it.id it.lived ≡ held_row n.first d
         one = same_held n.first d it
 
-        by : (w : Option VersionId) (x : Option (Lived B)) → IsBesideToo next n.first d w x → calls next.rules (ask_of n) (held_row n.first d) (held_too w x) ≡ true → OldNeed (record n { second = w }) d x
+        by : (w : Option VersionId) (x : Option (Lived B)) → IsBesideToo next n.first d w x → calls next.rules (ask_of n) (held_row n.first d) (held_too w x)
+            ≡ true → OldNeed (record n { second = w }) d x
         by None None beside call = record {
           need = record n { first = it.id; second = None };
           a = it.lived;
@@ -356,7 +374,8 @@ module _ {A B : Type 0} (c : Setting A) (next : Setting B) (fate : A → Fate B)
       abbrev CoversNow : VersionId → Type 0
       CoversNow = CoversAlone next n d e
 
-      serves_on : (v : VersionId) (l : Lived A) (k : Lifetime B) → Serves c old.need old.a old.b v l → goes l.life ≡ Some k → Serves next n d e (on v) (with_life l.row k)
+      serves_on : (v : VersionId) (l : Lived A) (k : Lifetime B) → Serves c old.need old.a old.b v l → goes l.life ≡ Some k
+          → Serves next n d e (on v) (with_life l.row k)
       serves_on v l k s g = record { is = goes_on v l k s.is g; it_serves = old.asks (held_row v l) ∙ s.it_serves }
 
       lasts_on : (l : Lifetime A) → Lasts l old.a old.b → (k : Lifetime B) × (goes l ≡ Some k) × Lasts k d e
@@ -389,7 +408,11 @@ module _ {A B : Type 0} (c : Setting A) (next : Setting B) (fate : A → Fate B)
           inr (
             it.id,
             it.lived,
-            record { is = it.is; it_serves = sym (old.asks (held_row it.id it.lived)) ∙ ap (serves next.rules (ask_of n) (held_row n.first d) (held_too n.second e)) (same_held v l it) ∙ s.it_serves },
+            record {
+              is = it.is;
+              it_serves = sym (old.asks (held_row it.id it.lived))
+                  ∙ ap (serves next.rules (ask_of n) (held_row n.first d) (held_too n.second e)) (same_held v l it) ∙ s.it_serves;
+            },
             was_changed it.lived.life l.life it.life changed,
           )
 

@@ -27,7 +27,8 @@ use Rattle.clr_clearance.specs.Runs.{AreQuiet}
 use Rattle.clr_clearance.specs.Verdicts.{name_fault}
 
 pub fault_example : FaultExample
-unfolding name_fault refusal refusals_of effect step same_name is_live workspace stands is_kept content_of after_create set_kept breaks first_broken broken_needs broken_below depth_within is_good_name is_root
+unfolding name_fault refusal refusals_of effect step same_name is_live workspace stands is_kept content_of after_create set_kept breaks first_broken
+    broken_needs broken_below depth_within is_good_name is_root
 fault_example = refl
 
 -- needs ------------------------------------------------------------------------------------------------------
@@ -59,11 +60,14 @@ record IsEarlier (needs : List Need) (at : ℕ) (m : Need) : Type 0 where
   less : before < at
   is : slice_get needs before ≡ Some m
 
-earlier : (needs : List Need) (at : ℕ) (n m : Need) → IsStrictlySortedBy need_cmp needs → slice_get needs at ≡ Some n → Among m needs → need_cmp m n ≡ Less → IsEarlier needs at m
+earlier : (needs : List Need) (at : ℕ) (n m : Need) → IsStrictlySortedBy need_cmp needs → slice_get needs at ≡ Some n → Among m needs → need_cmp m n ≡ Less
+    → IsEarlier needs at m
 unfolding IsStrictlySortedBy
 earlier [] at n m rises e there less = absurd there
-earlier (x ∷ xs) zero n m rises e (inl same) less = let one : x ≡ n = cc in absurd (not_itself need_total n (subst (λ y. need_cmp y n ≡ Less) (sym same ∙ one) less))
-earlier (x ∷ xs) zero n m rises e (inr there) less = let one : x ≡ n = cc in absurd (not_both need_total m n less (subst (λ y. need_cmp y m ≡ Less) one (each_of (λ y. need_cmp x y ≡ Less) m xs rises.0 there)))
+earlier (x ∷ xs) zero n m rises e (inl same) less = let one : x ≡ n = cc in absurd (not_itself need_total n (subst (λ y. need_cmp y n ≡ Less) (sym same
+    ∙ one) less))
+earlier (x ∷ xs) zero n m rises e (inr there) less = let one : x ≡ n = cc in absurd (not_both need_total m n less (subst (λ y. need_cmp y m
+    ≡ Less) one (each_of (λ y. need_cmp x y ≡ Less) m xs rises.0 there)))
 earlier (x ∷ xs) (suc at) n m rises e (inl same) less = record { before = 0; less = omega arith; is = ap Some same }
 earlier (x ∷ xs) (suc at) n m rises e (inr there) less =
     let rest = earlier xs at n m rises.1 e there less in
@@ -93,8 +97,10 @@ first_judged c entries needs at n list is covered bare =
 -- quiet commands -----------------------------------------------------------------------------------------------
 
 quiet_more : (o : Office) (site : Site) (commands : List Command) (replies : List Reply) (now : Office) (c : Command) (reply : Reply)
-    → AreAnswers o commands replies now → AreQuiet o site commands (lost_in replies) → is_quiet now site c ≡ true → AreQuiet o site (commands ++ c ∷ []) (lost_in (replies ++ reply ∷ []))
-quiet_more o site [] [] now c reply answers quiet is zero d e = let one : c ≡ d = cc in ap (is_quiet o site) (sym one) ∙ ap (λ p. is_quiet p site c) (sym answers) ∙ is
+    → AreAnswers o commands replies now → AreQuiet o site commands (lost_in replies) → is_quiet now site c ≡ true
+    → AreQuiet o site (commands ++ c ∷ []) (lost_in (replies ++ reply ∷ []))
+quiet_more o site [] [] now c reply answers quiet is zero d e = let one : c ≡ d = cc in ap (is_quiet o site) (sym one)
+    ∙ ap (λ p. is_quiet p site c) (sym answers) ∙ is
 quiet_more o site [] [] now c reply answers quiet is (suc k) d e = absurd (cc)
 quiet_more o site [] (r ∷ rs) now c reply answers quiet is at d e = absurd answers
 quiet_more o site (x ∷ cs) [] now c reply answers quiet is at d e = absurd answers
@@ -107,8 +113,13 @@ quiet_more o site (x ∷ cs) (r ∷ rs) now c reply answers quiet is (suc at) d 
     let behind : AreQuiet (step_or_lost (is_lost r) o x).office site cs (λ k. lost_in (r ∷ rs) (k + 1)) = λ k y g. quiet (suc k) y g in
     let rest = quiet_more next site cs rs now c reply answers.2 (subst (λ p. AreQuiet p site cs (lost_in rs)) office (subst (AreQuiet (step_or_lost (is_lost r) o x).office site cs) lost behind)) is in
     let whole : AreQuiet (step_or_lost (is_lost r) o x).office site (cs ++ c ∷ []) (λ k. lost_in (r ∷ rs ++ reply ∷ []) (k + 1)) =
-    subst (AreQuiet (step_or_lost (is_lost r) o x).office site (cs ++ c ∷ [])) (sym lost_more) (subst (λ p. AreQuiet p site (cs ++ c ∷ []) (lost_in (rs ++ reply ∷ []))) (sym office) rest) in
+    subst (AreQuiet (step_or_lost (is_lost r) o x).office site (cs ++ c ∷ [])) (sym lost_more)
+    (subst (λ p. AreQuiet p site (cs ++ c ∷ []) (lost_in (rs ++ reply ∷ []))) (sym office) rest) in
     whole at d e
 
 pub one_more : OneMoreLaw
-one_more o site commands replies now c reply left answers quiet is last = (more_law o commands replies now c reply left answers last, quiet_more o site commands replies now c reply answers quiet is)
+one_more o site commands replies now c reply left answers quiet is last = (
+  more_law o commands replies now c reply left answers last,
+  quiet_more o site commands
+      replies now c reply answers quiet is,
+)

@@ -82,7 +82,8 @@ has_at (n ∷ ns) (suc k) name e = or_right (same_name n name) (has ns name) (ha
 earlier : (names : List Name) (j k : ℕ) (name : Name) → j < k → slice_get names j ≡ Some name → has (take k names) name ≡ true
 earlier [] j k name less e = absurd (cc)
 earlier (n ∷ ns) j zero name less e = absurd (omega (arith, less))
-earlier (n ∷ ns) zero (suc k) name less e = let one : n ≡ name = cc in or_left (same_name n name) (has (take k ns) name) (ap (same_name n) (sym one) ∙ same_itself n)
+earlier (n ∷ ns) zero (suc k) name less e = let one : n ≡ name = cc in or_left (same_name n name) (has (take k ns) name) (ap (same_name n) (sym one)
+    ∙ same_itself n)
 earlier (n ∷ ns) (suc j) (suc k) name less e = or_right (same_name n name) (has (take k ns) name) (earlier ns j k name (omega (arith, less)) e)
 
 -- a name that stands before a position stands at a lesser one
@@ -175,11 +176,13 @@ all_free o at (n ∷ ns) none name h =
     empty [] e = refl
     empty (cell ∷ cells) e = absurd (cc)
 
-no_first_conflict : (o : Office) (at : ℕ) (names : List Name) → ((name : Name) → has names name ≡ true → conflicts_in o name ≡ []) → first_conflict o at names ≡ None
+no_first_conflict : (o : Office) (at : ℕ) (names : List Name) → ((name : Name) → has names name ≡ true → conflicts_in o name ≡ []) → first_conflict o at names
+    ≡ None
 unfolding first_conflict
 no_first_conflict o at [] free = refl
 no_first_conflict o at (n ∷ ns) free =
-    ap (λ cells. option_or (option_map (λ (c : CellId × ℕ). verdict.Conflict at c.0 c.1) (least_and_count cells)) (first_conflict o (suc at) ns)) (free n (or_left (same_name n n) (has ns n) (same_itself n)))
+    ap (λ cells. option_or (option_map (λ (c : CellId × ℕ). verdict.Conflict at c.0 c.1) (least_and_count cells)) (first_conflict o (suc at) ns))
+    (free n (or_left (same_name n n) (has ns n) (same_itself n)))
     ∙ no_first_conflict o (suc at) ns (λ name h. free name (or_right (same_name n name) (has ns name) h))
 
 standing : (o : Office) (name : Name) (w : Workspace) → workspace o name ≡ Some w → stands o name ≡ true
@@ -209,7 +212,8 @@ module _ (o : Office) (site : Site) where
       some_is : (x y : Name) → Some x ≡ Some y → x ≡ y
       some_is x y e = cc
 
-      at : (j : ℕ) (name : Name) → slice_get site.members j ≡ Some name → is_some (changed_by o name cell) ≡ true → is_some (after_of (change_sets o site) j cell) ≡ true
+      at : (j : ℕ) (name : Name) → slice_get site.members j ≡ Some name → is_some (changed_by o name cell) ≡ true
+          → is_some (after_of (change_sets o site) j cell) ≡ true
       at j name e h = ap is_some (same_after o site j cell ∙ ap (λ r. after_member (setting_of o site) r cell) e) ∙ h
 
   -- what the tests of one member at a time say
@@ -229,7 +233,8 @@ module _ (o : Office) (site : Site) where
       record {
         kept = is_kept_root root.0;
         differ = differ_unless_repeated site repeated.0;
-        children = λ name h. not-false _ (each_of (λ n. not (is_child o site n)) site.members (no_map verdict.NotUnderRoot (position (λ n. not (is_child o site n)) site.members) missing.1) name h);
+        children = λ name h. not-false _ (each_of (λ n. not (is_child o site n)) site.members
+            (no_map verdict.NotUnderRoot (position (λ n. not (is_child o site n)) site.members) missing.1) name h);
         free = all_free o 0 site.members both.1;
       }
 
@@ -244,7 +249,8 @@ module _ (o : Office) (site : Site) where
       rw (
         mergeable.kept,
         none_repeated site.members mergeable.distinct,
-        none_of (λ name. not (stands o name)) site.members (λ name h. let child = child_under o site name (mergeable.children name h) in ap not (standing o name child.at child.is)),
+        none_of (λ name. not (stands o name)) site.members (λ name h. let child = child_under o site name (mergeable.children name h) in
+            ap not (standing o name child.at child.is)),
         none_of (λ name. not (is_child o site name)) site.members (λ name h. ap not (mergeable.children name h)),
       )
       (no_first_conflict o 0 site.members mergeable.free)
@@ -270,14 +276,18 @@ map_no_clear f (Some x) h = h x
 conflict_no_clear : (o : Office) (at : ℕ) (names : List Name) → IsNoClear (first_conflict o at names)
 unfolding first_conflict
 conflict_no_clear o at [] = tt
-conflict_no_clear o at (n ∷ ns) = either_no_clear (option_map (λ (c : CellId × ℕ). verdict.Conflict at c.0 c.1) (least_and_count (conflicts_in o n))) (first_conflict o (suc at) ns) (map_no_clear _ _ (λ c. refl)) (conflict_no_clear o (suc at) ns)
+conflict_no_clear o at (n ∷ ns) = either_no_clear (option_map (λ (c : CellId × ℕ). verdict.Conflict at c.0 c.1) (least_and_count (conflicts_in o n)))
+    (first_conflict o (suc at) ns) (map_no_clear _ _ (λ c. refl)) (conflict_no_clear o (suc at) ns)
 
 pub fault_no_clear : (o : Office) (site : Site) → IsNoClear (member_fault o site)
 unfolding name_fault
 fault_no_clear o site =
-    either_no_clear (option_or (root_fault o site) (option_or (repeated_member site) (option_or (missing_member o site) (stray_member o site)))) (first_conflict o 0 site.members)
-    (either_no_clear (root_fault o site) (option_or (repeated_member site) (option_or (missing_member o site) (stray_member o site))) (root (is_kept o site.root))
-    (either_no_clear (repeated_member site) (option_or (missing_member o site) (stray_member o site)) (map_no_clear verdict.RepeatedMember (first_repeated site.members) (λ k. refl))
+    either_no_clear (option_or (root_fault o site) (option_or (repeated_member site) (option_or (missing_member o site) (stray_member o site))))
+    (first_conflict o 0 site.members)
+    (either_no_clear (root_fault o site) (option_or (repeated_member site) (option_or (missing_member o site) (stray_member o site)))
+    (root (is_kept o site.root))
+    (either_no_clear (repeated_member site) (option_or (missing_member o site) (stray_member o site))
+    (map_no_clear verdict.RepeatedMember (first_repeated site.members) (λ k. refl))
     (either_no_clear (missing_member o site) (stray_member o site)
     (map_no_clear verdict.NoWorkspace (position (λ name. not (stands o name)) site.members) (λ k. refl))
     (map_no_clear verdict.NotUnderRoot (position (λ name. not (is_child o site name)) site.members) (λ k. refl)))))

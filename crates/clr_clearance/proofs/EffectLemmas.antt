@@ -27,17 +27,22 @@ shown_is o name = by (is_live name)
     by false = refl
 
 -- other workspaces, of which the same is seen
-shown_as : (o : Office) (ws : List Workspace) (name : Name) → seen_by member_of name ws ≡ seen_by member_of name o.workspaces → shown (with_workspaces o ws) name ≡ shown o name
+shown_as : (o : Office) (ws : List Workspace) (name : Name) → seen_by member_of name ws ≡ seen_by member_of name o.workspaces
+    → shown (with_workspaces o ws) name ≡ shown o name
 shown_as o ws name e = shown_is (with_workspaces o ws) name ∙ ap (cond (is_live name) None) e ∙ sym (shown_is o name)
 
-content_as : (o : Office) (ws : List Workspace) (name : Name) → seen_by root_of name ws ≡ seen_by root_of name o.workspaces → content_of (with_workspaces o ws) name ≡ content_of o name
-content_as o ws name e = content_seen (with_workspaces o ws) name ∙ ap (λ r. cond (is_live name) o.live (option_map_or (λ (r : Root). r.current) r no_rows)) e ∙ sym (content_seen o name)
+content_as : (o : Office) (ws : List Workspace) (name : Name) → seen_by root_of name ws ≡ seen_by root_of name o.workspaces
+    → content_of (with_workspaces o ws) name ≡ content_of o name
+content_as o ws name e = content_seen (with_workspaces o ws) name ∙ ap (λ r. cond (is_live name) o.live (option_map_or (λ (r : Root). r.current) r no_rows)) e
+    ∙ sym (content_seen o name)
 
-kept_as : (o : Office) (ws : List Workspace) (name : Name) → seen_by root_of name ws ≡ seen_by root_of name o.workspaces → is_kept (with_workspaces o ws) name ≡ is_kept o name
+kept_as : (o : Office) (ws : List Workspace) (name : Name) → seen_by root_of name ws ≡ seen_by root_of name o.workspaces → is_kept (with_workspaces o ws) name
+    ≡ is_kept o name
 kept_as o ws name e = kept_seen (with_workspaces o ws) name ∙ ap (λ r. is_live name || option_map_or (λ (r : Root). r.kept) r false) e ∙ sym (kept_seen o name)
 
 -- the workspace of a name modified: what is shown of it
-shown_modified : (o : Office) (n : Name) (f : Workspace → Workspace) (g : Member → Member) → LeavesName f → ((w : Workspace) → member_of (f w) ≡ g (member_of w))
+shown_modified : (o : Office) (n : Name) (f : Workspace → Workspace) (g : Member → Member) → LeavesName f
+    → ((w : Workspace) → member_of (f w) ≡ g (member_of w))
     → shown (with_workspaces o (modify n f o.workspaces)) n ≡ option_map g (shown o n)
 shown_modified o n f g names same =
     shown_is (with_workspaces o (modify n f o.workspaces)) n
@@ -77,7 +82,8 @@ module _ (o : Office) (r : Name) (content : Content) where
   unfolding set_content
   written_kept = by (is_live r)
     where
-      same : (w : Option Workspace) → option_map_or (λ (r : Root). r.kept) (option_map root_of (option_map (with_current content) w)) false ≡ option_map_or (λ (r : Root). r.kept) (option_map root_of w) false
+      same : (w : Option Workspace) → option_map_or (λ (r : Root). r.kept) (option_map root_of (option_map (with_current content) w)) false
+          ≡ option_map_or (λ (r : Root). r.kept) (option_map root_of w) false
       same None = refl
       same (Some w) = refl
 
@@ -85,7 +91,8 @@ module _ (o : Office) (r : Name) (content : Content) where
       by true = kept_seen (written true) r ∙ sym (kept_seen o r)
       by false =
           kept_seen (written false) r
-          ∙ ap (λ w. is_live r || option_map_or (λ (r : Root). r.kept) (option_map root_of w) false) (find_modify r (with_current content) (λ w. refl) o.workspaces)
+          ∙ ap (λ w. is_live r || option_map_or (λ (r : Root). r.kept) (option_map root_of w) false)
+          (find_modify r (with_current content) (λ w. refl) o.workspaces)
           ∙ ap (λ b. is_live r || b) (same (find_name r o.workspaces))
           ∙ sym (kept_seen o r)
 
@@ -95,7 +102,8 @@ module _ (o : Office) (r : Name) (content : Content) where
     where
       by : (b : Bool) → shown (written b) name ≡ shown o name
       by true = shown_is (written true) name ∙ sym (shown_is o name)
-      by false = shown_as o (modify r (with_current content) o.workspaces) name (seen_other member_of name r (with_current content) (λ w. refl) apart o.workspaces)
+      by false = shown_as o (modify r (with_current content) o.workspaces) name (seen_other member_of name r (with_current content) (λ w. refl) apart
+          o.workspaces)
 
 -- what one workspace's commands leave ------------------------------------------------------------------
 
@@ -150,7 +158,8 @@ member_rebased m = record { parent = m.parent; base = taken_over m.base (changes
 abbrev pub member_refreshed : Content → Member → Member
 member_refreshed above m = record { parent = m.parent; base = above; current = taken_over above (changes m.base m.current) }
 
-module _ (site : Site) (o : Office) (w : Workspace) (kept : IsRootKept o site) (is : workspace o w.name ≡ Some w) (out : is_root site w.name ≡ false) (under : is_root site w.parent ≡ true) where
+module _ (site : Site) (o : Office) (w : Workspace) (kept : IsRootKept o site) (is : workspace o w.name ≡ Some w) (out : is_root site w.name
+    ≡ false) (under : is_root site w.parent ≡ true) where
   is_there : shown o w.name ≡ Some (member_of w)
   is_there = ap (option_map member_of) is
 
@@ -195,7 +204,8 @@ module _ (site : Site) (o : Office) (w : Workspace) (kept : IsRootKept o site) (
       record {
         root = left.root ∙ merge_steps.root;
         kept = left.kept ∙ merge_steps.kept;
-        here = shown_marked site w.name out gone w.parent (without_mark_of w.name) w.name ∙ shown_is gone w.name ∙ nothing (is_live w.name) _ (ap (option_map member_of) (find_without w.name next.workspaces));
+        here = shown_marked site w.name out gone w.parent (without_mark_of w.name) w.name ∙ shown_is gone w.name
+            ∙ nothing (is_live w.name) _ (ap (option_map member_of) (find_without w.name next.workspaces));
         others = λ name apart_too apart. left.others name apart ∙ merge_steps.others name apart_too apart;
       }
     where

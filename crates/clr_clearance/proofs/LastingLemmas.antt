@@ -47,7 +47,8 @@ module _ (p : Name → Bool) where
   of_some [] name h = absurd (false≢true h)
   of_some (n ∷ ns) name h = by (p n) refl h (of_some ns name)
     where
-      by : (b : Bool) → p n ≡ b → has (cond b (n ∷ filter p ns) (filter p ns)) name ≡ true → (has (filter p ns) name ≡ true → (has ns name ≡ true) × (p name ≡ true)) → (has (n ∷ ns) name ≡ true) × (p name ≡ true)
+      by : (b : Bool) → p n ≡ b → has (cond b (n ∷ filter p ns) (filter p ns)) name ≡ true → (has (filter p ns) name ≡ true → (has ns name ≡ true)
+          × (p name ≡ true)) → (has (n ∷ ns) name ≡ true) × (p name ≡ true)
       by true e h more = elim (or_cases (same_name n name) (has (filter p ns) name) h) [
         | inl same ↦ (or_left (same_name n name) (has ns name) same, ap p (sym (same_is n name same)) ∙ e)
         | inr other ↦ (or_right (same_name n name) (has ns name) (more other).0, (more other).1)
@@ -96,7 +97,8 @@ unfolding place
 place_is [] name k e = absurd (cc)
 place_is (n ∷ ns) name k e = by (same_name n name) refl (place ns name) (place_is ns name) e
   where
-    by : (b : Bool) → same_name n name ≡ b → (r : Option ℕ) → ((j : ℕ) → r ≡ Some j → slice_get ns j ≡ Some name) → cond b (Some 0) (option_map (λ j. suc j) r) ≡ Some k → slice_get (n ∷ ns) k ≡ Some name
+    by : (b : Bool) → same_name n name ≡ b → (r : Option ℕ) → ((j : ℕ) → r ≡ Some j → slice_get ns j ≡ Some name) → cond b (Some 0) (option_map (λ j. suc j) r)
+        ≡ Some k → slice_get (n ∷ ns) k ≡ Some name
     by true same r more d = let one : 0 ≡ k = cc in ap (slice_get (n ∷ ns)) (sym one) ∙ ap Some (same_is n name same)
     by false same None more d = absurd (cc)
     by false same (Some j) more d = let one : suc j ≡ k = cc in ap (slice_get (n ∷ ns)) (sym one) ∙ more j refl
@@ -104,7 +106,11 @@ place_is (n ∷ ns) name k e = by (same_name n name) refl (place ns name) (place
 placed : (names : List Name) (name : Name) (k : ℕ) → slice_get names k ≡ Some name → (j : ℕ) × (place names name ≡ Some j)
 unfolding place
 placed [] name k e = absurd (cc)
-placed (n ∷ ns) name zero e = let one : n ≡ name = cc in (0, ap (λ b. cond b (Some 0) (option_map (λ j. suc j) (place ns name))) (ap (same_name n) (sym one) ∙ same_itself n))
+placed (n ∷ ns) name zero e = let one : n ≡ name = cc in (
+  0,
+  ap (λ b. cond b (Some 0) (option_map (λ j. suc j) (place ns name))) (ap (same_name n) (sym one)
+      ∙ same_itself n),
+)
 placed (n ∷ ns) name (suc k) e = by (same_name n name) refl (placed ns name k e)
   where
     by : (b : Bool) → same_name n name ≡ b → (j : ℕ) × (place ns name ≡ Some j) → (j : ℕ) × (cond b (Some 0) (option_map (λ i. suc i) (place ns name)) ≡ Some j)
@@ -129,7 +135,8 @@ module _ (first : Office) (site : Site) (mergeable : AreMergeable first site) (n
   child_now name member h =
       let (w, e) = there name h in
       let under = (it first site mergeable names now inv name member w e).under in
-      ap (λ b. not b && option_map_or (λ (v : Workspace). same_name v.parent site.root) (workspace now name) false) (not_root first site mergeable names now inv name member)
+      ap (λ b. not b && option_map_or (λ (v : Workspace). same_name v.parent site.root) (workspace now name) false)
+      (not_root first site mergeable names now inv name member)
       ∙ ap (λ r. option_map_or (λ (v : Workspace). same_name v.parent site.root) r false) e ∙ under
 
   free_now : (name : Name) → is_member site name ≡ true → stands_now name ≡ true → conflicts_in now name ≡ []
@@ -140,10 +147,13 @@ module _ (first : Office) (site : Site) (mergeable : AreMergeable first site) (n
       ∙ none_listed (conflicts (content_of now w.parent) (own_changes w)) (no_conflict_now first site mergeable names now inv name member w e)
 
   -- a member that stands has the changes that it had, unless it is merged
-  changes_now : (name : Name) → is_member site name ≡ true → stands_now name ≡ true → (cell : CellId) → changed_by now name cell ≡ cond (has names name) None (changed_by first name cell)
-  changes_now name member h cell = let (w, e) = there name h in changed_by-standing now name w cell e ∙ (it first site mergeable names now inv name member w e).changes cell
+  changes_now : (name : Name) → is_member site name ≡ true → stands_now name ≡ true → (cell : CellId) → changed_by now name cell
+      ≡ cond (has names name) None (changed_by first name cell)
+  changes_now name member h cell = let (w, e) = there name h in changed_by-standing now name w cell e
+      ∙ (it first site mergeable names now inv name member w e).changes cell
 
-  changed_before : (name : Name) (cell : CellId) → is_member site name ≡ true → stands_now name ≡ true → is_some (changed_by now name cell) ≡ true → is_some (changed_by first name cell) ≡ true
+  changed_before : (name : Name) (cell : CellId) → is_member site name ≡ true → stands_now name ≡ true → is_some (changed_by now name cell) ≡ true
+      → is_some (changed_by first name cell) ≡ true
   changed_before name cell member h changes = by (has names name) (sym (ap is_some (changes_now name member h cell)) ∙ changes)
     where
       by : (b : Bool) → is_some (cond b None (changed_by first name cell)) ≡ true → is_some (changed_by first name cell) ≡ true
@@ -159,13 +169,15 @@ module _ (first : Office) (site : Site) (mergeable : AreMergeable first site) (n
     apart = λ m n cell hm hn changes changes_too.
         (let one = of_some stands_now site.members m (sym (has_is (standing now site).members m) ∙ hm) in
         let two = of_some stands_now site.members n (sym (has_is (standing now site).members n) ∙ hn) in
-        mergeable.apart m n cell (has_is site.members m ∙ one.0) (has_is site.members n ∙ two.0) (changed_before m cell one.0 one.1 changes) (changed_before n cell two.0 two.1 changes_too));
+        mergeable.apart m n cell (has_is site.members m ∙ one.0) (has_is site.members n ∙ two.0) (changed_before m cell one.0 one.1 changes)
+        (changed_before n cell two.0 two.1 changes_too));
   }
 
   standing_holds : KeepsRules first site → RootHolds now (standing now site)
   unfolding root_content
   standing_holds keeps =
-      subst (λ b. Holds b (row_at (content_of now site.root))) (sym inv.book) (subst (Holds first.book) (λ i cell. sym (inv.rows cell) i) (keeps names inv.part))
+      subst (λ b. Holds b (row_at (content_of now site.root))) (sym inv.book) (subst (Holds first.book) (λ i cell. sym (inv.rows cell) i)
+      (keeps names inv.part))
 
   -- what became of each member -----------------------------------------------------------------------------------------
 
@@ -206,14 +218,17 @@ module _ (first : Office) (site : Site) (mergeable : AreMergeable first site) (n
       by None e f = absurd (cc)
       by (Some name) e f = record { name = name; is_at = e; changes = f }
 
-  changes_at : (o : Office) (s : Site) (k : ℕ) (name : Name) (cell : CellId) (row : Option Row) → slice_get s.members k ≡ Some name → changed_by o name cell ≡ Some row → Changes (by_position (setting_of o s)) k cell row
+  changes_at : (o : Office) (s : Site) (k : ℕ) (name : Name) (cell : CellId) (row : Option Row) → slice_get s.members k ≡ Some name → changed_by o name cell
+      ≡ Some row → Changes (by_position (setting_of o s)) k cell row
   changes_at o s k name cell row e f = record { member = in_range s.members k name e; after = ap (λ r. after_member (setting_of o s) r cell) e ∙ f }
 
   -- who has changes now isn't merged, and had them
-  waits : (name : Name) (cell : CellId) (row : Option Row) → cond (has names name) None (changed_by first name cell) ≡ Some row → (has names name ≡ false) × (changed_by first name cell ≡ Some row)
+  waits : (name : Name) (cell : CellId) (row : Option Row) → cond (has names name) None (changed_by first name cell) ≡ Some row → (has names name ≡ false)
+      × (changed_by first name cell ≡ Some row)
   waits name cell row = by (has names name) refl
     where
-      by : (b : Bool) → has names name ≡ b → cond b None (changed_by first name cell) ≡ Some row → (has names name ≡ false) × (changed_by first name cell ≡ Some row)
+      by : (b : Bool) → has names name ≡ b → cond b None (changed_by first name cell) ≡ Some row → (has names name ≡ false)
+          × (changed_by first name cell ≡ Some row)
       by true e f = absurd (cc)
       by false e f = (e, f)
 
@@ -226,7 +241,8 @@ module _ (first : Office) (site : Site) (mergeable : AreMergeable first site) (n
   stays_at : (name : Name) (k : ℕ) → fate_of (Some name) ≡ Stays k → (has names name ≡ false) × (slice_get (standing now site).members k ≡ Some name)
   stays_at name k = by (has names name) refl (place (standing now site).members name) refl
     where
-      by : (b : Bool) → has names name ≡ b → (r : Option ℕ) → place (standing now site).members name ≡ r → cond b Merged (fate_at r) ≡ Stays k → (has names name ≡ false) × (slice_get (standing now site).members k ≡ Some name)
+      by : (b : Bool) → has names name ≡ b → (r : Option ℕ) → place (standing now site).members name ≡ r → cond b Merged (fate_at r) ≡ Stays k
+          → (has names name ≡ false) × (slice_get (standing now site).members k ≡ Some name)
       by true e r f d = absurd (cc)
       by false e None f d = absurd (cc)
       by false e (Some j) f d = let same : j ≡ k = cc in (e, place_is (standing now site).members name k (f ∙ ap Some same))
@@ -251,7 +267,8 @@ module _ (first : Office) (site : Site) (mergeable : AreMergeable first site) (n
   root_now = inv.rows
 
   idle_root : (cell : CellId) → AreIdle old_setting cell → rows_with first site names cell ≡ old_setting.root cell
-  idle_root cell idle = taken_is (setting_of first site) names (record { apart = mergeable.apart; part = inv.part }) cell ∙ by (changer (setting_of first site) cell) (changer_is (setting_of first site) cell)
+  idle_root cell idle = taken_is (setting_of first site) names (record { apart = mergeable.apart; part = inv.part }) cell
+      ∙ by (changer (setting_of first site) cell) (changer_is (setting_of first site) cell)
     where
       by : (x : Option Name) → IsChanger (setting_of first site) site.members cell x → standing_row (setting_of first site) names cell x ≡ old_setting.root cell
       by None h = refl
@@ -260,7 +277,8 @@ module _ (first : Office) (site : Site) (mergeable : AreMergeable first site) (n
           let (k, e) = position_of site.members name (sym (has_is site.members name) ∙ h.0) in
           absurd (idle_or_changed old_setting k cell row idle (changes_at first site k name cell row e changed.after))
 
-  merged_root : (name : Name) (cell : CellId) (row : Option Row) → is_member site name ≡ true → has names name ≡ true → changed_by first name cell ≡ Some row → rows_with first site names cell ≡ row
+  merged_root : (name : Name) (cell : CellId) (row : Option Row) → is_member site name ≡ true → has names name ≡ true → changed_by first name cell ≡ Some row
+      → rows_with first site names cell ≡ row
   merged_root name cell row member h e =
       order_law first site names (name ∷ names) mergeable inv.part (again first site mergeable names now inv name member h) cell
       ∙ taken_over (setting_of first site) name names cell ∙ ap (λ r. unwrap_or r (rows_with first site names cell)) e
@@ -312,9 +330,11 @@ all_clear o site entries covers holds = record {
 }
 
 pub lasting_cover : LastingCoverLaw
-lasting_cover o site entries commands lost covers quiet = standing_covered o site covers.mergeable _ _ (quiet_list_law o site commands lost covers.mergeable quiet) entries covers
+lasting_cover o site entries commands lost covers quiet = standing_covered o site covers.mergeable _ _ (quiet_list_law o site commands lost covers.mergeable
+    quiet) entries covers
 
-pub lasting_holds : (o : Office) (site : Site) (entries : List Entry) (commands : List Command) (lost : ℕ → Bool) → Covers o site entries → RootHolds o site → AreQuiet o site commands lost
+pub lasting_holds : (o : Office) (site : Site) (entries : List Entry) (commands : List Command) (lost : ℕ → Bool) → Covers o site entries → RootHolds o site
+    → AreQuiet o site commands lost
     → let now = (run o commands lost).office in RootHolds now (standing now site)
 lasting_holds o site entries commands lost covers holds quiet =
     standing_holds o site covers.mergeable _ _ (quiet_list_law o site commands lost covers.mergeable quiet) (keeps_rules o site entries covers holds)

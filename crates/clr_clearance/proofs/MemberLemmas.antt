@@ -73,12 +73,14 @@ module _ (first : Office) (site : Site) (mergeable : AreMergeable first site) (n
           ∙ ap (unwrap_or (cond (has names name) None (changed_by first name cell))) (inv.rows cell)
           ∙ by (has names name) refl
         where
-          by : (b : Bool) → has names name ≡ b → unwrap_or (cond b None (changed_by first name cell)) (rows_with first site names cell) ≡ rows_with first site (name ∷ names) cell
+          by : (b : Bool) → has names name ≡ b → unwrap_or (cond b None (changed_by first name cell)) (rows_with first site names cell)
+              ≡ rows_with first site (name ∷ names) cell
           by true merged = order_law first site names (name ∷ names) mergeable inv.part (again merged) cell
           by false waits = sym (taken_cons (setting_of first site) name names cell)
 
       -- where another member changes a cell, this one doesn't
-      pub merged_elsewhere : (other : Name) (cell : CellId) → is_member site other ≡ true → same_name name other ≡ false → is_some (changed_by first other cell) ≡ true
+      pub merged_elsewhere : (other : Name) (cell : CellId) → is_member site other ≡ true → same_name name other ≡ false → is_some (changed_by first other cell)
+          ≡ true
           → row_at (merged_content now w) cell ≡ row_at (root_content now site) cell
       merged_elsewhere other cell member_too apart changes =
           merged_at cell ∙ ap (λ r. unwrap_or r (row_at (root_content now site) cell)) (it.changes cell ∙ by (has names name) (changed_by first name cell) refl)
@@ -105,7 +107,8 @@ module _ (first : Office) (site : Site) (mergeable : AreMergeable first site) (n
     elsewhere : (other : Name) (cell : CellId) → is_member site other ≡ true → same_name name other ≡ false → is_some (changed_by first other cell) ≡ true
         → row_at content cell ≡ row_at (root_content now site) cell
 
-  lasts : (name : Name) (more : List Name) (next : Office) (content : Content) (left : Option Member) → IsMemberStep name more next content left → Invariant first site more next
+  lasts : (name : Name) (more : List Name) (next : Office) (content : Content) (left : Option Member) → IsMemberStep name more next content left
+      → Invariant first site more next
   lasts name more next content left step = record {
     book = step.book ∙ inv.book;
     kept = step.steps.kept;
@@ -114,14 +117,16 @@ module _ (first : Office) (site : Site) (mergeable : AreMergeable first site) (n
     members = λ other m member e. each other m member e (same_name name other) refl;
   }
     where
-      waits : (other : Name) (m : Member) (cell : CellId) → IsMemberNow first site names now other m → is_changed m.base m.current cell ≡ true → is_some (changed_by first other cell) ≡ true
+      waits : (other : Name) (m : Member) (cell : CellId) → IsMemberNow first site names now other m → is_changed m.base m.current cell ≡ true
+          → is_some (changed_by first other cell) ≡ true
       waits other m cell old changed = by (has names other) (sym (ap is_some (old.changes cell)) ∙ some_is_changed m.base m.current cell ∙ changed)
         where
           by : (b : Bool) → is_some (cond b None (changed_by first other cell)) ≡ true → is_some (changed_by first other cell) ≡ true
           by true h = absurd (false≢true h)
           by false h = h
 
-      each : (other : Name) (m : Member) → is_member site other ≡ true → shown next other ≡ Some m → (b : Bool) → same_name name other ≡ b → IsMemberNow first site more next other m
+      each : (other : Name) (m : Member) → is_member site other ≡ true → shown next other ≡ Some m → (b : Bool) → same_name name other ≡ b
+          → IsMemberNow first site more next other m
       each other m member e true p =
           let same = same_is name other p in
           subst (λ k. IsMemberNow first site more next k m) same (step.here m (sym step.steps.here ∙ ap (shown next) same ∙ e))
@@ -130,7 +135,8 @@ module _ (first : Office) (site : Site) (mergeable : AreMergeable first site) (n
           record {
             under = old.under;
             changes = λ cell. old.changes cell ∙ ap (λ b. cond b None (changed_by first other cell)) (sym (step.grown other p));
-            agrees = λ cell changed. ap (λ c. row_at c cell) step.steps.root ∙ step.elsewhere other cell member p (waits other m cell old changed) ∙ old.agrees cell changed;
+            agrees = λ cell changed. ap (λ c. row_at c cell) step.steps.root ∙ step.elsewhere other cell member p (waits other m cell old changed)
+                ∙ old.agrees cell changed;
           }
 
   module _ (w : Workspace) (member : is_member site w.name ≡ true) (is : workspace now w.name ≡ Some w) where
@@ -169,16 +175,19 @@ module _ (first : Office) (site : Site) (mergeable : AreMergeable first site) (n
     })
 
     pub merge_lasts : (after_merge now w).book ≡ now.book → Invariant first site more (after_merge now w)
-    merge_lasts book = merge_lasts_with (after_merge now w) _ (merge_steps site now w inv.kept is (not_root w.name member) here_is.under) book (λ m e. some_is _ m e)
+    merge_lasts book = merge_lasts_with (after_merge now w) _ (merge_steps site now w inv.kept is (not_root w.name member) here_is.under) book
+        (λ m e. some_is _ m e)
 
     pub remove_lasts : (after_remove (after_merge now w) w).book ≡ now.book → Invariant first site more (after_remove (after_merge now w) w)
-    remove_lasts book = merge_lasts_with (after_remove (after_merge now w) w) _ (remove_steps site now w inv.kept is (not_root w.name member) here_is.under) book (λ m e. absurd (none_is m e))
+    remove_lasts book = merge_lasts_with (after_remove (after_merge now w) w) _ (remove_steps site now w inv.kept is (not_root w.name member) here_is.under)
+        book (λ m e. absurd (none_is m e))
 
     free : conflict_with (content_of now w.parent) w ≡ None
     unfolding conflict
     free = no_conflict_now w.name member w is
 
-    refreshed_now : (next : Office) (m : Member) → root_content next site ≡ root_content now site → member_refreshed (content_of now w.parent) (member_of w) ≡ m → IsMemberNow first site names next w.name m
+    refreshed_now : (next : Office) (m : Member) → root_content next site ≡ root_content now site → member_refreshed (content_of now w.parent) (member_of w) ≡ m
+        → IsMemberNow first site names next w.name m
     refreshed_now next m root e = subst (IsMemberNow first site names next w.name) e (record {
       under = here_is.under;
       changes = λ cell. refresh_law (content_of now w.parent) w free cell ∙ here_is.changes cell;

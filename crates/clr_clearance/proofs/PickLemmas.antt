@@ -16,7 +16,14 @@ use Rattle.clr_clearance.specs.Plans.{ArePicked}
 module _ (c : Setting ℕ) (n : Need) (a : Lived ℕ) (b : Option (Lived ℕ)) where
   -- witnesses of one member, before and after its merge
   opposed_pair : (x : ℕ) (v w : VersionId) → ServesAs c n a b (Without x) v → ServesAs c n a b (With x) w → CoverTogether c n a b v w
-  opposed_pair x v w old new = (old.0, new.0, old.1, new.1, subst (λ l. AreOpposed old.0.life l) (sym new.2) (subst (λ l. AreOpposed l (With x)) (sym old.2) refl))
+  opposed_pair x v w old new = (
+    old.0,
+    new.0,
+    old.1,
+    new.1,
+    subst (λ l. AreOpposed old.0.life l) (sym new.2)
+        (subst (λ l. AreOpposed l (With x)) (sym old.2) refl),
+  )
 
   pub pick_covers : (v : VersionId) (w : Option VersionId) → IsPick c n a b (Some (v, w)) → WitnessesCover c n a b v w
   pick_covers v None pick = pick.0
@@ -62,7 +69,8 @@ module _ (c : Setting ℕ) where
   among_has (y ∷ ys) x (inl e) = or_left (c.same y x) (has c.same ys x) ((c.decides y x).1 e)
   among_has (y ∷ ys) x (inr h) = or_right (c.same y x) (has c.same ys x) (among_has ys x h)
 
-  pub blockers_are : (n : Need) (a : Lived ℕ) (b : Option (Lived ℕ)) (list : List ℕ) → IsPossible c n a b → Lists nat_cmp (IsBlocker c n a b) list → AreBlockers c n a b list
+  pub blockers_are : (n : Need) (a : Lived ℕ) (b : Option (Lived ℕ)) (list : List ℕ) → IsPossible c n a b → Lists nat_cmp (IsBlocker c n a b) list
+      → AreBlockers c n a b list
   blockers_are n a b list possible lists = record {
     part = λ x h. blocker_is_member c n a b possible x ((lists.exactly x).0 (contained x list (has_among list x h)));
     only = λ x h. (lists.exactly x).0 (contained x list (has_among list x h));
@@ -71,9 +79,14 @@ module _ (c : Setting ℕ) where
 
   -- picked entries cover ------------------------------------------------------------------------------------
 
-  entry_among : (n : Need) (a : Lived ℕ) (b : Option (Lived ℕ)) (entries : List Entry) (e : Entry) → Among e entries → e.0 ≡ n → WitnessesCover c n a b e.1 e.2 → HasEntry c n a b entries
+  entry_among : (n : Need) (a : Lived ℕ) (b : Option (Lived ℕ)) (entries : List Entry) (e : Entry) → Among e entries → e.0 ≡ n → WitnessesCover c n a b e.1 e.2
+      → HasEntry c n a b entries
   entry_among n a b [] e there same covers = absurd there
-  entry_among n a b (f ∷ fs) e (inl one) same covers = inl (ap (λ (x : Entry). x.0) one ∙ same, subst (λ (x : Entry). WitnessesCover c n a b x.1 x.2) (sym one) covers)
+  entry_among n a b (f ∷ fs) e (inl one) same covers = inl (
+    ap (λ (x : Entry). x.0) one
+        ∙ same,
+    subst (λ (x : Entry). WitnessesCover c n a b x.1 x.2) (sym one) covers,
+  )
   entry_among n a b (f ∷ fs) e (inr more) same covers = inr (entry_among n a b fs e more same covers)
 
   pub picked_cover : (entries : List Entry) → ArePicked c entries → AreCovered c entries

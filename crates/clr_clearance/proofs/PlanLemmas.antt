@@ -29,9 +29,12 @@ pub cleared_safe : ClearedIsSafeLaw
 cleared_safe o site entries cleared holds = safe_law o site entries (cleared_plan o site entries cleared) holds
 
 pub blocked_plan : BlockedPlanLaw
-blocked_plan o site order cause (of_conflict at cell count none found same e) holds = ap (λ positions. is_refused o (names_at site positions)) same ∙ conflict_is_refused o site at cell count found
-blocked_plan o site order cause (of_shared cell i j none shared same e) holds = ap (λ positions. is_refused o (names_at site positions)) same ∙ shared_is_refused o site cell i j none shared
-blocked_plan o site order cause (of_unpicked n none apart first blocks e) holds = unpicked_is_refused o site n order (mergeable_of o site none apart) holds first.touched first.none blocks
+blocked_plan o site order cause (of_conflict at cell count none found same e) holds = ap (λ positions. is_refused o (names_at site positions)) same
+    ∙ conflict_is_refused o site at cell count found
+blocked_plan o site order cause (of_shared cell i j none shared same e) holds = ap (λ positions. is_refused o (names_at site positions)) same
+    ∙ shared_is_refused o site cell i j none shared
+blocked_plan o site order cause (of_unpicked n none apart first blocks e) holds = unpicked_is_refused o site n order (mergeable_of o site none apart) holds
+    first.touched first.none blocks
 
 -- merges of members, one after another -------------------------------------------------------------------------
 
@@ -51,7 +54,8 @@ one_more o (m ∷ ms) n = one_more (step o (merge_of m)).office ms n
 head_member : (site : Site) (o : Office) (n : Name) (ns : List Name) → AreAmong (setting_of o site) (n ∷ ns) site.members → is_member site n ≡ true
 head_member site o n ns part = sym (has_is site.members n) ∙ part n (or_left (same_name n n) (has_by same_name ns n) (same_itself n))
 
-tail_part : (site : Site) (o : Office) (n : Name) (ns : List Name) → AreAmong (setting_of o site) (n ∷ ns) site.members → AreAmong (setting_of o site) ns site.members
+tail_part : (site : Site) (o : Office) (n : Name) (ns : List Name) → AreAmong (setting_of o site) (n ∷ ns) site.members
+    → AreAmong (setting_of o site) ns site.members
 tail_part site o n ns part k h = part k (or_right (same_name n k) (has_by same_name ns k) h)
 
 AreMembers : Site → List Name → Type 0
@@ -63,10 +67,12 @@ merges_quiet o site names members at c e = by (slice_get names at) refl (sym (sl
   where
     by : (r : Option Name) → slice_get names at ≡ r → option_map merge_of r ≡ Some c → is_quiet (office_before o (merges names) none_lost at) site c ≡ true
     by None f d = absurd (cc)
-    by (Some n) f d = let one : merge_of n ≡ c = cc in ap (is_quiet (office_before o (merges names) none_lost at) site) (sym one) ∙ or_left (is_member site n) _ (members n (has_at names at n f))
+    by (Some n) f d = let one : merge_of n ≡ c = cc in ap (is_quiet (office_before o (merges names) none_lost at) site) (sym one)
+        ∙ or_left (is_member site n) _ (members n (has_at names at n f))
 
 -- no order of merges of members of a safe site is refused, also where some are merged already
-safe_calm : (o : Office) (site : Site) (ns before : List Name) → Safe o site → AreMembers site before → AreMembers site ns → is_refused (after_merges o before) ns ≡ false
+safe_calm : (o : Office) (site : Site) (ns before : List Name) → Safe o site → AreMembers site before → AreMembers site ns
+    → is_refused (after_merges o before) ns ≡ false
 unfolding AreMembers
 safe_calm o site [] before safe done members = refl
 safe_calm o site (n ∷ ns) before safe done members =
@@ -74,7 +80,8 @@ safe_calm o site (n ∷ ns) before safe done members =
     let member = members n (or_left (same_name n n) (has ns n) (same_itself n)) in
     let first = ((safe (merges before) none_lost (merges_quiet o site before done)).answers (merge_of n) member).no_clash in
     let rest = safe_calm o site ns (before ++ n ∷ []) safe (with_last member) (λ k h. members k (or_right (same_name n k) (has ns k) h)) in
-    neither (is_clash (step now (merge_of n)).reply) (is_refused (step now (merge_of n)).office ns) first (ap (λ p. is_refused p ns) (sym (one_more o before n)) ∙ rest)
+    neither (is_clash (step now (merge_of n)).reply) (is_refused (step now (merge_of n)).office ns) first (ap (λ p. is_refused p ns) (sym (one_more o before n))
+    ∙ rest)
   where
     with_last : is_member site n ≡ true → (k : Name) → has (before ++ n ∷ []) k ≡ true → is_member site k ≡ true
     with_last member k h = elim (or_cases (has before k) (same_name n k) (sym (has_last before n k) ∙ h)) [
@@ -84,7 +91,8 @@ safe_calm o site (n ∷ ns) before safe done members =
 
 pub safe_order : SafeOrderLaw
 unfolding AreMembers
-safe_order o site names safe part = safe_calm o site names [] safe (λ k h. absurd (false≢true h)) (λ k h. sym (has_is site.members k) ∙ part k (has_is names k ∙ h))
+safe_order o site names safe part = safe_calm o site names [] safe (λ k h. absurd (false≢true h)) (λ k h. sym (has_is site.members k)
+    ∙ part k (has_is names k ∙ h))
 
 pub safe_plan : SafePlanLaw
 safe_plan o site order cause safe holds blocked =

@@ -55,7 +55,8 @@ pub data IsMerged (o : Office) (name : Name) (w : Workspace) : Type 0 where
   clashes : is_clash (step o (merge_of name)).reply ≡ true → IsMerged o name w
   merged : conflict o w ≡ None → breaks o w.parent (merged_content o w) ≡ None → step o (merge_of name) ≡ answer Done (after_merge o w) → IsMerged o name w
 
-refusal_at : (o : Office) (name : Name) (w : Workspace) → workspace o name ≡ Some w → refusal o (merge_of name) ≡ first_of (conflict o w ∷ breaks o w.parent (merged_content o w) ∷ [])
+refusal_at : (o : Office) (name : Name) (w : Workspace) → workspace o name ≡ Some w → refusal o (merge_of name)
+    ≡ first_of (conflict o w ∷ breaks o w.parent (merged_content o w) ∷ [])
 unfolding refusal refusals_of
 refusal_at o name w e = of_standing o (merge_of name) w e
 
@@ -70,8 +71,10 @@ conflict_or_none o w = by (least_and_count (conflicts (content_of o w.parent) (o
 clash_of : (o : Office) (c : Command) (reply : Reply) → refusal o c ≡ Some reply → is_clash reply ≡ true → is_clash (step o c).reply ≡ true
 clash_of o c reply e h = ap (λ (a : Answer). is_clash a.reply) (step_as o c (Some reply) e) ∙ h
 
-pub merge_clashes : (o : Office) (name : Name) (w : Workspace) (c : CellId × ℕ) → workspace o name ≡ Some w → conflict o w ≡ Some (in_conflict c) → is_clash (step o (merge_of name)).reply ≡ true
-merge_clashes o name w c e h = clash_of o (merge_of name) (in_conflict c) (refusal_at o name w e ∙ ap (λ r. first_of (r ∷ breaks o w.parent (merged_content o w) ∷ [])) h) refl
+pub merge_clashes : (o : Office) (name : Name) (w : Workspace) (c : CellId × ℕ) → workspace o name ≡ Some w → conflict o w ≡ Some (in_conflict c)
+    → is_clash (step o (merge_of name)).reply ≡ true
+merge_clashes o name w c e h = clash_of o (merge_of name) (in_conflict c) (refusal_at o name w e
+    ∙ ap (λ r. first_of (r ∷ breaks o w.parent (merged_content o w) ∷ [])) h) refl
 
 pub merge_ends : (o : Office) (name : Name) (w : Workspace) → workspace o name ≡ Some w → IsMerged o name w
 unfolding effect
@@ -79,7 +82,8 @@ merge_ends o name w e = elim (conflict_or_none o w) [
   | inr (c, h) ↦ clashes (merge_clashes o name w c e h)
   | inl free ↦ (let is = refusal_at o name w e ∙ ap (λ r. first_of (r ∷ breaks o w.parent (merged_content o w) ∷ [])) free in
       elim (broken_or_none o w.parent (merged_content o w)) [
-        | inl none ↦ merged free none (performed_as o (merge_of name) (λ v. cond false (after_remove (after_merge o v) v) (after_merge o v)) w e refl (is ∙ ap (λ r. first_of (r ∷ [])) none))
+        | inl none ↦ merged free none (performed_as o (merge_of name) (λ v. cond false (after_remove (after_merge o v) v) (after_merge o v)) w e refl (is
+            ∙ ap (λ r. first_of (r ∷ [])) none))
         | inr (need, broken) ↦ clashes (clash_of o (merge_of name) (RuleBroken need) (is ∙ ap (λ r. first_of (r ∷ [])) broken) refl)
       ])
 ]
@@ -103,7 +107,8 @@ module _ (first : Office) (site : Site) (mergeable : AreMergeable first site) wh
     unfolding is_root
     kept_above w under = ap (is_kept now) (same_name_is w.parent site.root under) ∙ inv.kept
 
-    stands_still : (w : Workspace) (m : Member) → StepsTo site now (after_merge now w) w.name (merged_content now w) (Some m) → AllStand now → AllStand (after_merge now w)
+    stands_still : (w : Workspace) (m : Member) → StepsTo site now (after_merge now w) w.name (merged_content now w) (Some m) → AllStand now
+        → AllStand (after_merge now w)
     stands_still w m steps stand other h = by (same_name w.name other) refl
       where
         by : (b : Bool) → same_name w.name other ≡ b → is_some (shown (after_merge now w) other) ≡ true
@@ -119,7 +124,8 @@ module _ (first : Office) (site : Site) (mergeable : AreMergeable first site) wh
     next_is : (w : Workspace) → workspace now name ≡ Some w → is_clash (step now (merge_of name)).reply ≡ false → IsNext (step now (merge_of name)).office
     next_is w e calm = by (merge_ends now name w e)
       where
-        last : step now (merge_of name) ≡ answer Done (after_merge now w) → names ++ merged_by site (merge_of name) (step now (merge_of name)).reply ≡ names ++ name ∷ []
+        last : step now (merge_of name) ≡ answer Done (after_merge now w) → names ++ merged_by site (merge_of name) (step now (merge_of name)).reply ≡ names
+            ++ name ∷ []
         last is = ap (λ (a : Answer). names ++ merged_by site (merge_of name) a.reply) is ∙ ap (λ b. names ++ cond b (name ∷ []) []) member
 
         by : IsMerged now name w → IsNext (step now (merge_of name)).office
@@ -133,14 +139,17 @@ module _ (first : Office) (site : Site) (mergeable : AreMergeable first site) wh
             let office : (step now (merge_of name)).office ≡ after_merge now w = ap (λ (a : Answer). a.office) is in
             let good : Holds now.book (row_at (merged_content now w)) = unbroken_holds now w.parent (merged_content now w) (kept_above w under) none in
             record {
-              lasts = subst (λ ns. Invariant first site ns (step now (merge_of name)).office) (last is) (merge_claim first site names now name false mergeable inv member).0;
+              lasts = subst (λ ns. Invariant first site ns (step now (merge_of name)).office) (last is) (merge_claim first site names now name false mergeable
+                  inv member).0;
               stand = λ stand other h. ap (λ p. is_some (shown p other)) office ∙ stands_still w _ steps stand other h;
-              holds = subst (Holds first.book) (λ i cell. (merged_rows first site mergeable names now inv name member w e cell ∙ rows_last first site mergeable names now inv name member cell) i)
+              holds = subst (Holds first.book) (λ i cell. (merged_rows first site mergeable names now inv name member w e cell
+                  ∙ rows_last first site mergeable names now inv name member cell) i)
                   (subst (λ b. Holds b (row_at (merged_content now w))) inv.book good);
             }
 
   -- where none clashes, every rule holds with the changes of all of them
-  all_done : (ns names : List Name) (now : Office) → Invariant first site names now → AllStand now → AreAmong (setting_of first site) ns site.members → is_refused now ns ≡ false
+  all_done : (ns names : List Name) (now : Office) → Invariant first site names now → AllStand now → AreAmong (setting_of first site) ns site.members
+      → is_refused now ns ≡ false
       → Holds first.book (rows_with first site names) → Holds first.book (rows_with first site (names ++ ns))
   all_done [] names now inv stand part calm holds = subst (λ ms. Holds first.book (rows_with first site ms)) (sym (append-nil names)) holds
   all_done (n ∷ ns) names now inv stand part calm holds =
@@ -149,13 +158,16 @@ module _ (first : Office) (site : Site) (mergeable : AreMergeable first site) wh
       let (w, e) = stands_as (workspace now n) (stand n member) in
       let next = next_is names now inv n member w e both.0 in
       subst (λ ms. Holds first.book (rows_with first site ms)) (append_assoc names (n ∷ []) ns)
-      (all_done ns (names ++ n ∷ []) (step now (merge_of n)).office next.lasts (next.stand stand) (λ k h. part k (or_right (same_name n k) (has_by same_name ns k) h)) both.1 next.holds)
+      (all_done ns (names ++ n ∷ []) (step now (merge_of n)).office next.lasts (next.stand stand)
+      (λ k h. part k (or_right (same_name n k) (has_by same_name ns k) h)) both.1 next.holds)
 
   -- an order of merges that break a rule is refused
-  pub breaking_is_refused : (names : List Name) → AreAmong (setting_of first site) names site.members → RootHolds first site → ¬ (Holds first.book (rows_with first site names)) → is_refused first names ≡ true
+  pub breaking_is_refused : (names : List Name) → AreAmong (setting_of first site) names site.members → RootHolds first site
+      → ¬ (Holds first.book (rows_with first site names)) → is_refused first names ≡ true
   breaking_is_refused names part holds breaking = elim (cases_Bool (is_refused first names)) [
     | inl refused ↦ refused
-    | inr calm ↦ absurd (breaking (all_done names [] first (at_first first site mergeable) all_stand part calm (subst (Holds first.book) (λ i cell. sym (root_is (setting_of first site) cell) i) holds)))
+    | inr calm ↦ absurd (breaking (all_done names [] first (at_first first site mergeable) all_stand part calm
+        (subst (Holds first.book) (λ i cell. sym (root_is (setting_of first site) cell) i) holds)))
   ]
     where
       all_stand : AllStand first
@@ -168,7 +180,8 @@ module _ (o : Office) (site : Site) where
   names_part [] name h = absurd (false≢true h)
   names_part (k ∷ ks) name h = by (slice_get site.members k) refl h (names_part ks name)
     where
-      by : (r : Option Name) → slice_get site.members k ≡ r → has_by same_name (cons_option r (names_at site ks)) name ≡ true → (has_by same_name (names_at site ks) name ≡ true → has_by same_name site.members name ≡ true) → has_by same_name site.members name ≡ true
+      by : (r : Option Name) → slice_get site.members k ≡ r → has_by same_name (cons_option r (names_at site ks)) name ≡ true
+          → (has_by same_name (names_at site ks) name ≡ true → has_by same_name site.members name ≡ true) → has_by same_name site.members name ≡ true
       by None e h more = more h
       by (Some n) e h more = elim (or_cases (same_name n name) (has_by same_name (names_at site ks) name) h) [
         | inl same ↦ ap (has_by same_name site.members) (sym (same_name_is n name same)) ∙ member_there o site site.members k n e
@@ -180,14 +193,16 @@ module _ (o : Office) (site : Site) where
   rows_at (k ∷ ks) cell = taken_cons (by_position (setting_of o site)) k ks cell ∙ by (slice_get site.members k) (rows_at ks cell)
     where
       by : (r : Option Name) → view_with (by_position (setting_of o site)) ks cell ≡ rows_with o site (names_at site ks) cell
-          → unwrap_or (after_member (setting_of o site) r cell) (view_with (by_position (setting_of o site)) ks cell) ≡ rows_with o site (cons_option r (names_at site ks)) cell
+          → unwrap_or (after_member (setting_of o site) r cell) (view_with (by_position (setting_of o site)) ks cell)
+          ≡ rows_with o site (cons_option r (names_at site ks)) cell
       by None more = more
       by (Some n) more = ap (unwrap_or ((setting_of o site).after n cell)) more ∙ sym (taken_cons (setting_of o site) n (names_at site ks) cell)
 
 -- a need that nothing covers ------------------------------------------------------------------------------------
 
 pub unpicked_is_refused : UnpickedLaw
-unpicked_is_refused o site n order mergeable holds needed none blocks = breaking_is_refused o site mergeable (names_at site order) (names_part o site order) holds breaking
+unpicked_is_refused o site n order mergeable holds needed none blocks = breaking_is_refused o site mergeable (names_at site order) (names_part o site order)
+    holds breaking
   where
     breaking : Holds o.book (rows_with o site (names_at site order)) → ⊥
     breaking good =
@@ -207,31 +222,45 @@ record IsInConflict (o : Office) (names : List Name) (at : ℕ) (cell : CellId) 
   is_at : slice_get names at ≡ Some name
   conflicts_are : least_and_count (conflicts_in o name) ≡ Some (cell, count)
 
-in_conflict_at : (o : Office) (from : ℕ) (names : List Name) (at : ℕ) (cell : CellId) (count : ℕ) → first_conflict o from names ≡ Some (verdict.Conflict at cell count)
+in_conflict_at : (o : Office) (from : ℕ) (names : List Name) (at : ℕ) (cell : CellId) (count : ℕ) → first_conflict o from names
+    ≡ Some (verdict.Conflict at cell count)
     → (j : ℕ) × (at ≡ from + j) × IsInConflict o names j cell count
 unfolding first_conflict
 in_conflict_at o from [] at cell count e = absurd (cc)
 in_conflict_at o from (n ∷ ns) at cell count e = by (least_and_count (conflicts_in o n)) refl e (in_conflict_at o (suc from) ns at cell count)
   where
-    by : (r : Option (CellId × ℕ)) → least_and_count (conflicts_in o n) ≡ r → option_or (option_map (λ (c : CellId × ℕ). verdict.Conflict from c.0 c.1) r) (first_conflict o (suc from) ns) ≡ Some (verdict.Conflict at cell count)
+    by : (r : Option (CellId × ℕ)) → least_and_count (conflicts_in o n) ≡ r → option_or (option_map (λ (c : CellId × ℕ). verdict.Conflict from c.0 c.1) r)
+        (first_conflict o (suc from) ns) ≡ Some (verdict.Conflict at cell count)
         → (first_conflict o (suc from) ns ≡ Some (verdict.Conflict at cell count) → (j : ℕ) × (at ≡ suc from + j) × IsInConflict o ns j cell count)
         → (j : ℕ) × (at ≡ from + j) × IsInConflict o (n ∷ ns) j cell count
-    by None f d more = let (j, same, rest) = more d in (suc j, omega (arith, same), record { name = rest.name; is_at = rest.is_at; conflicts_are = rest.conflicts_are })
+    by None f d more = let (j, same, rest) = more d in (
+      suc j,
+      omega (arith, same),
+      record {
+        name = rest.name;
+        is_at = rest.is_at;
+        conflicts_are =
+            rest.conflicts_are;
+      },
+    )
     by (Some c) f d more =
         let one : from ≡ at = cc in
         let two : c.0 ≡ cell = cc in
         let three : c.1 ≡ count = cc in
         (0, omega (arith, one), record { name = n; is_at = refl; conflicts_are = f ∙ (λ i. Some (two i, three i)) })
 
-pub conflict_is_refused : (o : Office) (site : Site) (at : ℕ) (cell : CellId) (count : ℕ) → first_conflict o 0 site.members ≡ Some (verdict.Conflict at cell count) → is_refused o (names_at site (at ∷ [])) ≡ true
+pub conflict_is_refused : (o : Office) (site : Site) (at : ℕ) (cell : CellId) (count : ℕ) → first_conflict o 0 site.members
+    ≡ Some (verdict.Conflict at cell count) → is_refused o (names_at site (at ∷ [])) ≡ true
 unfolding conflict
 conflict_is_refused o site at cell count e =
     let (j, same, found) = in_conflict_at o 0 site.members at cell count e in
     let here : slice_get site.members at ≡ Some found.name = (let one : at ≡ j = omega (arith, same) in ap (slice_get site.members) one ∙ found.is_at) in
     ap (λ r. is_refused o (cons_option r [])) here ∙ by found.name (workspace o found.name) refl found.conflicts_are
   where
-    by : (name : Name) (r : Option Workspace) → workspace o name ≡ r → least_and_count (conflicts_in o name) ≡ Some (cell, count) → is_refused o (name ∷ []) ≡ true
+    by : (name : Name) (r : Option Workspace) → workspace o name ≡ r → least_and_count (conflicts_in o name) ≡ Some (cell, count) → is_refused o (name ∷ [])
+        ≡ true
     by name None e h = let none : least_and_count (conflicts_in o name) ≡ None = ap (λ r. least_and_count (option_map_or (λ (w : Workspace). conflicts (content_of o w.parent) (own_changes w)) r [])) e in absurd (cc)
     by name (Some w) e h =
         let list : conflicts_in o name ≡ conflicts (content_of o w.parent) (own_changes w) = ap (λ r. option_map_or (λ (v : Workspace). conflicts (content_of o v.parent) (own_changes v)) r []) e in
-        or_left _ false (merge_clashes o name w (cell, count) e (ap (λ cells. option_map in_conflict (least_and_count cells)) (sym list) ∙ ap (option_map in_conflict) h))
+        or_left _ false (merge_clashes o name w (cell, count) e (ap (λ cells. option_map in_conflict (least_and_count cells)) (sym list)
+        ∙ ap (option_map in_conflict) h))

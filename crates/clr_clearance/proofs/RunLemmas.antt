@@ -8,7 +8,11 @@ use Rattle.clr_clearance.proofs.SafeLemmas.{safe_law}
 use Rattle.clr_clearance.proofs.StaticLemmas.{static_law}
 
 pub clear_is_safe : ClearIsSafeLaw
-clear_is_safe o site entries clear holds = let covers = clear_covers o site entries clear in (static_law o site entries covers holds, safe_law o site entries covers holds)
+clear_is_safe o site entries clear holds = let covers = clear_covers o site entries clear in (
+  static_law o site entries covers holds,
+  safe_law o site entries
+      covers holds,
+)
 
 pub cleared_run : ClearedRunLaw
 cleared_run o site entries commands replies left stopped clear holds start =

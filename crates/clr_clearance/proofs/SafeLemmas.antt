@@ -42,7 +42,8 @@ at_first first site mergeable = record {
 }
 
 -- what no merge or refresh of a member leaves
-others_last : (first : Office) (site : Site) (names : List Name) (now : Office) (c : Command) → Invariant first site names now → is_quiet now site c ≡ true → is_of_member site c ≡ false → Invariant first site names (step now c).office
+others_last : (first : Office) (site : Site) (names : List Name) (now : Office) (c : Command) → Invariant first site names now → is_quiet now site c ≡ true
+    → is_of_member site c ≡ false → Invariant first site names (step now c).office
 others_last first site names now c inv quiet plain =
     let left = quiet_law site now c inv.kept quiet plain in
     record {
@@ -51,7 +52,12 @@ others_last first site names now c inv quiet plain =
       part = inv.part;
       rows = λ cell. ap (λ content. row_at content cell) left.root ∙ inv.rows cell;
       members = λ name m member e. (let old = inv.members name m member (sym (left.members name member) ∙ e) in
-          record { under = old.under; changes = old.changes; agrees = λ cell changed. ap (λ content. row_at content cell) left.root ∙ old.agrees cell changed });
+          record {
+            under = old.under;
+            changes = old.changes;
+            agrees = λ cell changed. ap (λ content. row_at content cell) left.root
+                ∙ old.agrees cell changed;
+          });
     }
 
 merged_by-lost : (site : Site) (c : Command) → merged_by site c OutOfMemory ≡ []
@@ -67,7 +73,8 @@ module _ (first : Office) (site : Site) (mergeable : AreMergeable first site) wh
   no_more : (names more : List Name) (next : Office) → more ≡ [] → Invariant first site names next → Invariant first site (names ++ more) next
   no_more names more next e inv = subst (λ ns. Invariant first site ns next) (sym (ap (λ ns. names ++ ns) e ∙ append-nil names)) inv
 
-  pub step_lasts : (names : List Name) (now : Office) (c : Command) → Invariant first site names now → is_quiet now site c ≡ true → let a = step now c in Invariant first site (names ++ merged_by site c a.reply) a.office
+  pub step_lasts : (names : List Name) (now : Office) (c : Command) → Invariant first site names now → is_quiet now site c ≡ true
+      → let a = step now c in Invariant first site (names ++ merged_by site c a.reply) a.office
   step_lasts names now c inv quiet = elim (cases_Bool (is_of_member site c)) [
     | inl member ↦ of_member c member
     | inr plain ↦ no_more names _ (step now c).office (merged_by-other site c (step now c).reply plain) (others_last first site names now c inv quiet plain)
@@ -75,10 +82,12 @@ module _ (first : Office) (site : Site) (mergeable : AreMergeable first site) wh
     where
       of_member : (c : Command) → is_of_member site c ≡ true → let a = step now c in Invariant first site (names ++ merged_by site c a.reply) a.office
       of_member (command.Merge name remove) member = (merge_claim first site names now name remove mergeable inv member).0
-      of_member (command.Refresh name) member = no_more names [] (step now (command.Refresh name)).office refl (refresh_claim first site names now name mergeable inv member).0
+      of_member (command.Refresh name) member = no_more names [] (step now (command.Refresh name)).office refl
+          (refresh_claim first site names now name mergeable inv member).0
       of_member _ member = absurd (false≢true member)
 
-  pub answer_lasts : (lost : Bool) (names : List Name) (now : Office) (c : Command) → Invariant first site names now → is_quiet now site c ≡ true → let a = step_or_lost lost now c in Invariant first site (names ++ merged_by site c a.reply) a.office
+  pub answer_lasts : (lost : Bool) (names : List Name) (now : Office) (c : Command) → Invariant first site names now → is_quiet now site c ≡ true
+      → let a = step_or_lost lost now c in Invariant first site (names ++ merged_by site c a.reply) a.office
   answer_lasts true names now c inv quiet = no_more names _ now (merged_by-lost site c) inv
   answer_lasts false names now c inv quiet = step_lasts names now c inv quiet
 
@@ -90,13 +99,15 @@ module _ (first : Office) (site : Site) (mergeable : AreMergeable first site) wh
       let a = step_or_lost (lost 0) now c in
       let done = run a.office cs (λ k. lost (k + 1)) in
       subst (λ ns. Invariant first site ns done.office) (append_assoc names (merged_by site c a.reply) (merged_in site cs done.replies))
-      (list_lasts cs (λ k. lost (k + 1)) (names ++ merged_by site c a.reply) a.office (answer_lasts (lost 0) names now c inv (quiet 0 c refl)) (λ at d e. quiet (suc at) d e))
+      (list_lasts cs (λ k. lost (k + 1)) (names ++ merged_by site c a.reply) a.office (answer_lasts (lost 0) names now c inv (quiet 0 c refl))
+      (λ at d e. quiet (suc at) d e))
 
 pub quiet_list_law : QuietListLaw
 quiet_list_law o site commands lost mergeable quiet = list_lasts o site mergeable commands lost [] o (at_first o site mergeable) quiet
 
 -- what an office that keeps the invariant promises
-pub safe_at : (first : Office) (site : Site) (names : List Name) (now : Office) → AreMergeable first site → KeepsRules first site → Invariant first site names now → IsSafeAt first site names now
+pub safe_at : (first : Office) (site : Site) (names : List Name) (now : Office) → AreMergeable first site → KeepsRules first site
+    → Invariant first site names now → IsSafeAt first site names now
 safe_at first site names now mergeable keeps inv = record {
   book = inv.book;
   root = record { rows = inv.rows; holds = subst (Holds first.book) (λ i cell. sym (inv.rows cell) i) (keeps names inv.part) };

@@ -47,7 +47,8 @@ shown_some o name m e = by (workspace o name) refl e
     by None f d = absurd (cc)
     by (Some w) f d = (w, f, let one : member_of w ≡ m = cc in one)
 
-module _ (o : Office) (site : Site) (kept : is_kept o site.root ≡ true) (cell : CellId) (m n : Name) (apart : same_name m n ≡ false) (first : IsChanging o site cell m) (second : IsChanging o site cell n) where
+module _ (o : Office) (site : Site) (kept : is_kept o site.root ≡ true) (cell : CellId) (m n : Name) (apart : same_name m n
+    ≡ false) (first : IsChanging o site cell m) (second : IsChanging o site cell n) where
   -- the merge of the first member puts into the root what that member has at the cell
   taken_there : row_at (merged_content o first.at) cell ≡ row_at first.at.current cell
   unfolding merged_content
@@ -64,7 +65,8 @@ module _ (o : Office) (site : Site) (kept : is_kept o site.root ≡ true) (cell 
       true≢false (sym first.changed ∙ ap not same_rows)
 
   -- the second member is in conflict after the merge of the first
-  in_conflict_then : (next : Office) (v : Workspace) → root_content next site ≡ merged_content o first.at → member_of v ≡ member_of second.at → conflict next v ≡ None → ⊥
+  in_conflict_then : (next : Office) (v : Workspace) → root_content next site ≡ merged_content o first.at → member_of v ≡ member_of second.at → conflict next v
+      ≡ None → ⊥
   unfolding conflict
   in_conflict_then next v root looks none =
       let parent : is_root site v.parent ≡ true = ap (λ (k : Member). is_root site k.parent) looks ∙ child_parent o site n second.at second.child second.is in
@@ -98,7 +100,8 @@ module _ (o : Office) (site : Site) (kept : is_kept o site.root ≡ true) (cell 
             | inr (c, h) ↦ after (merge_clashes next n v c e h)
           ]
 
-pub shared_is_refused : (o : Office) (site : Site) (cell : CellId) (i j : ℕ) → member_fault o site ≡ None → IsSceneFault (change_sets o site) (scene.SharedCell cell i j) → is_refused o (names_at site (i ∷ j ∷ [])) ≡ true
+pub shared_is_refused : (o : Office) (site : Site) (cell : CellId) (i j : ℕ) → member_fault o site ≡ None
+    → IsSceneFault (change_sets o site) (scene.SharedCell cell i j) → is_refused o (names_at site (i ∷ j ∷ [])) ≡ true
 shared_is_refused o site cell i j none shared =
     by (slice_get site.members i) refl (slice_get site.members j) refl
     (sym (ap is_some (same_after o site i cell)) ∙ shared.two.first)
@@ -124,7 +127,8 @@ shared_is_refused o site cell i j none shared =
         absurd (omega (arith, one, less))
     two_names m n e f false same = refl
 
-    by : (x : Option Name) → slice_get site.members i ≡ x → (y : Option Name) → slice_get site.members j ≡ y → is_some (after_member (setting_of o site) x cell) ≡ true → is_some (after_member (setting_of o site) y cell) ≡ true
+    by : (x : Option Name) → slice_get site.members i ≡ x → (y : Option Name) → slice_get site.members j ≡ y → is_some (after_member (setting_of o site) x cell)
+        ≡ true → is_some (after_member (setting_of o site) y cell) ≡ true
         → is_refused o (cons_option (slice_get site.members i) (cons_option (slice_get site.members j) [])) ≡ true
     by None e y f g h = absurd (false≢true g)
     by (Some m) e None f g h = absurd (false≢true h)

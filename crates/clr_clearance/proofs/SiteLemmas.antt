@@ -34,7 +34,8 @@ after-changes base current cell = ap (option_map (λ (e : Change). e.after)) (ge
     by true = refl
     by false = refl
 
-pub changed_by-standing : (o : Office) (name : Name) (w : Workspace) (cell : CellId) → workspace o name ≡ Some w → changed_by o name cell ≡ change_at w.base w.current cell
+pub changed_by-standing : (o : Office) (name : Name) (w : Workspace) (cell : CellId) → workspace o name ≡ Some w → changed_by o name cell
+    ≡ change_at w.base w.current cell
 changed_by-standing o name w cell e = ap (λ r. after_in (option_map_or own_changes r no_changes) cell) e ∙ after-changes w.base w.current cell
 
 -- a cell is changed where there is something to take over
@@ -56,7 +57,8 @@ no_conflict above w agrees = (conflict_law above w).1 (λ cell. by cell (is_chan
 
 pub free_agrees : (above : Content) (w : Workspace) → conflicts above (own_changes w) ≡ [] → AgreesWith (row_at above) w.base w.current
 free_agrees above w none cell e =
-    untouched_from_none above (own_changes w) none cell (change_of w.base w.current cell) (get-changes w.base w.current cell ∙ ap (λ b. cond b (Some (change_of w.base w.current cell)) None) e)
+    untouched_from_none above (own_changes w) none cell (change_of w.base w.current cell) (get-changes w.base w.current cell
+    ∙ ap (λ b. cond b (Some (change_of w.base w.current cell)) None) e)
 
 -- the root of a child ---------------------------------------------------------------------------------
 
@@ -70,7 +72,8 @@ content_above o site w e = ap (content_of o) (root_of_child site w e)
 
 -- rows with changes -----------------------------------------------------------------------------------
 
-module _ {A : Type 0} (c : Setting A) (ts us : List A) (merge : IsMerge c ts) (merge_too : IsMerge c us) (alike : (n : A) → has_by c.same ts n ≡ has_by c.same us n) where
+module _ {A : Type 0} (c : Setting A) (ts us : List A) (merge : IsMerge c ts) (merge_too : IsMerge c us) (alike : (n : A) → has_by c.same ts n
+    ≡ has_by c.same us n) where
   pub taken_alike : (cell : CellId) → view_with c ts cell ≡ view_with c us cell
   taken_alike cell = taken_is c ts merge cell ∙ by (changer c cell) ∙ sym (taken_is c us merge_too cell)
     where
@@ -90,12 +93,14 @@ order_law o site names others mergeable part alike =
 
 -- a cell that one member changes has the root's row where only others are over it
 pub untaken : (o : Office) (site : Site) (names : List Name) (name : Name) (cell : CellId)
-    → AreDisjoint (setting_of o site) → AreAmong (setting_of o site) names site.members → is_member site name ≡ true → has names name ≡ false → is_some (changed_by o name cell) ≡ true
+    → AreDisjoint (setting_of o site) → AreAmong (setting_of o site) names site.members → is_member site name ≡ true → has names name ≡ false
+    → is_some (changed_by o name cell) ≡ true
     → rows_with o site names cell ≡ row_at (root_content o site) cell
 untaken o site [] name cell apart part member out changes = root_is (setting_of o site) cell
 untaken o site (n ∷ ns) name cell apart part member out changes =
     taken_cons (setting_of o site) n ns cell ∙ ap (λ r. unwrap_or r (rows_with o site ns cell)) (other (changed_by o n cell) refl)
-    ∙ untaken o site ns name cell apart (λ m h. part m (or_right (same_name n m) (has_by same_name ns m) h)) member (rest (same_name n name) (has ns name) out) changes
+    ∙ untaken o site ns name cell apart (λ m h. part m (or_right (same_name n m) (has_by same_name ns m) h)) member (rest (same_name n name) (has ns name) out)
+    changes
   where
     rest : (a b : Bool) → a || b ≡ false → b ≡ false
     rest true b e = absurd (false≢true (sym e))

@@ -44,18 +44,22 @@ child_under o site name h = by (workspace o name) refl (and_parts (not (is_root 
 pub child_apart : (o : Office) (site : Site) (name : Name) → is_child o site name ≡ true → is_root site name ≡ false
 child_apart o site name h = not-true _ (and_parts (not (is_root site name)) _ h).0
 
-pub child_parent : (o : Office) (site : Site) (name : Name) (w : Workspace) → is_child o site name ≡ true → workspace o name ≡ Some w → is_root site w.parent ≡ true
-child_parent o site name w h e = sym (ap (λ r. option_map_or (λ (v : Workspace). is_root site v.parent) r false) e) ∙ (and_parts (not (is_root site name)) _ h).1
+pub child_parent : (o : Office) (site : Site) (name : Name) (w : Workspace) → is_child o site name ≡ true → workspace o name ≡ Some w → is_root site w.parent
+    ≡ true
+child_parent o site name w h e = sym (ap (λ r. option_map_or (λ (v : Workspace). is_root site v.parent) r false) e)
+    ∙ (and_parts (not (is_root site name)) _ h).1
 
 -- a child without conflicts took over the root's rows where it changed them
-pub child_agrees : (o : Office) (site : Site) (name : Name) (w : Workspace) → is_child o site name ≡ true → conflicts_in o name ≡ [] → workspace o name ≡ Some w → AgreesWith (row_at (root_content o site)) w.base w.current
+pub child_agrees : (o : Office) (site : Site) (name : Name) (w : Workspace) → is_child o site name ≡ true → conflicts_in o name ≡ [] → workspace o name ≡ Some w
+    → AgreesWith (row_at (root_content o site)) w.base w.current
 child_agrees o site name w child free e =
     free_agrees (root_content o site) w
     (ap (λ c. conflicts c (own_changes w)) (sym (content_above o site w (child_parent o site name w child e)))
     ∙ sym (ap (λ r. option_map_or (λ (v : Workspace). conflicts (content_of o v.parent) (own_changes v)) r []) e)
     ∙ free)
 
-pub member_agrees : (o : Office) (site : Site) (name : Name) (w : Workspace) → AreMergeable o site → is_member site name ≡ true → workspace o name ≡ Some w → AgreesWith (row_at (root_content o site)) w.base w.current
+pub member_agrees : (o : Office) (site : Site) (name : Name) (w : Workspace) → AreMergeable o site → is_member site name ≡ true → workspace o name ≡ Some w
+    → AgreesWith (row_at (root_content o site)) w.base w.current
 member_agrees o site name w mergeable member e = child_agrees o site name w (mergeable.children name member) (mergeable.free name member) e
 
 -- positions ------------------------------------------------------------------------------------------
@@ -83,7 +87,8 @@ module _ (o : Office) (site : Site) where
 
   pub member_there : (names : List Name) (k : ℕ) (name : Name) → slice_get names k ≡ Some name → has_by same_name names name ≡ true
   member_there [] k name e = absurd (cc)
-  member_there (n ∷ ns) zero name e = let one : n ≡ name = cc in or_left (same_name n name) (has_by same_name ns name) (ap (same_name n) (sym one) ∙ same_itself n)
+  member_there (n ∷ ns) zero name e = let one : n ≡ name = cc in or_left (same_name n name) (has_by same_name ns name) (ap (same_name n) (sym one)
+      ∙ same_itself n)
   member_there (n ∷ ns) (suc k) name e = or_right (same_name n name) (has_by same_name ns name) (member_there ns k name e)
 
   -- no cell is changed at two positions
@@ -93,7 +98,8 @@ module _ (o : Office) (site : Site) where
       (sym (ap is_some (same_after j cell)) ∙ changes)
       (sym (ap is_some (same_after k cell)) ∙ changes_too)
     where
-      by : (x : Option Name) → slice_get site.members j ≡ x → (y : Option Name) → slice_get site.members k ≡ y → is_some (after_member c x cell) ≡ true → is_some (after_member c y cell) ≡ true → j ≡ k
+      by : (x : Option Name) → slice_get site.members j ≡ x → (y : Option Name) → slice_get site.members k ≡ y → is_some (after_member c x cell) ≡ true
+          → is_some (after_member c y cell) ≡ true → j ≡ k
       by None e y f g h = absurd (false≢true g)
       by (Some m) e None f g h = absurd (false≢true h)
       by (Some m) e (Some n) f g h =

@@ -49,9 +49,11 @@ module _ (sets : List Changes) where
           let b = only l more t.two.second in
           omega (arith, below, a, b)
 
-  pub one_cell : (cell other : CellId) (i j k l : ℕ) → IsSceneFault sets (scene.SharedCell cell i j) → IsSceneFault sets (scene.SharedCell other k l) → verdict.SharedCell cell i j ≡ verdict.SharedCell other k l
+  pub one_cell : (cell other : CellId) (i j k l : ℕ) → IsSceneFault sets (scene.SharedCell cell i j) → IsSceneFault sets (scene.SharedCell other k l)
+      → verdict.SharedCell cell i j ≡ verdict.SharedCell other k l
   one_cell cell other i j k l s t = elim (in_order cell_cmp_total cell_cmp_exact cell other) [
-    | inl same ↦ (let (a, b) = one_pair other i j k l (subst (λ q. IsSceneFault sets (scene.SharedCell q i j)) same s) t in λ x. verdict.SharedCell (same x) (a x) (b x))
+    | inl same ↦ (let (a, b) = one_pair other i j k l (subst (λ q. IsSceneFault sets (scene.SharedCell q i j)) same s) t in λ x. verdict.SharedCell (same x)
+        (a x) (b x))
     | inr (inl before) ↦ absurd (not_apart cell i j s (t.least cell before))
     | inr (inr after) ↦ absurd (not_apart other k l t (s.least other after))
   ]
@@ -80,7 +82,8 @@ one_verdict o site entries v w (of_cell cell i j none s e) (of_need n a b none_t
 one_verdict o site entries v w (of_cell cell i j none s e) (of_none none_too apart covered f) = absurd (not_apart _ cell i j s (apart cell))
 one_verdict o site entries v w (of_need n a b none apart first e) (of_member f) = absurd (not_both (member_fault o site) w none f)
 one_verdict o site entries v w (of_need n a b none apart first e) (of_cell cell i j none_too s f) = absurd (not_apart _ cell i j s (apart cell))
-one_verdict o site entries v w (of_need n a b none apart first e) (of_need m d g none_too apart_too first_too f) = e ∙ ap verdict.Uncovered (one_need _ entries n m a d b g first first_too) ∙ sym f
+one_verdict o site entries v w (of_need n a b none apart first e) (of_need m d g none_too apart_too first_too f) = e
+    ∙ ap verdict.Uncovered (one_need _ entries n m a d b g first first_too) ∙ sym f
 one_verdict o site entries v w (of_need n a b none apart first e) (of_none none_too apart_too covered f) = absurd (not_covered _ entries n a b first covered)
 one_verdict o site entries v w (of_none none apart covered e) (of_member f) = absurd (not_both (member_fault o site) w none f)
 one_verdict o site entries v w (of_none none apart covered e) (of_cell cell i j none_too s f) = absurd (not_apart _ cell i j s (apart cell))

@@ -53,7 +53,8 @@ long_off : (c : List Rule) (waiting : Waiting) (word : Text) (o : Option (Text �
 long_off c waiting word (Some p) h = flag_off c waiting word _ _
 long_off c waiting word None h = short_off c waiting word (short_of word) h
 
-dashes_off : (c : List Rule) (b : Bool) (waiting : Waiting) (position : ℕ) (word : Text) (h : Held) → StaysOff (if b then (h, trailing position) else long_or_other c waiting word (long_of word) h).1
+dashes_off : (c : List Rule) (b : Bool) (waiting : Waiting) (position : ℕ) (word : Text) (h : Held)
+    → StaysOff (if b then (h, trailing position) else long_or_other c waiting word (long_of word) h).1
 dashes_off c true waiting position word h = tt
 dashes_off c false waiting position word h = long_off c waiting word (long_of word) h
 
@@ -62,7 +63,8 @@ name_off false d e f = refl
 name_off true false e f = absurd cc
 name_off true true e f = absurd cc
 
-other_off : (s : Shape) (o : Option Text) (waiting : Waiting) (position : ℕ) (word : Text) (h : Held) → s.disable_help_subcommand ≡ false → other_fault s o word h ≡ []
+other_off : (s : Shape) (o : Option Text) (waiting : Waiting) (position : ℕ) (word : Text) (h : Held) → s.disable_help_subcommand ≡ false
+    → other_fault s o word h ≡ []
     → StaysOff (subcommand_or_other s.rules o waiting position word h).1
 other_off s (Some name) waiting position word h e f = name_off (bytes_eq name (codes "help")) s.disable_help_subcommand e f
 other_off s None waiting position word h e f = dashes_off s.rules (bytes_eq word (45 ∷ 45 ∷ [])) waiting position word h
@@ -82,7 +84,8 @@ step_off c word w h (trailing position) e off = rw e tt
 step_off c word w h (subcommand name) e off = off
 step_off c word w h value e off = positional_off c (arg_by_index c w.position) word w h e
 
-turn_off : (s : Shape) (names : Names) (w : Walk) (word : Text) → s.disable_help_subcommand ≡ false → IsNoHelp w.stopped → turn_fault s names w word ≡ [] → IsNoHelp (walked s.rules names w word).stopped
+turn_off : (s : Shape) (names : Names) (w : Walk) (word : Text) → s.disable_help_subcommand ≡ false → IsNoHelp w.stopped → turn_fault s names w word ≡ []
+    → IsNoHelp (walked s.rules names w word).stopped
 unfolding walked
 turn_off s names w word d off f = go w.stopped refl off f
   where
@@ -141,7 +144,8 @@ level_empty : (s : Shape) (names : Names) (h : Held) (words : List Text) (has : 
     → (walk_fault s names (walk_from h) words ≡ []) × (check_fault s (finished s.rules (walk s.rules names h words).held) has ≡ [])
 level_empty s names h words has below e =
     let end = (walk s.rules names h words).held in
-    each_empty (walk_fault s names (walk_from h) words) below (settle_fault s.rules s.args_override_self end) (defaults_fault (settled s.rules end).rows s.rules)
+    each_empty (walk_fault s names (walk_from h) words) below (settle_fault s.rules s.args_override_self end)
+    (defaults_fault (settled s.rules end).rows s.rules)
     (check_fault s (finished s.rules end) has) e
 
 -- what the subcommand that was entered asks for
@@ -153,26 +157,30 @@ abbrev pub IsKnown : {A : Type 0} → (Text → List Row → Option A) → Shape
 IsKnown {A} ask s = (s.aliases ≡ []) × (((rows : List Row) → is_some (ask s.name rows) ≡ true) ⊎ (s.name ≡ codes "help"))
 
 module _ {A : Type 0} (ask : Text → List Row → Option A) where
-  asks : (subs : List Shape) (name : Text) (rest : List Text) → AllByRecursion (IsKnown ask) subs → bytes_eq name (codes "help") ≡ false → is_some (met subs name rest) ≡ true
+  asks : (subs : List Shape) (name : Text) (rest : List Text) → AllByRecursion (IsKnown ask) subs → bytes_eq name (codes "help") ≡ false
+      → is_some (met subs name rest) ≡ true
       → is_some (asked_of ask (met subs name rest)) ≡ true
   asks [] name rest known off e = absurd cc
   asks (s ∷ subs) name rest known off e = go (answers_to name (label_of s)) refl (λ some. asks subs name rest known.1 off some) e
     where
-      here : answers_to name (label_of s) ≡ true → ((rows : List Row) → is_some (ask s.name rows) ≡ true) ⊎ (s.name ≡ codes "help") → is_some (ask s.name (rows_at s rest).1) ≡ true
+      here : answers_to name (label_of s) ≡ true → ((rows : List Row) → is_some (ask s.name rows) ≡ true) ⊎ (s.name ≡ codes "help")
+          → is_some (ask s.name (rows_at s rest).1) ≡ true
       here is (inl each) = each (rows_at s rest).1
       here is (inr help) =
           let same : name ≡ codes "help" = sym (name_met s.name name s.aliases known.0.0 is) ∙ help in
           let no : true ≡ false = rw same at off in
           absurd cc
 
-      go : (b : Bool) → answers_to name (label_of s) ≡ b → (is_some (met subs name rest) ≡ true → is_some (asked_of ask (met subs name rest)) ≡ true) → is_some (option_map (λ s. rows_at s rest) (cond b (Some s) (find (λ s. answers_to name (label_of s)) subs))) ≡ true
+      go : (b : Bool) → answers_to name (label_of s) ≡ b → (is_some (met subs name rest) ≡ true → is_some (asked_of ask (met subs name rest)) ≡ true)
+          → is_some (option_map (λ s. rows_at s rest) (cond b (Some s) (find (λ s. answers_to name (label_of s)) subs))) ≡ true
           → is_some (asked_of ask (option_map (λ s. rows_at s rest) (cond b (Some s) (find (λ s. answers_to name (label_of s)) subs)))) ≡ true
       go true is later some = here is known.0.1
       go false is later some = later some
 
   module _ (program : App) (known : AllByRecursion (IsKnown ask) (built program).subs)
       (demands : (built program).top.subcommand_required ≡ true) (has_help : (built program).top.disable_help_subcommand ≡ false) where
-    stop_asks : (stop : Option (Text × List Text)) → IsNoHelp stop → is_some (entered (built program) stop) ≡ true → is_some (asked_of ask (entered (built program) stop)) ≡ true
+    stop_asks : (stop : Option (Text × List Text)) → IsNoHelp stop → is_some (entered (built program) stop) ≡ true
+        → is_some (asked_of ask (entered (built program) stop)) ≡ true
     stop_asks None off e = absurd cc
     stop_asks (Some p) off e = asks (built program).subs p.0 p.1 known off e
 

@@ -11,7 +11,16 @@ use Rattle.clr_command_line.specs.Program.{program}
 
 all_known : AllByRecursion (IsKnown ask_by_name) (built program).subs
 unfolding ask_by_name clap_on_literals
-all_known = ((refl, inl (λ rows. refl)), ((refl, inl (λ rows. refl)), ((refl, inl (λ rows. refl)), ((refl, inl (λ rows. refl)), ((refl, inl (λ rows. refl)), ((refl, inl (λ rows. refl)), ((refl, inr refl), tt)))))))
+all_known = (
+  (refl, inl (λ rows. refl)),
+  (
+    (refl, inl (λ rows. refl)),
+    (
+      (refl, inl (λ rows. refl)),
+      ((refl, inl (λ rows. refl)), ((refl, inl (λ rows. refl)), ((refl, inl (λ rows. refl)), ((refl, inr refl), tt)))),
+    ),
+  ),
+)
 
 demands : (built program).top.subcommand_required ≡ true
 demands = refl

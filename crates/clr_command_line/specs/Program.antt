@@ -33,13 +33,14 @@ check = with_rule (database_command (codes "check")) (value (codes "CERT"))
 abbrev pub merge : App
 merge = with_rule (with_rule (database_command (codes "merge")) (value (codes "CERT"))) names
 
--- a command that requires a subcommand, and has a version
-abbrev pub demanding : App
-demanding = let bare = new_app (codes "clr_office") in record bare { top = record bare.top { has_version = true; subcommand_required = true } }
+-- a program that requires a subcommand, and has a version
+abbrev pub demanding : Text → App
+demanding name = let bare = new_app name in record bare { top = record bare.top { has_version = true; subcommand_required = true } }
 
 -- the subcommands that print something and change nothing
 abbrev pub reporting : App
-reporting = with_subcommand (with_subcommand (with_subcommand (with_subcommand demanding audit.top) run.top) plan.top) plan_under.top
+reporting =
+    with_subcommand (with_subcommand (with_subcommand (with_subcommand (demanding (codes "clr_office")) audit.top) run.top) plan.top) plan_under.top
 
 abbrev pub program : App
 program = with_subcommand (with_subcommand reporting check.top) merge.top

@@ -37,7 +37,7 @@ pub enum AskFault {
 }
 
 impl AskFault {
-    /// The fault that the parser of the command line tells.
+    /// Returns the fault that the parser of the command line tells.
     pub fn of(error: clap::Error) -> AskFault
         ensures { kind_of error ≡ ErrorKind.OutOfMemory → IsMemory result }
     {

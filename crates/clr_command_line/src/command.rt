@@ -1,12 +1,12 @@
 //! The command line, as it is described to `clap`.
 
 ghost use Rattle.std.specs.Prelude.{◌≡◌, codes, false, IfOk};
-ghost use Rattle.clap.specs.Words.{app_of, with_rule, with_subcommand};
+ghost use Rattle.clap.specs.Words.{app_of, with_rule};
 ghost use Rattle.clap.specs.declared.builder.command.Command.TheViews.{out-Command as fields_of};
-ghost use Rattle.clr_command_line.specs.Program.{audit, check, database_command, demanding, merge, plan, plan_under, program, reporting, run, value};
-ghost use Rattle.clr_command_line.specs.Program.{names as several_names};
+ghost use Rattle.clr_command_line.specs.Program.{audit, check, demanding, merge, plan, plan_under, program, reporting, run, value};
 
-use clap::{Arg, Command};
+use crate::arguments::{add, over_database, with_names, with_value};
+use clap::Command;
 use std::alloc::{AllocError, Global};
 
 const VERSION: &str = "1.0.0";
@@ -39,54 +39,6 @@ const MERGE_PRINTS: &str =
 The status is 0 where all merges were done, and 1 where one was refused, or where the certificate
 says nothing of one, which ends the merges. Where the certificate isn't clear, it merges nothing
 and prints the test that fails, with status 1.";
-
-/// Returns a subcommand over an office text. Its help has a line about it, and says what it prints.
-fn over_database<'a>(
-    alloc: Global,
-    name: &'a str,
-    about: &'a str,
-    prints: &'a str,
-) -> Result<Command<'a>, AllocError>
-    ensures shape { IfOk result (λ c. app_of c ≡ database_command name.entry.now) }
-    ensures plain { IfOk result (λ c. (fields_of c).has_globals ≡ false) }
-{
-    let database = Arg::new(alloc, "DB")
-        .required(true)
-        .help("The file of the office text, which is JSON");
-    Command::new(alloc, name)
-        .about(about)
-        .after_help(prints)
-        .arg(database)
-}
-
-/// Returns the command with one more value, which is required.
-fn with_value<'a>(
-    alloc: Global,
-    command: Command<'a>,
-    id: &'a str,
-    help: &'a str,
-) -> Result<Command<'a>, AllocError>
-    requires { (fields_of command).has_globals ≡ false }
-    ensures shape { IfOk result (λ c. app_of c ≡ with_rule (app_of command.entry) (value id.entry.now)) }
-    ensures plain { IfOk result (λ c. (fields_of c).has_globals ≡ false) }
-{
-    let value = Arg::new(alloc, id).required(true).help(help);
-    command.arg(value)
-}
-
-/// Returns the command with names at its end, none or more.
-fn with_names<'a>(
-    alloc: Global,
-    command: Command<'a>,
-    help: &'a str,
-) -> Result<Command<'a>, AllocError>
-    requires { (fields_of command).has_globals ≡ false }
-    ensures shape { IfOk result (λ c. app_of c ≡ with_rule (app_of command.entry) several_names) }
-    ensures plain { IfOk result (λ c. (fields_of c).has_globals ≡ false) }
-{
-    let names = Arg::new(alloc, "NAME").num_args(0..).help(help);
-    command.arg(names)
-}
 
 /// Returns the command with the file of a certificate, which is required.
 fn with_certificate<'a>(alloc: Global, command: Command<'a>) -> Result<Command<'a>, AllocError>
@@ -199,19 +151,9 @@ fn merge<'a>(alloc: Global) -> Result<Command<'a>, AllocError>
     with_names(alloc, command, "The workspaces to merge, in this order")
 }
 
-/// Returns the command with one more subcommand.
-fn add<'a>(command: Command<'a>, subcommand: Command<'a>) -> Result<Command<'a>, AllocError>
-    requires command { (fields_of command).has_globals ≡ false }
-    requires subcommand { (fields_of subcommand).has_globals ≡ false }
-    ensures shape { IfOk result (λ c. app_of c ≡ with_subcommand (app_of command.entry) (app_of subcommand.entry).top) }
-    ensures plain { IfOk result (λ c. (fields_of c).has_globals ≡ false) }
-{
-    command.subcommand(subcommand)
-}
-
 /// Returns the command without its subcommands. It requires one.
 fn start<'a>(alloc: Global) -> Command<'a>
-    ensures shape { app_of result ≡ demanding }
+    ensures shape { app_of result ≡ demanding (codes "clr_office") }
     ensures plain { (fields_of result).has_globals ≡ false }
 {
     Command::new(alloc, "clr_office")

@@ -13,7 +13,7 @@ use clap::ArgMatches;
 use clr_rows::Words;
 use std::alloc::{AllocError, Global};
 
-/// What `planunder` asks for.
+/// Returns what `planunder` asks for.
 fn plan_under(alloc: Global, matches: &ArgMatches) -> Result<Ask, AllocError>
     ensures { IfOk result (λ ask. ask
         ≡ PlanUnder (value_of (codes "ROOT") (rows_of (found_of matches.now))) (names_of (rows_of (found_of matches.now)))) }
@@ -23,7 +23,7 @@ fn plan_under(alloc: Global, matches: &ArgMatches) -> Result<Ask, AllocError>
     Ok(Ask::PlanUnder(root, names))
 }
 
-/// What a subcommand asks for, and its files.
+/// Returns what a subcommand asks for, and its files.
 #[tactic(auto, unfolding(crate::specs::Asks::ask_by_name))]
 fn ask_of_subcommand(
     alloc: Global,
@@ -48,8 +48,8 @@ fn ask_of_subcommand(
     Ok(found)
 }
 
-/// What the words of a command line ask for, with the program's name first, and the names of the
-/// files that it is asked of: that of the office text, and then that of the script or the
+/// Returns what the words of a command line ask for, with the program's name first, and the names of
+/// the files that it is asked of: that of the office text, and then that of the script or the
 /// certificate where there is one. The subcommands are `audit DB`, `run DB SCRIPT`, `plan DB NAME..`,
 /// `planunder DB ROOT NAME..`, `check DB CERT` and `merge DB CERT NAME..`, each with none or more
 /// names.

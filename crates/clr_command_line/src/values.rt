@@ -7,12 +7,12 @@ use clap::ArgMatches;
 use clr_rows::{Names, Words};
 use std::alloc::{AllocError, Global};
 
-/// The value of a name, or no bytes where there is none. It fails for want of memory alone.
+/// Returns the value of a name, or no bytes where there is none.
 pub(crate) fn value(alloc: Global, matches: &ArgMatches, id: &str) -> Result<Words, AllocError>
     ensures { IfOk result (λ text. text ≡ value_of id.now (rows_of (found_of matches.now))) }
 {
     match matches.get_str(id) {
-        Some(text) => Ok(Words::new(String::from_str(alloc, text)?)),
+        Some(text) => Ok(Words::from_str(alloc, text)?),
         None => Ok(Words::new(String::new(alloc))),
     }
 }
@@ -23,12 +23,12 @@ fn owned_names(alloc: Global, texts: &[&str]) -> Result<Names, AllocError>
 {
     let mut list = Vec::new(alloc);
     for text in texts {
-        list.push(Words::new(String::from_str(alloc, text)?))?;
+        list.push(Words::from_str(alloc, text)?)?;
     }
     Ok(Names::new(list))
 }
 
-/// The names that are given, none or more. It fails for want of memory alone.
+/// Returns the names that are given, none or more.
 pub fn names(alloc: Global, matches: &ArgMatches) -> Result<Names, AllocError>
     ensures { IfOk result (λ names. names ≡ names_of (rows_of (found_of matches.now))) }
 {
@@ -38,7 +38,7 @@ pub fn names(alloc: Global, matches: &ArgMatches) -> Result<Names, AllocError>
     }
 }
 
-/// The file of the office text. It fails for want of memory alone.
+/// Returns the file of the office text.
 pub fn database(alloc: Global, matches: &ArgMatches) -> Result<Vec<Words>, AllocError>
     ensures { IfOk result (λ files. files.items ≡ database_of (rows_of (found_of matches.now))) }
 {
@@ -47,7 +47,7 @@ pub fn database(alloc: Global, matches: &ArgMatches) -> Result<Vec<Words>, Alloc
     Ok(files)
 }
 
-/// The file of the office text, and a second file. It fails for want of memory alone.
+/// Returns the file of the office text, and a second file.
 pub fn database_with(
     alloc: Global,
     matches: &ArgMatches,

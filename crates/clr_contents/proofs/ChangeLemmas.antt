@@ -23,7 +23,8 @@ abbrev at_entry : Content → CellId → Option Change → Option (Option Row) �
 at_entry base q old None = old
 at_entry base q old (Some row) = change_from (row_at base q) row
 
-get-set_each : (base : Content) (es : Rows) (changed : Changes) (q : CellId) → AreApart es → finite.get (set_each base changed es) q ≡ at_entry base q (finite.get changed q) (find cell_cmp q es)
+get-set_each : (base : Content) (es : Rows) (changed : Changes) (q : CellId) → AreApart es → finite.get (set_each base changed es) q
+    ≡ at_entry base q (finite.get changed q) (find cell_cmp q es)
 unfolding set_each
 get-set_each base [] changed q apart = refl
 get-set_each base (e ∷ es) changed q apart =
@@ -32,10 +33,12 @@ get-set_each base (e ∷ es) changed q apart =
     ∙ by (eq_by_cmp cell_cmp q e.0) refl
   where
     by : (b : Bool) → eq_by_cmp cell_cmp q e.0 ≡ b
-        → at_entry base q (cond b (change_from (row_at base e.0) e.1) (finite.get changed q)) (find cell_cmp q es) ≡ at_entry base q (finite.get changed q) (cond b (Some e.1) (find cell_cmp q es))
+        → at_entry base q (cond b (change_from (row_at base e.0) e.1) (finite.get changed q)) (find cell_cmp q es)
+        ≡ at_entry base q (finite.get changed q) (cond b (Some e.1) (find cell_cmp q es))
     by true t =
         let same : q ≡ e.0 = tied_cells q e.0 t in
-        ap (at_entry base q (change_from (row_at base e.0) e.1)) (ap (λ c. find cell_cmp c es) same ∙ apart.0) ∙ ap (λ c. change_from (row_at base c) e.1) (sym same)
+        ap (at_entry base q (change_from (row_at base e.0) e.1)) (ap (λ c. find cell_cmp c es) same ∙ apart.0)
+        ∙ ap (λ c. change_from (row_at base c) e.1) (sym same)
     by false t = refl
 
 pub no_change : (a : Option Row) → None ≡ change_from a a

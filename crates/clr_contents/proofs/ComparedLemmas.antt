@@ -88,7 +88,8 @@ among_neither (cell ∷ cells) others q e =
 -- a content that differs from another only where a third one changes -----------------------------
 
 -- the own changes of a content over one that has the row of its base at a cell give the content's own row there
-pub own_row : (base current above : Content) (q : CellId) → row_at base q ≡ row_at above q → row_at current q ≡ row_at (taken_over above (changes base current)) q
+pub own_row : (base current above : Content) (q : CellId) → row_at base q ≡ row_at above q → row_at current q
+    ≡ row_at (taken_over above (changes base current)) q
 own_row base current above q same = sym (
     row-taken_over above (changes base current) q
     ∙ ap (λ (o : Option Row). unwrap_or (option_map after_of (finite.get (changes base current) q)) o) (sym same)

@@ -41,12 +41,14 @@ marks_swept base [] q = tt
 marks_swept base (kinds.Saved name d ∷ ms) q = (own_swept base d q, marks_swept base ms q)
 marks_swept base (kinds.Child name ∷ ms) q = (own_none (row_at base q) q, marks_swept base ms q)
 
-marks_made : (base : Content) (cells : List CellId) (ms : List StoredMark) (q : CellId) → is_among cells q ≡ true → AreOwnOver (row_at base q) q (swept_marks_at base cells ms)
+marks_made : (base : Content) (cells : List CellId) (ms : List StoredMark) (q : CellId) → is_among cells q ≡ true
+    → AreOwnOver (row_at base q) q (swept_marks_at base cells ms)
 marks_made base cells [] q among = tt
 marks_made base cells (kinds.Saved name d ∷ ms) q among = (own_made base cells d q among, marks_made base cells ms q among)
 marks_made base cells (kinds.Child name ∷ ms) q among = (own_none (row_at base q) q, marks_made base cells ms q among)
 
-marks_stay : (base : Content) (cells : List CellId) (ms : List StoredMark) (q : CellId) (row : Option Row) → AreOwnOver row q ms → AreOwnOver row q (swept_marks_at base cells ms)
+marks_stay : (base : Content) (cells : List CellId) (ms : List StoredMark) (q : CellId) (row : Option Row) → AreOwnOver row q ms
+    → AreOwnOver row q (swept_marks_at base cells ms)
 marks_stay base cells [] q row own = tt
 marks_stay base cells (kinds.Saved name d ∷ ms) q row own = (own_stays base cells d q row own.0, marks_stay base cells ms q row own.1)
 marks_stay base cells (kinds.Child name ∷ ms) q row own = (own.0, marks_stay base cells ms q row own.1)
@@ -72,11 +74,17 @@ module _ (live : Content) (ls : List Layer) (k : ℕ) (r : IsRooted (wholes live
   base = (workspace_at ws k).base
 
   -- the row of the base, from differences that mean the same
-  pub base_row : (d : Differences) → seen_over (content_of_parent (wholes live ls) k) d ≡ seen_over (content_of_parent (wholes live ls) k) (layer_at ls k).base → (q : CellId)
+  pub base_row : (d : Differences) → seen_over (content_of_parent (wholes live ls) k) d ≡ seen_over (content_of_parent (wholes live ls) k) (layer_at ls k).base
+      → (q : CellId)
       → row_at (workspace_at (wholes live ls) k).base q ≡ unwrap_or (finite.get d q) (row_above (wholes live ls) k q)
   base_row d same q = ap (λ (m : Content). row_at m q) (base_is live ls k r some lt ∙ sym same) ∙ row-seen_over above d q
 
-  pub lean_swept : IsLeanOver (wholes live ls) k (record (layer_at ls k) { base = without_neutral (content_of_parent (wholes live ls) k) (layer_at ls k).base; current = without_neutral (workspace_at (wholes live ls) k).base (layer_at ls k).current; marks = swept_marks (workspace_at (wholes live ls) k).base (layer_at ls k).marks })
+  pub lean_swept : IsLeanOver (wholes live ls) k (record (layer_at ls k) {
+    base = without_neutral (content_of_parent (wholes live ls) k) (layer_at ls k).base;
+    current = without_neutral (workspace_at (wholes live ls) k).base (layer_at ls k).current;
+    marks = swept_marks (workspace_at (wholes live ls) k).base
+        (layer_at ls k).marks;
+  })
   lean_swept q =
       let row = base_row (without_neutral above l.base) (seen-swept above l.base) q in
       record {
@@ -108,7 +116,13 @@ module _ (live : Content) (ls : List Layer) (k : ℕ) (r : IsRooted (wholes live
         }
 
     pub lean_swept_at : (at : ℕ) → IsLeanBeside (wholes live ls) at cells k (layer_at ls k)
-        → IsLeanOver (wholes live ls) k (record (layer_at ls k) { base = swept_at (content_of_parent (wholes live ls) k) cells (layer_at ls k).base; current = swept_at (workspace_at (wholes live ls) k).base cells (layer_at ls k).current; marks = swept_marks_at (workspace_at (wholes live ls) k).base cells (layer_at ls k).marks })
+        → IsLeanOver (wholes live ls) k (record (layer_at ls k) {
+          base = swept_at (content_of_parent (wholes live ls) k) cells (layer_at ls k).base;
+          current =
+              swept_at (workspace_at (wholes live ls) k).base cells (layer_at ls k).current;
+          marks = swept_marks_at (workspace_at (wholes live ls) k).base cells
+              (layer_at ls k).marks;
+        })
     lean_swept_at at beside q = by (is_among cells q) refl
       where
         by : (b : Bool) → is_among cells q ≡ b → IsLeanAt (row_above (wholes live ls) k q) left q
@@ -116,5 +130,7 @@ module _ (live : Content) (ls : List Layer) (k : ℕ) (r : IsRooted (wholes live
         by false e = lean_kept q (beside q (record { other = λ _. e; under = λ _. e }))
 
   -- a layer that is neither near
-  pub lean_apart : (at : ℕ) (cells : List CellId) → k ≢ at → (IsUnder (layer_at ls at).name (layer_at ls k) → ⊥) → IsLeanBeside (wholes live ls) at cells k (layer_at ls k) → IsLeanOver (wholes live ls) k (layer_at ls k)
-  lean_apart at cells other stranger beside q = beside q (record { other = λ e. absurd (other e); under = λ e. absurd (stranger (under_its_parent live ls k at e)) })
+  pub lean_apart : (at : ℕ) (cells : List CellId) → k ≢ at → (IsUnder (layer_at ls at).name (layer_at ls k) → ⊥)
+      → IsLeanBeside (wholes live ls) at cells k (layer_at ls k) → IsLeanOver (wholes live ls) k (layer_at ls k)
+  lean_apart at cells other stranger beside q =
+      beside q (record { other = λ e. absurd (other e); under = λ e. absurd (stranger (under_its_parent live ls k at e)) })

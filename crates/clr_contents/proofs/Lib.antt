@@ -1,10 +1,8 @@
 pub mod ChangeLemmas
 pub mod ComparedLemmas
-pub mod DepthLemmas
-pub mod PinLemmas
 pub mod LeanLemmas
 pub mod MarkLemmas
 pub mod MoveLemmas
+pub mod PinLemmas
 pub mod ReadLemmas
-pub mod RootLemmas
 pub mod SweepLemmas

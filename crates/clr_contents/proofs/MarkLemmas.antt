@@ -14,14 +14,17 @@ use Rattle.clr_layers.specs.declared.stored_marks.StoredMark.TheVariants as stor
 use Rattle.clr_contents.proofs.ReadLemmas.{marks-wholes}
 
 -- what a savepoint saved
-pub saved_there : (b : Content) (ms : List StoredMark) (i : ℕ) → is_saved (mark_at (map (whole_mark b) ms) i) ≡ true → saved_content (mark_at (map (whole_mark b) ms) i) ≡ seen_over b (saved_differences (stored_at ms i))
+pub saved_there : (b : Content) (ms : List StoredMark) (i : ℕ) → is_saved (mark_at (map (whole_mark b) ms) i) ≡ true
+    → saved_content (mark_at (map (whole_mark b) ms) i) ≡ seen_over b (saved_differences (stored_at ms i))
 saved_there b [] i e = absurd (cc)
 saved_there b (stored.Saved name d ∷ ms) zero e = refl
 saved_there b (stored.Child name ∷ ms) zero e = absurd (cc)
 saved_there b (m ∷ ms) (suc i) e = saved_there b ms i e
 
-pub length-marks : (live : Content) (ls : List Layer) (at : ℕ) → 0 < at → at < length ls → length (workspace_at (wholes live ls) at).marks ≡ length (layer_at ls at).marks
-length-marks live ls at some lt = ap (λ (ms : List Mark). length ms) (marks-wholes live ls at some lt) ∙ length-map (layer_at ls at).marks (whole_mark (workspace_at (wholes live ls) at).base)
+pub length-marks : (live : Content) (ls : List Layer) (at : ℕ) → 0 < at → at < length ls → length (workspace_at (wholes live ls) at).marks
+    ≡ length (layer_at ls at).marks
+length-marks live ls at some lt = ap (λ (ms : List Mark). length ms) (marks-wholes live ls at some lt)
+    ∙ length-map (layer_at ls at).marks (whole_mark (workspace_at (wholes live ls) at).base)
 
 pub saved_within : (ms : List Mark) (i : ℕ) → is_saved (mark_at ms i) ≡ true → i < length ms
 saved_within [] i e = absurd (cc)
@@ -29,7 +32,8 @@ saved_within (m ∷ ms) zero e = omega arith
 saved_within (m ∷ ms) (suc i) e = let more = saved_within ms i e in omega (arith, more)
 
 -- a savepoint of a workspace under LIVE
-module _ (live : Content) (ls : List Layer) (at : ℕ) (some : 0 < at) (lt : at < length ls) (mark : ℕ) (saved : is_saved (mark_at (workspace_at (wholes live ls) at).marks mark) ≡ true) where
+module _ (live : Content) (ls : List Layer) (at : ℕ) (some : 0 < at) (lt : at < length ls) (mark : ℕ)
+    (saved : is_saved (mark_at (workspace_at (wholes live ls) at).marks mark) ≡ true) where
   abbrev here : Workspace
   here = workspace_at (wholes live ls) at
 
@@ -39,7 +43,8 @@ module _ (live : Content) (ls : List Layer) (at : ℕ) (some : 0 < at) (lt : at 
   pub saved_stored : mark < length (layer_at ls at).marks
   saved_stored = subst (λ n. mark < n) (length-marks live ls at some lt) (saved_within here.marks mark saved)
 
-  pub content-saved : saved_content (mark_at (workspace_at (wholes live ls) at).marks mark) ≡ seen_over (workspace_at (wholes live ls) at).base (saved_differences (stored_at (layer_at ls at).marks mark))
+  pub content-saved : saved_content (mark_at (workspace_at (wholes live ls) at).marks mark)
+      ≡ seen_over (workspace_at (wholes live ls) at).base (saved_differences (stored_at (layer_at ls at).marks mark))
   content-saved =
       let same = marks-wholes live ls at some lt in
       ap (λ (ns : List Mark). saved_content (mark_at ns mark)) same

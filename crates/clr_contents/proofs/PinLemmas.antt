@@ -22,17 +22,22 @@ use Rattle.clr_contents.proofs.MoveLemmas.{stays}
 
 -- what is seen stays ---------------------------------------------------------------------------
 
-pub whole_base : (above : Content) (l : Layer) (d : Differences) → seen_over above d ≡ seen_over above l.base → whole_of above (record l { base = d }) ≡ whole_of above l
+pub whole_base : (above : Content) (l : Layer) (d : Differences) → seen_over above d ≡ seen_over above l.base → whole_of above (record l { base = d })
+    ≡ whole_of above l
 unfolding whole_of
 whole_base above l d same = ap (λ (b : Content). let w : Workspace = record { name = l.name; parent = l.parent; base = b; current = seen_over b l.current; marks = map (whole_mark b) l.marks; kept = l.kept } in w) same
 
-pub whole_current : (above : Content) (l : Layer) (d : Differences) → seen_over (seen_over above l.base) d ≡ seen_over (seen_over above l.base) l.current → whole_of above (record l { current = d }) ≡ whole_of above l
+pub whole_current : (above : Content) (l : Layer) (d : Differences) → seen_over (seen_over above l.base) d ≡ seen_over (seen_over above l.base) l.current
+    → whole_of above (record l { current = d }) ≡ whole_of above l
 unfolding whole_of
-whole_current above l d same = ap (λ (c : Content). let b = seen_over above l.base in let w : Workspace = record { name = l.name; parent = l.parent; base = b; current = c; marks = map (whole_mark b) l.marks; kept = l.kept } in w) same
+whole_current above l d same = ap (λ (c : Content). let b = seen_over above l.base in
+    let w : Workspace = record { name = l.name; parent = l.parent; base = b; current = c; marks = map (whole_mark b) l.marks; kept = l.kept } in w) same
 
-pub whole_marks : (above : Content) (l : Layer) (ms : List StoredMark) → map (whole_mark (seen_over above l.base)) ms ≡ map (whole_mark (seen_over above l.base)) l.marks → whole_of above (record l { marks = ms }) ≡ whole_of above l
+pub whole_marks : (above : Content) (l : Layer) (ms : List StoredMark) → map (whole_mark (seen_over above l.base)) ms
+    ≡ map (whole_mark (seen_over above l.base)) l.marks → whole_of above (record l { marks = ms }) ≡ whole_of above l
 unfolding whole_of
-whole_marks above l ms same = ap (λ (ns : List Mark). let b = seen_over above l.base in let w : Workspace = record { name = l.name; parent = l.parent; base = b; current = seen_over b l.current; marks = ns; kept = l.kept } in w) same
+whole_marks above l ms same = ap (λ (ns : List Mark). let b = seen_over above l.base in
+    let w : Workspace = record { name = l.name; parent = l.parent; base = b; current = seen_over b l.current; marks = ns; kept = l.kept } in w) same
 
 module _ (live : Content) (ls : List Layer) (at : ℕ) (r : IsRooted (wholes live ls)) (some : 0 < at) (lt : at < length ls) where
   abbrev stored : Layer
@@ -41,7 +46,8 @@ module _ (live : Content) (ls : List Layer) (at : ℕ) (r : IsRooted (wholes liv
   abbrev above : Content
   above = above_at live ls at
 
-  pub base_pinned : (p : ℕ) (k : CellId) (v : Option Row) → parent_of (wholes live ls) at ≡ Some p → p < at → finite.get stored.base k ≡ None → v ≡ row_at (workspace_at (wholes live ls) p).current k
+  pub base_pinned : (p : ℕ) (k : CellId) (v : Option Row) → parent_of (wholes live ls) at ≡ Some p → p < at → finite.get stored.base k ≡ None → v
+      ≡ row_at (workspace_at (wholes live ls) p).current k
       → wholes live (layer_changed ls at (λ l. record l { base = finite.insert l.base k v })) ≡ wholes live ls
   base_pinned p k v e up none is =
       stays live ls at r some lt _ refl refl (whole_base above stored (finite.insert stored.base k v)
@@ -51,7 +57,8 @@ module _ (live : Content) (ls : List Layer) (at : ℕ) (r : IsRooted (wholes liv
       → wholes live (layer_changed ls at (λ l. record l { current = finite.insert l.current k v })) ≡ wholes live ls
   current_pinned k v is =
       let row : v ≡ row_at (seen_over (seen_over above stored.base) stored.current) k = is ∙ ap (λ (w : Workspace). row_at w.current k) (wholes-at live ls at some lt) ∙ ap (λ (m : Content). row_at m k) (current_of_whole above stored) in
-      stays live ls at r some lt _ refl refl (whole_current above stored (finite.insert stored.current k v) (neutral (seen_over above stored.base) stored.current k v row))
+      stays live ls at r some lt _ refl refl (whole_current above stored (finite.insert stored.current k v)
+      (neutral (seen_over above stored.base) stored.current k v row))
 
   pub saved_pinned : (k : CellId) (v : Option Row) (ms : List StoredMark) → v ≡ row_at (workspace_at (wholes live ls) at).base k
       → ((b : Content) → row_at b k ≡ v → map (whole_mark b) ms ≡ map (whole_mark b) stored.marks)
@@ -71,26 +78,54 @@ extends_itself ls = record { long = refl; each = λ k. has_own (layer_at ls k) }
 pub extends_both : (ls ms ns : List Layer) → Extends ls ms → Extends ms ns → Extends ls ns
 extends_both ls ms ns a b = record {
   long = b.long ∙ a.long;
-  each = λ k. let f = a.each k in let g = b.each k in record { name = g.name ∙ f.name; parent = g.parent ∙ f.parent; base = λ q h. g.base q (f.base q h); current = λ q h. g.current q (f.current q h) };
+  each = λ k. let f = a.each k in let g = b.each k in record {
+    name = g.name ∙ f.name;
+    parent = g.parent
+        ∙ f.parent;
+    base = λ q h. g.base q (f.base q h);
+    current = λ q h. g.current q (f.current q h);
+  };
 }
 
 pub extends_set : (ls : List Layer) (at : ℕ) (m : Layer) → at < length ls → HasEntriesOf (layer_at ls at) m → Extends ls (slice_set ls at m)
 extends_set ls at m lt one = record {
   long = length-set ls at m;
   each = λ k. ⊎_elim
-      (λ (e : k ≡ at). subst (λ j. HasEntriesOf (layer_at ls j) (layer_at (slice_set ls at m) j)) (sym e) (subst (HasEntriesOf (layer_at ls at)) (sym (get_or-set_same ls at m no_layer lt)) one))
+      (λ (e : k ≡ at). subst (λ j. HasEntriesOf (layer_at ls j) (layer_at (slice_set ls at m) j)) (sym e)
+      (subst (HasEntriesOf (layer_at ls at)) (sym (get_or-set_same ls at m no_layer lt)) one))
       (λ (n : k ≢ at). subst (HasEntriesOf (layer_at ls k)) (sym (get_or-set_other ls at k m no_layer n)) (has_own (layer_at ls k)))
       (cases_eq k at);
 }
 
-pub extends_base : (ls : List Layer) (at : ℕ) (k : CellId) (v : Option Row) → at < length ls → Extends ls (layer_changed ls at (λ l. record l { base = finite.insert l.base k v }))
-extends_base ls at k v lt = extends_set ls at _ lt (record { name = refl; parent = refl; base = λ q h. entry_stays (layer_at ls at).base k q v h; current = λ q h. h })
+pub extends_base : (ls : List Layer) (at : ℕ) (k : CellId) (v : Option Row) → at < length ls
+    → Extends ls (layer_changed ls at (λ l. record l { base = finite.insert l.base k v }))
+extends_base ls at k v lt = extends_set ls at _ lt (record {
+  name = refl;
+  parent = refl;
+  base = λ q h. entry_stays (layer_at ls at).base k q v h;
+  current =
+      λ q h. h;
+})
 
-pub extends_current : (ls : List Layer) (at : ℕ) (k : CellId) (v : Option Row) → at < length ls → Extends ls (layer_changed ls at (λ l. record l { current = finite.insert l.current k v }))
-extends_current ls at k v lt = extends_set ls at _ lt (record { name = refl; parent = refl; base = λ q h. h; current = λ q h. entry_stays (layer_at ls at).current k q v h })
+pub extends_current : (ls : List Layer) (at : ℕ) (k : CellId) (v : Option Row) → at < length ls
+    → Extends ls (layer_changed ls at (λ l. record l { current = finite.insert l.current k v }))
+extends_current ls at k v lt = extends_set ls at _ lt (record {
+  name = refl;
+  parent = refl;
+  base = λ q h. h;
+  current = λ q h. entry_stays
+      (layer_at ls at).current k q v h;
+})
 
-pub extends_put : (ls : List Layer) (at : ℕ) (rows : Rows) → at < length ls → Extends ls (layer_changed ls at (λ l. record l { current = put_each l.current rows }))
-extends_put ls at rows lt = extends_set ls at _ lt (record { name = refl; parent = refl; base = λ q h. h; current = λ q h. put_each_keeps rows (layer_at ls at).current q h })
+pub extends_put : (ls : List Layer) (at : ℕ) (rows : Rows) → at < length ls
+    → Extends ls (layer_changed ls at (λ l. record l { current = put_each l.current rows }))
+extends_put ls at rows lt = extends_set ls at _ lt (record {
+  name = refl;
+  parent = refl;
+  base = λ q h. h;
+  current = λ q h. put_each_keeps rows
+      (layer_at ls at).current q h;
+})
 
 pub extends_marks : (ls : List Layer) (at : ℕ) (ms : List StoredMark) → at < length ls → Extends ls (layer_changed ls at (λ l. record l { marks = ms }))
 extends_marks ls at ms lt = extends_set ls at _ lt (record { name = refl; parent = refl; base = λ q h. h; current = λ q h. h })
@@ -101,7 +136,11 @@ pub own_itself : (q : CellId) (l : Layer) → StaysOwnAt q l l
 own_itself q l = record { base = refl; current = λ row own. own; saved = λ row own. own }
 
 pub own_both : (q : CellId) (l m n : Layer) → StaysOwnAt q l m → StaysOwnAt q m n → StaysOwnAt q l n
-own_both q l m n a b = record { base = b.base ∙ a.base; current = λ row own. b.current row (a.current row own); saved = λ row own. b.saved row (a.saved row own) }
+own_both q l m n a b = record {
+  base = b.base ∙ a.base;
+  current = λ row own. b.current row (a.current row own);
+  saved = λ row own. b.saved row (a.saved row own);
+}
 
 pub but_itself : (at : ℕ) (cells : List CellId) (ls : List Layer) → StayOwnBut at cells ls ls
 but_itself at cells ls k q apart = own_itself q (layer_at ls k)
@@ -113,33 +152,53 @@ pub but_children_itself : (name : Name) (cells : List CellId) (ls : List Layer) 
 but_children_itself name cells ls k q apart = own_itself q (layer_at ls k)
 
 -- the child of a workspace alone
-pub but_child : (at p : ℕ) (cells : List CellId) (ls ms : List Layer) → IsUnder (layer_at ls p).name (layer_at ls at) → StayOwnBut at cells ls ms → StayOwnButChildren (layer_at ls p).name cells ls ms
+pub but_child : (at p : ℕ) (cells : List CellId) (ls ms : List Layer) → IsUnder (layer_at ls p).name (layer_at ls at) → StayOwnBut at cells ls ms
+    → StayOwnButChildren (layer_at ls p).name cells ls ms
 but_child at p cells ls ms under a k q apart = a k q (λ same. apart (subst (λ j. IsUnder (layer_at ls p).name (layer_at ls j)) (sym same) under))
 
 -- more children, over layers of the same names
-pub but_children_both : (at : ℕ) (cells : List CellId) (ls ms ns : List Layer) → Extends ls ms → StayOwnButChildren (layer_at ls at).name cells ls ms → StayOwnButChildren (layer_at ms at).name cells ms ns → StayOwnButChildren (layer_at ls at).name cells ls ns
+pub but_children_both : (at : ℕ) (cells : List CellId) (ls ms ns : List Layer) → Extends ls ms → StayOwnButChildren (layer_at ls at).name cells ls ms
+    → StayOwnButChildren (layer_at ms at).name cells ms ns → StayOwnButChildren (layer_at ls at).name cells ls ns
 but_children_both at cells ls ms ns e a b k q apart =
     own_both q (layer_at ls k) (layer_at ms k) (layer_at ns k) (a k q apart)
-    (b k q (λ under. apart (subst (λ n. IsUnder n (layer_at ls k)) (e.each at).name (subst (λ n. IsUnder (layer_at ms at).name (record (layer_at ls k) { parent = n })) (e.each k).parent under))))
+    (b k q (λ under. apart (subst (λ n. IsUnder n (layer_at ls k)) (e.each at).name
+    (subst (λ n. IsUnder (layer_at ms at).name (record (layer_at ls k) { parent = n })) (e.each k).parent under))))
 
-pub but_set : (ls : List Layer) (at : ℕ) (m : Layer) (cells : List CellId) → at < length ls → ((q : CellId) → is_among cells q ≡ false → StaysOwnAt q (layer_at ls at) m) → StayOwnBut at cells ls (slice_set ls at m)
+pub but_set : (ls : List Layer) (at : ℕ) (m : Layer) (cells : List CellId) → at < length ls → ((q : CellId) → is_among cells q ≡ false
+    → StaysOwnAt q (layer_at ls at) m) → StayOwnBut at cells ls (slice_set ls at m)
 but_set ls at m cells lt one k q apart = ⊎_elim
-    (λ (e : k ≡ at). subst (λ j. StaysOwnAt q (layer_at ls j) (layer_at (slice_set ls at m) j)) (sym e) (subst (StaysOwnAt q (layer_at ls at)) (sym (get_or-set_same ls at m no_layer lt)) (one q (apart e))))
+    (λ (e : k ≡ at). subst (λ j. StaysOwnAt q (layer_at ls j) (layer_at (slice_set ls at m) j)) (sym e)
+    (subst (StaysOwnAt q (layer_at ls at)) (sym (get_or-set_same ls at m no_layer lt)) (one q (apart e))))
     (λ (n : k ≢ at). subst (StaysOwnAt q (layer_at ls k)) (sym (get_or-set_other ls at k m no_layer n)) (own_itself q (layer_at ls k)))
     (cases_eq k at)
 
-pub but_base : (ls : List Layer) (at : ℕ) (k : CellId) (v : Option Row) → at < length ls → StayOwnBut at (k ∷ []) ls (layer_changed ls at (λ l. record l { base = finite.insert l.base k v }))
-but_base ls at k v lt = but_set ls at _ (k ∷ []) lt (λ q apart. record { base = put_elsewhere (layer_at ls at).base k v q apart; current = λ row own. own; saved = λ row own. own })
+pub but_base : (ls : List Layer) (at : ℕ) (k : CellId) (v : Option Row) → at < length ls
+    → StayOwnBut at (k ∷ []) ls (layer_changed ls at (λ l. record l { base = finite.insert l.base k v }))
+but_base ls at k v lt = but_set ls at _ (k
+    ∷ []) lt (λ q apart. record { base = put_elsewhere (layer_at ls at).base k v q apart; current = λ row own. own; saved = λ row own. own })
 
-pub but_current : (ls : List Layer) (at : ℕ) (k : CellId) (v : Option Row) → at < length ls → StayOwnBut at (k ∷ []) ls (layer_changed ls at (λ l. record l { current = finite.insert l.current k v }))
+pub but_current : (ls : List Layer) (at : ℕ) (k : CellId) (v : Option Row) → at < length ls
+    → StayOwnBut at (k ∷ []) ls (layer_changed ls at (λ l. record l { current = finite.insert l.current k v }))
 but_current ls at k v lt =
-    but_set ls at _ (k ∷ []) lt (λ q apart. record { base = refl; current = λ row own. subst (IsOwnOver row) (sym (put_elsewhere (layer_at ls at).current k v q apart)) own; saved = λ row own. own })
+    but_set ls at _ (k ∷ []) lt (λ q apart. record {
+      base = refl;
+      current = λ row own. subst (IsOwnOver row)
+          (sym (put_elsewhere (layer_at ls at).current k v q apart)) own;
+      saved = λ row own. own;
+    })
 
-pub but_put : (ls : List Layer) (at : ℕ) (rows : Rows) → at < length ls → StayOwnBut at (cells_in rows) ls (layer_changed ls at (λ l. record l { current = put_each l.current rows }))
+pub but_put : (ls : List Layer) (at : ℕ) (rows : Rows) → at < length ls
+    → StayOwnBut at (cells_in rows) ls (layer_changed ls at (λ l. record l { current = put_each l.current rows }))
 but_put ls at rows lt =
-    but_set ls at _ (cells_in rows) lt (λ q apart. record { base = refl; current = λ row own. subst (IsOwnOver row) (sym (put_each_elsewhere rows (layer_at ls at).current q apart)) own; saved = λ row own. own })
+    but_set ls at _ (cells_in rows) lt
+    (λ q apart. record {
+      base = refl;
+      current = λ row own. subst (IsOwnOver row) (sym (put_each_elsewhere rows (layer_at ls at).current q apart)) own;
+      saved = λ row own. own;
+    })
 
-pub but_marks : (ls : List Layer) (at : ℕ) (cells : List CellId) (ms : List StoredMark) → at < length ls → StayOwnBeside cells (layer_at ls at).marks ms → StayOwnBut at cells ls (layer_changed ls at (λ l. record l { marks = ms }))
+pub but_marks : (ls : List Layer) (at : ℕ) (cells : List CellId) (ms : List StoredMark) → at < length ls → StayOwnBeside cells (layer_at ls at).marks ms
+    → StayOwnBut at cells ls (layer_changed ls at (λ l. record l { marks = ms }))
 but_marks ls at cells ms lt stay = but_set ls at _ cells lt (λ q apart. record { base = refl; current = λ row own. own; saved = stay q apart })
 
 -- a cell of some is apart where all are
@@ -148,10 +207,12 @@ apart_at [] i c q lt apart = absurd (omega arith)
 apart_at (cell ∷ cells) zero c q lt apart = ap (λ b. cond b true false) (not_among cell cells q apart).0
 apart_at (cell ∷ cells) (suc i) c q lt apart = apart_at cells i c q (omega arith) (not_among cell cells q apart).1
 
-pub pinned_base : (ls : List Layer) (at : ℕ) (k : CellId) (v : Option Row) → at < length ls → HasEntry (layer_at (layer_changed ls at (λ l. record l { base = finite.insert l.base k v })) at).base k
+pub pinned_base : (ls : List Layer) (at : ℕ) (k : CellId) (v : Option Row) → at < length ls
+    → HasEntry (layer_at (layer_changed ls at (λ l. record l { base = finite.insert l.base k v })) at).base k
 pinned_base ls at k v lt = subst (λ (l : Layer). HasEntry l.base k) (sym (get_or-set_same ls at _ no_layer lt)) (entry_made (layer_at ls at).base k v)
 
-pub pinned_current : (ls : List Layer) (at : ℕ) (k : CellId) (v : Option Row) → at < length ls → HasEntry (layer_at (layer_changed ls at (λ l. record l { current = finite.insert l.current k v })) at).current k
+pub pinned_current : (ls : List Layer) (at : ℕ) (k : CellId) (v : Option Row) → at < length ls
+    → HasEntry (layer_at (layer_changed ls at (λ l. record l { current = finite.insert l.current k v })) at).current k
 pinned_current ls at k v lt = subst (λ (l : Layer). HasEntry l.current k) (sym (get_or-set_same ls at _ no_layer lt)) (entry_made (layer_at ls at).current k v)
 
 -- the children's entries stay pinned where layers get more entries

@@ -10,7 +10,7 @@ use Rattle.clr_differences.specs.Differences.{seen_over}
 use Rattle.clr_differences.proofs.DifferenceLemmas.{row-seen_over}
 use Rattle.clr_workspaces.specs.Workspaces.{Workspace, workspace_at, find, parent_of}
 use Rattle.clr_layers.specs.Layers.{Layer, layer_at, find_layer, whole_of, whole_mark, wholes, above_at, IsUnder}
-use Rattle.clr_layers.proofs.FindLemmas.{find_named}
+use Rattle.clr_workspaces.proofs.FindLemmas.{find_named}
 use Rattle.clr_layers.proofs.Meaning.{length-wholes, name-wholes, parent-wholes, find-wholes, wholes-at, named_found}
 use Rattle.clr_rows.specs.Contents.{no_rows}
 use Rattle.clr_workspaces.specs.Roots.{IsRooted}
@@ -24,13 +24,17 @@ within_wholes live ls at lt = subst (λ n. at < n) (sym (length-wholes live ls))
 pub within_layers : (live : Content) (ls : List Layer) (at : ℕ) → at < length (wholes live ls) → at < length ls
 within_layers live ls at lt = subst (λ n. at < n) (length-wholes live ls) lt
 
-pub parent_layer : (live : Content) (ls : List Layer) (at : ℕ) → IsRooted (wholes live ls) → 0 < at → at < length ls → (p : ℕ) × (find_layer ls (layer_at ls at).parent ≡ Some p) × (p < at)
+pub parent_layer : (live : Content) (ls : List Layer) (at : ℕ) → IsRooted (wholes live ls) → 0 < at → at < length ls → (p : ℕ)
+    × (find_layer ls (layer_at ls at).parent ≡ Some p) × (p < at)
 parent_layer live ls at r some lt = let q = r.under at some (within_wholes live ls at lt) in (q.0, sym (parent_here live ls at) ∙ q.1, q.2)
 
-pub above_parent : (live : Content) (ls : List Layer) (at p : ℕ) → parent_of (wholes live ls) at ≡ Some p → p < at → above_at live ls at ≡ (workspace_at (wholes live ls) p).current
-above_parent live ls at p e lt = ap (λ o. unwrap_or o no_rows) (named_found (wholes live ls) (layer_at ls at).parent p at (ap (find (wholes live ls)) (sym (parent-wholes live ls at)) ∙ e) lt)
+pub above_parent : (live : Content) (ls : List Layer) (at p : ℕ) → parent_of (wholes live ls) at ≡ Some p → p < at → above_at live ls at
+    ≡ (workspace_at (wholes live ls) p).current
+above_parent live ls at p e lt = ap (λ o. unwrap_or o no_rows) (named_found (wholes live ls) (layer_at ls at).parent p at
+    (ap (find (wholes live ls)) (sym (parent-wholes live ls at)) ∙ e) lt)
 
-pub parent_earlier : (live : Content) (ls : List Layer) (at p : ℕ) → IsRooted (wholes live ls) → 0 < at → at < length ls → parent_of (wholes live ls) at ≡ Some p → p < at
+pub parent_earlier : (live : Content) (ls : List Layer) (at p : ℕ) → IsRooted (wholes live ls) → 0 < at → at < length ls → parent_of (wholes live ls) at
+    ≡ Some p → p < at
 parent_earlier live ls at p r some lt e =
     let up = r.under at some (within_wholes live ls at lt) in
     subst (λ (n : ℕ). n < at) (ap (λ (o : Option ℕ). unwrap_or o 0) (sym up.1 ∙ e)) up.2
@@ -70,7 +74,8 @@ module _ (live : Content) (ls : List Layer) (at : ℕ) (some : 0 < at) (lt : at 
     above = (workspace_at (wholes live ls) p).current
 
     pub base-wholes : here.base ≡ seen_over above stored.base
-    base-wholes = ap (λ (w : Workspace). w.base) (wholes-at live ls at some lt) ∙ base_of_whole (above_at live ls at) stored ∙ ap (λ m. seen_over m stored.base) (above_parent live ls at p e up)
+    base-wholes = ap (λ (w : Workspace). w.base) (wholes-at live ls at some lt) ∙ base_of_whole (above_at live ls at) stored
+        ∙ ap (λ m. seen_over m stored.base) (above_parent live ls at p e up)
 
     pub row-base : (q : CellId) → row_at here.base q ≡ unwrap_or (finite.get stored.base q) (row_at above q)
     row-base q = ap (λ (m : Content). row_at m q) base-wholes ∙ row-seen_over above stored.base q
@@ -86,7 +91,8 @@ module _ (live : Content) (ls : List Layer) (at : ℕ) (some : 0 < at) (lt : at 
     unfolding seen_over
     current_parts = ap (λ (m : Content). over m (finite.entries stored.current)) base_parts ∙ sym current-wholes
 
-pub found_base : (live : Content) (ls : List Layer) (at : ℕ) (q : CellId) (v : Option Row) → IsRooted (wholes live ls) → 0 < at → at < length ls → finite.get (layer_at ls at).base q ≡ Some v → v ≡ row_at (workspace_at (wholes live ls) at).base q
+pub found_base : (live : Content) (ls : List Layer) (at : ℕ) (q : CellId) (v : Option Row) → IsRooted (wholes live ls) → 0 < at → at < length ls
+    → finite.get (layer_at ls at).base q ≡ Some v → v ≡ row_at (workspace_at (wholes live ls) at).base q
 found_base live ls at q v r some lt e =
     let up = r.under at some (within_wholes live ls at lt) in
     sym (row-base live ls at some lt up.0 up.1 up.2 q ∙ ap (λ o. unwrap_or o (row_at (workspace_at (wholes live ls) up.0).current q)) e)

@@ -40,7 +40,8 @@ module _ (ls : List Layer) (at : ℕ) (m : Layer) (name : m.name ≡ (layer_at l
   new = slice_set ls at m
 
   field_stays : (f : Layer → Name) → f m ≡ f (layer_at ls at) → (i : ℕ) → f (layer_at (slice_set ls at m) i) ≡ f (layer_at ls i)
-  field_stays f e i = sym (get_or-map f new i no_layer) ∙ ap (λ (fs : List Name). get_or fs i (f no_layer)) (map-set_same f ls at m no_layer e) ∙ get_or-map f ls i no_layer
+  field_stays f e i = sym (get_or-map f new i no_layer) ∙ ap (λ (fs : List Name). get_or fs i (f no_layer)) (map-set_same f ls at m no_layer e)
+      ∙ get_or-map f ls i no_layer
 
   found_same : (n : Name) → find_layer (slice_set ls at m) n ≡ find_layer ls n
   found_same n = rw (position_or_len-set (λ (l : Layer). bytes_eq n l.name) ls at m no_layer (ap (bytes_eq n) name), length-set ls at m) refl
@@ -93,9 +94,11 @@ before_stays live [] at m = refl
 before_stays live (l ∷ ls) zero m = refl
 before_stays live (l ∷ ls) (suc at) m = let w = top live l in ap (λ rest. w ∷ rest) (before_grow (w ∷ []) ls at m)
 
-pub earlier_stays : (live : Content) (ls : List Layer) (at i : ℕ) (m : Layer) → i < at → workspace_at (wholes live (slice_set ls at m)) i ≡ workspace_at (wholes live ls) i
+pub earlier_stays : (live : Content) (ls : List Layer) (at i : ℕ) (m : Layer) → i < at → workspace_at (wholes live (slice_set ls at m)) i
+    ≡ workspace_at (wholes live ls) i
 earlier_stays live ls at i m lt =
-    sym (at_take (wholes live (slice_set ls at m)) at i lt) ∙ ap (λ (ws : List Workspace). workspace_at ws i) (before_stays live ls at m) ∙ at_take (wholes live ls) at i lt
+    sym (at_take (wholes live (slice_set ls at m)) at i lt) ∙ ap (λ (ws : List Workspace). workspace_at ws i) (before_stays live ls at m)
+    ∙ at_take (wholes live ls) at i lt
 
 -- savepoints ----------------------------------------------------------------------------------------------
 
@@ -122,7 +125,8 @@ module _ (live : Content) (ls : List Layer) (at : ℕ) (r : IsRooted (wholes liv
       above_parent live ls at q.0 q.1 q.2 ∙ sym (ap (content_above ws) q.1)
 
   pub base_is : (workspace_at (wholes live ls) at).base ≡ seen_over (content_of_parent (wholes live ls) at) (layer_at ls at).base
-  base_is = ap (λ (w : Workspace). w.base) (wholes-at live ls at some lt) ∙ base_of_whole (above_at live ls at) stored ∙ ap (λ (m : Content). seen_over m stored.base) above_is
+  base_is = ap (λ (w : Workspace). w.base) (wholes-at live ls at some lt) ∙ base_of_whole (above_at live ls at) stored
+      ∙ ap (λ (m : Content). seen_over m stored.base) above_is
 
   -- the parent's content while the base is taken out
   pub parent_stays : (d : Differences) (p : ℕ) → parent_of (wholes live ls) at ≡ Some p → p < at
@@ -130,7 +134,8 @@ module _ (live : Content) (ls : List Layer) (at : ℕ) (r : IsRooted (wholes liv
   parent_stays d p e up = ap (λ (w : Workspace). w.current) (earlier_stays live ls at p (record stored { base = d }) up) ∙ sym (ap (content_above ws) e)
 
   -- the base while the current content or the marks are taken out
-  pub base_stays : (m : Layer) → m.parent ≡ (layer_at ls at).parent → m.base ≡ (layer_at ls at).base → (workspace_at (wholes live (slice_set ls at m)) at).base ≡ (workspace_at (wholes live ls) at).base
+  pub base_stays : (m : Layer) → m.parent ≡ (layer_at ls at).parent → m.base ≡ (layer_at ls at).base → (workspace_at (wholes live (slice_set ls at m)) at).base
+      ≡ (workspace_at (wholes live ls) at).base
   base_stays m parent base =
       let there : at < length (slice_set ls at m) = subst (λ n. at < n) (sym (length-set ls at m)) lt in
       ap (λ (w : Workspace). w.base) (wholes-at live (slice_set ls at m) at some there)
@@ -145,7 +150,8 @@ module _ (live : Content) (ls : List Layer) (at : ℕ) (r : IsRooted (wholes liv
   module _ (sw : Content → Differences → Differences) (seen : (m : Content) (d : Differences) → seen_over m (sw m d) ≡ seen_over m d) where
     pub base_swept : wholes live (layer_changed ls at (λ l. record l { base = sw (content_of_parent (wholes live ls) at) l.base })) ≡ wholes live ls
     base_swept = stays live ls at r some lt _ refl refl (whole_base (above_at live ls at) stored (sw above stored.base)
-        (ap (λ (m : Content). seen_over m (sw above stored.base)) above_is ∙ seen above stored.base ∙ ap (λ (m : Content). seen_over m stored.base) (sym above_is)))
+        (ap (λ (m : Content). seen_over m (sw above stored.base)) above_is ∙ seen above stored.base
+        ∙ ap (λ (m : Content). seen_over m stored.base) (sym above_is)))
 
     pub current_swept : wholes live (layer_changed ls at (λ l. record l { current = sw (workspace_at (wholes live ls) at).base l.current })) ≡ wholes live ls
     current_swept =
@@ -154,18 +160,21 @@ module _ (live : Content) (ls : List Layer) (at : ℕ) (r : IsRooted (wholes liv
         stays live ls at r some lt _ refl refl (whole_current (above_at live ls at) stored (sw base stored.current)
         (ap (λ (m : Content). seen_over m (sw base stored.current)) is ∙ seen base stored.current ∙ ap (λ (m : Content). seen_over m stored.current) (sym is)))
 
-  pub saved_swept : (sm : Content → List StoredMark → List StoredMark) → ((m : Content) (ms : List StoredMark) → map (whole_mark m) (sm m ms) ≡ map (whole_mark m) ms)
+  pub saved_swept : (sm : Content → List StoredMark → List StoredMark) → ((m : Content) (ms : List StoredMark) → map (whole_mark m) (sm m ms)
+      ≡ map (whole_mark m) ms)
       → wholes live (layer_changed ls at (λ l. record l { marks = sm (workspace_at (wholes live ls) at).base l.marks })) ≡ wholes live ls
   saved_swept sm seen =
       let base = (workspace_at ws at).base in
       let is : seen_over (above_at live ls at) stored.base ≡ base = ap (λ (m : Content). seen_over m stored.base) above_is ∙ sym base_is in
       stays live ls at r some lt _ refl refl (whole_marks (above_at live ls at) stored (sm base stored.marks)
-      (ap (λ (m : Content). map (whole_mark m) (sm base stored.marks)) is ∙ seen base stored.marks ∙ ap (λ (m : Content). map (whole_mark m) stored.marks) (sym is)))
+      (ap (λ (m : Content). map (whole_mark m) (sm base stored.marks)) is ∙ seen base stored.marks
+      ∙ ap (λ (m : Content). map (whole_mark m) stored.marks) (sym is)))
 
 -- one after another ---------------------------------------------------------------------------------------
 
 -- any way of sweeping that changes nothing seen
-module _ (sw : Content → Differences → Differences) (sm : Content → List StoredMark → List StoredMark) (seen : (m : Content) (d : Differences) → seen_over m (sw m d) ≡ seen_over m d) (same : (m : Content) (ms : List StoredMark) → map (whole_mark m) (sm m ms) ≡ map (whole_mark m) ms)
+module _ (sw : Content → Differences → Differences) (sm : Content → List StoredMark → List StoredMark) (seen : (m : Content) (d : Differences)
+    → seen_over m (sw m d) ≡ seen_over m d) (same : (m : Content) (ms : List StoredMark) → map (whole_mark m) (sm m ms) ≡ map (whole_mark m) ms)
     (live : Content) (ls : List Layer) (at : ℕ) (r : IsRooted (wholes live ls)) (some : 0 < at) (lt : at < length ls) where
   abbrev old : Layer
   old = layer_at ls at
@@ -202,7 +211,8 @@ module _ (sw : Content → Differences → Differences) (sm : Content → List S
       rooted_two = subst IsRooted (sym seen_two) r
 
       is_two : two ≡ slice_set ls at l_two
-      is_two = b ∙ (λ i. layer_changed (a i) at (λ l. record l { current = sw (workspace_at (seen_one i) at).base l.current })) ∙ set_again ls at l_one lt (λ l. record l { current = sw seen_base l.current })
+      is_two = b ∙ (λ i. layer_changed (a i) at (λ l. record l { current = sw (workspace_at (seen_one i) at).base l.current }))
+          ∙ set_again ls at l_one lt (λ l. record l { current = sw seen_base l.current })
 
       within_two : at < length two
       within_two = subst (λ n. at < n) (sym (ap (λ (ms : List Layer). length ms) is_two ∙ length-set ls at l_two)) lt
@@ -212,12 +222,22 @@ module _ (sw : Content → Differences → Differences) (sm : Content → List S
         pub seen_three : wholes live three ≡ wholes live ls
         seen_three = ap (wholes live) c ∙ saved_swept live two at rooted_two some within_two sm same ∙ seen_two
 
-        is_three : three ≡ slice_set ls at (record (layer_at ls at) { base = sw seen_above old.base; current = sw seen_base old.current; marks = sm seen_base old.marks })
+        is_three : three ≡ slice_set ls at (record (layer_at ls at) {
+          base = sw seen_above old.base;
+          current = sw seen_base old.current;
+          marks =
+              sm seen_base old.marks;
+        })
         is_three =
             c ∙ (λ i. layer_changed (is_two i) at (λ l. record l { marks = sm (workspace_at (seen_two i) at).base l.marks }))
             ∙ set_again ls at l_two lt (λ l. record l { marks = sm seen_base l.marks })
 
-        pub here_three : layer_at three at ≡ record (layer_at ls at) { base = sw (content_of_parent (wholes live ls) at) (layer_at ls at).base; current = sw (workspace_at (wholes live ls) at).base (layer_at ls at).current; marks = sm (workspace_at (wholes live ls) at).base (layer_at ls at).marks }
+        pub here_three : layer_at three at ≡ record (layer_at ls at) {
+          base = sw (content_of_parent (wholes live ls) at) (layer_at ls at).base;
+          current =
+              sw (workspace_at (wholes live ls) at).base (layer_at ls at).current;
+          marks = sm (workspace_at (wholes live ls) at).base (layer_at ls at).marks;
+        }
         here_three = ap (λ (ms : List Layer). layer_at ms at) is_three ∙ set_here ls at _ lt
 
         pub others_three : three ≡ layer_changed ls at (λ _. layer_at three at)

@@ -140,7 +140,8 @@ module _ (o : Office) (name : Name) (may : design_refusal o name ≡ None) where
     unfolding step
     one_step before c next none is = rw (none, is) refl
 
-    pub both_steps : IsSound (live_workspace o.live ∷ o.workspaces) → OfficeFits o → FitsSchema o.schema content → AreDone o name content (with_design o name content)
+    pub both_steps : IsSound (live_workspace o.live ∷ o.workspaces) → OfficeFits o → FitsSchema o.schema content
+        → AreDone o name content (with_design o name content)
     both_steps sound fits content_fits =
         rw (one_step o (Create name live_name) with_leaf may (created sound))
         (rw (one_step with_leaf (Apply name edits) (with_design o name content) (may_apply fits content_fits) applied) refl)
@@ -155,7 +156,8 @@ module _ (o : Office) (name : Name) (may : design_refusal o name ≡ None) where
         let answered : answer Done (with_design o name content) ≡ answer Done left = sym all ∙ ap (λ m. step m (Apply name edits)) (sym is) ∙ done in
         let same : left ≡ with_design o name content = sym (ap (λ (a : Answer). a.office) answered) in
         (may, subst (AreDone o name content) (sym same) (both_steps sound fits content_fits), same)
-    edits_apply sound fits content_fits mid left (Some reply) is refused = absurd (none-some reply (sym (may_apply fits content_fits) ∙ ap (λ m. refusal m (Apply name edits)) (sym is) ∙ refused.0))
+    edits_apply sound fits content_fits mid left (Some reply) is refused = absurd (none-some reply (sym (may_apply fits content_fits)
+        ∙ ap (λ m. refusal m (Apply name edits)) (sym is) ∙ refused.0))
 
 -- that a workspace can't be created is never answered as done
 create_not_done : (o : Office) (name : Name) → design_refusal o name ≡ Some Done → ⊥

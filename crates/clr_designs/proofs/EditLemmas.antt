@@ -62,9 +62,11 @@ module _ (tables : List TableDef) (base current : Content) (base_fits : FitsSche
   IsReady content es = (q : CellId) (change : Change) → find cell_cmp q es ≡ Some change → row_at content q ≡ change.before
 
   are_changes : AreChanges (finite.entries (changes base current))
-  are_changes q change is = by (same (row_at base q) (row_at current q)) refl (sym (get-changes base current q) ∙ finite.get-entries (changes base current) q ∙ is)
+  are_changes q change is = by (same (row_at base q) (row_at current q)) refl (sym (get-changes base current q) ∙ finite.get-entries (changes base current) q
+      ∙ is)
     where
-      by : (b : Bool) → same (row_at base q) (row_at current q) ≡ b → cond (is_changed base current q) (Some (change_of base current q)) None ≡ Some change → IsChange q change
+      by : (b : Bool) → same (row_at base q) (row_at current q) ≡ b → cond (is_changed base current q) (Some (change_of base current q)) None ≡ Some change
+          → IsChange q change
       by true e h = absurd (none-some change (sym (ap (λ (s : Bool). cond (not s) (Some (change_of base current q)) None) e) ∙ h))
       by false e h =
           let one = (cond_some (is_changed base current q) (change_of base current q) change h).1 in
@@ -76,14 +78,16 @@ module _ (tables : List TableDef) (base current : Content) (base_fits : FitsSche
 
   -- one edit ---------------------------------------------------------------------------------
 
-  edit_fits : (cell : CellId) (before after : Option Row) → row_at base cell ≡ before → row_at current cell ≡ after → same before after ≡ false → Fits tables (edit_to cell before after)
+  edit_fits : (cell : CellId) (before after : Option Row) → row_at base cell ≡ before → row_at current cell ≡ after → same before after ≡ false
+      → Fits tables (edit_to cell before after)
   unfolding same
   edit_fits cell None None b a differ = absurd (true≢false differ)
   edit_fits cell (Some old) None b a differ = cell_fits tables cell old (base_fits cell old b)
   edit_fits cell None (Some row) b a differ = current_fits cell row a
   edit_fits cell (Some old) (Some row) b a differ = current_fits cell row a
 
-  edit_is_made : (content : Content) (cell : CellId) (before after : Option Row) → row_at base cell ≡ before → row_at current cell ≡ after → same before after ≡ false
+  edit_is_made : (content : Content) (cell : CellId) (before after : Option Row) → row_at base cell ≡ before → row_at current cell ≡ after → same before after
+      ≡ false
       → row_at content cell ≡ before → edit_fault tables content (edit_to cell before after) ≡ None
   unfolding same
   edit_is_made content cell None None b a differ ready = absurd (true≢false differ)
@@ -116,7 +120,8 @@ module _ (tables : List TableDef) (base current : Content) (base_fits : FitsSche
 
   pub edits_are_made : (n : ℕ) → first_bad_edit tables base n (edits_between base current) ≡ None
   edits_are_made n =
-      none_bad base n (finite.entries (changes base current)) (finite.entries_sorted (changes base current)) are_changes (λ q change is. (are_changes q change is).before)
+      none_bad base n (finite.entries (changes base current)) (finite.entries_sorted (changes base current)) are_changes
+      (λ q change is. (are_changes q change is).before)
 
 -- what holds of each of a list, told by recursion or by positions
 all_at : {X : Type 0} (P : X → Type 0) (xs : List X) → AllByRecursion P xs → All P xs

@@ -58,7 +58,8 @@ module _ (o : Office) (content : Content) where
   none_broken None e = refl
   none_broken (Some need) e = absurd (none-some (RuleBroken need) (sym e))
 
-  this_broken : (found : Option Broken) (reply : Reply) → option_map RuleBroken found ≡ Some reply → (need : Broken) × (found ≡ Some need) × (reply ≡ RuleBroken need)
+  this_broken : (found : Option Broken) (reply : Reply) → option_map RuleBroken found ≡ Some reply → (need : Broken) × (found ≡ Some need)
+      × (reply ≡ RuleBroken need)
   this_broken None reply e = absurd (none-some reply e)
   this_broken (Some need) reply e = (need, refl, sym (same_Some (RuleBroken need) reply e))
 

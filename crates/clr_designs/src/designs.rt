@@ -12,14 +12,7 @@ use clr_rows::{LIVE, Sheet, Words};
 use clr_steps::{Command, Edits, Reply};
 use std::alloc::{AllocError, Global};
 
-/// Returns a text of these words.
-fn words_of(alloc: Global, text: &str) -> Result<Words, AllocError>
-    ensures { IfOk result (λ words. words ≡ text.now) }
-{
-    Ok(Words::new(String::from_str(alloc, text)?))
-}
-
-/// Performs a command, and returns why it is refused, if it is; then nothing changes. Fails for want of memory alone, and changes nothing then.
+/// Performs a command, and returns why it is refused, if it is; then nothing changes. If memory runs out, nothing changes.
 fn perform(office: &mut Office, command: &Command) -> Result<Option<Reply>, AllocError>
     ensures performed { IfOk result (λ refused. IsPerformed office.old command.now refused office.new) }
     ensures err { OnErr result (office.new ≡ office.old) }
@@ -31,7 +24,7 @@ fn perform(office: &mut Office, command: &Command) -> Result<Option<Reply>, Allo
     }
 }
 
-/// Creates a workspace under LIVE, or returns why it can't be created. Fails for want of memory alone, and changes nothing then.
+/// Creates a workspace under LIVE, or returns why it can't be created. If memory runs out, nothing changes.
 fn create_workspace(
     alloc: Global,
     office: &mut Office,
@@ -41,13 +34,13 @@ fn create_workspace(
     ensures err { OnErr result (office.new ≡ office.old) }
 {
     let command = Command::Create {
-        name: words_of(alloc, name)?,
-        parent: words_of(alloc, LIVE)?,
+        name: Words::from_str(alloc, name)?,
+        parent: Words::from_str(alloc, LIVE)?,
     };
     perform(office, &command)
 }
 
-/// Makes edits in LIVE or in a workspace, or returns why they can't be made. Fails for want of memory alone, and changes nothing then.
+/// Makes edits in LIVE or in a workspace, or returns why they can't be made. If memory runs out, nothing changes.
 fn apply_edits(
     alloc: Global,
     office: &mut Office,
@@ -58,7 +51,7 @@ fn apply_edits(
     ensures err { OnErr result (office.new ≡ office.old) }
 {
     let command = Command::Apply {
-        ws: words_of(alloc, ws)?,
+        ws: Words::from_str(alloc, ws)?,
         edits,
     };
     perform(office, &command)

@@ -22,7 +22,7 @@ use clr_office::{MOST_INPUT_BYTES, RunFault, Sink};
 use clr_prints::Print;
 use std::alloc::Global;
 
-/// What is printed for what is asked of two texts and of layers.
+/// Returns what is printed for what is asked of two texts and of layers.
 fn answer_texts(
     alloc: Global,
     ask: &Ask,

@@ -14,7 +14,7 @@ use clr_plan_lines::plan_lines;
 use clr_prints::{Print, is_out_of_memory, notes_of, plan_members, with_hints};
 use std::alloc::{AllocError, Global};
 
-/// The lines of a plan that isn't cleared, as notes. It fails for want of memory alone.
+/// Returns the lines of a plan that isn't cleared, as notes.
 fn refusal_print(
     alloc: Global,
     office: &Office,
@@ -30,8 +30,7 @@ fn refusal_print(
     Ok(Print::new(Vec::new(alloc), notes, true, is_out_of_memory(plan)))
 }
 
-/// The certificate of a cleared plan alone, or the lines of another plan as notes. It fails for want of
-/// memory alone.
+/// Returns the certificate of a cleared plan alone, or the lines of another plan as notes.
 pub fn plan_print(
     alloc: Global,
     office: &Office,
@@ -51,7 +50,7 @@ pub fn plan_print(
     }
 }
 
-/// What is printed of the plan of members. It fails for want of memory alone.
+/// Returns what is printed of the plan of members.
 fn print_of_members(
     alloc: Global,
     office: &Office,
@@ -65,7 +64,7 @@ fn print_of_members(
     plan_print(alloc, office, root, members.as_slice(), &plan)
 }
 
-/// The certificate of members over the office of a text.
+/// Returns the certificate of members over the office of a text.
 pub fn answer_certificate(
     alloc: Global,
     office: &[u8],

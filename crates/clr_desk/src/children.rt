@@ -9,7 +9,7 @@ use clr_engine::Office;
 use clr_office::{Names, Words};
 use std::alloc::{AllocError, Global};
 
-/// Whether a name is that of a child of the root.
+/// Returns whether a name is that of a child of the root.
 fn is_child(office: &Office, root: &str, name: &str) -> bool
     ensures { result ≡ is_child office.now (site root.now []) name.now }
 {
@@ -22,8 +22,7 @@ fn is_child(office: &Office, root: &str, name: &str) -> bool
     }
 }
 
-/// Adds the name of the workspace at a position, LIVE having position 0, where it is a child of the root. It fails
-/// for want of memory alone.
+/// Adds the name of the workspace at a position, LIVE having position 0, where it is a child of the root.
 fn add_child(
     alloc: Global,
     office: &Office,
@@ -39,11 +38,11 @@ fn add_child(
     if !is_child(office, root, name) {
         return Ok(());
     }
-    names.push(Words::new(String::from_str(alloc, name)?))?;
+    names.push(Words::from_str(alloc, name)?)?;
     Ok(())
 }
 
-/// The children of a root, in order of creation. It fails for want of memory alone.
+/// Returns the children of a root, in order of creation.
 fn children_of(alloc: Global, office: &Office, root: &str) -> Result<Names, AllocError>
     ensures { IfOk result (λ names. names ≡ children_of office.now root.now) }
 {
@@ -55,8 +54,8 @@ fn children_of(alloc: Global, office: &Office, root: &str) -> Result<Names, Allo
     Ok(Names::new(names))
 }
 
-/// These names, or where there are none those of all children of a root, in order of creation. It fails
-/// for want of memory alone.
+/// Returns these names, or where there are none those of all children of a root, in order of
+/// creation.
 pub fn members_asked(
     alloc: Global,
     office: &Office,

@@ -40,8 +40,7 @@ struct Choice {
     is_any_left: bool,
 }
 
-/// The line that a name is left, and the lines of the plan that says why. It fails for want of memory
-/// alone.
+/// Returns the line that a name is left, and the lines of the plan that says why.
 fn refusal_lines(
     alloc: Global,
     schema: &Schema,
@@ -91,7 +90,7 @@ fn try_name(
 }
 
 impl Choice {
-    /// Takes a name, or leaves it. It fails for want of memory alone.
+    /// Takes a name, or leaves it.
     fn add(&mut self, name: &Words, trial: Trial) -> Result<(), AllocError>
         ensures { OnOk result (IsAdded self.old name.now trial self.new) }
     {
@@ -109,8 +108,7 @@ impl Choice {
     }
 }
 
-/// Tries names in their order, where nobody is cleared by this certificate. It fails for want of memory
-/// alone.
+/// Tries names in their order, where nobody is cleared by this certificate.
 fn choice_of(
     alloc: Global,
     office: &Office,
@@ -134,8 +132,8 @@ fn choice_of(
     Ok(choice)
 }
 
-/// The certificate of the members taken, and as notes who they are and why the others are left. It fails for
-/// want of memory alone.
+/// Returns the certificate of the members taken, and as notes who they are and why the others are
+/// left.
 fn choice_print(alloc: Global, schema: &Schema, choice: &Choice) -> Result<Print, AllocError>
     ensures { IfOk result (λ p. printed p ≡ print_of (certificate_text schema.now choice.now.certificate)
         (names_line (codes "kept") choice.now.taken.items ++ choice.now.left.items) choice.now.is_any_left false) }
@@ -147,8 +145,8 @@ fn choice_print(alloc: Global, schema: &Schema, choice: &Choice) -> Result<Print
     Ok(Print::new(text, notes, choice.is_any_left, false))
 }
 
-/// The members taken of those that names ask for, where nobody is cleared by this certificate. It fails for
-/// want of memory alone.
+/// Returns the members taken of those that names ask for, where nobody is cleared by this
+/// certificate.
 fn print_of_choice(
     alloc: Global,
     office: &Office,
@@ -165,8 +163,7 @@ fn print_of_choice(
 }
 
 /// Goes through the members that names ask for in their order, and takes each that is cleared with those taken
-/// before it; where not even nobody is cleared, what is planned for nobody. It fails for want of memory
-/// alone.
+/// before it; where not even nobody is cleared, what is planned for nobody.
 fn print_of_names(
     alloc: Global,
     office: &Office,
@@ -182,7 +179,8 @@ fn print_of_names(
     }
 }
 
-/// Which members over the office of a text are taken, where each is that is cleared with those before it.
+/// Returns which members over the office of a text are taken, where each is that is cleared with those
+/// before it.
 pub fn answer_keep(
     alloc: Global,
     office: &[u8],

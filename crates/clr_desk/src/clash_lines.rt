@@ -31,7 +31,7 @@ fn add_clash(
     lines.extend_from_slice(cause.as_slice())
 }
 
-/// The lines of sets. It fails for want of memory alone.
+/// Returns the lines of sets.
 fn sets_lines(
     alloc: Global,
     schema: &Schema,
@@ -49,7 +49,7 @@ fn sets_lines(
     Ok(lines)
 }
 
-/// A line of names, if there are any. It fails for want of memory alone.
+/// Returns a line of names, if there are any.
 fn line_of_some(alloc: Global, word: &str, names: &[&str]) -> Result<Vec<u8>, AllocError>
     ensures { IfOk result (λ line. line.items ≡ line_of_some word.now (map (λ name. name.now) names.now)) }
 {
@@ -59,7 +59,7 @@ fn line_of_some(alloc: Global, word: &str, names: &[&str]) -> Result<Vec<u8>, Al
     names_line(alloc, word, names)
 }
 
-/// The lines of all sets. It fails for want of memory alone.
+/// Returns the lines of all sets.
 pub(crate) fn clashes_lines(
     alloc: Global,
     schema: &Schema,

@@ -7,14 +7,14 @@ ghost use Rattle.clr_desk.specs.Clashes.{beside, in_no_set, is_among, is_beside,
 use clr_site_clashes::{SiteClash, names_at};
 use std::alloc::{AllocError, Global};
 
-/// Whether a position is among some.
+/// Returns whether a position is among some.
 fn is_among(positions: &[usize], at: usize) -> bool
     ensures { result ≡ is_among at positions.now }
 {
     positions.contains(&at)
 }
 
-/// Whether a position is in one of some sets.
+/// Returns whether a position is in one of some sets.
 fn is_in_a_set(clashes: &[SiteClash], at: usize) -> bool
     ensures { result ≡ list_any (λ k. is_among at k.members.items) clashes.now }
 {
@@ -23,7 +23,7 @@ fn is_in_a_set(clashes: &[SiteClash], at: usize) -> bool
         .any(|clash| is_among(clash.members.as_slice(), at))
 }
 
-/// Whether a position is in none of some sets.
+/// Returns whether a position is in none of some sets.
 fn is_in_no_set(clashes: &[SiteClash], at: usize) -> bool
     ensures { result ≡ is_in_no_set clashes.now at }
 {
@@ -50,7 +50,7 @@ fn add_free(clashes: &[SiteClash], at: usize, list: &mut Vec<usize>) -> Result<(
     Ok(())
 }
 
-/// The positions from 0 to below a count that aren't among some. It fails for want of memory alone.
+/// Returns the positions from 0 to below a count that aren't among some.
 fn positions_beside(alloc: Global, count: usize, looked: &[usize]) -> Result<Vec<usize>, AllocError>
     ensures { IfOk result (λ list. list.items ≡ filter (is_beside looked.now) (range_with_len 0 count)) }
 {
@@ -61,7 +61,7 @@ fn positions_beside(alloc: Global, count: usize, looked: &[usize]) -> Result<Vec
     Ok(list)
 }
 
-/// The positions from 0 to below a count that are in none of some sets. It fails for want of memory alone.
+/// Returns the positions from 0 to below a count that are in none of some sets.
 fn free_positions(
     alloc: Global,
     count: usize,
@@ -76,7 +76,7 @@ fn free_positions(
     Ok(list)
 }
 
-/// The members that weren't looked at with the others. It fails for want of memory alone.
+/// Returns the members that weren't looked at with the others.
 pub(crate) fn beside<'a>(
     alloc: Global,
     members: &[&'a str],
@@ -88,7 +88,7 @@ pub(crate) fn beside<'a>(
     names_at(alloc, members, positions.as_slice())
 }
 
-/// The members that are in no set. It fails for want of memory alone.
+/// Returns the members that are in no set.
 pub(crate) fn in_no_set<'a>(
     alloc: Global,
     members: &[&'a str],

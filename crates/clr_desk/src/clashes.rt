@@ -17,7 +17,7 @@ use clr_prints::{Print, notes_of, with_hints};
 use clr_site_clashes::{SiteClashes, site_clashes};
 use std::alloc::{AllocError, Global};
 
-/// All sets, as a text. It fails for want of memory alone.
+/// Returns all sets, as a text.
 fn found_print(
     alloc: Global,
     office: &Office,
@@ -32,8 +32,8 @@ fn found_print(
     Ok(Print::new(text, Vec::new(alloc), is_any, false))
 }
 
-/// The test of names that fails, as the line of a plan that is unfit. It fails for want of memory alone, also where
-/// no memory was found for the sets.
+/// Returns the test of names that fails, as the line of a plan that is unfit. It fails for want of memory alone,
+/// also where no memory was found for the sets.
 fn fault_print(
     alloc: Global,
     office: &Office,
@@ -50,7 +50,7 @@ fn fault_print(
     }
 }
 
-/// The sets of members, as a text, or the test of names that fails. It fails for want of memory alone.
+/// Returns the sets of members, as a text, or the test of names that fails.
 fn print_of_site(
     alloc: Global,
     office: &Office,
@@ -65,7 +65,7 @@ fn print_of_site(
     }
 }
 
-/// The sets of the members that names ask for. It fails for want of memory alone.
+/// Returns the sets of the members that names ask for.
 fn print_of_names(
     alloc: Global,
     office: &Office,
@@ -79,7 +79,7 @@ fn print_of_names(
     print_of_site(alloc, office, root, members.as_slice())
 }
 
-/// The smallest sets of members over the office of a text that can't be merged together.
+/// Returns the smallest sets of members over the office of a text that can't be merged together.
 pub fn answer_clashes(
     alloc: Global,
     office: &[u8],

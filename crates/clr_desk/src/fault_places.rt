@@ -7,7 +7,7 @@ use clr_office::{RunFault, Words};
 use clr_why::{short_certificate_fault, short_office_fault};
 use std::alloc::{AllocError, Global};
 
-/// The name of the file of a text, or no name.
+/// Returns the name of the file of a text, or no name.
 fn file_name(files: &[Words], at: usize) -> &str
     ensures { result.now ≡ file_name files.now at }
 {
@@ -17,7 +17,7 @@ fn file_name(files: &[Words], at: usize) -> &str
     }
 }
 
-/// The place of the fault of an office text.
+/// Returns the place of the fault of an office text.
 fn office_place(
     alloc: Global,
     files: &[Words],
@@ -33,7 +33,7 @@ fn office_place(
     }
 }
 
-/// The place of the fault of a certificate over an office text.
+/// Returns the place of the fault of a certificate over an office text.
 fn certificate_place(
     alloc: Global,
     files: &[Words],
@@ -53,7 +53,7 @@ fn certificate_place(
 
 /// Returns where the fault of a text is that `answer` fails with, in one line: the name of its file, the line, the column and what
 /// is wrong, as `why` says it; and nothing for a fault that no text has. The files are those of the office text and of the second
-/// text. Fails for want of memory alone.
+/// text.
 pub fn fault_place(
     alloc: Global,
     fault: RunFault,

@@ -18,7 +18,7 @@ enum Place {
     Between,
 }
 
-/// The place behind one more byte.
+/// Returns the place behind one more byte.
 fn place_behind(place: Place, byte: u8) -> Place {
     match (place, byte) {
         (Place::Within, b'\\') => Place::Escaped,
@@ -29,8 +29,8 @@ fn place_behind(place: Place, byte: u8) -> Place {
     }
 }
 
-/// Whether a line ends between two bytes: before an object in a list, and before the end of a list of
-/// objects.
+/// Returns whether a line ends between two bytes: before an object in a list, and before the end of a
+/// list of objects.
 fn is_line_end(place: Place, before: u8, byte: u8) -> bool {
     match place {
         Place::Between => matches!((before, byte), (b'[' | b',', b'{') | (b'}', b']')),
@@ -38,7 +38,7 @@ fn is_line_end(place: Place, before: u8, byte: u8) -> bool {
     }
 }
 
-/// Adds a byte, behind the end of a line if one ends there. It fails for want of memory alone.
+/// Adds a byte, behind the end of a line if one ends there.
 #[tactic(auto, using(crate::proofs::LineEnds::one_byte, crate::proofs::LineEnds::one_behind_an_end))]
 fn add_byte(lines: &mut Vec<u8>, ends_line: bool, byte: u8) -> Result<(), AllocError>
     ensures { OnOk result (without_line_ends lines.new.items ≡ without_line_ends lines.old.items ++ without_line_ends (byte ∷ [])) }
@@ -52,8 +52,8 @@ fn add_byte(lines: &mut Vec<u8>, ends_line: bool, byte: u8) -> Result<(), AllocE
     Ok(())
 }
 
-/// The bytes of a JSON text with line ends before each object in a list and before the end of a list of
-/// objects. It fails for want of memory alone.
+/// Returns the bytes of a JSON text with line ends before each object in a list and before the end of a
+/// list of objects.
 fn with_line_ends(alloc: Global, text: &[u8]) -> Result<Vec<u8>, AllocError>
     ensures { IfOk result (λ lines. without_line_ends lines.items ≡ without_line_ends text.now) }
 {
@@ -68,8 +68,7 @@ fn with_line_ends(alloc: Global, text: &[u8]) -> Result<Vec<u8>, AllocError>
     Ok(lines)
 }
 
-/// Whether a text is read as an office, in which the rules hold, whose text is another. It fails for want
-/// of memory alone.
+/// Returns whether a text is read as an office, in which the rules hold, whose text is another.
 fn is_read_as(alloc: Global, lines: &[u8], text: &[u8]) -> Result<bool, AllocError>
     ensures { IfOk result (λ same. IsTrue same → draft_in lines.now ≡ draft_in text.now) }
 {
@@ -80,8 +79,8 @@ fn is_read_as(alloc: Global, lines: &[u8], text: &[u8]) -> Result<bool, AllocErr
     }
 }
 
-/// The text of an office, a row a line, ended by `\n`. Where that weren't read as the same office it would be
-/// the text in one line. It fails for want of memory alone.
+/// Returns the text of an office, a row a line, ended by `\n`. Where that weren't read as the same office it
+/// would be the text in one line.
 fn text_in_lines(alloc: Global, office: &Office) -> Result<Vec<u8>, AllocError>
     ensures { IfOk result (λ text. IsInLines office.now text.items) }
 {
@@ -94,7 +93,7 @@ fn text_in_lines(alloc: Global, office: &Office) -> Result<Vec<u8>, AllocError>
     Ok(text)
 }
 
-/// What is printed of an office in lines. It fails for want of memory alone.
+/// Returns what is printed of an office in lines.
 fn format_print(alloc: Global, office: &Office) -> Result<Print, AllocError>
     ensures { IfOk result (λ p. IsFormatPrint office.now (printed p)) }
 {
@@ -102,7 +101,7 @@ fn format_print(alloc: Global, office: &Office) -> Result<Print, AllocError>
     Ok(Print::of_text(alloc, text))
 }
 
-/// The office of a text, a row a line.
+/// Returns the office of a text, a row a line.
 pub fn answer_format(alloc: Global, office: &[u8]) -> Result<Print, RunFault>
     ensures { IsMade (IsPrintIn IsFormatPrint (draft_in office.now)) result }
 {

@@ -15,7 +15,7 @@ use clr_office::{
 use clr_prints::{Print, hint_lines, notes_of};
 use std::alloc::{AllocError, Global};
 
-/// The office that merges left, and as notes the lines of the merges. It fails for want of memory alone.
+/// Returns the office that merges left, and as notes the lines of the merges.
 fn run_print(alloc: Global, office: &Office, run: &ClearedRun) -> Result<Print, AllocError>
     ensures { IfOk result (λ p. printed p ≡ merge_print run.now.replies.items run.now.stopped office.now) }
 {

@@ -5,7 +5,7 @@ ghost use Rattle.clr_desk.specs.Choices.{names_line};
 use clr_lines::add_count;
 use std::alloc::{AllocError, Global};
 
-/// A word, how many names there are, and the names. It fails for want of memory alone.
+/// Returns a word, how many names there are, and the names.
 pub(crate) fn names_line(alloc: Global, word: &str, names: &[&str]) -> Result<Vec<u8>, AllocError>
     ensures { IfOk result (λ line. line.items ≡ names_line word.now (map (λ name. name.now) names.now)) }
 {

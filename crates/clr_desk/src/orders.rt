@@ -12,7 +12,7 @@ use clr_prints::{Print, hint_lines, notes_of};
 use clr_words::{WorkOrder, work_order};
 use std::alloc::{AllocError, Global};
 
-/// The text of a work order, which refuses where the members aren't cleared.
+/// Returns the text of a work order, which refuses where the members aren't cleared.
 fn print_of_order(alloc: Global, order: WorkOrder) -> Print
     ensures { printed result ≡ order_print order }
 {
@@ -24,7 +24,7 @@ fn print_of_order(alloc: Global, order: WorkOrder) -> Print
     )
 }
 
-/// What is printed of members as a work order. It fails for want of memory alone.
+/// Returns what is printed of members as a work order.
 fn print_of_members(
     alloc: Global,
     office: &mut Office,
@@ -38,10 +38,10 @@ fn print_of_members(
     Ok(print_of_order(alloc, order))
 }
 
-/// The plan of members over the office of a text, as a work order: its text, and as notes hints at names that
-/// no workspace has. Where a rule doesn't hold the line that says so is the only note, and there is no text.
-/// Fails with `BadOffice` where the text is no office, and with `OutOfMemory` for want of memory, which may come
-/// in place of any other answer.
+/// Returns the plan of members over the office of a text, as a work order: its text, and as notes hints at names
+/// that no workspace has. Where a rule doesn't hold the line that says so is the only note, and there is no
+/// text. Fails with `BadOffice` where the text is no office, and with `OutOfMemory` for want of memory, which
+/// may come in place of any other answer.
 pub fn answer_work_order(
     alloc: Global,
     office: &[u8],

@@ -9,7 +9,7 @@ use clr_prints::{Ending, Print};
 use clr_why::{Why, why_certificate, why_office, why_script};
 use std::alloc::{AllocError, Global};
 
-/// What is printed of what is found in a text. It fails for want of memory alone.
+/// Returns what is printed of what is found in a text.
 fn print_of_why(alloc: Global, why: Why) -> Result<Print, AllocError>
     ensures { IfOk result (λ p. printed p ≡ why_print why) }
 {
@@ -25,7 +25,7 @@ fn print_of_why(alloc: Global, why: Why) -> Result<Print, AllocError>
     })
 }
 
-/// What is found in the text of a kind: the office text, or the second one over it. It fails for want of memory alone.
+/// Returns what is found in the text of a kind: the office text, or the second one over it.
 fn why_of(alloc: Global, kind: &TextKind, office: &[u8], second: &[u8]) -> Result<Why, AllocError>
     ensures { IfOk result (IsWhy kind.now office.now second.now) }
 {
@@ -36,7 +36,7 @@ fn why_of(alloc: Global, kind: &TextKind, office: &[u8], second: &[u8]) -> Resul
     }
 }
 
-/// Why the text of a kind can't be used, if it can't.
+/// Returns why the text of a kind can't be used, if it can't.
 pub fn answer_why(
     alloc: Global,
     kind: &TextKind,

@@ -17,7 +17,34 @@ known name rows = if reads_layers name then Some (tt {0}) else option_map (λ as
 
 all_known : AllByRecursion (IsKnown known) (built program).subs
 unfolding ask_by_name geographic_asked members_ask clap_on_literals
-all_known = ((refl, inl (λ rows. refl)), ((refl, inl (λ rows. refl)), ((refl, inl (λ rows. refl)), ((refl, inl (λ rows. refl)), ((refl, inl (λ rows. refl)), ((refl, inl (λ rows. refl)), ((refl, inl (λ rows. refl)), ((refl, inl (λ rows. refl)), ((refl, inl (λ rows. refl)), ((refl, inl (λ rows. refl)), ((refl, inl (λ rows. refl)), ((refl, inl (λ rows. refl)), ((refl, inl (λ rows. refl)), ((refl, inr refl), tt))))))))))))))
+all_known = (
+  (refl, inl (λ rows. refl)),
+  (
+    (refl, inl (λ rows. refl)),
+    (
+      (refl, inl (λ rows. refl)),
+      (
+        (refl, inl (λ rows. refl)),
+        (
+          (refl, inl (λ rows. refl)),
+          (
+            (refl, inl (λ rows. refl)),
+            (
+              (refl, inl (λ rows. refl)),
+              (
+                (refl, inl (λ rows. refl)),
+                (
+                  (refl, inl (λ rows. refl)),
+                  ((refl, inl (λ rows. refl)), ((refl, inl (λ rows. refl)), ((refl, inl (λ rows. refl)), ((refl, inl (λ rows. refl)), ((refl, inr refl), tt))))),
+                ),
+              ),
+            ),
+          ),
+        ),
+      ),
+    ),
+  ),
+)
 
 demands : (built program).top.subcommand_required ≡ true
 demands = refl
@@ -30,7 +57,8 @@ pub free : is_simple_and_free program ≡ true
 unfolding clap_on_literals
 free = refl
 
-either : (b : Bool) (o : Option (Ask × List Text)) → is_some (if b then Some (tt {0}) else option_map (λ asked. tt {0}) o) ≡ true → (not b || is_some o) ≡ true → is_some o ≡ true
+either : (b : Bool) (o : Option (Ask × List Text)) → is_some (if b then Some (tt {0}) else option_map (λ asked. tt {0}) o) ≡ true → (not b || is_some o) ≡ true
+    → is_some o ≡ true
 either true o some readable = readable
 either false (Some asked) some readable = refl
 either false None some readable = absurd cc

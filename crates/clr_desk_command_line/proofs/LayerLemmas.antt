@@ -11,7 +11,8 @@ pub names_no_layer : (word : List ℕ) → position_or_len is_equals_sign word �
 names_no_layer [] e = refl
 names_no_layer (x ∷ xs) e = go (is_equals_sign x) (names_no_layer xs) e
   where
-    go : (b : Bool) → (position_or_len is_equals_sign xs ≡ length xs → is_layer xs ≡ false) → cond (not b) (1 + position_or_len is_equals_sign xs) 0 ≡ length (x ∷ xs)
+    go : (b : Bool) → (position_or_len is_equals_sign xs ≡ length xs → is_layer xs ≡ false) → cond (not b) (1 + position_or_len is_equals_sign xs) 0
+        ≡ length (x ∷ xs)
         → (b || list_any is_equals_sign xs) ≡ false
     go true rest e = absurd (omega arith)
     go false rest e = rest (omega arith)

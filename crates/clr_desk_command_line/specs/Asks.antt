@@ -108,7 +108,8 @@ as_script_or_office false design = Design design
 
 abbrev pub design_of : List Row → Option (GeographicAsk × List Text)
 design_of rows =
-    option_and_then (λ first_key. asked_of_layers (codes "DB") (λ tables. as_script_or_office (is_set (codes "script") rows) (design_in rows first_key tables)) rows)
+    option_and_then
+    (λ first_key. asked_of_layers (codes "DB") (λ tables. as_script_or_office (is_set (codes "script") rows) (design_in rows first_key tables)) rows)
     (first_key_of rows)
 
 -- what is asked in the texts of geographic information systems, and the files; or nothing where a layer or a key can't be read

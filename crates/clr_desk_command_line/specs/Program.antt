@@ -3,17 +3,7 @@ use Rattle.std.specs.Prelude.{true, codes, Some}
 use Rattle.clap.specs.Lexer.{usize_max}
 use Rattle.clap.specs.Words.{App, Rule, Text, new_app, new_rule, with_rule, with_subcommand}
 use Rattle.clap.specs.declared.builder.action.ArgAction.TheVariants.{SetTrue}
-
--- a value that has to be given
-abbrev pub value : Text → Rule
-value id = record (new_rule id) { required = true }
-
-abbrev pub certificate_file : Rule
-certificate_file = value (codes "CERT")
-
--- names at the end, none or more
-abbrev pub names : Rule
-names = record (new_rule (codes "NAME")) { range = Some (record { start_inclusive = 0; end_inclusive = usize_max }) }
+use Rattle.clr_command_line.specs.Program.{database_command, demanding, merge, names, value}
 
 -- an option with one value
 abbrev pub option : Text → Rule
@@ -35,19 +25,12 @@ layers = record (new_rule (codes "TABLE=FILE")) { required = true; range = Some 
 abbrev pub root : Rule
 root = option (codes "under")
 
--- a subcommand over an office text
-abbrev pub database_command : Text → App
-database_command name = with_rule (new_app name) (value (codes "DB"))
-
 -- a subcommand over an office text and members of a root
 abbrev pub over_members : Text → App
 over_members name = with_rule (with_rule (database_command name) root) names
 
 abbrev pub certificate : App
 certificate = over_members (codes "certificate")
-
-abbrev pub merge : App
-merge = with_rule (with_rule (database_command (codes "merge")) certificate_file) names
 
 abbrev pub format : App
 format = database_command (codes "format")
@@ -86,13 +69,9 @@ design_of_layers = with_rule (with_rule (database_command (codes "design")) (val
 abbrev pub design : App
 design = with_rule (with_rule (with_rule design_of_layers (flag (codes "script"))) (option (codes "keys"))) round
 
--- a subcommand is demanded, and there is a version
-abbrev pub demanding : App
-demanding = let bare = new_app (codes "clr_desk") in record bare { top = record bare.top { has_version = true; subcommand_required = true } }
-
 -- those that print a certificate or an office
 abbrev pub printing : App
-printing = with_subcommand (with_subcommand (with_subcommand demanding certificate.top) merge.top) format.top
+printing = with_subcommand (with_subcommand (with_subcommand (demanding (codes "clr_desk")) certificate.top) merge.top) format.top
 
 -- those that say which members go together
 abbrev pub choosing : App

@@ -1,9 +1,10 @@
 //! The command line, as `clap` is told of it.
-ghost use Rattle.std.specs.Prelude.{◌≡◌, false, IfOk};
-ghost use Rattle.clap.specs.Words.{app_of, with_rule, with_subcommand};
+ghost use Rattle.std.specs.Prelude.{◌≡◌, codes, false, IfOk};
+ghost use Rattle.clap.specs.Words.{app_of, with_rule};
 ghost use Rattle.clap.specs.declared.builder.command.Command.TheViews.{out-Command as fields_of};
-ghost use Rattle.clr_desk_command_line.specs.Program.{certificate, certificate_file, choosing, clashes, database_command, demanding, explaining, exporting, format, keep, map, merge};
-ghost use Rattle.clr_desk_command_line.specs.Program.{names as several_names, option as option_rule, over_members, drawing, printing, program, report, root as root_option, why, words};
+ghost use Rattle.clr_command_line.specs.Program.{demanding, merge, value};
+ghost use Rattle.clr_desk_command_line.specs.Program.{certificate, choosing, clashes, drawing, explaining, exporting, format, keep, map, over_members};
+ghost use Rattle.clr_desk_command_line.specs.Program.{printing, program, report, root as root_option, why, words};
 
 use crate::design_commands::{design, office};
 use crate::helps::{
@@ -11,68 +12,41 @@ use crate::helps::{
     MERGE_PRINTS, REPORT_PRINTS, STATUSES, VERSION, WHY_PRINTS, WORDS_PRINTS,
 };
 use crate::layer_commands::{geojson, layer};
-use clap::{Arg, Command};
+use crate::options::with_option;
+use clap::Command;
+use clr_command_line::{add, over_database, with_names, with_value};
 use std::alloc::{AllocError, Global};
 
-/// A subcommand over an office text, with a line about it and with what it prints.
-pub(crate) fn over_database<'a>(
-    alloc: Global,
-    name: &'a str,
-    about: &'a str,
-    prints: &'a str,
-) -> Result<Command<'a>, AllocError>
-    ensures shape { IfOk result (λ c. app_of c ≡ database_command name.entry.now) }
-    ensures plain { IfOk result (λ c. (fields_of c).has_globals ≡ false) }
-{
-    let database = Arg::new(alloc, "DB")
-        .required(true)
-        .help("The file of the office text, which is JSON");
-    Command::new(alloc, name)
-        .about(about)
-        .after_help(prints)
-        .arg(database)
-}
-
-/// The command with an option for the root, which is LIVE if it isn't given.
+/// Returns the command with an option for the root, which is LIVE if it isn't given.
 fn with_root<'a>(alloc: Global, command: Command<'a>) -> Result<Command<'a>, AllocError>
     requires { (fields_of command).has_globals ≡ false }
     ensures shape { IfOk result (λ c. app_of c ≡ with_rule (app_of command.entry) root_option) }
     ensures plain { IfOk result (λ c. (fields_of c).has_globals ≡ false) }
 {
-    let root = Arg::new(alloc, "under")
-        .long("under")
-        .value_name("ROOT")
-        .help("The workspace above the designs, which keeps every rule [default: LIVE]");
-    command.arg(root)
+    with_option(
+        alloc,
+        command,
+        "under",
+        "ROOT",
+        "The workspace above the designs, which keeps every rule [default: LIVE]",
+    )
 }
 
-/// The command with names at its end, none or more.
-fn with_names<'a>(
-    alloc: Global,
-    command: Command<'a>,
-    help: &'a str,
-) -> Result<Command<'a>, AllocError>
-    requires { (fields_of command).has_globals ≡ false }
-    ensures shape { IfOk result (λ c. app_of c ≡ with_rule (app_of command.entry) several_names) }
-    ensures plain { IfOk result (λ c. (fields_of c).has_globals ≡ false) }
-{
-    let names = Arg::new(alloc, "NAME").num_args(0..).help(help);
-    command.arg(names)
-}
-
-/// The command with a certificate's file, which has to be given.
+/// Returns the command with a certificate's file, which has to be given.
 fn with_certificate<'a>(alloc: Global, command: Command<'a>) -> Result<Command<'a>, AllocError>
     requires { (fields_of command).has_globals ≡ false }
-    ensures shape { IfOk result (λ c. app_of c ≡ with_rule (app_of command.entry) certificate_file) }
+    ensures shape { IfOk result (λ c. app_of c ≡ with_rule (app_of command.entry) (value (codes "CERT"))) }
     ensures plain { IfOk result (λ c. (fields_of c).has_globals ≡ false) }
 {
-    let certificate = Arg::new(alloc, "CERT").required(true).help(
+    with_value(
+        alloc,
+        command,
+        "CERT",
         "The file of the certificate, as `clr_desk certificate` prints it",
-    );
-    command.arg(certificate)
+    )
 }
 
-/// A subcommand over an office text and designs of a root.
+/// Returns a subcommand over an office text and designs of a root.
 pub(crate) fn over_members<'a>(
     alloc: Global,
     name: &'a str,
@@ -149,24 +123,6 @@ fn clashes<'a>(alloc: Global) -> Result<Command<'a>, AllocError>
     )
 }
 
-/// The command with an option for the file of a text.
-fn with_file<'a>(
-    alloc: Global,
-    command: Command<'a>,
-    name: &'a str,
-    help: &'a str,
-) -> Result<Command<'a>, AllocError>
-    requires { (fields_of command).has_globals ≡ false }
-    ensures shape { IfOk result (λ c. app_of c ≡ with_rule (app_of command.entry) (option_rule name.entry.now)) }
-    ensures plain { IfOk result (λ c. (fields_of c).has_globals ≡ false) }
-{
-    let file = Arg::new(alloc, name)
-        .long(name)
-        .value_name("FILE")
-        .help(help);
-    command.arg(file)
-}
-
 fn why<'a>(alloc: Global) -> Result<Command<'a>, AllocError>
     ensures shape { IfOk result (λ c. app_of c ≡ why) }
     ensures plain { IfOk result (λ c. (fields_of c).has_globals ≡ false) }
@@ -177,16 +133,18 @@ fn why<'a>(alloc: Global) -> Result<Command<'a>, AllocError>
         "Says where an office text, a script or a certificate has its fault, and which",
         WHY_PRINTS,
     )?;
-    let command = with_file(
+    let command = with_option(
         alloc,
         command,
         "script",
+        "FILE",
         "The file of a script for this office",
     )?;
-    with_file(
+    with_option(
         alloc,
         command,
         "certificate",
+        "FILE",
         "The file of a certificate over this office",
     )
 }
@@ -227,19 +185,9 @@ fn report<'a>(alloc: Global) -> Result<Command<'a>, AllocError>
     )
 }
 
-/// The command with one more subcommand.
-fn add<'a>(command: Command<'a>, subcommand: Command<'a>) -> Result<Command<'a>, AllocError>
-    requires command { (fields_of command).has_globals ≡ false }
-    requires subcommand { (fields_of subcommand).has_globals ≡ false }
-    ensures shape { IfOk result (λ c. app_of c ≡ with_subcommand (app_of command.entry) (app_of subcommand.entry).top) }
-    ensures plain { IfOk result (λ c. (fields_of c).has_globals ≡ false) }
-{
-    command.subcommand(subcommand)
-}
-
-/// The command without its subcommands, of which it demands one.
+/// Returns the command without its subcommands, of which it demands one.
 fn start<'a>(alloc: Global) -> Command<'a>
-    ensures shape { app_of result ≡ demanding }
+    ensures shape { app_of result ≡ demanding (codes "clr_desk") }
     ensures plain { (fields_of result).has_globals ≡ false }
 {
     Command::new(alloc, "clr_desk")
@@ -249,7 +197,7 @@ fn start<'a>(alloc: Global) -> Command<'a>
         .subcommand_required(true)
 }
 
-/// The command with the subcommands that print a certificate or an office.
+/// Returns the command with the subcommands that print a certificate or an office.
 fn with_texts<'a>(alloc: Global) -> Result<Command<'a>, AllocError>
     ensures shape { IfOk result (λ c. app_of c ≡ printing) }
     ensures plain { IfOk result (λ c. (fields_of c).has_globals ≡ false) }
@@ -259,7 +207,7 @@ fn with_texts<'a>(alloc: Global) -> Result<Command<'a>, AllocError>
     add(command, format(alloc)?)
 }
 
-/// The command with those subcommands, too, that say which designs go together.
+/// Returns the command with those subcommands, too, that say which designs go together.
 fn with_choices<'a>(alloc: Global) -> Result<Command<'a>, AllocError>
     ensures shape { IfOk result (λ c. app_of c ≡ choosing) }
     ensures plain { IfOk result (λ c. (fields_of c).has_globals ≡ false) }
@@ -268,7 +216,7 @@ fn with_choices<'a>(alloc: Global) -> Result<Command<'a>, AllocError>
     add(command, clashes(alloc)?)
 }
 
-/// The command with those subcommands, too, that explain.
+/// Returns the command with those subcommands, too, that explain.
 fn with_explanations<'a>(alloc: Global) -> Result<Command<'a>, AllocError>
     ensures shape { IfOk result (λ c. app_of c ≡ explaining) }
     ensures plain { IfOk result (λ c. (fields_of c).has_globals ≡ false) }
@@ -277,7 +225,7 @@ fn with_explanations<'a>(alloc: Global) -> Result<Command<'a>, AllocError>
     add(command, words(alloc)?)
 }
 
-/// The command with those subcommands, too, that draw.
+/// Returns the command with those subcommands, too, that draw.
 fn with_pictures<'a>(alloc: Global) -> Result<Command<'a>, AllocError>
     ensures shape { IfOk result (λ c. app_of c ≡ drawing) }
     ensures plain { IfOk result (λ c. (fields_of c).has_globals ≡ false) }
@@ -286,7 +234,8 @@ fn with_pictures<'a>(alloc: Global) -> Result<Command<'a>, AllocError>
     add(command, report(alloc)?)
 }
 
-/// The command with those subcommands, too, that print texts for geographic information systems.
+/// Returns the command with those subcommands, too, that print texts for geographic information
+/// systems.
 fn with_exports<'a>(alloc: Global) -> Result<Command<'a>, AllocError>
     ensures shape { IfOk result (λ c. app_of c ≡ exporting) }
     ensures plain { IfOk result (λ c. (fields_of c).has_globals ≡ false) }

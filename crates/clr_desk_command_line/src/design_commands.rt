@@ -5,10 +5,10 @@ ghost use Rattle.clap.specs.Words.{app_of, rule_of, with_rule};
 ghost use Rattle.clap.specs.declared.builder.command.Command.TheViews.{out-Command as fields_of};
 ghost use Rattle.clr_desk_command_line.specs.Program.{design, design_of_layers, flag as flag_rule, layers as layers_rule, office, round as round_rule};
 
-use crate::command::over_database;
 use crate::helps::{DESIGN_PRINTS, OFFICE_PRINTS};
-use crate::layer_commands::{with_option, with_value};
+use crate::options::with_option;
 use clap::{Arg, ArgAction, Command};
+use clr_command_line::{over_database, with_value};
 use std::alloc::{AllocError, Global};
 
 /// Returns the argument of layers, one or more.

@@ -1,47 +1,16 @@
 //! The subcommands over layers and features, as `clap` is told of them.
 
 ghost use Rattle.std.specs.Prelude.{◌≡◌, false, IfOk};
-ghost use Rattle.clap.specs.Words.{app_of, with_rule};
+ghost use Rattle.clap.specs.Words.{app_of};
 ghost use Rattle.clap.specs.declared.builder.command.Command.TheViews.{out-Command as fields_of};
-ghost use Rattle.clr_desk_command_line.specs.Program.{geojson, layer, option as option_rule, value as value_rule};
+ghost use Rattle.clr_desk_command_line.specs.Program.{geojson, layer};
 
-use crate::command::{over_database, over_members};
+use crate::command::over_members;
 use crate::helps::{GEOJSON_PRINTS, LAYER_PRINTS};
-use clap::{Arg, Command};
+use crate::options::with_option;
+use clap::Command;
+use clr_command_line::{over_database, with_value};
 use std::alloc::{AllocError, Global};
-
-/// Returns the command with one more value, which has to be given.
-pub(crate) fn with_value<'a>(
-    alloc: Global,
-    command: Command<'a>,
-    id: &'a str,
-    help: &'a str,
-) -> Result<Command<'a>, AllocError>
-    requires { (fields_of command).has_globals ≡ false }
-    ensures shape { IfOk result (λ c. app_of c ≡ with_rule (app_of command.entry) (value_rule id.entry.now)) }
-    ensures plain { IfOk result (λ c. (fields_of c).has_globals ≡ false) }
-{
-    command.arg(Arg::new(alloc, id).required(true).help(help))
-}
-
-/// Returns the command with one more option, which has a value.
-pub(crate) fn with_option<'a>(
-    alloc: Global,
-    command: Command<'a>,
-    name: &'a str,
-    value: &'a str,
-    help: &'a str,
-) -> Result<Command<'a>, AllocError>
-    requires { (fields_of command).has_globals ≡ false }
-    ensures shape { IfOk result (λ c. app_of c ≡ with_rule (app_of command.entry) (option_rule name.entry.now)) }
-    ensures plain { IfOk result (λ c. (fields_of c).has_globals ≡ false) }
-{
-    let option = Arg::new(alloc, name)
-        .long(name)
-        .value_name(value)
-        .help(help);
-    command.arg(option)
-}
 
 /// Returns the subcommand `geojson`.
 pub(crate) fn geojson<'a>(alloc: Global) -> Result<Command<'a>, AllocError>

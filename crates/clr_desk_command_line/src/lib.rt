@@ -15,6 +15,7 @@ mod helps;
 mod layer_commands;
 mod layer_reading;
 mod named_layers;
+mod options;
 mod reading;
 mod values;
 

@@ -11,13 +11,6 @@ use std::alloc::{AllocError, Global};
 /// The tables and the files of layers.
 pub(crate) type TablesAndFiles = (Vec<Words>, Vec<Words>);
 
-/// Returns a text of its own.
-fn owned(alloc: Global, text: &str) -> Result<Words, AllocError>
-    ensures { IfOk result (λ words. words ≡ text.now) }
-{
-    Ok(Words::new(String::from_str(alloc, text)?))
-}
-
 /// Adds the table and the file that a word names round its first `=`. Returns false where it has none, and adds nothing then.
 fn add_layer(
     alloc: Global,
@@ -32,8 +25,8 @@ fn add_layer(
     let Some((table, file)) = word.split_once('=') else {
         return Ok(false);
     };
-    tables.push(owned(alloc, table)?)?;
-    files.push(owned(alloc, file)?)?;
+    tables.push(Words::from_str(alloc, table)?)?;
+    files.push(Words::from_str(alloc, file)?)?;
     Ok(true)
 }
 

@@ -20,14 +20,15 @@ use std::alloc::{AllocError, Global};
 /// What is asked, and the files, in which the office text stands first.
 type Asked = (Ask, Vec<Words>);
 
-/// Whether an option has a value.
+/// Returns whether an option has a value.
 fn has_value(matches: &ArgMatches, option: &str) -> bool
     ensures { result ≡ is_some (first_of option.now (rows_of (found_of matches.now))) }
 {
     matches.get_str(option).is_some()
 }
 
-/// What `why` asks for, and its files: where a script and a certificate are given, the script counts.
+/// Returns what `why` asks for, and its files: where a script and a certificate are given, the script
+/// counts.
 fn why(alloc: Global, matches: &ArgMatches) -> Result<Asked, AllocError>
     ensures { IfOk result (λ r. why_of (rows_of (found_of matches.now)) ≡ (r.0, r.1.items)) }
 {
@@ -46,7 +47,7 @@ fn why(alloc: Global, matches: &ArgMatches) -> Result<Asked, AllocError>
     }
 }
 
-/// What is asked of members of a root, if a subcommand of this name asks it.
+/// Returns what is asked of members of a root, if a subcommand of this name asks it.
 #[tactic(auto, unfolding(crate::specs::Asks::members_ask))]
 fn members_ask(name: &str, root: Words, names: Names) -> Option<Ask>
     ensures { result ≡ members_ask name.now root names }
@@ -62,7 +63,8 @@ fn members_ask(name: &str, root: Words, names: Names) -> Option<Ask>
     }
 }
 
-/// What a subcommand over members asks for, and its file, or nothing where no such subcommand has the name.
+/// Returns what a subcommand over members asks for, and its file, or nothing where no such subcommand has
+/// the name.
 fn over_members(
     alloc: Global,
     name: &str,
@@ -78,7 +80,7 @@ fn over_members(
     }
 }
 
-/// What `merge` asks for, and its files.
+/// Returns what `merge` asks for, and its files.
 fn merge(alloc: Global, matches: &ArgMatches) -> Result<Asked, AllocError>
     ensures { IfOk result (λ r. merge_of (rows_of (found_of matches.now)) ≡ (r.0, r.1.items)) }
 {
@@ -86,14 +88,15 @@ fn merge(alloc: Global, matches: &ArgMatches) -> Result<Asked, AllocError>
     Ok((ask, database_with(alloc, matches, "CERT")?))
 }
 
-/// What a subcommand over layers or members asks for, and its files, or nothing where no such subcommand has the name, or where its layers or its
-/// first key can't be read.
+/// Returns what a subcommand over layers or members asks for, and its files, or nothing where no such subcommand has the name, or where its
+/// layers or its first key can't be read.
 fn over_layers_or_members(
     alloc: Global,
     name: &str,
     matches: &ArgMatches,
 ) -> Result<Option<Asked>, AllocError>
-    ensures { IfOk result (λ r. or_members_asked (geographic_asked name.now (rows_of (found_of matches.now))) name.now (rows_of (found_of matches.now)) ≡ option_map (λ p. (p.0, p.1.items)) r) }
+    ensures { IfOk result (λ r. or_members_asked (geographic_asked name.now (rows_of (found_of matches.now))) name.now (rows_of (found_of matches.now))
+        ≡ option_map (λ p. (p.0, p.1.items)) r) }
 {
     match geographic(alloc, name, matches)? {
         Some((ask, files)) => Ok(Some((Ask::Geographic(ask), files))),
@@ -101,7 +104,8 @@ fn over_layers_or_members(
     }
 }
 
-/// What a subcommand asks for, and its files, or nothing where no subcommand has the name, or where its layers or its first key can't be read.
+/// Returns what a subcommand asks for, and its files, or nothing where no subcommand has the name, or where its layers or its first key can't
+/// be read.
 #[tactic(auto, unfolding(crate::specs::Asks::ask_by_name))]
 fn ask_of_subcommand(
     alloc: Global,
@@ -126,13 +130,12 @@ fn refusal(alloc: Global, matches: &ArgMatches) -> Result<AskFault, AllocError> 
     Ok(AskFault::Refused(error))
 }
 
-/// What the words of a command line ask for, with the program's name first, and the names of the
-/// files that it is asked of: that of the office text, and then that of the script or the certificate
-/// or those of the layers where there are some. The subcommands are `merge DB CERT NAME..`, `format DB`,
-/// `why DB [--script FILE] [--certificate FILE]`, `certificate`, `keep`, `clashes`, `words`, `map` and
-/// `report`, each with `DB [--under ROOT] NAME..`, `geojson DB [--under ROOT] [--crs SYSTEM] NAME..`, `layer DB TABLE [--in WORKSPACE]`,
-/// `office SCHEMA TABLE=FILE.. [--round]` and `design DB NAME TABLE=FILE.. [--script] [--keys N] [--round]`.
-/// There are none or more names, and one or more layers. The root, and the workspace of a layer, is LIVE where none is given; N is 1.
+/// Returns what the words of a command line ask for, with the program's name first, and the names of the files that it is asked of: that
+/// of the office text, and then that of the script or the certificate or those of the layers where there are some. The subcommands are
+/// `merge DB CERT NAME..`, `format DB`, `why DB [--script FILE] [--certificate FILE]`, `certificate`, `keep`, `clashes`, `words`, `map`
+/// and `report`, each with `DB [--under ROOT] NAME..`, `geojson DB [--under ROOT] [--crs SYSTEM] NAME..`, `layer DB TABLE [--in
+/// WORKSPACE]`, `office SCHEMA TABLE=FILE.. [--round]` and `design DB NAME TABLE=FILE.. [--script] [--keys N] [--round]`. There are none
+/// or more names, and one or more layers. The root, and the workspace of a layer, is LIVE where none is given; N is 1.
 ///
 /// Fails with `Refused` where the words name no subcommand or another count of values than it has,
 /// where a layer has no `=` or N is no key, or where they ask for help, as `help`, `--help` and `-h`, or for the version, as

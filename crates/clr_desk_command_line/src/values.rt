@@ -17,7 +17,7 @@ pub(crate) fn given(
     ensures { IfOk result (λ text. text ≡ first_of id.now (rows_of (found_of matches.now))) }
 {
     match matches.get_str(id) {
-        Some(text) => Ok(Some(Words::new(String::from_str(alloc, text)?))),
+        Some(text) => Ok(Some(Words::from_str(alloc, text)?)),
         None => Ok(None),
     }
 }
@@ -32,7 +32,7 @@ pub(crate) fn given_or(
     ensures { IfOk result (λ text. text ≡ given_or otherwise.now id.now (rows_of (found_of matches.now))) }
 {
     let text = matches.get_str(id).unwrap_or(otherwise);
-    Ok(Words::new(String::from_str(alloc, text)?))
+    Words::from_str(alloc, text)
 }
 
 /// Returns the root that is given, or LIVE.

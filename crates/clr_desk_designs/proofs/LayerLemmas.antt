@@ -8,6 +8,7 @@ use Rattle.clr_layer_changes.specs.declared.faults.FaultyLayer.{FaultyLayer}
 use Rattle.clr_layer_changes.specs.declared.options.GivenLayer.{GivenLayer}
 use Rattle.clr_layer_changes.specs.declared.options.LayerOptions.{LayerOptions}
 
-pub wanted_in : (o : Office) (options : LayerOptions) (layers : List GivenLayer) (tables : List TableDef) (live : Content) (found want : Result Content FaultyLayer)
+pub wanted_in : (o : Office) (options : LayerOptions) (layers : List GivenLayer) (tables : List TableDef) (live : Content)
+    (found want : Result Content FaultyLayer)
     → tables ≡ o.schema → live ≡ o.live → found ≡ wanted tables live options layers → found ≡ want → wanted o.schema o.live options layers ≡ want
 wanted_in o options layers tables live found want schema is_live read is = sym (read ∙ (λ i. wanted (schema i) (is_live i) options layers)) ∙ is

@@ -14,10 +14,10 @@ use Rattle.json.specs.Json as json
 use Rattle.json.proofs.Printed.Utf8.{IsUtf8-are_ascii}
 use Rattle.serde_json.specs.Read.{max_depth, of_json, read}
 use Rattle.clr_steps.specs.Offices.{Office}
-use Rattle.clr_office_text.specs.Fields.{◌>>=◌}
+use Rattle.clr_rule_text.specs.Fields.{◌>>=◌}
 use Rattle.clr_office_text.specs.Offices.{OfficeText, office_if_read, office_in}
-use Rattle.clr_office_text.specs.declared.faults.TextFault.{TextFault}
-use Rattle.clr_office_text.specs.declared.faults.TextFault.TheVariants.{NotJson}
+use Rattle.clr_rule_text.specs.declared.faults.TextFault.{TextFault}
+use Rattle.clr_rule_text.specs.declared.faults.TextFault.TheVariants.{NotJson}
 use Rattle.clr_drafts.specs.Drafts.{draft_in, if_standing, whole_office}
 
 -- a text with a line end behind it
@@ -47,15 +47,18 @@ content-ended after_u (a ∷ []) = refl
 content-ended after_u (a ∷ b ∷ []) = refl
 content-ended after_u (a ∷ b ∷ c ∷ []) = rw (no_unit a b c) refl
 content-ended after_u (a ∷ b ∷ c ∷ d ∷ xs) =
-    λ i. option_and_then (λ u. cond (is_high_surrogate u) (content-ended (after_high u) xs i) (cond (is_low_surrogate u) None (prepend (encode_utf8 u) (content-ended plain xs i)))) (code_unit a b c d)
+    λ i. option_and_then (λ u. cond (is_high_surrogate u) (content-ended (after_high u) xs i)
+    (cond (is_low_surrogate u) None (prepend (encode_utf8 u) (content-ended plain xs i)))) (code_unit a b c d)
 content-ended (after_high h) [] = refl
 content-ended (after_high h) (s ∷ []) = refl
 content-ended (after_high h) (s ∷ u ∷ []) = refl
 content-ended (after_high h) (s ∷ u ∷ a ∷ []) = refl
 content-ended (after_high h) (s ∷ u ∷ a ∷ b ∷ []) = refl
-content-ended (after_high h) (s ∷ u ∷ a ∷ b ∷ c ∷ []) = rw (no_unit a b c) (elim ((s == 92) && (u == 117)) as (λ b. cond {A = Option (List ℕ)} b None None ≡ None) [ true ↦ refl | false ↦ refl ])
+content-ended (after_high h) (s ∷ u ∷ a ∷ b ∷ c ∷ []) = rw (no_unit a b c) (elim ((s == 92) && (u == 117)) as (λ b. cond {A = Option (List ℕ)} b None None
+    ≡ None) [ true ↦ refl | false ↦ refl ])
 content-ended (after_high h) (s ∷ u ∷ a ∷ b ∷ c ∷ d ∷ xs) =
-    λ i. cond ((s == 92) && (u == 117)) (option_and_then (λ l. cond (is_low_surrogate l) (prepend (encode_utf8 (surrogate_pair h l)) (content-ended plain xs i)) None) (code_unit a b c d)) None
+    λ i. cond ((s == 92) && (u == 117)) (option_and_then (λ l. cond (is_low_surrogate l) (prepend (encode_utf8 (surrogate_pair h l)) (content-ended plain xs i))
+    None) (code_unit a b c d)) None
 
 -- words ---------------------------------------------------------------------------------------------------------------
 
@@ -77,7 +80,8 @@ begins-ended (n ∷ ns) [] one = rw one.0 refl
 begins-ended (n ∷ ns) (x ∷ t) one = by (nat_eq n x) (begins-ended ns t one.1)
   where
     by : (b : Bool) → begins ns (ended t) ≡ begins ns t
-        → ((b && pointwise nat_eq ns (take (length ns) (ended t))) && ends_word (drop (length ns) (ended t))) ≡ ((b && pointwise nat_eq ns (take (length ns) t)) && ends_word (drop (length ns) t))
+        → ((b && pointwise nat_eq ns (take (length ns) (ended t))) && ends_word (drop (length ns) (ended t))) ≡ ((b && pointwise nat_eq ns (take (length ns) t))
+        && ends_word (drop (length ns) t))
     by true rest = rest
     by false rest = refl
 
@@ -120,7 +124,8 @@ after_whole-ended : (t : List ℕ) → after_whole (ended t) ≡ more (after_who
 after_whole-ended [] = refl
 after_whole-ended (x ∷ t) = by (x == 48) (after_digits-ended (x ∷ t))
   where
-    by : (b : Bool) → after_digits (ended (x ∷ t)) ≡ more (after_digits (x ∷ t)) → cond b (Some (ended t)) (after_digits (ended (x ∷ t))) ≡ more (cond b (Some t) (after_digits (x ∷ t)))
+    by : (b : Bool) → after_digits (ended (x ∷ t)) ≡ more (after_digits (x ∷ t)) → cond b (Some (ended t)) (after_digits (ended (x ∷ t)))
+        ≡ more (cond b (Some t) (after_digits (x ∷ t)))
     by true e = refl
     by false e = e
 
@@ -128,7 +133,8 @@ after_fraction-ended : (t : List ℕ) → after_fraction (ended t) ≡ more (aft
 after_fraction-ended [] = refl
 after_fraction-ended (x ∷ t) = by (x == 46) (after_digits-ended t)
   where
-    by : (b : Bool) → after_digits (ended t) ≡ more (after_digits t) → cond b (after_digits (ended t)) (Some (ended (x ∷ t))) ≡ more (cond b (after_digits t) (Some (x ∷ t)))
+    by : (b : Bool) → after_digits (ended t) ≡ more (after_digits t) → cond b (after_digits (ended t)) (Some (ended (x ∷ t)))
+        ≡ more (cond b (after_digits t) (Some (x ∷ t)))
     by true e = e
     by false e = refl
 
@@ -141,7 +147,8 @@ after_exponent-ended (x ∷ t) = by ((x == 101) || (x == 69)) (ap after_digits (
     by true e = e
     by false e = refl
 
-then-ended : (f : List ℕ → Option (List ℕ)) → ((t : List ℕ) → f (ended t) ≡ more (f t)) → (o : Option (List ℕ)) → option_and_then f (more o) ≡ more (option_and_then f o)
+then-ended : (f : List ℕ → Option (List ℕ)) → ((t : List ℕ) → f (ended t) ≡ more (f t)) → (o : Option (List ℕ)) → option_and_then f (more o)
+    ≡ more (option_and_then f o)
 then-ended f each None = refl
 then-ended f each (Some t) = each t
 
@@ -200,7 +207,8 @@ lex-ended in_escape [] = refl
 lex-ended m (x ∷ t) = byte-ended m (class x) x t (λ n. lex n (ended t)) (λ n. lex n t) (λ n. lex-ended n t)
 
 read-ended : (t : List ℕ) → read (ended t) ≡ read t
-read-ended t = ap (λ (ls : List Lexeme). option_and_then of_json (option_and_then (λ p. json.if_last p.0 p.1) (json.value max_depth (punctuate fresh ls)))) (lex-ended between t)
+read-ended t = ap (λ (ls : List Lexeme). option_and_then of_json (option_and_then (λ p. json.if_last p.0 p.1) (json.value max_depth (punctuate fresh ls))))
+    (lex-ended between t)
 
 utf8-ended : (t : List ℕ) → is_utf8 t ≡ true → is_utf8 (ended t) ≡ true
 utf8-ended t h = is_utf8-from_IsUtf8 (ended t) (IsUtf8-append t (10 ∷ []) (IsUtf8-from_is_utf8 t h) (IsUtf8-are_ascii (10 ∷ []) refl))

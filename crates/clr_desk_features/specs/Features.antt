@@ -6,7 +6,7 @@ use Rattle.clr_steps.specs.Quiet.{Site}
 use Rattle.clr_plan.specs.declared.plans.Plan.{Plan}
 use Rattle.clr_plan.specs.Promises.{is_cleared, is_out_of_memory}
 use Rattle.clr_plan_features.specs.PlanFeatures.{AreFeatures}
-use Rattle.clr_office_text.specs.declared.faults.TextFault.{TextFault}
+use Rattle.clr_rule_text.specs.declared.faults.TextFault.{TextFault}
 use Rattle.clr_office.specs.Outcomes.{IsPlanned}
 use Rattle.clr_prints.specs.NameHints.{IsHinted}
 use Rattle.clr_prints.specs.Printing.{IsPrintIn, Printed, print_of}

@@ -15,7 +15,7 @@ use clr_plan_features::plan_features;
 use clr_prints::{Print, is_cleared, is_out_of_memory, notes_of, plan_members, with_hints};
 use std::alloc::{AllocError, Global};
 
-/// The text of the features of a plan, which refuses where the plan isn't cleared.
+/// Returns the text of the features of a plan, which refuses where the plan isn't cleared.
 fn print_of_features(alloc: Global, text: Vec<u8>, plan: &Plan) -> Print
     ensures { printed result ≡ features_print text.items plan.now }
 {
@@ -27,7 +27,7 @@ fn print_of_features(alloc: Global, text: Vec<u8>, plan: &Plan) -> Print
     )
 }
 
-/// What is printed of the features of the plan of members. It fails for want of memory alone.
+/// Returns what is printed of the features of the plan of members.
 fn print_of_members(
     alloc: Global,
     office: &Office,
@@ -43,7 +43,8 @@ fn print_of_members(
     Ok(print_of_features(alloc, text, &plan))
 }
 
-/// What is printed of the features of the plan of members over the office of a text, in a system of coordinates if there is one.
+/// Returns what is printed of the features of the plan of members over the office of a text, in a system of coordinates if there
+/// is one.
 fn answer_in(
     alloc: Global,
     office: &[u8],

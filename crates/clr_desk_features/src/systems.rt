@@ -8,7 +8,7 @@ use clr_prints::{Ending, Print};
 use clr_records::read_number;
 use std::alloc::{AllocError, Global};
 
-/// The number of 32 bits whose decimal a text is, if it is one.
+/// Returns the number of 32 bits whose decimal a text is, if it is one.
 fn code_of(digits: &str) -> Option<u32>
     ensures named { IfSome result (λ code. digits.now ≡ decimal code) }
     ensures no_other { result ≡ None → (code : ℕ) → code < 2 ^ 32 → digits.now ≢ decimal code }
@@ -31,7 +31,7 @@ pub(crate) fn system_of(text: &str) -> Option<u32>
     }
 }
 
-/// Returns what is printed where a text names no system of coordinates. Fails for want of memory alone.
+/// Returns what is printed where a text names no system of coordinates.
 pub(crate) fn print_of_no_system(alloc: Global, text: &str) -> Result<Print, AllocError>
     ensures { IfOk result (λ print. printed print ≡ no_system_print text.now) }
 {

@@ -31,7 +31,7 @@ fn print_of_table(
     }
 }
 
-/// Returns what is printed of a table's rows in LIVE or in a workspace. It fails for want of memory alone.
+/// Returns what is printed of a table's rows in LIVE or in a workspace.
 fn layer_print(
     alloc: Global,
     office: &Office,

@@ -12,7 +12,7 @@ use clr_plan_map::plan_map;
 use clr_prints::{Print, is_cleared, is_out_of_memory, notes_of, plan_members, with_hints};
 use std::alloc::{AllocError, Global};
 
-/// The text of the map of a plan, which refuses where the plan isn't cleared.
+/// Returns the text of the map of a plan, which refuses where the plan isn't cleared.
 fn print_of_map(alloc: Global, text: Vec<u8>, plan: &Plan) -> Print
     ensures { printed result ≡ map_print text.items plan.now }
 {
@@ -24,7 +24,7 @@ fn print_of_map(alloc: Global, text: Vec<u8>, plan: &Plan) -> Print
     )
 }
 
-/// What is printed of the map of the plan of members. It fails for want of memory alone.
+/// Returns what is printed of the map of the plan of members.
 fn print_of_members(
     alloc: Global,
     office: &Office,

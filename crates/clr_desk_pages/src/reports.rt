@@ -12,7 +12,7 @@ use clr_plan_report::plan_report;
 use clr_prints::{Print, hint_lines, is_cleared, is_out_of_memory, notes_of, plan_members};
 use std::alloc::{AllocError, Global};
 
-/// The text of the report of a plan, which refuses where the plan isn't cleared.
+/// Returns the text of the report of a plan, which refuses where the plan isn't cleared.
 fn print_of_report(alloc: Global, text: Vec<u8>, plan: &Plan) -> Print
     ensures { printed result ≡ report_print text.items plan.now }
 {
@@ -24,7 +24,7 @@ fn print_of_report(alloc: Global, text: Vec<u8>, plan: &Plan) -> Print
     )
 }
 
-/// What is printed of the report of the plan of members. It fails for want of memory alone.
+/// Returns what is printed of the report of the plan of members.
 fn print_of_plan(
     alloc: Global,
     office: &mut Office,

@@ -26,7 +26,7 @@ fn refuse_texts(
     status
 }
 
-/// The tables of the layers that are asked for, in the order of their files.
+/// Returns the tables of the layers that are asked for, in the order of their files.
 fn tables_of(ask: &Ask) -> &[Words] {
     match ask {
         Ask::Geographic(GeographicAsk::Office(tables, _)) => tables.as_slice(),
@@ -37,7 +37,8 @@ fn tables_of(ask: &Ask) -> &[Words] {
     }
 }
 
-/// The layers that are asked for, each with its table: their texts stand behind that of the office, which stays.
+/// Returns the layers that are asked for, each with its table: their texts stand behind that of the office,
+/// which stays.
 fn take_layers(
     rt: &HostRuntime,
     ask: &Ask,

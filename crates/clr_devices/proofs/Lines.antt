@@ -9,7 +9,8 @@ use Rattle.clr_devices.specs.Separator.{lines_of, onto_first, is_separator, arou
 abbrev pub line_size : List ℕ → ℕ
 line_size text = length (take_through 10 text)
 
-size_by : (newline : Bool) (byte : ℕ) (rest : List ℕ) → (byte == 10) ≡ newline → line_size rest ≤ length rest → (0 < line_size (byte ∷ rest)) × (line_size (byte ∷ rest) ≤ length (byte ∷ rest))
+size_by : (newline : Bool) (byte : ℕ) (rest : List ℕ) → (byte == 10) ≡ newline → line_size rest ≤ length rest → (0 < line_size (byte ∷ rest))
+    × (line_size (byte ∷ rest) ≤ length (byte ∷ rest))
 size_by true byte rest is within = rw is (omega arith, omega arith)
 size_by false byte rest is within = rw is (omega arith, omega (arith, within))
 
@@ -28,7 +29,8 @@ size_inside text i below =
     (size_some (drop i text) left, omega (arith, below, length-drop i text, size_within (drop i text)))
 
 -- a text begins with its first line
-begins_by : (newline : Bool) (byte : ℕ) (rest : List ℕ) → (byte == 10) ≡ newline → take (line_size rest) rest ≡ take_through 10 rest → take (line_size (byte ∷ rest)) (byte ∷ rest) ≡ take_through 10 (byte ∷ rest)
+begins_by : (newline : Bool) (byte : ℕ) (rest : List ℕ) → (byte == 10) ≡ newline → take (line_size rest) rest ≡ take_through 10 rest
+    → take (line_size (byte ∷ rest)) (byte ∷ rest) ≡ take_through 10 (byte ∷ rest)
 begins_by true byte rest is later = rw is refl
 begins_by false byte rest is later = rw is (ap (λ xs. byte ∷ xs) later)
 
@@ -48,7 +50,8 @@ first_line [] some = absurd (omega (arith, some))
 first_line (byte ∷ rest) some = rw (begins (byte ∷ rest)) (first_by (byte == 10) byte rest refl)
 
 -- the lines in a row are the text
-joined_by : (newline : Bool) (byte : ℕ) (rest : List ℕ) (lines : List (List ℕ)) → concat lines ≡ rest → concat (cond newline ((byte ∷ []) ∷ lines) (onto_first byte lines)) ≡ byte ∷ rest
+joined_by : (newline : Bool) (byte : ℕ) (rest : List ℕ) (lines : List (List ℕ)) → concat lines ≡ rest
+    → concat (cond newline ((byte ∷ []) ∷ lines) (onto_first byte lines)) ≡ byte ∷ rest
 joined_by true byte rest lines is = ap (λ xs. byte ∷ xs) is
 joined_by false byte rest [] is = ap (λ xs. byte ∷ xs) is
 joined_by false byte rest (line ∷ lines) is = ap (λ xs. byte ∷ xs) is
@@ -96,7 +99,8 @@ found_at text i whole below is so_far =
     sym (ap (with_front (take i text)) here ∙ ap (λ front. Some (front, after)) (append-nil (take i text))) ∙ so_far
 
 -- the first line from i on is passed
-pub passed_at : (text : List ℕ) (i : ℕ) (whole : Option (List ℕ × List ℕ)) → i < length text → is_separator (take (line_size (drop i text)) (drop i text)) ≡ false
+pub passed_at : (text : List ℕ) (i : ℕ) (whole : Option (List ℕ × List ℕ)) → i < length text → is_separator (take (line_size (drop i text)) (drop i text))
+    ≡ false
     → with_front (take i text) (around_separator (drop i text)) ≡ whole
     → with_front (take (i + line_size (drop i text)) text) (around_separator (drop (i + line_size (drop i text)) text)) ≡ whole
 unfolding around_separator
@@ -107,9 +111,11 @@ passed_at text i whole below is so_far =
     let line = take size rest in
     let after = drop size rest in
     let here : around_separator rest ≡ with_front line (around_separator after) = ap cut_lines (first_line rest left) ∙ passed line (lines_of after) is in
-    rw (take-add i size text, ← drop-drop size i text) (sym (regroup (take i text) line (around_separator after)) ∙ sym (ap (with_front (take i text)) here) ∙ so_far)
+    rw (take-add i size text, ← drop-drop size i text) (sym (regroup (take i text) line (around_separator after)) ∙ sym (ap (with_front (take i text)) here)
+    ∙ so_far)
 
 -- all lines were passed
-pub none_left : (text : List ℕ) (i : ℕ) (whole : Option (List ℕ × List ℕ)) → length text ≤ i → with_front (take i text) (around_separator (drop i text)) ≡ whole → whole ≡ None
+pub none_left : (text : List ℕ) (i : ℕ) (whole : Option (List ℕ × List ℕ)) → length text ≤ i → with_front (take i text) (around_separator (drop i text)) ≡ whole
+    → whole ≡ None
 unfolding around_separator
 none_left text i whole past so_far = sym so_far ∙ rw (drop_all i text past) refl

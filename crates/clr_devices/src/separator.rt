@@ -4,7 +4,7 @@ ghost use Rattle.std.specs.Prelude.{◌≡◌, length, option_map};
 ghost use Rattle.std.specs.Io.BufRead.{take_through};
 ghost use Rattle.clr_devices.specs.Separator.{is_separator as separates, around_separator};
 
-/// How many bytes the first line of a text has, with the `\n` that ends it.
+/// Returns how many bytes the first line of a text has, with the `\n` that ends it.
 fn line_len(text: &[u8]) -> usize
     ensures { result ≡ length (take_through 10 text.now) }
 {
@@ -16,7 +16,8 @@ fn line_len(text: &[u8]) -> usize
     text.len()
 }
 
-/// Whether a line, with the `\n` that may end it, is exactly `---`, or so with one `\r` after it.
+/// Returns whether a line, with the `\n` that may end it, is exactly `---`, or so with one `\r`
+/// after it.
 fn is_separator(line: &[u8]) -> bool
     ensures { result ≡ separates line.now }
 {

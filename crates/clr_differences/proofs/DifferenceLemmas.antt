@@ -19,7 +19,8 @@ use Rattle.clr_differences.specs.Differences.{Differences, Rows, cells_in, no_di
 
 pub row-seen_over : (m : Content) (d : Differences) (q : CellId) → row_at (seen_over m d) q ≡ unwrap_or (finite.get d q) (row_at m q)
 unfolding seen_over
-row-seen_over m d q = row-over m (finite.entries d) q (apart_from_sorted _ (finite.entries_sorted d)) ∙ ap (λ o. unwrap_or o (row_at m q)) (sym (finite.get-entries d q))
+row-seen_over m d q = row-over m (finite.entries d) q (apart_from_sorted _ (finite.entries_sorted d))
+    ∙ ap (λ o. unwrap_or o (row_at m q)) (sym (finite.get-entries d q))
 
 pub seen_over-none : (m : Content) → seen_over m no_differences ≡ m
 seen_over-none m = same_content _ _ (λ q. row-seen_over m no_differences q ∙ ap (λ o. unwrap_or o (row_at m q)) (finite.get-empty cell_cmp q))
@@ -27,7 +28,8 @@ seen_over-none m = same_content _ _ (λ q. row-seen_over m no_differences q ∙ 
 -- an entry put is a cell set
 pub seen_over-insert : (m : Content) (d : Differences) (k : CellId) (v : Option Row) → seen_over m (finite.insert d k v) ≡ set_cell (seen_over m d) k v
 seen_over-insert m d k v = same_content _ _ (λ q.
-    row-seen_over m (finite.insert d k v) q ∙ ap (λ o. unwrap_or o (row_at m q)) (finite.get-insert cell_cmp_total d k v q) ∙ by (eq_by_cmp cell_cmp q k) (finite.get d q) (row_at m q)
+    row-seen_over m (finite.insert d k v) q ∙ ap (λ o. unwrap_or o (row_at m q)) (finite.get-insert cell_cmp_total d k v q)
+    ∙ by (eq_by_cmp cell_cmp q k) (finite.get d q) (row_at m q)
     ∙ sym (row-set_cell (seen_over m d) k v q ∙ ap (cond (eq_by_cmp cell_cmp q k) v) (row-seen_over m d q)))
   where
     by : (b : Bool) (o : Option (Option Row)) (r : Option Row) → unwrap_or (cond b (Some v) o) r ≡ cond b v (unwrap_or o r)
@@ -45,7 +47,8 @@ seen_over-fresh m es = seen_over-put_each m es no_differences ∙ ap (λ x. over
 
 -- a cell set to the row that stands there
 pub set_cell-same : (m : Content) (k : CellId) (v : Option Row) → v ≡ row_at m k → set_cell m k v ≡ m
-set_cell-same m k v is = same_content _ _ (λ q. row-set_cell m k v q ∙ ap (λ w. cond (eq_by_cmp cell_cmp q k) w (row_at m q)) is ∙ by q (eq_by_cmp cell_cmp q k) refl)
+set_cell-same m k v is = same_content _ _ (λ q. row-set_cell m k v q ∙ ap (λ w. cond (eq_by_cmp cell_cmp q k) w (row_at m q)) is
+    ∙ by q (eq_by_cmp cell_cmp q k) refl)
   where
     by : (q : CellId) (b : Bool) → eq_by_cmp cell_cmp q k ≡ b → cond b (row_at m k) (row_at m q) ≡ row_at m q
     by q true h = ap (row_at m) (sym (tied_cells q k h))
@@ -57,13 +60,15 @@ pub neutral : (m : Content) (d : Differences) (k : CellId) (v : Option Row) → 
 neutral m d k v is = seen_over-insert m d k v ∙ set_cell-same (seen_over m d) k v is
 
 -- where there was no entry the row is that of the content below
-pub neutral_new : (m : Content) (d : Differences) (k : CellId) (v : Option Row) → finite.get d k ≡ None → v ≡ row_at m k → seen_over m (finite.insert d k v) ≡ seen_over m d
+pub neutral_new : (m : Content) (d : Differences) (k : CellId) (v : Option Row) → finite.get d k ≡ None → v ≡ row_at m k → seen_over m (finite.insert d k v)
+    ≡ seen_over m d
 neutral_new m d k v none is = neutral m d k v (is ∙ sym (row-seen_over m d k ∙ ap (λ o. unwrap_or o (row_at m k)) none))
 
 -- an entry with the row below is taken away
 pub neutral_taken : (m : Content) (d : Differences) (k : CellId) → finite.get d k ≡ Some (row_at m k) → seen_over m (finite.remove d k) ≡ seen_over m d
 neutral_taken m d k is = same_content _ _ (λ q.
-    row-seen_over m (finite.remove d k) q ∙ ap (λ o. unwrap_or o (row_at m q)) (finite.get-remove cell_cmp_total d k q) ∙ by q (eq_by_cmp cell_cmp q k) refl ∙ sym (row-seen_over m d q))
+    row-seen_over m (finite.remove d k) q ∙ ap (λ o. unwrap_or o (row_at m q)) (finite.get-remove cell_cmp_total d k q) ∙ by q (eq_by_cmp cell_cmp q k) refl
+    ∙ sym (row-seen_over m d q))
   where
     by : (q : CellId) (b : Bool) → eq_by_cmp cell_cmp q k ≡ b → unwrap_or (cond b None (finite.get d q)) (row_at m q) ≡ unwrap_or (finite.get d q) (row_at m q)
     by q true h = sym (ap (λ o. unwrap_or o (row_at m q)) (subst (λ j. finite.get d j ≡ Some (row_at m j)) (sym (tied_cells q k h)) is))
@@ -75,7 +80,8 @@ seen_over-remove m d k = same_content _ _ (λ q.
     row-seen_over m (finite.remove d k) q ∙ ap (λ o. unwrap_or o (row_at m q)) (finite.get-remove cell_cmp_total d k q) ∙ by q (eq_by_cmp cell_cmp q k) refl
     ∙ sym (row-set_cell (seen_over m d) k (row_at m k) q ∙ ap (cond (eq_by_cmp cell_cmp q k) (row_at m k)) (row-seen_over m d q)))
   where
-    by : (q : CellId) (b : Bool) → eq_by_cmp cell_cmp q k ≡ b → unwrap_or (cond b None (finite.get d q)) (row_at m q) ≡ cond b (row_at m k) (unwrap_or (finite.get d q) (row_at m q))
+    by : (q : CellId) (b : Bool) → eq_by_cmp cell_cmp q k ≡ b → unwrap_or (cond b None (finite.get d q)) (row_at m q)
+        ≡ cond b (row_at m k) (unwrap_or (finite.get d q) (row_at m q))
     by q true h = ap (row_at m) (tied_cells q k h)
     by q false h = refl
 
@@ -139,20 +145,23 @@ entries_push d [] cell pinned one = (one, tt)
 entries_push d (c ∷ cells) cell pinned one = (pinned.0, entries_push d cells cell pinned.1 one)
 
 -- entries at one more of some cells
-pub entries_next : (d : Differences) (cells : List CellId) (i : ℕ) (c : CellId) → i < length cells → HasEntries d (take i cells) → HasEntry d (get_or cells i c) → HasEntries d (take (i + 1) cells)
+pub entries_next : (d : Differences) (cells : List CellId) (i : ℕ) (c : CellId) → i < length cells → HasEntries d (take i cells) → HasEntry d (get_or cells i c)
+    → HasEntries d (take (i + 1) cells)
 entries_next d cells i c lt pinned one = subst (HasEntries d) (sym (take_at_read cells i c lt).1) (entries_push d (take i cells) (get_or cells i c) pinned one)
 
 -- other cells -------------------------------------------------------------------------------------
 
 -- a cell that is none of some is neither the first nor one of the others
-pub not_among : (cell : CellId) (cells : List CellId) (q : CellId) → is_among (cell ∷ cells) q ≡ false → (eq_by_cmp cell_cmp q cell ≡ false) × (is_among cells q ≡ false)
+pub not_among : (cell : CellId) (cells : List CellId) (q : CellId) → is_among (cell ∷ cells) q ≡ false → (eq_by_cmp cell_cmp q cell ≡ false)
+    × (is_among cells q ≡ false)
 not_among cell cells q e = by (eq_by_cmp cell_cmp q cell) e
   where
     by : (b : Bool) → cond b true (is_among cells q) ≡ false → (b ≡ false) × (is_among cells q ≡ false)
     by true h = absurd (false≢true (sym h))
     by false h = (refl, h)
 
-pub put_elsewhere : (d : Differences) (k : CellId) (v : Option Row) (q : CellId) → is_among (k ∷ []) q ≡ false → finite.get (finite.insert d k v) q ≡ finite.get d q
+pub put_elsewhere : (d : Differences) (k : CellId) (v : Option Row) (q : CellId) → is_among (k ∷ []) q ≡ false → finite.get (finite.insert d k v) q
+    ≡ finite.get d q
 put_elsewhere d k v q apart = finite.get-insert cell_cmp_total d k v q ∙ ap (λ b. cond b (Some v) (finite.get d q)) (not_among k [] q apart).0
 
 pub taken_elsewhere : (d : Differences) (k q : CellId) → is_among (k ∷ []) q ≡ false → finite.get (finite.remove d k) q ≡ finite.get d q
@@ -163,7 +172,8 @@ unfolding put_each
 put_each_elsewhere [] d q apart = refl
 put_each_elsewhere (e ∷ es) d q apart =
     let both = not_among e.0 (cells_in es) q apart in
-    put_each_elsewhere es (finite.insert d e.0 e.1) q both.1 ∙ finite.get-insert cell_cmp_total d e.0 e.1 q ∙ ap (λ b. cond b (Some e.1) (finite.get d q)) both.0
+    put_each_elsewhere es (finite.insert d e.0 e.1) q both.1 ∙ finite.get-insert cell_cmp_total d e.0 e.1 q
+    ∙ ap (λ b. cond b (Some e.1) (finite.get d q)) both.0
 
 -- what a look-up says
 pub nothing_found : {A : Type 0} (o : Option (Bor A)) → is_some o ≡ false → option_copied o ≡ None

@@ -24,7 +24,8 @@ use Rattle.clr_differences.specs.Differences.{Differences, Rows, differences_fro
 use Rattle.clr_differences.proofs.DifferenceLemmas.{row-seen_over, neutral_taken}
 
 -- what `retain` leaves, where the test keeps no state and changes no value
-pub filtered_from_retain : {K X F : Type 0} (T : F → K → X → Bool → X → F → Type 0) (p : K × X → Bool) (f : F) → ((k : K) (v : X) (b : Bool) (w : X) (g : F) → T f k v b w g → (b ≡ p (k, v)) × (w ≡ v) × (g ≡ f))
+pub filtered_from_retain : {K X F : Type 0} (T : F → K → X → Bool → X → F → Type 0) (p : K × X → Bool) (f : F) → ((k : K) (v : X) (b : Bool) (w : X) (g : F)
+    → T f k v b w g → (b ≡ p (k, v)) × (w ≡ v) × (g ≡ f))
     → (es kept : List (K × X)) → RetainsPairs T f es kept → kept ≡ filter p es
 filtered_from_retain T p f says [] kept h = h
 filtered_from_retain T p f says (e ∷ es) kept h =
@@ -32,28 +33,35 @@ filtered_from_retain T p f says (e ∷ es) kept h =
     let rest = filtered_from_retain T p f says es h.3 (subst (λ u. RetainsPairs T u es h.3) s.2 h.5) in
     h.6 ∙ (λ j. cond (s.0 j) ((e.0, s.1 j) ∷ rest j) (rest j))
 
-pub swept_entries : (below : Content) (es kept : Rows) → T (is_sorted cell_cmp es) → kept ≡ filter (is_own below) es → finite.from_sorted kept ≡ without_neutral below (finite.from_sorted es)
+pub swept_entries : (below : Content) (es kept : Rows) → T (is_sorted cell_cmp es) → kept ≡ filter (is_own below) es → finite.from_sorted kept
+    ≡ without_neutral below (finite.from_sorted es)
 unfolding without_neutral
-swept_entries below es kept sorted e = ap (λ (es : Rows). finite.from_sorted es) (e ∙ ap (filter (is_own below)) (sym (finite.entries-from_sorted cell_cmp es sorted)))
+swept_entries below es kept sorted e = ap (λ (es : Rows). finite.from_sorted es) (e
+    ∙ ap (filter (is_own below)) (sym (finite.entries-from_sorted cell_cmp es sorted)))
 
 -- what a filter leaves of a cell
 abbrev kept_of : Content → CellId → Option (Option Row) → Option (Option Row)
 kept_of below q None = None
 kept_of below q (Some row) = cond (is_own below (q, row)) (Some row) None
 
-find_own : (below : Content) (es : Rows) (q : CellId) → T (is_sorted cell_cmp es) → find cell_cmp q (filter (is_own below) es) ≡ kept_of below q (find cell_cmp q es)
+find_own : (below : Content) (es : Rows) (q : CellId) → T (is_sorted cell_cmp es) → find cell_cmp q (filter (is_own below) es)
+    ≡ kept_of below q (find cell_cmp q es)
 find_own below [] q sorted = refl
 find_own below (e ∷ es) q sorted =
     let rest = find_own below es q (second _ _ sorted) in
-    elim (eq_by_cmp cell_cmp q e.0) as (λ t. eq_by_cmp cell_cmp q e.0 ≡ t → find cell_cmp q (filter (is_own below) (e ∷ es)) ≡ kept_of below q (cond t (Some e.1) (find cell_cmp q es))) [
+    elim (eq_by_cmp cell_cmp q e.0) as (λ t. eq_by_cmp cell_cmp q e.0 ≡ t → find cell_cmp q (filter (is_own below) (e ∷ es))
+    ≡ kept_of below q (cond t (Some e.1) (find cell_cmp q es))) [
       | true ↦ λ t. let none : find cell_cmp q es ≡ None = ap (λ c. find cell_cmp c es) (tied_cells q e.0 t) ∙ find_below e.0 es (first _ _ sorted) in
-          ap (λ (c : CellId). find cell_cmp q (cond (not (same (row_at below c) e.1)) (e ∷ filter (is_own below) es) (filter (is_own below) es))) (sym (tied_cells q e.0 t))
-          ∙ elim (not (same (row_at below q) e.1)) as (λ r. find cell_cmp q (cond r (e ∷ filter (is_own below) es) (filter (is_own below) es)) ≡ cond r (Some e.1) None) [
+          ap (λ (c : CellId). find cell_cmp q (cond (not (same (row_at below c) e.1)) (e ∷ filter (is_own below) es) (filter (is_own below) es)))
+          (sym (tied_cells q e.0 t))
+          ∙ elim (not (same (row_at below q) e.1)) as (λ r. find cell_cmp q (cond r (e ∷ filter (is_own below) es) (filter (is_own below) es))
+          ≡ cond r (Some e.1) None) [
             | true ↦ ap (λ b. cond b (Some e.1) (find cell_cmp q (filter (is_own below) es))) t
             | false ↦ rest ∙ ap (kept_of below q) none
           ]
       | false ↦ λ t.
-          elim (is_own below e) as (λ r. find cell_cmp q (cond r (e ∷ filter (is_own below) es) (filter (is_own below) es)) ≡ find cell_cmp q (filter (is_own below) es)) [
+          elim (is_own below e) as (λ r. find cell_cmp q (cond r (e ∷ filter (is_own below) es) (filter (is_own below) es))
+          ≡ find cell_cmp q (filter (is_own below) es)) [
             | true ↦ ap (λ b. cond b (Some e.1) (find cell_cmp q (filter (is_own below) es))) t
             | false ↦ refl
           ] ∙ rest
@@ -72,7 +80,8 @@ get-swept below d q =
     none : (row : Option Row) → None ≡ cond (not (same row row)) (Some row) None
     none row = sym (ap (λ b. cond (not b) (Some row) None) (same_itself row))
 
-    by : (o : Option (Option Row)) → kept_of below q o ≡ cond (not (same (row_at below q) (unwrap_or o (row_at below q)))) (Some (unwrap_or o (row_at below q))) None
+    by : (o : Option (Option Row)) → kept_of below q o ≡ cond (not (same (row_at below q) (unwrap_or o (row_at below q)))) (Some (unwrap_or o (row_at below q)))
+        None
     by None = none (row_at below q)
     by (Some row) = refl
 
@@ -92,7 +101,8 @@ after_sorted changed = sorted-map after_of (finite.entries changed) (finite.entr
 pub entries-differences : (below content : Content) → finite.entries (differences_from below content) ≡ rows_after (changes below content)
 entries-differences below content = finite.entries-from_sorted cell_cmp (rows_after (changes below content)) (after_sorted (changes below content))
 
-cells_after : (es : List (CellId × Change)) → length (map (λ (e : CellId × Option Row). e.0) (map (λ (e : CellId × Change). (e.0, e.1.after)) es)) ≡ length (map (λ (e : CellId × Change). e.0) es)
+cells_after : (es : List (CellId × Change)) → length (map (λ (e : CellId × Option Row). e.0) (map (λ (e : CellId × Change). (e.0, e.1.after)) es))
+    ≡ length (map (λ (e : CellId × Change). e.0) es)
 cells_after [] = refl
 cells_after (e ∷ es) = ap suc (cells_after es)
 
@@ -101,17 +111,21 @@ pub swept-differences : (below : Content) (d : Differences) → differences_from
 swept-differences below d =
     let changed = changes below (seen_over below d) in
     finite.same_map cell_cmp_total cell_cmp_exact _ _ (λ q.
-    finite.get-from_sorted cell_cmp _ q (after_sorted changed) ∙ find-map after_of (finite.entries changed) q ∙ ap (option_map after_of) (sym (finite.get-entries changed q) ∙ get-changes below (seen_over below d) q)
+    finite.get-from_sorted cell_cmp _ q (after_sorted changed) ∙ find-map after_of (finite.entries changed) q
+    ∙ ap (option_map after_of) (sym (finite.get-entries changed q) ∙ get-changes below (seen_over below d) q)
     ∙ by q (is_changed below (seen_over below d) q) ∙ sym (get-swept below d q))
   where
-    by : (q : CellId) (b : Bool) → option_map after_of (cond b (Some (change_of below (seen_over below d) q)) None) ≡ cond b (Some (row_at (seen_over below d) q)) None
+    by : (q : CellId) (b : Bool) → option_map after_of (cond b (Some (change_of below (seen_over below d) q)) None)
+        ≡ cond b (Some (row_at (seen_over below d) q)) None
     by q true = refl
     by q false = refl
 
-pub count-swept : (below : Content) (d : Differences) → length (finite.keys (without_neutral below d)) ≡ length (finite.keys (changes below (seen_over below d)))
+pub count-swept : (below : Content) (d : Differences) → length (finite.keys (without_neutral below d))
+    ≡ length (finite.keys (changes below (seen_over below d)))
 count-swept below d =
     let changed = changes below (seen_over below d) in
-    sym (ap length (keys-from_sorted (rows_after changed) (without_neutral below d) (after_sorted changed) (swept-differences below d))) ∙ cells_after (finite.entries changed) ∙ keys_are changed
+    sym (ap length (keys-from_sorted (rows_after changed) (without_neutral below d) (after_sorted changed) (swept-differences below d)))
+    ∙ cells_after (finite.entries changed) ∙ keys_are changed
   where
     keys_are : (changed : Changes) → length (map (λ (e : CellId × Change). e.0) (finite.entries changed)) ≡ length (finite.keys changed)
     keys_are changed = refl
@@ -119,7 +133,8 @@ count-swept below d =
 -- entries taken away at some cells -----------------------------------------------------------------------
 
 -- what is neutral at the cell goes, and nothing else
-get-swept_cell : (below : Content) (d : Differences) (cell q : CellId) → finite.get (swept_cell below d cell) q ≡ cond (is_neutral_over (row_at below cell) (finite.get d cell)) (cond (eq_by_cmp cell_cmp q cell) None (finite.get d q)) (finite.get d q)
+get-swept_cell : (below : Content) (d : Differences) (cell q : CellId) → finite.get (swept_cell below d cell) q
+    ≡ cond (is_neutral_over (row_at below cell) (finite.get d cell)) (cond (eq_by_cmp cell_cmp q cell) None (finite.get d q)) (finite.get d q)
 unfolding swept_cell
 get-swept_cell below d cell q = by (is_neutral_over (row_at below cell) (finite.get d cell))
   where
@@ -131,11 +146,13 @@ seen-swept_cell : (below : Content) (d : Differences) (cell : CellId) → seen_o
 unfolding swept_cell
 seen-swept_cell below d cell = by (finite.get d cell) refl
   where
-    at : (row : Option Row) (b : Bool) → same (row_at below cell) row ≡ b → finite.get d cell ≡ Some row → seen_over below (cond b (finite.remove d cell) d) ≡ seen_over below d
+    at : (row : Option Row) (b : Bool) → same (row_at below cell) row ≡ b → finite.get d cell ≡ Some row → seen_over below (cond b (finite.remove d cell) d)
+        ≡ seen_over below d
     at row true e is = neutral_taken below d cell (is ∙ ap (λ (r : Option Row). Some r) (sym (same_is (row_at below cell) row e)))
     at row false e is = refl
 
-    by : (o : Option (Option Row)) → finite.get d cell ≡ o → seen_over below (cond (is_neutral_over (row_at below cell) o) (finite.remove d cell) d) ≡ seen_over below d
+    by : (o : Option (Option Row)) → finite.get d cell ≡ o → seen_over below (cond (is_neutral_over (row_at below cell) o) (finite.remove d cell) d)
+        ≡ seen_over below d
     by None is = refl
     by (Some row) is = at row (same (row_at below cell) row) refl is
 
@@ -145,7 +162,8 @@ seen-swept_at below [] d = refl
 seen-swept_at below (cell ∷ cells) d = seen-swept_at below cells (swept_cell below d cell) ∙ seen-swept_cell below d cell
 
 -- what isn't neutral over any row stays so
-own_cell : (below : Content) (d : Differences) (cell q : CellId) (row : Option Row) → IsOwnOver row (finite.get d q) → IsOwnOver row (finite.get (swept_cell below d cell) q)
+own_cell : (below : Content) (d : Differences) (cell q : CellId) (row : Option Row) → IsOwnOver row (finite.get d q)
+    → IsOwnOver row (finite.get (swept_cell below d cell) q)
 own_cell below d cell q row own =
     subst (IsOwnOver row) (sym (get-swept_cell below d cell q)) (by (is_neutral_over (row_at below cell) (finite.get d cell)) (eq_by_cmp cell_cmp q cell))
   where
@@ -154,37 +172,46 @@ own_cell below d cell q row own =
     by true false = own
     by false c = own
 
-pub own_stays : (below : Content) (cells : List CellId) (d : Differences) (q : CellId) (row : Option Row) → IsOwnOver row (finite.get d q) → IsOwnOver row (finite.get (swept_at below cells d) q)
+pub own_stays : (below : Content) (cells : List CellId) (d : Differences) (q : CellId) (row : Option Row) → IsOwnOver row (finite.get d q)
+    → IsOwnOver row (finite.get (swept_at below cells d) q)
 unfolding swept_at
 own_stays below [] d q row own = own
 own_stays below (cell ∷ cells) d q row own = own_stays below cells (swept_cell below d cell) q row (own_cell below d cell q row own)
 
 -- nothing neutral is left at the cells
-own_here : (below : Content) (d : Differences) (cell q : CellId) → eq_by_cmp cell_cmp q cell ≡ true → IsOwnOver (row_at below q) (finite.get (swept_cell below d cell) q)
+own_here : (below : Content) (d : Differences) (cell q : CellId) → eq_by_cmp cell_cmp q cell ≡ true
+    → IsOwnOver (row_at below q) (finite.get (swept_cell below d cell) q)
 own_here below d cell q tied =
-    subst (IsOwnOver (row_at below q)) (sym (get-swept_cell below d cell q ∙ ap (λ c. cond (is_neutral_over (row_at below cell) (finite.get d cell)) (cond c None (finite.get d q)) (finite.get d q)) tied))
-    (by (is_neutral_over (row_at below cell) (finite.get d cell)) (ap (λ (c : CellId). is_neutral_over (row_at below c) (finite.get d c)) (tied_cells q cell tied)))
+    subst (IsOwnOver (row_at below q)) (sym (get-swept_cell below d cell q
+    ∙ ap (λ c. cond (is_neutral_over (row_at below cell) (finite.get d cell)) (cond c None (finite.get d q)) (finite.get d q)) tied))
+    (by (is_neutral_over (row_at below cell) (finite.get d cell)) (ap (λ (c : CellId). is_neutral_over (row_at below c) (finite.get d c))
+    (tied_cells q cell tied)))
   where
     by : (b : Bool) → is_neutral_over (row_at below q) (finite.get d q) ≡ b → IsOwnOver (row_at below q) (cond b None (finite.get d q))
     by true e = refl
     by false e = e
 
-pub own_made : (below : Content) (cells : List CellId) (d : Differences) (q : CellId) → is_among cells q ≡ true → IsOwnOver (row_at below q) (finite.get (swept_at below cells d) q)
+pub own_made : (below : Content) (cells : List CellId) (d : Differences) (q : CellId) → is_among cells q ≡ true
+    → IsOwnOver (row_at below q) (finite.get (swept_at below cells d) q)
 unfolding swept_at
 own_made below [] d q among = absurd (false≢true among)
 own_made below (cell ∷ cells) d q among = by (eq_by_cmp cell_cmp q cell) refl among (own_made below cells (swept_cell below d cell) q)
   where
-    by : (b : Bool) → eq_by_cmp cell_cmp q cell ≡ b → cond b true (is_among cells q) ≡ true → (is_among cells q ≡ true → IsOwnOver (row_at below q) (finite.get (swept_at below cells (swept_cell below d cell)) q)) → IsOwnOver (row_at below q) (finite.get (swept_at below cells (swept_cell below d cell)) q)
+    by : (b : Bool) → eq_by_cmp cell_cmp q cell ≡ b → cond b true (is_among cells q) ≡ true
+        → (is_among cells q ≡ true → IsOwnOver (row_at below q) (finite.get (swept_at below cells (swept_cell below d cell)) q))
+        → IsOwnOver (row_at below q) (finite.get (swept_at below cells (swept_cell below d cell)) q)
     by true e h rest = own_stays below cells (swept_cell below d cell) q (row_at below q) (own_here below d cell q e)
     by false e h rest = rest h
 
 -- one cell more
-swept_at-push : (below : Content) (cells : List CellId) (cell : CellId) (d : Differences) → swept_at below (cells ++ cell ∷ []) d ≡ swept_cell below (swept_at below cells d) cell
+swept_at-push : (below : Content) (cells : List CellId) (cell : CellId) (d : Differences) → swept_at below (cells ++ cell ∷ []) d
+    ≡ swept_cell below (swept_at below cells d) cell
 unfolding swept_at
 swept_at-push below [] cell d = refl
 swept_at-push below (c ∷ cells) cell d = swept_at-push below cells cell (swept_cell below d c)
 
-pub swept_at-next : (below : Content) (cells : List CellId) (i : ℕ) (c : CellId) (d e f : Differences) → i < length cells → e ≡ swept_at below (take i cells) d → f ≡ swept_cell below e (get_or cells i c) → f ≡ swept_at below (take (i + 1) cells) d
+pub swept_at-next : (below : Content) (cells : List CellId) (i : ℕ) (c : CellId) (d e f : Differences) → i < length cells → e ≡ swept_at below (take i cells) d
+    → f ≡ swept_cell below e (get_or cells i c) → f ≡ swept_at below (take (i + 1) cells) d
 swept_at-next below cells i c d e f lt so_far is =
     is ∙ ap (λ (x : Differences). swept_cell below x (get_or cells i c)) so_far
     ∙ sym (ap (λ (qs : List CellId). swept_at below qs d) (take_at_read cells i c lt).1 ∙ swept_at-push below (take i cells) (get_or cells i c) d)
@@ -194,7 +221,8 @@ swept_at-next below cells i c d e f lt so_far is =
 pub own_swept : (below : Content) (d : Differences) (q : CellId) → IsOwnOver (row_at below q) (finite.get (without_neutral below d) q)
 own_swept below d q = subst (IsOwnOver (row_at below q)) (sym (get-swept below d q)) (by (same (row_at below q) (row_at (seen_over below d) q)) refl)
   where
-    by : (b : Bool) → same (row_at below q) (row_at (seen_over below d) q) ≡ b → IsOwnOver (row_at below q) (cond (not b) (Some (row_at (seen_over below d) q)) None)
+    by : (b : Bool) → same (row_at below q) (row_at (seen_over below d) q) ≡ b
+        → IsOwnOver (row_at below q) (cond (not b) (Some (row_at (seen_over below d) q)) None)
     by true e = refl
     by false e = e
 
@@ -202,10 +230,12 @@ pub swept_own : (below : Content) (d : Differences) → ((q : CellId) → IsOwnO
 swept_own below d own = finite.same_map cell_cmp_total cell_cmp_exact _ _ (λ q.
     get-swept below d q ∙ ap (λ (r : Option Row). cond (not (same (row_at below q) r)) (Some r) None) (row-seen_over below d q) ∙ by q (finite.get d q) (own q))
   where
-    by : (q : CellId) (o : Option (Option Row)) → IsOwnOver (row_at below q) o → cond (not (same (row_at below q) (unwrap_or o (row_at below q)))) (Some (unwrap_or o (row_at below q))) None ≡ o
+    by : (q : CellId) (o : Option (Option Row)) → IsOwnOver (row_at below q) o
+        → cond (not (same (row_at below q) (unwrap_or o (row_at below q)))) (Some (unwrap_or o (row_at below q))) None ≡ o
     by q None e = ap (λ b. cond (not b) (Some (row_at below q)) None) (same_itself (row_at below q))
     by q (Some row) e = ap (λ b. cond (not b) (Some row) None) e
 
 -- the law of differences without neutral entries: they are what the content that is seen differs in
-pub own_differences : (below : Content) (d : Differences) → ((q : CellId) → IsOwnOver (row_at below q) (finite.get d q)) → d ≡ differences_from below (seen_over below d)
+pub own_differences : (below : Content) (d : Differences) → ((q : CellId) → IsOwnOver (row_at below q) (finite.get d q)) → d
+    ≡ differences_from below (seen_over below d)
 own_differences below d own = sym (swept_own below d own) ∙ sym (swept-differences below d)

@@ -25,13 +25,15 @@ none_of (Some b) at rest e = absurd (cc)
 module _ (book : List Rule) (name : Name) where
   -- it is the first of a list, or stands behind that
   none_by : (here : Bool) (at : ℕ) (v : Workspace) (ws : List Workspace) (w : Workspace) → cond v.kept (first_broken book v.current) None ≡ None
-      → (find_name name ws ≡ Some w → first_broken book w.current ≡ None) → cond here (Some v) (find_name name ws) ≡ Some w → w.kept ≡ true → first_broken book w.current ≡ None
+      → (find_name name ws ≡ Some w → first_broken book w.current ≡ None) → cond here (Some v) (find_name name ws) ≡ Some w → w.kept ≡ true
+      → first_broken book w.current ≡ None
   none_by true at v ws w none later f k =
       subst (λ (x : Workspace). x.kept ≡ true → first_broken book x.current ≡ None) (same_Some v w f)
       (λ kept. sym (ap (λ b. cond b (first_broken book v.current) None) kept) ∙ none) k
   none_by false at v ws w none later f k = later f
 
-  none_at : (at : ℕ) (ws : List Workspace) (w : Workspace) → unheld_from book at ws ≡ None → find_name name ws ≡ Some w → w.kept ≡ true → first_broken book w.current ≡ None
+  none_at : (at : ℕ) (ws : List Workspace) (w : Workspace) → unheld_from book at ws ≡ None → find_name name ws ≡ Some w → w.kept ≡ true
+      → first_broken book w.current ≡ None
   unfolding unheld_from
   none_at at [] w e f k = absurd (none-some w f)
   none_at at (v ∷ ws) w e f k =

@@ -7,14 +7,14 @@ use Rattle.clr_rows.specs.Contents.{Content}
 use Rattle.clr_layers.specs.Layers.{Layer, grow, above_in, whole_of, workspaces_over}
 use Rattle.clr_workspaces.specs.Workspaces.{Workspace, live_workspace, workspace_at}
 use Rattle.clr_layers.proofs.Meaning.{length-grow}
-use Rattle.clr_tree.specs.Parts.{IsRefused, first_below, name_fault_at, workspaces_fault}
+use Rattle.clr_parts.specs.Parts.{IsRefused, first_below, name_fault_at, workspaces_fault}
 use Rattle.clr_workspaces.specs.declared.limits.TheConstants.{MOST_WORKSPACES}
-use Rattle.clr_tree.specs.declared.parts.PartFault.{PartFault}
-use Rattle.clr_tree.specs.declared.parts.PartFault.TheVariants as part
-use Rattle.clr_tree.proofs.FaultLemmas.{none_at, placed_from}
+use Rattle.clr_parts.specs.declared.parts.PartFault.{PartFault}
+use Rattle.clr_parts.specs.declared.parts.PartFault.TheVariants as part
+use Rattle.clr_parts.proofs.FaultLemmas.{none_at, placed_from}
 use Rattle.clr_steps.specs.Offices.{Office}
-use Rattle.clr_office_text.specs.declared.faults.TextFault.TheVariants as text
-use Rattle.clr_office_text.specs.Fields.{Fails}
+use Rattle.clr_rule_text.specs.declared.faults.TextFault.TheVariants as text
+use Rattle.clr_rule_text.specs.Fields.{Fails}
 use Rattle.clr_drafts.specs.Drafts.{if_standing, text_fault_of}
 
 pub stands : (o : Office) → workspaces_fault o.live o.workspaces ≡ None → if_standing o ≡ Ok o
@@ -48,7 +48,8 @@ not_many live ws many e =
     omega (arith, before, few)
 
 -- workspaces that are as many as there can be with LIVE
-pub too_many : (o : Office) (live : Content) (ls : List Layer) → o.live ≡ live → o.workspaces ≡ workspaces_over live ls → MOST_WORKSPACES ≤ length ls → if_standing o ≡ Err text.BadPart
+pub too_many : (o : Office) (live : Content) (ls : List Layer) → o.live ≡ live → o.workspaces ≡ workspaces_over live ls → MOST_WORKSPACES ≤ length ls
+    → if_standing o ≡ Err text.BadPart
 too_many o live ls is over many = by (workspaces_fault o.live o.workspaces) refl
   where
     by : (found : Option (ℕ × PartFault)) → workspaces_fault o.live o.workspaces ≡ found → if_standing o ≡ Err text.BadPart

@@ -25,7 +25,8 @@ module _ (tables : List TableDef) where
   seen_fits : (below : Content) (d : Differences) → FitsSchema tables below → FitsDifferences tables d → FitsSchema tables (seen_over below d)
   seen_fits below d rows entries = λ cell row e. by cell row (finite.get d cell) (entries cell) (sym (row-seen_over below d cell) ∙ e)
     where
-      by : (cell : CellId) (row : Row) (entry : Option (Option Row)) → ((one : Option Row) → entry ≡ Some one → put_fault tables cell one ≡ None) → unwrap_or entry (row_at below cell) ≡ Some row → row_fault tables cell row ≡ None
+      by : (cell : CellId) (row : Row) (entry : Option (Option Row)) → ((one : Option Row) → entry ≡ Some one → put_fault tables cell one ≡ None)
+          → unwrap_or entry (row_at below cell) ≡ Some row → row_fault tables cell row ≡ None
       by cell row None good e = rows cell row e
       by cell row (Some None) good e = absurd (none-some row e)
       by cell row (Some (Some r)) good e = subst (λ (x : Row). row_fault tables cell x ≡ None) (same_Some r row e) (good (Some r) refl)
@@ -34,7 +35,8 @@ module _ (tables : List TableDef) where
   mark_fits base (stored.Saved name d) rows fits = seen_fits base d rows fits
   mark_fits base (stored.Child name) rows fits = none_fit tables
 
-  marks_fit : (base : Content) (marks : List StoredMark) → FitsSchema tables base → AllByRecursion (FitsMark tables) marks → (i : ℕ) → FitsSchema tables (saved_content (mark_at (map (whole_mark base) marks) i))
+  marks_fit : (base : Content) (marks : List StoredMark) → FitsSchema tables base → AllByRecursion (FitsMark tables) marks → (i : ℕ)
+      → FitsSchema tables (saved_content (mark_at (map (whole_mark base) marks) i))
   marks_fit base [] rows all zero = none_fit tables
   marks_fit base [] rows all (suc i) = none_fit tables
   marks_fit base (mark ∷ marks) rows all zero = mark_fits base mark rows all.0
@@ -44,7 +46,12 @@ module _ (tables : List TableDef) where
   unfolding whole_of
   whole_fits above l rows fits =
       let base = seen_fits above l.base rows fits.base in
-      record { base = base; current = seen_fits (seen_over above l.base) l.current base fits.current; saved = marks_fit (seen_over above l.base) l.marks base fits.marks }
+      record {
+        base = base;
+        current = seen_fits (seen_over above l.base) l.current base fits.current;
+        saved = marks_fit (seen_over above l.base) l.marks base
+            fits.marks;
+      }
 
   -- what the workspaces before a layer see
   abbrev CurrentsFit : List Workspace → Type 0
@@ -55,7 +62,8 @@ module _ (tables : List TableDef) where
   named_fits [] name all = none_fit tables
   named_fits (w ∷ ws) name all = by (bytes_eq name w.name) (named_fits ws name all.1)
     where
-      by : (is : Bool) → FitsSchema tables (unwrap_or (content_by_name ws name) no_rows) → FitsSchema tables (unwrap_or (cond is (Some w.current) (content_by_name ws name)) no_rows)
+      by : (is : Bool) → FitsSchema tables (unwrap_or (content_by_name ws name) no_rows)
+          → FitsSchema tables (unwrap_or (cond is (Some w.current) (content_by_name ws name)) no_rows)
       by true others = all.0
       by false others = others
 
@@ -67,11 +75,13 @@ module _ (tables : List TableDef) where
   none_fits zero = record { base = none_fit tables; current = none_fit tables; saved = marks_fit no_rows [] (none_fit tables) tt }
   none_fits (suc i) = record { base = none_fit tables; current = none_fit tables; saved = marks_fit no_rows [] (none_fit tables) tt }
 
-  first_fits : (w : Workspace) (ws : List Workspace) → WorkspaceFits tables w → ((i : ℕ) → WorkspaceFits tables (workspace_at ws i)) → (i : ℕ) → WorkspaceFits tables (workspace_at (w ∷ ws) i)
+  first_fits : (w : Workspace) (ws : List Workspace) → WorkspaceFits tables w → ((i : ℕ) → WorkspaceFits tables (workspace_at ws i)) → (i : ℕ)
+      → WorkspaceFits tables (workspace_at (w ∷ ws) i)
   first_fits w ws one all zero = one
   first_fits w ws one all (suc i) = all i
 
-  grow_fits : (ws : List Workspace) (ls : List Layer) → CurrentsFit ws → AllByRecursion (FitsLayer tables) ls → (i : ℕ) → WorkspaceFits tables (workspace_at (grow ws ls) i)
+  grow_fits : (ws : List Workspace) (ls : List Layer) → CurrentsFit ws → AllByRecursion (FitsLayer tables) ls → (i : ℕ)
+      → WorkspaceFits tables (workspace_at (grow ws ls) i)
   unfolding grow
   grow_fits ws [] currents all = none_fits
   grow_fits ws (l ∷ ls) currents all =
@@ -79,5 +89,6 @@ module _ (tables : List TableDef) where
       let one = whole_fits (unwrap_or (content_by_name ws l.parent) no_rows) l (named_fits ws l.parent currents) all.0 in
       first_fits w (grow (ws ++ w ∷ []) ls) one (grow_fits (ws ++ w ∷ []) ls (one_more ws w currents one.current) all.1)
 
-  pub all_fit : (live : Content) (ls : List Layer) → FitsSchema tables live → AllByRecursion (FitsLayer tables) ls → (i : ℕ) → WorkspaceFits tables (workspace_at (workspaces_over live ls) i)
+  pub all_fit : (live : Content) (ls : List Layer) → FitsSchema tables live → AllByRecursion (FitsLayer tables) ls → (i : ℕ)
+      → WorkspaceFits tables (workspace_at (workspaces_over live ls) i)
   all_fit live ls rows all = grow_fits (live_workspace live ∷ []) ls (rows, tt) all

@@ -1,13 +1,13 @@
 -- The draft that an office text is: its workspaces with whole contents, which must stand under LIVE.
 use Rattle.std.specs.Prelude.{ℕ, List, Result, Ok}
 use Rattle.clr_layers.specs.Layers.{workspaces_over}
-use Rattle.clr_tree.specs.Parts.{workspaces_fault}
-use Rattle.clr_tree.specs.declared.parts.PartFault.{PartFault}
-use Rattle.clr_tree.specs.declared.parts.PartFault.TheVariants as part
+use Rattle.clr_parts.specs.Parts.{workspaces_fault}
+use Rattle.clr_parts.specs.declared.parts.PartFault.{PartFault}
+use Rattle.clr_parts.specs.declared.parts.PartFault.TheVariants as part
 use Rattle.clr_steps.specs.Offices.{Office}
-use Rattle.clr_office_text.specs.declared.faults.TextFault.{TextFault}
-use Rattle.clr_office_text.specs.declared.faults.TextFault.TheVariants as text
-use Rattle.clr_office_text.specs.Fields.{◌>>=◌, none_or_fault}
+use Rattle.clr_rule_text.specs.declared.faults.TextFault.{TextFault}
+use Rattle.clr_rule_text.specs.declared.faults.TextFault.TheVariants as text
+use Rattle.clr_rule_text.specs.Fields.{◌>>=◌, none_or_fault}
 use Rattle.clr_office_text.specs.Offices.{OfficeText, office_in}
 
 -- what is said of a text whose workspaces can't stand

@@ -2,10 +2,10 @@
 
 ghost use Rattle.std.specs.Prelude.{◌≡◌, ◌∷◌, IfOk};
 ghost use Rattle.clr_workspaces.specs.Workspaces.{live_workspace};
-ghost use Rattle.clr_tree.specs.Parts.{spaces_of};
+ghost use Rattle.clr_parts.specs.Parts.{spaces_of};
 ghost use Rattle.clr_steps.specs.Offices.{office_of};
-ghost use Rattle.clr_engine.specs.Drafts.{IsFitting};
-ghost use Rattle.clr_office_text.specs.Fields.{Gives};
+ghost use Rattle.clr_kept_finders.specs.Fitting.{IsFitting};
+ghost use Rattle.clr_rule_text.specs.Fields.{Gives};
 ghost use Rattle.clr_office_text.specs.Fits.{FitsOffice};
 ghost use Rattle.clr_office_text.specs.Offices.{office_read};
 ghost use Rattle.clr_drafts.specs.Drafts.{draft_in, if_standing, text_fault_of, whole_office};
@@ -17,7 +17,7 @@ use clr_rules::RuleBook;
 use clr_tree::{MOST_WORKSPACES, Tree};
 use std::alloc::Global;
 
-/// What is said of a text whose workspaces can't stand.
+/// Returns what is said of a text whose workspaces can't stand.
 fn text_fault(fault: PartFault) -> TextFault
     ensures { result ≡ text_fault_of fault }
 {
@@ -43,7 +43,7 @@ fn draft_of_layers(
     }
 }
 
-/// The draft of what was read of a text. Its workspaces stay as they are written, by their
+/// Returns the draft of what was read of a text. Its workspaces stay as they are written, by their
 /// differences; those that are too many are refused before any of them is made.
 fn draft_of(alloc: Global, read: OfficeParts) -> Result<Draft, TextFault>
     requires { FitsOffice (office_read read) }

@@ -28,7 +28,8 @@ pub fn joined(extent: Option<Bounds>, bounds: Bounds) -> Bounds {
     }
 }
 
-/// The range of this length, or of a least length where that is more, round the middle of a range.
+/// Returns the range of this length, or of a least length where that is more, round the middle of a
+/// range.
 fn range_grown(low: i64, high: i64, percent: i64, least: i64) -> (i64, i64) {
     let span = high.saturating_sub(low);
     let length = (span.saturating_mul(percent) / 100).max(least);

@@ -59,7 +59,7 @@ impl Labels {
         }
     }
 
-    /// Takes an area, so that no label is placed over it. Fails for want of memory alone.
+    /// Takes an area, so that no label is placed over it.
     pub fn take(&mut self, area: Area) -> Result<(), AllocError>
         ensures { OnOk result (self.new.taken.items ≡ self.old.taken.items ++ area ∷ []) }
     {
@@ -67,7 +67,7 @@ impl Labels {
         Ok(())
     }
 
-    /// Notes a spot that labels should leave free where they can. Fails for want of memory alone.
+    /// Notes a spot that labels should leave free where they can.
     pub fn avoid(&mut self, spot: Spot) -> Result<(), AllocError>
         ensures { self.new.taken.items ≡ self.old.taken.items }
     {
@@ -75,7 +75,8 @@ impl Labels {
         Ok(())
     }
 
-    /// The place for a label of this size near one of these spots that costs least, or none where each is taken.
+    /// Returns the place for a label of this size near one of these spots that costs least, or none where each
+    /// is taken.
     fn place(
         &self,
         anchors: &[Spot],
@@ -96,7 +97,6 @@ impl Labels {
 
     /// Takes a place for a label of this size near one of these spots, and returns it; or takes none where each is taken. The place covers
     /// nothing that was taken before. It is the one beneath which the fewest spots lie that should be left free, and of those the nearest.
-    /// Fails for want of memory alone.
     pub fn put(
         &mut self,
         anchors: &[Spot],
@@ -116,7 +116,7 @@ impl Labels {
     }
 }
 
-/// Whether an area overlaps none of these.
+/// Returns whether an area overlaps none of these.
 fn covers_none(taken: &[Area], area: Area) -> bool
     ensures { IsTrue result → CoversNone taken.now area }
 {
@@ -128,7 +128,7 @@ fn covers_none(taken: &[Area], area: Area) -> bool
     true
 }
 
-/// What it costs to cover these spots.
+/// Returns what it costs to cover these spots.
 fn cost_of(area: Area, busy: &[Spot]) -> i64 {
     let mut cost = 0i64;
     for spot in busy {
@@ -139,7 +139,8 @@ fn cost_of(area: Area, busy: &[Spot]) -> i64 {
     cost
 }
 
-/// The place in the frame that costs least, of those that overlap nothing that is taken, or none.
+/// Returns the place in the frame that costs least, of those that overlap nothing that is taken, or
+/// none.
 fn cheapest(places: &[Placed], frame: Area, taken: &[Area], busy: &[Spot]) -> Option<Placed>
     ensures { IfSome result (λ placed. CoversNone taken.now placed.area) }
 {
@@ -157,7 +158,7 @@ fn cheapest(places: &[Placed], frame: Area, taken: &[Area], busy: &[Spot]) -> Op
     best
 }
 
-/// The place of a label at a distance from its anchor in a direction.
+/// Returns the place of a label at a distance from its anchor in a direction.
 fn place_at(
     anchor: Spot,
     width: Pixels,
@@ -210,7 +211,7 @@ fn add_rings(
     Ok(())
 }
 
-/// The places that are tried for a label near these spots.
+/// Returns the places that are tried for a label near these spots.
 fn places_for(
     alloc: Global,
     anchors: &[Spot],

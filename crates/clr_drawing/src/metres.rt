@@ -2,7 +2,7 @@
 
 use std::alloc::{AllocError, Global};
 
-/// Returns a length of millimetres in metres, with as many decimals as it needs, as `-1.5` or `20`. Fails for want of memory alone.
+/// Returns a length of millimetres in metres, with as many decimals as it needs, as `-1.5` or `20`.
 pub fn round_metres(alloc: Global, millimetres: i64) -> Result<String, AllocError> {
     let size = millimetres.unsigned_abs();
     let sign = if millimetres < 0 { "-" } else { "" };

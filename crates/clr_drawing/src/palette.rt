@@ -85,7 +85,7 @@ pub struct DesignColours {
     pub pale: Colour,
 }
 
-/// The colour of three bytes.
+/// Returns the colour of three bytes.
 const fn colour(red: u8, green: u8, blue: u8) -> Colour {
     Colour { red, green, blue }
 }

@@ -20,7 +20,7 @@ fn add_beginning(steps: &mut Vec<Step>, spot: Spot) -> Result<(), AllocError> {
     Ok(())
 }
 
-/// Adds a line from one spot to another, unless both are one. Fails for want of memory alone.
+/// Adds a line from one spot to another, unless both are one.
 pub fn add_line(steps: &mut Vec<Step>, from: Spot, to: Spot) -> Result<(), AllocError> {
     if from == to {
         return Ok(());
@@ -30,7 +30,7 @@ pub fn add_line(steps: &mut Vec<Step>, from: Spot, to: Spot) -> Result<(), Alloc
     Ok(())
 }
 
-/// Adds the lines of a shape; a point has none. Fails for want of memory alone.
+/// Adds the lines of a shape; a point has none.
 pub fn add_shape(steps: &mut Vec<Step>, view: &View, shape: &Shape) -> Result<(), AllocError> {
     for at in 0..parts(shape) {
         if let Some((from, to)) = part(shape, at.saturating_add(1)) {
@@ -40,7 +40,7 @@ pub fn add_shape(steps: &mut Vec<Step>, view: &View, shape: &Shape) -> Result<()
     Ok(())
 }
 
-/// The spot that is this many parts of the way from one spot to another.
+/// Returns the spot that is this many parts of the way from one spot to another.
 fn spot_between(from: Spot, to: Spot, share: i64, of: i64) -> Spot {
     let x = (to.x - from.x).tenths.saturating_mul(share);
     let y = (to.y - from.y).tenths.saturating_mul(share);
@@ -87,7 +87,7 @@ fn add_part_samples(
 }
 
 /// Returns spots of a shape that are in the frame: of a point its own, and of a line some along it that are this far apart, in tenths of a
-/// pixel, or farther where it is long. Fails for want of memory alone.
+/// pixel, or farther where it is long.
 pub fn samples(
     alloc: Global,
     view: &View,
@@ -106,7 +106,7 @@ pub fn samples(
     Ok(spots)
 }
 
-/// The place halfway between two.
+/// Returns the place halfway between two.
 fn halfway(from: Place, to: Place) -> Place {
     Place {
         x: from.x.saturating_add(to.x.saturating_sub(from.x) / 2),

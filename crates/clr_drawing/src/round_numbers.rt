@@ -10,7 +10,7 @@ const MOST_TICKS: i64 = 64;
 /// The most digits of a step.
 const MOST_DIGITS: u32 = 15;
 
-/// The greatest power of ten that is at most a number, and at least 1.
+/// Returns the greatest power of ten that is at most a number, and at least 1.
 fn power_of_ten(most: i64) -> i64 {
     let mut power = 1i64;
     for _ in 0..MOST_DIGITS {
@@ -37,7 +37,7 @@ pub fn round_step(most: i64) -> i64
     step.max(1)
 }
 
-/// The least multiple of a step that is at least a number.
+/// Returns the least multiple of a step that is at least a number.
 fn first_tick(low: i64, step: i64) -> i64 {
     let over = low.checked_rem_euclid(step).unwrap_or(0);
     if over == 0 {
@@ -46,7 +46,7 @@ fn first_tick(low: i64, step: i64) -> i64 {
     low.saturating_sub(over).saturating_add(step)
 }
 
-/// Returns the multiples of a step between two numbers, these included, of which it gives at most 64. Fails for want of memory alone.
+/// Returns the multiples of a step between two numbers, these included, of which it gives at most 64.
 pub fn ticks(alloc: Global, low: i64, high: i64, step: i64) -> Result<Vec<i64>, AllocError> {
     let mut list = Vec::new(alloc);
     let first = first_tick(low, step);

@@ -44,7 +44,7 @@ pub fn sign_at(number: usize) -> Sign {
     }
 }
 
-/// The spot at an offset in hundredths of a radius.
+/// Returns the spot at an offset in hundredths of a radius.
 fn offset(middle: Spot, radius: Pixels, by: (i64, i64)) -> Spot {
     Spot {
         x: middle.x + Pixels::of_tenths(radius.tenths.saturating_mul(by.0) / 100),
@@ -89,7 +89,7 @@ fn add_square(
     })
 }
 
-/// Draws a sign. Fails for want of memory alone.
+/// Draws a sign.
 pub fn add_sign(
     sketch: &mut Sketch,
     sign: Sign,
@@ -110,7 +110,7 @@ pub fn add_sign(
     }
 }
 
-/// Draws a cross in a colour over a broader one in another. Fails for want of memory alone.
+/// Draws a cross in a colour over a broader one in another.
 pub fn add_cross(
     sketch: &mut Sketch,
     middle: Spot,

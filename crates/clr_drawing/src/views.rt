@@ -12,12 +12,12 @@ pub struct View {
     pub frame: Area,
 }
 
-/// The share of a number, or 0 where it is a share of nothing.
+/// Returns the share of a number, or 0 where it is a share of nothing.
 fn share(number: i64, part: i64, of: i64) -> i64 {
     number.saturating_mul(part).checked_div(of).unwrap_or(0)
 }
 
-/// The range of this length round the middle of a range.
+/// Returns the range of this length round the middle of a range.
 fn range_about(low: i64, high: i64, length: i64) -> (i64, i64) {
     let middle = low.saturating_add(high.saturating_sub(low) / 2);
     let start = middle.saturating_sub(length / 2);

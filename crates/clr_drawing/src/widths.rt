@@ -2,7 +2,7 @@
 
 use clr_svg::Pixels;
 
-/// How wide a character is, in hundredths of the height of its font.
+/// Returns how wide a character is, in hundredths of the height of its font.
 fn width_of(character: char) -> i64 {
     match character {
         'i' | 'l' | 'j' | '.' | ',' | '\'' | '|' | ':' | ' ' => 30,

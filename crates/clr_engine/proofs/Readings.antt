@@ -10,7 +10,7 @@ use Rattle.clr_rows.specs.declared.tables.TableDef.{TableDef}
 use Rattle.clr_rows.specs.Cells.{cell_cmp}
 use Rattle.clr_rows.specs.Contents.{Content, changes, conflicts, no_changes, row_at}
 use Rattle.clr_rules.specs.declared.rules.Rule.{Rule}
-use Rattle.clr_layers.proofs.FindLemmas.{find_named}
+use Rattle.clr_workspaces.proofs.FindLemmas.{find_named}
 use Rattle.clr_layers.specs.Differing.{layer_from}
 use Rattle.clr_workspaces.specs.Marks.{Name}
 use Rattle.clr_workspaces.specs.Workspaces.{Workspace, find, no_workspace, parent_of, workspace_at}
@@ -24,7 +24,8 @@ use Rattle.clr_steps.specs.Readings.{changes_in, conflicts_in, if_stands, parent
 use Rattle.clr_steps.proofs.SeenLemmas.{name_law}
 use Rattle.clr_engine.specs.Drafts.{layer_in, part_at}
 
-pub seen_in : (schema : List TableDef) (book : List Rule) (ws : List Workspace) (o : Office) → IsSound ws → office_of schema book ws ≡ o → (name : Name) → IsSeen o ws name
+pub seen_in : (schema : List TableDef) (book : List Rule) (ws : List Workspace) (o : Office) → IsSound ws → office_of schema book ws ≡ o → (name : Name)
+    → IsSeen o ws name
 seen_in schema book ws o sound is name = subst (λ (o : Office). IsSeen o ws name) is (name_law schema book ws sound name)
 
 -- only LIVE, at position 0, has no parent
@@ -68,7 +69,8 @@ module _ (o : Office) (ws : List Workspace) (name : Name) (s : IsSeen o ws name)
   pub no_changes_is : workspace o name ≡ None → no_changes ≡ changes_in o name
   no_changes_is e = sym (ap (λ (r : Option Workspace). option_map_or own_changes r no_changes) e)
 
-  pub parent_is : (at above : ℕ) (given : Name) → 0 < at → find ws name ≡ Some at → parent_of ws at ≡ Some above → given ≡ (workspace_at ws above).name → Some given ≡ parent_in o name
+  pub parent_is : (at above : ℕ) (given : Name) → 0 < at → find ws name ≡ Some at → parent_of ws at ≡ Some above → given ≡ (workspace_at ws above).name
+      → Some given ≡ parent_in o name
   parent_is at above given some e up is =
       ap Some (is ∙ sym (find_named ws (workspace_at ws at).parent above up)) ∙ sym (ap (option_map (λ (w : Workspace). w.parent)) (workspace_is at some e))
 
@@ -85,18 +87,22 @@ module _ (o : Office) (ws : List Workspace) (name : Name) (s : IsSeen o ws name)
   pub no_conflicts_is : workspace o name ≡ None → [] ≡ conflicts_in o name
   no_conflicts_is e = sym (ap (λ (r : Option Workspace). option_map_or (λ w. conflicts (content_of o w.parent) (own_changes w)) r []) e)
 
-  pub stored_is : (at above : ℕ) → 0 < at → find ws name ≡ Some at → parent_of ws at ≡ Some above → IsSeen o ws (workspace_at ws at).parent → needed ws at ≡ stored_in o name
+  pub stored_is : (at above : ℕ) → 0 < at → find ws name ≡ Some at → parent_of ws at ≡ Some above → IsSeen o ws (workspace_at ws at).parent → needed ws at
+      ≡ stored_in o name
   stored_is at above some e up parent =
       let w = workspace_at ws at in
       ap (λ (r : Option ℕ). change_count (content_above ws r) w.base + change_count w.base w.current) up
       ∙ ap (λ (m : Content). change_count m w.base + change_count w.base w.current) (sym (parent.content ∙ ap (content_at ws) up))
-      ∙ sym (ap (λ (r : Option Workspace). option_map_or (λ w. length (finite.keys (changes (content_of o w.parent) w.base)) + length (finite.keys (own_changes w))) r 0) (workspace_is at some e))
+      ∙ sym (ap (λ (r : Option Workspace). option_map_or (λ w. length (finite.keys (changes (content_of o w.parent) w.base)) + length
+      (finite.keys (own_changes w))) r 0) (workspace_is at some e))
 
   pub no_stored_is : workspace o name ≡ None → 0 ≡ stored_in o name
-  no_stored_is e = sym (ap (λ (r : Option Workspace). option_map_or (λ w. length (finite.keys (changes (content_of o w.parent) w.base)) + length (finite.keys (own_changes w))) r 0) e)
+  no_stored_is e = sym (ap (λ (r : Option Workspace). option_map_or (λ w. length (finite.keys (changes (content_of o w.parent) w.base)) + length
+      (finite.keys (own_changes w))) r 0) e)
 
 -- what a workspace under LIVE differs in is told by position
-pub layer_is : (schema : List TableDef) (book : List Rule) (ws : List Workspace) (o : Office) → IsSound ws → office_of schema book ws ≡ o → (at : ℕ) → 0 < at → at < length ws
+pub layer_is : (schema : List TableDef) (book : List Rule) (ws : List Workspace) (o : Office) → IsSound ws → office_of schema book ws ≡ o → (at : ℕ) → 0 < at
+    → at < length ws
     → needed_layer ws at ≡ layer_in o (workspace_at ws at)
 layer_is schema book ws o sound is at some lt =
     let w = workspace_at ws at in

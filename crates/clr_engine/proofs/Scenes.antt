@@ -1,7 +1,5 @@
 -- The scene of one change set over a content in which every rule holds.
-use Rattle.std.proofs.Common.{◌≡◌, ◌∙◌, ℕ, zero, suc, Bool, true, false, cond, List, [], ◌∷◌, length, Option, Some, None, refl, sym, ap, subst, unwrap_or}
-use Rattle.std.specs.FinMap as finite
-use Rattle.std.specs.Option.{option_map}
+use Rattle.std.proofs.Common.{◌≡◌, ◌∙◌, ℕ, zero, suc, Bool, true, false, cond, List, [], ◌∷◌, Option, Some, None, refl, sym, ap, subst, unwrap_or}
 use Rattle.clr_rows.specs.declared.cells.CellId.{CellId}
 use Rattle.clr_rows.specs.declared.rows.Row.{Row}
 use Rattle.clr_rows.specs.Contents.{Content, Changes, row_at, taken_over}
@@ -23,8 +21,8 @@ use Rattle.clr_needs.specs.Members.{after_in, after_of, setting}
 use Rattle.clr_needs.specs.Settings.{Lived, changer, held_row, new_row, new_version, old_version, version}
 use Rattle.clr_foot.specs.Versions.{FitsSetting}
 use Rattle.clr_workspaces.specs.Workspaces.{Workspace}
-use Rattle.clr_engine.specs.Finders.{IsFinderAt, IsFinderOf, kept_content}
-use Rattle.clr_engine.specs.Trees.{FitBoth}
+use Rattle.clr_kept_finders.specs.Finders.{IsFinderAt, IsFinderOf, kept_content}
+use Rattle.clr_kept_finders.specs.Fitting.{FitBoth}
 
 module _ (book : List Rule) (content : Content) (changed : Changes) (fit : FitBoth book content (taken_over content changed)) where
   old_fits : (q : CellId) (row : Option Row) (n : Option ℕ) (l : Lived ℕ) → row_at content q ≡ row → old_version n row ≡ Some l → FitsCell fit.tables (q, l.row)
@@ -50,34 +48,42 @@ module _ (book : List Rule) (content : Content) (changed : Changes) (fit : FitBo
       by : (after : Option (Option Row)) → after_in changed q ≡ after → new_row 0 after ≡ Some l → FitsCell fit.tables (q, l.row)
       by None is e = cc
       by (Some None) is e = cc
-      by (Some (Some r)) is e = let same : r ≡ l.row = ap (λ (o : Option (Lived ℕ)). row_of r o) e in fit.after q l.row (brought q l.row (is ∙ ap (λ r. Some (Some r)) same))
+      by (Some (Some r)) is e = let same : r ≡ l.row = ap (λ (o : Option (Lived ℕ)). row_of r o) e in fit.after q l.row (brought q l.row (is
+          ∙ ap (λ r. Some (Some r)) same))
 
   pub fits_setting : FitsSetting (setting book content (changed ∷ []))
   unfolding version
   fits_setting = record { tables = fit.tables; book = fit.book; each = λ v l e. by v l v.fresh refl e }
     where
-      by : (v : VersionId) (l : Lived ℕ) (fresh : Bool) → v.fresh ≡ fresh → version (setting book content (changed ∷ [])) v ≡ Some l → FitsCell fit.tables (held_row v l)
+      by : (v : VersionId) (l : Lived ℕ) (fresh : Bool) → v.fresh ≡ fresh → version (setting book content (changed ∷ [])) v ≡ Some l
+          → FitsCell fit.tables (held_row v l)
       by v l true is e = let c = setting book content (changed ∷ []) in
-          new_fits v.cell (changer c v.cell) l (sym (ap (λ b. cond b (new_version c.after v.cell (changer c v.cell)) (old_version (changer c v.cell) (c.root v.cell))) is) ∙ e)
+          new_fits v.cell (changer c v.cell) l
+          (sym (ap (λ b. cond b (new_version c.after v.cell (changer c v.cell)) (old_version (changer c v.cell) (c.root v.cell))) is) ∙ e)
       by v l false is e = let c = setting book content (changed ∷ []) in
-          old_fits v.cell (row_at content v.cell) (changer c v.cell) l refl (sym (ap (λ b. cond b (new_version c.after v.cell (changer c v.cell)) (old_version (changer c v.cell) (c.root v.cell))) is) ∙ e)
+          old_fits v.cell (row_at content v.cell) (changer c v.cell) l refl
+          (sym (ap (λ b. cond b (new_version c.after v.cell (changer c v.cell)) (old_version (changer c v.cell) (c.root v.cell))) is) ∙ e)
 
 -- ---- its scene, whose parts are these
-module _ (book rules : List Rule) (content root : Content) (changed : Changes) (sets : List Changes) (fit : FitBoth book content (taken_over content changed)) (is : rules ≡ book) (same : root ≡ content) (one : sets ≡ changed ∷ []) where
+module _ (book rules : List Rule) (content root : Content) (changed : Changes) (sets : List Changes) (fit : FitBoth book content (taken_over content changed))
+    (is : rules ≡ book) (same : root ≡ content) (one : sets ≡ changed ∷ []) where
   pub fits_scene : FitsSetting (setting rules root sets)
   fits_scene = subst (λ r. FitsSetting (setting r root sets)) (sym is) (subst (λ m. FitsSetting (setting book m sets)) (sym same)
       (subst (λ ss. FitsSetting (setting book content ss)) (sym one) (fits_setting book content changed fit)))
 
-  pub ready : (finder : Rows) → IsFinderOf book content finder → IsReady {F = Rows} (λ f. f.settled) (record { rules = rules; root = root; sets = sets; finder = finder })
+  pub ready : (finder : Rows) → IsFinderOf book content finder
+      → IsReady {F = Rows} (λ f. f.settled) (record { rules = rules; root = root; sets = sets; finder = finder })
   ready finder served = record {
     fit = fits_scene;
     is_settled = subst (λ r. IsSettledFor finder.settled r root) (sym is) (subst (λ m. IsSettledFor finder.settled book m) (sym same) served.0);
   }
 
-  pub listed : (m : SceneModel Rows) (finder : Rows) → m ≡ record { rules = rules; root = root; sets = sets; finder = finder } → (r : Result (Option Broken) AllocError)
+  pub listed : (m : SceneModel Rows) (finder : Rows) → m ≡ record { rules = rules; root = root; sets = sets; finder = finder }
+      → (r : Result (Option Broken) AllocError)
       → IfOk r (IsFirstBroken m.rules (view_after_merge (setting_of m))) → IfOk r (λ need. need ≡ first_broken book (taken_over content changed))
   unfolding first_broken
-  listed m finder e (Ok need) h = first_listed book content changed need (subst (λ r. IsFirstBroken r (view_after_merge (setting r content (changed ∷ []))) need) is
+  listed m finder e (Ok need) h = first_listed book content changed need
+      (subst (λ r. IsFirstBroken r (view_after_merge (setting r content (changed ∷ []))) need) is
       (subst (λ c. IsFirstBroken rules (view_after_merge (setting rules c (changed ∷ []))) need) same
       (subst (λ ss. IsFirstBroken rules (view_after_merge (setting rules root ss)) need) one
       (subst (λ (m : SceneModel Rows). IsFirstBroken m.rules (view_after_merge (setting_of m)) need) e h))))
@@ -95,7 +101,8 @@ pub record IsServedAt (book : List Rule) (w : Workspace) (finder : Rows) : Type 
   pub kept : w.kept ≡ true
   pub is : IsFinderOf book w.current finder
 
-pub served_at : (book : List Rule) (w : Workspace) (option : Option Rows) (finder : Rows) → IsFinderAt book (kept_content w) option → option ≡ Some finder → IsServedAt book w finder
+pub served_at : (book : List Rule) (w : Workspace) (option : Option Rows) (finder : Rows) → IsFinderAt book (kept_content w) option → option ≡ Some finder
+    → IsServedAt book w finder
 served_at book w option finder is e = by w.kept refl (subst (λ f. IsFinderAt book (kept_content w) f) e is)
   where
     by : (b : Bool) → w.kept ≡ b → IsFinderAt book (cond b (Some w.current) None) (Some finder) → IsServedAt book w finder

@@ -9,7 +9,7 @@ use Rattle.clr_steps.specs.Steps.{Answer, IsAnswer, is_lost, step, step_or_lost}
 use Rattle.clr_steps.proofs.FitLemmas.{fit_law}
 use Rattle.clr_steps.proofs.RuleLemmas.{rules_law}
 use Rattle.clr_steps.proofs.SchemaLemmas.{schema_law}
-use Rattle.clr_engine.specs.Drafts.{IsFitting}
+use Rattle.clr_kept_finders.specs.Fitting.{IsFitting}
 
 -- what holds before a step and after it holds after an answer
 after_answer : (P : Office → Type 0) (o : Office) (c : Command) (reply : Reply) (left : Office) → P o → P (step o c).office → IsAnswer o c reply left → P left
@@ -22,7 +22,11 @@ after_answer P o c reply left was is e = subst P (sym (ap (λ (a : Answer). a.of
 fits_step : (o : Office) (c : Command) → IsFitting o → IsFitting (step o c).office
 fits_step o c h =
     let same = schema_law o c in
-    record { book = subst (λ schema. FitsBook schema (step o c).office.book) (sym same.0) (subst (FitsBook o.schema) (sym same.1) h.book); rows = fit_law o c h.rows }
+    record {
+      book = subst (λ schema. FitsBook schema (step o c).office.book) (sym same.0) (subst (FitsBook o.schema) (sym same.1) h.book);
+      rows =
+          fit_law o c h.rows;
+    }
 
 -- rules and rows fit after every command
 pub fits_after : (o : Office) (c : Command) (reply : Reply) (left : Office) → IsFitting o → IsAnswer o c reply left → IsFitting left

@@ -23,7 +23,8 @@ back : (need : Option Broken) → need_of (option_map RuleBroken need) ≡ need
 back None = refl
 back (Some need) = refl
 
-pub need_is : (kept : Bool) (book : List Rule) (content : Content) (need : Option Broken) → option_map RuleBroken need ≡ broken_where kept book content → cond kept (first_broken book content) None ≡ need
+pub need_is : (kept : Bool) (book : List Rule) (content : Content) (need : Option Broken) → option_map RuleBroken need ≡ broken_where kept book content
+    → cond kept (first_broken book content) None ≡ need
 need_is true book content need e = sym (back (first_broken book content)) ∙ ap need_of (sym e) ∙ back need
 need_is false book content need e = ap need_of (sym e) ∙ back need
 
@@ -31,7 +32,8 @@ one : (k : ℕ) → suc k ≡ k + 1
 one k = omega arith
 
 -- of the workspaces from a position on
-pub unheld_here : (book : List Rule) (ws : List Workspace) (at : ℕ) (need : Option Broken) → at < length ws → (let w = workspace_at ws at in cond w.kept (first_broken book w.current) None ≡ need)
+pub unheld_here : (book : List Rule) (ws : List Workspace) (at : ℕ) (need : Option Broken) → at < length ws
+    → (let w = workspace_at ws at in cond w.kept (first_broken book w.current) None ≡ need)
     → unheld_from book at (drop at ws) ≡ option_or (option_map (λ need. (at, need)) need) (unheld_from book (at + 1) (drop (at + 1) ws))
 unfolding unheld_from
 unheld_here book ws at need lt e =
@@ -44,9 +46,11 @@ unheld_here book ws at need lt e =
 of_live : (schema : List TableDef) (book : List Rule) (ws : List Workspace) → IsSound ws → first_unheld book ws ≡ unheld_in (office_of schema book ws)
 unfolding unheld_from
 of_live schema book [] sound = absurd (omega (arith, sound.rooted.filled))
-of_live schema book (live ∷ ws) sound = ap (λ (kept : Bool). option_or (option_map (λ need. (0, need)) (cond kept (first_broken book live.current) None)) (unheld_from book 1 ws)) sound.held
+of_live schema book (live ∷ ws) sound = ap (λ (kept : Bool). option_or (option_map (λ need. (0, need)) (cond kept (first_broken book live.current) None))
+    (unheld_from book 1 ws)) sound.held
 
-pub unheld_is : (schema : List TableDef) (book : List Rule) (ws : List Workspace) (o : Office) → IsSound ws → office_of schema book ws ≡ o → first_unheld book ws ≡ unheld_in o
+pub unheld_is : (schema : List TableDef) (book : List Rule) (ws : List Workspace) (o : Office) → IsSound ws → office_of schema book ws ≡ o
+    → first_unheld book ws ≡ unheld_in o
 unheld_is schema book ws o sound is = of_live schema book ws sound ∙ ap unheld_in is
 
 -- no workspace is left past the end

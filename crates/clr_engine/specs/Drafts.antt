@@ -6,14 +6,13 @@ use Rattle.clr_rows.specs.declared.tables.TableDef.{TableDef}
 use Rattle.clr_layers.specs.Differing.{layer_from}
 use Rattle.clr_layers.specs.Layers.{Layer}
 use Rattle.clr_workspaces.specs.Workspaces.{Workspace}
-use Rattle.clr_tree.specs.Parts.{workspace_of}
-use Rattle.clr_tree.specs.declared.parts.Part.{Part}
+use Rattle.clr_parts.specs.Parts.{workspace_of}
+use Rattle.clr_parts.specs.declared.parts.Part.{Part}
 use Rattle.clr_rules.specs.declared.rules.Rule.{Rule}
-use Rattle.clr_rules.specs.Books.{FitsBook}
 use Rattle.clr_rules.specs.declared.needs.Broken.{Broken}
 use Rattle.clr_engine.specs.declared.drafts.AdmitFault.{AdmitFault}
 use Rattle.clr_engine.specs.declared.drafts.AdmitFault.TheVariants as fault
-use Rattle.clr_steps.specs.Invariants.{HoldsWhereKept, OfficeFits, unheld_from}
+use Rattle.clr_steps.specs.Invariants.{unheld_from}
 use Rattle.clr_steps.specs.Offices.{Office, content_of}
 use Rattle.clr_steps.specs.Refusals.{first_broken}
 
@@ -29,16 +28,6 @@ part_at o (suc k) = slice_get o.workspaces k
 -- a workspace by what it differs in from the current content of its parent
 abbrev pub layer_in : Office → Workspace → Layer
 layer_in o w = layer_from (content_of o w.parent) w
-
--- the rules and each row fit the schema
-pub record IsFitting (o : Office) : Type 0 where
-  pub book : FitsBook o.schema o.book
-  pub rows : OfficeFits o
-
--- the rules and each row fit the schema, and every rule holds in LIVE and in each workspace that is kept
-pub record IsAdmitted (o : Office) : Type 0 where
-  pub fit : IsFitting o
-  pub holds : HoldsWhereKept o
 
 -- the first that breaks a rule of LIVE, with position 0, and of the workspaces that are kept, in order of creation, and its least broken need
 abbrev pub unheld_in : Office → Option (ℕ × Broken)

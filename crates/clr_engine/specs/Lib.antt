@@ -1,3 +1,3 @@
 pub mod Drafts
-pub mod Finders
+pub mod Performed
 pub mod Trees

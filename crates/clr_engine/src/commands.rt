@@ -1,134 +1,36 @@
 //! The twelve commands, each on the workspace at a position.
 
-ghost use Rattle.std.specs.Prelude.{◌≡◌, ◌<◌, List, [], ◌∷◌, None, ◌||◌, true, false, length, nat_le, is_some, not, Some, OnOk, OnErr};
+ghost use Rattle.std.specs.Prelude.{◌≡◌, ◌<◌, [], ◌∷◌, None, true, false, length, Some};
 ghost use Rattle.std.specs.Option.{option_copied, option_map};
-ghost use Rattle.clr_rows.specs.Contents.{set_cell, taken_over};
-ghost use Rattle.clr_rows.specs.Names.{is_good_name};
-ghost use Rattle.clr_rules.specs.declared.rules.Rule.{Rule as OneRule};
+ghost use Rattle.clr_rows.specs.Contents.{set_cell};
 ghost use Rattle.clr_change.specs.Edits.{after_edits, first_bad_edit};
-ghost use Rattle.clr_workspaces.specs.Workspaces.{workspace_at, find, parent_of, children_of, depth_of};
-ghost use Rattle.clr_workspaces.specs.Operations.{after_create, after_remove, after_mark, after_unmark, after_roll_to};
-ghost use Rattle.clr_workspaces.specs.Operations.{after_roll_all, after_rebase, own_changes, set_kept, keep_row};
+ghost use Rattle.clr_workspaces.specs.Workspaces.{workspace_at, find};
+ghost use Rattle.clr_workspaces.specs.Operations.{after_roll_to};
+ghost use Rattle.clr_workspaces.specs.Operations.{after_roll_all, after_rebase, set_kept, keep_row};
 ghost use Rattle.clr_workspaces.specs.Soundness.{IsSound};
-ghost use Rattle.clr_workspaces.specs.declared.limits.TheConstants.{MOST_WORKSPACES as MOST, MOST_LEVELS as LEVELS};
 ghost use Rattle.clr_workspaces.specs.declared.rebases.Rebase.TheVariants as rebase;
 ghost use Rattle.clr_steps.specs.Laws.{IsPerformed};
 ghost use Rattle.clr_steps.specs.Offices.{office_of};
 ghost use Rattle.clr_steps.specs.Positions.{at_savepoint, edit_at, effect_at, merge_at, refusal_at};
-ghost use Rattle.clr_steps.specs.Refusals.{bad_edit, broken_where, first_of, is_in_conflict_with, name_in, when};
+ghost use Rattle.clr_steps.specs.Refusals.{bad_edit, broken_where, first_of, is_in_conflict_with, name_in};
 ghost use Rattle.clr_steps.specs.Steps.{is_lost, TakesNoMemory};
 ghost use Rattle.clr_steps.specs.declared.commands.Command.TheVariants as command;
-ghost use Rattle.clr_steps.specs.declared.commands.Reply.TheVariants.{Done, OutOfMemory, BadName, NameTaken, TooMany};
-ghost use Rattle.clr_engine.specs.Drafts.{IsAdmitted, IsFitting};
-ghost use Rattle.clr_engine.specs.Finders.{AreFinders, HasForgotten, HasSettled, IsChangedAt, IsPrepared, StayFinders, kept_contents};
-ghost use Rattle.clr_engine.specs.Trees.{IsPerformedAt, IsServed, name_of};
+ghost use Rattle.clr_steps.specs.declared.commands.Reply.TheVariants.{Done, OutOfMemory};
+ghost use Rattle.clr_kept_finders.specs.Fitting.{IsAdmitted, IsFitting};
+ghost use Rattle.clr_kept_finders.specs.Finders.{AreFinders, kept_contents};
+ghost use Rattle.clr_engine.specs.Performed.{IsPerformedAt, name_of};
+ghost use Rattle.clr_kept_finders.specs.Fitting.{IsServed};
 
-use crate::finders::Finders;
 use crate::judges::Judge;
-use clr_change::{ChangeSet, Edit, EditFault, are_same, first_conflict, stage};
-use clr_rows::{CellId, Row, Schema, good_name};
+use crate::plain_commands::{create, finish, mark, release, remove, unmark, write_above};
+use clr_change::{Edit, EditFault, are_same, first_conflict, stage};
+use clr_kept_finders::Finders;
+use clr_rows::{CellId, Row, Schema};
 use clr_steps::{Command, Keep, Reply};
-use clr_tree::{MOST_LEVELS, MOST_SAVEPOINTS, MOST_WORKSPACES, Rebase, Tree};
-use std::alloc::AllocError;
+use clr_tree::{Rebase, Tree};
 
 // Each function here that is handed a tree to change performs a command on the workspace at a
 // position, whole or not at all.
-
-/// The reply to a command whose last call may find no memory.
-fn end_command(done: Result<(), AllocError>) -> Reply
-    ensures ok { OnOk done (result ≡ Done) }
-    ensures err { OnErr done (result ≡ OutOfMemory) }
-{
-    match done {
-        Ok(()) => Reply::Done,
-        Err(_) => Reply::OutOfMemory,
-    }
-}
-
-/// The reply to a command whose last call changed the content of a workspace or found no memory.
-/// The finder of the workspace takes over what it noted, or drops it.
-fn finish(finders: &mut Finders, at: usize, done: Result<(), AllocError>) -> Reply
-    requires { at < length finders.old }
-    ensures ok { OnOk done (result ≡ Done) }
-    ensures err { OnErr done (result ≡ OutOfMemory) }
-    ensures settled { OnOk done (IsChangedAt HasSettled at finders.old finders.new) }
-    ensures forgotten { OnErr done (IsChangedAt HasForgotten at finders.old finders.new) }
-{
-    match done {
-        Ok(()) => {
-            finders.settle(at);
-            Reply::Done
-        }
-        Err(_) => {
-            finders.forget(at);
-            Reply::OutOfMemory
-        }
-    }
-}
-
-fn create(tree: &mut Tree, finders: &mut Finders, name: &str, parent: usize) -> Reply
-    requires { parent < length tree.old.list }
-    ensures performed { IsPerformed
-        (first_of (
-        when (not (is_good_name name.now)) BadName
-        ∷ when (is_some (find tree.old.list name.now)) NameTaken
-        ∷ when (nat_le MOST (length tree.old.list) || nat_le LEVELS (depth_of tree.old.list parent)) TooMany
-        ∷ []
-        ))
-        tree.old.list (after_create tree.old.list name.now parent) result tree.new.list }
-    ensures finders { StayFinders tree.old.list finders.old tree.new.list finders.new }
-{
-    if !good_name(name) {
-        return Reply::BadName;
-    }
-    if tree.find(name).is_some() {
-        return Reply::NameTaken;
-    }
-    if tree.len() >= MOST_WORKSPACES || tree.depth(parent) >= MOST_LEVELS {
-        return Reply::TooMany;
-    }
-    if finders.push(None).is_err() {
-        return Reply::OutOfMemory;
-    }
-    match tree.create(name, parent) {
-        Ok(()) => Reply::Done,
-        Err(_) => {
-            finders.drop_last();
-            Reply::OutOfMemory
-        }
-    }
-}
-
-/// Takes the leaf at a position away, and its finder.
-fn take_away(tree: &mut Tree, finders: &mut Finders, at: usize)
-    requires child { 0 < at }
-    requires within { at < length tree.old.list }
-    requires leaf { children_of tree.old.list (workspace_at tree.old.list at).name ≡ 0 }
-    requires along { length finders.old ≡ length tree.old.list }
-    ensures removed { tree.new.list ≡ after_remove tree.old.list at }
-    ensures finders { StayFinders tree.old.list finders.old tree.new.list finders.new }
-{
-    let _sound = tree.len();
-    tree.remove(at);
-    finders.remove(at);
-}
-
-#[tactic(auto, unfolding(clr_steps::specs::Positions::refusals_at))]
-fn remove(tree: &mut Tree, finders: &mut Finders, at: usize) -> Reply
-    requires child { 0 < at }
-    requires within { at < length tree.old.list }
-    requires along { length finders.old ≡ length tree.old.list }
-    ensures performed { IsPerformedAt [] (command.Remove (name_of tree.old.list at)) at tree.old.list
-        (after_remove tree.old.list at) result tree.new.list }
-    ensures no_memory { is_lost result ≡ false }
-    ensures finders { StayFinders tree.old.list finders.old tree.new.list finders.new }
-{
-    if tree.children(at) > 0 {
-        return Reply::NotLeaf;
-    }
-    take_away(tree, finders, at);
-    Reply::Done
-}
 
 fn apply(
     schema: &Schema,
@@ -161,40 +63,6 @@ fn apply(
         Ok(Some(need)) => Reply::RuleBroken(need),
         Err(_) => Reply::OutOfMemory,
     }
-}
-
-#[tactic(auto, unfolding(clr_steps::specs::Positions::refusals_at))]
-fn mark(tree: &mut Tree, at: usize, savepoint: &str) -> Reply
-    requires child { 0 < at }
-    requires within { at < length tree.old.list }
-    ensures { IsPerformedAt [] (command.Mark (name_of tree.old.list at) savepoint.now) at tree.old.list
-        (after_mark tree.old.list at savepoint.now) result tree.new.list }
-{
-    if !good_name(savepoint) {
-        return Reply::BadName;
-    }
-    if tree.find_mark(at, savepoint).is_some() {
-        return Reply::NameTaken;
-    }
-    if tree.saved(at) >= MOST_SAVEPOINTS {
-        return Reply::TooMany;
-    }
-    end_command(tree.mark(at, savepoint))
-}
-
-#[tactic(auto, unfolding(clr_steps::specs::Positions::refusals_at))]
-fn unmark(tree: &mut Tree, at: usize, savepoint: &str) -> Reply
-    requires child { 0 < at }
-    requires within { at < length tree.old.list }
-    ensures performed { IsPerformedAt [] (command.Unmark (name_of tree.old.list at) savepoint.now) at tree.old.list
-        (at_savepoint tree.old.list at savepoint.now (after_unmark tree.old.list at)) result tree.new.list }
-    ensures no_memory { is_lost result ≡ false }
-{
-    let Some(mark) = tree.find_mark(at, savepoint) else {
-        return Reply::NoSavepoint;
-    };
-    tree.unmark(at, mark);
-    Reply::Done
 }
 
 #[tactic(auto, unfolding(clr_steps::specs::Positions::refusals_at, clr_steps::specs::Effects::rolled_content))]
@@ -276,43 +144,6 @@ fn refresh(judge: &Judge, tree: &mut Tree, finders: &mut Finders, at: usize) -> 
     }
 }
 
-/// Writes the changes of a workspace, which the finder of its parent has noted, to its parent, and
-/// takes the workspace away where `remove` says so.
-fn write_above(
-    tree: &mut Tree,
-    finders: &mut Finders,
-    at: usize,
-    above: usize,
-    changed: &ChangeSet,
-    remove: bool,
-) -> Reply
-    requires child { 0 < at }
-    requires within { at < length tree.old.list }
-    requires parent { parent_of tree.old.list at ≡ Some above }
-    requires earlier { above < at }
-    requires changed { changed.now ≡ own_changes (workspace_at tree.old.list at) }
-    requires leaf { remove ≡ true → children_of tree.old.list (workspace_at tree.old.list at).name ≡ 0 }
-    requires along { length finders.old ≡ length tree.old.list }
-    ensures performed { IsPerformed None tree.old.list (merge_at tree.old.list remove at) result tree.new.list }
-    ensures finders { (book : List OneRule)
-        → IsPrepared book tree.old.list above (taken_over (workspace_at tree.old.list above).current (own_changes (workspace_at tree.old.list at))) finders.old
-        → AreFinders book (kept_contents tree.new.list) finders.new }
-{
-    match tree.merge_changes(at, changed) {
-        Ok(()) => {
-            finders.settle(above);
-            if remove {
-                take_away(tree, finders, at);
-            }
-            Reply::Done
-        }
-        Err(_) => {
-            finders.forget(above);
-            Reply::OutOfMemory
-        }
-    }
-}
-
 #[tactic(auto, unfolding(clr_steps::specs::Positions::refusals_at))]
 fn merge(judge: &Judge, tree: &mut Tree, finders: &mut Finders, at: usize, remove: bool) -> Reply
     requires child { 0 < at }
@@ -352,7 +183,7 @@ fn is_in_conflict(tree: &Tree, at: usize, above: usize, cell: CellId) -> bool
 }
 
 /// The row that a workspace has at a cell once it is resolved.
-#[tactic(auto, using(crate::proofs::Contents::set_same))]
+#[tactic(auto, using(clr_kept_finders::proofs::Contents::set_same))]
 fn row_to_keep(tree: &Tree, at: usize, above: usize, cell: CellId, keep: Keep) -> Option<&Row>
     requires child { 0 < at }
     requires within { at < length tree.now.list }
@@ -423,20 +254,6 @@ fn hold(judge: &Judge, tree: &mut Tree, finders: &mut Finders, at: usize) -> Rep
         Ok(Some(need)) => Reply::RuleBroken(need),
         Err(_) => Reply::OutOfMemory,
     }
-}
-
-#[tactic(auto, unfolding(clr_steps::specs::Positions::refusals_at))]
-fn release(tree: &mut Tree, finders: &mut Finders, at: usize) -> Reply
-    requires child { 0 < at }
-    requires within { at < length tree.old.list }
-    requires along { length finders.old ≡ length tree.old.list }
-    ensures performed { IsPerformedAt [] (command.Release (name_of tree.old.list at)) at tree.old.list (set_kept tree.old.list at false) result tree.new.list }
-    ensures no_memory { is_lost result ≡ false }
-    ensures finders { StayFinders tree.old.list finders.old tree.new.list finders.new }
-{
-    tree.release(at);
-    finders.put(at, None);
-    Reply::Done
 }
 
 /// The name of the workspace that a command is on; for Create it is the parent's.

@@ -3,8 +3,9 @@
 ghost use Rattle.std.specs.Prelude.{◌≡◌, None, option_map, IfOk, IfErr, OnOk};
 ghost use Rattle.clr_steps.specs.Offices.{office_of};
 ghost use Rattle.clr_steps.specs.Readings.{name_at};
-ghost use Rattle.clr_tree.specs.Parts.{first_fault, IsRefused};
-ghost use Rattle.clr_engine.specs.Drafts.{IsFitting, IsUnheld, office_of_parts, unheld_in};
+ghost use Rattle.clr_parts.specs.Parts.{first_fault, IsRefused};
+ghost use Rattle.clr_kept_finders.specs.Fitting.{IsFitting};
+ghost use Rattle.clr_engine.specs.Drafts.{IsUnheld, office_of_parts, unheld_in};
 
 use crate::judges::Judge;
 use crate::offices::Office;
@@ -25,7 +26,7 @@ pub struct Draft {
 
 impl Model for Draft {
     ghost use Rattle.clr_steps.specs.Offices.{Office as Whole, office_code, office_of};
-    ghost use Rattle.clr_engine.specs.Drafts.{IsFitting};
+    ghost use Rattle.clr_kept_finders.specs.Fitting.{IsFitting};
 
     ghost Value = { Whole };
 

@@ -12,14 +12,14 @@ ghost use Rattle.clr_workspaces.specs.Soundness.{IsSound};
 ghost use Rattle.clr_steps.specs.Invariants.{first_unheld};
 ghost use Rattle.clr_steps.specs.Refusals.{broken_where, first_broken};
 ghost use Rattle.clr_steps.specs.declared.commands.Reply.TheVariants.{RuleBroken};
-ghost use Rattle.clr_engine.specs.Finders.{AreFinders, IsFinderAt, IsFinderOf, IsPrepared, kept_content, kept_contents};
-ghost use Rattle.clr_engine.specs.Trees.{FitBoth, FitSome, IsServed};
+ghost use Rattle.clr_kept_finders.specs.Finders.{AreFinders, IsFinderAt, IsFinderOf, IsPrepared, kept_content, kept_contents};
+ghost use Rattle.clr_kept_finders.specs.Fitting.{FitBoth, FitSome, IsServed};
 
-use crate::finders::{Finders, finder_of};
 use clr_audit::first_broken;
 use clr_change::ChangeSet;
 use clr_foot::Scene;
 use clr_grid::SpotIndex;
+use clr_kept_finders::{Finders, finder_of};
 use clr_rows::{CellId, Row, Sheet};
 use clr_rules::{Broken, RuleBook};
 use clr_tree::Tree;
@@ -44,16 +44,19 @@ impl Model for Judge {
 
 // Each function here that returns a need fails only if memory runs out.
 impl Judge {
+    /// Returns one who judges by these rules.
     pub fn new(alloc: Global, book: RuleBook) -> Judge
         ensures { result ≡ book }
     {
         Judge { alloc, book }
     }
 
+    /// Returns the allocator that memory is taken of.
     pub fn allocator(&self) -> Global {
         self.alloc
     }
 
+    /// Returns the rules.
     pub fn book(&self) -> &RuleBook
         ensures { result.now ≡ self.now }
     {

@@ -30,9 +30,9 @@
 mod commands;
 mod conflicts;
 mod drafts;
-mod finders;
 mod judges;
 mod offices;
+mod plain_commands;
 
 pub use clr_grid::SpotIndex;
 pub use clr_rules::{Broken, RuleBook};

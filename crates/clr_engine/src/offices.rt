@@ -4,21 +4,22 @@ ghost use Rattle.std.specs.Prelude.{◌≡◌, ◌+◌, ◌∷◌, false, length
 ghost use Rattle.std.specs.Option.{option_copied};
 ghost use Rattle.clr_rows.specs.Contents.{row_at};
 ghost use Rattle.clr_workspaces.specs.Workspaces.{live_workspace};
-ghost use Rattle.clr_tree.specs.Parts.{workspace_of};
+ghost use Rattle.clr_parts.specs.Parts.{workspace_of};
 ghost use Rattle.clr_workspaces.specs.Soundness.{IsSound};
 ghost use Rattle.clr_steps.specs.Offices.{content_of, is_kept, office_of, stands};
 ghost use Rattle.clr_steps.specs.Readings.{changes_in, conflicts_in, if_stands, name_at, parent_in, stored_in};
 ghost use Rattle.clr_steps.specs.Steps.{is_lost, lost_in, run, IsAnswer, TakesNoMemory};
-ghost use Rattle.clr_engine.specs.Drafts.{IsAdmitted, layer_in, part_at};
-ghost use Rattle.clr_engine.specs.Finders.{AreFinders, IsFinderAt, IsPositionOf, current_at, kept_at, kept_contents};
+ghost use Rattle.clr_kept_finders.specs.Fitting.{IsAdmitted};
+ghost use Rattle.clr_engine.specs.Drafts.{layer_in, part_at};
+ghost use Rattle.clr_kept_finders.specs.Finders.{AreFinders, IsFinderAt, IsPositionOf, current_at, kept_at, kept_contents};
 ghost use Rattle.clr_engine.specs.Trees.{IsSwept};
 
 use crate::commands::perform;
 use crate::conflicts::conflicting_cells;
-use crate::finders::Finders;
 use crate::judges::Judge;
 use clr_change::ChangeSet;
 use clr_grid::SpotIndex;
+use clr_kept_finders::Finders;
 use clr_rows::{CellId, Row, Schema, Sheet};
 use clr_rules::RuleBook;
 use clr_steps::{Command, Reply};
@@ -39,8 +40,8 @@ pub struct Office {
 
 impl Model for Office {
     ghost use Rattle.clr_steps.specs.Offices.{Office as Whole, office_code, office_of};
-    ghost use Rattle.clr_engine.specs.Drafts.{IsAdmitted};
-    ghost use Rattle.clr_engine.specs.Finders.{AreFinders, kept_contents};
+    ghost use Rattle.clr_kept_finders.specs.Fitting.{IsAdmitted};
+    ghost use Rattle.clr_kept_finders.specs.Finders.{AreFinders, kept_contents};
     ghost use Rattle.clr_engine.specs.Trees.{IsSwept};
 
     ghost Value = { Whole };

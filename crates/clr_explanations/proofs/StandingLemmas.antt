@@ -1,12 +1,12 @@
 -- What is found of the workspaces of a text as a whole.
 use Rattle.std.proofs.Common.{◌≡◌, ◌≢◌, ℕ, List, Option, Some, None, Result, Ok, Err, refl}
-use Rattle.clr_tree.specs.Parts.{IsRefused}
-use Rattle.clr_tree.specs.declared.parts.PartFault.{PartFault}
-use Rattle.clr_tree.specs.declared.parts.PartFault.TheVariants as part
-use Rattle.clr_office_text.specs.Fields.{Fails}
+use Rattle.clr_parts.specs.Parts.{IsRefused}
+use Rattle.clr_parts.specs.declared.parts.PartFault.{PartFault}
+use Rattle.clr_parts.specs.declared.parts.PartFault.TheVariants as part
+use Rattle.clr_rule_text.specs.Fields.{Fails}
 use Rattle.clr_office_text.specs.Offices.{OfficeText, office_in}
-use Rattle.clr_office_text.specs.declared.faults.TextFault.{TextFault}
-use Rattle.clr_office_text.specs.declared.faults.TextFault.TheVariants as fault
+use Rattle.clr_rule_text.specs.declared.faults.TextFault.{TextFault}
+use Rattle.clr_rule_text.specs.declared.faults.TextFault.TheVariants as fault
 use Rattle.clr_item_faults.proofs.Lost.{fails_exactly}
 use Rattle.clr_explanations.specs.Standing.{IsStandingFault, standing_fault}
 use Rattle.clr_explanations.proofs.Told.{of_ok}
@@ -20,7 +20,8 @@ refused_exactly first n part.TooMany kept refused = refused
 refused_exactly first n part.BadMarks kept refused = refused
 
 -- of the one office of a text
-pub stands : (text : List ℕ) (read : OfficeText) (found : Option (ℕ × PartFault)) → office_in text ≡ Ok read → standing_fault read ≡ found → IsStandingFault text found
+pub stands : (text : List ℕ) (read : OfficeText) (found : Option (ℕ × PartFault)) → office_in text ≡ Ok read → standing_fault read ≡ found
+    → IsStandingFault text found
 stands text read found is fault = λ o again. of_ok (λ x. standing_fault x ≡ found) (office_in text) read o is fault again
 
 pub refused_stands : (text : List ℕ) (read : OfficeText) (refused : ℕ × PartFault) → office_in text ≡ Ok read → IsRefused (standing_fault read) refused
@@ -29,5 +30,6 @@ refused_stands text read refused is found kept =
     stands text read (Some refused) is (refused_exactly (standing_fault read) refused.0 refused.1 kept found)
 
 -- of a text that can't be read
-pub unread_stands : (text : List ℕ) (e : TextFault) (found : Option (ℕ × PartFault)) → e ≢ fault.OutOfMemory → Fails e (office_in text) → IsStandingFault text found
+pub unread_stands : (text : List ℕ) (e : TextFault) (found : Option (ℕ × PartFault)) → e ≢ fault.OutOfMemory → Fails e (office_in text)
+    → IsStandingFault text found
 unread_stands text e found kept fails = λ o again. let is : office_in text ≡ Err e = fails_exactly e (office_in text) kept fails in absurd cc

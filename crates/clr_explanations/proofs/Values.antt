@@ -5,7 +5,7 @@ use Rattle.std.specs.Str.{IsUtf8, is_utf8}
 use Rattle.std.specs.Prelude.{MatchOption}
 use Rattle.serde_json.specs.Data.{Data}
 use Rattle.serde_json.specs.Read.{read}
-use Rattle.clr_office_text.specs.declared.faults.TextFault.{TextFault}
+use Rattle.clr_rule_text.specs.declared.faults.TextFault.{TextFault}
 use Rattle.clr_faults.specs.Spots.{IsFoundIn, value_in}
 use Rattle.clr_faults.specs.declared.spots.Spot.{Spot}
 use Rattle.clr_faults.specs.declared.spots.Spot.TheVariants.{Whole}

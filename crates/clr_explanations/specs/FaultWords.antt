@@ -1,7 +1,7 @@
 -- The names of faults of office texts, each with its number.
 use Rattle.std.specs.Prelude.{ℕ, List, codes}
-use Rattle.clr_office_text.specs.declared.faults.TextFault.{TextFault}
-use Rattle.clr_office_text.specs.declared.faults.TextFault.TheVariants as office
+use Rattle.clr_rule_text.specs.declared.faults.TextFault.{TextFault}
+use Rattle.clr_rule_text.specs.declared.faults.TextFault.TheVariants as office
 
 abbrev pub office_fault_words : TextFault → List ℕ
 office_fault_words office.OutOfMemory = codes "office 0 OutOfMemory"

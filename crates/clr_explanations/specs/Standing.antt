@@ -1,8 +1,8 @@
 -- What is said of an office text whose workspaces can't stand as a whole.
 use Rattle.std.specs.Prelude.{◌≡◌, ◌≤◌, ℕ, List, length, string_bytes, Option, Some, None, Ok}
 use Rattle.clr_layers.specs.Layers.{workspaces_over}
-use Rattle.clr_tree.specs.Parts.{workspaces_fault}
-use Rattle.clr_tree.specs.declared.parts.PartFault.{PartFault}
+use Rattle.clr_parts.specs.Parts.{workspaces_fault}
+use Rattle.clr_parts.specs.declared.parts.PartFault.{PartFault}
 use Rattle.clr_office_text.specs.Offices.{OfficeText, office_in}
 use Rattle.clr_item_explanations.specs.FaultNames.{IsNamed, part_fault_name}
 use Rattle.clr_faults.specs.declared.spots.Spot.TheVariants as spot

@@ -12,7 +12,8 @@ use clr_places::{Key, Step};
 use serde_json::Value as Json;
 use std::alloc::{AllocError, Global};
 
-/// What is wrong with the format of a text, or else with the first of its lists that isn't one.
+/// Returns what is wrong with the format of a text, or else with the first of its lists that isn't
+/// one.
 fn slip_of_text(alloc: Global, json: &Json) -> Result<Option<Slip>, AllocError> {
     if let Some(slip) = explain_fields(alloc, json, &[(Key::Format, Wanted::WholeNumber)])? {
         return Ok(Some(slip));
@@ -30,7 +31,7 @@ fn slip_of_text(alloc: Global, json: &Json) -> Result<Option<Slip>, AllocError> 
     explain_fields(alloc, json, &lists)
 }
 
-/// What is wrong with the fields of a table.
+/// Returns what is wrong with the fields of a table.
 fn slip_of_table(alloc: Global, json: &Json, item: &Json) -> Result<Option<Slip>, AllocError> {
     match format_in(json)? {
         Some(format) => explain_table(alloc, item, format),
@@ -38,7 +39,7 @@ fn slip_of_table(alloc: Global, json: &Json, item: &Json) -> Result<Option<Slip>
     }
 }
 
-/// What is wrong with the fields of a row or a cell.
+/// Returns what is wrong with the fields of a row or a cell.
 fn slip_of_row(
     alloc: Global,
     json: &Json,
@@ -51,7 +52,7 @@ fn slip_of_row(
     }
 }
 
-/// What is wrong with the fields of an item.
+/// Returns what is wrong with the fields of an item.
 fn slip_of_item(
     alloc: Global,
     json: &Json,
@@ -71,7 +72,7 @@ fn slip_of_item(
     }
 }
 
-/// What is wrong with the fields of the item at which a fault stands.
+/// Returns what is wrong with the fields of the item at which a fault stands.
 pub fn field_slip(alloc: Global, json: &Json, spot: Spot) -> Result<Slip, AllocError> {
     match item_at(json, spot)? {
         Some(item) => slip_or_unknown(alloc, slip_of_item(alloc, json, spot, item)?),

@@ -1,7 +1,7 @@
 //! What is wrong where the reader drops the fault: with the tables, with a rule over the schema, with a row in its table.
 ghost use Rattle.std.specs.Prelude.{string_bytes, IfOk};
 ghost use Rattle.serde_json.specs.View.{view};
-ghost use Rattle.clr_office_text.specs.declared.faults.TextFault.TheVariants as text_fault;
+ghost use Rattle.clr_rule_text.specs.declared.faults.TextFault.TheVariants as text_fault;
 ghost use Rattle.clr_explanations.specs.Remarks.{IsRowTold, IsRuleTold, IsSchemaTold, IsTold};
 
 use crate::items::item_at;
@@ -16,7 +16,7 @@ use clr_rows::Schema;
 use serde_json::Value as Json;
 use std::alloc::{AllocError, Global};
 
-/// What is found, or that nothing is.
+/// Returns what is found, or that nothing is.
 pub fn slip_or_unknown(alloc: Global, slip: Option<Slip>) -> Result<Slip, AllocError> {
     match slip {
         Some(slip) => Ok(slip),
@@ -24,7 +24,7 @@ pub fn slip_or_unknown(alloc: Global, slip: Option<Slip>) -> Result<Slip, AllocE
     }
 }
 
-/// Why the tables of a text of a format make no schema.
+/// Returns why the tables of a text of a format make no schema.
 #[tactic(auto, using(crate::proofs::Told::schema_told, crate::proofs::Told::no_schema_fault))]
 fn slip_of_tables(alloc: Global, json: &Json, format: Format) -> Result<Slip, AllocError>
     ensures { IfOk result (λ slip. IsSchemaTold format (view json.now) (string_bytes slip.sentence)) }
@@ -35,7 +35,7 @@ fn slip_of_tables(alloc: Global, json: &Json, format: Format) -> Result<Slip, Al
     }
 }
 
-/// Why the tables of a text make no schema.
+/// Returns why the tables of a text make no schema.
 #[tactic(auto, using(crate::proofs::Told::bad_schema_told, crate::proofs::Told::no_format))]
 pub fn schema_slip(alloc: Global, json: &Json, spot: Spot) -> Result<Slip, AllocError>
     ensures { IfOk result (λ slip. IsTold (view json.now) text_fault.BadSchema spot (string_bytes slip.sentence)) }
@@ -47,7 +47,7 @@ pub fn schema_slip(alloc: Global, json: &Json, spot: Spot) -> Result<Slip, Alloc
     }
 }
 
-/// What a rule names that the schema hasn't.
+/// Returns what a rule names that the schema hasn't.
 fn slip_of_name(
     alloc: Global,
     json: &Json,
@@ -60,7 +60,7 @@ fn slip_of_name(
     }
 }
 
-/// Why a rule can't stand in a book over a schema.
+/// Returns why a rule can't stand in a book over a schema.
 #[tactic(auto, using(crate::proofs::Told::rule_told, crate::proofs::Told::no_rule_fault))]
 fn slip_of_rule(alloc: Global, json: &Json, spot: Spot, schema: &Schema) -> Result<Slip, AllocError>
     ensures { IfOk result (λ slip. IsRuleTold schema.now (view json.now) (string_bytes slip.sentence)) }
@@ -71,7 +71,7 @@ fn slip_of_rule(alloc: Global, json: &Json, spot: Spot, schema: &Schema) -> Resu
     }
 }
 
-/// Why a rule can't stand over the schema.
+/// Returns why a rule can't stand over the schema.
 #[tactic(auto, using(crate::proofs::Told::bad_rule_told, crate::proofs::Told::no_tables))]
 pub fn rule_slip(alloc: Global, json: &Json, spot: Spot) -> Result<Slip, AllocError>
     ensures { IfOk result (λ slip. IsTold (view json.now) text_fault.BadRule spot (string_bytes slip.sentence)) }
@@ -82,7 +82,7 @@ pub fn rule_slip(alloc: Global, json: &Json, spot: Spot) -> Result<Slip, AllocEr
     }
 }
 
-/// Why the row of an item can't stand in its table.
+/// Returns why the row of an item can't stand in its table.
 #[tactic(auto, using(crate::proofs::Told::row_told, crate::proofs::Told::no_row_fault))]
 fn slip_of_row(alloc: Global, item: &Json, schema: &Schema) -> Result<Slip, AllocError>
     ensures { IfOk result (λ slip. IsRowTold schema.now (view item.now) (string_bytes slip.sentence)) }
@@ -93,7 +93,7 @@ fn slip_of_row(alloc: Global, item: &Json, schema: &Schema) -> Result<Slip, Allo
     }
 }
 
-/// Why the row at an item can't stand in its table.
+/// Returns why the row at an item can't stand in its table.
 #[tactic(auto, using(crate::proofs::Told::bad_row_told, crate::proofs::Told::no_tables_of_row, crate::proofs::Told::no_item))]
 pub fn row_slip(alloc: Global, json: &Json, spot: Spot) -> Result<Slip, AllocError>
     ensures { IfOk result (λ slip. IsTold (view json.now) text_fault.BadRow spot (string_bytes slip.sentence)) }

@@ -10,7 +10,7 @@ use clr_office_text::fields::optional_list;
 use serde_json::Value as Json;
 use std::alloc::AllocError;
 
-/// An item of the list at a key, or none.
+/// Returns an item of the list at a key, or none.
 #[tactic(auto, unfolding(clr_faults::specs::Stages::item_of))]
 fn item_in<'a>(json: &'a Json, key: &str, at: usize) -> Result<Option<&'a Json>, AllocError>
     ensures { let meant = item_of key.now at (view json.now) in IfOk result (λ found. MatchOption found (IsErr meant) (λ v. meant ≡ Ok (view v.now))) }
@@ -24,14 +24,15 @@ fn item_in<'a>(json: &'a Json, key: &str, at: usize) -> Result<Option<&'a Json>,
     }
 }
 
-/// An item of a list of a workspace, or none.
+/// Returns an item of a list of a workspace, or none.
 fn item_in_workspace<'a>(
     json: &'a Json,
     at: usize,
     key: &str,
     item: usize,
 ) -> Result<Option<&'a Json>, AllocError>
-    ensures { let meant = item_in_workspace at key.now item (view json.now) in IfOk result (λ found. MatchOption found (IsErr meant) (λ v. meant ≡ Ok (view v.now))) }
+    ensures { let meant = item_in_workspace at key.now item (view json.now) in
+        IfOk result (λ found. MatchOption found (IsErr meant) (λ v. meant ≡ Ok (view v.now))) }
 {
     match item_in(json, "workspaces", at)? {
         Some(one) => item_in(one, key, item),
@@ -39,7 +40,7 @@ fn item_in_workspace<'a>(
     }
 }
 
-/// A cell of a savepoint, or none.
+/// Returns a cell of a savepoint, or none.
 fn saved_item<'a>(
     json: &'a Json,
     at: usize,
@@ -54,7 +55,7 @@ fn saved_item<'a>(
     }
 }
 
-/// The item at which a fault stands, or none where there is no such item.
+/// Returns the item at which a fault stands, or none where there is no such item.
 pub fn item_at(json: &Json, spot: Spot) -> Result<Option<&Json>, AllocError>
     ensures { let meant = item_at spot (view json.now) in IfOk result (λ found. MatchOption found (IsErr meant) (λ v. meant ≡ Ok (view v.now))) }
 {

@@ -5,7 +5,7 @@ use clr_item_explanations::items_at;
 use clr_places::Key;
 use serde_json::Value as Json;
 
-/// The items of a list of a workspace, or none.
+/// Returns the items of a list of a workspace, or none.
 fn items_in_workspace(json: &Json, at: usize, key: Key) -> &[Json] {
     match items_at(json, Key::Workspaces).get(at) {
         Some(one) => items_at(one, key),
@@ -13,7 +13,7 @@ fn items_in_workspace(json: &Json, at: usize, key: Key) -> &[Json] {
     }
 }
 
-/// The items of a savepoint, or none.
+/// Returns the items of a savepoint, or none.
 fn saved_items(json: &Json, at: usize, mark: usize) -> &[Json] {
     match items_in_workspace(json, at, Key::Marks).get(mark) {
         Some(one) => items_at(one, Key::Rows),
@@ -21,7 +21,7 @@ fn saved_items(json: &Json, at: usize, mark: usize) -> &[Json] {
     }
 }
 
-/// The items of the list that an item stands in.
+/// Returns the items of the list that an item stands in.
 pub fn items_beside(json: &Json, spot: Spot) -> &[Json] {
     match spot {
         Spot::Whole => &[],
@@ -36,7 +36,7 @@ pub fn items_beside(json: &Json, spot: Spot) -> &[Json] {
     }
 }
 
-/// Another item of the list that an item stands in.
+/// Returns another item of the list that an item stands in.
 pub fn beside(spot: Spot, item: usize) -> Spot {
     match spot {
         Spot::Whole => Spot::Whole,

@@ -25,7 +25,7 @@ pub struct OfficeFault {
     pub remark: Remark,
 }
 
-/// Why a workspace can't stand behind those before it.
+/// Returns why a workspace can't stand behind those before it.
 fn workspace_slip(alloc: Global, json: &Json, spot: Spot) -> Result<Slip, AllocError> {
     match spot {
         Spot::Workspace(at) => slip_or_unknown(alloc, explain_workspace(alloc, json, at)?),
@@ -33,7 +33,7 @@ fn workspace_slip(alloc: Global, json: &Json, spot: Spot) -> Result<Slip, AllocE
     }
 }
 
-/// What is wrong with the item that has the fault.
+/// Returns what is wrong with the item that has the fault.
 fn slip_of(alloc: Global, text: &[u8], json: &Json, found: Found) -> Result<Slip, AllocError>
     ensures { IfOk result (λ slip. IsTold (view json.now) found.fault found.spot (string_bytes slip.sentence)) }
 {
@@ -49,7 +49,7 @@ fn slip_of(alloc: Global, text: &[u8], json: &Json, found: Found) -> Result<Slip
     }
 }
 
-/// What is said of the fault of a text that is JSON.
+/// Returns what is said of the fault of a text that is JSON.
 fn remark_in(alloc: Global, text: &[u8], json: &Json, found: Found) -> Result<Remark, AllocError>
     ensures within { IfOk result (λ remark. remark.offset ≤ length text.now) }
     ensures place { IfOk result (λ remark. IsPlaceOf found.spot (string_bytes remark.place)) }
@@ -59,7 +59,8 @@ fn remark_in(alloc: Global, text: &[u8], json: &Json, found: Found) -> Result<Re
     remark_of(alloc, text, json, found.spot, slip)
 }
 
-/// What is said of a text that is no JSON, which the reader of JSON tells by a line and a column.
+/// Returns what is said of a text that is no JSON, which the reader of JSON tells by a line and a
+/// column.
 fn remark_on_json(
     alloc: Global,
     text: &[u8],
@@ -81,7 +82,7 @@ fn remark_on_json(
     })
 }
 
-/// What is said of the fault that is found in a text.
+/// Returns what is said of the fault that is found in a text.
 fn remark_on(alloc: Global, text: &[u8], found: Found) -> Result<Remark, AllocError>
     requires { IsFoundIn text.now found.fault found.spot }
     ensures within { IfOk result (λ remark. remark.offset ≤ length text.now) }
@@ -105,7 +106,7 @@ fn remark_on(alloc: Global, text: &[u8], found: Found) -> Result<Remark, AllocEr
 
 /// Returns the fault of an office text, as `read_office` answers it, and what is said of it: where it stands, by its line, its
 /// column and the path of the item, what is wrong, and a hint where one helps; or none where the text can be read. Whether its
-/// workspaces can stand as a whole isn't asked here. Fails for want of memory alone.
+/// workspaces can stand as a whole isn't asked here.
 pub fn explain_office(alloc: Global, text: &[u8]) -> Result<Option<OfficeFault>, AllocError>
     ensures none { IfOk result (λ found. IfNone found (IsOk (office_in text.now))) }
     ensures told { IfOk result (λ found. IfSome found (λ f. office_in text.now ≡ Err f.fault)) }

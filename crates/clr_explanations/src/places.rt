@@ -35,7 +35,7 @@ fn add_cell(said: &mut String, item: &Json) -> Result<(), AllocError> {
     }
 }
 
-/// What follows the path of an item: the steps from it, and its cell where it is a row.
+/// Returns what follows the path of an item: the steps from it, and its cell where it is a row.
 fn behind_path(
     alloc: Global,
     json: &Json,
@@ -52,7 +52,7 @@ fn behind_path(
     Ok(said)
 }
 
-/// The path of an item, and what follows it.
+/// Returns the path of an item, and what follows it.
 fn path_words(alloc: Global, json: &Json, spot: Spot, steps: &[Step]) -> Result<String, AllocError>
     ensures { IfOk result (λ said. BeginsWithPath spot (string_bytes said)) }
 {
@@ -62,7 +62,8 @@ fn path_words(alloc: Global, json: &Json, spot: Spot, steps: &[Step]) -> Result<
     Ok(said)
 }
 
-/// What is said of the place of a value of an item: its path, and the cell where the item is a row; nothing of the whole text.
+/// Returns what is said of the place of a value of an item: its path, and the cell where the item is a row; nothing of the
+/// whole text.
 fn place_words(alloc: Global, json: &Json, spot: Spot, steps: &[Step]) -> Result<String, AllocError>
     ensures { IfOk result (λ said. IsPlaceOf spot (string_bytes said)) }
 {
@@ -80,7 +81,7 @@ fn place_words(alloc: Global, json: &Json, spot: Spot, steps: &[Step]) -> Result
     }
 }
 
-/// Where the value at steps from an item begins, or else the item, or else the text.
+/// Returns where the value at steps from an item begins, or else the item, or else the text.
 fn offset_of(alloc: Global, text: &[u8], spot: Spot, steps: &[Step]) -> Result<usize, AllocError>
     ensures { IfOk result (λ offset. offset ≤ length text.now) }
 {
@@ -94,7 +95,7 @@ fn offset_of(alloc: Global, text: &[u8], spot: Spot, steps: &[Step]) -> Result<u
     }
 }
 
-/// The remark that a slip within an item makes.
+/// Returns the remark that a slip within an item makes.
 pub fn remark_of(
     alloc: Global,
     text: &[u8],

@@ -11,7 +11,7 @@ use clr_rows::Schema;
 use serde_json::Value as Json;
 use std::alloc::{AllocError, Global};
 
-/// The format of a text, or none where it has none.
+/// Returns the format of a text, or none where it has none.
 pub fn format_in(json: &Json) -> Result<Option<Format>, AllocError>
     ensures { IfOk result (λ found. MatchOption found (IsErr (format_of (view json.now))) (λ format. format_of (view json.now) ≡ Ok format)) }
 {
@@ -21,7 +21,7 @@ pub fn format_in(json: &Json) -> Result<Option<Format>, AllocError>
     }
 }
 
-/// The schema of a text, or none where it has none.
+/// Returns the schema of a text, or none where it has none.
 pub fn schema_in(alloc: Global, json: &Json) -> Result<Option<Schema>, AllocError>
     ensures { IfOk result (λ found. MatchOption found (IsErr (tables_in (view json.now))) (λ schema. tables_in (view json.now) ≡ Ok schema)) }
 {

@@ -9,17 +9,17 @@ use clr_places::{Key, place_of, value_at};
 use serde_json::Value as Json;
 use std::alloc::{AllocError, Global};
 
-/// The key of a cell, where it has one.
+/// Returns the key of a cell, where it has one.
 fn key_of(json: &Json) -> Option<i64> {
     json.get("k")?.as_i64()
 }
 
-/// Whether two cells are of one table and key.
+/// Returns whether two cells are of one table and key.
 fn is_same_cell(one: &Json, other: &Json) -> bool {
     text_at(one, Key::T) == text_at(other, Key::T) && key_of(one) == key_of(other)
 }
 
-/// The first item of a list with the cell of an item.
+/// Returns the first item of a list with the cell of an item.
 fn first_with_cell(items: &[Json], item: &Json) -> Option<usize> {
     for (at, other) in items.iter().enumerate() {
         if is_same_cell(item, other) {
@@ -29,7 +29,7 @@ fn first_with_cell(items: &[Json], item: &Json) -> Option<usize> {
     None
 }
 
-/// The line, the column and the path of an item.
+/// Returns the line, the column and the path of an item.
 fn place_in_words(alloc: Global, text: &[u8], spot: Spot) -> Result<String, AllocError> {
     let path = spot_path(alloc, spot)?;
     let steps = spot_steps(alloc, spot)?;
@@ -44,7 +44,7 @@ fn place_in_words(alloc: Global, text: &[u8], spot: Spot) -> Result<String, Allo
     }
 }
 
-/// The first item of the list that an item stands in with the cell of that item.
+/// Returns the first item of the list that an item stands in with the cell of that item.
 fn first_beside(json: &Json, spot: Spot) -> Result<Option<usize>, AllocError> {
     match item_at(json, spot)? {
         Some(item) => Ok(first_with_cell(items_beside(json, spot), item)),
@@ -52,7 +52,7 @@ fn first_beside(json: &Json, spot: Spot) -> Result<Option<usize>, AllocError> {
     }
 }
 
-/// That the cell of an item stands earlier in its list, and where.
+/// Returns that the cell of an item stands earlier in its list, and where.
 pub fn repeated_slip(
     alloc: Global,
     text: &[u8],

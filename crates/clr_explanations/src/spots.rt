@@ -6,14 +6,14 @@ use clr_faults::Spot;
 use clr_places::{Key, Step};
 use std::alloc::{AllocError, Global};
 
-/// The path of a workspace.
+/// Returns the path of a workspace.
 fn workspace_path(alloc: Global, at: usize) -> Result<String, AllocError>
     ensures { IfOk result (λ path. string_bytes path ≡ workspace_path at) }
 {
     format!(in alloc; "workspaces[{at}]")
 }
 
-/// The path of an item of a list that stands in another item.
+/// Returns the path of an item of a list that stands in another item.
 fn path_in(alloc: Global, outer: &str, list: &str, item: usize) -> Result<String, AllocError>
     ensures { IfOk result (λ path. string_bytes path ≡ path_in outer.now list.now item) }
 {
@@ -21,7 +21,7 @@ fn path_in(alloc: Global, outer: &str, list: &str, item: usize) -> Result<String
     Ok(path)
 }
 
-/// The path of an item of a list of a workspace.
+/// Returns the path of an item of a list of a workspace.
 fn path_in_workspace(
     alloc: Global,
     at: usize,
@@ -35,7 +35,7 @@ fn path_in_workspace(
     Ok(path)
 }
 
-/// The path of a cell of a savepoint.
+/// Returns the path of a cell of a savepoint.
 fn saved_path(alloc: Global, at: usize, mark: usize, cell: usize) -> Result<String, AllocError>
     ensures { IfOk result (λ path. string_bytes path ≡ path_in (path_in (workspace_path at) (codes "marks") mark) (codes "rows") cell) }
 {
@@ -44,7 +44,7 @@ fn saved_path(alloc: Global, at: usize, mark: usize, cell: usize) -> Result<Stri
     Ok(path)
 }
 
-/// The path of an item, as `workspaces[0].rows[3]`; of the whole text, none.
+/// Returns the path of an item, as `workspaces[0].rows[3]`; of the whole text, none.
 pub fn spot_path(alloc: Global, spot: Spot) -> Result<String, AllocError>
     ensures { IfOk result (λ path. string_bytes path ≡ spot_path spot) }
 {
@@ -61,7 +61,7 @@ pub fn spot_path(alloc: Global, spot: Spot) -> Result<String, AllocError>
     }
 }
 
-/// The steps to an item of a list of a workspace.
+/// Returns the steps to an item of a list of a workspace.
 fn steps_in_workspace(
     alloc: Global,
     at: usize,
@@ -79,7 +79,7 @@ fn steps_in_workspace(
     )
 }
 
-/// The steps from the whole text to an item.
+/// Returns the steps from the whole text to an item.
 pub fn spot_steps(alloc: Global, spot: Spot) -> Result<Vec<Step>, AllocError> {
     match spot {
         Spot::Whole => Ok(Vec::new(alloc)),

@@ -15,7 +15,7 @@ use clr_tree::{PartFault, Tree};
 use serde_json::Value as Json;
 use std::alloc::{AllocError, Global};
 
-/// Why a workspace can't stand among all of them.
+/// Returns why a workspace can't stand among all of them.
 fn slip_of_part(alloc: Global, json: &Json, at: usize, fault: PartFault) -> Result<Slip, AllocError>
     ensures { IfOk result (λ slip. IsNamed (part_fault_name fault) (string_bytes slip.sentence)) }
 {
@@ -25,7 +25,7 @@ fn slip_of_part(alloc: Global, json: &Json, at: usize, fault: PartFault) -> Resu
     }
 }
 
-/// A refusal, unless it is for want of memory.
+/// Returns a refusal, unless it is for want of memory.
 fn known_refusal(refused: (usize, PartFault)) -> Result<(usize, PartFault), AllocError>
     ensures { IfOk result (λ found. (found ≡ refused) × (refused.1 ≢ PartFault.OutOfMemory)) }
 {
@@ -35,7 +35,8 @@ fn known_refusal(refused: (usize, PartFault)) -> Result<(usize, PartFault), Allo
     }
 }
 
-/// The first workspace of a text that can't stand among all of them, and why; or none where they stand or the text can't be read.
+/// Returns the first workspace of a text that can't stand among all of them, and why; or none where they stand or the text can't
+/// be read.
 #[tactic(auto, using(crate::proofs::StandingLemmas::stands, crate::proofs::StandingLemmas::refused_stands, crate::proofs::StandingLemmas::unread_stands))]
 fn standing_fault(alloc: Global, text: &[u8]) -> Result<Option<(usize, PartFault)>, AllocError>
     ensures { IfOk result (IsStandingFault text.now) }
@@ -50,7 +51,8 @@ fn standing_fault(alloc: Global, text: &[u8]) -> Result<Option<(usize, PartFault
     }
 }
 
-/// What is said of a text whose first workspace that can't stand is known, or of one that is no JSON.
+/// Returns what is said of a text whose first workspace that can't stand is known, or of one that is
+/// no JSON.
 fn remark_on_part(
     alloc: Global,
     text: &[u8],
@@ -69,7 +71,7 @@ fn remark_on_part(
 }
 
 /// Returns what is said of a text that can be read and whose workspaces can't stand as a whole: the first that can't, and why;
-/// or none where they can or the text can't be read. Fails for want of memory alone.
+/// or none where they can or the text can't be read.
 pub fn explain_standing(alloc: Global, text: &[u8]) -> Result<Option<Remark>, AllocError>
     ensures none { IfOk result (λ found. IfNone found (StandsIfRead text.now)) }
     ensures told { IfOk result (λ found. IfSome found (IsStandingRemark text.now)) }

@@ -15,7 +15,8 @@ column_of text offset = count_by begins_character (last_line (take offset text))
 -- where the byte stands, and what else is said of that place
 abbrev pub place_line : List ℕ → Remark → List ℕ
 place_line text remark =
-    codes "at line " ++ decimal (line_of text remark.offset) ++ codes ", column " ++ decimal (column_of text remark.offset) ++ string_bytes remark.place ++ codes "\n"
+    codes "at line " ++ decimal (line_of text remark.offset) ++ codes ", column " ++ decimal (column_of text remark.offset) ++ string_bytes remark.place
+    ++ codes "\n"
 
 abbrev pub hint_line : Option (String Global) → List ℕ
 hint_line None = []

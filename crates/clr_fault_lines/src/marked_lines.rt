@@ -10,7 +10,8 @@ const MOST_CHARACTERS: usize = 90;
 /// The most characters that are shown before the place.
 const MOST_BEFORE: usize = 40;
 
-/// The characters of a line; where it isn't UTF-8, a sign for each of its bytes beyond ASCII.
+/// Returns the characters of a line; where it isn't UTF-8, a sign for each of its bytes beyond
+/// ASCII.
 fn readable(alloc: Global, line: &[u8]) -> Result<String, AllocError> {
     if let Ok(text) = str::from_utf8(line) {
         return String::from_str(alloc, text);

@@ -33,7 +33,7 @@ fn add_hint(lines: &mut Vec<u8>, hint: &Option<String>) -> Result<(), AllocError
 }
 
 /// Returns the lines of a fault of a text: its name, its place, the line of the text with a mark, the sentence, and a hint where
-/// there is one. Fails for want of memory alone.
+/// there is one.
 pub fn fault_lines(
     alloc: Global,
     text: &[u8],
@@ -56,7 +56,6 @@ pub fn fault_lines(
 }
 
 /// Returns the line of a fault in short: the name of the file, the line, the column, and the sentence, with colons between them.
-/// Fails for want of memory alone.
 pub fn short_line(
     alloc: Global,
     text: &[u8],

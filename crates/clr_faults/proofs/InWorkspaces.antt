@@ -3,9 +3,9 @@ use Rattle.std.proofs.Common.{◌≡◌, ◌≢◌, ℕ, false, List, codes, Opt
 use Rattle.std.specs.Prelude.{IsOk, is_ok}
 use Rattle.serde_json.specs.Data.{Data}
 use Rattle.clr_rows.specs.declared.tables.TableDef.{TableDef}
-use Rattle.clr_office_text.specs.declared.faults.TextFault.{TextFault}
+use Rattle.clr_rule_text.specs.declared.faults.TextFault.{TextFault}
 use Rattle.clr_office_text.specs.declared.formats.Format.{Format}
-use Rattle.clr_office_text.specs.Fields.{◌>>=◌}
+use Rattle.clr_rule_text.specs.Fields.{◌>>=◌}
 use Rattle.clr_office_text.specs.Patches.{differences_at}
 use Rattle.clr_office_text.specs.Workspaces.{head_of}
 use Rattle.clr_faults.specs.declared.spots.Spot.TheVariants.{Mark, Workspace}

@@ -4,7 +4,7 @@ use Rattle.std.specs.Str.{IsUtf8, is_utf8}
 use Rattle.std.proofs.lemmas.Str.{IsUtf8-from_is_utf8, is_utf8-from_IsUtf8}
 use Rattle.serde_json.specs.Data.{Data}
 use Rattle.serde_json.specs.Read.{read}
-use Rattle.clr_office_text.specs.declared.faults.TextFault.{TextFault}
+use Rattle.clr_rule_text.specs.declared.faults.TextFault.{TextFault}
 use Rattle.clr_faults.specs.declared.spots.Spot.{Spot}
 use Rattle.clr_faults.specs.declared.spots.Spot.TheVariants.{Whole}
 use Rattle.clr_faults.specs.Spots.{IsAt, IsFoundIn, value_in}

@@ -3,11 +3,11 @@ use Rattle.std.proofs.Common.{◌≡◌, ◌≢◌, ℕ, false, List, Some, None
 use Rattle.std.specs.Prelude.{is_ok}
 use Rattle.serde_json.specs.Data.{Data}
 use Rattle.clr_rows.specs.declared.tables.TableDef.{TableDef}
-use Rattle.clr_office_text.specs.declared.faults.TextFault.{TextFault}
+use Rattle.clr_rule_text.specs.declared.faults.TextFault.{TextFault}
 use Rattle.clr_office_text.specs.declared.formats.Format.{Format}
 use Rattle.clr_office_text.specs.Cells.{live_of}
 use Rattle.clr_office_text.specs.Offices.{format_of, schema_of}
-use Rattle.clr_office_text.specs.Rules.{rules_of}
+use Rattle.clr_rule_text.specs.Rules.{rules_of}
 use Rattle.clr_faults.specs.declared.spots.Spot.TheVariants.{Whole}
 use Rattle.clr_faults.specs.Behind.{BehindLive, BehindRules, BehindTables}
 use Rattle.clr_faults.specs.Parts.{live_fault, rule_fault, workspace_fault}

@@ -3,7 +3,7 @@ use Rattle.std.specs.Prelude.{◌≡◌, ◌≢◌, ℕ, List, Option, Some, Non
 use Rattle.std.specs.Str.{is_utf8}
 use Rattle.serde_json.specs.Data.{Data}
 use Rattle.serde_json.specs.Read.{read}
-use Rattle.clr_office_text.specs.declared.faults.TextFault.{TextFault}
+use Rattle.clr_rule_text.specs.declared.faults.TextFault.{TextFault}
 use Rattle.clr_faults.specs.declared.spots.Spot.{Spot}
 use Rattle.clr_faults.specs.declared.spots.Spot.TheVariants.{Whole, Table, Rule, Live, Workspace, Base, Row, Mark, Saved}
 use Rattle.clr_faults.specs.Stages.{base_faults, live_faults, mark_faults, row_faults, rule_faults, saved_faults, table_faults, workspace_faults}

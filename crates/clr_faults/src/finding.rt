@@ -23,7 +23,7 @@ pub struct Found {
     pub spot: Spot,
 }
 
-/// The workspace that has the fault, an item of it, or the whole text.
+/// Returns the workspace that has the fault, an item of it, or the whole text.
 fn spot_in_workspaces(alloc: Global, text: FaultyText) -> Result<Spot, AllocError>
     requires { BehindLive (view text.json.now) text.fault text.format text.schema.now }
     ensures { IfOk result (IsAt (view text.entry.json.now) text.entry.fault) }
@@ -35,7 +35,7 @@ fn spot_in_workspaces(alloc: Global, text: FaultyText) -> Result<Spot, AllocErro
     }
 }
 
-/// The row of LIVE that has the fault, or what comes behind LIVE.
+/// Returns the row of LIVE that has the fault, or what comes behind LIVE.
 fn spot_behind_rules(alloc: Global, text: FaultyText) -> Result<Spot, AllocError>
     requires { BehindRules (view text.json.now) text.fault text.format text.schema.now }
     ensures { IfOk result (IsAt (view text.entry.json.now) text.entry.fault) }
@@ -51,7 +51,7 @@ fn spot_behind_rules(alloc: Global, text: FaultyText) -> Result<Spot, AllocError
     }
 }
 
-/// The rule that has the fault, or what comes behind the rules.
+/// Returns the rule that has the fault, or what comes behind the rules.
 fn spot_behind_tables(alloc: Global, text: FaultyText) -> Result<Spot, AllocError>
     requires { BehindTables (view text.json.now) text.fault text.format text.schema.now }
     ensures { IfOk result (IsAt (view text.entry.json.now) text.entry.fault) }
@@ -67,7 +67,7 @@ fn spot_behind_tables(alloc: Global, text: FaultyText) -> Result<Spot, AllocErro
     }
 }
 
-/// The item of a text that has the fault.
+/// Returns the item of a text that has the fault.
 fn find_spot(alloc: Global, json: &Json, fault: TextFault) -> Result<Spot, AllocError>
     ensures { IfOk result (IsAt (view json.now) fault) }
 {
@@ -91,9 +91,9 @@ fn find_spot(alloc: Global, json: &Json, fault: TextFault) -> Result<Spot, Alloc
 
 /// Returns the fault of an office text, as `read_office` answers it, and the item that it stands at;
 /// or none where the text can be read. The item is the innermost one whose own reading answers just
-/// this fault, the first of its list, where all before it can be read: a table, a rule, a row of
-/// LIVE, a workspace, a cell of its base or of its rows, a mark of it, or a cell of a savepoint. Where
-/// the reading of no item answers the fault, it is the whole text. Fails for want of memory alone.
+/// this fault, the first of its list, where all before it can be read: a table, a rule, a row of LIVE,
+/// a workspace, a cell of its base or of its rows, a mark of it, or a cell of a savepoint. Where the
+/// reading of no item answers the fault, it is the whole text.
 pub fn find_fault(alloc: Global, bytes: &[u8]) -> Result<Option<Found>, AllocError>
     ensures none { IfOk result (λ found. IfNone found (IsOk (office_in bytes.now))) }
     ensures told { IfOk result (λ found. IfSome found (λ f. office_in bytes.now ≡ Err f.fault)) }

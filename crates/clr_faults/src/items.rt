@@ -10,7 +10,6 @@ use serde_json::Value as Json;
 use std::alloc::AllocError;
 
 /// Returns an item of the list at a key, counted from 0, or none where there is no such list or item.
-/// Fails for want of memory alone.
 #[tactic(auto, unfolding(crate::specs::Stages::item_of))]
 pub fn item_in<'a>(json: &'a Json, key: &str, at: usize) -> Result<Option<&'a Json>, AllocError>
     ensures { IfOk result (λ found. MatchOption found (IsErr (item_of key.now at (view json.now)))

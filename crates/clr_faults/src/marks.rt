@@ -13,7 +13,7 @@ use crate::texts::{FaultyText, place_with};
 use serde_json::Value as Json;
 use std::alloc::{AllocError, Global};
 
-/// The cell of a savepoint that has the fault, or its mark.
+/// Returns the cell of a savepoint that has the fault, or its mark.
 pub fn spot_at_mark(
     alloc: Global,
     text: FaultyText,

@@ -16,7 +16,7 @@ use clr_rows::Schema;
 use serde_json::Value as Json;
 use std::alloc::{AllocError, Global};
 
-/// Returns the first table that can't be read, or none. Fails for want of memory alone.
+/// Returns the first table that can't be read, or none.
 #[tactic(auto, unfolding(crate::specs::Parts::table_fault))]
 pub fn table_fault(alloc: Global, json: &Json, format: Format) -> Result<FirstFault, AllocError>
     ensures { IfOk result (λ first. first ≡ table_fault format (view json.now)) }
@@ -28,7 +28,7 @@ pub fn table_fault(alloc: Global, json: &Json, format: Format) -> Result<FirstFa
 }
 
 /// Returns the first rule that can't be read; else the first that names what the schema hasn't; else
-/// the first that can't stand in a book over it; or none. Fails for want of memory alone.
+/// the first that can't stand in a book over it; or none.
 #[tactic(auto, unfolding(crate::specs::Parts::rule_fault))]
 pub fn rule_fault(alloc: Global, json: &Json, schema: &Schema) -> Result<FirstFault, AllocError>
     ensures { IfOk result (λ first. first ≡ rule_fault schema.now (view json.now)) }
@@ -47,7 +47,7 @@ pub fn rule_fault(alloc: Global, json: &Json, schema: &Schema) -> Result<FirstFa
 }
 
 /// Returns the first row of LIVE that can't be read, and else the first that can't stand behind the
-/// others, or none. Fails for want of memory alone.
+/// others, or none.
 #[tactic(auto, unfolding(crate::specs::Parts::live_fault))]
 pub fn live_fault(alloc: Global, json: &Json, schema: &Schema) -> Result<FirstFault, AllocError>
     ensures { IfOk result (λ first. first ≡ live_fault schema.now (view json.now)) }
@@ -58,8 +58,7 @@ pub fn live_fault(alloc: Global, json: &Json, schema: &Schema) -> Result<FirstFa
     }
 }
 
-/// Returns the first workspace that can't be read behind those before it, or none. Fails for want of
-/// memory alone.
+/// Returns the first workspace that can't be read behind those before it, or none.
 #[tactic(auto, unfolding(crate::specs::Parts::workspace_fault))]
 pub fn workspace_fault(
     alloc: Global,
@@ -76,7 +75,7 @@ pub fn workspace_fault(
 }
 
 /// Returns the first cell at a key of a workspace, or of a mark, that can't be read, and else the
-/// first that can't stand beside the others, or none. Fails for want of memory alone.
+/// first that can't stand beside the others, or none.
 #[tactic(auto, unfolding(crate::specs::Parts::cell_fault_at))]
 pub fn cell_fault_at(
     alloc: Global,
@@ -93,7 +92,7 @@ pub fn cell_fault_at(
 }
 
 /// Returns the first mark of a workspace that can't be read, and else the first whose cells can't
-/// stand, or none. Fails for want of memory alone.
+/// stand, or none.
 #[tactic(auto, unfolding(crate::specs::Parts::mark_fault))]
 pub fn mark_fault(alloc: Global, json: &Json, schema: &Schema) -> Result<FirstFault, AllocError>
     ensures { IfOk result (λ first. first ≡ mark_fault schema.now (view json.now)) }

@@ -5,7 +5,7 @@ ghost use Rattle.serde_json.specs.View.{view};
 ghost use Rattle.clr_office_text.specs.Cells.{live_of};
 ghost use Rattle.clr_office_text.specs.Offices.{format_of, schema_of};
 ghost use Rattle.clr_office_text.specs.Patches.{differences_at};
-ghost use Rattle.clr_office_text.specs.Rules.{rules_of};
+ghost use Rattle.clr_rule_text.specs.Rules.{rules_of};
 ghost use Rattle.clr_office_text.specs.Workspaces.{head_of};
 ghost use Rattle.clr_faults.specs.Stages.{known, savepoint_of};
 
@@ -21,7 +21,7 @@ use clr_rows::Schema;
 use serde_json::Value as Json;
 use std::alloc::{AllocError, Global};
 
-/// Returns the format of an office text, or none where it has none. Fails for want of memory alone.
+/// Returns the format of an office text, or none where it has none.
 pub fn known_format(json: &Json) -> Result<Option<Format>, AllocError>
     ensures { IfOk result (λ found. found ≡ known (format_of (view json.now))) }
 {
@@ -31,8 +31,7 @@ pub fn known_format(json: &Json) -> Result<Option<Format>, AllocError>
     }
 }
 
-/// Returns the schema of an office text, or none where it can't be read. Fails for want of memory
-/// alone.
+/// Returns the schema of an office text, or none where it can't be read.
 pub fn known_schema(
     alloc: Global,
     json: &Json,
@@ -49,7 +48,7 @@ pub fn known_schema(
     }
 }
 
-/// Tests whether the rules of an office text can be read. Fails for want of memory alone.
+/// Tests whether the rules of an office text can be read.
 pub fn has_rules(alloc: Global, json: &Json, schema: &Schema) -> Result<bool, AllocError>
     ensures { IfOk result (λ has. has ≡ is_ok (rules_of schema.now (view json.now))) }
 {
@@ -59,7 +58,7 @@ pub fn has_rules(alloc: Global, json: &Json, schema: &Schema) -> Result<bool, Al
     }
 }
 
-/// Tests whether the content of LIVE can be read. Fails for want of memory alone.
+/// Tests whether the content of LIVE can be read.
 pub fn has_live(alloc: Global, json: &Json, schema: &Schema) -> Result<bool, AllocError>
     ensures { IfOk result (λ has. has ≡ is_ok (live_of schema.now (view json.now))) }
 {
@@ -69,8 +68,7 @@ pub fn has_live(alloc: Global, json: &Json, schema: &Schema) -> Result<bool, All
     }
 }
 
-/// Tests whether the name, the parent and the flag of a workspace can be read. Fails for want of memory
-/// alone.
+/// Tests whether the name, the parent and the flag of a workspace can be read.
 pub fn has_head(alloc: Global, json: &Json, format: Format) -> Result<bool, AllocError>
     ensures { IfOk result (λ has. has ≡ is_ok (head_of format (view json.now))) }
 {
@@ -80,7 +78,7 @@ pub fn has_head(alloc: Global, json: &Json, format: Format) -> Result<bool, Allo
     }
 }
 
-/// Tests whether the cells at a key can be read. Fails for want of memory alone.
+/// Tests whether the cells at a key can be read.
 pub fn has_cells(alloc: Global, json: &Json, key: &str, schema: &Schema) -> Result<bool, AllocError>
     ensures { IfOk result (λ has. has ≡ is_ok (differences_at key.now schema.now (view json.now))) }
 {
@@ -90,7 +88,7 @@ pub fn has_cells(alloc: Global, json: &Json, key: &str, schema: &Schema) -> Resu
     }
 }
 
-/// Tests whether a mark is a savepoint with a name. Fails for want of memory alone.
+/// Tests whether a mark is a savepoint with a name.
 #[tactic(auto, unfolding(crate::specs::Stages::savepoint_of))]
 pub fn is_savepoint(alloc: Global, json: &Json) -> Result<bool, AllocError>
     ensures { IfOk result (λ has. has ≡ is_ok (savepoint_of (view json.now))) }

@@ -14,7 +14,7 @@ use crate::texts::{FaultyText, place_with};
 use serde_json::Value as Json;
 use std::alloc::{AllocError, Global};
 
-/// The mark of a workspace that has the fault, a cell of it, or the workspace.
+/// Returns the mark of a workspace that has the fault, a cell of it, or the workspace.
 fn spot_in_marks(alloc: Global, text: FaultyText, at: usize, one: &Json) -> Result<Spot, AllocError>
     requires { BehindRows (view text.json.now) text.fault text.format text.schema.now at (view one.now) }
     ensures { IfOk result (IsAt (view text.entry.json.now) text.entry.fault) }
@@ -25,7 +25,7 @@ fn spot_in_marks(alloc: Global, text: FaultyText, at: usize, one: &Json) -> Resu
     }
 }
 
-/// The cell of a workspace's rows that has the fault, or what comes behind the rows.
+/// Returns the cell of a workspace's rows that has the fault, or what comes behind the rows.
 fn spot_behind_base(
     alloc: Global,
     text: FaultyText,
@@ -46,7 +46,7 @@ fn spot_behind_base(
     }
 }
 
-/// The cell of a workspace's base that has the fault, or what comes behind the base.
+/// Returns the cell of a workspace's base that has the fault, or what comes behind the base.
 fn spot_behind_head(
     alloc: Global,
     text: FaultyText,
@@ -67,7 +67,7 @@ fn spot_behind_head(
     }
 }
 
-/// The item of a workspace that has the fault, or the workspace.
+/// Returns the item of a workspace that has the fault, or the workspace.
 pub fn spot_at_workspace(alloc: Global, text: FaultyText, at: usize) -> Result<Spot, AllocError>
     requires { HasWorkspace (view text.json.now) text.fault text.format text.schema.now at }
     ensures { IfOk result (IsAt (view text.entry.json.now) text.entry.fault) }

@@ -1,4 +1,5 @@
 pub mod CommonSpots
 pub mod CountedLists
 pub mod EntryLemmas
+pub mod NextLemmas
 pub mod SharingLemmas

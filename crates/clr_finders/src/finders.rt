@@ -1,13 +1,15 @@
 //! What every finder of rows promises.
 
-ghost use Rattle.std.specs.Prelude.{◌≡◌, ◌<◌, ◌∷◌, [], length, true, false, Some, None, IfOk, OnOk, OnErr};
+ghost use Rattle.std.specs.Prelude.{◌≡◌, ◌<◌, ◌∷◌, [], length, true, false, Some, None, Contains, IfOk, OnOk, OnErr};
 ghost use Rattle.std.specs.FinMap as finite;
 ghost use Rattle.std.specs.Option.{option_copied, option_map};
 ghost use Rattle.clr_rows.specs.declared.cells.CellId.{CellId as Cell};
 ghost use Rattle.clr_rows.specs.Held.{held_of};
 ghost use Rattle.clr_rules.specs.Books.{FitTogether};
+ghost use Rattle.clr_finders.specs.NextCells.{IsNextOf};
 ghost use Rattle.clr_finders.specs.Sharing.{Pending, Settled, found_cells, next_at, row_spots, rows_at, rule_spots};
 
+use crate::row_spots::RuleSpots;
 use clr_rows::{CellId, Held, Row};
 use clr_rules::RuleBook;
 use std::alloc::{AllocError, Global};
@@ -42,6 +44,12 @@ pub trait RowFinder: Drop {
         requires number { rule < length book.now }
         requires fit { FitTogether book.now (held_of held ∷ []) }
         ensures { IfOk result (λ cells. cells.items ≡ found_cells true (settled self.now) rule (rule_spots book.now rule (held_of held.entry))) };
+
+    /// Returns a cell behind a given one, or any where none is given, which is past no cell of
+    /// `sharing_servers` that stands there, for a row of these spots under a rule. None says that
+    /// none of those stands there. It takes no memory.
+    fn next_server(&self, rule: u16, spots: &RuleSpots, after: Option<CellId>) -> Option<CellId>
+        ensures { IsNextOf (Contains (found_cells true (settled self.now) rule spots.now)) after result };
 
     /// Adds a pending change of a cell that has none yet: the row that is to stand there, or none.
     /// If memory runs out, nothing changes.

@@ -54,7 +54,8 @@ module _ (rules : List Rule) (number : ℕ) (r : Option Version) (s : Version) w
   they_call t n w = (and_parts (serves_too rules (ask_of n) s t r) (calls rules (ask_of n) (row_of s) (option_map row_of t)) w.asked).1
 
   -- the need of an ask
-  pub asked_need : (t : Option Version) (ask : Ask) (n : Need) → ask.rule ≡ number → n ≡ need_of ask s.id (option_map id_of t) → is_asked rules ask r s t ≡ true → IsNeedOf rules number r s t n
+  pub asked_need : (t : Option Version) (ask : Ask) (n : Need) → ask.rule ≡ number → n ≡ need_of ask s.id (option_map id_of t) → is_asked rules ask r s t ≡ true
+      → IsNeedOf rules number r s t n
   asked_need t ask n rule is asked = subst (IsNeedOf rules number r s t) (sym is) (record { rule = rule; first = refl; second = refl; asked = asked })
 
   need_is : (t : Option Version) (n : Need) → IsNeedOf rules number r s t n → n ≡ need_of (ask_of n) s.id (option_map id_of t)
@@ -65,19 +66,27 @@ module _ (rules : List Rule) (number : ℕ) (r : Option Version) (s : Version) w
 
   -- a version alone is asked as a whole
   pub plain_need : (n : Need) → IsNeedOf rules number r s None n → ask_of n ≡ plain_ask number
-  plain_need n w = let parts = alone_parts rules (ask_of n) (row_of s) (they_call None n w) in λ i. record { rule = w.rule i; first_part = parts.0 i; second_part = parts.1 i }
+  plain_need n w = let parts = alone_parts rules (ask_of n) (row_of s) (they_call None n w) in λ i. record {
+    rule = w.rule i;
+    first_part =
+        parts.0 i;
+    second_part = parts.1 i;
+  }
 
   not_asked : (t : Option Version) (ask : Ask) (n : Need) → is_asked rules ask r s t ≡ false → IsNeedOf rules number r s t n → ask_of n ≡ ask → ⊥
   not_asked t ask n fails w is = false≢true (sym fails ∙ ap (λ a. is_asked rules a r s t) (sym is) ∙ w.asked)
 
   module _ (needs : List Need) where
-    pub add_alone : (new : List Need) (n : Need) → new ≡ needs ++ n ∷ [] → n ≡ need_of (plain_ask number) s.id None → is_asked rules (plain_ask number) r s None ≡ true
+    pub add_alone : (new : List Need) (n : Need) → new ≡ needs ++ n ∷ [] → n ≡ need_of (plain_ask number) s.id None → is_asked rules (plain_ask number) r s None
+        ≡ true
         → Gains (IsNeedOf rules number r s None) (IsNeedOf rules number r s None) needs new
-    add_alone new n is named asked = gains_one (IsNeedOf rules number r s None) (IsNeedOf rules number r s None) needs new n is (asked_need None (plain_ask number) n refl named asked)
+    add_alone new n is named asked = gains_one (IsNeedOf rules number r s None) (IsNeedOf rules number r s None) needs new n is
+        (asked_need None (plain_ask number) n refl named asked)
         (λ x w. same_need None (plain_ask number) x w (plain_need x w) ∙ sym named)
 
     pub none_alone : is_asked rules (plain_ask number) r s None ≡ false → Gains (IsNeedOf rules number r s None) (IsNeedOf rules number r s None) needs needs
-    none_alone fails = gains_none (IsNeedOf rules number r s None) (IsNeedOf rules number r s None) needs (λ x w. not_asked None (plain_ask number) x fails w (plain_need x w))
+    none_alone fails = gains_none (IsNeedOf rules number r s None) (IsNeedOf rules number r s None) needs (λ x w. not_asked None (plain_ask number) x fails w
+        (plain_need x w))
 
   -- the number of a part
   pub first_within : (t : Version) (n : Need) → IsNeedOf rules number r s (Some t) n → n.first_part ≤ part_count rules number (row_of s)
@@ -102,11 +111,13 @@ module _ (rules : List Rule) (number : ℕ) (r : Option Version) (s : Version) w
 module _ (rules : List Rule) (ask : Ask) (r : Option Version) (s t : Version) (needs : List Need) where
   pub add_asked : (new : List Need) (n : Need) → new ≡ needs ++ n ∷ [] → n ≡ need_of ask s.id (Some t.id) → is_asked rules ask r s (Some t) ≡ true
       → Gains (IsNeedOf rules ask.rule r s (Some t)) (IsNeedOfAsk rules ask r s t) needs new
-  add_asked new n is named asked = gains_one (IsNeedOf rules ask.rule r s (Some t)) (IsNeedOfAsk rules ask r s t) needs new n is (asked_need rules ask.rule r s (Some t) ask n refl named asked)
+  add_asked new n is named asked = gains_one (IsNeedOf rules ask.rule r s (Some t)) (IsNeedOfAsk rules ask r s t) needs new n is
+      (asked_need rules ask.rule r s (Some t) ask n refl named asked)
       (λ x w. same_need rules ask.rule r s (Some t) ask x w.need w.is ∙ sym named)
 
   pub none_asked : is_asked rules ask r s (Some t) ≡ false → Gains (IsNeedOf rules ask.rule r s (Some t)) (IsNeedOfAsk rules ask r s t) needs needs
-  none_asked fails = gains_none (IsNeedOf rules ask.rule r s (Some t)) (IsNeedOfAsk rules ask r s t) needs (λ x w. not_asked rules ask.rule r s (Some t) ask x fails w.need w.is)
+  none_asked fails = gains_none (IsNeedOf rules ask.rule r s (Some t)) (IsNeedOfAsk rules ask r s t) needs (λ x w. not_asked rules ask.rule r s (Some t) ask x
+      fails w.need w.is)
 
 -- ---- part after part
 
@@ -130,7 +141,8 @@ module _ (rules : List Rule) (number : ℕ) (r : Option Version) (s t : Version)
       → Gains (IsNeedOf rules ask.rule r s (Some t)) (IsNeedOfAsk rules ask r s t) middle new
       → Gains (IsNeedOf rules number r s (Some t)) (IsUpTo from (k + 1)) old new
   one_part_more from k ask old middle new is g h =
-      gains_both (IsNeedOf rules number r s (Some t)) (IsUpTo from k) (IsNeedOfAsk rules (ask_of_parts number from (k + 1)) r s t) (IsUpTo from (k + 1)) old middle new split g
+      gains_both (IsNeedOf rules number r s (Some t)) (IsUpTo from k) (IsNeedOfAsk rules (ask_of_parts number from (k + 1)) r s t) (IsUpTo from (k + 1)) old
+      middle new split g
       (subst (λ a. Gains (IsNeedOf rules a.rule r s (Some t)) (IsNeedOfAsk rules a r s t) middle new) is h)
     where
       split : (n : Need) → IsUpTo from (k + 1) n → IsUpTo from k n ⊎ IsNeedOfAsk rules (ask_of_parts number from (k + 1)) r s t n
@@ -141,9 +153,11 @@ module _ (rules : List Rule) (number : ℕ) (r : Option Version) (s t : Version)
             inr (record { need = w.of.need; is = λ i. record { rule = w.of.need.rule i; first_part = w.of.part i; second_part = here i } }))
       ]
 
-  pub all_parts : (from k : ℕ) (old new : List Need) → part_count rules number (row_of t) ≤ k → Gains (IsNeedOf rules number r s (Some t)) (IsUpTo from k) old new
+  pub all_parts : (from k : ℕ) (old new : List Need) → part_count rules number (row_of t) ≤ k
+      → Gains (IsNeedOf rules number r s (Some t)) (IsUpTo from k) old new
       → Gains (IsNeedOf rules number r s (Some t)) (IsNeedOfPart rules number r s t from) old new
-  all_parts from k old new past g = gains_as (IsNeedOf rules number r s (Some t)) (IsUpTo from k) (IsNeedOf rules number r s (Some t)) (IsNeedOfPart rules number r s t from) old new (λ n w. w)
+  all_parts from k old new past g = gains_as (IsNeedOf rules number r s (Some t)) (IsUpTo from k) (IsNeedOf rules number r s (Some t))
+      (IsNeedOfPart rules number r s t from) old new (λ n w. w)
       (λ n w. record { of = w; most = (let high = second_within rules number r s t n w.need in omega (arith, high, past)) }) g
 
   pub no_first_yet : (needs : List Need) → Gains (IsNeedOf rules number r s (Some t)) (IsFromUpTo 0) needs needs
@@ -164,7 +178,8 @@ module _ (rules : List Rule) (number : ℕ) (r : Option Version) (s t : Version)
 
   pub all_firsts : (k : ℕ) (old new : List Need) → part_count rules number (row_of s) ≤ k → Gains (IsNeedOf rules number r s (Some t)) (IsFromUpTo k) old new
       → Gains (IsNeedOf rules number r s (Some t)) (IsNeedOf rules number r s (Some t)) old new
-  all_firsts k old new past g = gains_as (IsNeedOf rules number r s (Some t)) (IsFromUpTo k) (IsNeedOf rules number r s (Some t)) (IsNeedOf rules number r s (Some t)) old new (λ n w. w)
+  all_firsts k old new past g = gains_as (IsNeedOf rules number r s (Some t)) (IsFromUpTo k) (IsNeedOf rules number r s (Some t))
+      (IsNeedOf rules number r s (Some t)) old new (λ n w. w)
       (λ n w. record { of = w; most = (let high = first_within rules number r s t n w in omega (arith, high, past)) }) g
 
 -- ---- pairs
@@ -179,7 +194,8 @@ module _ (rules : List Rule) (number : ℕ) (r : Option Version) (s t : Version)
     where
       none : (n : Need) → Pair n → ⊥
       none n (inl w) = w.not_opposed (told_opposed (row_and_life s).life (row_and_life t).life opposed)
-      none n (inr w) = w.not_opposed (opposed_back (row_and_life s).life (row_and_life t).life (told_opposed (row_and_life s).life (row_and_life t).life opposed))
+      none n (inr w) = w.not_opposed (opposed_back (row_and_life s).life (row_and_life t).life (told_opposed (row_and_life s).life (row_and_life t).life
+          opposed))
         where
           opposed_back : (l m : Lifetime ℕ) → AreOpposed l m → AreOpposed m l
           opposed_back (With m) (Without n) e = sym e
@@ -204,7 +220,8 @@ module _ (rules : List Rule) (number : ℕ) (r : Option Version) (s t : Version)
   not_told : are_opposed (row_and_life s).life (row_and_life t).life ≡ false → ¬ (AreOpposed (row_and_life s).life (row_and_life t).life)
   not_told fails opposed = false≢true (sym fails ∙ opposed_told (row_and_life s).life (row_and_life t).life opposed)
 
-  pub ordered_pair : are_opposed (row_and_life s).life (row_and_life t).life ≡ false → cell_cmp s.id.cell t.id.cell ≡ Less → (n : Need) → IsNeedOf rules number r s (Some t) n → Pair n
+  pub ordered_pair : are_opposed (row_and_life s).life (row_and_life t).life ≡ false → cell_cmp s.id.cell t.id.cell ≡ Less → (n : Need)
+      → IsNeedOf rules number r s (Some t) n → Pair n
   ordered_pair fails less n w = inl (record { ascending = less; not_opposed = not_told fails; need = w })
 
   pub in_order : (old new : List Need) → are_opposed (row_and_life s).life (row_and_life t).life ≡ false → cell_cmp s.id.cell t.id.cell ≡ Less
@@ -248,7 +265,8 @@ module _ (rules : List Rule) (number : ℕ) (r : Option Version) (s t : Version)
       by true e = absurd (false≢true (sym fails ∙ opposed_told l m (back (told_opposed m l e))))
 
   pub in_turned_order : (old new : List Need) → are_opposed (row_and_life s).life (row_and_life t).life ≡ false → cell_cmp s.id.cell t.id.cell ≡ Greater
-      → Gains (IsNeedOf rules number r t (Some s)) (IsNeedOf rules number r t (Some s)) old new → Gains (IsNeedOfPair rules number r s t) (IsNeedOfPair rules number r s t) old new
+      → Gains (IsNeedOf rules number r t (Some s)) (IsNeedOf rules number r t (Some s)) old new
+      → Gains (IsNeedOfPair rules number r s t) (IsNeedOfPair rules number r s t) old new
   in_turned_order old new fails more g =
       gains_as (IsNeedOfPair rules number r t s) (IsNeedOfPair rules number r t s) (IsNeedOfPair rules number r s t) (IsNeedOfPair rules number r s t) old new
       pair_back turned_pair
@@ -270,7 +288,8 @@ module _ (rules : List Rule) (number : ℕ) (r : Option Version) (s : Version) (
   no_pairs needs told is fails = gains_none (Among others) (Among others) needs (λ n w. by n w.0 w.2)
     where
       two : (x y : Version) (n : Need) → IsNeedOf rules number r x (Some y) n → ⊥
-      two x y n w = false≢true (sym fails ∙ is ∙ ap (is_of_two_under rules) (sym w.rule) ∙ two_asked rules (ask_of n) (row_of x) (row_of y) (they_call rules number r x (Some y) n w))
+      two x y n w = false≢true (sym fails ∙ is ∙ ap (is_of_two_under rules) (sym w.rule)
+          ∙ two_asked rules (ask_of n) (row_of x) (row_of y) (they_call rules number r x (Some y) n w))
 
       by : (n : Need) (t : Version) → IsNeedOfPair rules number r s t n → ⊥
       by n t (inl w) = two s t n w.need
@@ -279,7 +298,8 @@ module _ (rules : List Rule) (number : ℕ) (r : Option Version) (s : Version) (
   pub no_pair_yet : (needs : List Need) → Gains (Among others) (Among (take 0 others)) needs needs
   no_pair_yet needs = gains_none (Among others) (Among (take 0 others)) needs (λ n w. none_taken others w.0 w.1)
 
-  pub one_pair_more : (k : ℕ) (t : Version) (old middle new : List Need) → k < length others → t ≡ get_or others k t → Gains (Among others) (Among (take k others)) old middle
+  pub one_pair_more : (k : ℕ) (t : Version) (old middle new : List Need) → k < length others → t ≡ get_or others k t
+      → Gains (Among others) (Among (take k others)) old middle
       → Gains (IsNeedOfPair rules number r s t) (IsNeedOfPair rules number r s t) middle new
       → Gains (Among others) (Among (take (k + 1) others)) old new
   one_pair_more k t old middle new less is g h =
@@ -295,13 +315,17 @@ module _ (rules : List Rule) (number : ℕ) (r : Option Version) (s : Version) (
           by (inr last) = inr (subst (λ u. IsNeedOfPair rules number r s u n) (last ∙ sym is) w.2)
 
   -- a call for one of them that finds no memory
-  pub some_pairs : (k : ℕ) (t : Version) (old middle new : List Need) → k < length others → t ≡ get_or others k t → Gains (Among others) (Among (take k others)) old middle
+  pub some_pairs : (k : ℕ) (t : Version) (old middle new : List Need) → k < length others → t ≡ get_or others k t
+      → Gains (Among others) (Among (take k others)) old middle
       → GainsSome (IsNeedOfPair rules number r s t) middle new
       → GainsSome (Among others) old new
-  some_pairs k t old middle new less is g h = then_some (Among others) (Among (take k others)) (IsNeedOfPair rules number r s t) old middle new (λ n w. (t, item_in others k t less is, w)) g h
+  some_pairs k t old middle new less is g h = then_some (Among others) (Among (take k others)) (IsNeedOfPair rules number r s t) old middle new
+      (λ n w. (t, item_in others k t less is, w)) g h
 
-  pub all_pairs : (k : ℕ) (old new : List Need) → length others ≤ k → Gains (Among others) (Among (take k others)) old new → Gains (Among others) (Among others) old new
-  all_pairs k old new past g = gains_as (Among others) (Among (take k others)) (Among others) (Among others) old new (λ n w. w) (λ n w. (w.0, all_taken others k w.0 past w.1, w.2)) g
+  pub all_pairs : (k : ℕ) (old new : List Need) → length others ≤ k → Gains (Among others) (Among (take k others)) old new
+      → Gains (Among others) (Among others) old new
+  all_pairs k old new past g = gains_as (Among others) (Among (take k others)) (Among others) (Among others) old new (λ n w. w)
+      (λ n w. (w.0, all_taken others k w.0 past w.1, w.2)) g
 
 module _ (rules : List Rule) (ask : Ask) (s : Version) (t : Option Version) (others : List Version) where
   abbrev Serving : List Version → VersionId → Type 0
@@ -317,14 +341,16 @@ module _ (rules : List Rule) (ask : Ask) (s : Version) (t : Option Version) (oth
   abbrev IsLast : Version → VersionId → Type 0
   IsLast r v = (r.id ≡ v) × (is_serving r ≡ true)
 
-  split_server : (k : ℕ) (r : Version) (v : VersionId) → k < length others → r ≡ get_or others k r → Serving (take (k + 1) others) v → Serving (take k others) v ⊎ IsLast r v
+  split_server : (k : ℕ) (r : Version) (v : VersionId) → k < length others → r ≡ get_or others k r → Serving (take (k + 1) others) v → Serving (take k others) v
+      ⊎ IsLast r v
   split_server k r v less is w = by (one_more others k r w.0 less w.1)
     where
       by : Contains (take k others) w.0 ⊎ (w.0 ≡ get_or others k r) → Serving (take k others) v ⊎ IsLast r v
       by (inl before) = inl (w.0, before, w.2, w.3)
       by (inr last) = inr (subst (λ u. IsLast u v) (last ∙ sym is) (w.2, w.3))
 
-  pub one_server_more : (k : ℕ) (r : Version) (old middle new : List VersionId) → k < length others → r ≡ get_or others k r → is_serving r ≡ true → new ≡ middle ++ r.id ∷ []
+  pub one_server_more : (k : ℕ) (r : Version) (old middle new : List VersionId) → k < length others → r ≡ get_or others k r → is_serving r ≡ true → new ≡ middle
+      ++ r.id ∷ []
       → Gains (Serving others) (Serving (take k others)) old middle → Gains (Serving others) (Serving (take (k + 1) others)) old new
   one_server_more k r old middle new less is serve put g =
       gains_both (Serving others) (Serving (take k others)) (IsLast r) (Serving (take (k + 1) others)) old middle new (λ v w. split_server k r v less is w) g
@@ -336,5 +362,7 @@ module _ (rules : List Rule) (ask : Ask) (s : Version) (t : Option Version) (oth
       gains_both (Serving others) (Serving (take k others)) (IsLast r) (Serving (take (k + 1) others)) old new new (λ v w. split_server k r v less is w) g
       (gains_none (Serving others) (IsLast r) new (λ v w. false≢true (sym fails ∙ w.1)))
 
-  pub all_servers : (k : ℕ) (old new : List VersionId) → length others ≤ k → Gains (Serving others) (Serving (take k others)) old new → Gains (Serving others) (Serving others) old new
-  all_servers k old new past g = gains_as (Serving others) (Serving (take k others)) (Serving others) (Serving others) old new (λ v w. w) (λ v w. (w.0, all_taken others k w.0 past w.1, w.2, w.3)) g
+  pub all_servers : (k : ℕ) (old new : List VersionId) → length others ≤ k → Gains (Serving others) (Serving (take k others)) old new
+      → Gains (Serving others) (Serving others) old new
+  all_servers k old new past g = gains_as (Serving others) (Serving (take k others)) (Serving others) (Serving others) old new (λ v w. w)
+      (λ v w. (w.0, all_taken others k w.0 past w.1, w.2, w.3)) g

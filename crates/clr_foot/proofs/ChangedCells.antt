@@ -17,7 +17,8 @@ abbrev pub cells_of : List (CellId × Change) → List CellId
 cells_of entries = map (λ e. e.0) entries
 
 -- the cell of an entry goes from those that are left to those that were read
-pub cell_moves : (cells : List CellId) (e : CellId × Change) (left : List (CellId × Change)) → (cells ++ e.0 ∷ []) ++ cells_of left ≡ cells ++ cells_of (e ∷ left)
+pub cell_moves : (cells : List CellId) (e : CellId × Change) (left : List (CellId × Change)) → (cells ++ e.0 ∷ []) ++ cells_of left ≡ cells
+    ++ cells_of (e ∷ left)
 cell_moves cells e left = append_assoc cells (e.0 ∷ []) (cells_of left)
 
 -- the first of some cells stand behind a list, and those of the entries that are left follow
@@ -27,7 +28,8 @@ AreReadTo old all cells left = (read : List CellId) × (cells ≡ old ++ read) �
 pub none_read : (old : List CellId) (left : List (CellId × Change)) → AreReadTo old (cells_of left) old left
 none_read old left = ([], sym (append-nil old), refl)
 
-pub one_read : (old all cells new : List CellId) (e : CellId × Change) (left : List (CellId × Change)) → new ≡ cells ++ e.0 ∷ [] → AreReadTo old all cells (e ∷ left) → AreReadTo old all new left
+pub one_read : (old all cells new : List CellId) (e : CellId × Change) (left : List (CellId × Change)) → new ≡ cells ++ e.0 ∷ []
+    → AreReadTo old all cells (e ∷ left) → AreReadTo old all new left
 one_read old all cells new e left put (read, is, whole) = (
   read ++ e.0 ∷ [],
   put ∙ ap (λ qs. qs ++ e.0 ∷ []) is ∙ append_assoc old read (e.0 ∷ []),
@@ -51,7 +53,8 @@ pub all_left : (refs : List (Bor Changes)) → cells_left refs 0 ≡ changed_cel
 all_left refs = refl
 
 -- the cells of a set go from those that are left to those that were read
-pub cells_move : (refs : List (Bor Changes)) (k : ℕ) (ref : Bor Changes) (cells : List CellId) → k < length refs → ref ≡ slice_index_or refs k ref → (cells ++ finite.keys ref.now) ++ cells_left refs (k + 1) ≡ cells ++ cells_left refs k
+pub cells_move : (refs : List (Bor Changes)) (k : ℕ) (ref : Bor Changes) (cells : List CellId) → k < length refs → ref ≡ slice_index_or refs k ref
+    → (cells ++ finite.keys ref.now) ++ cells_left refs (k + 1) ≡ cells ++ cells_left refs k
 unfolding changed_cells
 cells_move refs k ref cells less read =
     append_assoc cells (finite.keys ref.now) (cells_left refs (k + 1))

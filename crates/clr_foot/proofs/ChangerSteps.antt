@@ -58,7 +58,11 @@ module _ (sets : List Changes) (q : CellId) where
   with_new : (k : ℕ) (c : Changers) → ChangesCell sets q k → c.second ≡ None → IsFirstChanger sets q 0 (k + 1) c.first → NoneChanges sets q (c.first + 1) k
       → AreChangersAt sets (k + 1) q (Some (with_second c None k))
   with_new k c changes alone first none = elim (eqb_tells c.first k) [
-    | inl same ↦ subst Shows (sym same.0) (first, subst (IsFound sets q (c.first + 1) (k + 1)) (sym alone) (λ j low high h. (let is = same.1 in absurd (omega (arith, low, high, is)))))
+    | inl same ↦ subst Shows (sym same.0) (
+      first,
+      subst (IsFound sets q (c.first + 1) (k + 1)) (sym alone)
+          (λ j low high h. (let is = same.1 in absurd (omega (arith, low, high, is)))),
+    )
     | inr other ↦ subst Shows (sym other.0) (first, record { from_on = before other.1; below = omega arith; changes = changes; passed = none })
   ]
     where
@@ -66,7 +70,11 @@ module _ (sets : List Changes) (q : CellId) where
       Shows b = AreChangersAt sets (k + 1) q (Some (cond b c (record { first = c.first; second = Some k })))
 
       before : (c.first ≡ k → ⊥) → c.first + 1 ≤ k
-      before other = let least = first.below in elim (cases_lt c.first k) [ inl less ↦ omega (arith, less) | inr most ↦ absurd (other (omega (arith, least, most))) ]
+      before other = let least = first.below in elim (cases_lt c.first k) [
+        | inl less ↦ omega (arith, less)
+        | inr most ↦ absurd
+            (other (omega (arith, least, most)))
+      ]
 
   from_none : length sets ≡ 0 + length sets
   from_none = omega arith
@@ -97,11 +105,17 @@ module _ (sets : List Changes) (q : CellId) where
       ap (λ s. Some (record { first = c.first; second = s })) second ∙ ap (changers_from sets q) first
 
   pub are_changers : (x : Option Changers) → x ≡ changers_at sets q → AreChangersAt sets (length sets) q x
-  are_changers x e = subst (AreChangersAt sets (length sets) q) (sym e) (by (search sets q 0 (length sets)) (subst (λ n. IsFound sets q 0 n (search sets q 0 (length sets))) (sym from_none) (search_finds sets q 0 (length sets))))
+  are_changers x e = subst (AreChangersAt sets (length sets) q) (sym e)
+      (by (search sets q 0 (length sets)) (subst (λ n. IsFound sets q 0 n (search sets q 0 (length sets))) (sym from_none)
+      (search_finds sets q 0 (length sets))))
     where
       by : (m : Option ℕ) → IsFound sets q 0 (length sets) m → AreChangersAt sets (length sets) q (changers_from sets q m)
       by None none = none
-      by (Some m) h = (h, subst (λ e. IsFound sets q (m + 1) e (search sets q (m + 1) (length sets - (m + 1)))) (whole m h.below) (search_finds sets q (m + 1) (length sets - (m + 1))))
+      by (Some m) h = (
+        h,
+        subst (λ e. IsFound sets q (m + 1) e (search sets q (m + 1) (length sets - (m + 1)))) (whole m h.below)
+            (search_finds sets q (m + 1) (length sets - (m + 1))),
+      )
 
   pub first_of : (x : Option Changers) → x ≡ changers_at sets q → option_map (λ (c : Changers). c.first) x ≡ first_changer (after_of sets) (positions sets) q
   first_of x e = ap (option_map (λ (c : Changers). c.first)) e ∙ by (first_changer (after_of sets) (positions sets) q)
@@ -127,7 +141,8 @@ changed_key s q h = changes_mapped (finite.get s q) ∙ contains_key-keys s q �
 at_member : (sets : List Changes) (k : ℕ) (s : Changes) (q : CellId) → slice_get sets k ≡ Some s → is_some (after_of sets k q) ≡ is_some (after_in s q)
 at_member sets k s q at = ap (λ t. is_some (after_at t q)) at
 
-pub first_noting : (sets : List Changes) (k : ℕ) (s : Changes) (found : Found) → slice_get sets k ≡ Some s → ((q : CellId) → AreChangersAt sets k q (found q)) → IsNoting sets k found (finite.keys s)
+pub first_noting : (sets : List Changes) (k : ℕ) (s : Changes) (found : Found) → slice_get sets k ≡ Some s → ((q : CellId) → AreChangersAt sets k q (found q))
+    → IsNoting sets k found (finite.keys s)
 first_noting sets k s found at h = record {
   changed = λ q among. at_member sets k s q at ∙ changed_key s q among;
   rest = λ q. inr (h q, λ changes. key_among s q (sym (at_member sets k s q at) ∙ changes));
@@ -144,7 +159,8 @@ all_noted sets k found h q = elim (h.rest q) [
     by false none left = changers_stay sets q k (found q) none left.0
 
 -- one more of its cells
-pub noting_further : (sets : List Changes) (k : ℕ) (p : CellId) (left : List CellId) (found next : Found) → ((q : CellId) → next q ≡ (if is_at (cell_cmp p) q then Some (with_member (found p) k) else found q))
+pub noting_further : (sets : List Changes) (k : ℕ) (p : CellId) (left : List CellId) (found next : Found)
+    → ((q : CellId) → next q ≡ (if is_at (cell_cmp p) q then Some (with_member (found p) k) else found q))
     → IsNoting sets k found (p ∷ left) → IsNoting sets k next left
 noting_further sets k p left found next is h = record {
   changed = λ q among. h.changed q (inr among);
@@ -157,15 +173,22 @@ noting_further sets k p left found next is h = record {
     here : AreChangersAt sets (k + 1) p (Some (with_member (found p) k))
     here = changers_noted sets p k (found p) (h.changed p (inl refl)) (either p)
 
-    other : (q : CellId) → (p ≡ q → ⊥) → next q ≡ found q → AreChangersAt sets (k + 1) q (found q) ⊎ (AreChangersAt sets k q (found q) × (ChangesCell sets q k → Among q (p ∷ left)))
+    other : (q : CellId) → (p ≡ q → ⊥) → next q ≡ found q → AreChangersAt sets (k + 1) q (found q)
+        ⊎ (AreChangersAt sets k q (found q) × (ChangesCell sets q k → Among q (p ∷ left)))
         → AreChangersAt sets (k + 1) q (next q) ⊎ (AreChangersAt sets k q (next q) × (ChangesCell sets q k → Among q left))
     other q apart same (inl done) = inl (subst (AreChangersAt sets (k + 1) q) (sym same) done)
-    other q apart same (inr before) = inr (subst (AreChangersAt sets k q) (sym same) before.0, λ changes. elim (before.1 changes) [ inl tied ↦ absurd (apart tied) | inr among ↦ among ])
+    other q apart same (inr before) = inr (
+      subst (AreChangersAt sets k q) (sym same) before.0,
+      λ changes. elim (before.1 changes)
+          [ inl tied ↦ absurd (apart tied) | inr among ↦ among ],
+    )
 
-    by : (q : CellId) (b : Bool) → is_at (cell_cmp p) q ≡ b → AreChangersAt sets (k + 1) q (next q) ⊎ (AreChangersAt sets k q (next q) × (ChangesCell sets q k → Among q left))
+    by : (q : CellId) (b : Bool) → is_at (cell_cmp p) q ≡ b → AreChangersAt sets (k + 1) q (next q)
+        ⊎ (AreChangersAt sets k q (next q) × (ChangesCell sets q k → Among q left))
     by q true tied =
         let same : p ≡ q = cell_cmp_exact p q ((Equal-is (cell_cmp p q)).0 tied) in
-        inl (subst (AreChangersAt sets (k + 1) q) (sym (is q ∙ ap (λ b. cond b (Some (with_member (found p) k)) (found q)) tied)) (subst (λ z. AreChangersAt sets (k + 1) z (Some (with_member (found p) k))) same here))
+        inl (subst (AreChangersAt sets (k + 1) q) (sym (is q ∙ ap (λ b. cond b (Some (with_member (found p) k)) (found q)) tied))
+        (subst (λ z. AreChangersAt sets (k + 1) z (Some (with_member (found p) k))) same here))
     by q false untied =
         other q (λ same. true≢false (sym ((Equal-is (cell_cmp p q)).1 (subst (λ z. cell_cmp p z ≡ Equal) same (tied_itself cell_cmp_total p))) ∙ untied))
         (is q ∙ ap (λ b. cond b (Some (with_member (found p) k)) (found q)) untied) (h.rest q)

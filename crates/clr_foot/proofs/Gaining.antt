@@ -24,7 +24,8 @@ module _ {X : Type 0} where
         by x (inr h) = inr (subst allowed (sym (alone y x h)) may)
 
     -- what is allowed may be more, and what is wanted less
-    pub gains_as : (more less : X → Type 0) (old new : List X) → ((x : X) → allowed x → more x) → ((x : X) → less x → wanted x) → Gains allowed wanted old new → Gains more less old new
+    pub gains_as : (more less : X → Type 0) (old new : List X) → ((x : X) → allowed x → more x) → ((x : X) → less x → wanted x) → Gains allowed wanted old new
+        → Gains more less old new
     gains_as more less old new may want g = record { kept = g.kept; only = λ x h. by x (g.only x h); every = λ x w. g.every x (want x w) }
       where
         by : (x : X) → Contains old x ⊎ allowed x → Contains old x ⊎ more x
@@ -62,7 +63,8 @@ module _ {X : Type 0} (allowed : X → Type 0) where
   some_as less old new may g = gains_as less (λ x. ⊥) allowed (λ x. ⊥) old new may (λ x w. w) g
 
   -- all that one call adds, and some of what the next one does
-  pub then_some : (first less : X → Type 0) (old middle new : List X) → ((x : X) → less x → allowed x) → Gains allowed first old middle → GainsSome less middle new → GainsSome allowed old new
+  pub then_some : (first less : X → Type 0) (old middle new : List X) → ((x : X) → less x → allowed x) → Gains allowed first old middle
+      → GainsSome less middle new → GainsSome allowed old new
   then_some first less old middle new may g h = gains_both allowed first (λ x. ⊥) (λ x. ⊥) old middle new (λ x w. inr w) g (some_as less middle new may h)
 
   -- all that one call adds, and nothing more
@@ -75,7 +77,8 @@ module _ {X Y : Type 0} (allowed : X → Type 0) (P : Y → X → Type 0) (ys : 
   pub of_none : (list : List X) → Gains allowed (OfSome P (take 0 ys)) list list
   of_none list = gains_none allowed (OfSome P (take 0 ys)) list (λ x w. none_taken ys w.0 w.1)
 
-  pub of_one_more : (k : ℕ) (d : Y) (old middle new : List X) → k < length ys → Gains allowed (OfSome P (take k ys)) old middle → Gains allowed (P (get_or ys k d)) middle new
+  pub of_one_more : (k : ℕ) (d : Y) (old middle new : List X) → k < length ys → Gains allowed (OfSome P (take k ys)) old middle
+      → Gains allowed (P (get_or ys k d)) middle new
       → Gains allowed (OfSome P (take (k + 1) ys)) old new
   of_one_more k d old middle new less g h = gains_both allowed (OfSome P (take k ys)) (P (get_or ys k d)) (OfSome P (take (k + 1) ys)) old middle new split g h
     where

@@ -59,7 +59,8 @@ module _ (c : Setting ℕ) where
             subst (λ l. Names l.life x) (lived_is c v w m same at beside.is) names
 
     served_involves : (n : Need) → IsNeedServedBy c number v.id n → IsInvolving c x n
-    served_involves n (rule, a, b, l, p, serve) = (a, b, p, inr (inr (v.id, l, serve, subst (λ m. Names m.life x) (lived_is c v v.id l refl at serve.is) names)))
+    served_involves n (rule, a, b, l, p, serve) =
+        (a, b, p, inr (inr (v.id, l, serve, subst (λ m. Names m.life x) (lived_is c v v.id l refl at serve.is) names)))
 
     pub involved_gains : (old middle new : List Need)
         → Gains (IsNeedWith c number v.id) (IsNeedWith c number v.id) old middle
@@ -68,7 +69,8 @@ module _ (c : Setting ℕ) where
     involved_gains old middle new g h =
         gains_both (IsInvolving c x) (IsNeedWith c number v.id) (IsNeedServedBy c number v.id) (IsInvolvedBy c number x v.id) old middle new split
         (gains_as (IsNeedWith c number v.id) (IsNeedWith c number v.id) (IsInvolving c x) (IsNeedWith c number v.id) old middle with_involves (λ n w. w) g)
-        (gains_as (IsNeedServedBy c number v.id) (IsNeedServedBy c number v.id) (IsInvolving c x) (IsNeedServedBy c number v.id) middle new served_involves (λ n w. w) h)
+        (gains_as (IsNeedServedBy c number v.id) (IsNeedServedBy c number v.id) (IsInvolving c x) (IsNeedServedBy c number v.id) middle new served_involves
+        (λ n w. w) h)
       where
         split : (n : Need) → IsInvolvedBy c number x v.id n → IsNeedWith c number v.id n ⊎ IsNeedServedBy c number v.id n
         split n w = by w.role
@@ -100,13 +102,16 @@ module _ (c : Setting ℕ) where
             inr (subst (λ k. IsInvolvedBy c k x v n) rule w.involved))
       ]
 
-  pub all_rules_involved : (x number : ℕ) (v : VersionId) (old new : List Need) → length c.rules ≤ number → Gains (IsInvolving c x) (IsInvolvedBelow x number v) old new
+  pub all_rules_involved : (x number : ℕ) (v : VersionId) (old new : List Need) → length c.rules ≤ number
+      → Gains (IsInvolving c x) (IsInvolvedBelow x number v) old new
       → Gains (IsInvolving c x) (IsInvolvedWith c x v) old new
   all_rules_involved x number v old new past g =
-      gains_as (IsInvolving c x) (IsInvolvedBelow x number v) (IsInvolving c x) (IsInvolvedWith c x v) old new (λ n w. w) (λ n w. record { involved = w; below = below n w }) g
+      gains_as (IsInvolving c x) (IsInvolvedBelow x number v) (IsInvolving c x) (IsInvolvedWith c x v) old new (λ n w. w)
+      (λ n w. record { involved = w; below = below n w }) g
     where
       below : (n : Need) → IsInvolvedWith c x v n → n.rule < number
-      below n w = let less = rule_there c.rules (ask_of n) (held_row n.first w.first) (held_too n.second w.second) w.possible.they_call in omega (arith, less, past)
+      below n w = let less = rule_there c.rules (ask_of n) (held_row n.first w.first) (held_too n.second w.second) w.possible.they_call in
+          omega (arith, less, past)
 
   -- ---- the version of a name
 
@@ -126,7 +131,8 @@ module _ (c : Setting ℕ) where
       → Gains (IsInvolving c x) (IsInvolvedWith c x (version_of false q)) middle new
       → Gains (IsInvolving c x) (IsInvolvedAt c x q) old new
   at_cell x q old middle new g h =
-      gains_both (IsInvolving c x) (IsInvolvedWith c x (version_of true q)) (IsInvolvedWith c x (version_of false q)) (IsInvolvedAt c x q) old middle new (λ n w. w) g h
+      gains_both (IsInvolving c x) (IsInvolvedWith c x (version_of true q)) (IsInvolvedWith c x (version_of false q)) (IsInvolvedAt c x q) old middle new
+      (λ n w. w) g h
 
   -- ---- whether a need involves a member
 
@@ -157,8 +163,10 @@ module _ (c : Setting ℕ) where
         by None None is e (inr h) = h
         by None (Some b) is e h = is
         by (Some w) None is e h = is
-        by (Some w) (Some b) is e (inl h) = false≢true (sym e ∙ or_left (names_at x (version c n.first)) (names_at x (version c w)) (name_at n.first a p.first_is ∙ names_told a.life x h))
-        by (Some w) (Some b) is e (inr h) = false≢true (sym e ∙ or_right (names_at x (version c n.first)) (names_at x (version c w)) (name_at w b is.is ∙ names_told b.life x h))
+        by (Some w) (Some b) is e (inl h) = false≢true (sym e
+            ∙ or_left (names_at x (version c n.first)) (names_at x (version c w)) (name_at n.first a p.first_is ∙ names_told a.life x h))
+        by (Some w) (Some b) is e (inr h) = false≢true (sym e ∙ or_right (names_at x (version c n.first)) (names_at x (version c w)) (name_at w b is.is
+            ∙ names_told b.life x h))
 
     module _ (servers read : List VersionId) (are : AreServers c n servers) (same : read ≡ servers) where
       pub server_involves : (v : VersionId) → Contains read v → names_at x (version c v) ≡ true → IsInvolving c x n
@@ -166,7 +174,8 @@ module _ (c : Setting ℕ) where
           let (a, b, l, p, serve) = (are.exactly v).0 (subst (λ vs. Contains vs v) same h) in
           (a, b, p, inr (inr (v, l, serve, told_names l.life x (sym (name_at v l serve.is) ∙ e))))
 
-      pub none_involves : (told : Bool) → told ≡ names_by x c n.first n.second → told ≡ false → ((v : VersionId) → Contains read v → names_at x (version c v) ≡ true → ⊥) → ¬ (IsInvolving c x n)
+      pub none_involves : (told : Bool) → told ≡ names_by x c n.first n.second → told ≡ false → ((v : VersionId) → Contains read v → names_at x (version c v)
+          ≡ true → ⊥) → ¬ (IsInvolving c x n)
       none_involves told is e none (a, b, p, inl h) = no_subject a b p (sym is ∙ e) (inl h)
       none_involves told is e none (a, b, p, inr (inl h)) = no_subject a b p (sym is ∙ e) (inr h)
       none_involves told is e none (a, b, p, inr (inr (v, l, serve, h))) =
@@ -184,9 +193,11 @@ module _ (c : Setting ℕ) where
     pub is_possible_at : (k : ℕ) (d : Need) → k < length read → IsPossibleNeed c (get_or read k d)
     is_possible_at k d less = let (a, b, p, h) = (are.exactly (get_or read k d)).0 (read_of read needs k d same less) in (a, b, p)
 
-    pub dependent_at : (k : ℕ) (d n : Need) (told : Bool) → k < length read → n ≡ get_or read k d → IsToldInvolving c y n told → told ≡ true → AreDependent c x y
+    pub dependent_at : (k : ℕ) (d n : Need) (told : Bool) → k < length read → n ≡ get_or read k d → IsToldInvolving c y n told → told ≡ true
+        → AreDependent c x y
     dependent_at k d n told less is tells e =
-        both_depend n x y (subst (IsInvolving c x) (sym is) ((are.exactly (get_or read k d)).0 (read_of read needs k d same less))) (subst (IsToldInvolving c y n) e tells)
+        both_depend n x y (subst (IsInvolving c x) (sym is) ((are.exactly (get_or read k d)).0 (read_of read needs k d same less)))
+        (subst (IsToldInvolving c y n) e tells)
 
     pub one_apart_more : (k : ℕ) (d n : Need) (told : Bool) → k < length read → n ≡ get_or read k d → IsToldInvolving c y n told → told ≡ false
         → ((m : Need) → Contains (take k read) m → ¬ (IsInvolving c y m))
@@ -198,7 +209,8 @@ module _ (c : Setting ℕ) where
         by (inr last) = subst (λ j. ¬ (IsInvolving c y j)) (is ∙ sym last) (subst (IsToldInvolving c y n) e tells)
 
     pub all_apart : (k : ℕ) → length read ≤ k → ((m : Need) → Contains (take k read) m → ¬ (IsInvolving c y m)) → ¬ (AreDependent c x y)
-    all_apart k past none (n, a, b, p, first, second) = none n (all_taken read k n past (subst (λ ns. Contains ns n) (sym same) ((are.exactly n).1 (a, b, p, first)))) (a, b, p, second)
+    all_apart k past none (n, a, b, p, first, second) =
+        none n (all_taken read k n past (subst (λ ns. Contains ns n) (sym same) ((are.exactly n).1 (a, b, p, first)))) (a, b, p, second)
 
 -- ---- the cells and the rules
 
@@ -221,7 +233,8 @@ module _ (rules : List Rule) (root : Content) (sets : List Changes) where
 
   module _ (x : ℕ) (set : Changes) (at : slice_get sets x ≡ Some set) where
     key_of : (v : VersionId) (l : Lived ℕ) → version c v ≡ Some l → Names l.life x → Contains (finite.keys set) v.cell
-    key_of v l is names = contained v.cell (finite.keys set) (key_among set v.cell (ap (λ s. is_some (after_at s v.cell)) (sym at) ∙ named_changes v l x is names))
+    key_of v l is names = contained v.cell (finite.keys set) (key_among set v.cell (ap (λ s. is_some (after_at s v.cell)) (sym at)
+        ∙ named_changes v l x is names))
 
     by_version : (v : VersionId) (n : Need) → IsInvolvedWith c x v n → OfSome (IsInvolvedAt c x) (finite.keys set) n
     by_version v n w = (v.cell, key_of v w.lived w.is w.names, by v.fresh refl)
@@ -236,7 +249,8 @@ module _ (rules : List Rule) (root : Content) (sets : List Changes) where
         by_version n.first n (record { first = a; second = b; lived = a; rule = refl; possible = p; is = p.first_is; names = names; role = inl (inl refl) })
     at_key n (a, b, p, inr (inl names)) = by n.second b refl p.second_is names
       where
-        by : (w : Option VersionId) (m : Option (Lived ℕ)) → n.second ≡ w → IsBesideToo c n.first a w m → NamesToo m x → OfSome (IsInvolvedAt c x) (finite.keys set) n
+        by : (w : Option VersionId) (m : Option (Lived ℕ)) → n.second ≡ w → IsBesideToo c n.first a w m → NamesToo m x
+            → OfSome (IsInvolvedAt c x) (finite.keys set) n
         by None None e is h = absurd h
         by None (Some m) e is h = absurd is
         by (Some w) None e is h = absurd is
@@ -246,7 +260,8 @@ module _ (rules : List Rule) (root : Content) (sets : List Changes) where
         by_version v n (record { first = a; second = b; lived = l; rule = refl; possible = p; is = serve.is; names = names; role = inr serve })
 
     -- all of them, added to an empty list
-    pub all_involved : (cells : List CellId) (empty new : List Need) → cells ≡ finite.keys set → empty ≡ [] → Gains (IsInvolving c x) (OfSome (IsInvolvedAt c x) cells) empty new
+    pub all_involved : (cells : List CellId) (empty new : List Need) → cells ≡ finite.keys set → empty ≡ []
+        → Gains (IsInvolving c x) (OfSome (IsInvolvedAt c x) cells) empty new
         → (n : Need) → Contains new n ↔ IsInvolving c x n
     all_involved cells empty new all none g n = (λ h. only (g.only n h), λ t. g.every n (subst (λ qs. OfSome (IsInvolvedAt c x) qs n) (sym all) (at_key n t)))
       where

@@ -1,6 +1,7 @@
 pub mod CandidateLaws
 pub mod ChangedCells
 pub mod ChangerSteps
+pub mod FirstServerLaws
 pub mod Gaining
 pub mod InvolvedLaws
 pub mod NewPairLaws

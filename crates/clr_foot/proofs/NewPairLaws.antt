@@ -60,11 +60,15 @@ module _ (rules : List Rule) (number : ℕ) where
   Pair s t = IsNeedOfPair rules number None s t
 
   -- of two versions that never stand together, and of one cell
-  pub opposed_parts : (s : Version) (p : ℕ) (t : Version) (q : ℕ) (needs : List Need) → are_opposed (row_and_life s).life (row_and_life t).life ≡ true → Gains (Pair s t) (IsNeedOfParts rules number s p t q) needs needs
-  opposed_parts s p t q needs opposed = gains_as (Pair s t) (Pair s t) (Pair s t) (IsNeedOfParts rules number s p t q) needs needs (λ n w. w) (parts_pair s p t q) (opposed_pair rules number None s t needs opposed)
+  pub opposed_parts : (s : Version) (p : ℕ) (t : Version) (q : ℕ) (needs : List Need) → are_opposed (row_and_life s).life (row_and_life t).life ≡ true
+      → Gains (Pair s t) (IsNeedOfParts rules number s p t q) needs needs
+  opposed_parts s p t q needs opposed = gains_as (Pair s t) (Pair s t) (Pair s t) (IsNeedOfParts rules number s p t q) needs needs (λ n w. w)
+      (parts_pair s p t q) (opposed_pair rules number None s t needs opposed)
 
-  pub parts_of_one : (s : Version) (p : ℕ) (t : Version) (q : ℕ) (needs : List Need) → cell_cmp s.id.cell t.id.cell ≡ Equal → Gains (Pair s t) (IsNeedOfParts rules number s p t q) needs needs
-  parts_of_one s p t q needs tie = gains_as (Pair s t) (Pair s t) (Pair s t) (IsNeedOfParts rules number s p t q) needs needs (λ n w. w) (parts_pair s p t q) (one_cell rules number None s t needs tie)
+  pub parts_of_one : (s : Version) (p : ℕ) (t : Version) (q : ℕ) (needs : List Need) → cell_cmp s.id.cell t.id.cell ≡ Equal
+      → Gains (Pair s t) (IsNeedOfParts rules number s p t q) needs needs
+  parts_of_one s p t q needs tie = gains_as (Pair s t) (Pair s t) (Pair s t) (IsNeedOfParts rules number s p t q) needs needs (λ n w. w) (parts_pair s p t q)
+      (one_cell rules number None s t needs tie)
 
   -- in the order of their cells
   pub parts_in_order : (s : Version) (p : ℕ) (t : Version) (q : ℕ) (ask : Ask) (old new : List Need) → ask ≡ ask_of_parts number p q
@@ -72,7 +76,8 @@ module _ (rules : List Rule) (number : ℕ) where
       → Gains (IsNeedOf rules ask.rule None s (Some t)) (IsNeedOfAsk rules ask None s t) old new
       → Gains (Pair s t) (IsNeedOfParts rules number s p t q) old new
   parts_in_order s p t q ask old new is fails less g =
-      gains_as (IsNeedOf rules number None s (Some t)) (IsNeedOfAsk rules (ask_of_parts number p q) None s t) (Pair s t) (IsNeedOfParts rules number s p t q) old new
+      gains_as (IsNeedOf rules number None s (Some t)) (IsNeedOfAsk rules (ask_of_parts number p q) None s t) (Pair s t) (IsNeedOfParts rules number s p t q)
+      old new
       (ordered_pair rules number None s t fails less) asked
       (subst (λ a. Gains (IsNeedOf rules a.rule None s (Some t)) (IsNeedOfAsk rules a None s t) old new) is g)
     where
@@ -85,28 +90,35 @@ module _ (rules : List Rule) (number : ℕ) where
       → Gains (IsNeedOf rules ask.rule None t (Some s)) (IsNeedOfAsk rules ask None t s) old new
       → Gains (Pair s t) (IsNeedOfParts rules number s p t q) old new
   parts_in_turned_order s p t q ask old new is fails more g =
-      gains_as (Pair t s) (IsNeedOfParts rules number t q s p) (Pair s t) (IsNeedOfParts rules number s p t q) old new (pair_back rules number None s t) (turned_parts s p t q)
-      (parts_in_order t q s p ask old new is (turned_told rules number None s t (row_and_life s).life (row_and_life t).life fails) (turned_less rules number None s t more) g)
+      gains_as (Pair t s) (IsNeedOfParts rules number t q s p) (Pair s t) (IsNeedOfParts rules number s p t q) old new (pair_back rules number None s t)
+      (turned_parts s p t q)
+      (parts_in_order t q s p ask old new is (turned_told rules number None s t (row_and_life s).life (row_and_life t).life fails)
+      (turned_less rules number None s t more) g)
 
   -- ---- entries
 
   module _ (fresh : List Version) (s : Version) (p : ℕ) where
-    pub no_entry : (e : FiledPart) (needs : List Need) → slice_get fresh e.position ≡ None → Gains (IsNeedAmong rules number None s fresh) (IsNeedOfEntry rules number fresh s p e) needs needs
+    pub no_entry : (e : FiledPart) (needs : List Need) → slice_get fresh e.position ≡ None
+        → Gains (IsNeedAmong rules number None s fresh) (IsNeedOfEntry rules number fresh s p e) needs needs
     no_entry e needs none = gains_none (IsNeedAmong rules number None s fresh) (IsNeedOfEntry rules number fresh s p e) needs (λ n w. by w.0 w.1)
       where
         by : (t : Version) → slice_get fresh e.position ≡ Some t → ⊥
         by t at = let clash : None ≡ Some t = sym none ∙ at in cc
 
-    pub its_entry : (e : FiledPart) (t : Version) (old new : List Need) → slice_get fresh e.position ≡ Some t → Gains (Pair s t) (IsNeedOfParts rules number s p t e.part) old new
+    pub its_entry : (e : FiledPart) (t : Version) (old new : List Need) → slice_get fresh e.position ≡ Some t
+        → Gains (Pair s t) (IsNeedOfParts rules number s p t e.part) old new
         → Gains (IsNeedAmong rules number None s fresh) (IsNeedOfEntry rules number fresh s p e) old new
-    its_entry e t old new at g = gains_as (Pair s t) (IsNeedOfParts rules number s p t e.part) (IsNeedAmong rules number None s fresh) (IsNeedOfEntry rules number fresh s p e) old new
+    its_entry e t old new at g = gains_as (Pair s t) (IsNeedOfParts rules number s p t e.part) (IsNeedAmong rules number None s fresh)
+        (IsNeedOfEntry rules number fresh s p e) old new
         (λ n w. (t, got_in fresh e.position t at, w)) (λ n w. by n w.0 w.1 w.2) g
       where
-        by : (n : Need) (u : Version) → slice_get fresh e.position ≡ Some u → IsNeedOfParts rules number s p u e.part n → IsNeedOfParts rules number s p t e.part n
+        by : (n : Need) (u : Version) → slice_get fresh e.position ≡ Some u → IsNeedOfParts rules number s p u e.part n
+            → IsNeedOfParts rules number s p t e.part n
         by n u there w = let same : u ≡ t = let both : Some u ≡ Some t = sym there ∙ at in cc in subst (λ v. IsNeedOfParts rules number s p v e.part n) same w
 
 -- the needs with a part are those of entries that are near its spots
-module _ (c : Setting ℕ) (fits : FitsSetting c) (number : ℕ) (fresh : List Version) (k : ℕ) (m : Filed) (before : AreFiledBefore c.rules number fresh k m) (s : Version) (p : ℕ) where
+module _ (c : Setting ℕ) (fits : FitsSetting c) (number : ℕ) (fresh : List Version) (k : ℕ) (m : Filed) (before : AreFiledBefore c.rules number fresh k m)
+    (s : Version) (p : ℕ) where
   abbrev its_spots : List Spot
   its_spots = subject_spots_under c.rules number p (row_of s)
 
@@ -119,12 +131,14 @@ module _ (c : Setting ℕ) (fits : FitsSetting c) (number : ℕ) (fresh : List V
   spots_by : (r q : ℕ) (x : Held) → r ≡ number → subject_spots_under c.rules r q x ≡ subject_spots_under c.rules number q x
   spots_by r q x e = ap (λ j. subject_spots_under c.rules j q x) e
 
-  entry_found : (i : ℕ) (t : Version) (q : ℕ) → i < k → slice_get fresh i ≡ Some t → may_be_paired c.rules number (row_of t) ≡ true → 1 ≤ q → q ≤ part_count c.rules number (row_of t)
+  entry_found : (i : ℕ) (t : Version) (q : ℕ) → i < k → slice_get fresh i ≡ Some t → may_be_paired c.rules number (row_of t) ≡ true → 1 ≤ q
+      → q ≤ part_count c.rules number (row_of t)
       → Common its_spots (subject_spots_under c.rules number q (row_of t)) → Contains (near m (unless_many its_spots) (are_many its_spots)) (entry_at i q)
   entry_found i t q less at paired low high common =
       found_near m (entry_at i q) its_spots (subject_spots_under c.rules number q (row_of t)) (before i t less at paired q low high) common
 
-  pub part_found : (list : List Spot) (wide : Bool) (n : Need) → list ≡ unless_many its_spots → wide ≡ are_many its_spots → IsNeedWithPart c.rules number fresh k s p n
+  pub part_found : (list : List Spot) (wide : Bool) (n : Need) → list ≡ unless_many its_spots → wide ≡ are_many its_spots
+      → IsNeedWithPart c.rules number fresh k s p n
       → OfSome (IsNeedOfEntry c.rules number fresh s p) (near m list wide) n
   part_found list wide n is is_wide (i, t, less, at, w) =
       subst (λ es. OfSome (IsNeedOfEntry c.rules number fresh s p) es n) (λ j. near m (sym is j) (sym is_wide j)) (by w)
@@ -134,41 +148,51 @@ module _ (c : Setting ℕ) (fits : FitsSetting c) (number : ℕ) (fresh : List V
           let called = they_call c.rules number None s (Some t) n between.need in
           let met = subjects_meet c.rules [] (ask_of n) (row_of s) (row_of t) fit called in
           let common : Common its_spots (subject_spots_under c.rules number n.second_part (row_of t)) =
-          subst (λ xs. Common xs (subject_spots_under c.rules number n.second_part (row_of t))) (λ j. subject_spots_under c.rules (between.need.rule j) (part j) (row_of s))
+          subst (λ xs. Common xs (subject_spots_under c.rules number n.second_part (row_of t))) (λ j. subject_spots_under c.rules (between.need.rule j) (part j)
+          (row_of s))
           (subst (Common (subject_spots_under c.rules n.rule n.first_part (row_of s))) (spots_by n.rule n.second_part (row_of t) between.need.rule) met) in
           let paired = subst (λ j. may_be_paired c.rules j (row_of t) ≡ true) between.need.rule (both_paired c.rules (ask_of n) (row_of s) (row_of t) called).1 in (
             entry_at i n.second_part,
-            entry_found i t n.second_part less at paired (second_counted c.rules number None s t n between.need) (second_within c.rules number None s t n between.need) common,
+            entry_found i t n.second_part less at paired (second_counted c.rules number None s t n between.need)
+                (second_within c.rules number None s t n between.need) common,
             (t, at, inl (between, part, refl)),
           )
       by (inr (between, part)) =
           let called = they_call c.rules number None t (Some s) n between.need in
           let met = common_back _ _ (subjects_meet c.rules [] (ask_of n) (row_of t) (row_of s) fit called) in
           let common : Common its_spots (subject_spots_under c.rules number n.first_part (row_of t)) =
-          subst (λ xs. Common xs (subject_spots_under c.rules number n.first_part (row_of t))) (λ j. subject_spots_under c.rules (between.need.rule j) (part j) (row_of s))
+          subst (λ xs. Common xs (subject_spots_under c.rules number n.first_part (row_of t))) (λ j. subject_spots_under c.rules (between.need.rule j) (part j)
+          (row_of s))
           (subst (Common (subject_spots_under c.rules n.rule n.second_part (row_of s))) (spots_by n.rule n.first_part (row_of t) between.need.rule) met) in
           let paired = subst (λ j. may_be_paired c.rules j (row_of t) ≡ true) between.need.rule (both_paired c.rules (ask_of n) (row_of t) (row_of s) called).0 in (
             entry_at i n.first_part,
-            entry_found i t n.first_part less at paired (first_counted c.rules number None t s n between.need) (first_within c.rules number None t s n between.need) common,
+            entry_found i t n.first_part less at paired (first_counted c.rules number None t s n between.need)
+                (first_within c.rules number None t s n between.need) common,
             (t, at, inr (between, refl, part)),
           )
 
 -- ---- filing
 
 module _ (rules : List Rule) (number : ℕ) (fresh : List Version) where
-  pub before_stays : (k : ℕ) (m n : Filed) (position part : ℕ) (s : Held) → n ≡ with_part rules number m position part s → AreFiledBefore rules number fresh k m → AreFiledBefore rules number fresh k n
+  pub before_stays : (k : ℕ) (m n : Filed) (position part : ℕ) (s : Held) → n ≡ with_part rules number m position part s → AreFiledBefore rules number fresh k m
+      → AreFiledBefore rules number fresh k n
   before_stays k m n position part s is before i t less at paired q low high =
       subst (λ x. IsFiled x (entry_at i q) (subject_spots_under rules number q (row_of t))) (sym is)
-      (entry_stays m (entry_at position part) (entry_at i q) (unless_many (subject_spots_under rules number part s)) (subject_spots_under rules number q (row_of t)) (are_many (subject_spots_under rules number part s)) (before i t less at paired q low high))
+      (entry_stays m (entry_at position part) (entry_at i q) (unless_many (subject_spots_under rules number part s))
+      (subject_spots_under rules number q (row_of t)) (are_many (subject_spots_under rules number part s)) (before i t less at paired q low high))
 
-  pub one_part_filed : (m n : Filed) (position part : ℕ) (s : Version) → n ≡ with_part rules number m position (part + 1) (row_of s) → ArePartsFiled rules number m position s part → ArePartsFiled rules number n position s (part + 1)
-  one_part_filed m n position part s is parts q low high = subst (λ x. IsFiled x (entry_at position q) (subject_spots_under rules number q (row_of s))) (sym is) (elim (cases_lt part q) [
-    | inl above ↦ (let last : part + 1 ≡ q = omega (arith, above, high) in
-        subst (λ j. IsFiled (with_part rules number m position (part + 1) (row_of s)) (entry_at position j) (subject_spots_under rules number j (row_of s))) last
-        (entry_filed m (entry_at position (part + 1)) (subject_spots_under rules number (part + 1) (row_of s))))
-    | inr most ↦ entry_stays m (entry_at position (part + 1)) (entry_at position q) (unless_many (subject_spots_under rules number (part + 1) (row_of s))) (subject_spots_under rules number q (row_of s))
-        (are_many (subject_spots_under rules number (part + 1) (row_of s))) (parts q low most)
-  ])
+  pub one_part_filed : (m n : Filed) (position part : ℕ) (s : Version) → n ≡ with_part rules number m position (part + 1) (row_of s)
+      → ArePartsFiled rules number m position s part → ArePartsFiled rules number n position s (part + 1)
+  one_part_filed m n position part s is parts q low high = subst (λ x. IsFiled x (entry_at position q) (subject_spots_under rules number q (row_of s))) (sym is)
+      (elim (cases_lt part q) [
+        | inl above ↦ (let last : part + 1 ≡ q = omega (arith, above, high) in
+            subst (λ j. IsFiled (with_part rules number m position (part + 1) (row_of s)) (entry_at position j) (subject_spots_under rules number j (row_of s)))
+            last
+            (entry_filed m (entry_at position (part + 1)) (subject_spots_under rules number (part + 1) (row_of s))))
+        | inr most ↦ entry_stays m (entry_at position (part + 1)) (entry_at position q) (unless_many (subject_spots_under rules number (part + 1) (row_of s)))
+            (subject_spots_under rules number q (row_of s))
+            (are_many (subject_spots_under rules number (part + 1) (row_of s))) (parts q low most)
+      ])
 
   pub no_part_filed : (m : Filed) (position : ℕ) (s : Version) → ArePartsFiled rules number m position s 0
   no_part_filed m position s q low high = absurd (omega (arith, low, high))
@@ -177,7 +201,8 @@ module _ (rules : List Rule) (number : ℕ) (fresh : List Version) where
   none_filed m i t less = absurd (omega (arith, less))
 
   -- one version more is filed, may be no subject of two, or isn't there
-  more_filed : (k : ℕ) (m : Filed) → ((t : Version) → slice_get fresh k ≡ Some t → may_be_paired rules number (row_of t) ≡ true → ArePartsFiled rules number m k t (part_count rules number (row_of t)))
+  more_filed : (k : ℕ) (m : Filed) → ((t : Version) → slice_get fresh k ≡ Some t → may_be_paired rules number (row_of t) ≡ true
+      → ArePartsFiled rules number m k t (part_count rules number (row_of t)))
       → AreFiledBefore rules number fresh k m → AreFiledBefore rules number fresh (k + 1) m
   more_filed k m last before i t less at paired = elim (cases_lt i k) [
     | inl earlier ↦ before i t earlier at paired
@@ -185,16 +210,20 @@ module _ (rules : List Rule) (number : ℕ) (fresh : List Version) where
         subst (λ j. ArePartsFiled rules number m j t (part_count rules number (row_of t))) here (last t (ap (slice_get fresh) here ∙ at) paired))
   ]
 
-  pub version_filed : (k : ℕ) (m : Filed) (s : Version) (count part : ℕ) → slice_get fresh k ≡ Some s → count ≡ part_count rules number (row_of s) → count ≤ part → ArePartsFiled rules number m k s part
+  pub version_filed : (k : ℕ) (m : Filed) (s : Version) (count part : ℕ) → slice_get fresh k ≡ Some s → count ≡ part_count rules number (row_of s)
+      → count ≤ part → ArePartsFiled rules number m k s part
       → AreFiledBefore rules number fresh k m → AreFiledBefore rules number fresh (k + 1) m
   version_filed k m s count part at is past parts before = more_filed k m (λ t there paired. by t (let both : Some s ≡ Some t = sym at ∙ there in cc)) before
     where
       by : (t : Version) → s ≡ t → ArePartsFiled rules number m k t (part_count rules number (row_of t))
-      by t same = subst (λ u. ArePartsFiled rules number m k u (part_count rules number (row_of u))) same (λ q low high. parts q low (omega (arith, high, is, past)))
+      by t same = subst (λ u. ArePartsFiled rules number m k u (part_count rules number (row_of u))) same
+          (λ q low high. parts q low (omega (arith, high, is, past)))
 
-  pub unpaired_filed : (k : ℕ) (m : Filed) (s : Version) (told : Bool) → slice_get fresh k ≡ Some s → told ≡ may_be_paired rules number (row_of s) → told ≡ false
+  pub unpaired_filed : (k : ℕ) (m : Filed) (s : Version) (told : Bool) → slice_get fresh k ≡ Some s → told ≡ may_be_paired rules number (row_of s) → told
+      ≡ false
       → AreFiledBefore rules number fresh k m → AreFiledBefore rules number fresh (k + 1) m
-  unpaired_filed k m s told at is fails before = more_filed k m (λ t there paired. absurd (by t (let both : Some s ≡ Some t = sym at ∙ there in cc) paired)) before
+  unpaired_filed k m s told at is fails before = more_filed k m (λ t there paired. absurd (by t (let both : Some s ≡ Some t = sym at ∙ there in cc) paired))
+      before
     where
       by : (t : Version) → s ≡ t → may_be_paired rules number (row_of t) ≡ true → ⊥
       by t same paired = false≢true (sym fails ∙ is ∙ ap (λ u. may_be_paired rules number (row_of u)) same ∙ paired)
@@ -214,8 +243,10 @@ module _ (rules : List Rule) (number : ℕ) (fresh : List Version) where
     pub no_part_yet : (needs : List Need) → Gains Beside (IsNeedWithPartTo 0) needs needs
     no_part_yet needs = gains_none Beside (IsNeedWithPartTo 0) needs (λ n w. let less = w.1 in omega (arith, less))
 
-    pub one_part_more : (p : ℕ) (old middle new : List Need) → Gains Beside (IsNeedWithPartTo p) old middle → Gains Beside (IsNeedWithPart rules number fresh k s (p + 1)) middle new → Gains Beside (IsNeedWithPartTo (p + 1)) old new
-    one_part_more p old middle new g h = gains_both Beside (IsNeedWithPartTo p) (IsNeedWithPart rules number fresh k s (p + 1)) (IsNeedWithPartTo (p + 1)) old middle new split g h
+    pub one_part_more : (p : ℕ) (old middle new : List Need) → Gains Beside (IsNeedWithPartTo p) old middle
+        → Gains Beside (IsNeedWithPart rules number fresh k s (p + 1)) middle new → Gains Beside (IsNeedWithPartTo (p + 1)) old new
+    one_part_more p old middle new g h = gains_both Beside (IsNeedWithPartTo p) (IsNeedWithPart rules number fresh k s (p + 1)) (IsNeedWithPartTo (p + 1)) old
+        middle new split g h
       where
         split : (n : Need) → IsNeedWithPartTo (p + 1) n → IsNeedWithPartTo p n ⊎ IsNeedWithPart rules number fresh k s (p + 1) n
         split n (q, less, w) = elim (cases_lt q p) [
@@ -223,7 +254,8 @@ module _ (rules : List Rule) (number : ℕ) (fresh : List Version) where
           | inr late ↦ (let here : q ≡ p = omega (arith, less, late) in inr (subst (λ j. IsNeedWithPart rules number fresh k s (j + 1) n) here w))
         ]
 
-    its_part : (count part : ℕ) → count ≡ part_count rules number (row_of s) → count ≤ part → (n : Need) → IsNeedWithBefore rules number fresh k s n → IsNeedWithPartTo part n
+    its_part : (count part : ℕ) → count ≡ part_count rules number (row_of s) → count ≤ part → (n : Need) → IsNeedWithBefore rules number fresh k s n
+        → IsNeedWithPartTo part n
     its_part count part is past n (i, t, less, at, inl w) =
         let low = first_counted rules number None s t n w.need in
         let high = first_within rules number None s t n w.need in
@@ -233,23 +265,30 @@ module _ (rules : List Rule) (number : ℕ) (fresh : List Version) where
         let high = second_within rules number None t s n w.need in
         (n.second_part - 1, omega (arith, low, high, is, past), (i, t, less, at, inr (w, omega (arith, low))))
 
-    pub all_parts : (count part : ℕ) (old new : List Need) → count ≡ part_count rules number (row_of s) → count ≤ part → Gains Beside (IsNeedWithPartTo part) old new → Gains Beside (IsNeedWithBefore rules number fresh k s) old new
-    all_parts count part old new is past g = gains_as Beside (IsNeedWithPartTo part) Beside (IsNeedWithBefore rules number fresh k s) old new (λ n w. w) (its_part count part is past) g
+    pub all_parts : (count part : ℕ) (old new : List Need) → count ≡ part_count rules number (row_of s) → count ≤ part
+        → Gains Beside (IsNeedWithPartTo part) old new → Gains Beside (IsNeedWithBefore rules number fresh k s) old new
+    all_parts count part old new is past g = gains_as Beside (IsNeedWithPartTo part) Beside (IsNeedWithBefore rules number fresh k s) old new (λ n w. w)
+        (its_part count part is past) g
 
-    pub unpaired_needs : (told : Bool) (needs : List Need) → told ≡ may_be_paired rules number (row_of s) → told ≡ false → Gains Beside (IsNeedWithBefore rules number fresh k s) needs needs
+    pub unpaired_needs : (told : Bool) (needs : List Need) → told ≡ may_be_paired rules number (row_of s) → told ≡ false
+        → Gains Beside (IsNeedWithBefore rules number fresh k s) needs needs
     unpaired_needs told needs is fails = gains_none Beside (IsNeedWithBefore rules number fresh k s) needs none
       where
         clash : (r : ℕ) → r ≡ number → may_be_paired rules r (row_of s) ≡ true → ⊥
         clash r rule paired = false≢true (sym fails ∙ is ∙ ap (λ j. may_be_paired rules j (row_of s)) (sym rule) ∙ paired)
 
         none : (n : Need) → IsNeedWithBefore rules number fresh k s n → ⊥
-        none n (i, t, less, at, inl w) = clash n.rule w.need.rule (both_paired rules (ask_of n) (row_of s) (row_of t) (they_call rules number None s (Some t) n w.need)).0
-        none n (i, t, less, at, inr w) = clash n.rule w.need.rule (both_paired rules (ask_of n) (row_of t) (row_of s) (they_call rules number None t (Some s) n w.need)).1
+        none n (i, t, less, at, inl w) = clash n.rule w.need.rule (both_paired rules (ask_of n) (row_of s) (row_of t)
+            (they_call rules number None s (Some t) n w.need)).0
+        none n (i, t, less, at, inr w) = clash n.rule w.need.rule (both_paired rules (ask_of n) (row_of t) (row_of s)
+            (they_call rules number None t (Some s) n w.need)).1
 
     -- ---- at a position
 
-    pub at_position : (old new : List Need) → slice_get fresh k ≡ Some s → Gains Beside (IsNeedWithBefore rules number fresh k s) old new → Gains (IsNeedOfTwo rules number fresh) (IsNeedAtPosition rules number fresh k) old new
-    at_position old new at g = gains_as Beside (IsNeedWithBefore rules number fresh k s) (IsNeedOfTwo rules number fresh) (IsNeedAtPosition rules number fresh k) old new two its g
+    pub at_position : (old new : List Need) → slice_get fresh k ≡ Some s → Gains Beside (IsNeedWithBefore rules number fresh k s) old new
+        → Gains (IsNeedOfTwo rules number fresh) (IsNeedAtPosition rules number fresh k) old new
+    at_position old new at g = gains_as Beside (IsNeedWithBefore rules number fresh k s) (IsNeedOfTwo rules number fresh)
+        (IsNeedAtPosition rules number fresh k) old new two its g
       where
         two : (n : Need) → Beside n → IsNeedOfTwo rules number fresh n
         two n (t, h, inl w) = (s, t, got_in fresh k s at, h, w)
@@ -258,7 +297,8 @@ module _ (rules : List Rule) (number : ℕ) (fresh : List Version) where
         its : (n : Need) → IsNeedAtPosition rules number fresh k n → IsNeedWithBefore rules number fresh k s n
         its n (t, there, w) = subst (λ u. IsNeedWithBefore rules number fresh k u n) (let both : Some t ≡ Some s = sym there ∙ at in cc) w
 
-  pub none_at : (k : ℕ) (needs : List Need) → slice_get fresh k ≡ None → Gains (IsNeedOfTwo rules number fresh) (IsNeedAtPosition rules number fresh k) needs needs
+  pub none_at : (k : ℕ) (needs : List Need) → slice_get fresh k ≡ None → Gains (IsNeedOfTwo rules number fresh) (IsNeedAtPosition rules number fresh k) needs
+      needs
   none_at k needs none = gains_none (IsNeedOfTwo rules number fresh) (IsNeedAtPosition rules number fresh k) needs (λ n w. by w.0 w.1)
     where
       by : (t : Version) → slice_get fresh k ≡ Some t → ⊥
@@ -275,8 +315,10 @@ module _ (rules : List Rule) (number : ℕ) (fresh : List Version) where
   pub no_position_yet : (needs : List Need) → Gains Two (IsNeedBefore 0) needs needs
   no_position_yet needs = gains_none Two (IsNeedBefore 0) needs (λ n w. let less = w.1 in omega (arith, less))
 
-  pub one_position_more : (m : ℕ) (old middle new : List Need) → Gains Two (IsNeedBefore m) old middle → Gains Two (IsNeedAtPosition rules number fresh m) middle new → Gains Two (IsNeedBefore (m + 1)) old new
-  one_position_more m old middle new g h = gains_both Two (IsNeedBefore m) (IsNeedAtPosition rules number fresh m) (IsNeedBefore (m + 1)) old middle new split g h
+  pub one_position_more : (m : ℕ) (old middle new : List Need) → Gains Two (IsNeedBefore m) old middle
+      → Gains Two (IsNeedAtPosition rules number fresh m) middle new → Gains Two (IsNeedBefore (m + 1)) old new
+  one_position_more m old middle new g h = gains_both Two (IsNeedBefore m) (IsNeedAtPosition rules number fresh m) (IsNeedBefore (m + 1)) old middle new split g
+      h
     where
       split : (n : Need) → IsNeedBefore (m + 1) n → IsNeedBefore m n ⊎ IsNeedAtPosition rules number fresh m n
       split n (k, less, w) = elim (cases_lt k m) [

@@ -40,10 +40,12 @@ brought_is_listed sets q l e = by (first_changer (after_of sets) (positions sets
 pub none_pending : (pending : Pending) (q : CellId) → pending ≡ finite.empty → finite.get pending q ≡ None
 none_pending pending q is = ap (λ m. finite.get m q) is ∙ finite.get-empty {X = Option (List RuleSpots)} cell_cmp q
 
-pub one_pending : (old new : Pending) (q : CellId) (spots : Option (List RuleSpots)) → old ≡ finite.empty → new ≡ finite.insert old q spots → new ≡ finite.insert finite.empty q spots
+pub one_pending : (old new : Pending) (q : CellId) (spots : Option (List RuleSpots)) → old ≡ finite.empty → new ≡ finite.insert old q spots → new
+    ≡ finite.insert finite.empty q spots
 one_pending old new q spots is noted = noted ∙ ap (λ m. finite.insert m q spots) is
 
-pub settled_too : (old noted new : Settled) (pending : Pending) → noted ≡ old → ((q : CellId) → finite.get new q ≡ next_at noted pending q) → (q : CellId) → finite.get new q ≡ next_at old pending q
+pub settled_too : (old noted new : Settled) (pending : Pending) → noted ≡ old → ((q : CellId) → finite.get new q ≡ next_at noted pending q) → (q : CellId)
+    → finite.get new q ≡ next_at old pending q
 settled_too old noted new pending same settles q = settles q ∙ ap (λ m. next_at m pending q) same
 
 module _ (rules : List Rule) (sets : List Changes) where
@@ -69,7 +71,8 @@ module _ (rules : List Rule) (sets : List Changes) where
     every = λ q h. every q (one_more cells k d q less h);
   }
     where
-      only : (q : CellId) → (finite.get new q ≡ new_spots_at q) ⊎ (finite.get new q ≡ finite.get old q) → (finite.get new q ≡ None) ⊎ (finite.get new q ≡ new_spots_at q)
+      only : (q : CellId) → (finite.get new q ≡ new_spots_at q) ⊎ (finite.get new q ≡ finite.get old q) → (finite.get new q ≡ None)
+          ⊎ (finite.get new q ≡ new_spots_at q)
       only q (inl e) = inr e
       only q (inr e) = elim (before.only q) [ inl f ↦ inl (e ∙ f) | inr f ↦ inr (e ∙ f) ]
 
@@ -84,7 +87,8 @@ module _ (rules : List Rule) (sets : List Changes) where
       → ((q : CellId) → finite.get new q ≡ next_at old pending q)
       → AreFiledAt (take k cells) old
       → AreFiledAt (take (k + 1) cells) new
-  one_filed cells k d l old new pending less is noted settles before = one_cell_more cells k d old new less either (itself cell (ap is_eq (tied_itself cell_cmp_total cell))) before
+  one_filed cells k d l old new pending less is noted settles before = one_cell_more cells k d old new less either
+      (itself cell (ap is_eq (tied_itself cell_cmp_total cell))) before
     where
       cell : CellId
       cell = get_or cells k d
@@ -110,7 +114,8 @@ module _ (rules : List Rule) (sets : List Changes) where
           by false apart = inr (settles q ∙ ap (next_of (finite.get old q)) (pending_at q ∙ ap (λ b. cond b spots None) apart))
 
   -- no row is brought there
-  pub not_filed : (cells : List CellId) (k : ℕ) (d : CellId) (old : Settled) → k < length cells → new_version_at sets (get_or cells k d) ≡ None → AreFiledAt (take k cells) old → AreFiledAt (take (k + 1) cells) old
+  pub not_filed : (cells : List CellId) (k : ℕ) (d : CellId) (old : Settled) → k < length cells → new_version_at sets (get_or cells k d) ≡ None
+      → AreFiledAt (take k cells) old → AreFiledAt (take (k + 1) cells) old
   not_filed cells k d old less is before = one_cell_more cells k d old old less (λ q. inr refl) (here (before.only cell)) before
     where
       cell : CellId
@@ -123,7 +128,8 @@ module _ (rules : List Rule) (sets : List Changes) where
       here (inl e) = e ∙ sym none
       here (inr e) = e
 
-  pub all_filed : (cells : List CellId) (k : ℕ) (settled : Settled) → cells ≡ changed_cells sets → length cells ≤ k → AreFiledAt (take k cells) settled → AreNewRowsFiled settled rules sets
+  pub all_filed : (cells : List CellId) (k : ℕ) (settled : Settled) → cells ≡ changed_cells sets → length cells ≤ k → AreFiledAt (take k cells) settled
+      → AreNewRowsFiled settled rules sets
   all_filed cells k settled all past h q = by (new_version_at sets q) refl
     where
       by : (o : Option (Lived ℕ)) → new_version_at sets q ≡ o → finite.get settled q ≡ new_spots_at q

@@ -57,10 +57,16 @@ module _ (sets : List Changes) (q : CellId) where
     where
       by : (b : Bool) → is_some (after_of sets from q) ≡ b → IsFound sets q (from + 1) ((from + 1) + count) (search sets q (from + 1) count)
           → IsFound sets q from (from + suc count) (cond b (Some from) (search sets q (from + 1) count))
-      by true changes more = record { from_on = omega arith; below = omega arith; changes = changes; passed = λ k low high h. absurd (omega (arith, low, high)) }
+      by true changes more = record {
+        from_on = omega arith;
+        below = omega arith;
+        changes = changes;
+        passed = λ k low high h. absurd (omega (arith, low, high));
+      }
       by false none more =
           let end : (from + 1) + count ≡ from + suc count = omega arith in
-          subst (λ e. IsFound sets q from e (search sets q (from + 1) count)) end (found_before from ((from + 1) + count) (search sets q (from + 1) count) none more)
+          subst (λ e. IsFound sets q from e (search sets q (from + 1) count)) end (found_before from ((from + 1) + count) (search sets q (from + 1) count) none
+          more)
 
   -- what is found is what the search gives, and what it gives is found
   pub found_is : (from count : ℕ) (x : Option ℕ) → IsFound sets q from (from + count) x → x ≡ search sets q from count
@@ -70,8 +76,10 @@ module _ (sets : List Changes) (q : CellId) where
   is_found from count x e = subst (IsFound sets q from (from + count)) (sym e) (search_finds from count)
 
 -- the set of a member that is read by its position
-pub set_at : (refs : List (Bor Changes)) (k : ℕ) (ref : Bor Changes) → k < length refs → ref ≡ slice_index_or refs k ref → slice_get (sets_of refs) k ≡ Some ref.now
-set_at refs k ref less read = slice_get-map (λ (s : Bor Changes). s.now) refs k ∙ ap (option_map (λ (s : Bor Changes). s.now)) (slice_get_read refs (length refs) k ref refl less read)
+pub set_at : (refs : List (Bor Changes)) (k : ℕ) (ref : Bor Changes) → k < length refs → ref ≡ slice_index_or refs k ref → slice_get (sets_of refs) k
+    ≡ Some ref.now
+set_at refs k ref less read = slice_get-map (λ (s : Bor Changes). s.now) refs k
+    ∙ ap (option_map (λ (s : Bor Changes). s.now)) (slice_get_read refs (length refs) k ref refl less read)
 
 -- only members that are there change cells
 pub changer_below : (sets : List Changes) (q : CellId) (k : ℕ) → ChangesCell sets q k → k < length sets

@@ -28,9 +28,11 @@ module _ (rules : List Rule) (number : ℕ) (r : Version) (near : List Version) 
   one_served k s old middle later new less is before alone pairs =
       gains_both (Served near) (Served (take k near)) (Here s) (Served (take (k + 1) near)) old middle new split before
       (gains_both (Served near) (IsNeedOf rules number (Some r) s None) (IsNeedAmong rules number (Some r) s near) (Here s) middle later new (λ n w. w)
-      (gains_as (IsNeedOf rules number (Some r) s None) (IsNeedOf rules number (Some r) s None) (Served near) (IsNeedOf rules number (Some r) s None) middle later
+      (gains_as (IsNeedOf rules number (Some r) s None) (IsNeedOf rules number (Some r) s None) (Served near) (IsNeedOf rules number (Some r) s None) middle
+      later
       (λ n w. (s, item_in near k s less is, inl w)) (λ n w. w) alone)
-      (gains_as (IsNeedAmong rules number (Some r) s near) (IsNeedAmong rules number (Some r) s near) (Served near) (IsNeedAmong rules number (Some r) s near) later new
+      (gains_as (IsNeedAmong rules number (Some r) s near) (IsNeedAmong rules number (Some r) s near) (Served near) (IsNeedAmong rules number (Some r) s near)
+      later new
       (λ n w. (s, item_in near k s less is, inr w)) (λ n w. w) pairs))
     where
       split : (n : Need) → Served (take (k + 1) near) n → Served (take k near) n ⊎ Here s n
@@ -53,9 +55,12 @@ module _ (rules : List Rule) (number : ℕ) (r : Version) (near : List Version) 
       then_some (Served near) (Served (take k near)) (IsNeedAmong rules number (Some r) s near) old later new
       (λ n w. (s, item_in near k s less is, inr w))
       (gains_both (Served near) (Served (take k near)) (IsNeedOf rules number (Some r) s None) (Served (take k near)) old middle later (λ n w. inl w) before
-      (gains_as (IsNeedOf rules number (Some r) s None) (IsNeedOf rules number (Some r) s None) (Served near) (IsNeedOf rules number (Some r) s None) middle later
+      (gains_as (IsNeedOf rules number (Some r) s None) (IsNeedOf rules number (Some r) s None) (Served near) (IsNeedOf rules number (Some r) s None) middle
+      later
       (λ n w. (s, item_in near k s less is, inl w)) (λ n w. w) alone))
       pairs
 
-  pub all_served : (k : ℕ) (old new : List Need) → length near ≤ k → Gains (Served near) (Served (take k near)) old new → Gains (Served near) (Served near) old new
-  all_served k old new past g = gains_as (Served near) (Served (take k near)) (Served near) (Served near) old new (λ n w. w) (λ n w. (w.0, all_taken near k w.0 past w.1, w.2)) g
+  pub all_served : (k : ℕ) (old new : List Need) → length near ≤ k → Gains (Served near) (Served (take k near)) old new
+      → Gains (Served near) (Served near) old new
+  all_served k old new past g = gains_as (Served near) (Served (take k near)) (Served near) (Served near) old new (λ n w. w)
+      (λ n w. (w.0, all_taken near k w.0 past w.1, w.2)) g

@@ -29,7 +29,8 @@ module _ (c : Setting ℕ) where
     serving_is rs v are (r, h, same, serve) =
         (row_and_life r, ap (version c) (sym same) ∙ are r h, (λ i. serves c.rules ask (row_of s) (option_map row_of t) ((sym same i).cell, r.row.now)) ∙ serve)
 
-    server_is_listed : (rs : List Version) (v : VersionId) (l : Lived ℕ) → AreAt c rs → version c v ≡ Some l → serves c.rules ask (row_of s) (option_map row_of t) (held_row v l) ≡ true → HasVersion rs v → Serving rs v
+    server_is_listed : (rs : List Version) (v : VersionId) (l : Lived ℕ) → AreAt c rs → version c v ≡ Some l
+        → serves c.rules ask (row_of s) (option_map row_of t) (held_row v l) ≡ true → HasVersion rs v → Serving rs v
     server_is_listed rs v l are is serve (r, h, same) =
         let row = lived_is c r v l same (are r h) is in
         (r, h, same, (λ i. serves c.rules ask (row_of s) (option_map row_of t) ((same i).cell, (row i).row)) ∙ serve)
@@ -55,16 +56,19 @@ module _ (c : Setting ℕ) where
         every (l, is, serve) = by v.fresh refl
           where
             near : IsNear true c.rules ask.rule (row_of s) (held_row v l)
-            near = near_server c.rules ask.rule (row_of s) (held_row v l) (server_near c.rules ask (row_of s) (option_map row_of t) (held_row v l) called serve).0
+            near = near_server c.rules ask.rule (row_of s) (held_row v l) (server_near c.rules ask (row_of s) (option_map row_of t) (held_row v l) called
+                serve).0
                 (may_serve_there c.rules ask (row_of s) (option_map row_of t) (held_row v l) called serve)
 
             by : (b : Bool) → v.fresh ≡ b → Contains names v
             by false e =
                 let same : version_of false v.cell ≡ v = λ i. record { cell = v.cell; fresh = sym e i } in
-                h.kept v (g.every v (server_is_listed old v l found.are is serve (subst (HasVersion old) same (found.every v.cell l (ap (version c) same ∙ is) near))))
+                h.kept v (g.every v (server_is_listed old v l found.are is serve (subst (HasVersion old) same (found.every v.cell l (ap (version c) same
+                ∙ is) near))))
             by true e =
                 let same : version_of true v.cell ≡ v = λ i. record { cell = v.cell; fresh = sym e i } in
-                h.every v (server_is_listed others v l found_too.are is serve (subst (HasVersion others) same (found_too.every v.cell l (ap (version c) same ∙ is) near)))
+                h.every v (server_is_listed others v l found_too.are is serve (subst (HasVersion others) same (found_too.every v.cell l (ap (version c) same
+                ∙ is) near)))
 
   -- ---- the subjects of a possible need
 
@@ -74,10 +78,11 @@ module _ (c : Setting ℕ) where
   at_too (Some id) None h = tt
   at_too (Some id) (Some v) h = h.1
 
-  first_row : (id : VersionId) (v : Version) (l : Lived ℕ) → IsNamed c id v → version c id ≡ Some l → row_of v ≡ held_row id l
+  pub first_row : (id : VersionId) (v : Version) (l : Lived ℕ) → IsNamed c id v → version c id ≡ Some l → row_of v ≡ held_row id l
   first_row id v l h is = let row = lived_is c v id l h.0 h.1 is in λ i. ((h.0 i).cell, (row i).row)
 
-  second_row : (first : VersionId) (a : Lived ℕ) (id : Option VersionId) (v : Option Version) (b : Option (Lived ℕ)) → IsNamedToo c id v → IsBesideToo c first a id b → option_map row_of v ≡ held_too id b
+  second_row : (first : VersionId) (a : Lived ℕ) (id : Option VersionId) (v : Option Version) (b : Option (Lived ℕ)) → IsNamedToo c id v
+      → IsBesideToo c first a id b → option_map row_of v ≡ held_too id b
   second_row first a None None b h is = refl
   second_row first a None (Some v) b h is = absurd h
   second_row first a (Some id) v None h is = absurd is
@@ -101,7 +106,12 @@ module _ (c : Setting ℕ) where
             (a, b, l, p, record { is = is; it_serves = sym (λ i. serves c.rules (ask_of n) (rows.0 i) (rows.1 i) (held_row v l)) ∙ serve })
 
         back : IsServing c n v → IsServerOf c (ask_of n) s t v
-        back (x, y, l, q, serve) = let rows = rows_are x y q in (l, serve.is, (λ i. serves c.rules (ask_of n) (rows.0 i) (rows.1 i) (held_row v l)) ∙ serve.it_serves)
+        back (x, y, l, q, serve) = let rows = rows_are x y q in (
+          l,
+          serve.is,
+          (λ i. serves c.rules (ask_of n) (rows.0 i) (rows.1 i) (held_row v l))
+              ∙ serve.it_serves,
+        )
 
   pub possible_number : (n : Need) → IsPossibleNeed c n → n.rule < length c.rules
   possible_number n (a, b, p) = rule_there c.rules (ask_of n) (held_row n.first a) (held_too n.second b) p.they_call

@@ -61,7 +61,8 @@ unfolding is_server
 no_crossing_alone a b server ask s r e = false≢true e
 
 -- under a crossing a row that lies on no part of another one never serves it
-pub never_at_crossing : (rules : List Rule) (number : ℕ) (a b server : Side) (r s : Held) → slice_get rules number ≡ Some (Crossing a b server) → LiesOnNoPart r.1.shape s.1.shape → IsNeverServed rules number r s
+pub never_at_crossing : (rules : List Rule) (number : ℕ) (a b server : Side) (r s : Held) → slice_get rules number ≡ Some (Crossing a b server)
+    → LiesOnNoPart r.1.shape s.1.shape → IsNeverServed rules number r s
 never_at_crossing rules number a b server r s at off = record { first = first; second = second }
   where
     its_rule : (ask : Ask) → ask.rule ≡ number → slice_get rules ask.rule ≡ Some (Crossing a b server)
@@ -92,7 +93,8 @@ module _ (c : Setting ℕ) (number : ℕ) (r : Held) (near : List Version) where
     every = λ v h served. absurd (none_taken near v h);
   }
 
-  pub one_kept : (k : ℕ) (v : Version) (old new : List Version) → k < length near → v ≡ get_or near k v → new ≡ old ++ v ∷ [] → AreKept k old → AreKept (k + 1) new
+  pub one_kept : (k : ℕ) (v : Version) (old new : List Version) → k < length near → v ≡ get_or near k v → new ≡ old ++ v ∷ [] → AreKept k old
+      → AreKept (k + 1) new
   one_kept k v old new less is put before = record { only = only; every = every }
     where
       only : (w : Version) → Contains new w → Contains near w
@@ -109,7 +111,8 @@ module _ (c : Setting ℕ) (number : ℕ) (r : Held) (near : List Version) where
           by (inl earlier) = Contains-append_left old (v ∷ []) w (before.every w earlier served)
           by (inr last) = Contains-append_right old (v ∷ []) w (contained w (v ∷ []) (inl (is ∙ sym last)))
 
-  pub one_left : (k : ℕ) (v : Version) (list : List Version) → k < length near → v ≡ get_or near k v → IsNeverServed c.rules number r (row_of v) → AreKept k list → AreKept (k + 1) list
+  pub one_left : (k : ℕ) (v : Version) (list : List Version) → k < length near → v ≡ get_or near k v → IsNeverServed c.rules number r (row_of v)
+      → AreKept k list → AreKept (k + 1) list
   one_left k v list less is never before = record { only = before.only; every = every }
     where
       every : (w : Version) → Contains (take (k + 1) near) w → ¬ (IsNeverServed c.rules number r (row_of w)) → Contains list w
@@ -119,11 +122,15 @@ module _ (c : Setting ℕ) (number : ℕ) (r : Held) (near : List Version) where
           by (inl earlier) = before.every w earlier served
           by (inr last) = absurd (served (subst (λ u. IsNeverServed c.rules number r (row_of u)) (is ∙ sym last) never))
 
-  pub all_kept : (k : ℕ) (list : List Version) → length near ≤ k → FindsAll c (IsNear false c.rules number r) near → AreKept k list → FindsAll c (MayBeServed c.rules number r) list
+  pub all_kept : (k : ℕ) (list : List Version) → length near ≤ k → FindsAll c (IsNear false c.rules number r) near → AreKept k list
+      → FindsAll c (MayBeServed c.rules number r) list
   all_kept k list past found kept = record { are = λ v h. found.are v (kept.only v h); every = every }
     where
       every : (id : VersionId) (l : Lived ℕ) → version c id ≡ Some l → MayBeServed c.rules number r (held_row id l) → HasVersion list id
       every id l is may =
           let (v, h, same) = found.every id l is may.0 in
-          let row = lived_is c v id l same (found.are v h) is in
-          (v, kept.every v (all_taken near k v past h) (λ never. may.1 (subst (IsNeverServed c.rules number r) (λ i. ((same i).cell, (row i).row)) never)), same)
+          let row = lived_is c v id l same (found.are v h) is in (
+            v,
+            kept.every v (all_taken near k v past h) (λ never. may.1 (subst (IsNeverServed c.rules number r) (λ i. ((same i).cell, (row i).row)) never)),
+            same,
+          )

@@ -118,17 +118,20 @@ module _ (sets : List Changes) where
         subst P cell here)
   ]
 
-  apart_further : (cells : List CellId) (end : ℕ) (found : Option SharedCell) (p : CellId) → slice_get cells end ≡ Some p → IsApart sets p → IsLeastBelow cells end found → IsLeastBelow cells (end + 1) found
+  apart_further : (cells : List CellId) (end : ℕ) (found : Option SharedCell) (p : CellId) → slice_get cells end ≡ Some p → IsApart sets p
+      → IsLeastBelow cells end found → IsLeastBelow cells (end + 1) found
   apart_further cells end found p last apart h = record {
     shared = h.shared;
     judged = one_further cells end p (IsJudged found) last (apart_is_judged found p apart) h.judged;
   }
 
-  shared_further : (cells : List CellId) (end : ℕ) (found : Option SharedCell) (s : SharedCell) → slice_get cells end ≡ Some s.cell → AreFirstTwo sets s.cell s.first s.second → IsLeastBelow cells end found
+  shared_further : (cells : List CellId) (end : ℕ) (found : Option SharedCell) (s : SharedCell) → slice_get cells end ≡ Some s.cell
+      → AreFirstTwo sets s.cell s.first s.second → IsLeastBelow cells end found
       → IsLeastBelow cells (end + 1) (Some (lesser found s))
   shared_further cells end found s last two h = record {
     shared = lesser_shared found s h.shared two;
-    judged = one_further cells end s.cell (IsJudged (Some (lesser found s))) last (itself_judged found s) (λ k q less at. judged_by_lesser found s q (h.judged k q less at));
+    judged = one_further cells end s.cell (IsJudged (Some (lesser found s))) last (itself_judged found s) (λ k q less at. judged_by_lesser found s q
+        (h.judged k q less at));
   }
 
   -- the cell that is read at a position
@@ -152,7 +155,8 @@ module _ (sets : List Changes) where
       → AreTwoOf (get_or read k other) two → two ≡ Some (m, n) → IsLeastBelow cells k found
       → IsLeastBelow cells (k + 1) (Some (lesser found (record { cell = get_or read k other; first = m; second = n })))
   shared_step cells read k other two m n found is judges some h =
-      shared_further cells k found (record { cell = get_or read k other; first = m; second = n }) (cell_read cells read k other is) (subst (AreTwoOf (get_or read k other)) some judges) h
+      shared_further cells k found (record { cell = get_or read k other; first = m; second = n }) (cell_read cells read k other is)
+      (subst (AreTwoOf (get_or read k other)) some judges) h
 
 -- ---- the least of all cells
 
@@ -169,7 +173,8 @@ pub changed_is_listed : (sets : List Changes) (k : ℕ) (q : CellId) → Changes
 unfolding changed_cells
 changed_is_listed [] k q changes = absurd (false≢true changes)
 changed_is_listed (s ∷ sets) zero q changes = among_left q (finite.keys s) (flat_map (λ (s : Changes). finite.keys s) sets) (key_among s q changes)
-changed_is_listed (s ∷ sets) (suc k) q changes = among_right q (finite.keys s) (flat_map (λ (s : Changes). finite.keys s) sets) (changed_is_listed sets k q changes)
+changed_is_listed (s ∷ sets) (suc k) q changes = among_right q (finite.keys s) (flat_map (λ (s : Changes). finite.keys s) sets)
+    (changed_is_listed sets k q changes)
 
 position_among : (cells : List CellId) (q : CellId) → Among q cells → (k : ℕ) × (slice_get cells k ≡ Some q)
 position_among [] q h = absurd h
@@ -177,7 +182,8 @@ position_among (p ∷ cells) q (inl e) = (zero, ap Some e)
 position_among (p ∷ cells) q (inr h) = let at = position_among cells q h in (suc at.0, at.1)
 
 -- what is the least of the listed cells is the least of all
-pub least_of_all : (sets : List Changes) (cells : List CellId) (end : ℕ) (found : Option SharedCell) → cells ≡ changed_cells sets → length cells ≤ end → IsLeastBelow sets cells end found
+pub least_of_all : (sets : List Changes) (cells : List CellId) (end : ℕ) (found : Option SharedCell) → cells ≡ changed_cells sets → length cells ≤ end
+    → IsLeastBelow sets cells end found
     → MatchOption found (AreApart sets) (IsLeastShared sets)
 least_of_all sets cells end found all past h = by found h
   where

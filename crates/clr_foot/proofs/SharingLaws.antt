@@ -39,19 +39,23 @@ use Rattle.clr_foot.specs.Versions.{FitsSetting}
 abbrev IsRule : List Rule → ℕ → Rule → Type 0
 IsRule rules number rule = slice_get rules number ≡ Some rule
 
-called_by : (rules : List Rule) (ask : Ask) (s : Held) (t : Option Held) → calls rules ask s t ≡ true → (rule : Rule) × IsRule rules ask.rule rule × (are_subjects rule ask s t ≡ true)
+called_by : (rules : List Rule) (ask : Ask) (s : Held) (t : Option Held) → calls rules ask s t ≡ true → (rule : Rule) × IsRule rules ask.rule rule
+    × (are_subjects rule ask s t ≡ true)
 unfolding calls
 called_by rules ask s t e = by (slice_get rules ask.rule) refl e
   where
-    by : (r : Option Rule) → slice_get rules ask.rule ≡ r → are_subjects_of r ask s t ≡ true → (rule : Rule) × IsRule rules ask.rule rule × (are_subjects rule ask s t ≡ true)
+    by : (r : Option Rule) → slice_get rules ask.rule ≡ r → are_subjects_of r ask s t ≡ true → (rule : Rule) × IsRule rules ask.rule rule
+        × (are_subjects rule ask s t ≡ true)
     by None at f = absurd (false≢true f)
     by (Some rule) at f = (rule, at, f)
 
-pub served_by : (rules : List Rule) (ask : Ask) (s : Held) (t : Option Held) (r : Held) (rule : Rule) → IsRule rules ask.rule rule → serves rules ask s t r ≡ true → is_server rule ask s t r ≡ true
+pub served_by : (rules : List Rule) (ask : Ask) (s : Held) (t : Option Held) (r : Held) (rule : Rule) → IsRule rules ask.rule rule → serves rules ask s t r
+    ≡ true → is_server rule ask s t r ≡ true
 unfolding serves
 served_by rules ask s t r rule at e = sym (ap (λ o. is_server_of o ask s t r) at) ∙ e
 
-rule_shares : (rules : List Rule) (number : ℕ) (rule : Rule) (s t : Held) → IsRule rules number rule → has_role_in rule s ≡ true → has_role_in rule t ≡ true → share rule s t ≡ true → are_sharing rules number s t ≡ true
+rule_shares : (rules : List Rule) (number : ℕ) (rule : Rule) (s t : Held) → IsRule rules number rule → has_role_in rule s ≡ true → has_role_in rule t ≡ true
+    → share rule s t ≡ true → are_sharing rules number s t ≡ true
 unfolding has_role share_under
 rule_shares rules number rule s t at first second shared =
     (λ i. has_role_by (at i) s && (has_role_by (at i) t && share_by (at i) s t)) ∙ (λ i. first i && (second i && shared i))
@@ -64,8 +68,11 @@ module _ (c : Setting ℕ) (fits : FitsSetting c) (ask : Ask) where
       let (rule, at, called) = called_by c.rules ask s (Some t) e in
       let roles = subjects_have_roles rule ask s (Some t) called in
       let fit : FitTogether c.rules [] = record { tables = fits.tables; book = fits.book; each = All-nil (FitsCell fits.tables) } in
-      let shared = subjects_share rule ask s (Some t) (distance_fits c.rules [] ask.rule rule fit at) called in
-      (rule_shares c.rules ask.rule rule s t at roles.0 roles.1 shared, rule_shares c.rules ask.rule rule t s at roles.1 roles.0 (sym (share_back rule s t) ∙ shared))
+      let shared = subjects_share rule ask s (Some t) (distance_fits c.rules [] ask.rule rule fit at) called in (
+        rule_shares c.rules ask.rule rule s t at roles.0 roles.1 shared,
+        rule_shares c.rules ask.rule rule t s at roles.1 roles.0 (sym (share_back rule s t)
+            ∙ shared),
+      )
 
 module _ (rules : List Rule) (ask : Ask) (s : Held) (t : Option Held) (r : Held) (e : calls rules ask s t ≡ true) (f : serves rules ask s t r ≡ true) where
   -- the first subject and the server
@@ -79,11 +86,13 @@ module _ (rules : List Rule) (ask : Ask) (s : Held) (t : Option Held) (r : Held)
       (rule_shares rules ask.rule rule s r at first role shared, rule_shares rules ask.rule rule r s at role first (sym (share_back rule s r) ∙ shared))
 
 -- the server and the second subject
-pub server_near_second : (rules : List Rule) (ask : Ask) (s t r : Held) → calls rules ask s (Some t) ≡ true → serves rules ask s (Some t) r ≡ true → are_sharing rules ask.rule r t ≡ true
+pub server_near_second : (rules : List Rule) (ask : Ask) (s t r : Held) → calls rules ask s (Some t) ≡ true → serves rules ask s (Some t) r ≡ true
+    → are_sharing rules ask.rule r t ≡ true
 server_near_second rules ask s t r e f =
     let (rule, at, called) = called_by rules ask s (Some t) e in
     let serve = served_by rules ask s (Some t) r rule at f in
-    rule_shares rules ask.rule rule r t at (servers_have_roles rule ask s (Some t) r serve) (subjects_have_roles rule ask s (Some t) called).1 (servers_share rule ask s (Some t) r called serve).1
+    rule_shares rules ask.rule rule r t at (servers_have_roles rule ask s (Some t) r serve) (subjects_have_roles rule ask s (Some t) called).1
+    (servers_share rule ask s (Some t) r called serve).1
 
 -- two are asked by a rule that is asked of two
 two_are_asked : (rule : Rule) (ask : Ask) (s t : Held) → are_subjects rule ask s (Some t) ≡ true → is_of_two rule ≡ true
@@ -102,7 +111,8 @@ both_true : (a b : Bool) → a ≡ true → b ≡ true → (a && b) ≡ true
 both_true a b e f = λ i. e i && f i
 
 -- each of two that call is of a side of two subjects
-pub both_paired : (rules : List Rule) (ask : Ask) (s t : Held) → calls rules ask s (Some t) ≡ true → (may_be_paired rules ask.rule s ≡ true) × (may_be_paired rules ask.rule t ≡ true)
+pub both_paired : (rules : List Rule) (ask : Ask) (s t : Held) → calls rules ask s (Some t) ≡ true → (may_be_paired rules ask.rule s ≡ true)
+    × (may_be_paired rules ask.rule t ≡ true)
 unfolding may_be_paired
 both_paired rules ask s t e =
     let two = two_asked rules ask s t e in
@@ -118,13 +128,15 @@ of_server_side (Unique subject columns) ask s t r e = absurd (false≢true e)
 of_server_side (Partner subject columns server server_columns) ask s None r e =
     (and_parts (is_of_side server r) _ (and_parts (is_of_side subject s) _ (and_parts (is_plain ask) _ e).1).1).0
 of_server_side (Partner subject columns server server_columns) ask s (Some t) r e = absurd (false≢true e)
-of_server_side (EndNode subject tip server) ask s None r e = (and_parts (is_of_side server r) _ (and_parts (is_of_side subject s) _ (and_parts (is_plain ask) _ e).1).1).0
+of_server_side (EndNode subject tip server) ask s None r e =
+    (and_parts (is_of_side server r) _ (and_parts (is_of_side subject s) _ (and_parts (is_plain ask) _ e).1).1).0
 of_server_side (EndNode subject tip server) ask s (Some t) r e = absurd (false≢true e)
 of_server_side (Crossing a b server) ask s None r e = absurd (false≢true e)
 of_server_side (Crossing a b server) ask s (Some t) r e = (and_parts (is_of_side server r) _ e).0
 of_server_side (Near a b d) ask s t r e = absurd (false≢true e)
 
-pub may_serve_there : (rules : List Rule) (ask : Ask) (s : Held) (t : Option Held) (r : Held) → calls rules ask s t ≡ true → serves rules ask s t r ≡ true → may_serve_under rules ask.rule r ≡ true
+pub may_serve_there : (rules : List Rule) (ask : Ask) (s : Held) (t : Option Held) (r : Held) → calls rules ask s t ≡ true → serves rules ask s t r ≡ true
+    → may_serve_under rules ask.rule r ≡ true
 unfolding may_serve_under
 may_serve_there rules ask s t r e f =
     let (rule, at, called) = called_by rules ask s t e in
@@ -135,7 +147,8 @@ may_serve_there rules ask s t r e f =
 pub near_all : (rules : List Rule) (number : ℕ) (s t : Held) → are_sharing rules number s t ≡ true → IsNear false rules number s t
 near_all rules number s t e = ap (λ b. b && (not false || may_serve_under rules number t)) e
 
-pub near_server : (rules : List Rule) (number : ℕ) (s t : Held) → are_sharing rules number s t ≡ true → may_serve_under rules number t ≡ true → IsNear true rules number s t
+pub near_server : (rules : List Rule) (number : ℕ) (s t : Held) → are_sharing rules number s t ≡ true → may_serve_under rules number t ≡ true
+    → IsNear true rules number s t
 near_server rules number s t e f = λ i. e i && (not true || f i)
 
 -- one row alone is a content, and what is found of it is found of any
@@ -156,17 +169,21 @@ module _ (servers : Bool) (rules : List Rule) (number : ℕ) (s : Held) (q : Cel
           → cond b (Some (row_spots rules (q, row))) (finite.get (finite.empty {X = List RuleSpots} {R = cell_cmp}) p)
           ≡ option_map (λ r. row_spots rules (p, r)) (cond b (Some row) (finite.get (finite.empty {X = Row} {R = cell_cmp}) p))
       by true tie = ap (λ k. Some (row_spots rules (k, row))) (sym (cell_cmp_exact p q ((Equal-is (cell_cmp p q)).0 tie)))
-      by false apart = finite.get-empty {X = List RuleSpots} cell_cmp p ∙ sym (ap (option_map (λ r. row_spots rules (p, r))) (finite.get-empty {X = Row} cell_cmp p))
+      by false apart = finite.get-empty {X = List RuleSpots} cell_cmp p
+          ∙ sym (ap (option_map (λ r. row_spots rules (p, r))) (finite.get-empty {X = Row} cell_cmp p))
 
   has_row : row_at one_row q ≡ Some row
   unfolding one_row
-  has_row = finite.get-insert cell_cmp_total finite.empty q row q ∙ ap (λ b. cond b (Some row) (finite.get (finite.empty {X = Row} {R = cell_cmp}) q)) (ap is_eq (tied_itself cell_cmp_total q))
+  has_row = finite.get-insert cell_cmp_total finite.empty q row q ∙ ap (λ b. cond b (Some row) (finite.get (finite.empty {X = Row} {R = cell_cmp}) q))
+      (ap is_eq (tied_itself cell_cmp_total q))
 
-  is_met : number < length rules → IsNear servers rules number s (q, row) → is_met_at servers (rule_spots rules number s) number (Some (row_spots rules (q, row))) ≡ true
+  is_met : number < length rules → IsNear servers rules number s (q, row)
+      → is_met_at servers (rule_spots rules number s) number (Some (row_spots rules (q, row))) ≡ true
   unfolding found_cells sharing sharing_servers
   is_met below near = by servers near
     where
-      its_spots_meet : (b : Bool) → Among q (found_cells b one_settled number (rule_spots rules number s)) → is_met_at b (rule_spots rules number s) number (Some (row_spots rules (q, row))) ≡ true
+      its_spots_meet : (b : Bool) → Among q (found_cells b one_settled number (rule_spots rules number s))
+          → is_met_at b (rule_spots rules number s) number (Some (row_spots rules (q, row))) ≡ true
       its_spots_meet b h =
           let (ys, at, met) = in_passes (λ e. is_met_at b (rule_spots rules number s) number (Some e.1)) one_settled q h in
           let same : Some ys ≡ Some (row_spots rules (q, row)) = sym at ∙ is_settled q ∙ ap (option_map (λ r. row_spots rules (q, r))) has_row in

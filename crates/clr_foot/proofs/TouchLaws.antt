@@ -36,7 +36,8 @@ module _ (c : Setting ℕ) where
   -- ---- the needs of versions are possible
 
   module _ (number : ℕ) (r : Option Version) (s : Version) (at : IsAt c s) where
-    rows_call : (t : Option Version) (n : Need) → IsNeedOf c.rules number r s t n → calls c.rules (ask_of n) (held_row n.first (row_and_life s)) (held_too n.second (option_map row_and_life t)) ≡ true
+    rows_call : (t : Option Version) (n : Need) → IsNeedOf c.rules number r s t n
+        → calls c.rules (ask_of n) (held_row n.first (row_and_life s)) (held_too n.second (option_map row_and_life t)) ≡ true
     rows_call t n w =
         (λ i. calls c.rules (ask_of n) ((w.first i).cell, s.row.now) (held_too (w.second i) (option_map row_and_life t)))
         ∙ ap (calls c.rules (ask_of n) (row_of s)) (held_named t) ∙ they_call c.rules number r s t n w
@@ -59,7 +60,8 @@ module _ (c : Setting ℕ) where
         beside = record { is = at_too; ascending = ap (λ v. cell_cmp v.cell t.id.cell) w.need.first ∙ w.ascending; not_opposed = w.not_opposed }
 
   -- the server serves them
-  server_serves : (number : ℕ) (r s : Version) (t : Option Version) (n : Need) → IsAt c r → IsNeedOf c.rules number (Some r) s t n → Serves c n (row_and_life s) (option_map row_and_life t) r.id (row_and_life r)
+  server_serves : (number : ℕ) (r s : Version) (t : Option Version) (n : Need) → IsAt c r → IsNeedOf c.rules number (Some r) s t n
+      → Serves c n (row_and_life s) (option_map row_and_life t) r.id (row_and_life r)
   server_serves number r s t n at w = record {
     is = at;
     it_serves = (λ i. serves c.rules (ask_of n) ((w.first i).cell, s.row.now) (held_too (w.second i) (option_map row_and_life t)) (row_of r))
@@ -74,16 +76,44 @@ module _ (c : Setting ℕ) where
     alone_with n w = (w.rule, inl w.first, row_and_life v, None, alone_possible number None v at n w)
 
     pub among_with : (others : List Version) (n : Need) → AreAt c others → IsNeedAmong c.rules number None v others n → IsNeedWith c number v.id n
-    among_with others n are (t, h, inl w) = (w.need.rule, inl w.need.first, row_and_life v, Some (row_and_life t), pair_possible number None v at t n (are t h) w)
-    among_with others n are (t, h, inr w) = (w.need.rule, inr w.need.second, row_and_life t, Some (row_and_life v), pair_possible number None t (are t h) v n at w)
+    among_with others n are (t, h, inl w) = (
+      w.need.rule,
+      inl w.need.first,
+      row_and_life v,
+      Some (row_and_life t),
+      pair_possible number None v at t n
+          (are t h) w,
+    )
+    among_with others n are (t, h, inr w) = (
+      w.need.rule,
+      inr w.need.second,
+      row_and_life t,
+      Some (row_and_life v),
+      pair_possible number None t (are t h) v n at
+          w,
+    )
 
     pub among_served : (near : List Version) (n : Need) → AreAt c near → IsNeedServedAmong c.rules number v near near n → IsNeedServedBy c number v.id n
     among_served near n are (s, h, inl w) =
         (w.rule, row_and_life s, None, row_and_life v, alone_possible number (Some v) s (are s h) n w, server_serves number v s None n at w)
-    among_served near n are (s, h, inr (t, k, inl w)) =
-        (w.need.rule, row_and_life s, Some (row_and_life t), row_and_life v, pair_possible number (Some v) s (are s h) t n (are t k) w, server_serves number v s (Some t) n at w.need)
-    among_served near n are (s, h, inr (t, k, inr w)) =
-        (w.need.rule, row_and_life t, Some (row_and_life s), row_and_life v, pair_possible number (Some v) t (are t k) s n (are s h) w, server_serves number v t (Some s) n at w.need)
+    among_served near n are (s, h, inr (t, k, inl w)) = (
+      w.need.rule,
+      row_and_life s,
+      Some (row_and_life t),
+      row_and_life v,
+      pair_possible number (Some v) s (are s h) t n (are t k) w,
+      server_serves number v s
+          (Some t) n at w.need,
+    )
+    among_served near n are (s, h, inr (t, k, inr w)) = (
+      w.need.rule,
+      row_and_life t,
+      Some (row_and_life s),
+      row_and_life v,
+      pair_possible number (Some v) t (are t k) s n (are s h) w,
+      server_serves number v t
+          (Some s) n at w.need,
+    )
 
   -- ---- possible needs are those of their versions
 
@@ -136,25 +166,29 @@ module _ (c : Setting ℕ) where
       let rows = lived_is t w b same at_too beside.is in
       record {
         ascending = (λ i. cell_cmp (first i).cell (same i).cell) ∙ beside.ascending;
-        not_opposed = subst (λ l. ¬ (AreOpposed l.life (row_and_life t).life)) (sym row) (subst (λ l. ¬ (AreOpposed a.life l.life)) (sym rows) beside.not_opposed);
+        not_opposed = subst (λ l. ¬ (AreOpposed l.life (row_and_life t).life)) (sym row) (subst (λ l. ¬ (AreOpposed a.life l.life)) (sym rows)
+            beside.not_opposed);
         need = need_of_versions number r s (Some t) n a (Some b) rule first (ap Some same ∙ sym second) row (ap Some rows)
             (ap (λ x. calls c.rules (ask_of n) (held_row n.first a) (held_too x (Some b))) second ∙ called) (serve row rows);
       }
 
   -- what is near a version's row is near the version
-  near_of : (v : Version) (id : VersionId) (l : Lived ℕ) (s : Held) (number rule : ℕ) → rule ≡ number → v.id ≡ id → row_and_life v ≡ l → IsNear false c.rules rule (held_row id l) s → IsNear false c.rules number (row_of v) s
+  near_of : (v : Version) (id : VersionId) (l : Lived ℕ) (s : Held) (number rule : ℕ) → rule ≡ number → v.id ≡ id → row_and_life v ≡ l
+      → IsNear false c.rules rule (held_row id l) s → IsNear false c.rules number (row_of v) s
   near_of v id l s number rule is same row near =
       subst (λ h. IsNear false c.rules number h s) (λ i. ((sym same i).cell, (sym row i).row)) (subst (λ k. IsNear false c.rules k (held_row id l) s) is near)
 
   -- a need with a version alone
-  alone_found : (number : ℕ) (v : Version) (at : IsAt c v) (n : Need) (a : Lived ℕ) → n.rule ≡ number → n.first ≡ v.id → n.second ≡ None → version c n.first ≡ Some a
+  alone_found : (number : ℕ) (v : Version) (at : IsAt c v) (n : Need) (a : Lived ℕ) → n.rule ≡ number → n.first ≡ v.id → n.second ≡ None → version c n.first
+      ≡ Some a
       → calls c.rules (ask_of n) (held_row n.first a) None ≡ true → IsNeedOf c.rules number None v None n
   alone_found number v at n a rule first second is called =
       need_of_versions number None v None n a None rule (sym first) (sym second) (lived_is v n.first a (sym first) at is) refl
       (ap (λ w. calls c.rules (ask_of n) (held_row n.first a) (held_too {A = ℕ} w None)) second ∙ called) refl
 
   -- a need with a version that is of no side of two subjects is that of the version alone
-  pub alone_of_one : (number : ℕ) (v : Version) (at : IsAt c v) (told : Bool) → told ≡ may_be_paired c.rules number (row_of v) → told ≡ false → (n : Need) → IsNeedWith c number v.id n
+  pub alone_of_one : (number : ℕ) (v : Version) (at : IsAt c v) (told : Bool) → told ≡ may_be_paired c.rules number (row_of v) → told ≡ false → (n : Need)
+      → IsNeedWith c number v.id n
       → IsNeedOf c.rules number None v None n
   alone_of_one number v at told is fails n (rule, subject, a, b, p) = by n.second b refl p.second_is p.they_call subject
     where
@@ -163,7 +197,8 @@ module _ (c : Setting ℕ) where
           let row = lived_is v id l same at there in
           false≢true (sym fails ∙ is ∙ (λ i. may_be_paired c.rules (sym rule i) ((same i).cell, (row i).row)) ∙ may)
 
-      by : (w : Option VersionId) (b : Option (Lived ℕ)) → n.second ≡ w → IsBesideToo c n.first a w b → calls c.rules (ask_of n) (held_row n.first a) (held_too {A = ℕ} w b) ≡ true
+      by : (w : Option VersionId) (b : Option (Lived ℕ)) → n.second ≡ w → IsBesideToo c n.first a w b
+          → calls c.rules (ask_of n) (held_row n.first a) (held_too {A = ℕ} w b) ≡ true
           → (n.first ≡ v.id) ⊎ (n.second ≡ Some v.id) → IsNeedOf c.rules number None v None n
       by None None second beside called (inl e) = alone_found number v at n a rule e second p.first_is called
       by None None second beside called (inr e) = let clash : None ≡ Some v.id = sym second ∙ e in cc
@@ -176,19 +211,23 @@ module _ (c : Setting ℕ) where
           absurd (paired w b same beside.is (both_paired c.rules (ask_of n) (held_row n.first a) (held_row w b) called).1)
 
   module _ (fits : FitsSetting c) (number : ℕ) (v : Version) (at : IsAt c v) (near : List Version) (P : VersionId → Type 0) (are : AreAt c near)
-      (every : (id : VersionId) (l : Lived ℕ) → P id → version c id ≡ Some l → IsNear false c.rules number (row_of v) (held_row id l) → HasVersion near id) where
+      (every : (id : VersionId) (l : Lived ℕ) → P id → version c id ≡ Some l → IsNear false c.rules number (row_of v) (held_row id l)
+      → HasVersion near id) where
     -- a need with a version is found: it stands alone, or beside one that is near
     abbrev pub IsFound : Need → Type 0
     IsFound n = IsNeedOf c.rules number None v None n ⊎ IsNeedAmong c.rules number None v near n
 
-    need_is_found : (n : Need) (id : VersionId) → ((t : Version) → t.id ≡ id → IsAt c t → IsNeedOfPair c.rules number None v t n) → HasVersion near id → IsFound n
+    need_is_found : (n : Need) (id : VersionId) → ((t : Version) → t.id ≡ id → IsAt c t → IsNeedOfPair c.rules number None v t n) → HasVersion near id
+        → IsFound n
     need_is_found n id pair (t, h, e) = inr (t, h, pair t e (are t h))
 
     -- the other subject is one of those that are looked for, so it is near, and in either order the two make the need
-    pub with_found : (n : Need) → IsNeedWith c number v.id n → ((w : VersionId) → n.first ≡ v.id → n.second ≡ Some w → P w) → (n.second ≡ Some v.id → P n.first) → IsFound n
+    pub with_found : (n : Need) → IsNeedWith c number v.id n → ((w : VersionId) → n.first ≡ v.id → n.second ≡ Some w → P w) → (n.second ≡ Some v.id → P n.first)
+        → IsFound n
     with_found n (rule, subject, a, b, p) second_sought first_sought = by n.second b refl p.second_is p.they_call subject
       where
-        by : (w : Option VersionId) (b : Option (Lived ℕ)) → n.second ≡ w → IsBesideToo c n.first a w b → calls c.rules (ask_of n) (held_row n.first a) (held_too {A = ℕ} w b) ≡ true
+        by : (w : Option VersionId) (b : Option (Lived ℕ)) → n.second ≡ w → IsBesideToo c n.first a w b
+            → calls c.rules (ask_of n) (held_row n.first a) (held_too {A = ℕ} w b) ≡ true
             → (n.first ≡ v.id) ⊎ (n.second ≡ Some v.id) → IsFound n
         by None None second beside called (inl e) = inl (alone_found number v at n a rule e second p.first_is called)
         by None None second beside called (inr e) = let clash : None ≡ Some v.id = sym second ∙ e in cc
@@ -198,14 +237,16 @@ module _ (c : Setting ℕ) where
             let row = lived_is v n.first a (sym e) at p.first_is in
             let shared = (subjects_near c fits (ask_of n) (held_row n.first a) (held_row w b) called).0 in
             let near = near_of v n.first a (held_row w b) number n.rule rule (sym e) row (near_all c.rules n.rule (held_row n.first a) (held_row w b) shared) in
-            need_is_found n w (λ t same t_at. inl (need_between number None v t n a w b rule (sym e) same second at t_at p.first_is beside called (λ row rows. refl)))
+            need_is_found n w (λ t same t_at. inl (need_between number None v t n a w b rule (sym e) same second at t_at p.first_is beside called
+            (λ row rows. refl)))
             (every w b (second_sought w e second) beside.is near)
         by (Some w) (Some b) second beside called (inr e) =
             let same : w ≡ v.id = let both : Some w ≡ Some v.id = sym second ∙ e in cc in
             let row = lived_is v w b (sym same) at beside.is in
             let shared = (subjects_near c fits (ask_of n) (held_row n.first a) (held_row w b) called).1 in
             let near = near_of v w b (held_row n.first a) number n.rule rule (sym same) row (near_all c.rules n.rule (held_row w b) (held_row n.first a) shared) in
-            need_is_found n n.first (λ t is t_at. inr (need_between number None t v n a w b rule is (sym same) second t_at at p.first_is beside called (λ row rows. refl)))
+            need_is_found n n.first (λ t is t_at. inr (need_between number None t v n a w b rule is (sym same) second t_at at p.first_is beside called
+            (λ row rows. refl)))
             (every n.first a (first_sought e) p.first_is near)
 
   -- a need that a version serves is found among those near it
@@ -216,20 +257,28 @@ module _ (c : Setting ℕ) where
         server : row_and_life r ≡ l
         server = lived_is r r.id l refl at v.is
 
-        close : (id : VersionId) (m : Lived ℕ) → are_sharing c.rules n.rule (held_row r.id l) (held_row id m) ≡ true → ¬ (IsNeverServed c.rules number (row_of r) (held_row id m))
+        close : (id : VersionId) (m : Lived ℕ) → are_sharing c.rules n.rule (held_row r.id l) (held_row id m) ≡ true
+            → ¬ (IsNeverServed c.rules number (row_of r) (held_row id m))
             → MayBeServed c.rules number (row_of r) (held_row id m)
-        close id m shared served = (near_of r r.id l (held_row id m) number n.rule rule refl server (near_all c.rules n.rule (held_row r.id l) (held_row id m) shared), served)
+        close id m shared served = (
+          near_of r r.id l (held_row id m) number n.rule rule refl server (near_all c.rules n.rule (held_row r.id l) (held_row id m)
+              shared),
+          served,
+        )
 
         its_row : (s : Held) (t : Option Held) → serves c.rules (ask_of n) s t (held_row r.id l) ≡ true → serves c.rules (ask_of n) s t (row_of r) ≡ true
         its_row s t serve = (λ i. serves c.rules (ask_of n) s t (r.id.cell, (server i).row)) ∙ serve
 
-        first_served : (t : Option Held) → serves c.rules (ask_of n) (held_row n.first a) t (held_row r.id l) ≡ true → ¬ (IsNeverServed c.rules number (row_of r) (held_row n.first a))
+        first_served : (t : Option Held) → serves c.rules (ask_of n) (held_row n.first a) t (held_row r.id l) ≡ true
+            → ¬ (IsNeverServed c.rules number (row_of r) (held_row n.first a))
         first_served t serve never = never.first (ask_of n) t rule (its_row (held_row n.first a) t serve)
 
-        second_served : (t : Held) → serves c.rules (ask_of n) (held_row n.first a) (Some t) (held_row r.id l) ≡ true → ¬ (IsNeverServed c.rules number (row_of r) t)
+        second_served : (t : Held) → serves c.rules (ask_of n) (held_row n.first a) (Some t) (held_row r.id l) ≡ true
+            → ¬ (IsNeverServed c.rules number (row_of r) t)
         second_served t serve never = never.second (ask_of n) (held_row n.first a) rule (its_row (held_row n.first a) (Some t) serve)
 
-        by : (w : Option VersionId) (b : Option (Lived ℕ)) → n.second ≡ w → IsBesideToo c n.first a w b → calls c.rules (ask_of n) (held_row n.first a) (held_too {A = ℕ} w b) ≡ true
+        by : (w : Option VersionId) (b : Option (Lived ℕ)) → n.second ≡ w → IsBesideToo c n.first a w b
+            → calls c.rules (ask_of n) (held_row n.first a) (held_too {A = ℕ} w b) ≡ true
             → serves c.rules (ask_of n) (held_row n.first a) (held_too {A = ℕ} w b) (held_row r.id l) ≡ true → IsNeedServedAmong c.rules number r near near n
         by None (Some b) second beside called serve = absurd beside
         by (Some w) None second beside called serve = absurd beside
@@ -258,7 +307,8 @@ module _ (c : Setting ℕ) where
             )
 
   -- only a version of the side that serves serves any
-  pub not_served : (number : ℕ) (r : Version) (at : IsAt c r) (told : Bool) → told ≡ may_serve_under c.rules number (row_of r) → told ≡ false → (n : Need) → IsNeedServedBy c number r.id n → ⊥
+  pub not_served : (number : ℕ) (r : Version) (at : IsAt c r) (told : Bool) → told ≡ may_serve_under c.rules number (row_of r) → told ≡ false → (n : Need)
+      → IsNeedServedBy c number r.id n → ⊥
   not_served number r at told is fails n (rule, a, b, l, p, v) =
       let row = lived_is r r.id l refl at v.is in
       false≢true (sym fails ∙ is ∙ (λ i. may_serve_under c.rules (sym rule i) (r.id.cell, (row i).row))

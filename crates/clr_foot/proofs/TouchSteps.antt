@@ -78,7 +78,8 @@ module _ (rules : List Rule) (root : Content) (sets : List Changes) where
 
   pub new_is_listed : (v : VersionId) (l : Lived ℕ) → v.fresh ≡ true → version c v ≡ Some l → Contains (changed_cells sets) v.cell
   unfolding version
-  new_is_listed v l new is = brought_is_listed sets v.cell l (ap (λ b. if b then new_version c.after v.cell (changer c v.cell) else old_version (changer c v.cell) (c.root v.cell)) (sym new) ∙ is)
+  new_is_listed v l new is = brought_is_listed sets v.cell l (ap (λ b. if b then new_version c.after v.cell (changer c v.cell) else old_version
+      (changer c v.cell) (c.root v.cell)) (sym new) ∙ is)
 
   -- ---- cell after cell
 
@@ -97,9 +98,18 @@ module _ (rules : List Rule) (root : Content) (sets : List Changes) where
         first_new e f = inl (n.first.cell, new_is_listed n.first a e p.first_is, inl ((refl, inl (its_name n.first true e), a, b, p), λ i. e i && f i))
 
         second_new : (w : VersionId) (m : Lived ℕ) → n.second ≡ Some w → version c w ≡ Some m → n.first.fresh ≡ false → w.fresh ≡ true → IsPlaced n
-        second_new w m is at f e = inl (w.cell, new_is_listed w m e at, inl ((refl, inr (is ∙ ap Some (its_name w true e)), a, b, p), ap (λ x. x && is_fresh n.second) f))
+        second_new w m is at f e = inl (
+          w.cell,
+          new_is_listed w m e at,
+          inl (
+            (refl, inr (is ∙ ap Some (its_name w true e)), a, b, p),
+            ap (λ x. x
+                && is_fresh n.second) f,
+          ),
+        )
 
-        both_new : (w : VersionId) (m : Lived ℕ) → n.second ≡ Some w → IsBeside c n.first a w m → calls c.rules (ask_of n) (held_row n.first a) (Some (held_row w m)) ≡ true → n.first.fresh ≡ true → w.fresh ≡ true → IsPlaced n
+        both_new : (w : VersionId) (m : Lived ℕ) → n.second ≡ Some w → IsBeside c n.first a w m
+            → calls c.rules (ask_of n) (held_row n.first a) (Some (held_row w m)) ≡ true → n.first.fresh ≡ true → w.fresh ≡ true → IsPlaced n
         both_new w m second beside called e f =
             let (s, h, same) = found.every n.first.cell a (ap (version c) (sym (its_name n.first true e)) ∙ p.first_is) (new_is_listed n.first a e p.first_is) in
             let (t, k, same_too) = found.every w.cell m (ap (version c) (sym (its_name w true f)) ∙ beside.is) (new_is_listed w m f beside.is) in
@@ -122,10 +132,18 @@ module _ (rules : List Rule) (root : Content) (sets : List Changes) where
             → calls c.rules (ask_of n) (held_row n.first a) (held_too {A = ℕ} w m) ≡ true → IsPlaced n
         by true e None m is beside called = first_new e (ap is_fresh is)
         by true e (Some w) None is beside called = absurd beside
-        by true e (Some w) (Some m) is beside called = elim (cases_Bool w.fresh) [ inl new ↦ both_new w m is beside called e new | inr f ↦ first_new e (ap is_fresh is ∙ f) ]
+        by true e (Some w) (Some m) is beside called = elim (cases_Bool w.fresh) [
+          | inl new ↦ both_new w m is beside called e new
+          | inr f ↦ first_new e
+              (ap is_fresh is ∙ f)
+        ]
         by false e None m is beside called = old e (ap is_fresh is) touched
         by false e (Some w) None is beside called = absurd beside
-        by false e (Some w) (Some m) is beside called = elim (cases_Bool w.fresh) [ inl new ↦ second_new w m is beside.is e new | inr f ↦ old e (ap is_fresh is ∙ f) touched ]
+        by false e (Some w) (Some m) is beside called = elim (cases_Bool w.fresh) [
+          | inl new ↦ second_new w m is beside.is e new
+          | inr f ↦ old e (ap is_fresh is
+              ∙ f) touched
+        ]
 
 module _ (c : Setting ℕ) (number : ℕ) where
   -- a version's needs
@@ -135,15 +153,19 @@ module _ (c : Setting ℕ) (number : ℕ) where
       → Gains (IsNeedAmong c.rules number None v near) (IsNeedAmong c.rules number None v near) second last
       → Gains (IsNeedWith c number v.id) (IsNeedWith c number v.id) first last
   with_gains fits v near first second last at found alone pairs =
-      gains_both (IsNeedWith c number v.id) (IsNeedOf c.rules number None v None) (IsNeedAmong c.rules number None v near) (IsNeedWith c number v.id) first second last
+      gains_both (IsNeedWith c number v.id) (IsNeedOf c.rules number None v None) (IsNeedAmong c.rules number None v near) (IsNeedWith c number v.id) first
+      second last
       (λ n w. with_found c fits number v at near (λ id. ⊤) found.are (λ id l any is near. found.every id l is near) n w (λ w e f. tt) (λ e. tt))
-      (gains_as (IsNeedOf c.rules number None v None) (IsNeedOf c.rules number None v None) (IsNeedWith c number v.id) (IsNeedOf c.rules number None v None) first second
+      (gains_as (IsNeedOf c.rules number None v None) (IsNeedOf c.rules number None v None) (IsNeedWith c number v.id) (IsNeedOf c.rules number None v None)
+      first second
       (alone_with c number v at) (λ n w. w) alone)
-      (gains_as (IsNeedAmong c.rules number None v near) (IsNeedAmong c.rules number None v near) (IsNeedWith c number v.id) (IsNeedAmong c.rules number None v near) second last
+      (gains_as (IsNeedAmong c.rules number None v near) (IsNeedAmong c.rules number None v near) (IsNeedWith c number v.id)
+      (IsNeedAmong c.rules number None v near) second last
       (λ n w. among_with c number v at near n found.are w) (λ n w. w) pairs)
 
   -- a new version's needs, but for those beside a new one
-  old_sought : (near : List Version) (P : Held → Type 0) → Finds c false P near → (id : VersionId) (l : Lived ℕ) → id.fresh ≡ false → version c id ≡ Some l → P (held_row id l) → HasVersion near id
+  old_sought : (near : List Version) (P : Held → Type 0) → Finds c false P near → (id : VersionId) (l : Lived ℕ) → id.fresh ≡ false → version c id ≡ Some l
+      → P (held_row id l) → HasVersion near id
   old_sought near P found id l old is near_it =
       let same : version_of false id.cell ≡ id = λ i. record { cell = id.cell; fresh = sym old i } in
       subst (HasVersion near) same (found.every id.cell l (ap (version c) same ∙ is) near_it)
@@ -158,13 +180,16 @@ module _ (c : Setting ℕ) (number : ℕ) where
       → Gains (IsNeedAmong c.rules number None v near) (IsNeedAmong c.rules number None v near) second last
       → Gains (IsNeedWith c number v.id) (IsNeedBesideOld c number v.id) first last
   beside_gains fits v near first second last at new found alone pairs =
-      gains_both (IsNeedWith c number v.id) (IsNeedOf c.rules number None v None) (IsNeedAmong c.rules number None v near) (IsNeedBesideOld c number v.id) first second last
+      gains_both (IsNeedWith c number v.id) (IsNeedOf c.rules number None v None) (IsNeedAmong c.rules number None v near) (IsNeedBesideOld c number v.id) first
+      second last
       (λ n w. with_found c fits number v at near (λ id. id.fresh ≡ false) found.are (old_sought near (IsNear false c.rules number (row_of v)) found) n w.0
       (λ u e f. sym (λ i. (ap (λ (x : VersionId). x.fresh) e ∙ new) i && is_fresh (f i)) ∙ w.1)
       (λ e. first_old n.first.fresh (is_fresh n.second) (ap is_fresh e ∙ new) w.1))
-      (gains_as (IsNeedOf c.rules number None v None) (IsNeedOf c.rules number None v None) (IsNeedWith c number v.id) (IsNeedOf c.rules number None v None) first second
+      (gains_as (IsNeedOf c.rules number None v None) (IsNeedOf c.rules number None v None) (IsNeedWith c number v.id) (IsNeedOf c.rules number None v None)
+      first second
       (alone_with c number v at) (λ n w. w) alone)
-      (gains_as (IsNeedAmong c.rules number None v near) (IsNeedAmong c.rules number None v near) (IsNeedWith c number v.id) (IsNeedAmong c.rules number None v near) second last
+      (gains_as (IsNeedAmong c.rules number None v near) (IsNeedAmong c.rules number None v near) (IsNeedWith c number v.id)
+      (IsNeedAmong c.rules number None v near) second last
       (λ n w. among_with c number v at near n found.are w) (λ n w. w) pairs)
 
   pub alone_beside_old : (v : Version) (told : Bool) (first last : List Need) → IsAt c v → told ≡ may_be_paired c.rules number (row_of v) → told ≡ false
@@ -189,7 +214,8 @@ module _ (c : Setting ℕ) (number : ℕ) where
   some_with v near first second last at found alone pairs =
       then_some (IsNeedWith c number v.id) (IsNeedOf c.rules number None v None) (IsNeedAmong c.rules number None v near) first second last
       (λ n w. among_with c number v at near n found.are w)
-      (gains_as (IsNeedOf c.rules number None v None) (IsNeedOf c.rules number None v None) (IsNeedWith c number v.id) (IsNeedOf c.rules number None v None) first second
+      (gains_as (IsNeedOf c.rules number None v None) (IsNeedOf c.rules number None v None) (IsNeedWith c number v.id) (IsNeedOf c.rules number None v None)
+      first second
       (alone_with c number v at) (λ n w. w) alone)
       pairs
 
@@ -205,7 +231,8 @@ module _ (c : Setting ℕ) (number : ℕ) where
       → Gains (IsNeedServedAmong c.rules number r near near) (IsNeedServedAmong c.rules number r near near) old new
       → Gains (IsNeedServedBy c number r.id) (IsNeedServedBy c number r.id) old new
   served_gains r near old new at found g =
-      gains_as (IsNeedServedAmong c.rules number r near near) (IsNeedServedAmong c.rules number r near near) (IsNeedServedBy c number r.id) (IsNeedServedBy c number r.id) old new
+      gains_as (IsNeedServedAmong c.rules number r near near) (IsNeedServedAmong c.rules number r near near) (IsNeedServedBy c number r.id)
+      (IsNeedServedBy c number r.id) old new
       (λ n w. among_served c number r at near n found.are w) (served_found c number r at near found) g
 
   pub some_served : (r : Version) (near : List Version) (old new : List Need) → IsAt c r
@@ -217,7 +244,8 @@ module _ (c : Setting ℕ) (number : ℕ) where
 
   pub none_served_by : (r : Version) (told : Bool) (needs : List Need) → IsAt c r → told ≡ may_serve_under c.rules number (row_of r) → told ≡ false
       → Gains (IsNeedServedBy c number r.id) (IsNeedServedBy c number r.id) needs needs
-  none_served_by r told needs at is fails = gains_none (IsNeedServedBy c number r.id) (IsNeedServedBy c number r.id) needs (not_served c number r at told is fails)
+  none_served_by r told needs at is fails = gains_none (IsNeedServedBy c number r.id) (IsNeedServedBy c number r.id) needs
+      (not_served c number r at told is fails)
 
   -- those with a new version are touched, and those that a changed one serves
   with_touched : (v : VersionId) → v.fresh ≡ true → (n : Need) → IsNeedWith c number v n → IsTouched c n
@@ -229,7 +257,8 @@ module _ (c : Setting ℕ) (number : ℕ) where
 
   -- ---- a cell's new version and its old one
 
-  pub no_new : (q : CellId) (needs : List Need) → version c (version_of true q) ≡ None → Gains (IsTouched c) (IsNeedBesideOld c number (version_of true q)) needs needs
+  pub no_new : (q : CellId) (needs : List Need) → version c (version_of true q) ≡ None
+      → Gains (IsTouched c) (IsNeedBesideOld c number (version_of true q)) needs needs
   no_new q needs none = gains_none (IsTouched c) (IsNeedBesideOld c number (version_of true q)) needs (λ n w. by n w.0)
     where
       clash : (l : Lived ℕ) → version c (version_of true q) ≡ Some l → ⊥
@@ -243,47 +272,57 @@ module _ (c : Setting ℕ) (number : ℕ) where
           beside None None is h = let f : None ≡ Some (version_of true q) = sym is ∙ e in cc
           beside None (Some b) is h = h
           beside (Some w) None is h = h
-          beside (Some w) (Some b) is h = let same : w ≡ version_of true q = let f : Some w ≡ Some (version_of true q) = sym is ∙ e in cc in clash b (ap (version c) (sym same) ∙ h.is)
+          beside (Some w) (Some b) is h = let same : w ≡ version_of true q = let f : Some w ≡ Some (version_of true q) = sym is ∙ e in cc in
+              clash b (ap (version c) (sym same) ∙ h.is)
 
-  pub no_old : (q : CellId) (needs : List Need) → version c (version_of false q) ≡ None → Gains (IsTouched c) (IsNeedServedBy c number (version_of false q)) needs needs
+  pub no_old : (q : CellId) (needs : List Need) → version c (version_of false q) ≡ None
+      → Gains (IsTouched c) (IsNeedServedBy c number (version_of false q)) needs needs
   no_old q needs none = gains_none (IsTouched c) (IsNeedServedBy c number (version_of false q)) needs by
     where
       by : (n : Need) → IsNeedServedBy c number (version_of false q) n → ⊥
       by n (rule, a, b, l, p, serve) = let clash : None ≡ Some l = sym none ∙ serve.is in cc
 
   -- whatever list stands for the last one
-  pub new_added : (q : CellId) (id : VersionId) (old new last : List Need) → id ≡ version_of true q → last ≡ new → Gains (IsNeedWith c number id) (IsNeedBesideOld c number id) old new
+  pub new_added : (q : CellId) (id : VersionId) (old new last : List Need) → id ≡ version_of true q → last ≡ new
+      → Gains (IsNeedWith c number id) (IsNeedBesideOld c number id) old new
       → Gains (IsTouched c) (IsNeedBesideOld c number (version_of true q)) old last
   new_added q id old new last same is g = subst (Gains (IsTouched c) (IsNeedBesideOld c number (version_of true q)) old) (sym is)
-      (gains_as (IsNeedWith c number (version_of true q)) (IsNeedBesideOld c number (version_of true q)) (IsTouched c) (IsNeedBesideOld c number (version_of true q)) old new
+      (gains_as (IsNeedWith c number (version_of true q)) (IsNeedBesideOld c number (version_of true q)) (IsTouched c)
+      (IsNeedBesideOld c number (version_of true q)) old new
       (with_touched (version_of true q) refl) (λ n w. w)
       (subst (λ v. Gains (IsNeedWith c number v) (IsNeedBesideOld c number v) old new) same g))
 
-  pub none_added : (q : CellId) (old last : List Need) → version c (version_of true q) ≡ None → last ≡ old → Gains (IsTouched c) (IsNeedBesideOld c number (version_of true q)) old last
+  pub none_added : (q : CellId) (old last : List Need) → version c (version_of true q) ≡ None → last ≡ old
+      → Gains (IsTouched c) (IsNeedBesideOld c number (version_of true q)) old last
   none_added q old last none is = subst (Gains (IsTouched c) (IsNeedBesideOld c number (version_of true q)) old) (sym is) (no_new q old none)
 
-  pub changed_added : (q : CellId) (id : VersionId) (old new : List Need) → id ≡ version_of false q → ((l : Lived ℕ) → version c (version_of false q) ≡ Some l → IsChanged l.life)
+  pub changed_added : (q : CellId) (id : VersionId) (old new : List Need) → id ≡ version_of false q → ((l : Lived ℕ) → version c (version_of false q) ≡ Some l
+      → IsChanged l.life)
       → Gains (IsNeedServedBy c number id) (IsNeedServedBy c number id) old new
       → Gains (IsTouched c) (IsNeedServedBy c number (version_of false q)) old new
   changed_added q id old new same changed g =
-      gains_as (IsNeedServedBy c number (version_of false q)) (IsNeedServedBy c number (version_of false q)) (IsTouched c) (IsNeedServedBy c number (version_of false q)) old new
+      gains_as (IsNeedServedBy c number (version_of false q)) (IsNeedServedBy c number (version_of false q)) (IsTouched c)
+      (IsNeedServedBy c number (version_of false q)) old new
       (served_touched (version_of false q) changed) (λ n w. w) (subst (λ v. Gains (IsNeedServedBy c number v) (IsNeedServedBy c number v) old new) same g)
 
   pub cell_gains : (q : CellId) (old middle new : List Need) → Gains (IsTouched c) (IsNeedBesideOld c number (version_of true q)) old middle
       → Gains (IsTouched c) (IsNeedServedBy c number (version_of false q)) middle new
       → Gains (IsTouched c) (IsNeedAt c number q) old new
-  cell_gains q old middle new g h = gains_both (IsTouched c) (IsNeedBesideOld c number (version_of true q)) (IsNeedServedBy c number (version_of false q)) (IsNeedAt c number q) old middle new (λ n w. w) g h
+  cell_gains q old middle new g h = gains_both (IsTouched c) (IsNeedBesideOld c number (version_of true q)) (IsNeedServedBy c number (version_of false q))
+      (IsNeedAt c number q) old middle new (λ n w. w) g h
 
   -- ---- the cells of a rule
 
   pub no_cell_yet : (cells : List CellId) (needs : List Need) → Gains (IsTouched c) (IsNeedAtCells c number (take 0 cells)) needs needs
   no_cell_yet cells needs = gains_none (IsTouched c) (IsNeedAtCells c number (take 0 cells)) needs (λ n w. none_taken cells w.0 w.1)
 
-  pub one_cell_more : (cells : List CellId) (k : ℕ) (d : CellId) (old middle new : List Need) → k < length cells → Gains (IsTouched c) (IsNeedAtCells c number (take k cells)) old middle
+  pub one_cell_more : (cells : List CellId) (k : ℕ) (d : CellId) (old middle new : List Need) → k < length cells
+      → Gains (IsTouched c) (IsNeedAtCells c number (take k cells)) old middle
       → Gains (IsTouched c) (IsNeedAt c number (get_or cells k d)) middle new
       → Gains (IsTouched c) (IsNeedAtCells c number (take (k + 1) cells)) old new
   one_cell_more cells k d old middle new less g h =
-      gains_both (IsTouched c) (IsNeedAtCells c number (take k cells)) (IsNeedAt c number (get_or cells k d)) (IsNeedAtCells c number (take (k + 1) cells)) old middle new split g h
+      gains_both (IsTouched c) (IsNeedAtCells c number (take k cells)) (IsNeedAt c number (get_or cells k d)) (IsNeedAtCells c number (take (k + 1) cells)) old
+      middle new split g h
     where
       split : (n : Need) → IsNeedAtCells c number (take (k + 1) cells) n → IsNeedAtCells c number (take k cells) n ⊎ IsNeedAt c number (get_or cells k d) n
       split n w = by (one_more cells k d w.0 less w.1)
@@ -305,7 +344,8 @@ module _ (rules : List Rule) (root : Content) (sets : List Changes) where
     inl (or_left n.first.fresh (is_fresh n.second) (ap (λ (x : VersionId). x.fresh) w.need.first ∙ found.alike u h)),
   )
 
-  pub rule_gains : (number : ℕ) (cells : List CellId) (k : ℕ) (fresh : List Version) (old middle new : List Need) → cells ≡ changed_cells sets → length cells ≤ k
+  pub rule_gains : (number : ℕ) (cells : List CellId) (k : ℕ) (fresh : List Version) (old middle new : List Need) → cells ≡ changed_cells sets
+      → length cells ≤ k
       → Finds s true (IsInCells (changed_cells sets)) fresh
       → Gains (IsTouched s) (IsNeedAtCells s number (take k cells)) old middle
       → Gains (IsNeedOfTwo rules number fresh) (IsNeedOfTwo rules number fresh) middle new
@@ -328,9 +368,11 @@ module _ (rules : List Rule) (root : Content) (sets : List Changes) where
   pub no_rule_yet : (needs : List Need) → Gains (IsTouched s) (IsTouchedBelow 0) needs needs
   no_rule_yet needs = gains_none (IsTouched s) (IsTouchedBelow 0) needs (λ n w. let less = w.below in omega (arith, less))
 
-  pub one_rule_more : (number : ℕ) (old middle new : List Need) → Gains (IsTouched s) (IsTouchedBelow number) old middle → Gains (IsTouched s) (IsTouchedOf s number) middle new
+  pub one_rule_more : (number : ℕ) (old middle new : List Need) → Gains (IsTouched s) (IsTouchedBelow number) old middle
+      → Gains (IsTouched s) (IsTouchedOf s number) middle new
       → Gains (IsTouched s) (IsTouchedBelow (number + 1)) old new
-  one_rule_more number old middle new g h = gains_both (IsTouched s) (IsTouchedBelow number) (IsTouchedOf s number) (IsTouchedBelow (number + 1)) old middle new split g h
+  one_rule_more number old middle new g h = gains_both (IsTouched s) (IsTouchedBelow number) (IsTouchedOf s number) (IsTouchedBelow (number + 1)) old middle new
+      split g h
     where
       split : (n : Need) → IsTouchedBelow (number + 1) n → IsTouchedBelow number n ⊎ IsTouchedOf s number n
       split n w = elim (cases_lt n.rule number) [
@@ -339,7 +381,8 @@ module _ (rules : List Rule) (root : Content) (sets : List Changes) where
       ]
 
   -- all of them, added to an empty list
-  pub all_touched : (number : ℕ) (empty new : List Need) → length rules ≤ number → empty ≡ [] → Gains (IsTouched s) (IsTouchedBelow number) empty new → (n : Need) → Contains new n ↔ IsTouched s n
+  pub all_touched : (number : ℕ) (empty new : List Need) → length rules ≤ number → empty ≡ [] → Gains (IsTouched s) (IsTouchedBelow number) empty new
+      → (n : Need) → Contains new n ↔ IsTouched s n
   all_touched number empty new past none g n = (λ h. only (g.only n h), λ t. g.every n (record { touched = t; below = below t }))
     where
       only : Contains empty n ⊎ IsTouched s n → IsTouched s n

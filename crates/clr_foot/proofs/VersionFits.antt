@@ -33,7 +33,8 @@ module _ (c : Setting ℕ) (fits : FitsSetting c) where
   fit_two v w x y at at_too is is_too =
       together (x ∷ y ∷ []) (All-cons Fits x (y ∷ []) (fits_cell v x at is) (All-cons Fits y [] (fits_cell w y at_too is_too) (All-nil Fits)))
 
-  pub fit_three : (v w : Version) (u : Option Version) (x y : Held) (z : Option Held) → IsAt c v → IsAt c w → IsAtToo c u → x ≡ row_of v → y ≡ row_of w → z ≡ option_map row_of u
+  pub fit_three : (v w : Version) (u : Option Version) (x y : Held) (z : Option Held) → IsAt c v → IsAt c w → IsAtToo c u → x ≡ row_of v → y ≡ row_of w → z
+      ≡ option_map row_of u
       → FitTogether c.rules (x ∷ y ∷ option_to_list z)
   fit_three v w u x y z at at_too at_third is is_too is_third =
       let rest = All-cons Fits y (option_to_list z) (fits_cell w y at_too is_too) (fits_too u z at_third is_third) in
@@ -43,4 +44,9 @@ module _ (c : Setting ℕ) (fits : FitsSetting c) where
 pub fit_new_rows : (rules : List Rule) (root : Content) (sets : List Changes) → FitsSetting (setting rules root sets) → FitNewRows rules sets
 unfolding version
 fit_new_rows rules root sets fits q l is =
-    record { tables = fits.tables; book = fits.book; each = All-cons (FitsCell fits.tables) (q, l.row) [] (fits.each (version_of true q) l is) (All-nil (FitsCell fits.tables)) }
+    record {
+      tables = fits.tables;
+      book = fits.book;
+      each = All-cons (FitsCell fits.tables) (q, l.row) [] (fits.each (version_of true q) l is)
+          (All-nil (FitsCell fits.tables));
+    }

@@ -30,7 +30,8 @@ module _ (c : Setting ℕ) (fresh : Bool) (cells : List CellId) where
     every = λ q l is h. absurd (none_taken cells q h);
   }
 
-  pub one_found : (k : ℕ) (d : CellId) (v : Version) (old new : List Version) → k < length cells → IsNamed c (version_of fresh (get_or cells k d)) v → new ≡ old ++ v ∷ [] → FindsTo k old → FindsTo (k + 1) new
+  pub one_found : (k : ℕ) (d : CellId) (v : Version) (old new : List Version) → k < length cells → IsNamed c (version_of fresh (get_or cells k d)) v → new ≡ old
+      ++ v ∷ [] → FindsTo k old → FindsTo (k + 1) new
   one_found k d v old new less named put before = record {
     are = λ w h. are w (split w h);
     alike = λ w h. alike w (split w h);
@@ -62,19 +63,26 @@ module _ (c : Setting ℕ) (fresh : Bool) (cells : List CellId) where
       still : (id : VersionId) → HasVersion old id → HasVersion new id
       still id (w, h, e) = (w, subst (λ vs. Contains vs w) (sym put) (Contains-append_left old (v ∷ []) w h), e)
 
-      every : (q : CellId) (l : Lived ℕ) → version c (version_of fresh q) ≡ Some l → Contains (take k cells) q ⊎ (q ≡ get_or cells k d) → HasVersion new (version_of fresh q)
+      every : (q : CellId) (l : Lived ℕ) → version c (version_of fresh q) ≡ Some l → Contains (take k cells) q ⊎ (q ≡ get_or cells k d)
+          → HasVersion new (version_of fresh q)
       every q l is (inl h) = still (version_of fresh q) (before.every q l is h)
-      every q l is (inr e) =
-          (v, subst (λ vs. Contains vs v) (sym put) (Contains-append_right old (v ∷ []) v (contained v (v ∷ []) (inl refl))), named.0 ∙ ap (version_of fresh) (sym e))
+      every q l is (inr e) = (
+        v,
+        subst (λ vs. Contains vs v) (sym put) (Contains-append_right old (v ∷ []) v (contained v (v ∷ []) (inl refl))),
+        named.0
+            ∙ ap (version_of fresh) (sym e),
+      )
 
-  pub not_found : (k : ℕ) (d : CellId) (vs : List Version) → k < length cells → version c (version_of fresh (get_or cells k d)) ≡ None → FindsTo k vs → FindsTo (k + 1) vs
+  pub not_found : (k : ℕ) (d : CellId) (vs : List Version) → k < length cells → version c (version_of fresh (get_or cells k d)) ≡ None → FindsTo k vs
+      → FindsTo (k + 1) vs
   not_found k d vs less none before = record {
     are = before.are;
     alike = before.alike;
     every = λ q l is h. every q l is (one_more cells k d q less h);
   }
     where
-      every : (q : CellId) (l : Lived ℕ) → version c (version_of fresh q) ≡ Some l → Contains (take k cells) q ⊎ (q ≡ get_or cells k d) → HasVersion vs (version_of fresh q)
+      every : (q : CellId) (l : Lived ℕ) → version c (version_of fresh q) ≡ Some l → Contains (take k cells) q ⊎ (q ≡ get_or cells k d)
+          → HasVersion vs (version_of fresh q)
       every q l is (inl h) = before.every q l is h
       every q l is (inr e) = let clash : None ≡ Some l = sym none ∙ ap (λ p. version c (version_of fresh p)) (sym e) ∙ is in cc
 
@@ -82,12 +90,14 @@ module _ (c : Setting ℕ) (fresh : Bool) (cells : List CellId) where
   all_found k vs past h = record { are = h.are; alike = h.alike; every = λ q l is among. h.every q l is (all_taken cells k q past among) }
 
 -- what is wanted may be less
-pub finds_as : (c : Setting ℕ) (fresh : Bool) (wanted less : Held → Type 0) (vs : List Version) → ((q : CellId) (l : Lived ℕ) → version c (version_of fresh q) ≡ Some l → less (q, l.row) → wanted (q, l.row))
+pub finds_as : (c : Setting ℕ) (fresh : Bool) (wanted less : Held → Type 0) (vs : List Version) → ((q : CellId) (l : Lived ℕ) → version c (version_of fresh q)
+    ≡ Some l → less (q, l.row) → wanted (q, l.row))
     → Finds c fresh wanted vs → Finds c fresh less vs
 finds_as c fresh wanted less vs want h = record { are = h.are; alike = h.alike; every = λ q l is w. h.every q l is (want q l is w) }
 
 -- old ones and new ones
-pub finds_all : (c : Setting ℕ) (P : Held → Type 0) (old new all : List Version) → all ≡ old ++ new → Finds c false P old → Finds c true P new → FindsAll c P all
+pub finds_all : (c : Setting ℕ) (P : Held → Type 0) (old new all : List Version) → all ≡ old ++ new → Finds c false P old → Finds c true P new
+    → FindsAll c P all
 finds_all c P old new all put found found_too = record { are = are; every = every }
   where
     split : (v : Version) → Contains all v → Contains old v ⊎ Contains new v
@@ -127,15 +137,27 @@ module _ (rules : List Rule) (root : Content) (sets : List Changes) (servers : B
   unfolding version
   old_row q l is = (old_is c (changer c q) (c.root q) l is).0
 
-  pub old_found : (settled : Settled) (cells : List CellId) (vs : List Version) → IsSettledFor settled rules root → cells ≡ found_cells servers settled number (rule_spots rules number s)
+  pub old_cell_found : (settled : Settled) (q : CellId) (l : Lived ℕ) → IsSettledFor settled rules root → version c (version_of false q) ≡ Some l
+      → IsNear servers rules number s (q, l.row)
+      → Contains (found_cells servers settled number (rule_spots rules number s)) q
+  old_cell_found settled q l holds is near =
+      found_near servers rules number s q l.row settled below (holds q ∙ ap (option_map (λ row. row_spots rules (q, row))) (old_row q l is)) near
+
+  pub new_cell_found : (settled : Settled) (q : CellId) (l : Lived ℕ) → AreNewRowsFiled settled rules sets → version c (version_of true q) ≡ Some l
+      → IsNear servers rules number s (q, l.row)
+      → Contains (found_cells servers settled number (rule_spots rules number s)) q
+  unfolding version
+  new_cell_found settled q l holds is near =
+      found_near servers rules number s q l.row settled below (holds q ∙ ap (option_map (λ (m : Lived ℕ). row_spots rules (q, m.row))) is) near
+
+  pub old_found : (settled : Settled) (cells : List CellId) (vs : List Version) → IsSettledFor settled rules root → cells
+      ≡ found_cells servers settled number (rule_spots rules number s)
       → Finds c false (IsInCells cells) vs → Finds c false (IsNear servers rules number s) vs
   old_found settled cells vs holds are = finds_as c false (IsInCells cells) (IsNear servers rules number s) vs
-      (λ q l is near. subst (λ cs. Contains cs q) (sym are)
-      (found_near servers rules number s q l.row settled below (holds q ∙ ap (option_map (λ row. row_spots rules (q, row))) (old_row q l is)) near))
+      (λ q l is near. subst (λ cs. Contains cs q) (sym are) (old_cell_found settled q l holds is near))
 
-  pub new_found : (settled : Settled) (cells : List CellId) (vs : List Version) → AreNewRowsFiled settled rules sets → cells ≡ found_cells servers settled number (rule_spots rules number s)
+  pub new_found : (settled : Settled) (cells : List CellId) (vs : List Version) → AreNewRowsFiled settled rules sets → cells
+      ≡ found_cells servers settled number (rule_spots rules number s)
       → Finds c true (IsInCells cells) vs → Finds c true (IsNear servers rules number s) vs
-  unfolding version
   new_found settled cells vs holds are = finds_as c true (IsInCells cells) (IsNear servers rules number s) vs
-      (λ q l is near. subst (λ cs. Contains cs q) (sym are)
-      (found_near servers rules number s q l.row settled below (holds q ∙ ap (option_map (λ (m : Lived ℕ). row_spots rules (q, m.row))) is) near))
+      (λ q l is near. subst (λ cs. Contains cs q) (sym are) (new_cell_found settled q l holds is near))

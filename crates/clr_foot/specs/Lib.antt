@@ -1,5 +1,6 @@
 pub mod Candidates
 pub mod Changers
+pub mod FirstServers
 pub mod Gains
 pub mod Involvement
 pub mod NewPairs

@@ -10,6 +10,7 @@ ghost use Rattle.clr_foot.specs.Scenes.{IsReady, model_of, setting_in, setting_o
 ghost use Rattle.clr_needs.specs.Settings.{Lived, version};
 ghost use Rattle.clr_needs.specs.declared.needs.VersionId.{VersionId as Id};
 
+use crate::first_servers::Sought;
 use crate::scenes::Scene;
 use clr_finders::RowFinder;
 use clr_needs::{Life, Need, VersionId};
@@ -40,7 +41,7 @@ fn broken_of(need: &Need) -> Broken
 
 impl<V: RowView, F: RowFinder> Scene<'_, V, F> {
     /// Whether the version of a name stands after the merge.
-    fn is_living_at(&self, id: VersionId) -> bool
+    pub(crate) fn is_living_at(&self, id: VersionId) -> bool
         ensures { result ≡ is_living_at (version (setting_in V.content self.now) id) }
     {
         match self.version(id) {
@@ -79,6 +80,9 @@ impl<V: RowView, F: RowFinder> Scene<'_, V, F> {
         ensures { IfOk result (IsJudged (setting_in V.content self.now) need.now) }
     {
         if !self.are_living(need) {
+            return Ok(false);
+        }
+        if let Some(_) = self.early_server(need, Sought::Living)? {
             return Ok(false);
         }
         let servers = self.servers(need)?;

@@ -30,7 +30,7 @@ pub(crate) fn are_opposed(first: Life, second: Life) -> bool
 
 impl<V: RowView, F: RowFinder> Scene<'_, V, F> {
     /// Whether the server, if one is given, serves what is asked of the subjects.
-    fn serves_if_any(
+    pub(crate) fn serves_if_any(
         &self,
         ask: Ask,
         first: Version,

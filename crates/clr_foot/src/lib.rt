@@ -17,7 +17,8 @@
 //!   subject of a possible need or take a version away that serves it.
 //! - `pick`, of a possible need: the least version that covers it alone; else, of the first member
 //!   that takes a serving version away and brings another, the least that goes and the least that
-//!   comes; none exactly where nothing covers the need.
+//!   comes; none exactly where nothing covers the need. The servers are looked at cell by cell, and
+//!   are all listed only where no witness stands among the first.
 //! - `independent`, of two members: whether no possible need, touched or not, involves both by the
 //!   life of a subject or of a version that serves; exact both ways, memory aside.
 //!   `needs_involving`, of one member: just the possible needs that involve it, ascending, each
@@ -34,6 +35,7 @@ mod blockers;
 mod breaks;
 mod candidates;
 mod changers;
+mod first_servers;
 mod independence;
 mod involvement;
 mod members;

@@ -4,7 +4,8 @@
 ghost use Rattle.std.specs.Prelude.{◌≡◌, ◌<◌, ◌+◌, length, slice_get, MatchOption, None, Some, OnOk};
 ghost use Rattle.clr_foot.specs.Candidates.{IsNeedAmong, IsNeedOfPair};
 ghost use Rattle.clr_foot.specs.Gains.{Gains, OfSome};
-ghost use Rattle.clr_foot.specs.NewPairs.{AreFiledBefore, IsNeedAtPosition, IsNeedOfEntry, IsNeedOfParts, IsNeedOfTwo, IsNeedWithBefore, IsNeedWithPart, with_part};
+ghost use Rattle.clr_foot.specs.NewPairs.{AreFiledBefore, IsNeedAtPosition, IsNeedOfEntry, IsNeedOfParts, IsNeedOfTwo};
+ghost use Rattle.clr_foot.specs.NewPairs.{IsNeedWithBefore, IsNeedWithPart, with_part};
 ghost use Rattle.clr_foot.specs.Scenes.{setting_in};
 ghost use Rattle.clr_foot.specs.Versions.{AreAt, FitsSetting, IsAt, row_of};
 

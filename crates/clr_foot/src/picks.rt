@@ -8,7 +8,7 @@ ghost use Rattle.clr_needs.specs.Picks.{Picks};
 ghost use Rattle.clr_foot.specs.Scenes.{IsReady, model_of, setting_in, setting_of};
 ghost use Rattle.clr_needs.specs.Witnesses.{IsFirstPair, IsLeastPassing, IsPairOf, lasts_at};
 
-use crate::blockers::are_same;
+use crate::first_servers::Sought;
 use crate::scenes::Scene;
 use clr_finders::RowFinder;
 use clr_needs::{Life, Need, VersionId};
@@ -16,18 +16,6 @@ use clr_rows::RowView;
 use std::alloc::AllocError;
 
 impl<V: RowView, F: RowFinder> Scene<'_, V, F> {
-    /// Whether the version of a name lives always, or as long as a subject of a possible need.
-    fn is_lasting(&self, need: &Need, id: VersionId) -> bool
-        ensures { result ≡ lasts_at (setting_in V.content self.now) need.now id }
-    {
-        match self.version(id) {
-            None => false,
-            Some(version) => {
-                are_same(version.life, Life::Always) || self.has_subject_with(need, version.life)
-            }
-        }
-    }
-
     /// The least of some ascending versions that lives always, or as long as a subject of a
     /// possible need.
     fn least_lasting(&self, need: &Need, ids: &[VersionId]) -> Option<VersionId>
@@ -89,6 +77,9 @@ impl<V: RowView, F: RowFinder> Scene<'_, V, F> {
         requires possible { IsPossibleNeed (setting_of (model_of V.content self.now)) need.now }
         ensures { IfOk result (Picks (setting_of (model_of V.content self.now)) need.now) }
     {
+        if let Some(witness) = self.early_server(need, Sought::Lasting)? {
+            return Ok(Some((witness, None)));
+        }
         let servers = self.servers(need)?;
         Ok(self.pick_of(need, servers.as_slice()))
     }

@@ -36,7 +36,8 @@ some_lines f fs =
     append_assoc (line_of f) (codes ",") (flat_map next_text fs) ∙ ap (λ t. line_of f ++ t) (commas_move fs)
     ∙ sym (append_assoc (line_of f) (flat_map (after_comma line_of) fs) (codes ","))
 
-pub last_comma_goes : (system : Option ℕ) (features : List Feature) → without_comma (begun_text system features) ≡ head_text system ++ with_commas line_of features
+pub last_comma_goes : (system : Option ℕ) (features : List Feature) → without_comma (begun_text system features) ≡ head_text system
+    ++ with_commas line_of features
 last_comma_goes system [] = ap without_comma (append-nil (head_text system)) ∙ head_stays system ∙ sym (append-nil (head_text system))
 last_comma_goes system (f ∷ fs) =
     ap without_comma (ap (λ t. head_text system ++ t) (some_lines f fs) ∙ sym (append_assoc (head_text system) (with_commas line_of (f ∷ fs)) (codes ",")))

@@ -48,7 +48,7 @@ fn add_feature_text(text: &mut Vec<u8>, feature: &Feature) -> Result<(), AllocEr
 }
 
 /// Returns the beginning of a collection, without features yet. The system of coordinates is given by its number in the register of EPSG; where
-/// none is given, the text says nothing of it. Fails for want of memory alone.
+/// none is given, the text says nothing of it.
 pub fn begin_collection(alloc: Global, system: Option<u32>) -> Result<Vec<u8>, AllocError>
     ensures { IfOk result (λ text. text.items ≡ head_text system) }
 {
@@ -76,7 +76,7 @@ fn drop_comma(text: &mut Vec<u8>)
     }
 }
 
-/// Returns the whole text of a collection that was begun. Fails for want of memory alone.
+/// Returns the whole text of a collection that was begun.
 pub fn end_collection(mut text: Vec<u8>) -> Result<Vec<u8>, AllocError>
     ensures { IfOk result (λ whole. (system : Option ℕ) (features : List OneFeature)
         → text.items ≡ begun_text system features → whole.items ≡ collection_text system features) }

@@ -23,32 +23,32 @@ pub struct Property {
 }
 
 impl Property {
-    /// Returns a property that says a text. Fails for want of memory alone.
+    /// Returns a property that says a text.
     pub fn text(alloc: Global, name: &str, text: &str) -> Result<Property, AllocError>
         ensures { IfOk result (λ property. property ≡ text_property name.now text.now) }
     {
         Ok(Property {
-            name: Words::new(String::from_str(alloc, name)?),
-            value: PropertyValue::Text(Words::new(String::from_str(alloc, text)?)),
+            name: Words::from_str(alloc, name)?,
+            value: PropertyValue::Text(Words::from_str(alloc, text)?),
         })
     }
 
-    /// Returns a property that says a whole number. Fails for want of memory alone.
+    /// Returns a property that says a whole number.
     pub fn number(alloc: Global, name: &str, number: i64) -> Result<Property, AllocError>
         ensures { IfOk result (λ property. property ≡ number_property name.now number) }
     {
         Ok(Property {
-            name: Words::new(String::from_str(alloc, name)?),
+            name: Words::from_str(alloc, name)?,
             value: PropertyValue::Number(number),
         })
     }
 
-    /// Returns a property that says yes or no. Fails for want of memory alone.
+    /// Returns a property that says yes or no.
     pub fn flag(alloc: Global, name: &str, flag: bool) -> Result<Property, AllocError>
         ensures { IfOk result (λ property. property ≡ flag_property name.now flag) }
     {
         Ok(Property {
-            name: Words::new(String::from_str(alloc, name)?),
+            name: Words::from_str(alloc, name)?,
             value: PropertyValue::Flag(flag),
         })
     }

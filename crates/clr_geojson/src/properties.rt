@@ -58,7 +58,7 @@ fn add_further(text: &mut Vec<u8>, properties: &[Property]) -> Result<(), AllocE
     Ok(())
 }
 
-/// Adds properties, with commas between them. Fails for want of memory alone.
+/// Adds properties, with commas between them.
 #[tactic(auto, unfolding(crate::specs::Features::properties_text))]
 pub(crate) fn add_properties(text: &mut Vec<u8>, properties: &[Property]) -> Result<(), AllocError>
     ensures { OnOk result (text.new.items ≡ text.old.items ++ properties_text properties.now) }

@@ -69,7 +69,7 @@ fn add_line(text: &mut Vec<u8>, places: &[Place]) -> Result<(), AllocError>
     text.extend_from_slice(b"]}")
 }
 
-/// Adds a shape as a geometry, in metres. Fails for want of memory alone.
+/// Adds a shape as a geometry, in metres.
 #[tactic(auto, unfolding(crate::specs::Features::shape_text))]
 pub(crate) fn add_shape(text: &mut Vec<u8>, shape: &Shape) -> Result<(), AllocError>
     ensures { OnOk result (text.new.items ≡ text.old.items ++ shape_text shape.now) }

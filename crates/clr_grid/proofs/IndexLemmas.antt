@@ -32,7 +32,8 @@ filed_append (y ∷ ys) x zero serves k q e = e
 filed_append (y ∷ ys) x (suc n) serves k q e = filed_append ys x n serves k q e
 
 -- one index that is changed
-pub filed_set : (xs : List RuleIndex) (m : ℕ) (old new : RuleIndex) (n : ℕ) (b : Bool) (k : Key) (q : CellId) → m < length xs → old ≡ get_or xs m old → (n ≡ m → is_filed (side_of old b) k q ≡ true → is_filed (side_of new b) k q ≡ true)
+pub filed_set : (xs : List RuleIndex) (m : ℕ) (old new : RuleIndex) (n : ℕ) (b : Bool) (k : Key) (q : CellId) → m < length xs → old ≡ get_or xs m old
+    → (n ≡ m → is_filed (side_of old b) k q ≡ true → is_filed (side_of new b) k q ≡ true)
     → is_filed_under xs n b k q ≡ true → is_filed_under (set xs m new) n b k q ≡ true
 filed_set [] m old new n b k q less is step e = absurd (false≢true e)
 filed_set (y ∷ ys) zero old new zero b k q less is step e = step refl (subst (λ i. is_filed (side_of i b) k q ≡ true) (sym is) e)
@@ -40,7 +41,8 @@ filed_set (y ∷ ys) zero old new (suc n) b k q less is step e = e
 filed_set (y ∷ ys) (suc m) old new zero b k q less is step e = e
 filed_set (y ∷ ys) (suc m) old new (suc n) b k q less is step e = filed_set ys m old new n b k q (omega (arith, less)) is (λ same. step (ap suc same)) e
 
-pub set_filed : (xs : List RuleIndex) (m : ℕ) (new : RuleIndex) (b : Bool) (k : Key) (q : CellId) → m < length xs → is_filed (side_of new b) k q ≡ true → is_filed_under (set xs m new) m b k q ≡ true
+pub set_filed : (xs : List RuleIndex) (m : ℕ) (new : RuleIndex) (b : Bool) (k : Key) (q : CellId) → m < length xs → is_filed (side_of new b) k q ≡ true
+    → is_filed_under (set xs m new) m b k q ≡ true
 set_filed [] m new b k q less e = absurd (omega (arith, less))
 set_filed (y ∷ ys) zero new b k q less e = e
 set_filed (y ∷ ys) (suc m) new b k q less e = set_filed ys m new b k q (omega (arith, less)) e
@@ -53,16 +55,21 @@ append_only (y ∷ ys) x none zero serves k q e = e
 append_only (y ∷ ys) x none (suc n) serves k q e = append_only ys x none n serves k q e
 
 -- nothing more is filed than in one index that is changed
-pub set_only : {A : Type 0} (xs : List RuleIndex) (m : ℕ) (old new : RuleIndex) (n : ℕ) (b : Bool) (k : Key) (q : CellId) → m < length xs → old ≡ get_or xs m old
+pub set_only : {A : Type 0} (xs : List RuleIndex) (m : ℕ) (old new : RuleIndex) (n : ℕ) (b : Bool) (k : Key) (q : CellId) → m < length xs → old
+    ≡ get_or xs m old
     → (n ≡ m → is_filed (side_of new b) k q ≡ true → (is_filed (side_of old b) k q ≡ true) ⊎ A)
     → is_filed_under (set xs m new) n b k q ≡ true → (is_filed_under xs n b k q ≡ true) ⊎ A
 set_only [] m old new n b k q less is step e = absurd (omega (arith, less))
-set_only (y ∷ ys) zero old new zero b k q less is step e = elim (step refl e) [ inl before ↦ inl (subst (λ i. is_filed (side_of i b) k q ≡ true) is before) | inr more ↦ inr more ]
+set_only (y ∷ ys) zero old new zero b k q less is step e = elim (step refl e) [
+  | inl before ↦ inl (subst (λ i. is_filed (side_of i b) k q ≡ true) is before)
+  | inr more ↦ inr more
+]
 set_only (y ∷ ys) zero old new (suc n) b k q less is step e = inl e
 set_only (y ∷ ys) (suc m) old new zero b k q less is step e = inl e
 set_only (y ∷ ys) (suc m) old new (suc n) b k q less is step e = set_only ys m old new n b k q (omega (arith, less)) is (λ same. step (ap suc same)) e
 
-pub set_here : (xs : List RuleIndex) (m : ℕ) (new : RuleIndex) (b : Bool) (k : Key) (q : CellId) → m < length xs → is_filed_under (set xs m new) m b k q ≡ true → is_filed (side_of new b) k q ≡ true
+pub set_here : (xs : List RuleIndex) (m : ℕ) (new : RuleIndex) (b : Bool) (k : Key) (q : CellId) → m < length xs → is_filed_under (set xs m new) m b k q ≡ true
+    → is_filed (side_of new b) k q ≡ true
 set_here [] m new b k q less e = absurd (omega (arith, less))
 set_here (y ∷ ys) zero new b k q less e = e
 set_here (y ∷ ys) (suc m) new b k q less e = set_here ys m new b k q (omega (arith, less)) e
@@ -79,7 +86,8 @@ append_lean [] x lean all (suc n) index b e = absurd (cc)
 append_lean (y ∷ ys) x lean all zero index b e = all zero index b e
 append_lean (y ∷ ys) x lean all (suc n) index b e = append_lean ys x lean (λ m. all (suc m)) n index b e
 
-pub set_lean : (xs : List RuleIndex) (m : ℕ) (old new : RuleIndex) → old ≡ get_or xs m old → ((b : Bool) → HoldCells (side_of old b).by_spot → HoldCells (side_of new b).by_spot) → AllHoldCells xs → AllHoldCells (set xs m new)
+pub set_lean : (xs : List RuleIndex) (m : ℕ) (old new : RuleIndex) → old ≡ get_or xs m old → ((b : Bool) → HoldCells (side_of old b).by_spot
+    → HoldCells (side_of new b).by_spot) → AllHoldCells xs → AllHoldCells (set xs m new)
 set_lean [] m old new is step all n index b e = all n index b e
 set_lean (y ∷ ys) zero old new is step all zero index b e =
     let same : new ≡ index = cc in subst (λ (i : RuleIndex). HoldCells (side_of i b).by_spot) same (step b (all zero old b (ap Some (sym is))))
@@ -87,7 +95,8 @@ set_lean (y ∷ ys) zero old new is step all (suc n) index b e = all (suc n) ind
 set_lean (y ∷ ys) (suc m) old new is step all zero index b e = all zero index b e
 set_lean (y ∷ ys) (suc m) old new is step all (suc n) index b e = set_lean ys m old new is step (λ k. all (suc k)) n index b e
 
-pub sides_lean : (old new : RuleIndex) → (HoldCells old.servers.by_spot → HoldCells new.servers.by_spot) → (HoldCells old.others.by_spot → HoldCells new.others.by_spot)
+pub sides_lean : (old new : RuleIndex) → (HoldCells old.servers.by_spot → HoldCells new.servers.by_spot)
+    → (HoldCells old.others.by_spot → HoldCells new.others.by_spot)
     → (b : Bool) → HoldCells (side_of old b).by_spot → HoldCells (side_of new b).by_spot
 sides_lean old new servers others true = servers
 sides_lean old new servers others false = others
@@ -133,7 +142,8 @@ stays_kept cell q y (At x) e = nand (is_one cell q) (list_any (has_number x) y.s
 
 -- where the rows stay, but for one cell whose row is kept, they stay filed
 pub filed_kept : (rows rows' : Rows) (cell : CellId) (kept : RowOrNone) (xs ys : List RuleIndex) → AreFiled rows xs → StayFiledBut cell kept xs ys
-    → ((q : CellId) (row : List RuleSpots) → IsRowAt rows' q row → IsRowAt rows q row) → ((row : List RuleSpots) → IsRowAt rows' cell row → kept ≡ Some row) → AreFiled rows' ys
+    → ((q : CellId) (row : List RuleSpots) → IsRowAt rows' q row → IsRowAt rows q row) → ((row : List RuleSpots) → IsRowAt rows' cell row → kept ≡ Some row)
+    → AreFiled rows' ys
 filed_kept rows rows' cell kept xs ys filed stay fewer same q row at number y k is key =
     stay number y.may_serve k q (go (is_one cell q) refl) (filed q row (fewer q row at) number y k is key)
   where
@@ -142,7 +152,8 @@ filed_kept rows rows' cell kept xs ys filed stay fewer same q row at number y k 
     go true one =
         let here : kept ≡ Some row = same row (subst (λ c. IsRowAt rows' c row) (sym (one_is cell q one)) at) in
         let of : spots_at kept number ≡ Some y = ap (λ o. spots_at o number) here ∙ is in
-        subst (λ o. stays cell o k q ≡ true) (sym (ap (of_side y.may_serve) of ∙ ap (λ b. cond b (Some y) None) (itself y.may_serve))) (stays_kept cell q y k key)
+        subst (λ o. stays cell o k q ≡ true) (sym (ap (of_side y.may_serve) of ∙ ap (λ b. cond b (Some y) None) (itself y.may_serve)))
+        (stays_kept cell q y k key)
 
 -- ---- one change less is pending
 gone : (b : Bool) (o : Option RowOrNone) (row : List RuleSpots) → cond b None o ≡ Some (Some row) → (b ≡ false) × (o ≡ Some (Some row))
@@ -153,7 +164,8 @@ was_pending : (o : Option RowOrNone) (row : List RuleSpots) → option_flatten o
 was_pending None row e = absurd (cc)
 was_pending (Some r) row e = ap Some e
 
-left_at : (rows : Rows) (cell q : CellId) (row : List RuleSpots) → finite.get (finite.remove rows.pending cell) q ≡ Some (Some row) → (eq_by_cmp cell_cmp q cell ≡ false) × (finite.get rows.pending q ≡ Some (Some row))
+left_at : (rows : Rows) (cell q : CellId) (row : List RuleSpots) → finite.get (finite.remove rows.pending cell) q ≡ Some (Some row)
+    → (eq_by_cmp cell_cmp q cell ≡ false) × (finite.get rows.pending q ≡ Some (Some row))
 left_at rows cell q row e = gone (eq_by_cmp cell_cmp q cell) (finite.get rows.pending q) row (sym (finite.get-remove cell_cmp_total rows.pending cell q) ∙ e)
 
 none_left : {A : Type 0} (rows : Rows) (cell : CellId) (row : List RuleSpots) → finite.get (finite.remove rows.pending cell) cell ≡ Some (Some row) → A
@@ -161,15 +173,18 @@ none_left rows cell row e = absurd (true≢false (sym (tied_self cell) ∙ (left
 
 pub settled_fewer : (rows : Rows) (cell q : CellId) (row : List RuleSpots) → IsRowAt (with_settled rows cell) q row → IsRowAt rows q row
 settled_fewer rows cell q row (inr e) = inr (left_at rows cell q row e).1
-settled_fewer rows cell q row (inl e) = go (eq_by_cmp cell_cmp q cell) refl (sym (get_set_at rows.settled cell (option_flatten (finite.get rows.pending cell)) q) ∙ e)
+settled_fewer rows cell q row (inl e) = go (eq_by_cmp cell_cmp q cell) refl
+    (sym (get_set_at rows.settled cell (option_flatten (finite.get rows.pending cell)) q) ∙ e)
   where
-    go : (b : Bool) → eq_by_cmp cell_cmp q cell ≡ b → cond b (option_flatten (finite.get rows.pending cell)) (finite.get rows.settled q) ≡ Some row → IsRowAt rows q row
+    go : (b : Bool) → eq_by_cmp cell_cmp q cell ≡ b → cond b (option_flatten (finite.get rows.pending cell)) (finite.get rows.settled q) ≡ Some row
+        → IsRowAt rows q row
     go true tie h =
         let same : q ≡ cell = cell_cmp_exact q cell ((Equal-is (cell_cmp q cell)).0 tie) in
         inr (ap (λ c. finite.get rows.pending c) same ∙ was_pending (finite.get rows.pending cell) row h)
     go false tie h = inl h
 
-pub settled_same : (rows : Rows) (cell : CellId) (kept : RowOrNone) (row : List RuleSpots) → kept ≡ finite.get (with_settled rows cell).settled cell → IsRowAt (with_settled rows cell) cell row → kept ≡ Some row
+pub settled_same : (rows : Rows) (cell : CellId) (kept : RowOrNone) (row : List RuleSpots) → kept ≡ finite.get (with_settled rows cell).settled cell
+    → IsRowAt (with_settled rows cell) cell row → kept ≡ Some row
 settled_same rows cell kept row is (inl e) = is ∙ e
 settled_same rows cell kept row is (inr e) = none_left rows cell row e
 
@@ -177,7 +192,8 @@ pub left_fewer : (rows : Rows) (cell q : CellId) (row : List RuleSpots) → IsRo
 left_fewer rows cell q row (inl e) = inl e
 left_fewer rows cell q row (inr e) = inr (left_at rows cell q row e).1
 
-pub left_same : (rows : Rows) (cell : CellId) (kept : RowOrNone) (row : List RuleSpots) → kept ≡ finite.get rows.settled cell → IsRowAt (without_pending rows cell) cell row → kept ≡ Some row
+pub left_same : (rows : Rows) (cell : CellId) (kept : RowOrNone) (row : List RuleSpots) → kept ≡ finite.get rows.settled cell
+    → IsRowAt (without_pending rows cell) cell row → kept ≡ Some row
 left_same rows cell kept row is (inl e) = is ∙ e
 left_same rows cell kept row is (inr e) = none_left rows cell row e
 
@@ -188,45 +204,62 @@ number_listed z ys e =
     any_by (has_number (number_of z)) w ys among (subst (λ v. has_number (number_of z) v ≡ true) (same_spot_is z w same) (number_itself (number_of z)))
 
 -- ---- what is met is near
-pub met_near : (rows : Rows) (indexes : List RuleIndex) (servers : Bool) (x : RuleSpots) (number : ℕ) (cells : List CellId) → AreFiled rows indexes → AreNear indexes servers number x cells
-    → (q : CellId) → is_met_at servers x number (finite.get rows.settled q) ≡ true → is_one_of cells q ≡ true
+-- each cell of which P holds where it is looked at
+abbrev pub HoldsNear : (CellId → Type 0) → List RuleIndex → Bool → ℕ → RuleSpots → Type 0
+HoldsNear P indexes servers number x = (serves : Bool) (k : Key) (q : CellId) → (servers ≡ true → serves ≡ true) → is_looked_at x k ≡ true
+    → is_filed_under indexes number serves k q ≡ true → P q
+
+pub met_holds : (P : CellId → Type 0) (rows : Rows) (indexes : List RuleIndex) (servers : Bool) (x : RuleSpots) (number : ℕ) → AreFiled rows indexes
+    → HoldsNear P indexes servers number x
+    → (q : CellId) → is_met_at servers x number (finite.get rows.settled q) ≡ true → P q
 unfolding are_meeting
-met_near rows indexes servers x number cells filed near q met = row (finite.get rows.settled q) refl met
+met_holds P rows indexes servers x number filed near q met = row (finite.get rows.settled q) refl met
   where
     sides : (y : RuleSpots) → (not servers || y.may_serve) ≡ true → servers ≡ true → y.may_serve ≡ true
     sides y e s = sym (λ i. not (s i) || y.may_serve) ∙ e
 
-    by_spots : (ys : List RuleSpots) (y : RuleSpots) → finite.get rows.settled q ≡ Some ys → slice_get ys number ≡ Some y → are_meeting x y ≡ true → (not servers || y.may_serve) ≡ true → is_one_of cells q ≡ true
+    by_spots : (ys : List RuleSpots) (y : RuleSpots) → finite.get rows.settled q ≡ Some ys → slice_get ys number ≡ Some y → are_meeting x y ≡ true
+        → (not servers || y.may_serve) ≡ true → P q
     by_spots ys y at of e s =
-        let found : (k : Key) → is_looked_at x k ≡ true → has_key y k ≡ true → is_one_of cells q ≡ true = λ k looked key. near y.may_serve k q (sides y s) looked (filed q ys (inl at) number y k of key) in
+        let found : (k : Key) → is_looked_at x k ≡ true → has_key y k ≡ true → P q = λ k looked key. near y.may_serve k q (sides y s) looked (filed q ys (inl at) number y k of key) in
         let p = and_parts x.has_role _ e in
         let r = and_parts y.has_role _ p.1 in
         elim (or_cases (x.spots.wide || y.spots.wide) (have_common_spot x.spots.list y.spots.list) r.1) [
           | inl wide ↦ (elim (or_cases x.spots.wide y.spots.wide wide) [ inl one ↦ found All one r.0 | inr other ↦ found Wide p.0 other ])
           | inr common ↦ (let (z, among, has) = some_of (λ z. list_any (same_spot z) y.spots.list) x.spots.list common in
-              found (At (number_of z)) (any_by (has_number (number_of z)) z x.spots.list among (number_itself (number_of z))) (number_listed z y.spots.list has))
+              found (At (number_of z)) (any_by (has_number (number_of z)) z x.spots.list among (number_itself (number_of z)))
+              (number_listed z y.spots.list has))
         ]
 
-    one : (ys : List RuleSpots) (o : Option RuleSpots) → finite.get rows.settled q ≡ Some ys → slice_get ys number ≡ o → is_met servers x o ≡ true → is_one_of cells q ≡ true
+    one : (ys : List RuleSpots) (o : Option RuleSpots) → finite.get rows.settled q ≡ Some ys → slice_get ys number ≡ o → is_met servers x o ≡ true → P q
     one ys None at of e = absurd (false≢true e)
     one ys (Some y) at of e = let p = and_parts (are_meeting x y) _ e in by_spots ys y at of p.0 p.1
 
-    row : (o : RowOrNone) → finite.get rows.settled q ≡ o → is_met_at servers x number o ≡ true → is_one_of cells q ≡ true
+    row : (o : RowOrNone) → finite.get rows.settled q ≡ o → is_met_at servers x number o ≡ true → P q
     row None at e = absurd (false≢true e)
     row (Some ys) at e = one ys (slice_get ys number) at refl e
+
+pub met_near : (rows : Rows) (indexes : List RuleIndex) (servers : Bool) (x : RuleSpots) (number : ℕ) (cells : List CellId) → AreFiled rows indexes
+    → AreNear indexes servers number x cells
+    → (q : CellId) → is_met_at servers x number (finite.get rows.settled q) ≡ true → is_one_of cells q ≡ true
+met_near rows indexes servers x number cells filed near = met_holds (λ q. is_one_of cells q ≡ true) rows indexes servers x number filed near
 
 -- ---- the rows of a finder
 pub none_filed : (rows : Rows) (xs : List RuleIndex) → rows ≡ no_rows → AreFiled rows xs
 none_filed rows xs is q ys (inl e) = absurd (cc (ap (λ (r : Rows). finite.get r.settled q) is, finite.get-empty {X = List RuleSpots} cell_cmp q))
 none_filed rows xs is q ys (inr e) = absurd (cc (ap (λ (r : Rows). finite.get r.pending q) is, finite.get-empty {X = RowOrNone} cell_cmp q))
 
-pub filed_settled : (rows rows' : Rows) (cell : CellId) (kept : RowOrNone) (xs ys : List RuleIndex) → AreFiled rows xs → StayFiledBut cell kept xs ys → rows' ≡ with_settled rows cell → kept ≡ finite.get rows'.settled cell → AreFiled rows' ys
+pub filed_settled : (rows rows' : Rows) (cell : CellId) (kept : RowOrNone) (xs ys : List RuleIndex) → AreFiled rows xs → StayFiledBut cell kept xs ys → rows'
+    ≡ with_settled rows cell → kept ≡ finite.get rows'.settled cell → AreFiled rows' ys
 filed_settled rows rows' cell kept xs ys filed stay is same = subst (λ (r : Rows). AreFiled r ys) (sym is)
-    (filed_kept rows (with_settled rows cell) cell kept xs ys filed stay (settled_fewer rows cell) (λ row. settled_same rows cell kept row (same ∙ ap (λ (r : Rows). finite.get r.settled cell) is)))
+    (filed_kept rows (with_settled rows cell) cell kept xs ys filed stay (settled_fewer rows cell) (λ row. settled_same rows cell kept row (same
+    ∙ ap (λ (r : Rows). finite.get r.settled cell) is)))
 
-pub filed_left : (rows rows' : Rows) (cell : CellId) (kept : RowOrNone) (xs ys : List RuleIndex) → AreFiled rows xs → StayFiledBut cell kept xs ys → rows' ≡ without_pending rows cell → kept ≡ finite.get rows'.settled cell → AreFiled rows' ys
+pub filed_left : (rows rows' : Rows) (cell : CellId) (kept : RowOrNone) (xs ys : List RuleIndex) → AreFiled rows xs → StayFiledBut cell kept xs ys → rows'
+    ≡ without_pending rows cell → kept ≡ finite.get rows'.settled cell → AreFiled rows' ys
 filed_left rows rows' cell kept xs ys filed stay is same = subst (λ (r : Rows). AreFiled r ys) (sym is)
-    (filed_kept rows (without_pending rows cell) cell kept xs ys filed stay (left_fewer rows cell) (λ row. left_same rows cell kept row (same ∙ ap (λ (r : Rows). finite.get r.settled cell) is)))
+    (filed_kept rows (without_pending rows cell) cell kept xs ys filed stay (left_fewer rows cell) (λ row. left_same rows cell kept row (same
+    ∙ ap (λ (r : Rows). finite.get r.settled cell) is)))
 
 still_filed : (rows : Rows) (xs ys : List RuleIndex) → AreFiled rows xs → StayFiled xs ys → AreFiled rows ys
 still_filed rows xs ys filed stay q row at number y k is key = stay number y.may_serve k q (filed q row at number y k is key)
@@ -235,7 +268,8 @@ filed_row : (ys : List RuleIndex) (cell : CellId) (row : RowOrNone) (zs : List R
 filed_row ys cell None zs h e = absurd (cc)
 filed_row ys cell (Some us) zs h e = let same : us ≡ zs = cc in subst (IsFiled ys cell) same h
 
-pub filed_noted : (rows rows' : Rows) (cell : CellId) (row : RowOrNone) (xs ys : List RuleIndex) → AreFiled rows xs → StayFiled xs ys → IsFiledToo ys cell row → rows' ≡ with_pending rows cell row → AreFiled rows' ys
+pub filed_noted : (rows rows' : Rows) (cell : CellId) (row : RowOrNone) (xs ys : List RuleIndex) → AreFiled rows xs → StayFiled xs ys → IsFiledToo ys cell row
+    → rows' ≡ with_pending rows cell row → AreFiled rows' ys
 filed_noted rows rows' cell row xs ys filed stay here is = subst (λ (r : Rows). AreFiled r ys) (sym is) both
   where
     old : AreFiled rows ys
@@ -252,7 +286,8 @@ filed_noted rows rows' cell row xs ys filed stay here is = subst (λ (r : Rows).
             subst (λ c. IsFiled ys c zs) (sym same) (filed_row ys cell row zs here is_row)
         go false tie h = old q zs (inr h)
 
-pub filed_refused : (rows rows' : Rows) (cell : CellId) (kept : RowOrNone) (xs ys zs : List RuleIndex) → finite.get rows.pending cell ≡ None → AreFiled rows xs → StayFiled xs ys → StayFiledBut cell kept ys zs → rows' ≡ rows → kept ≡ finite.get rows'.settled cell → AreFiled rows' zs
+pub filed_refused : (rows rows' : Rows) (cell : CellId) (kept : RowOrNone) (xs ys zs : List RuleIndex) → finite.get rows.pending cell ≡ None → AreFiled rows xs
+    → StayFiled xs ys → StayFiledBut cell kept ys zs → rows' ≡ rows → kept ≡ finite.get rows'.settled cell → AreFiled rows' zs
 filed_refused rows rows' cell kept xs ys zs free filed stay but is same = subst (λ (r : Rows). AreFiled r zs) (sym is)
     (filed_kept rows rows cell kept ys zs (still_filed rows xs ys filed stay) but (λ q row at. at) here)
   where
@@ -261,11 +296,17 @@ filed_refused rows rows' cell kept xs ys zs free filed stay but is same = subst 
     here row (inr e) = absurd (cc)
 
 -- a change that is dropped again leaves the rows as they were
-pub dropped_again : (rows : Rows) (cell : CellId) (row : RowOrNone) → finite.get rows.pending cell ≡ None → without_pending (with_pending rows cell row) cell ≡ rows
-dropped_again rows cell row free = λ i. record { settled = rows.settled; pending = finite.same_map cell_cmp_total cell_cmp_exact (finite.remove (finite.insert rows.pending cell row) cell) rows.pending same i }
+pub dropped_again : (rows : Rows) (cell : CellId) (row : RowOrNone) → finite.get rows.pending cell ≡ None → without_pending (with_pending rows cell row) cell
+    ≡ rows
+dropped_again rows cell row free = λ i. record {
+  settled = rows.settled;
+  pending = finite.same_map cell_cmp_total cell_cmp_exact
+      (finite.remove (finite.insert rows.pending cell row) cell) rows.pending same i;
+}
   where
     same : (q : CellId) → finite.get (finite.remove (finite.insert rows.pending cell row) cell) q ≡ finite.get rows.pending q
-    same q = finite.get-remove cell_cmp_total (finite.insert rows.pending cell row) cell q ∙ ap (cond (eq_by_cmp cell_cmp q cell) None) (finite.get-insert cell_cmp_total rows.pending cell row q) ∙ go (eq_by_cmp cell_cmp q cell) refl
+    same q = finite.get-remove cell_cmp_total (finite.insert rows.pending cell row) cell q
+        ∙ ap (cond (eq_by_cmp cell_cmp q cell) None) (finite.get-insert cell_cmp_total rows.pending cell row q) ∙ go (eq_by_cmp cell_cmp q cell) refl
       where
         go : (b : Bool) → eq_by_cmp cell_cmp q cell ≡ b → cond b None (cond b (Some row) (finite.get rows.pending q)) ≡ finite.get rows.pending q
         go true tie = sym (ap (λ c. finite.get rows.pending c) (cell_cmp_exact q cell ((Equal-is (cell_cmp q cell)).0 tie)) ∙ free)
@@ -277,12 +318,14 @@ got_at [] n x less is = absurd (omega (arith, less))
 got_at (y ∷ ys) zero x less is = ap Some (sym is)
 got_at (y ∷ ys) (suc n) x less is = got_at ys n x (omega (arith, less)) is
 
-under_at : (row : List RuleSpots) (m : ℕ) (s : RuleSpots) (b : Bool) (k : Key) → slice_get row m ≡ Some s → has_key_under (Some row) m b k ≡ has_key_of (of_side b (Some s)) k
+under_at : (row : List RuleSpots) (m : ℕ) (s : RuleSpots) (b : Bool) (k : Key) → slice_get row m ≡ Some s → has_key_under (Some row) m b k
+    ≡ has_key_of (of_side b (Some s)) k
 under_at row m s b k at = ap (λ o. has_key_of (of_side b o) k) at
 
 -- nothing more is filed than the cell under one more rule
 pub gained_next : (xs ys zs : List RuleIndex) (cell : CellId) (row : List RuleSpots) (m : ℕ) (s : RuleSpots) → m < length row → s ≡ get_or row m s
-    → ((n : ℕ) (b : Bool) (k : Key) (q : CellId) → is_filed_under zs n b k q ≡ true → (is_filed_under ys n b k q ≡ true) ⊎ ((q ≡ cell) × ((n ≡ m) × (has_key_of (of_side b (Some s)) k ≡ true))))
+    → ((n : ℕ) (b : Bool) (k : Key) (q : CellId) → is_filed_under zs n b k q ≡ true → (is_filed_under ys n b k q ≡ true)
+    ⊎ ((q ≡ cell) × ((n ≡ m) × (has_key_of (of_side b (Some s)) k ≡ true))))
     → GainOnly cell (Some row) xs ys → GainOnly cell (Some row) xs zs
 gained_next xs ys zs cell row m s less at here before n b k q e = elim (here n b k q e) [
   | inl old ↦ before n b k q old
@@ -290,7 +333,8 @@ gained_next xs ys zs cell row m s less at here before n b k q e = elim (here n b
 ]
 
 -- the cell is gone under one more rule, but for a row that it keeps
-pub gone_next : (ys zs : List RuleIndex) (cell : CellId) (row : List RuleSpots) (kept : RowOrNone) (m : ℕ) (s : RuleSpots) → s ≡ get_or row m s → m < length row → GainNone ys zs
+pub gone_next : (ys zs : List RuleIndex) (cell : CellId) (row : List RuleSpots) (kept : RowOrNone) (m : ℕ) (s : RuleSpots) → s ≡ get_or row m s → m < length row
+    → GainNone ys zs
     → ((b : Bool) (k : Key) → has_key_of (of_side b (Some s)) k ≡ true → is_filed_under zs m b k cell ≡ true → has_key_under kept m b k ≡ true)
     → ((n : ℕ) (b : Bool) (k : Key) → n < m → has_key_under (Some row) n b k ≡ true → is_filed_under ys n b k cell ≡ true → has_key_under kept n b k ≡ true)
     → (n : ℕ) (b : Bool) (k : Key) → n < m + 1 → has_key_under (Some row) n b k ≡ true → is_filed_under zs n b k cell ≡ true → has_key_under kept n b k ≡ true
@@ -298,7 +342,8 @@ gone_next ys zs cell row kept m s at less fewer here before n b k up key e = eli
   | inl lower ↦ before n b k lower key (fewer n b k cell e)
   | inr not_lower ↦ (let same : n ≡ m = omega (arith, up, not_lower) in
       subst (λ j. has_key_under kept j b k ≡ true) (sym same)
-      (here b k (sym (under_at row m s b k (got_at row m s less at)) ∙ subst (λ j. has_key_under (Some row) j b k ≡ true) same key) (subst (λ j. is_filed_under zs j b k cell ≡ true) same e)))
+      (here b k (sym (under_at row m s b k (got_at row m s less at)) ∙ subst (λ j. has_key_under (Some row) j b k ≡ true) same key)
+      (subst (λ j. is_filed_under zs j b k cell ≡ true) same e)))
 ]
 
 -- a row has no key past its rules
@@ -308,22 +353,27 @@ none_under (y ∷ ys) zero b k less e = absurd (omega (arith, less))
 none_under (y ∷ ys) (suc n) b k less e = none_under ys n b k (omega (arith, less)) e
 
 -- the cell filed under one more rule
-pub filed_next : (xs ys : List RuleIndex) (cell : CellId) (row : List RuleSpots) (m : ℕ) (s : RuleSpots) → s ≡ get_or row m s → StayFiled xs ys → ((k : Key) → has_key s k ≡ true → is_filed_under ys m s.may_serve k cell ≡ true)
+pub filed_next : (xs ys : List RuleIndex) (cell : CellId) (row : List RuleSpots) (m : ℕ) (s : RuleSpots) → s ≡ get_or row m s → StayFiled xs ys
+    → ((k : Key) → has_key s k ≡ true → is_filed_under ys m s.may_serve k cell ≡ true)
     → ((n : ℕ) (y : RuleSpots) (k : Key) → n < m → slice_get row n ≡ Some y → has_key y k ≡ true → is_filed_under xs n y.may_serve k cell ≡ true)
     → (n : ℕ) (y : RuleSpots) (k : Key) → n < m + 1 → slice_get row n ≡ Some y → has_key y k ≡ true → is_filed_under ys n y.may_serve k cell ≡ true
 filed_next xs ys cell row m s at stay here before n y k less is key = elim (cases_lt n m) [
   | inl lower ↦ stay n y.may_serve k cell (before n y k lower is key)
   | inr not_lower ↦ (let same : n ≡ m = omega (arith, less, not_lower) in
       let s_is : y ≡ s = got row n y s is ∙ ap (λ j. get_or row j s) same ∙ sym at in
-      subst (λ j. is_filed_under ys j y.may_serve k cell ≡ true) (sym same) (subst (λ (z : RuleSpots). is_filed_under ys m z.may_serve k cell ≡ true) (sym s_is) (here k (subst (λ (z : RuleSpots). has_key z k ≡ true) s_is key))))
+      subst (λ j. is_filed_under ys j y.may_serve k cell ≡ true) (sym same) (subst (λ (z : RuleSpots). is_filed_under ys m z.may_serve k cell
+      ≡ true) (sym s_is) (here k (subst (λ (z : RuleSpots). has_key z k ≡ true) s_is key))))
 ]
 
-pub noted_row : (rows rows' : Rows) (cell : CellId) (row : RowOrNone) → rows' ≡ with_pending rows cell row → option_flatten (finite.get rows'.pending cell) ≡ row
+pub noted_row : (rows rows' : Rows) (cell : CellId) (row : RowOrNone) → rows' ≡ with_pending rows cell row → option_flatten (finite.get rows'.pending cell)
+    ≡ row
 noted_row rows rows' cell row is =
     ap (λ (r : Rows). option_flatten (finite.get r.pending cell)) is
-    ∙ ap option_flatten (finite.get-insert cell_cmp_total rows.pending cell row cell ∙ ap (λ b. cond b (Some row) (finite.get rows.pending cell)) (tied_self cell))
+    ∙ ap option_flatten (finite.get-insert cell_cmp_total rows.pending cell row cell
+    ∙ ap (λ b. cond b (Some row) (finite.get rows.pending cell)) (tied_self cell))
 
-pub noted_dropped : (rows noted left : Rows) (cell : CellId) (row : RowOrNone) → finite.get rows.pending cell ≡ None → noted ≡ with_pending rows cell row → left ≡ without_pending noted cell → left ≡ rows
+pub noted_dropped : (rows noted left : Rows) (cell : CellId) (row : RowOrNone) → finite.get rows.pending cell ≡ None → noted ≡ with_pending rows cell row → left
+    ≡ without_pending noted cell → left ≡ rows
 noted_dropped rows noted left cell row free is gone = gone ∙ ap (λ (r : Rows). without_pending r cell) is ∙ dropped_again rows cell row free
 
 -- ---- nothing else is filed
@@ -333,19 +383,23 @@ by_cell cell q same apart = elim (cases_Bool (eq_by_cmp cell_cmp q cell)) [
   | inr differ ↦ apart differ
 ]
 
-kept_row : (rows : Rows) (cell : CellId) (kept : RowOrNone) (n : ℕ) (b : Bool) (k : Key) → kept ≡ finite.get rows.settled cell → has_key_under kept n b k ≡ true → HasRowFor rows cell n b k
+kept_row : (rows : Rows) (cell : CellId) (kept : RowOrNone) (n : ℕ) (b : Bool) (k : Key) → kept ≡ finite.get rows.settled cell → has_key_under kept n b k ≡ true
+    → HasRowFor rows cell n b k
 kept_row rows cell None n b k is key = absurd (false≢true key)
 kept_row rows cell (Some row) n b k is key = record { row = row; stands = inl (sym is); wanted = key }
 
-noted_key : (rows : Rows) (cell : CellId) (row : RowOrNone) (n : ℕ) (b : Bool) (k : Key) → has_key_under row n b k ≡ true → HasRowFor (with_pending rows cell row) cell n b k
+noted_key : (rows : Rows) (cell : CellId) (row : RowOrNone) (n : ℕ) (b : Bool) (k : Key) → has_key_under row n b k ≡ true
+    → HasRowFor (with_pending rows cell row) cell n b k
 noted_key rows cell None n b k key = absurd (false≢true key)
 noted_key rows cell (Some row) n b k key = record {
   row = row;
-  stands = inr (finite.get-insert cell_cmp_total rows.pending cell (Some row) cell ∙ ap (λ t. cond t (Some (Some row)) (finite.get rows.pending cell)) (tied_self cell));
+  stands = inr (finite.get-insert cell_cmp_total rows.pending cell (Some row) cell
+      ∙ ap (λ t. cond t (Some (Some row)) (finite.get rows.pending cell)) (tied_self cell));
   wanted = key;
 }
 
-pub others_noted : (rows rows' : Rows) (cell : CellId) (row : RowOrNone) (xs ys : List RuleIndex) → finite.get rows.pending cell ≡ None → AreOfRows rows xs → GainOnly cell row xs ys → rows' ≡ with_pending rows cell row → AreOfRows rows' ys
+pub others_noted : (rows rows' : Rows) (cell : CellId) (row : RowOrNone) (xs ys : List RuleIndex) → finite.get rows.pending cell ≡ None → AreOfRows rows xs
+    → GainOnly cell row xs ys → rows' ≡ with_pending rows cell row → AreOfRows rows' ys
 others_noted rows rows' cell row xs ys free of gain is n b k q e = subst (λ (r : Rows). HasRowFor r q n b k) (sym is) (elim (gain n b k q e) [
   | inl old ↦ stays (of n b k q old)
   | inr new ↦ subst (λ c. HasRowFor (with_pending rows cell row) c n b k) (sym new.0) (noted_key rows cell row n b k new.1)
@@ -362,16 +416,20 @@ others_noted rows rows' cell row xs ys free of gain is n b k q e = subst (λ (r 
       }
     ]
 
-pub others_refused : (rows rows' : Rows) (cell : CellId) (row kept : RowOrNone) (xs ys zs : List RuleIndex) → AreOfRows rows xs → GainOnly cell row xs ys → GainNone ys zs → AreGone cell row kept zs
+pub others_refused : (rows rows' : Rows) (cell : CellId) (row kept : RowOrNone) (xs ys zs : List RuleIndex) → AreOfRows rows xs → GainOnly cell row xs ys
+    → GainNone ys zs → AreGone cell row kept zs
     → rows' ≡ rows → kept ≡ finite.get rows'.settled cell → AreOfRows rows' zs
 others_refused rows rows' cell row kept xs ys zs of gain fewer gone is same n b k q e = elim (gain n b k q (fewer n b k q e)) [
   | inl old ↦ subst (λ (r : Rows). HasRowFor r q n b k) (sym is) (of n b k q old)
-  | inr new ↦ subst (λ c. HasRowFor rows' c n b k) (sym new.0) (kept_row rows' cell kept n b k same (gone n b k new.1 (subst (λ c. is_filed_under zs n b k c ≡ true) new.0 e)))
+  | inr new ↦ subst (λ c. HasRowFor rows' c n b k) (sym new.0) (kept_row rows' cell kept n b k same (gone n b k new.1 (subst (λ c. is_filed_under zs n b k c
+      ≡ true) new.0 e)))
 ]
 
-pub others_settled : (rows rows' : Rows) (cell : CellId) (before kept : RowOrNone) (xs ys : List RuleIndex) → AreOfRows rows xs → GainNone xs ys → AreGone cell before kept ys
+pub others_settled : (rows rows' : Rows) (cell : CellId) (before kept : RowOrNone) (xs ys : List RuleIndex) → AreOfRows rows xs → GainNone xs ys
+    → AreGone cell before kept ys
     → before ≡ finite.get rows.settled cell → rows' ≡ with_settled rows cell → kept ≡ finite.get rows'.settled cell → AreOfRows rows' ys
-others_settled rows rows' cell before kept xs ys of fewer gone was is same n b k q e = subst (λ (r : Rows). HasRowFor r q n b k) (sym is) (go (of n b k q (fewer n b k q e)))
+others_settled rows rows' cell before kept xs ys
+    of fewer gone was is same n b k q e = subst (λ (r : Rows). HasRowFor r q n b k) (sym is) (go (of n b k q (fewer n b k q e)))
   where
     here : HasRowFor rows cell n b k → is_filed_under ys n b k cell ≡ true → HasRowFor (with_settled rows cell) cell n b k
     here h there = elim h.stands [
@@ -402,12 +460,15 @@ others_settled rows rows' cell before kept xs ys of fewer gone was is same n b k
 
     go : HasRowFor rows q n b k → HasRowFor (with_settled rows cell) q n b k
     go h = by_cell cell q
-        (λ tie. subst (λ c. HasRowFor (with_settled rows cell) c n b k) (sym tie) (here (subst (λ c. HasRowFor rows c n b k) tie h) (subst (λ c. is_filed_under ys n b k c ≡ true) tie e)))
+        (λ tie. subst (λ c. HasRowFor (with_settled rows cell) c n b k) (sym tie) (here (subst (λ c. HasRowFor rows c n b k) tie h)
+        (subst (λ c. is_filed_under ys n b k c ≡ true) tie e)))
         (λ differ. apart differ h)
 
-pub others_left : (rows rows' : Rows) (cell : CellId) (row kept : RowOrNone) (xs ys : List RuleIndex) → AreOfRows rows xs → GainNone xs ys → AreGone cell row kept ys
+pub others_left : (rows rows' : Rows) (cell : CellId) (row kept : RowOrNone) (xs ys : List RuleIndex) → AreOfRows rows xs → GainNone xs ys
+    → AreGone cell row kept ys
     → row ≡ option_flatten (finite.get rows.pending cell) → rows' ≡ without_pending rows cell → kept ≡ finite.get rows'.settled cell → AreOfRows rows' ys
-others_left rows rows' cell row kept xs ys of fewer gone was is same n b k q e = subst (λ (r : Rows). HasRowFor r q n b k) (sym is) (go (of n b k q (fewer n b k q e)))
+others_left rows rows' cell row kept xs ys
+    of fewer gone was is same n b k q e = subst (λ (r : Rows). HasRowFor r q n b k) (sym is) (go (of n b k q (fewer n b k q e)))
   where
     here : HasRowFor rows cell n b k → is_filed_under ys n b k cell ≡ true → HasRowFor (without_pending rows cell) cell n b k
     here h there = elim h.stands [
@@ -428,7 +489,8 @@ others_left rows rows' cell row kept xs ys of fewer gone was is same n b k q e =
 
     go : HasRowFor rows q n b k → HasRowFor (without_pending rows cell) q n b k
     go h = by_cell cell q
-        (λ tie. subst (λ c. HasRowFor (without_pending rows cell) c n b k) (sym tie) (here (subst (λ c. HasRowFor rows c n b k) tie h) (subst (λ c. is_filed_under ys n b k c ≡ true) tie e)))
+        (λ tie. subst (λ c. HasRowFor (without_pending rows cell) c n b k) (sym tie) (here (subst (λ c. HasRowFor rows c n b k) tie h)
+        (subst (λ c. is_filed_under ys n b k c ≡ true) tie e)))
         (λ differ. apart differ h)
 
 -- no index files nothing
@@ -436,7 +498,8 @@ pub none_other : (rows : Rows) (xs : List RuleIndex) → xs ≡ [] → AreOfRows
 none_other rows xs is n b k q e = absurd (false≢true (sym (ap (λ ys. is_filed_under ys n b k q) is) ∙ e))
 
 -- ---- one more settled row
-pub filed_put : (rows rows' : Rows) (cell : CellId) (row : List RuleSpots) (xs ys : List RuleIndex) → AreFiled rows xs → StayFiled xs ys → IsFiledToo ys cell (Some row) → rows' ≡ with_row rows cell row → AreFiled rows' ys
+pub filed_put : (rows rows' : Rows) (cell : CellId) (row : List RuleSpots) (xs ys : List RuleIndex) → AreFiled rows xs → StayFiled xs ys
+    → IsFiledToo ys cell (Some row) → rows' ≡ with_row rows cell row → AreFiled rows' ys
 filed_put rows rows' cell row xs ys filed stay here is = subst (λ (r : Rows). AreFiled r ys) (sym is) both
   where
     old : AreFiled rows ys
@@ -452,7 +515,8 @@ filed_put rows rows' cell row xs ys filed stay here is = subst (λ (r : Rows). A
             subst (λ c. IsFiled ys c zs) (sym same) (filed_row ys cell (Some row) zs here h)
         go false tie h = old q zs (inl h)
 
-pub others_put : (rows rows' : Rows) (cell : CellId) (row : List RuleSpots) (xs ys : List RuleIndex) → finite.get rows.settled cell ≡ None → AreOfRows rows xs → GainOnly cell (Some row) xs ys
+pub others_put : (rows rows' : Rows) (cell : CellId) (row : List RuleSpots) (xs ys : List RuleIndex) → finite.get rows.settled cell ≡ None → AreOfRows rows xs
+    → GainOnly cell (Some row) xs ys
     → rows' ≡ with_row rows cell row → AreOfRows rows' ys
 others_put rows rows' cell row xs ys free of gain is n b k q e = subst (λ (r : Rows). HasRowFor r q n b k) (sym is) (elim (gain n b k q e) [
   | inl old ↦ stays (of n b k q old)

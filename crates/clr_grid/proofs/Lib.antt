@@ -5,3 +5,4 @@ pub mod SpotLemmas
 pub mod FilingLemmas
 pub mod GainLemmas
 pub mod IndexLemmas
+pub mod NextLemmas

@@ -148,6 +148,9 @@ some_row (Some row) e = refl
 pub cell_listed : (es : List (CellId × RowOrNone)) (q : CellId) → is_some (finite.get (settled_of es) q) ≡ true → is_one_of (keys_of es) q ≡ true
 cell_listed es q e = sym (is_some-lookup (is_at (cell_cmp q)) es) ∙ some_row (at_cell es q) (sym (ap is_some (get_settled es q)) ∙ e)
 
+pub some_there : (es : List (CellId × RowOrNone)) (q : CellId) → is_some (finite.get (settled_of es) q) ≡ true → is_some (at_cell es q) ≡ true
+some_there es q e = some_row (at_cell es q) (sym (ap is_some (get_settled es q)) ∙ e)
+
 -- a change that is noted at a cell with room has room, and so have the others
 pub room_for : (rows new old pending : List (CellId × RowOrNone)) (k : CellId) (row : RowOrNone) → ((q : CellId) → at_cell pending q ≡ cond (is_at (cell_cmp k) q) (Some row) (at_cell old q))
     → is_some (at_cell new k) ≡ true

@@ -5,9 +5,11 @@ ghost use Rattle.std.specs.FinSet as set;
 ghost use Rattle.std.specs.List.Sorted.{IsStrictlySortedBy};
 ghost use Rattle.clr_rows.specs.Cells.{cell_cmp};
 ghost use Rattle.clr_rows.specs.declared.cells.CellId.{CellId as Cell};
+ghost use Rattle.clr_finders.specs.NextCells.{IsNextOf};
 ghost use Rattle.clr_grid.specs.CellSets.{is_one, is_one_of, with_cells};
 ghost use Rattle.clr_grid.specs.Gains.{GainsCells};
 
+use crate::next_cells::next_key;
 use clr_rows::CellId;
 use std::alloc::{AllocError, Global};
 use std::collections::BTreeSet;
@@ -129,6 +131,17 @@ impl CellSet {
             self.add_each(other)?;
         }
         Ok(())
+    }
+
+    /// The first cell behind a given one, where a test says so, if there is one.
+    pub(crate) fn next_if(&self, test: bool, after: Option<CellId>) -> Option<CellId>
+        ensures { IsNextOf (λ q. (test && set.contains self.now q) ≡ true) after result }
+    {
+        if test {
+            next_key(&self.cells, after)
+        } else {
+            None
+        }
     }
 
     /// The cells, ascending.

@@ -11,6 +11,7 @@
 
 mod cell_sets;
 mod list_finder;
+mod next_cells;
 mod row_maps;
 mod rule_index;
 mod side_index;

@@ -82,6 +82,10 @@ impl RowFinder for ListFinder {
         self.find(book, rule, held, true)
     }
 
+    fn next_server(&self, _rule: u16, _spots: &RuleSpots, after: Option<CellId>) -> Option<CellId> {
+        self.rows.next_cell(after)
+    }
+
     fn note(&mut self, book: &RuleBook, cell: CellId, row: Option<&Row>) -> Result<(), AllocError> {
         let spots = row_spots_at(self.alloc, book, cell, row)?;
         self.rows.note(cell, spots)

@@ -7,16 +7,19 @@ ghost use Rattle.std.specs.List.Sorted.{IsStrictlySortedBy};
 ghost use Rattle.std.specs.Option.{option_copied, option_flatten};
 ghost use Rattle.clr_rows.specs.Cells.{cell_cmp};
 ghost use Rattle.clr_rows.specs.declared.cells.CellId.{CellId as Cell};
+ghost use Rattle.clr_finders.specs.NextCells.{IsNextOf};
 ghost use Rattle.clr_grid.specs.CellSets.{is_one_of};
 ghost use Rattle.clr_grid.specs.RowMaps.{no_rows, settled_of, with_row, with_settled, without_pending};
 ghost use Rattle.clr_finders.specs.Sharing.{found_cells, is_met_at, next_at};
 
+use crate::next_cells::bound_behind;
 use clr_finders::{RowSpots, RuleSpots, is_met};
 use clr_rows::CellId;
 use std::alloc::{AllocError, Global};
 use std::collections::BTreeMap;
 use std::marker::Model;
 use std::mem;
+use std::ops::Bound;
 
 /// The spots of rows by cell, settled ones and pending changes. An entry among the settled ones
 /// that has no row is room for one that is pending.
@@ -213,6 +216,20 @@ impl RowMap {
             cells.push(*cell)?;
         }
         Ok(cells)
+    }
+
+    /// The first cell behind a given one that has a row, or one before it.
+    pub(crate) fn next_cell(&self, after: Option<CellId>) -> Option<CellId>
+        ensures { IsNextOf (λ q. is_some (finite.get self.now.settled q) ≡ true) after result }
+    {
+        match self
+            .settled
+            .range((bound_behind(after), Bound::Unbounded))
+            .next()
+        {
+            Some((cell, _)) => Some(*cell),
+            None => None,
+        }
     }
 
     /// The cells whose rows are found under a rule, servers alone or all, where they are among some

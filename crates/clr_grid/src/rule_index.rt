@@ -6,7 +6,10 @@ ghost use Rattle.std.specs.List.Sorted.{IsStrictlySortedBy};
 ghost use Rattle.std.specs.Option.{option_copied};
 ghost use Rattle.clr_rows.specs.Cells.{cell_cmp};
 ghost use Rattle.clr_rows.specs.declared.cells.CellId.{CellId as Cell};
-ghost use Rattle.clr_grid.specs.Filing.{AllHoldCells, AreGone, AreNear, GainNone, GainOnly, HoldCells, IsFiled, IsFiledToo, Key, StayFiled, StayFiledBut, has_key, has_key_of};
+ghost use Rattle.clr_finders.specs.NextCells.{IsNextOf};
+ghost use Rattle.clr_grid.specs.NextCells.{IsServerFoundFor};
+ghost use Rattle.clr_grid.specs.Filing.{AllHoldCells, AreGone, AreNear, GainNone, GainOnly, HoldCells, IsFiled};
+ghost use Rattle.clr_grid.specs.Filing.{IsFiledToo, Key, StayFiled, StayFiledBut, has_key, has_key_of};
 ghost use Rattle.clr_grid.specs.Filing.{is_filed, is_filed_under, is_looked_at, of_side, side_of, spots_at, stays};
 
 use crate::cell_sets::CellSet;
@@ -240,6 +243,22 @@ fn add_cells_near(
     match rules.get(rule as usize) {
         Some(index) => index.add_near(servers, spots, cells),
         None => Ok(()),
+    }
+}
+
+/// The first of the cells of rows that may serve behind a given one, among those that are looked at
+/// for a row under a rule, if there is one.
+pub(crate) fn next_server_near(
+    rules: &[RuleIndex],
+    rule: u16,
+    spots: &RuleSpots,
+    after: Option<CellId>,
+) -> Option<CellId>
+    ensures { IsNextOf (IsServerFoundFor rules.now rule spots.now) after result }
+{
+    match rules.get(rule as usize) {
+        Some(index) => index.servers.next_near(spots, after),
+        None => None,
     }
 }
 

@@ -7,6 +7,7 @@ ghost use Rattle.std.specs.List.{list_any};
 ghost use Rattle.std.specs.Option.{option_copied};
 ghost use Rattle.std.specs.Ordering.{nat_cmp};
 ghost use Rattle.clr_rows.specs.declared.cells.CellId.{CellId as Cell};
+ghost use Rattle.clr_finders.specs.NextCells.{IsNextOf};
 ghost use Rattle.clr_grid.specs.CellSets.{is_one};
 ghost use Rattle.clr_grid.specs.Gains.{GainsCells, IsFoundFor};
 ghost use Rattle.clr_grid.specs.Filing.{HoldCells, Key, has_cell, has_key, has_key_of, is_filed, is_looked_at, keeps_number, keeps_role, keeps_wide, stays};
@@ -15,7 +16,7 @@ ghost use Rattle.clr_grid.specs.SpotNumbers.{has_number, number_of};
 use crate::cell_sets::CellSet;
 use crate::spot_cells::SpotCells;
 use crate::spot_numbers::{have_number, number_of};
-use clr_finders::RuleSpots;
+use clr_finders::{RuleSpots, lesser_cell};
 use clr_rows::CellId;
 use clr_spots::Spot;
 use std::alloc::{AllocError, Global};
@@ -259,5 +260,36 @@ impl SideIndex {
         cells.add_all(spots.has_role, &self.wide)?;
         self.add_cells_at_each(spots.spots.list.as_slice(), cells)?;
         Ok(())
+    }
+
+    /// The first cell at a number behind a given one, if there is one.
+    fn next_at(&self, number: u64, after: Option<CellId>) -> Option<CellId>
+        ensures { IsNextOf (λ q. has_cell (get nat_cmp self.now.by_spot number) q ≡ true) after result }
+    {
+        match self.by_spot.get(&number) {
+            Some(cells) => cells.next(after),
+            None => None,
+        }
+    }
+
+    /// The first cell at the numbers of some spots behind a given one, if there is one.
+    fn next_at_each(&self, spots: &[Spot], after: Option<CellId>) -> Option<CellId>
+        ensures { IsNextOf (λ q. list_any (λ x. has_cell (get nat_cmp self.now.by_spot (number_of x)) q) spots.now ≡ true) after result }
+    {
+        let mut next = None;
+        for spot in spots {
+            next = lesser_cell(next, self.next_at(number_of(spot), after));
+        }
+        next
+    }
+
+    /// The first of the cells that are looked at for a row behind a given one, if there is one.
+    pub(crate) fn next_near(&self, spots: &RuleSpots, after: Option<CellId>) -> Option<CellId>
+        ensures { IsNextOf (IsFoundFor self.now spots.now) after result }
+    {
+        let among_all = self.all.next_if(spots.spots.wide, after);
+        let among_wide = self.wide.next_if(spots.has_role, after);
+        let at_spots = self.next_at_each(spots.spots.list.as_slice(), after);
+        lesser_cell(lesser_cell(among_all, among_wide), at_spots)
     }
 }

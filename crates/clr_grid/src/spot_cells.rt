@@ -5,10 +5,13 @@ ghost use Rattle.std.specs.FinSet as set;
 ghost use Rattle.std.specs.Ordering.{eq_by_cmp};
 ghost use Rattle.clr_rows.specs.Cells.{cell_cmp};
 ghost use Rattle.clr_rows.specs.declared.cells.CellId.{CellId as Cell};
+ghost use Rattle.clr_finders.specs.NextCells.{IsNextOf};
 ghost use Rattle.clr_grid.specs.CellSets.{is_one_of};
 ghost use Rattle.clr_grid.specs.Gains.{GainsCells};
 
 use crate::cell_sets::CellSet;
+use crate::next_cells::{next_key, next_one};
+use clr_finders::lesser_cell;
 use clr_rows::CellId;
 use std::alloc::{AllocError, Global};
 use std::collections::BTreeSet;
@@ -93,6 +96,13 @@ impl SpotCells {
             Some(_) => false,
             None => self.others.is_empty(),
         }
+    }
+
+    /// The first cell behind a given one, if there is one.
+    pub(crate) fn next(&self, after: Option<CellId>) -> Option<CellId>
+        ensures { IsNextOf (λ q. set.contains self.now q ≡ true) after result }
+    {
+        lesser_cell(next_one(self.first, after), next_key(&self.others, after))
     }
 
     /// Adds the cells to a set. It fails for want of memory alone; then the set's own cells stay,

@@ -8,7 +8,7 @@ ghost use Rattle.clr_grid.specs.RowMaps.{no_rows, with_pending, with_row, with_s
 ghost use Rattle.clr_finders.specs.Sharing.{found_cells, row_spots, rule_spots};
 
 use crate::row_maps::RowMap;
-use crate::rule_index::{RuleIndex, cells_near, file_row, unfile_row};
+use crate::rule_index::{RuleIndex, cells_near, file_row, next_server_near, unfile_row};
 use clr_finders::{RowFinder, RowSpots, RuleSpots, row_spots_at};
 use clr_rows::{CellId, Held, Row};
 use clr_rules::RuleBook;
@@ -154,6 +154,10 @@ impl RowFinder for SpotIndex {
         held: Held,
     ) -> Result<Vec<CellId>, AllocError> {
         self.find(book, rule, held, true)
+    }
+
+    fn next_server(&self, rule: u16, spots: &RuleSpots, after: Option<CellId>) -> Option<CellId> {
+        next_server_near(self.rules.as_slice(), rule, spots, after)
     }
 
     fn note(&mut self, book: &RuleBook, cell: CellId, row: Option<&Row>) -> Result<(), AllocError> {

@@ -30,29 +30,34 @@ use Rattle.clr_groups.specs.Laws.{GroupsSplitNeeds, IsSameNeed, SplitNeeds}
 use Rattle.clr_groups.proofs.Chains.{joined_by}
 
 -- rising numbers that are mapped to rising ones
-rising_among : (f : ℕ → ℕ) (xs : List ℕ) → ((x y : ℕ) → Among x xs → Among y xs → x < y → f x < f y) → IsStrictlySortedBy nat_cmp xs → IsStrictlySortedBy nat_cmp (map f xs)
+rising_among : (f : ℕ → ℕ) (xs : List ℕ) → ((x y : ℕ) → Among x xs → Among y xs → x < y → f x < f y) → IsStrictlySortedBy nat_cmp xs
+    → IsStrictlySortedBy nat_cmp (map f xs)
 unfolding IsStrictlySortedBy
 rising_among f [] keeps p = tt
 rising_among f (x ∷ xs) keeps p = (
   all_by (λ y. nat_cmp (f x) y ≡ Less) (map f xs) (λ y h. let m = among_mapped f y xs h in
-      subst (λ w. nat_cmp (f x) w ≡ Less) m.2 (less_number (f x) (f m.0) (keeps x m.0 (inl refl) (inr m.1) (number_less x m.0 (each_of (λ w. nat_cmp x w ≡ Less) m.0 xs p.0 m.1))))),
+      subst (λ w. nat_cmp (f x) w ≡ Less) m.2
+      (less_number (f x) (f m.0) (keeps x m.0 (inl refl) (inr m.1) (number_less x m.0 (each_of (λ w. nat_cmp x w ≡ Less) m.0 xs p.0 m.1))))),
   rising_among f xs (λ y z h k. keeps y z (inr h) (inr k)) p.1,
 )
 
 -- one group ----------------------------------------------------------------------------------
 
-module _ (c d : Setting ℕ) (group : List ℕ) (ascending : IsStrictlySortedBy nat_cmp group) (part : IsPart c d (StandsIn group)) (closed : IsClosedPart c d (StandsIn group)) where
+module _ (c d : Setting ℕ) (group : List ℕ) (ascending : IsStrictlySortedBy nat_cmp group) (part : IsPart c d (StandsIn group))
+    (closed : IsClosedPart c d (StandsIn group)) where
   abbrev stands : ℕ → ℕ → Type 0
   stands = StandsIn group
 
   -- a touched need of all members is touched where a member stands that it involves
-  pub touched_in : (n : Need) (a : Lived ℕ) (b : Option (Lived ℕ)) (x : ℕ) → IsPossible c n a b → IsTouchedBy c n a b → Involves c n a b x → Contains group x → IsTouched d n
+  pub touched_in : (n : Need) (a : Lived ℕ) (b : Option (Lived ℕ)) (x : ℕ) → IsPossible c n a b → IsTouchedBy c n a b → Involves c n a b x → Contains group x
+      → IsTouched d n
   touched_in n a b x possible touched names there =
       let found = agreeing c d stands part n a b possible (all_inside c d stands part closed n a b x possible names (stands_of group x there)) in (
         found.first,
         found.second,
         found.possible,
-        touched_to c d (other_way stands) (turned_one stands part.one) n a b found.first found.second (turned_round stands d c n found.first found.second a b found.agree) touched,
+        touched_to c d (other_way stands) (turned_one stands part.one) n a b found.first found.second (turned_round stands d c n found.first found.second a b
+            found.agree) touched,
       )
 
   module _ (n : Need) (p : Lived ℕ) (q : Option (Lived ℕ)) (possible : IsPossible d n p q) (touched : IsTouchedBy d n p q) where
@@ -78,14 +83,16 @@ module _ (c d : Setting ℕ) (group : List ℕ) (ascending : IsStrictlySortedBy 
     pick_up pick picks e f is =
         let once = subjects_once c n e a f b is found.match.possible in
         subst (λ k. IsPick c n k f pick) once.0
-        (subst (λ k. IsPick c n a k pick) once.1 (pick_to IsLesser IsLesser d c stands part.one (in_one_order group ascending) n p q a b agree pick (picks p q possible)))
+        (subst (λ k. IsPick c n a k pick) once.1 (pick_to IsLesser IsLesser d c stands part.one (in_one_order group ascending) n p q a b agree pick
+        (picks p q possible)))
 
     pick_down : (pick : Option (VersionId × Option VersionId)) → Picks c n pick → Picks d n pick
     pick_down pick picks e f is =
         let once = subjects_once d n e p f q is possible in
         let order = turned_order stands IsLesser IsLesser (in_one_order group ascending) in
         subst (λ k. IsPick d n k f pick) once.0
-        (subst (λ k. IsPick d n p k pick) once.1 (pick_to IsLesser IsLesser c d (other_way stands) (turned_one stands part.one) order n a b p q back pick (picks a b found.match.possible)))
+        (subst (λ k. IsPick d n p k pick) once.1 (pick_to IsLesser IsLesser c d (other_way stands) (turned_one stands part.one) order n a b p q back pick
+        (picks a b found.match.possible)))
 
     -- ---- members that break it
 
@@ -147,7 +154,8 @@ module _ (c d : Setting ℕ) (group : List ℕ) (ascending : IsStrictlySortedBy 
 
 -- all groups ---------------------------------------------------------------------------------
 
-module _ (rules : List Rule) (root : Content) (sets : List Changes) (groups : List (List ℕ)) (apart : AreApart sets) (are : AreGroups (setting rules root sets) groups) where
+module _ (rules : List Rule) (root : Content) (sets : List Changes) (groups : List (List ℕ)) (apart : AreApart sets)
+    (are : AreGroups (setting rules root sets) groups) where
   abbrev c : Setting ℕ
   c = setting rules root sets
 

@@ -18,7 +18,8 @@ all_of : (P : ℕ → Type 0) (xs : List ℕ) → ((x : ℕ) → Among x xs → 
 all_of P [] h = All-nil P
 all_of P (x ∷ xs) h = All-cons P x xs (h x (inl refl)) (all_of P xs (λ y k. h y (inr k)))
 
-module _ {F : Type 0} (settled : F → Settled) (m : SceneModel F) (apart : AreApart m.sets) (groups : List (List ℕ)) (are : AreGroups (setting_of m) groups) (g : List ℕ) (there : Contains groups g) where
+module _ {F : Type 0} (settled : F → Settled) (m : SceneModel F) (apart : AreApart m.sets) (groups : List (List ℕ)) (are : AreGroups (setting_of m) groups)
+    (g : List ℕ) (there : Contains groups g) where
   pub group_within : (k : ℕ) → Contains g k → k < length m.sets
   group_within k h = member_below m.rules m.root m.sets k (are.members g k there h)
 

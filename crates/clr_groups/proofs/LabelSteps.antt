@@ -23,7 +23,8 @@ one_moved from to k l old labels new less is made are = record {
   done = λ j below within. elim (cases_lt j k) [
     | inl before ↦ other j (omega (arith, before)) ∙ are.done j before within
     | inr last ↦ (let same : j ≡ k = omega (arith, below, last) in
-        ap (label new) same ∙ ap (λ xs. label xs k) is ∙ get_or-set_same labels k l 0 less ∙ made ∙ ap (moved_label from to) (are.rest k (omega arith) ∙ ap (label old) (sym same)))
+        ap (label new) same ∙ ap (λ xs. label xs k) is ∙ get_or-set_same labels k l 0 less ∙ made ∙ ap (moved_label from to) (are.rest k (omega arith)
+        ∙ ap (label old) (sym same)))
   ];
   rest = λ j past. other j (omega (arith, past)) ∙ are.rest j (omega (arith, past));
 }
@@ -56,7 +57,8 @@ one_own k old new is are = record {
   long = ap length is ∙ length-append old (k ∷ []) ∙ ap (λ n. n + 1) are.long;
   own = λ j below. elim (cases_lt j k) [
     | inl before ↦ ap (λ xs. label xs j) is ∙ get_or_append_left old (k ∷ []) 0 j (let long = are.long in omega (arith, before, long)) ∙ are.own j before
-    | inr last ↦ (let same : j ≡ k = omega (arith, below, last) in ap (λ xs. label xs j) is ∙ at_end old j (let long = are.long in omega (arith, same, long)) ∙ sym same)
+    | inr last ↦ (let same : j ≡ k = omega (arith, below, last) in ap (λ xs. label xs j) is ∙ at_end old j (let long = are.long in omega (arith, same, long))
+        ∙ sym same)
   ];
 }
   where

@@ -32,7 +32,8 @@ module _ (P : ℕ → Type 0) where
 
   pub none_listed : (list : List ℕ) → list ≡ [] → AreListedTo 0 list
   unfolding IsStrictlySortedBy
-  none_listed list none = subst (AreListedTo 0) (sym none) (record { ascending = tt; exactly = λ x. (λ h. absurd (among x [] h), λ w. let less = w.below in absurd (omega (arith, less))) })
+  none_listed list none = subst (AreListedTo 0) (sym none)
+      (record { ascending = tt; exactly = λ x. (λ h. absurd (among x [] h), λ w. let less = w.below in absurd (omega (arith, less))) })
 
   pub one_listed : (k : ℕ) (old new : List ℕ) → new ≡ old ++ k ∷ [] → P k → AreListedTo k old → AreListedTo (k + 1) new
   unfolding IsStrictlySortedBy
@@ -55,7 +56,8 @@ module _ (P : ℕ → Type 0) where
       every : (x : ℕ) → IsBelow (k + 1) x → Contains (old ++ k ∷ []) x
       every x w = elim (cases_lt x k) [
         | inl less ↦ Contains-append_left old (k ∷ []) x ((before.exactly x).1 (record { below = less; holds = w.holds }))
-        | inr most ↦ (let less = w.below in let same : k ≡ x = omega (arith, less, most) in Contains-append_right old (k ∷ []) x (contained x (k ∷ []) (inl same)))
+        | inr most ↦ (let less = w.below in let same : k ≡ x = omega (arith, less, most) in Contains-append_right old (k
+            ∷ []) x (contained x (k ∷ []) (inl same)))
       ]
 
   pub one_left_out : (k : ℕ) (old : List ℕ) → ¬ (P k) → AreListedTo k old → AreListedTo (k + 1) old
@@ -71,7 +73,14 @@ module _ (P : ℕ → Type 0) where
       ]
 
   pub all_listed : (k : ℕ) (list : List ℕ) → ((x : ℕ) → P x → x < k) → AreListedTo k list → Lists nat_cmp P list
-  all_listed k list within are = record { ascending = are.ascending; exactly = λ x. (λ h. ((are.exactly x).0 h).holds, λ p. (are.exactly x).1 (record { below = within x p; holds = p })) }
+  all_listed k list within are = record {
+    ascending = are.ascending;
+    exactly = λ x. (
+      λ h. ((are.exactly x).0 h).holds,
+      λ p. (are.exactly x).1
+          (record { below = within x p; holds = p }),
+    );
+  }
 
 pub no_elements : (list : List ℕ) → length list ≡ 0 → list ≡ []
 no_elements [] e = refl
@@ -104,7 +113,8 @@ module _ (labels : List ℕ) where
     pub each : (i : ℕ) (g : List ℕ) → slice_get groups i ≡ Some g → (l : ℕ) × (l < bound) × Lists nat_cmp (IsLabelled labels l) g
     pub filled : (i : ℕ) (g : List ℕ) → slice_get groups i ≡ Some g → (x : ℕ) × Contains g x
     pub every : (x : ℕ) → x < length labels → label labels x < bound → (g : List ℕ) × Contains groups g × Contains g x
-    pub one : (i j : ℕ) (g h : List ℕ) (x y : ℕ) → slice_get groups i ≡ Some g → slice_get groups j ≡ Some h → Contains g x → Contains h y → label labels x ≡ label labels y → i ≡ j
+    pub one : (i j : ℕ) (g h : List ℕ) (x y : ℕ) → slice_get groups i ≡ Some g → slice_get groups j ≡ Some h → Contains g x → Contains h y → label labels x
+        ≡ label labels y → i ≡ j
 
   pub no_groups : (groups : List (List ℕ)) → groups ≡ [] → AreGroupsTo 0 groups
   no_groups groups none = subst (AreGroupsTo 0) (sym none) (record {
@@ -133,7 +143,12 @@ module _ (labels : List ℕ) where
       filled = λ i h e. filled i h (put_at old g i h e);
       every = λ x within less. elim (cases_lt (label labels x) bound) [
         | inl below ↦ (let (h, there, in_it) = are.every x within below in (h, Contains-append_left old (g ∷ []) h there, in_it))
-        | inr most ↦ (g, Contains-append_right old (g ∷ []) g (contained g (g ∷ []) (inl refl)), (these.exactly x).1 (record { within = within; is = omega (arith, less, most) }))
+        | inr most ↦ (
+          g,
+          Contains-append_right old (g ∷ []) g (contained g (g ∷ []) (inl refl)),
+          (these.exactly x).1
+              (record { within = within; is = omega (arith, less, most) }),
+        )
       ];
       one = λ i j h k x y e f in_it other_in_it same. one i j h k x y (put_at old g i h e) (put_at old g j k f) in_it other_in_it same;
     }
@@ -154,14 +169,17 @@ module _ (labels : List ℕ) where
 
         one : (i j : ℕ) (h k : List ℕ) (x y : ℕ) → PutAt old g i h → PutAt old g j k → Contains h x → Contains k y → label labels x ≡ label labels y → i ≡ j
         one i j h k x y (earlier e) (earlier f) in_it other_in_it same = are.one i j h k x y e f in_it other_in_it same
-        one i j h k x y (earlier e) (last at is) in_it other_in_it same = let low = below i h x e in_it in let high = here k y is other_in_it in absurd (omega (arith, low, high, same))
-        one i j h k x y (last at is) (earlier f) in_it other_in_it same = let low = below j k y f other_in_it in let high = here h x is in_it in absurd (omega (arith, low, high, same))
+        one i j h k x y (earlier e) (last at is) in_it other_in_it same = let low = below i h x e in_it in let high = here k y is other_in_it in
+            absurd (omega (arith, low, high, same))
+        one i j h k x y (last at is) (earlier f) in_it other_in_it same = let low = below j k y f other_in_it in let high = here h x is in_it in
+            absurd (omega (arith, low, high, same))
         one i j h k x y (last at is) (last other_at other_is) in_it other_in_it same = at ∙ sym other_at
 
     pub one_group : (new : List (List ℕ)) → new ≡ old ++ g ∷ [] → (x : ℕ) × Contains g x → AreGroupsTo (bound + 1) new
     one_group new put some = subst (AreGroupsTo (bound + 1)) (sym put) (one_group_at some)
 
-  pub all_groups : (bound : ℕ) (groups : List (List ℕ)) → length labels ≤ bound → ((x : ℕ) → x < length labels → label labels x < length labels) → AreGroupsTo bound groups → AreGroupsBy labels groups
+  pub all_groups : (bound : ℕ) (groups : List (List ℕ)) → length labels ≤ bound → ((x : ℕ) → x < length labels → label labels x < length labels)
+      → AreGroupsTo bound groups → AreGroupsBy labels groups
   all_groups bound groups past below are = record {
     each = λ i g e. (let (l, less, list) = are.each i g e in (l, list));
     filled = are.filled;
@@ -171,7 +189,8 @@ module _ (labels : List ℕ) where
 
 -- groups of dependent members ----------------------------------------------------------------
 
-pub are_groups : (rules : List Rule) (root : Content) (sets : List Changes) (labels : List ℕ) (groups : List (List ℕ)) → AreLabels (setting rules root sets) (length sets) labels → AreGroupsBy labels groups
+pub are_groups : (rules : List Rule) (root : Content) (sets : List Changes) (labels : List ℕ) (groups : List (List ℕ))
+    → AreLabels (setting rules root sets) (length sets) labels → AreGroupsBy labels groups
     → AreGroups (setting rules root sets) groups
 are_groups rules root sets labels groups are by = record {
   ascending = λ g there. (let (i, at) = at_of g there in (by.each i g at).1.ascending);
@@ -188,9 +207,11 @@ are_groups rules root sets labels groups are by = record {
     at_of g (i, less, is) = (i, slice_get_read groups (length groups) i g refl less (sym is))
 
     below : (i : ℕ) (g : List ℕ) (x : ℕ) → slice_get groups i ≡ Some g → Contains g x → x < length sets
-    below i g x at in_it = let (l, list) = by.each i g at in let within = ((list.exactly x).0 in_it).within in let long = are.long in omega (arith, within, long)
+    below i g x at in_it = let (l, list) = by.each i g at in let within = ((list.exactly x).0 in_it).within in let long = are.long in
+        omega (arith, within, long)
 
-    same_label : (i j : ℕ) (g h : List ℕ) (x y : ℕ) → slice_get groups i ≡ Some g → slice_get groups j ≡ Some h → Contains g x → Contains h y → i ≡ j → label labels x ≡ label labels y
+    same_label : (i j : ℕ) (g h : List ℕ) (x y : ℕ) → slice_get groups i ≡ Some g → slice_get groups j ≡ Some h → Contains g x → Contains h y → i ≡ j
+        → label labels x ≡ label labels y
     same_label i j g h x y at other_at in_it other_in_it same =
         let both : Some g ≡ Some h = sym at ∙ ap (slice_get groups) same ∙ other_at in
         let alike : g ≡ h = cc in

@@ -56,7 +56,8 @@ module _ (c : Setting ℕ) (count : ℕ) where
     noted = λ z n less h. (let below = h.0 in absurd (omega (arith, below)));
   }
 
-  module _ (seen : ℕ → Need → Type 0) (first : First) (labels : List ℕ) (are : AreNoted c count seen first labels) (x : ℕ) (n : Need) (less : x < count) (involves : IsInvolving c x n) where
+  module _ (seen : ℕ → Need → Type 0) (first : First) (labels : List ℕ) (are : AreNoted c count seen first labels) (x : ℕ) (n : Need) (less : x < count)
+      (involves : IsInvolving c x n) where
     -- the need of the member is noted too
     abbrev pub SeenWith : ℕ → Need → Type 0
     SeenWith z m = seen z m ⊎ ((z ≡ x) × (m ≡ n))
@@ -83,7 +84,11 @@ module _ (c : Setting ℕ) (count : ℕ) where
           by false untied = inr (sym (is m ∙ ap (λ b. cond b (Some x) (first m)) untied) ∙ e)
 
       other_involved : (m : Need) (w : ℕ) → ((m ≡ n) × (w ≡ x)) ⊎ (first m ≡ Some w) → (w < count) × IsInvolving c w m
-      other_involved m w (inl (need, member)) = (subst (λ k. k < count) (sym member) less, subst (λ k. IsInvolving c k m) (sym member) (subst (IsInvolving c x) (sym need) involves))
+      other_involved m w (inl (need, member)) = (
+        subst (λ k. k < count) (sym member) less,
+        subst (λ k. IsInvolving c k m) (sym member)
+            (subst (IsInvolving c x) (sym need) involves),
+      )
       other_involved m w (inr e) = are.involved m w e
 
       other_noted : (z : ℕ) (m : Need) → z < count → SeenWith z m → (w : ℕ) × (next m ≡ Some w) × (label labels w ≡ label labels z)
@@ -136,7 +141,8 @@ module _ (c : Setting ℕ) (count : ℕ) where
           by : Same from to (label labels k) (label labels l) → AreJoined c k l
           by (were_same same) = are.sound k l h j same
           by (first_moved a b) = joined_through c k x l (are.sound k x h less a) (joined_through c x w l (joined_by c x w apart) (are.sound w l w_within j b))
-          by (second_moved a b) = joined_through c k w l (are.sound k w h w_within a) (joined_through c w x l (joined_by c w x back_again) (are.sound x l less j (sym b)))
+          by (second_moved a b) = joined_through c k w l (are.sound k w h w_within a) (joined_through c w x l (joined_by c w x back_again)
+              (are.sound x l less j (sym b)))
 
       other_same : (k l : ℕ) → k < count → l < count → label labels k ≡ label labels l → label after k ≡ label after l
       other_same k l h j e = each k h ∙ ap (moved_label from to) e ∙ sym (each l j)
@@ -168,15 +174,24 @@ module _ (c : Setting ℕ) (count : ℕ) where
       → AreNoted c count (λ z m. seen z m ⊎ ((z ≡ x) × (m ≡ n))) (get need_cmp new) after
   one_noted seen old new labels after x n less involves are is = by (get need_cmp old n) refl is
     where
-      by : (o : Option ℕ) → get need_cmp old n ≡ o → IsNotedBy old new labels after n x o → AreNoted c count (λ z m. seen z m ⊎ ((z ≡ x) × (m ≡ n))) (get need_cmp new) after
+      by : (o : Option ℕ) → get need_cmp old n ≡ o → IsNotedBy old new labels after n x o
+          → AreNoted c count (λ z m. seen z m ⊎ ((z ≡ x) × (m ≡ n))) (get need_cmp new) after
       by None e (same, step) = subst (AreNoted c count (λ z m. seen z m ⊎ ((z ≡ x) × (m ≡ n))) (get need_cmp new)) (sym same)
           (first_noted seen (get need_cmp old) labels are x n less involves (get need_cmp new) e step)
       by (Some w) e (same, step) = subst (λ f. AreNoted c count (λ z m. seen z m ⊎ ((z ≡ x) × (m ≡ n))) (get need_cmp f) after) (sym same)
           (joined_noted seen (get need_cmp old) labels are x n less involves w e after step)
 
   -- what is noted may be told in other words
-  pub noted_as : (seen other : ℕ → Need → Type 0) (first : First) (labels : List ℕ) → ((z : ℕ) (n : Need) → other z n → seen z n) → AreNoted c count seen first labels → AreNoted c count other first labels
-  noted_as seen other first labels fewer are = record { long = are.long; below = are.below; sound = are.sound; involved = are.involved; noted = λ z n within h. are.noted z n within (fewer z n h) }
+  pub noted_as : (seen other : ℕ → Need → Type 0) (first : First) (labels : List ℕ) → ((z : ℕ) (n : Need) → other z n → seen z n)
+      → AreNoted c count seen first labels → AreNoted c count other first labels
+  noted_as seen other first labels fewer are = record {
+    long = are.long;
+    below = are.below;
+    sound = are.sound;
+    involved = are.involved;
+    noted =
+        λ z n within h. are.noted z n within (fewer z n h);
+  }
 
   -- ---- the needs of one member, one after another
 
@@ -185,7 +200,8 @@ module _ (c : Setting ℕ) (count : ℕ) where
   IsSeenTo member needs k z n = ((z < member) × IsInvolving c z n) ⊎ ((z ≡ member) × Contains (take k needs) n)
 
   module _ (member : ℕ) (needs read : List Need) (are_needs : Lists need_cmp (IsInvolving c member) needs) (same : read ≡ needs) where
-    pub first_seen : (first : BTreeMap Need ℕ) (labels : List ℕ) → AreNotedBelow c count member first labels → AreNoted c count (IsSeenTo member read 0) (get need_cmp first) labels
+    pub first_seen : (first : BTreeMap Need ℕ) (labels : List ℕ) → AreNotedBelow c count member first labels
+        → AreNoted c count (IsSeenTo member read 0) (get need_cmp first) labels
     first_seen first labels are = noted_as (λ z n. (z < member) × IsInvolving c z n) (IsSeenTo member read 0) (get need_cmp first) labels by are
       where
         by : (z : ℕ) (n : Need) → IsSeenTo member read 0 z n → (z < member) × IsInvolving c z n
@@ -208,23 +224,30 @@ module _ (c : Setting ℕ) (count : ℕ) where
           | inr last ↦ inr (is_it, last)
         ]
 
-    pub all_seen : (k : ℕ) (first : BTreeMap Need ℕ) (labels : List ℕ) → length read ≤ k → AreNoted c count (IsSeenTo member read k) (get need_cmp first) labels → AreNotedBelow c count (member + 1) first labels
+    pub all_seen : (k : ℕ) (first : BTreeMap Need ℕ) (labels : List ℕ) → length read ≤ k → AreNoted c count (IsSeenTo member read k) (get need_cmp first) labels
+        → AreNotedBelow c count (member + 1) first labels
     all_seen k first labels past are = noted_as (IsSeenTo member read k) (λ z n. (z < member + 1) × IsInvolving c z n) (get need_cmp first) labels by are
       where
         by : (z : ℕ) (n : Need) → (z < member + 1) × IsInvolving c z n → IsSeenTo member read k z n
         by z n (below, names) = elim (cases_lt z member) [
           | inl before ↦ inl (before, names)
           | inr most ↦ (let last : z ≡ member = omega (arith, below, most) in
-              inr (last, all_taken read k n past (subst (λ ns. Contains ns n) (sym same) ((are_needs.exactly n).1 (subst (λ x. IsInvolving c x n) last names)))))
+              inr (
+                last,
+                all_taken read k n past
+                    (subst (λ ns. Contains ns n) (sym same) ((are_needs.exactly n).1 (subst (λ x. IsInvolving c x n) last names))),
+              ))
         ]
 
   -- the first members of needs are members
-  pub firsts_below : (seen : ℕ → Need → Type 0) (first : BTreeMap Need ℕ) (labels : List ℕ) → AreNoted c count seen (get need_cmp first) labels → AreBelow (length labels) first
+  pub firsts_below : (seen : ℕ → Need → Type 0) (first : BTreeMap Need ℕ) (labels : List ℕ) → AreNoted c count seen (get need_cmp first) labels
+      → AreBelow (length labels) first
   firsts_below seen first labels are n w e = let low = (are.involved n w e).0 in let long = are.long in omega (arith, low, long)
 
   -- ---- all of them
 
-  module _ (member_below : (x : ℕ) → has c.same c.members x ≡ true → x < count) (first : BTreeMap Need ℕ) (labels : List ℕ) (end : ℕ) (past : count ≤ end) (are : AreNotedBelow c count end first labels) where
+  module _ (member_below : (x : ℕ) → has c.same c.members x ≡ true → x < count) (first : BTreeMap Need ℕ) (labels : List ℕ) (end : ℕ) (past : count ≤ end)
+      (are : AreNotedBelow c count end first labels) where
     same_of_dependent : (x y : ℕ) → x < count → AreDependent c x y → (y < count) × (label labels x ≡ label labels y)
     same_of_dependent x y less (n, a, b, possible, names, other_names) =
         let other_less = member_below y (involved_member c n a b y possible other_names) in

@@ -14,7 +14,7 @@ use clr_rows::RowView;
 use std::alloc::{AllocError, Global};
 use std::collections::BTreeMap;
 
-/// A label, or the one that is put in its place.
+/// Returns a label, or the one that is put in its place.
 fn moved_label(label: u16, from: u16, to: u16) -> u16
     ensures { result ≡ moved_label from to label }
 {
@@ -83,7 +83,7 @@ fn note_member<V: RowView, F: RowFinder>(
     Ok(())
 }
 
-/// Each member's own position.
+/// Returns each member's own position.
 fn own_labels(alloc: Global, count: usize) -> Result<Vec<u16>, AllocError>
     requires { count ≤ MOST_MEMBERS }
     ensures long { IfOk result (λ labels. length labels.items ≡ count) }
@@ -96,7 +96,7 @@ fn own_labels(alloc: Global, count: usize) -> Result<Vec<u16>, AllocError>
     Ok(labels)
 }
 
-/// A label for each member.
+/// Returns a label for each member.
 pub(crate) fn labels_of<V: RowView, F: RowFinder>(
     alloc: Global,
     scene: &Scene<'_, V, F>,

@@ -14,7 +14,7 @@ use clr_foot::Scene;
 use clr_rows::RowView;
 use std::alloc::{AllocError, Global};
 
-/// The members that have a label, ascending.
+/// Returns the members that have a label, ascending.
 fn members_with(alloc: Global, labels: &[u16], label: u16) -> Result<Vec<u16>, AllocError>
     requires { length labels.now ≤ MOST_MEMBERS }
     ensures { IfOk result (λ list. Lists nat_cmp (IsLabelled labels.now label) list.items) }

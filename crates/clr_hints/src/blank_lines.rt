@@ -2,8 +2,7 @@
 
 use std::alloc::{AllocError, Global};
 
-/// Returns a hint on how records are counted where blank lines stand in a text, else none. Fails for
-/// want of memory alone.
+/// Returns a hint on how records are counted where blank lines stand in a text, else none.
 pub fn blank_lines_hint(alloc: Global, text: &[u8]) -> Result<Option<String>, AllocError> {
     let mut is_line_begun = false;
     for byte in text {

@@ -12,8 +12,8 @@ pub struct JsonFault {
     pub hint: Option<&'static str>,
 }
 
-/// The offset of the byte at a line and a column of bytes, both counted from 1; where the line is
-/// shorter its end, and where the text is, the end of that.
+/// Returns the offset of the byte at a line and a column of bytes, both counted from 1; where the
+/// line is shorter its end, and where the text is, the end of that.
 fn offset_of(text: &[u8], line: usize, column: usize) -> usize
     ensures { result ≤ length text.now }
 {
@@ -37,7 +37,7 @@ fn is_space(byte: u8) -> bool {
     matches!(byte, b' ' | b'\t' | b'\n' | b'\r')
 }
 
-/// The last byte before an offset that is no white space.
+/// Returns the last byte before an offset that is no white space.
 fn byte_before(text: &[u8], offset: usize) -> Option<u8> {
     text.iter()
         .copied()
@@ -46,7 +46,7 @@ fn byte_before(text: &[u8], offset: usize) -> Option<u8> {
         .last()
 }
 
-/// What is said where JSON stops at a byte.
+/// Returns what is said where JSON stops at a byte.
 fn sentence_at(text: &[u8], offset: usize) -> &'static str {
     let Some(byte) = text.get(offset).copied() else {
         return "the text ends here, and the JSON value hasn't ended";

@@ -5,8 +5,8 @@ use std::alloc::{AllocError, Global};
 /// How many decimals a whole number of millimetres has in metres.
 const DECIMALS: usize = 3;
 
-/// The whole millimetres that a decimal number of metres is, where it is one with at most three
-/// decimals.
+/// Returns the whole millimetres that a decimal number of metres is, where it is one with at most
+/// three decimals.
 fn millimetres_of(alloc: Global, text: &str) -> Result<Option<i64>, AllocError> {
     let Some((whole, fraction)) = text.split_once('.') else {
         return Ok(None);
@@ -23,7 +23,7 @@ fn millimetres_of(alloc: Global, text: &str) -> Result<Option<i64>, AllocError> 
 }
 
 /// Returns a hint at the whole millimetres of a number with a fraction, which may be meant in metres,
-/// and none of any other text. Fails for want of memory alone.
+/// and none of any other text.
 pub fn metres_hint(alloc: Global, text: &str) -> Result<Option<String>, AllocError> {
     match millimetres_of(alloc, text)? {
         Some(millimetres) => Ok(Some(format!(in alloc; "for metres write {millimetres}")?)),

@@ -32,7 +32,7 @@ pub fn nearest<'a>(
 }
 
 /// Returns a hint at the name that was meant, or at all names where none is alike and they are few, or
-/// none. Fails for want of memory alone.
+/// none.
 pub fn name_hint(alloc: Global, name: &str, names: &[&str]) -> Result<Option<String>, AllocError> {
     if let Some(other) = nearest(alloc, name, names)? {
         return Ok(Some(format!(in alloc; "did you mean '{other}'?")?));

@@ -3,7 +3,7 @@
 use clr_rows::{Schema, TableDef};
 use std::alloc::{AllocError, Global};
 
-/// Returns the names of all tables. Fails for want of memory alone.
+/// Returns the names of all tables.
 pub fn table_names<'a>(alloc: Global, schema: &'a Schema) -> Result<Vec<&'a str>, AllocError> {
     let mut names = Vec::new(alloc);
     for table in schema.tables() {
@@ -12,7 +12,7 @@ pub fn table_names<'a>(alloc: Global, schema: &'a Schema) -> Result<Vec<&'a str>
     Ok(names)
 }
 
-/// Returns the names of the columns of a table. Fails for want of memory alone.
+/// Returns the names of the columns of a table.
 pub fn column_names<'a>(alloc: Global, table: &'a TableDef) -> Result<Vec<&'a str>, AllocError> {
     let mut names = Vec::new(alloc);
     for column in table.columns.as_slice() {
@@ -21,7 +21,7 @@ pub fn column_names<'a>(alloc: Global, table: &'a TableDef) -> Result<Vec<&'a st
     Ok(names)
 }
 
-/// Returns names, with commas between them. Fails for want of memory alone.
+/// Returns names, with commas between them.
 pub fn listed(alloc: Global, names: &[&str]) -> Result<String, AllocError> {
     let mut text = String::new(alloc);
     for (at, name) in names.iter().enumerate() {

@@ -6,7 +6,7 @@ use std::alloc::{AllocError, Global};
 /// The most characters of a value that a sentence shows.
 const MOST_SHOWN: usize = 40;
 
-/// Returns a text, cut behind its first characters where it is long. Fails for want of memory alone.
+/// Returns a text, cut behind its first characters where it is long.
 pub fn shortened(alloc: Global, text: &str) -> Result<String, AllocError> {
     let mut short = String::new(alloc);
     for (count, character) in text.chars().enumerate() {
@@ -19,8 +19,7 @@ pub fn shortened(alloc: Global, text: &str) -> Result<String, AllocError> {
     Ok(short)
 }
 
-/// Returns a value as it is written, cut behind its first characters where it is long. Fails for want
-/// of memory alone.
+/// Returns a value as it is written, cut behind its first characters where it is long.
 pub fn shown(alloc: Global, json: &Json) -> Result<String, AllocError> {
     let text = json.to_string(alloc)?;
     shortened(alloc, text.as_str())

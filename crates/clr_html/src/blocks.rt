@@ -74,7 +74,7 @@ fn add_folded_lines(page: &mut Vec<u8>, words: &[u8], lines: &[u8]) -> Result<()
     add_between(page, "<pre>\n", lines, "</pre>\n</details>\n")
 }
 
-/// Adds a block. Fails for want of memory alone.
+/// Adds a block.
 #[tactic(auto, unfolding(crate::specs::Blocks::block_text))]
 pub(crate) fn add_block(page: &mut Vec<u8>, block: &Block) -> Result<(), AllocError>
     ensures { OnOk result (page.new.items ≡ page.old.items ++ block_text block.now) }

@@ -51,7 +51,7 @@ fn add_sections(page: &mut Vec<u8>, sections: &[Section]) -> Result<(), AllocErr
 }
 
 /// Returns the text of a page, which is HTML in UTF-8: one file that loads nothing and runs no script. Each text is escaped, and a
-/// picture goes out as it is. Fails for want of memory alone.
+/// picture goes out as it is.
 #[tactic(auto, unfolding(crate::specs::Pages::page_text))]
 pub fn write_page(alloc: Global, page: &Page) -> Result<Vec<u8>, AllocError>
     ensures written { IfOk result (λ text. text.items ≡ page_text page.now) }

@@ -29,7 +29,7 @@ pub struct Fold {
     pub table: Table,
 }
 
-/// Adds a text between two marks. Fails for want of memory alone.
+/// Adds a text between two marks.
 #[tactic(auto, unfolding(crate::specs::Tables::framed_text))]
 pub(crate) fn add_framed(
     page: &mut Vec<u8>,
@@ -44,7 +44,7 @@ pub(crate) fn add_framed(
     page.extend_from_slice(end.as_bytes())
 }
 
-/// Adds texts, each between two marks. Fails for want of memory alone.
+/// Adds texts, each between two marks.
 #[tactic(auto, unfolding(crate::specs::Tables::framed_texts))]
 pub(crate) fn add_each_framed(
     page: &mut Vec<u8>,
@@ -86,7 +86,7 @@ fn add_heads(page: &mut Vec<u8>, heads: &[Text]) -> Result<(), AllocError>
     page.extend_from_slice(END_OF_HEADS.as_bytes())
 }
 
-/// Adds a table. Fails for want of memory alone.
+/// Adds a table.
 #[tactic(auto, unfolding(crate::specs::Tables::table_text))]
 pub(crate) fn add_table(page: &mut Vec<u8>, table: &Table) -> Result<(), AllocError>
     ensures { OnOk result (page.new.items ≡ page.old.items ++ table_text table.now) }
@@ -109,7 +109,7 @@ fn add_summary(page: &mut Vec<u8>, fold: &Fold) -> Result<(), AllocError>
     )
 }
 
-/// Adds a table that is folded. Fails for want of memory alone.
+/// Adds a table that is folded.
 #[tactic(auto, unfolding(crate::specs::Tables::fold_text))]
 pub(crate) fn add_fold(page: &mut Vec<u8>, fold: &Fold) -> Result<(), AllocError>
     ensures { OnOk result (page.new.items ≡ page.old.items ++ fold_text fold.now) }

@@ -18,7 +18,7 @@ pub enum Text {
     Named(Colour, Vec<u8>),
 }
 
-/// Adds an escaped text between two marks. Fails for want of memory alone.
+/// Adds an escaped text between two marks.
 #[tactic(auto, unfolding(crate::specs::Texts::between))]
 pub(crate) fn add_between(
     page: &mut Vec<u8>,
@@ -41,7 +41,7 @@ fn add_named(page: &mut Vec<u8>, colour: Colour, words: &[u8]) -> Result<(), All
     add_between(page, "\"></span><b>", words, "</b>")
 }
 
-/// Adds a text. Fails for want of memory alone.
+/// Adds a text.
 pub(crate) fn add_text(page: &mut Vec<u8>, text: &Text) -> Result<(), AllocError>
     ensures { OnOk result (page.new.items ≡ page.old.items ++ text_text text.now) }
 {

@@ -33,7 +33,8 @@ module _ (lists : List (List Need)) (first : ℕ) where
 
   pub no_pairs_with : (old : List Pair) → AddsPairsTo (first + 1) old old
   no_pairs_with old = record {
-    all = sym (append-nil (map members_of old)) ∙ (let none : 0 ≡ (first + 1) - (first + 1) = omega arith in ap (λ n. map members_of old ++ map (beside first) (range_with_len (first + 1) n)) none);
+    all = sym (append-nil (map members_of old)) ∙ (let none : 0 ≡ (first + 1) - (first + 1) = omega arith in ap (λ n. map members_of old
+        ++ map (beside first) (range_with_len (first + 1) n)) none);
     each = λ p h. inl h;
   }
 
@@ -44,7 +45,8 @@ module _ (lists : List (List Need)) (first : ℕ) where
   apart_by true needs others h = h
   apart_by false needs others h = h
 
-  pub one_pair_with : (second : ℕ) (needs others : List Need) (answer : Bool) (old list new : List Pair) → first + 1 ≤ second → slice_get lists first ≡ Some needs → slice_get lists second ≡ Some others → IsTold answer (ShareOne needs others)
+  pub one_pair_with : (second : ℕ) (needs others : List Need) (answer : Bool) (old list new : List Pair) → first + 1 ≤ second → slice_get lists first
+      ≡ Some needs → slice_get lists second ≡ Some others → IsTold answer (ShareOne needs others)
       → new ≡ list ++ pair second answer ∷ []
       → AddsPairsTo second old list
       → AddsPairsTo (second + 1) old new
@@ -55,7 +57,8 @@ module _ (lists : List (List Need)) (first : ℕ) where
     each = λ q h. by q (Contains-append_cases list (pair second answer ∷ []) q (subst (λ ps. Contains ps q) put h));
   }
     where
-      more : map (beside first) (range_with_len (first + 1) (second - (first + 1))) ++ beside first second ∷ [] ≡ map (beside first) (range_with_len (first + 1) ((second + 1) - (first + 1)))
+      more : map (beside first) (range_with_len (first + 1) (second - (first + 1))) ++ beside first second ∷ []
+          ≡ map (beside first) (range_with_len (first + 1) ((second + 1) - (first + 1)))
       more =
           let here : (first + 1) + (second - (first + 1)) ≡ second = omega (arith, from) in
           let next : (second + 1) - (first + 1) ≡ (second - (first + 1)) + 1 = omega (arith, from) in
@@ -94,7 +97,9 @@ module _ (lists : List (List Need)) where
 
   pub one_more_first : (k : ℕ) (old new : List Pair) → AddsPairs lists k old new → ArePairsTo k old → ArePairsTo (k + 1) new
   one_more_first k old new adds are = record {
-    all = adds.all ∙ (λ i. are.all i ++ pairs_with (length lists) k) ∙ sym (ap (flat_map (pairs_with (length lists))) (range_more 0 k k (omega arith)) ∙ flat_map-append (pairs_with (length lists)) (range_with_len 0 k) (k ∷ []) ∙ ap (λ ps. flat_map (pairs_with (length lists)) (range_with_len 0 k) ++ ps) (append-nil (pairs_with (length lists) k)));
+    all = adds.all ∙ (λ i. are.all i ++ pairs_with (length lists) k) ∙ sym (ap (flat_map (pairs_with (length lists))) (range_more 0 k k (omega arith))
+        ∙ flat_map-append (pairs_with (length lists)) (range_with_len 0 k) (k ∷ []) ∙ ap (λ ps. flat_map (pairs_with (length lists)) (range_with_len 0 k)
+        ++ ps) (append-nil (pairs_with (length lists) k)));
     each = λ p h. by p (adds.each p h);
   }
     where
@@ -102,7 +107,8 @@ module _ (lists : List (List Need)) where
       by p (inl h) = are.each p h
       by p (inr h) = h
 
-  pub all_pairs : (c : Setting ℕ) (count end : ℕ) (pairs : List Pair) → AreNeedsOf c count lists → end ≡ length lists → ArePairsTo end pairs → ArePairs c count pairs
+  pub all_pairs : (c : Setting ℕ) (count end : ℕ) (pairs : List Pair) → AreNeedsOf c count lists → end ≡ length lists → ArePairsTo end pairs
+      → ArePairs c count pairs
   all_pairs c count end pairs needs is are = record {
     all = are.all ∙ (λ i. flat_map (pairs_with (needs.long i)) (range_with_len 0 (whole i)));
     each = λ p h. pair_is_independent c count lists needs p (are.each p h);

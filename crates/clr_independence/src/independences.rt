@@ -27,7 +27,7 @@ pub enum Independence {
     Pairs(Vec<Pair>),
 }
 
-/// The answer where a test of members fails.
+/// Returns the answer where a test of members fails.
 fn of_fault(fault: Verdict) -> Result<Independence, AllocError>
     ensures { IfOk result (λ said. (o : Office) (s : Site) → IsFault o s fault → IsIndependenceOf o s said) }
 {
@@ -37,7 +37,7 @@ fn of_fault(fault: Verdict) -> Result<Independence, AllocError>
     }
 }
 
-/// The answer where two members change a cell.
+/// Returns the answer where two members change a cell.
 fn of_shared(fault: SceneFault) -> Result<Independence, AllocError>
     ensures { IfOk result (λ said. (o : Office) (s : Site) → member_fault o s ≡ None → IsSceneFault (change_sets o s) fault
         → IsIndependenceOf o s said) }
@@ -59,7 +59,7 @@ fn of_shared(fault: SceneFault) -> Result<Independence, AllocError>
     }
 }
 
-/// The answer that the parts of a site give.
+/// Returns the answer that the parts of a site give.
 fn of_parts(
     alloc: Global,
     office: &Office,

@@ -30,7 +30,7 @@ fn add_pair(lines: &mut Vec<u8>, members: &[&str], pair: Pair) -> Result<(), All
     lines.extend_from_slice(b"\n")
 }
 
-/// The lines of pairs.
+/// Returns the lines of pairs.
 fn pair_lines(alloc: Global, members: &[&str], pairs: &[Pair]) -> Result<Vec<u8>, AllocError>
     ensures { IfOk result (λ lines. lines.items ≡ flat_map (pair_text (map (λ name. name.now) members.now)) pairs.now) }
 {
@@ -41,7 +41,7 @@ fn pair_lines(alloc: Global, members: &[&str], pairs: &[Pair]) -> Result<Vec<u8>
     Ok(lines)
 }
 
-/// The line of members that are unfit.
+/// Returns the line of members that are unfit.
 fn unfit_line(
     alloc: Global,
     schema: &Schema,

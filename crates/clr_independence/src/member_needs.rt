@@ -13,7 +13,7 @@ use clr_needs::Need;
 use clr_rows::RowView;
 use std::alloc::{AllocError, Global};
 
-/// Whether a need is among some.
+/// Returns whether a need is among some.
 fn is_among(needs: &[Need], need: Need) -> bool
     requires { IsStrictlySortedBy need_cmp needs.now }
     ensures { IsTold result (Contains needs.now need) }
@@ -21,7 +21,7 @@ fn is_among(needs: &[Need], need: Need) -> bool
     needs.binary_search(&need).is_ok()
 }
 
-/// Whether two lists have a need in common.
+/// Returns whether two lists have a need in common.
 pub(crate) fn share_one(needs: &[Need], others: &[Need]) -> bool
     requires { IsStrictlySortedBy need_cmp others.now }
     ensures { IsTold result (ShareOne needs.now others.now) }
@@ -34,7 +34,7 @@ pub(crate) fn share_one(needs: &[Need], others: &[Need]) -> bool
     false
 }
 
-/// The possible needs that involve each member.
+/// Returns the possible needs that involve each member.
 pub(crate) fn needs_of_members<V: RowView, F: RowFinder>(
     alloc: Global,
     scene: &Scene<'_, V, F>,

@@ -19,7 +19,7 @@ pub enum Wanted {
 }
 
 impl Wanted {
-    /// Whether a value may stand there.
+    /// Returns whether a value may stand there.
     fn admits(self, json: &Json) -> bool {
         match self {
             Wanted::Text => json.is_string(),
@@ -35,7 +35,7 @@ impl Wanted {
         matches!(self, Wanted::OptionalList | Wanted::OptionalFlag)
     }
 
-    /// What must stand there, with its article.
+    /// Returns what must stand there, with its article.
     fn name(self) -> &'static str {
         match self {
             Wanted::Text => "a text",
@@ -48,7 +48,7 @@ impl Wanted {
     }
 }
 
-/// The text at a key, or no text.
+/// Returns the text at a key, or no text.
 pub fn text_at(json: &Json, key: Key) -> &str {
     match json.get(key.as_str()) {
         Some(value) => value.as_str().unwrap_or(""),
@@ -56,7 +56,7 @@ pub fn text_at(json: &Json, key: Key) -> &str {
     }
 }
 
-/// The items of the list at a key, or none of them where no list stands there.
+/// Returns the items of the list at a key, or none of them where no list stands there.
 pub fn items_at(json: &Json, key: Key) -> &[Json] {
     match json.get(key.as_str()) {
         Some(value) => match value.as_array() {
@@ -67,7 +67,7 @@ pub fn items_at(json: &Json, key: Key) -> &[Json] {
     }
 }
 
-/// What is wrong with a value, where it isn't what must stand there.
+/// Returns what is wrong with a value, where it isn't what must stand there.
 pub fn explain_value(
     alloc: Global,
     json: &Json,
@@ -82,7 +82,7 @@ pub fn explain_value(
     Ok(Some(Slip::new(alloc, &[], sentence)?))
 }
 
-/// What is wrong with a coordinate, where it is no whole number.
+/// Returns what is wrong with a coordinate, where it is no whole number.
 pub fn explain_coordinate(alloc: Global, json: &Json) -> Result<Option<Slip>, AllocError> {
     if json.as_i64().is_some() {
         return Ok(None);
@@ -99,7 +99,8 @@ pub fn explain_coordinate(alloc: Global, json: &Json) -> Result<Option<Slip>, Al
     Ok(Some(Slip::new(alloc, &[], sentence)?.with_hint(hint)))
 }
 
-/// What is wrong with the value at a key of an object, where it is missing or isn't what must stand there.
+/// Returns what is wrong with the value at a key of an object, where it is missing or isn't what must
+/// stand there.
 pub fn explain_field(
     alloc: Global,
     json: &Json,
@@ -121,7 +122,8 @@ pub fn explain_field(
     }
 }
 
-/// What is wrong with the first of these fields of an object that is missing or isn't what must stand there.
+/// Returns what is wrong with the first of these fields of an object that is missing or isn't what must
+/// stand there.
 pub fn explain_fields(
     alloc: Global,
     json: &Json,
@@ -135,7 +137,7 @@ pub fn explain_fields(
     Ok(None)
 }
 
-/// What is wrong with a word, where it is none of those that may stand there.
+/// Returns what is wrong with a word, where it is none of those that may stand there.
 pub fn explain_word(
     alloc: Global,
     json: &Json,
@@ -153,7 +155,7 @@ pub fn explain_word(
     Ok(Some(Slip::new(alloc, &[], sentence)?.with_hint(hint)))
 }
 
-/// What is wrong with the word at a key of an object.
+/// Returns what is wrong with the word at a key of an object.
 pub fn explain_word_at(
     alloc: Global,
     json: &Json,

@@ -14,7 +14,7 @@ use clr_rows::{
 use serde_json::Value as Json;
 use std::alloc::{AllocError, Global};
 
-/// The name of a fault, as a refused edit has it.
+/// Returns the name of a fault, as a refused edit has it.
 fn row_fault_word(fault: RowFault) -> &'static str
     ensures { result.now ≡ row_fault_name fault }
 {
@@ -30,7 +30,7 @@ fn row_fault_word(fault: RowFault) -> &'static str
     }
 }
 
-/// The name of a column, and whether it has numbers or texts.
+/// Returns the name of a column, and whether it has numbers or texts.
 fn column_at(table: &TableDef, at: usize) -> Option<(&str, Kind)> {
     let column = table.columns.as_slice().get(at)?;
     Some((column.0.as_str(), column.1))
@@ -43,7 +43,7 @@ fn kind_word(kind: Kind) -> &'static str {
     }
 }
 
-/// That there are more or fewer values than columns.
+/// Returns that there are more or fewer values than columns.
 fn wrong_count(alloc: Global, json: &Json, table: &TableDef) -> Result<Slip, AllocError> {
     let count = items_at(json, Key::V).len();
     let columns = column_names(alloc, table)?;
@@ -57,7 +57,7 @@ fn wrong_count(alloc: Global, json: &Json, table: &TableDef) -> Result<Slip, All
     Slip::new(alloc, &[Step::Key(Key::V)], sentence)
 }
 
-/// That a value is of another kind than its column.
+/// Returns that a value is of another kind than its column.
 fn wrong_kind(alloc: Global, json: &Json, table: &TableDef) -> Result<Slip, AllocError> {
     for (at, value) in items_at(json, Key::V).iter().enumerate() {
         let Some((name, kind)) = column_at(table, at) else {
@@ -78,7 +78,7 @@ fn wrong_kind(alloc: Global, json: &Json, table: &TableDef) -> Result<Slip, Allo
     )
 }
 
-/// That a text is too long.
+/// Returns that a text is too long.
 fn words_too_long(alloc: Global, json: &Json) -> Result<Slip, AllocError> {
     for (at, value) in items_at(json, Key::V).iter().enumerate() {
         let bytes = value.as_str().unwrap_or("").len();
@@ -92,7 +92,7 @@ fn words_too_long(alloc: Global, json: &Json) -> Result<Slip, AllocError> {
     Slip::of_words(alloc, &[Step::Key(Key::V)], "a text is too long")
 }
 
-/// That the shape isn't the table's.
+/// Returns that the shape isn't the table's.
 fn wrong_shape(alloc: Global, json: &Json, table: &TableDef) -> Result<Slip, AllocError> {
     let count = items_at(json, Key::S).len();
     let wanted = coordinates_of(Some(table.shape));
@@ -101,7 +101,7 @@ fn wrong_shape(alloc: Global, json: &Json, table: &TableDef) -> Result<Slip, All
     Slip::new(alloc, &[Step::Key(Key::S)], sentence)
 }
 
-/// The key of a cell, where it is beyond its limits.
+/// Returns the key of a cell, where it is beyond its limits.
 fn far_key(json: &Json) -> Option<i64> {
     let key = json.get("k")?.as_i64()?;
     if 1 <= key && key <= GREATEST_KEY {
@@ -111,7 +111,7 @@ fn far_key(json: &Json) -> Option<i64> {
     }
 }
 
-/// That the key or a coordinate is beyond its limits.
+/// Returns that the key or a coordinate is beyond its limits.
 fn out_of_range(alloc: Global, json: &Json) -> Result<Slip, AllocError> {
     if let Some(key) = far_key(json) {
         let sentence = format!(in alloc; "the key {key} isn't from 1 to {GREATEST_KEY}")?;
@@ -129,7 +129,7 @@ fn out_of_range(alloc: Global, json: &Json) -> Result<Slip, AllocError> {
     Slip::of_words(alloc, &[], "the key or a coordinate is out of range")
 }
 
-/// That no table has the name of a cell.
+/// Returns that no table has the name of a cell.
 fn no_table(alloc: Global, json: &Json, schema: &Schema) -> Result<Slip, AllocError> {
     let name = text_at(json, Key::T);
     let names = table_names(alloc, schema)?;
@@ -138,7 +138,7 @@ fn no_table(alloc: Global, json: &Json, schema: &Schema) -> Result<Slip, AllocEr
     Ok(Slip::new(alloc, &[Step::Key(Key::T)], sentence)?.with_hint(hint))
 }
 
-/// Why a row can't stand in its table.
+/// Returns why a row can't stand in its table.
 fn of_fault(
     alloc: Global,
     json: &Json,
@@ -163,7 +163,6 @@ fn of_fault(
 }
 
 /// Returns why the row of an item can't stand at its cell, for the fault that it has: the name of the fault, and a sentence.
-/// Fails for want of memory alone.
 pub fn explain_row_fault(
     alloc: Global,
     json: &Json,
@@ -179,7 +178,7 @@ pub fn explain_row_fault(
     slip.named(alloc, row_fault_word(fault))
 }
 
-/// Returns that the table of an item isn't known, where it isn't. Fails for want of memory alone.
+/// Returns that the table of an item isn't known, where it isn't.
 pub fn explain_unknown_table(
     alloc: Global,
     json: &Json,

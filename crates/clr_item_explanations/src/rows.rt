@@ -15,7 +15,7 @@ pub enum Within {
     Workspace,
 }
 
-/// Whether a cell says that no row stands there.
+/// Returns whether a cell says that no row stands there.
 fn is_gone(json: &Json) -> bool {
     match json.get("gone") {
         Some(flag) => flag.as_bool() == Some(true),
@@ -23,12 +23,12 @@ fn is_gone(json: &Json) -> bool {
     }
 }
 
-/// The form of the rows of a cell's table, where it is known.
+/// Returns the form of the rows of a cell's table, where it is known.
 fn form_at(schema: &Schema, json: &Json) -> Option<Form> {
     Some(table_of(schema, text_at(json, Key::T))?.shape)
 }
 
-/// What is wrong with the first value of a row that is neither a text nor a whole number.
+/// Returns what is wrong with the first value of a row that is neither a text nor a whole number.
 fn explain_values(alloc: Global, json: &Json) -> Result<Option<Slip>, AllocError> {
     for (at, value) in items_at(json, Key::V).iter().enumerate() {
         if let Some(slip) = explain_value(alloc, value, Wanted::Value)? {
@@ -38,7 +38,7 @@ fn explain_values(alloc: Global, json: &Json) -> Result<Option<Slip>, AllocError
     Ok(None)
 }
 
-/// What is wrong with the first coordinate of a row that is no whole number.
+/// Returns what is wrong with the first coordinate of a row that is no whole number.
 fn explain_coordinates(alloc: Global, json: &Json) -> Result<Option<Slip>, AllocError> {
     for (at, value) in items_at(json, Key::S).iter().enumerate() {
         if let Some(slip) = explain_coordinate(alloc, value)? {
@@ -48,7 +48,7 @@ fn explain_coordinates(alloc: Global, json: &Json) -> Result<Option<Slip>, Alloc
     Ok(None)
 }
 
-/// How many coordinates a row of a form has.
+/// Returns how many coordinates a row of a form has.
 pub(crate) fn coordinates_of(form: Option<Form>) -> &'static str {
     match form {
         Some(Form::Bare) => "a row of shape NONE has none",
@@ -59,7 +59,7 @@ pub(crate) fn coordinates_of(form: Option<Form>) -> &'static str {
     }
 }
 
-/// What is wrong with the count of coordinates, which is none that a row of any form has.
+/// Returns what is wrong with the count of coordinates, which is none that a row of any form has.
 fn explain_count(
     alloc: Global,
     json: &Json,
@@ -74,7 +74,7 @@ fn explain_count(
     Ok(Some(Slip::new(alloc, &[Step::Key(Key::S)], sentence)?))
 }
 
-/// What is wrong with the values and the shape of a row.
+/// Returns what is wrong with the values and the shape of a row.
 fn explain_content(
     alloc: Global,
     json: &Json,
@@ -95,8 +95,7 @@ fn explain_content(
     explain_count(alloc, json, form_at(schema, json))
 }
 
-/// Returns what is wrong with the fields of a row or of a cell that can't be read, or none where nothing is found. Fails for want
-/// of memory alone.
+/// Returns what is wrong with the fields of a row or of a cell that can't be read, or none where nothing is found.
 pub fn explain_row(
     alloc: Global,
     json: &Json,

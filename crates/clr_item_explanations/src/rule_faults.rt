@@ -12,7 +12,7 @@ use clr_rules::RuleFault;
 use serde_json::Value as Json;
 use std::alloc::{AllocError, Global};
 
-/// That the schema hasn't the table of a side, where it hasn't.
+/// Returns that the schema hasn't the table of a side, where it hasn't.
 fn unknown_table(alloc: Global, side: &Json, schema: &Schema) -> Result<Option<Slip>, AllocError> {
     let name = text_at(side, Key::Table);
     if table_of(schema, name).is_some() {
@@ -24,7 +24,7 @@ fn unknown_table(alloc: Global, side: &Json, schema: &Schema) -> Result<Option<S
     Ok(Some(Slip::new(alloc, &[Step::Key(Key::Table)], sentence)?.with_hint(hint)))
 }
 
-/// That a table hasn't a column of a name, where it hasn't.
+/// Returns that a table hasn't a column of a name, where it hasn't.
 fn unknown_column(alloc: Global, name: &str, table: &TableDef) -> Result<Option<Slip>, AllocError> {
     let names = column_names(alloc, table)?;
     if names.as_slice().contains(&name) {
@@ -36,7 +36,7 @@ fn unknown_column(alloc: Global, name: &str, table: &TableDef) -> Result<Option<
     Ok(Some(Slip::new(alloc, &[], sentence)?.with_hint(hint)))
 }
 
-/// The name of the column of a literal, or no text.
+/// Returns the name of the column of a literal, or no text.
 fn column_of_literal(literal: &Json) -> &str {
     match literal.as_array() {
         Some(pair) => match pair.first() {
@@ -47,7 +47,7 @@ fn column_of_literal(literal: &Json) -> &str {
     }
 }
 
-/// The first column of a side's literals that its table hasn't.
+/// Returns the first column of a side's literals that its table hasn't.
 fn unknown_literal(
     alloc: Global,
     side: &Json,
@@ -62,7 +62,7 @@ fn unknown_literal(
     Ok(None)
 }
 
-/// What a side names that the schema hasn't.
+/// Returns what a side names that the schema hasn't.
 fn unknown_in_side(
     alloc: Global,
     side: &Json,
@@ -74,7 +74,7 @@ fn unknown_in_side(
     }
 }
 
-/// What the side at a key of a rule names that the schema hasn't.
+/// Returns what the side at a key of a rule names that the schema hasn't.
 fn unknown_in_side_at(
     alloc: Global,
     json: &Json,
@@ -90,12 +90,12 @@ fn unknown_in_side_at(
     }
 }
 
-/// The table of the side at a key of a rule.
+/// Returns the table of the side at a key of a rule.
 fn side_table<'a>(json: &Json, key: Key, schema: &'a Schema) -> Option<&'a TableDef> {
     table_of(schema, text_at(json.get(key.as_str())?, Key::Table))
 }
 
-/// The first name of a list of columns that a table hasn't.
+/// Returns the first name of a list of columns that a table hasn't.
 fn unknown_in_columns(
     alloc: Global,
     json: &Json,
@@ -114,7 +114,7 @@ fn unknown_in_columns(
     Ok(None)
 }
 
-/// What a field of a rule names that the schema hasn't.
+/// Returns what a field of a rule names that the schema hasn't.
 fn unknown_in_part(
     alloc: Global,
     json: &Json,
@@ -131,7 +131,7 @@ fn unknown_in_part(
     }
 }
 
-/// Returns the first table or column that a rule names and the schema hasn't, or none. Fails for want of memory alone.
+/// Returns the first table or column that a rule names and the schema hasn't, or none.
 pub fn explain_unknown_name(
     alloc: Global,
     json: &Json,
@@ -145,7 +145,7 @@ pub fn explain_unknown_name(
     Ok(None)
 }
 
-/// The name of a fault of a book of rules.
+/// Returns the name of a fault of a book of rules.
 fn rule_fault_word(fault: RuleFault) -> &'static str
     ensures { result.now ≡ rule_fault_name fault }
 {
@@ -160,7 +160,7 @@ fn rule_fault_word(fault: RuleFault) -> &'static str
     }
 }
 
-/// What a fault of a book of rules means.
+/// Returns what a fault of a book of rules means.
 fn sentence_of(fault: RuleFault) -> &'static str {
     match fault {
         RuleFault::NoTable => "the table of a side isn't known",
@@ -174,7 +174,6 @@ fn sentence_of(fault: RuleFault) -> &'static str {
 }
 
 /// Returns why a rule can't stand in a book over the schema, for the fault that it has: the name of the fault, and a sentence.
-/// Fails for want of memory alone.
 pub fn explain_rule_fault(alloc: Global, fault: RuleFault) -> Result<Slip, AllocError>
     ensures { IfOk result (λ slip. IsNamed (rule_fault_name fault) (string_bytes slip.sentence)) }
 {

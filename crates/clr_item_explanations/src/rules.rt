@@ -24,7 +24,7 @@ pub(crate) enum Part {
     Distance,
 }
 
-/// The fields of a rule of its kind.
+/// Returns the fields of a rule of its kind.
 pub(crate) fn parts_of(json: &Json) -> &'static [Part] {
     match text_at(json, Key::Kind) {
         "UNIQUE" => &[
@@ -48,7 +48,7 @@ pub(crate) fn parts_of(json: &Json) -> &'static [Part] {
     }
 }
 
-/// What is wrong with a literal, which is the name of a column and a value.
+/// Returns what is wrong with a literal, which is the name of a column and a value.
 fn explain_literal(alloc: Global, json: &Json) -> Result<Option<Slip>, AllocError> {
     let Some(items) = json.as_array() else {
         return explain_value(alloc, json, Wanted::List);
@@ -67,7 +67,7 @@ fn explain_literal(alloc: Global, json: &Json) -> Result<Option<Slip>, AllocErro
     }
 }
 
-/// What is wrong with a side that can't be read.
+/// Returns what is wrong with a side that can't be read.
 fn explain_side(alloc: Global, json: &Json) -> Result<Option<Slip>, AllocError> {
     let head = [
         (Key::Table, Wanted::Text),
@@ -84,7 +84,7 @@ fn explain_side(alloc: Global, json: &Json) -> Result<Option<Slip>, AllocError> 
     Ok(None)
 }
 
-/// What is wrong with the side at a key of a rule.
+/// Returns what is wrong with the side at a key of a rule.
 fn explain_side_at(alloc: Global, json: &Json, key: Key) -> Result<Option<Slip>, AllocError> {
     match json.get(key.as_str()) {
         Some(side) => match explain_side(alloc, side)? {
@@ -95,7 +95,7 @@ fn explain_side_at(alloc: Global, json: &Json, key: Key) -> Result<Option<Slip>,
     }
 }
 
-/// What is wrong with a list of columns that can't be read.
+/// Returns what is wrong with a list of columns that can't be read.
 fn explain_columns(alloc: Global, json: &Json, key: Key) -> Result<Option<Slip>, AllocError> {
     if let Some(slip) = explain_field(alloc, json, key, Wanted::List)? {
         return Ok(Some(slip));
@@ -108,7 +108,7 @@ fn explain_columns(alloc: Global, json: &Json, key: Key) -> Result<Option<Slip>,
     Ok(None)
 }
 
-/// What is wrong with a field of a rule that can't be read.
+/// Returns what is wrong with a field of a rule that can't be read.
 fn explain_part(alloc: Global, json: &Json, part: Part) -> Result<Option<Slip>, AllocError> {
     match part {
         Part::Side(key) => explain_side_at(alloc, json, key),
@@ -118,7 +118,7 @@ fn explain_part(alloc: Global, json: &Json, part: Part) -> Result<Option<Slip>, 
     }
 }
 
-/// Returns what is wrong with a rule that can't be read, or none where nothing is found. Fails for want of memory alone.
+/// Returns what is wrong with a rule that can't be read, or none where nothing is found.
 pub fn explain_rule(alloc: Global, json: &Json) -> Result<Option<Slip>, AllocError> {
     if let Some(slip) = explain_word_at(alloc, json, Key::Kind, KINDS)? {
         return Ok(Some(slip));

@@ -9,7 +9,7 @@ use clr_rows::{KEY, MOST_COLUMNS, MOST_TABLES, SchemaFault, good_name};
 use serde_json::Value as Json;
 use std::alloc::{AllocError, Global};
 
-/// The name of a column, or no text.
+/// Returns the name of a column, or no text.
 fn column_name(json: &Json) -> &str {
     match json.as_array() {
         Some(items) => match items.first() {
@@ -20,7 +20,7 @@ fn column_name(json: &Json) -> &str {
     }
 }
 
-/// The first column of a table with a bad name.
+/// Returns the first column of a table with a bad name.
 fn bad_column(alloc: Global, json: &Json) -> Result<Option<Slip>, AllocError> {
     for (at, column) in items_at(json, Key::Columns).iter().enumerate() {
         let name = column_name(column);
@@ -33,7 +33,7 @@ fn bad_column(alloc: Global, json: &Json) -> Result<Option<Slip>, AllocError> {
     Ok(None)
 }
 
-/// That a table has a bad name, or a column with one.
+/// Returns that a table has a bad name, or a column with one.
 fn bad_name_in(alloc: Global, table: &Json) -> Result<Option<Slip>, AllocError> {
     let name = text_at(table, Key::Name);
     if good_name(name) {
@@ -43,7 +43,7 @@ fn bad_name_in(alloc: Global, table: &Json) -> Result<Option<Slip>, AllocError> 
     Ok(Some(Slip::new(alloc, &[Step::Key(Key::Name)], sentence)?))
 }
 
-/// The first table with a bad name, or with a column that has one.
+/// Returns the first table with a bad name, or with a column that has one.
 fn bad_name(alloc: Global, json: &Json) -> Result<Slip, AllocError> {
     for (at, table) in items_at(json, Key::Tables).iter().enumerate() {
         if let Some(slip) = bad_name_in(alloc, table)? {
@@ -57,7 +57,7 @@ fn bad_name(alloc: Global, json: &Json) -> Result<Slip, AllocError> {
     )
 }
 
-/// The first column of a table whose name stands there before.
+/// Returns the first column of a table whose name stands there before.
 fn column_taken(alloc: Global, json: &Json) -> Result<Option<Slip>, AllocError> {
     let mut names: Vec<&str> = Vec::new(alloc);
     for (at, column) in items_at(json, Key::Columns).iter().enumerate() {
@@ -72,7 +72,7 @@ fn column_taken(alloc: Global, json: &Json) -> Result<Option<Slip>, AllocError> 
     Ok(None)
 }
 
-/// That a table has one of these names, or a column whose name stands there before.
+/// Returns that a table has one of these names, or a column whose name stands there before.
 fn name_taken_in(alloc: Global, table: &Json, names: &[&str]) -> Result<Option<Slip>, AllocError> {
     let name = text_at(table, Key::Name);
     if !names.contains(&name) {
@@ -82,7 +82,7 @@ fn name_taken_in(alloc: Global, table: &Json, names: &[&str]) -> Result<Option<S
     Ok(Some(Slip::new(alloc, &[Step::Key(Key::Name)], sentence)?))
 }
 
-/// The first table whose name stands before, or that has a column whose name does.
+/// Returns the first table whose name stands before, or that has a column whose name does.
 fn name_taken(alloc: Global, json: &Json) -> Result<Slip, AllocError> {
     let mut names: Vec<&str> = Vec::new(alloc);
     for (at, table) in items_at(json, Key::Tables).iter().enumerate() {
@@ -98,7 +98,7 @@ fn name_taken(alloc: Global, json: &Json) -> Result<Slip, AllocError> {
     )
 }
 
-/// That there are too many tables, or too many columns in one.
+/// Returns that there are too many tables, or too many columns in one.
 fn too_many(alloc: Global, json: &Json) -> Result<Slip, AllocError> {
     for (at, table) in items_at(json, Key::Tables).iter().enumerate() {
         let count = items_at(table, Key::Columns).len();
@@ -119,7 +119,7 @@ fn too_many(alloc: Global, json: &Json) -> Result<Slip, AllocError> {
     Slip::new(alloc, &[Step::Key(Key::Tables)], sentence)
 }
 
-/// The name of a fault of a schema.
+/// Returns the name of a fault of a schema.
 fn schema_fault_word(fault: SchemaFault) -> &'static str
     ensures { result.now ≡ schema_fault_name fault }
 {
@@ -131,7 +131,7 @@ fn schema_fault_word(fault: SchemaFault) -> &'static str
 }
 
 /// Returns why the tables of an office text make no schema, for the fault that they have: the name of the fault, and a sentence.
-/// Its steps lead from the whole text. Fails for want of memory alone.
+/// Its steps lead from the whole text.
 pub fn explain_schema(alloc: Global, json: &Json, fault: SchemaFault) -> Result<Slip, AllocError>
     ensures { IfOk result (λ slip. IsNamed (schema_fault_name fault) (string_bytes slip.sentence)) }
 {

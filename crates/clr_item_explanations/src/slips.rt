@@ -13,7 +13,7 @@ pub struct Slip {
 }
 
 impl Slip {
-    /// Returns a slip with a sentence on the value at these steps, without a hint. Fails for want of memory alone.
+    /// Returns a slip with a sentence on the value at these steps, without a hint.
     pub fn new(alloc: Global, steps: &[Step], sentence: String) -> Result<Slip, AllocError>
         ensures { IfOk result (λ slip. slip.sentence ≡ sentence) }
     {
@@ -24,7 +24,7 @@ impl Slip {
         })
     }
 
-    /// Returns a slip with these words as its sentence. Fails for want of memory alone.
+    /// Returns a slip with these words as its sentence.
     pub fn of_words(alloc: Global, steps: &[Step], sentence: &str) -> Result<Slip, AllocError> {
         let sentence = String::from_str(alloc, sentence)?;
         Slip::new(alloc, steps, sentence)
@@ -41,7 +41,7 @@ impl Slip {
         }
     }
 
-    /// Returns the same of an item that holds this one: with steps before its own. Fails for want of memory alone.
+    /// Returns the same of an item that holds this one: with steps before its own.
     pub fn below(self, alloc: Global, steps: &[Step]) -> Result<Slip, AllocError>
         ensures { IfOk result (λ slip. slip.sentence ≡ self.sentence) }
     {
@@ -54,7 +54,7 @@ impl Slip {
         })
     }
 
-    /// Returns the same with the name of a fault before its sentence. Fails for want of memory alone.
+    /// Returns the same with the name of a fault before its sentence.
     pub fn named(self, alloc: Global, name: &str) -> Result<Slip, AllocError>
         ensures { IfOk result (λ slip. string_bytes slip.sentence ≡ name.now ++ codes ": " ++ string_bytes self.sentence) }
     {

@@ -14,7 +14,7 @@ const KINDS: &[&str] = &["INT", "TEXT"];
 
 const SHAPES: &[&str] = &["NONE", "POINT", "SEGMENT", "PATH"];
 
-/// What is wrong with a column, which is a name and a kind.
+/// Returns what is wrong with a column, which is a name and a kind.
 fn explain_column(alloc: Global, json: &Json) -> Result<Option<Slip>, AllocError> {
     let Some(items) = json.as_array() else {
         return explain_value(alloc, json, Wanted::List);
@@ -33,7 +33,7 @@ fn explain_column(alloc: Global, json: &Json) -> Result<Option<Slip>, AllocError
     }
 }
 
-/// What is wrong with the first column of a table that can't be read.
+/// Returns what is wrong with the first column of a table that can't be read.
 fn explain_columns(alloc: Global, json: &Json) -> Result<Option<Slip>, AllocError> {
     for (at, column) in items_at(json, Key::Columns).iter().enumerate() {
         if let Some(slip) = explain_column(alloc, column)? {
@@ -43,7 +43,7 @@ fn explain_columns(alloc: Global, json: &Json) -> Result<Option<Slip>, AllocErro
     Ok(None)
 }
 
-/// Returns what is wrong with a table that can't be read, or none where nothing is found. Fails for want of memory alone.
+/// Returns what is wrong with a table that can't be read, or none where nothing is found.
 pub fn explain_table(
     alloc: Global,
     json: &Json,

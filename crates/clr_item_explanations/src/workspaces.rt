@@ -25,7 +25,7 @@ fn earlier_names<'a>(
     Ok(names)
 }
 
-/// That the parent of a workspace is neither LIVE nor an earlier one, where it isn't.
+/// Returns that the parent of a workspace is neither LIVE nor an earlier one, where it isn't.
 fn explain_parent(alloc: Global, json: &Json, names: &[&str]) -> Result<Option<Slip>, AllocError> {
     let parent = text_at(json, Key::Parent);
     if names.contains(&parent) {
@@ -39,7 +39,7 @@ fn explain_parent(alloc: Global, json: &Json, names: &[&str]) -> Result<Option<S
 }
 
 /// Returns what is wrong with the workspace at a place of an office text, its cells and marks aside, or none where nothing is
-/// found. Fails for want of memory alone.
+/// found.
 pub fn explain_workspace(
     alloc: Global,
     text: &Json,
@@ -69,7 +69,7 @@ pub fn explain_workspace(
     explain_fields(alloc, json, &lists)
 }
 
-/// Returns what is wrong with a mark, its cells aside, or none where nothing is found. Fails for want of memory alone.
+/// Returns what is wrong with a mark, its cells aside, or none where nothing is found.
 pub fn explain_mark(alloc: Global, json: &Json) -> Result<Option<Slip>, AllocError> {
     if json.get("child").is_some() {
         return explain_field(alloc, json, Key::Child, Wanted::Text);
@@ -81,7 +81,7 @@ pub fn explain_mark(alloc: Global, json: &Json) -> Result<Option<Slip>, AllocErr
     explain_fields(alloc, json, &fields)
 }
 
-/// The name of a fault of a workspace among all of them.
+/// Returns the name of a fault of a workspace among all of them.
 fn part_fault_word(fault: PartFault) -> &'static str
     ensures { result.now ≡ part_fault_name fault }
 {
@@ -95,7 +95,7 @@ fn part_fault_word(fault: PartFault) -> &'static str
     }
 }
 
-/// What a fault of a workspace among all of them means.
+/// Returns what a fault of a workspace among all of them means.
 fn sentence_of(alloc: Global, name: &str, fault: PartFault) -> Result<String, AllocError> {
     match fault {
         PartFault::BadName => format!(in alloc; "'{name}' is no good name of a workspace"),
@@ -114,7 +114,7 @@ fn sentence_of(alloc: Global, name: &str, fault: PartFault) -> Result<String, Al
     }
 }
 
-/// The key of a workspace at which its fault among all of them stands.
+/// Returns the key of a workspace at which its fault among all of them stands.
 fn key_of(fault: PartFault) -> Key {
     match fault {
         PartFault::NoParent => Key::Parent,
@@ -123,8 +123,7 @@ fn key_of(fault: PartFault) -> Key {
     }
 }
 
-/// Returns why a workspace can't stand among all of them, for the fault that it has: the name of the fault, and a sentence. Fails
-/// for want of memory alone.
+/// Returns why a workspace can't stand among all of them, for the fault that it has: the name of the fault, and a sentence.
 pub fn explain_part(alloc: Global, workspace: &Json, fault: PartFault) -> Result<Slip, AllocError>
     ensures { IfOk result (λ slip. IsNamed (part_fault_name fault) (string_bytes slip.sentence)) }
 {

@@ -1,7 +1,7 @@
 -- What the first fault of a list says of the item and of those before it.
 use Rattle.std.proofs.Common.{◌≡◌, ℕ, suc, zero, ◌+◌, ◌<◌, Some, Result, Ok, Err, refl, ap, arith}
 use Rattle.serde_json.specs.Data.{Data, Items, no_items, item}
-use Rattle.clr_office_text.specs.declared.faults.TextFault.{TextFault}
+use Rattle.clr_rule_text.specs.declared.faults.TextFault.{TextFault}
 use Rattle.clr_item_faults.specs.FirstFaults.{AloneLaw, IsFirstAlone, IsFirstFault, LeftLaw, alone, fault_or, first_fault_from, item_at}
 
 -- the first fault of a list from a place on is that of its first item, or stands behind what that leaves

@@ -12,12 +12,12 @@ use Rattle.clr_rows.specs.declared.tables.TableDef.{TableDef}
 use Rattle.clr_layers.specs.Entries.{stored_layer}
 use Rattle.clr_layers.specs.Layers.{Layer}
 use Rattle.clr_layers.specs.declared.stored_parts.StoredPart.{StoredPart}
-use Rattle.clr_office_text.specs.declared.faults.TextFault.{TextFault}
-use Rattle.clr_office_text.specs.declared.faults.TextFault.TheVariants as fault
+use Rattle.clr_rule_text.specs.declared.faults.TextFault.{TextFault}
+use Rattle.clr_rule_text.specs.declared.faults.TextFault.TheVariants as fault
 use Rattle.clr_office_text.specs.declared.formats.Format.{Format}
-use Rattle.clr_office_text.specs.Fields.{Fails}
+use Rattle.clr_rule_text.specs.Fields.{Fails}
 use Rattle.clr_office_text.specs.Workspaces.{layer_of}
-use Rattle.clr_office_text.proofs.EachItem.{fails_with}
+use Rattle.clr_rule_text.proofs.EachItem.{fails_with}
 use Rattle.clr_item_faults.specs.FirstFaults.{fault_or, first_fault_from}
 use Rattle.clr_item_faults.specs.Readings.{layers_with}
 use Rattle.clr_item_faults.proofs.Lost.{fails_exactly}

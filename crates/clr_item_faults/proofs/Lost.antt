@@ -2,9 +2,9 @@
 use Rattle.std.proofs.Common.{◌≡◌, ◌≢◌, Option, None, Result, Err, refl, ◌∙◌}
 use Rattle.std.proofs.lemmas.Result.{IfOk-weaker}
 use Rattle.std.specs.Prelude.{IfOk}
-use Rattle.clr_office_text.specs.declared.faults.TextFault.{TextFault}
-use Rattle.clr_office_text.specs.declared.faults.TextFault.TheVariants as fault
-use Rattle.clr_office_text.specs.Fields.{◌>>=◌, Fails}
+use Rattle.clr_rule_text.specs.declared.faults.TextFault.{TextFault}
+use Rattle.clr_rule_text.specs.declared.faults.TextFault.TheVariants as fault
+use Rattle.clr_rule_text.specs.Fields.{◌>>=◌, Fails}
 use Rattle.clr_item_faults.specs.InnerFaults.{if_read}
 
 pub fails_exactly : {A : Type 0} (e : TextFault) (r : Result A TextFault) → e ≢ fault.OutOfMemory → Fails e r → r ≡ Err e

@@ -7,12 +7,12 @@ use Rattle.clr_rows.specs.declared.faults.SchemaFault.{SchemaFault}
 use Rattle.clr_rows.specs.Schemas.{schema_fault}
 use Rattle.clr_rules.specs.declared.books.faults.RuleFault.{RuleFault}
 use Rattle.clr_rules.specs.Books.{book_fault}
-use Rattle.clr_office_text.specs.declared.faults.TextFault.{TextFault}
+use Rattle.clr_rule_text.specs.declared.faults.TextFault.{TextFault}
 use Rattle.clr_office_text.specs.declared.formats.Format.{Format}
 use Rattle.clr_office_text.specs.Cells.{cell_of}
-use Rattle.clr_office_text.specs.Fields.{◌>>=◌, each_in}
+use Rattle.clr_rule_text.specs.Fields.{◌>>=◌, each_in}
 use Rattle.clr_office_text.specs.Patches.{named_cell_of, put_fault}
-use Rattle.clr_office_text.specs.Rules.{named_rules_of, rule_over}
+use Rattle.clr_rule_text.specs.Rules.{named_rules_of, rule_over}
 use Rattle.clr_office_text.specs.Tables.{tables_of}
 
 -- what a text that can be read has, if anything

@@ -4,11 +4,11 @@ use Rattle.serde_json.specs.Data.{Items}
 use Rattle.clr_rows.specs.declared.tables.TableDef.{TableDef}
 use Rattle.clr_rows.specs.Contents.{no_rows}
 use Rattle.clr_differences.specs.Differences.{no_differences}
-use Rattle.clr_office_text.specs.declared.faults.TextFault.{TextFault}
+use Rattle.clr_rule_text.specs.declared.faults.TextFault.{TextFault}
 use Rattle.clr_office_text.specs.declared.formats.Format.{Format}
 use Rattle.clr_office_text.specs.Cells.{named_row_of}
 use Rattle.clr_office_text.specs.Patches.{named_cell_of}
-use Rattle.clr_office_text.specs.Rules.{named_rule_of}
+use Rattle.clr_rule_text.specs.Rules.{named_rule_of}
 use Rattle.clr_office_text.specs.Workspaces.{named_mark_of}
 use Rattle.clr_item_faults.specs.FirstFaults.{alone, first_fault_from}
 use Rattle.clr_item_faults.specs.Readings.{layers_with, mark_reading, put_cell_of, put_row_of, readable, rule_reading}

@@ -5,12 +5,12 @@ use Rattle.clr_rows.specs.declared.tables.TableDef.{TableDef}
 use Rattle.clr_rows.specs.Contents.{Content}
 use Rattle.clr_differences.specs.Differences.{Differences}
 use Rattle.clr_layers.specs.Layers.{Layer}
-use Rattle.clr_office_text.specs.declared.faults.TextFault.{TextFault}
+use Rattle.clr_rule_text.specs.declared.faults.TextFault.{TextFault}
 use Rattle.clr_office_text.specs.declared.formats.Format.{Format}
 use Rattle.clr_office_text.specs.Cells.{named_row_of, with_row}
-use Rattle.clr_office_text.specs.Fields.{◌>>=◌}
+use Rattle.clr_rule_text.specs.Fields.{◌>>=◌}
 use Rattle.clr_office_text.specs.Patches.{named_cell_of, with_cell}
-use Rattle.clr_office_text.specs.Rules.{named_rule_of, rule_over}
+use Rattle.clr_rule_text.specs.Rules.{named_rule_of, rule_over}
 use Rattle.clr_office_text.specs.Workspaces.{layer_of, mark_over, named_mark_of}
 
 -- whether a value can be read, whatever it means

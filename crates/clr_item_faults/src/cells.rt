@@ -4,7 +4,7 @@ ghost use Rattle.std.specs.Prelude.{◌≡◌, IfOk, OnErr};
 ghost use Rattle.serde_json.specs.View.{items_view, view};
 ghost use Rattle.clr_rows.specs.Contents.{no_rows};
 ghost use Rattle.clr_differences.specs.Differences.{no_differences};
-ghost use Rattle.clr_office_text.specs.Fields.{Gives};
+ghost use Rattle.clr_rule_text.specs.Fields.{Gives};
 ghost use Rattle.clr_item_faults.specs.FirstFaults.{first_fault_from};
 ghost use Rattle.clr_item_faults.specs.ListFaults.{cell_fault_in, row_fault_in};
 ghost use Rattle.clr_item_faults.specs.Readings.{put_cell_of, put_row_of};
@@ -50,7 +50,7 @@ fn put_cell_item(
     put_cell(schema, differences, named)
 }
 
-/// The first row that can't be put into a content of those before it.
+/// Returns the first row that can't be put into a content of those before it.
 fn first_misfit_row(
     alloc: Global,
     schema: &Schema,
@@ -68,7 +68,7 @@ fn first_misfit_row(
     Ok(None)
 }
 
-/// The first cell that can't be put beside those before it.
+/// Returns the first cell that can't be put beside those before it.
 fn first_misfit_cell(
     alloc: Global,
     schema: &Schema,
@@ -87,7 +87,7 @@ fn first_misfit_cell(
 }
 
 /// Returns the first of LIVE's rows that can't be read, and else the first that can't stand behind
-/// those before it, or none. Fails for want of memory alone.
+/// those before it, or none.
 pub fn row_fault_in(
     alloc: Global,
     schema: &Schema,
@@ -102,7 +102,7 @@ pub fn row_fault_in(
 }
 
 /// Returns the first cell of a list that can't be read, and else the first that can't stand beside
-/// those before it, or none. Fails for want of memory alone.
+/// those before it, or none.
 pub fn cell_fault_in(
     alloc: Global,
     schema: &Schema,

@@ -18,7 +18,7 @@ use serde_json::Value as Json;
 use std::alloc::{AllocError, Global};
 
 /// Returns why the tables of an office text make no schema, or none where they make one or can't be
-/// read. Fails for want of memory alone.
+/// read.
 #[tactic(auto, unfolding(crate::specs::InnerFaults::tables_fault_of))]
 pub fn schema_fault_of(
     alloc: Global,
@@ -37,7 +37,7 @@ pub fn schema_fault_of(
 }
 
 /// Returns the number of the first rule of an office text that can't stand in a book over the schema,
-/// and why; or none where they make a book or can't be read. Fails for want of memory alone.
+/// and why; or none where they make a book or can't be read.
 #[tactic(auto, unfolding(crate::specs::InnerFaults::book_fault_of))]
 pub fn rule_fault_of(
     alloc: Global,
@@ -60,7 +60,7 @@ pub fn rule_fault_of(
     }
 }
 
-/// Why no row, or not this one, can stand at a cell.
+/// Returns why no row, or not this one, can stand at a cell.
 fn put_fault(schema: &Schema, cell: CellId, row: &Option<Row>) -> Option<RowFault>
     ensures { result ≡ put_fault schema.now cell row.now }
 {
@@ -72,7 +72,7 @@ fn put_fault(schema: &Schema, cell: CellId, row: &Option<Row>) -> Option<RowFaul
 }
 
 /// Returns why the row of an item can't stand at its cell, or none where it can, the item can't be
-/// read or its table isn't known. Fails for want of memory alone.
+/// read or its table isn't known.
 #[tactic(auto, unfolding(crate::specs::InnerFaults::put_fault_of))]
 pub fn row_fault_at(
     alloc: Global,

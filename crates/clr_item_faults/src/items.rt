@@ -3,11 +3,11 @@
 ghost use Rattle.std.specs.Prelude.{◌≡◌, Result};
 ghost use Rattle.serde_json.specs.Data.{Data};
 ghost use Rattle.serde_json.specs.View.{view};
-ghost use Rattle.clr_office_text.specs.declared.faults.TextFault.{TextFault as Fault};
+ghost use Rattle.clr_rule_text.specs.declared.faults.TextFault.{TextFault as Fault};
 ghost use Rattle.clr_office_text.specs.Cells.{named_row_of};
-ghost use Rattle.clr_office_text.specs.Fields.{Gives};
+ghost use Rattle.clr_rule_text.specs.Fields.{Gives};
 ghost use Rattle.clr_office_text.specs.Patches.{named_cell_of};
-ghost use Rattle.clr_office_text.specs.Rules.{named_rule_of};
+ghost use Rattle.clr_rule_text.specs.Rules.{named_rule_of};
 ghost use Rattle.clr_office_text.specs.Tables.{table_of};
 ghost use Rattle.clr_office_text.specs.Workspaces.{named_mark_of};
 ghost use Rattle.clr_item_faults.specs.Readings.{mark_reading, readable, rule_reading};

@@ -11,7 +11,7 @@ use serde_json::Value as Json;
 use std::alloc::{AllocError, Global};
 
 /// Returns the first mark of a list that can't be read, and else the first whose cells can't stand,
-/// or none. Fails for want of memory alone.
+/// or none.
 pub fn mark_fault_in(
     alloc: Global,
     schema: &Schema,

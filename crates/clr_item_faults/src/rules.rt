@@ -11,7 +11,7 @@ use serde_json::Value as Json;
 use std::alloc::{AllocError, Global};
 
 /// Returns the first rule of a list that can't be read, and else the first that names what the schema
-/// hasn't, or none. Fails for want of memory alone.
+/// hasn't, or none.
 pub fn rule_fault_in(
     alloc: Global,
     schema: &Schema,

@@ -15,8 +15,7 @@ use serde_json::Value as Json;
 use std::alloc::{AllocError, Global};
 use std::collections::BTreeSet;
 
-/// Returns the first workspace of a list that can't be read behind those before it, or none. Fails for
-/// want of memory alone.
+/// Returns the first workspace of a list that can't be read behind those before it, or none.
 pub fn workspace_fault_in(
     alloc: Global,
     format: Format,

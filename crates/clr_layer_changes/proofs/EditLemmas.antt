@@ -10,7 +10,8 @@ use Rattle.clr_change.specs.Edits.{after_edit, after_edits}
 use Rattle.clr_layer_changes.specs.Changes.{edit_of, edit_to, edits_between}
 
 -- an edit sets its cell to the row behind the change
-pub after_edit_to : (content : Content) (cell : CellId) (before after : Option Row) → after_edit content (edit_to cell before after) ≡ set_cell content cell after
+pub after_edit_to : (content : Content) (cell : CellId) (before after : Option Row) → after_edit content (edit_to cell before after)
+    ≡ set_cell content cell after
 after_edit_to content cell None None = refl
 after_edit_to content cell (Some old) None = refl
 after_edit_to content cell None (Some row) = refl

@@ -90,7 +90,8 @@ free_is_key live rows table first key e =
     and_from (nat_le 1 key) (nat_le key (unsigned_abs GREATEST_KEY)) (le-leb 1 key low) (le-leb key (unsigned_abs GREATEST_KEY) high)
 
 -- whatever the key is, a row fits where it fits at key 1
-fits_at_key : (tables : List TableDef) (table key : ℕ) (row : Row) → is_key (pos key) ≡ true → row_fault tables (cell_of table None) row ≡ None → row_fault tables (keys.cell_of table key) row ≡ None
+fits_at_key : (tables : List TableDef) (table key : ℕ) (row : Row) → is_key (pos key) ≡ true → row_fault tables (cell_of table None) row ≡ None
+    → row_fault tables (keys.cell_of table key) row ≡ None
 unfolding row_fault
 fits_at_key tables table key row good fits = by (slice_get tables table) fits
   where
@@ -99,16 +100,19 @@ fits_at_key tables table key row good fits = by (slice_get tables table) fits
     by (Some t) h = rw good h
 
 module _ (tables : List TableDef) where
-  put_one : (rows : Content) (cell : CellId) (row : Row) → FitsSchema tables rows → row_fault tables cell row ≡ None → FitsSchema tables (finite.insert rows cell row)
+  put_one : (rows : Content) (cell : CellId) (row : Row) → FitsSchema tables rows → row_fault tables cell row ≡ None
+      → FitsSchema tables (finite.insert rows cell row)
   put_one rows cell row fits one = put_keeps (λ c r. row_fault tables c r ≡ None) rows cell row fits one
 
   -- rows of a text ---------------------------------------------------------------------------
 
-  fitted : (table : ℕ) (why : Option RowFault) (r read : LayerRow) → row_fault tables (cell_of table r.key) r.row ≡ why → if_fits why r ≡ Ok read → FitsAt tables table read
+  fitted : (table : ℕ) (why : Option RowFault) (r read : LayerRow) → row_fault tables (cell_of table r.key) r.row ≡ why → if_fits why r ≡ Ok read
+      → FitsAt tables table read
   fitted table None r read is e = subst (FitsAt tables table) (ok_is r read e) is
   fitted table (Some why) r read is e = cc
 
-  row_fits : (table : ℕ) (rounded : Bool) (at : Fields) (fields : List (List ℕ)) (read : LayerRow) → row_of tables table rounded at fields ≡ Ok read → FitsAt tables table read
+  row_fits : (table : ℕ) (rounded : Bool) (at : Fields) (fields : List (List ℕ)) (read : LayerRow) → row_of tables table rounded at fields ≡ Ok read
+      → FitsAt tables table read
   unfolding whole_row_of
   row_fits table rounded at fields read e = by (length fields == at.width) e
     where
@@ -124,7 +128,8 @@ module _ (tables : List TableDef) where
       by true h = whole h
       by false h = cc
 
-  text_fits : (table : ℕ) (rounded : Bool) (text : List ℕ) (rows : List LayerRow) → layer_in tables table rounded text ≡ Ok rows → AllByRecursion (FitsAt tables table) rows
+  text_fits : (table : ℕ) (rounded : Bool) (text : List ℕ) (rows : List LayerRow) → layer_in tables table rounded text ≡ Ok rows
+      → AllByRecursion (FitsAt tables table) rows
   text_fits table rounded text rows e =
       let records = both_read (or_fault _ (records_in text)) _ rows e in
       by records.0 records.2
@@ -138,19 +143,22 @@ module _ (tables : List TableDef) where
 
   -- rows at their cells ----------------------------------------------------------------------
 
-  new_fits : (number : ℕ) (rows : Content) (cell : CellId) (row : Row) (next : Content) → FitsSchema tables rows → row_fault tables cell row ≡ None → put_new number rows cell row ≡ Ok next → FitsSchema tables next
+  new_fits : (number : ℕ) (rows : Content) (cell : CellId) (row : Row) (next : Content) → FitsSchema tables rows → row_fault tables cell row ≡ None
+      → put_new number rows cell row ≡ Ok next → FitsSchema tables next
   new_fits number rows cell row next fits one e = by (is_some (row_at rows cell)) e
     where
       by : (b : Bool) → cond b (Err number) (Ok (finite.insert rows cell row)) ≡ Ok next → FitsSchema tables next
       by true h = cc
       by false h = subst (FitsSchema tables) (ok_is (finite.insert rows cell row) next h) (put_one rows cell row fits one)
 
-  own_fits : (table number : ℕ) (rows : Content) (key : Option ℤ) (row : Row) (next : Content) → FitsSchema tables rows → row_fault tables (cell_of table key) row ≡ None
+  own_fits : (table number : ℕ) (rows : Content) (key : Option ℤ) (row : Row) (next : Content) → FitsSchema tables rows
+      → row_fault tables (cell_of table key) row ≡ None
       → with_own table number rows (record { key = key; row = row }) ≡ Ok next → FitsSchema tables next
   own_fits table number rows None row next fits one e = subst (FitsSchema tables) (ok_is rows next e) fits
   own_fits table number rows (Some key) row next fits one e = new_fits number rows (record { table = table; key = key }) row next fits one e
 
-  given_fits : (live : Content) (table first number : ℕ) (rows : Content) (key : Option ℤ) (row : Row) (next : Content) → FitsSchema tables rows → row_fault tables (cell_of table key) row ≡ None
+  given_fits : (live : Content) (table first number : ℕ) (rows : Content) (key : Option ℤ) (row : Row) (next : Content) → FitsSchema tables rows
+      → row_fault tables (cell_of table key) row ≡ None
       → with_given live table first number rows (record { key = key; row = row }) ≡ Ok next → FitsSchema tables next
   given_fits live table first number rows (Some key) row next fits one e = subst (FitsSchema tables) (ok_is rows next e) fits
   given_fits live table first number rows None row next fits one e =
@@ -163,23 +171,27 @@ module _ (tables : List TableDef) where
   unnumbered fault (Ok a) x e = ap Ok (ok_is a x e)
   unnumbered fault (Err number) x e = cc
 
-  keyed_fit : (live : Content) (options : LayerOptions) (table : ℕ) (rows : List LayerRow) (all : Content) → AllByRecursion (FitsAt tables table) rows → rows_at_keys live options table rows ≡ Ok all → FitsSchema tables all
+  keyed_fit : (live : Content) (options : LayerOptions) (table : ℕ) (rows : List LayerRow) (all : Content) → AllByRecursion (FitsAt tables table) rows
+      → rows_at_keys live options table rows ≡ Ok all → FitsSchema tables all
   keyed_fit live options table rows all fit e =
       let own = both_read (numbered _ (own_rows table rows)) _ all e in
       let own_fit = each_keeps (FitsSchema tables) (FitsAt tables table) (with_own table) (λ n s r next holds one is. own_fits table n s r.key r.row next holds one is) FIRST_RECORD no_rows rows own.0
       (none_fit tables) fit (unnumbered _ (own_rows table rows) own.0 own.1) in
-      each_keeps (FitsSchema tables) (FitsAt tables table) (with_given live table options.first_key) (λ n s r next holds one is. given_fits live table options.first_key n s r.key r.row next holds one is)
+      each_keeps (FitsSchema tables) (FitsAt tables table) (with_given live table options.first_key)
+      (λ n s r next holds one is. given_fits live table options.first_key n s r.key r.row next holds one is)
       FIRST_RECORD own.0 rows all own_fit fit (unnumbered _ (all_rows live table options.first_key own.0 rows) all own.2)
 
   of_text_is : {A : Type 0} (r : Result A (ℕ × LayerFault)) (x : A) → of_text r ≡ Ok x → r ≡ Ok x
   of_text_is (Ok a) x e = ap Ok (ok_is a x e)
   of_text_is (Err why) x e = cc
 
-  layer_fits : (live : Content) (options : LayerOptions) (table : ℕ) (text : List ℕ) (all : Content) → layer_rows tables live options table text ≡ Ok all → FitsSchema tables all
+  layer_fits : (live : Content) (options : LayerOptions) (table : ℕ) (text : List ℕ) (all : Content) → layer_rows tables live options table text ≡ Ok all
+      → FitsSchema tables all
   unfolding layer_rows
   layer_fits live options table text all e =
       let rows = both_read (of_text (layer_in tables table options.rounded text)) _ all e in
-      keyed_fit live options table rows.0 all (text_fits table options.rounded text rows.0 (of_text_is (layer_in tables table options.rounded text) rows.0 rows.1)) rows.2
+      keyed_fit live options table rows.0 all (text_fits table options.rounded text rows.0 (of_text_is (layer_in tables table options.rounded text) rows.0
+      rows.1)) rows.2
 
   -- one content in place of another ------------------------------------------------------------
 
@@ -187,27 +199,36 @@ module _ (tables : List TableDef) where
   abbrev CanStand : CellId × Option Row → Type 0
   CanStand e = (row : Row) → e.1 ≡ Some row → row_fault tables e.0 row ≡ None
 
-  set_fits : (content : Content) (cell : CellId) (row : Option Row) → CanStand (cell, row) → FitsSchema tables content → FitsSchema tables (set_cell content cell row)
+  set_fits : (content : Content) (cell : CellId) (row : Option Row) → CanStand (cell, row) → FitsSchema tables content
+      → FitsSchema tables (set_cell content cell row)
   set_fits content cell None one fits = take_keeps (λ c r. row_fault tables c r ≡ None) content cell fits
   set_fits content cell (Some row) one fits = put_one content cell row fits (one row refl)
 
-  over_fits : (content : Content) (es : List (CellId × Option Row)) → AllByRecursion CanStand es → FitsSchema tables content → FitsSchema tables (over content es)
+  over_fits : (content : Content) (es : List (CellId × Option Row)) → AllByRecursion CanStand es → FitsSchema tables content
+      → FitsSchema tables (over content es)
   unfolding over
   over_fits content [] all fits = fits
   over_fits content (e ∷ es) all fits = over_fits (set_cell content e.0 e.1) es all.1 (set_fits content e.0 e.1 all.0 fits)
 
-  rows_stand : (es : List (CellId × Row)) → ((i : ℕ) (e : CellId × Row) → slice_get es i ≡ Some e → row_fault tables e.0 e.1 ≡ None) → AllByRecursion CanStand (with_rows es)
+  rows_stand : (es : List (CellId × Row)) → ((i : ℕ) (e : CellId × Row) → slice_get es i ≡ Some e → row_fault tables e.0 e.1 ≡ None)
+      → AllByRecursion CanStand (with_rows es)
   rows_stand [] each = tt
-  rows_stand (e ∷ es) each = (λ row is. subst (λ r. row_fault tables e.0 r ≡ None) (same_Some e.1 row is) (each 0 e refl), rows_stand es (λ i f is. each (suc i) f is))
+  rows_stand (e ∷ es) each = (
+    λ row is. subst (λ r. row_fault tables e.0 r ≡ None) (same_Some e.1 row is) (each 0 e refl),
+    rows_stand es
+        (λ i f is. each (suc i) f is),
+  )
 
   none_stand : (cells : List CellId) (es : List (CellId × Option Row)) → AllByRecursion CanStand es → AllByRecursion CanStand (with_none cells ++ es)
   none_stand [] es all = all
   none_stand (cell ∷ cells) es all = (λ row is. absurd (none-some row is), none_stand cells es all)
 
-  replaced_fits : (content : Content) (table : ℕ) (rows : Content) → FitsSchema tables content → FitsSchema tables rows → FitsSchema tables (replaced content table rows)
+  replaced_fits : (content : Content) (table : ℕ) (rows : Content) → FitsSchema tables content → FitsSchema tables rows
+      → FitsSchema tables (replaced content table rows)
   unfolding replaced
   replaced_fits content table rows fits rows_fit =
-      over_fits content _ (none_stand (cells_in content table) _ (rows_stand (finite.entries rows) (λ i e is. rows_fit e.0 e.1 (get_at cell_cmp_total cell_cmp_exact rows i e is)))) fits
+      over_fits content _ (none_stand (cells_in content table) _
+      (rows_stand (finite.entries rows) (λ i e is. rows_fit e.0 e.1 (get_at cell_cmp_total cell_cmp_exact rows i e is)))) fits
 
   with_layer_fits : (live : Content) (options : LayerOptions) (earlier : List GivenLayer) (content : Content) (layer : GivenLayer) (next : Content)
       → FitsSchema tables content → with_layer tables live options earlier content layer ≡ Ok next → FitsSchema tables next
@@ -226,9 +247,11 @@ module _ (tables : List TableDef) where
   all_given [] = tt
   all_given (layer ∷ layers) = (tt, all_given layers)
 
-  pub wanted_fits : (live : Content) (options : LayerOptions) (layers : List GivenLayer) (content : Content) → FitsSchema tables live → wanted tables live options layers ≡ Ok content → FitsSchema tables content
+  pub wanted_fits : (live : Content) (options : LayerOptions) (layers : List GivenLayer) (content : Content) → FitsSchema tables live
+      → wanted tables live options layers ≡ Ok content → FitsSchema tables content
   unfolding wanted
   wanted_fits live options layers content fits e =
       each_keeps (FitsSchema tables) (λ layer. Unit {0}) (with_layer_at tables live options layers)
-      (λ n s layer next holds given is. with_layer_fits live options (take n layers) s layer next holds (at_layer_is n (with_layer tables live options (take n layers) s layer) next is))
+      (λ n s layer next holds given is. with_layer_fits live options (take n layers) s layer next holds
+      (at_layer_is n (with_layer tables live options (take n layers) s layer) next is))
       0 live layers content fits (all_given layers) e

@@ -33,7 +33,8 @@ pub first_here : (p : ℕ → Bool) (end a : ℕ) → a < end → p a ≡ true �
 first_here p end a lt is = one_more p a (end - a) (end - (a + 1)) (omega arith) ∙ ap (λ b. cond b (Some a) (find p (range_with_len (a + 1) (end - (a + 1))))) is
 
 pub first_behind : (p : ℕ → Bool) (end a : ℕ) → a < end → p a ≡ false → first_within p end a ≡ first_within p end (a + 1)
-first_behind p end a lt is = one_more p a (end - a) (end - (a + 1)) (omega arith) ∙ ap (λ b. cond b (Some a) (find p (range_with_len (a + 1) (end - (a + 1))))) is
+first_behind p end a lt is = one_more p a (end - a) (end - (a + 1)) (omega arith)
+    ∙ ap (λ b. cond b (Some a) (find p (range_with_len (a + 1) (end - (a + 1))))) is
 
 pub none_within : (p : ℕ → Bool) (end a : ℕ) → end ≤ a → first_within p end a ≡ None
 none_within p end a le =
@@ -91,7 +92,8 @@ module _ (p : ℕ → Bool) where
   least_behind a b passed = sym (first_of_keys p a) ∙ first_from p keys_end a b passed.reached passed.taken ∙ first_of_keys p b
 
 -- a key stays taken where one more row is put
-pub stays_taken : (live rows : Content) (table k : ℕ) (cell : CellId) (row : Row) → is_free live rows table k ≡ false → is_free live (finite.insert rows cell row) table k ≡ false
+pub stays_taken : (live rows : Content) (table k : ℕ) (cell : CellId) (row : Row) → is_free live rows table k ≡ false
+    → is_free live (finite.insert rows cell row) table k ≡ false
 stays_taken live rows table k cell row taken =
     let at = cell_of table k in
     ap (λ (r : Option Row). nat_lt 0 k && is_none (row_at live at) && is_none r) (finite.get-insert cell_cmp_total rows cell row at)
@@ -108,14 +110,16 @@ stays_taken live rows table k cell row taken =
 pub is_taken : (live rows : Content) (table k : ℕ) (row : Row) → is_free live (finite.insert rows (cell_of table k) row) table k ≡ false
 is_taken live rows table k row =
     let at = cell_of table k in
-    ap (λ (r : Option Row). nat_lt 0 k && is_none (row_at live at) && is_none r) (finite.get-insert cell_cmp_total rows at row at ∙ ap (λ t. cond t (Some row) (row_at rows at)) (tied_self at))
+    ap (λ (r : Option Row). nat_lt 0 k && is_none (row_at live at) && is_none r) (finite.get-insert cell_cmp_total rows at row at
+    ∙ ap (λ t. cond t (Some row) (row_at rows at)) (tied_self at))
     ∙ and_false (nat_lt 0 k && is_none (row_at live at))
   where
     and_false : (b : Bool) → (b && false) ≡ false
     and_false true = refl
     and_false false = refl
 
-pub stay_passed : (live rows : Content) (table : ℕ) (cell : CellId) (row : Row) (a b : ℕ) → ArePassed (is_free live rows table) a b → ArePassed (is_free live (finite.insert rows cell row) table) a b
+pub stay_passed : (live rows : Content) (table : ℕ) (cell : CellId) (row : Row) (a b : ℕ) → ArePassed (is_free live rows table) a b
+    → ArePassed (is_free live (finite.insert rows cell row) table) a b
 stay_passed live rows table cell row a b passed = record {
   reached = passed.reached;
   taken = λ k low high. stays_taken live rows table k cell row (passed.taken k low high);
@@ -135,5 +139,6 @@ module _ (live : Content) (table first number : ℕ) (rows : Content) (r : Layer
   pub no_key : is_some r.key ≡ false → least_free live rows table first ≡ None → with_given live table first number rows r ≡ Err number
   no_key = given None
 
-  pub given_key : (key : ℕ) → is_some r.key ≡ false → least_free live rows table first ≡ Some key → with_given live table first number rows r ≡ Ok (finite.insert rows (cell_of table key) r.row)
+  pub given_key : (key : ℕ) → is_some r.key ≡ false → least_free live rows table first ≡ Some key → with_given live table first number rows r
+      ≡ Ok (finite.insert rows (cell_of table key) r.row)
   given_key key = given (Some key)

@@ -17,10 +17,6 @@ use Rattle.clr_layer_text.specs.Pieces.{cut_of, is_mark, pieces_of}
 abbrev pub Lacks : ℕ → List ℕ → Type 0
 Lacks mark text = AllByRecursion (λ b. is_mark mark b ≡ false) text
 
-pub joined : {A : Type 0} (P : A → Type 0) (xs ys : List A) → AllByRecursion P xs → AllByRecursion P ys → AllByRecursion P (xs ++ ys)
-joined P [] ys all more = more
-joined P (x ∷ xs) ys all more = (all.0, joined P xs ys all.1 more)
-
 pub each_so : {A : Type 0} (P Q : A → Type 0) (xs : List A) → ((x : A) → P x → Q x) → AllByRecursion P xs → AllByRecursion Q xs
 each_so P Q [] so all = tt
 each_so P Q (x ∷ xs) so all = (so x all.0, each_so P Q xs so all.1)

@@ -7,7 +7,8 @@ use Rattle.clr_layer_text.specs.declared.faults.LayerFault.TheVariants as fault
 use Rattle.clr_layer_text.specs.Faults.{Fails, FailsAt, numbered_fault}
 
 -- a fault that a part has is that of the whole
-pub passes : {A B : Type 0} (e : LayerFault) (part : Result A LayerFault) (total : Result B LayerFault) → ((f : LayerFault) → part ≡ Err f → total ≡ Err f) → Fails e part → Fails e total
+pub passes : {A B : Type 0} (e : LayerFault) (part : Result A LayerFault) (total : Result B LayerFault) → ((f : LayerFault) → part ≡ Err f → total ≡ Err f)
+    → Fails e part → Fails e total
 passes fault.OutOfMemory part total so h = tt
 passes fault.NotCsv part total so h = so fault.NotCsv h
 passes fault.NoColumn part total so h = so fault.NoColumn h
@@ -22,7 +23,8 @@ passes fault.NotDecimal part total so h = so fault.NotDecimal h
 passes fault.Finer part total so h = so fault.Finer h
 passes (fault.Unfit why) part total so h = so (fault.Unfit why) h
 
-pub passes_at : {A B : Type 0} (n : ℕ) (e : LayerFault) (part : Result A (ℕ × LayerFault)) (total : Result B (ℕ × LayerFault)) → ((f : ℕ × LayerFault) → part ≡ Err f → total ≡ Err f) → FailsAt n e part → FailsAt n e total
+pub passes_at : {A B : Type 0} (n : ℕ) (e : LayerFault) (part : Result A (ℕ × LayerFault)) (total : Result B (ℕ × LayerFault))
+    → ((f : ℕ × LayerFault) → part ≡ Err f → total ≡ Err f) → FailsAt n e part → FailsAt n e total
 passes_at n fault.OutOfMemory part total so h = h
 passes_at n fault.NotCsv part total so h = so (n, fault.NotCsv) h
 passes_at n fault.NoColumn part total so h = so (n, fault.NoColumn) h
@@ -38,7 +40,8 @@ passes_at n fault.Finer part total so h = so (n, fault.Finer) h
 passes_at n (fault.Unfit why) part total so h = so (n, fault.Unfit why) h
 
 -- a fault that is then numbered
-pub numbered_so : {A : Type 0} (e : LayerFault) (n : ℕ) (read : Result A LayerFault) → Fails e read → FailsAt (numbered_fault n e).0 (numbered_fault n e).1 (at_record n read)
+pub numbered_so : {A : Type 0} (e : LayerFault) (n : ℕ) (read : Result A LayerFault) → Fails e read
+    → FailsAt (numbered_fault n e).0 (numbered_fault n e).1 (at_record n read)
 numbered_so fault.OutOfMemory n read h = refl
 numbered_so fault.NotCsv n read h = rw h refl
 numbered_so fault.NoColumn n read h = rw h refl
@@ -54,11 +57,13 @@ numbered_so fault.Finer n read h = rw h refl
 numbered_so (fault.Unfit why) n read h = rw h refl
 
 -- the fault of an item is that of the whole
-pub stops : {X A : Type 0} (f : ℕ → X → Result A LayerFault) (e : LayerFault) (front : List A) (n : ℕ) (xs : List X) (i : ℕ) (x : X) (total : Result (List A) LayerFault) → i < length xs → x ≡ get_or xs i x → Fails e (f (n + i) x)
+pub stops : {X A : Type 0} (f : ℕ → X → Result A LayerFault) (e : LayerFault) (front : List A) (n : ℕ) (xs : List X) (i : ℕ) (x : X)
+    (total : Result (List A) LayerFault) → i < length xs → x ≡ get_or xs i x → Fails e (f (n + i) x)
     → with_front front (in_turn f (n + i) (drop i xs)) ≡ total → Fails e total
 stops f e front n xs i x total lt is h so_far = passes e (f (n + i) x) total (λ g k. first_fault f g front n xs i x total lt is k so_far) h
 
-pub stops_at : {X A : Type 0} (f : ℕ → X → Result A (ℕ × LayerFault)) (m : ℕ) (e : LayerFault) (front : List A) (n : ℕ) (xs : List X) (i : ℕ) (x : X) (total : Result (List A) (ℕ × LayerFault)) → i < length xs → x ≡ get_or xs i x → FailsAt m e (f (n + i) x)
+pub stops_at : {X A : Type 0} (f : ℕ → X → Result A (ℕ × LayerFault)) (m : ℕ) (e : LayerFault) (front : List A) (n : ℕ) (xs : List X) (i : ℕ) (x : X)
+    (total : Result (List A) (ℕ × LayerFault)) → i < length xs → x ≡ get_or xs i x → FailsAt m e (f (n + i) x)
     → with_front front (in_turn f (n + i) (drop i xs)) ≡ total → FailsAt m e total
 stops_at f m e front n xs i x total lt is h so_far = passes_at m e (f (n + i) x) total (λ g k. first_fault f g front n xs i x total lt is k so_far) h
 

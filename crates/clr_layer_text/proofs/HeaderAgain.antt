@@ -21,7 +21,8 @@ use Rattle.clr_layer_text.specs.declared.limits.TheConstants.{SHAPE}
 use Rattle.clr_layer_text.specs.Layers.{Fields, column_of, fields_in, header_of, heading_of, shape_heading_of, shape_name}
 
 -- a name that equals no later one
-apart : (name : List ℕ) (names : List (List ℕ)) (i : ℕ) (other : List ℕ) → list_any (bytes_eq name) names ≡ false → slice_get names i ≡ Some other → bytes_eq name other ≡ false
+apart : (name : List ℕ) (names : List (List ℕ)) (i : ℕ) (other : List ℕ) → list_any (bytes_eq name) names ≡ false → slice_get names i ≡ Some other
+    → bytes_eq name other ≡ false
 apart name [] i other none is = cc
 apart name (n ∷ ns) zero other none is = let h = or_parts (bytes_eq name n) (list_any (bytes_eq name) ns) none in cc
 apart name (n ∷ ns) (suc i) other none is = apart name ns i other (or_parts (bytes_eq name n) (list_any (bytes_eq name) ns) none).1 is
@@ -88,7 +89,8 @@ shape_at : (columns : List (List ℕ)) (wanted : Form) → are_distinct (KEY.now
     → shape_heading_of (KEY.now ∷ (columns ++ shape_name wanted)) wanted ≡ Ok (shape_behind (1 + length columns) wanted)
 shape_at columns form.Bare h = refl
 shape_at columns form.Point h = rw (heading_again (KEY.now ∷ (columns ++ SHAPE.now ∷ [])) (1 + length columns) SHAPE.now h (behind_key columns SHAPE.now)) refl
-shape_at columns form.Segment h = rw (heading_again (KEY.now ∷ (columns ++ SHAPE.now ∷ [])) (1 + length columns) SHAPE.now h (behind_key columns SHAPE.now)) refl
+shape_at columns form.Segment h = rw (heading_again (KEY.now ∷ (columns ++ SHAPE.now ∷ [])) (1 + length columns) SHAPE.now h (behind_key columns SHAPE.now))
+    refl
 shape_at columns form.Path h = rw (heading_again (KEY.now ∷ (columns ++ SHAPE.now ∷ [])) (1 + length columns) SHAPE.now h (behind_key columns SHAPE.now)) refl
 
 pub header_again : (table : TableDef) → are_distinct (header_of table) ≡ true → fields_in (header_of table) table ≡ Ok (written_fields table)

@@ -35,7 +35,8 @@ names tables h =
     (b.0, (and_parts (are_distinct (map (λ t. t.name) tables)) (list_all has_distinct_columns tables) d.0).1)
 
 -- no column is called `KEY`, nor is the field of shapes
-none_is_key : (columns : List (List ℕ × Kind)) (rest : List (List ℕ)) → list_all (λ c. is_column_name c.0) columns ≡ true → list_any (bytes_eq KEY.now) rest ≡ false
+none_is_key : (columns : List (List ℕ × Kind)) (rest : List (List ℕ)) → list_all (λ c. is_column_name c.0) columns ≡ true → list_any (bytes_eq KEY.now) rest
+    ≡ false
     → list_any (bytes_eq KEY.now) (names_of columns ++ rest) ≡ false
 none_is_key [] rest good none = none
 none_is_key (c ∷ cs) rest good none =
@@ -44,7 +45,8 @@ none_is_key (c ∷ cs) rest good none =
     rw (turned c.0 KEY.now false other) (none_is_key cs rest t.1 none)
 
 -- one more name at the end, which equals none before
-unlike : (name last : List ℕ) (names : List (List ℕ)) → list_any (bytes_eq name) names ≡ false → bytes_eq name last ≡ false → list_any (bytes_eq name) (names ++ last ∷ []) ≡ false
+unlike : (name last : List ℕ) (names : List (List ℕ)) → list_any (bytes_eq name) names ≡ false → bytes_eq name last ≡ false
+    → list_any (bytes_eq name) (names ++ last ∷ []) ≡ false
 unlike name last [] none other = rw other refl
 unlike name last (n ∷ ns) none other =
     let t = or_parts (bytes_eq name n) (list_any (bytes_eq name) ns) none in
@@ -66,7 +68,8 @@ append_none : (xs : List (List ℕ)) → xs ++ [] ≡ xs
 append_none [] = refl
 append_none (x ∷ xs) = rw (append_none xs) refl
 
-columns_and_shape : (table : TableDef) → are_distinct (names_of table.columns) ≡ true → can_be_layer table ≡ true → are_distinct (names_of table.columns ++ shape_name table.shape) ≡ true
+columns_and_shape : (table : TableDef) → are_distinct (names_of table.columns) ≡ true → can_be_layer table ≡ true
+    → are_distinct (names_of table.columns ++ shape_name table.shape) ≡ true
 columns_and_shape table h can = by table.shape refl
   where
     by : (wanted : Form) → table.shape ≡ wanted → are_distinct (names_of table.columns ++ shape_name table.shape) ≡ true
@@ -81,12 +84,14 @@ no_key_in_shape form.Point = refl
 no_key_in_shape form.Segment = refl
 no_key_in_shape form.Path = refl
 
-pub header_differs : (tables : List TableDef) (at : ℕ) (table : TableDef) → schema_fault tables ≡ None → slice_get tables at ≡ Some table → can_be_layer table ≡ true
+pub header_differs : (tables : List TableDef) (at : ℕ) (table : TableDef) → schema_fault tables ≡ None → slice_get tables at ≡ Some table → can_be_layer table
+    ≡ true
     → are_distinct (header_of table) ≡ true
 header_differs tables at table sound is can =
     let n = names tables sound in
     let good = (and_parts (is_good_name table.name) (list_all (λ c. is_column_name c.0) table.columns) (at_each has_good_names tables at table n.0 is)).1 in
     let differ = at_each has_distinct_columns tables at table n.1 is in
     let alone = none_is_key table.columns (shape_name table.shape) good (no_key_in_shape table.shape) in
-    and_from (not (list_any (bytes_eq KEY.now) (names_of table.columns ++ shape_name table.shape))) (are_distinct (names_of table.columns ++ shape_name table.shape))
+    and_from (not (list_any (bytes_eq KEY.now) (names_of table.columns ++ shape_name table.shape))) (are_distinct (names_of table.columns
+    ++ shape_name table.shape))
     (not_false _ alone) (columns_and_shape table differ can)

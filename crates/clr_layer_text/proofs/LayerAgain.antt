@@ -2,14 +2,10 @@
 use Rattle.std.proofs.Common.{◌≡◌, ℕ, suc, ◌+◌, ◌<◌, ◌^◌, Bool, true, List, [], ◌∷◌, get_or, map, Ok, Option, Some, None, ℤ, pos, refl}
 use Rattle.std.proofs.Common.{arith}
 use Rattle.std.specs.Prelude.{IsUtf8, slice_get, unwrap_or}
-use Rattle.std.specs.Fmt.{signed_decimal}
 use Rattle.std.specs.List.{All, AllByRecursion, list_all}
 use Rattle.std.proofs.lemmas.Bool.{and_parts, lt-ltb}
-use Rattle.std.proofs.lemmas.Bool.Decides.{nat_tests}
-use Rattle.std.proofs.lemmas.Fmt.{IsAscii-signed}
-use Rattle.std.proofs.lemmas.List.Elements.{All-from_recursion, recursion_from_All}
-use Rattle.std.proofs.lemmas.Str.{IsUtf8-from_ascii, IsUtf8-nil, is_utf8-from_IsUtf8}
-use Rattle.std.proofs.lemmas.Str.Ascii.{IsAscii-from_all}
+use Rattle.std.proofs.lemmas.List.Elements.{recursion_from_All}
+use Rattle.std.proofs.lemmas.Str.{IsUtf8-nil, is_utf8-from_IsUtf8}
 use Rattle.std.proofs.lemmas.Option.{slice_get-get_or}
 use Rattle.csv.specs.Reading.{strip_bom}
 use Rattle.clr_rows.specs.declared.limits.TheConstants.{KEY}
@@ -21,9 +17,10 @@ use Rattle.clr_rows.specs.declared.tables.Form.{Form}
 use Rattle.clr_rows.specs.declared.tables.Form.TheVariants as form
 use Rattle.clr_rows.specs.declared.tables.Kind.{Kind}
 use Rattle.clr_rows.specs.declared.tables.TableDef.{TableDef}
-use Rattle.clr_rows.specs.Names.{is_good_name, is_name_byte}
-use Rattle.clr_rows.specs.Numbers.{is_i64}
-use Rattle.clr_records.proofs.Decimals.{within}
+use Rattle.clr_rows.specs.Names.{is_good_name}
+use Rattle.clr_records.proofs.RecordsAgain.{HasField, read_written, rows_closed, utf8_closed}
+use Rattle.clr_records.proofs.Turns.{joined}
+use Rattle.clr_records.proofs.Utf8.{low_utf8, name_utf8, number_utf8}
 use Rattle.clr_layer_text.specs.declared.limits.TheConstants.{SHAPE}
 use Rattle.clr_rows.specs.Schemas.{has_coordinates, is_key, is_number, names_of, schema_fault}
 use Rattle.clr_rows.proofs.SchemaLemmas.{good_column_name, key_of as key_parts, row_fits}
@@ -32,12 +29,10 @@ use Rattle.clr_layer_text.specs.declared.rows.LayerRow.{LayerRow}
 use Rattle.clr_layer_text.specs.Layers.{cell_of, header_of, key_text, layer_text, row_fields, rows_from, shape_fields, shape_name, value_text}
 use Rattle.clr_layer_text.specs.ReadBack.{IsLayerRow, IsText, ReadBackLaw}
 use Rattle.clr_layer_text.specs.Wkt.{shape_text}
-use Rattle.clr_layer_text.proofs.CutAgain.{joined}
 use Rattle.clr_layer_text.proofs.HeaderAgain.{header_again, written_fields}
 use Rattle.clr_layer_text.proofs.HeaderNames.{header_differs}
 use Rattle.clr_layer_text.proofs.RowAgain.{row_again}
 use Rattle.clr_layer_text.proofs.ShapeAgain.{shape_ascii}
-use Rattle.clr_layer_text.proofs.TextAgain.{HasField, read_written, rows_utf8}
 
 -- the records are read ----------------------------------------------------------------------------
 
@@ -49,20 +44,6 @@ records_again tables at table rounded (r ∷ rows) n is all =
     rw (row_again tables at table rounded r is all.0.fits, records_again tables at table rounded rows (n + 1) is all.1) refl
 
 -- the records are in UTF-8 ------------------------------------------------------------------------
-
-name_byte_low : (b : ℕ) → is_name_byte b ≡ true → b < 128
-name_byte_low b e = grind (arith, nat_tests)
-
-low_bytes : (s : List ℕ) → list_all is_name_byte s ≡ true → AllByRecursion (λ b. b < 128) s
-low_bytes [] e = tt
-low_bytes (b ∷ s) e = let t = and_parts (is_name_byte b) (list_all is_name_byte s) e in (name_byte_low b t.0, low_bytes s t.1)
-
-ascii_utf8 : (s : List ℕ) → AllByRecursion (λ b. b < 128) s → IsUtf8 s
-ascii_utf8 s all = IsUtf8-from_ascii s (IsAscii-from_all s (All-from_recursion (λ b. b < 128) s all))
-
-name_utf8 : (name : List ℕ) → is_good_name name ≡ true → IsUtf8 name
-unfolding is_good_name
-name_utf8 name e = ascii_utf8 name (low_bytes name (and_parts _ (list_all is_name_byte name) e).1)
 
 wkt_name : is_good_name SHAPE.now ≡ true
 unfolding is_good_name
@@ -82,18 +63,17 @@ names_utf8 : (columns : List (List ℕ × Kind)) → All (λ column. is_good_nam
 names_utf8 [] all = tt
 names_utf8 (column ∷ columns) all = (name_utf8 column.0 (all 0 column (omega arith)), names_utf8 columns (λ k d lt. all (suc k) d (omega arith)))
 
-good_names : (tables : List TableDef) (at : ℕ) (table : TableDef) → schema_fault tables ≡ None → slice_get tables at ≡ Some table → All (λ column. is_good_name column.0 ≡ true) table.columns
+good_names : (tables : List TableDef) (at : ℕ) (table : TableDef) → schema_fault tables ≡ None → slice_get tables at ≡ Some table
+    → All (λ column. is_good_name column.0 ≡ true) table.columns
 good_names tables at table sound is = λ k d lt.
     let column = get_or table.columns k d in
     (and_parts (is_good_name column.0) _ (good_column_name tables at k table column sound is (slice_get-get_or table.columns k d lt))).0
 
-header_utf8 : (tables : List TableDef) (at : ℕ) (table : TableDef) → schema_fault tables ≡ None → slice_get tables at ≡ Some table → AllByRecursion IsUtf8 (header_of table)
+header_utf8 : (tables : List TableDef) (at : ℕ) (table : TableDef) → schema_fault tables ≡ None → slice_get tables at ≡ Some table
+    → AllByRecursion IsUtf8 (header_of table)
 header_utf8 tables at table sound is =
     let good = good_names tables at table sound is in
     (name_utf8 KEY.now key_name, joined IsUtf8 (names_of table.columns) (shape_name table.shape) (names_utf8 table.columns good) (shape_name_utf8 table.shape))
-
-number_utf8 : (z : ℤ) → is_i64 z ≡ true → IsUtf8 (signed_decimal z)
-number_utf8 z e = IsUtf8-from_ascii (signed_decimal z) (IsAscii-signed z (within z e).1)
 
 key_utf8 : (key : Option ℤ) → is_key (unwrap_or key (pos 1)) ≡ true → IsUtf8 (key_text key)
 key_utf8 None e = IsUtf8-nil
@@ -109,11 +89,12 @@ values_utf8 (v ∷ vs) numbers texts = let t = and_parts (is_number v) (list_all
 
 shape_utf8 : (shape : Shape) → has_coordinates shape ≡ true → AllByRecursion IsUtf8 (shape_fields shape)
 shape_utf8 Bare low = tt
-shape_utf8 (At p) low = (ascii_utf8 (shape_text (At p)) (shape_ascii (At p) low), tt)
-shape_utf8 (Line p q) low = (ascii_utf8 (shape_text (Line p q)) (shape_ascii (Line p q) low), tt)
-shape_utf8 (Chain ps) low = (ascii_utf8 (shape_text (Chain ps)) (shape_ascii (Chain ps) low), tt)
+shape_utf8 (At p) low = (low_utf8 (shape_text (At p)) (shape_ascii (At p) low), tt)
+shape_utf8 (Line p q) low = (low_utf8 (shape_text (Line p q)) (shape_ascii (Line p q) low), tt)
+shape_utf8 (Chain ps) low = (low_utf8 (shape_text (Chain ps)) (shape_ascii (Chain ps) low), tt)
 
-row_utf8 : (tables : List TableDef) (at : ℕ) (table : TableDef) (r : LayerRow) → slice_get tables at ≡ Some table → IsLayerRow tables at r → AllByRecursion IsUtf8 (row_fields r)
+row_utf8 : (tables : List TableDef) (at : ℕ) (table : TableDef) (r : LayerRow) → slice_get tables at ≡ Some table → IsLayerRow tables at r
+    → AllByRecursion IsUtf8 (row_fields r)
 row_utf8 tables at table r is one =
     let f = row_fits tables (cell_of at r.key) r.row one.fits table is in (
       key_utf8 r.key f.key,
@@ -121,7 +102,8 @@ row_utf8 tables at table r is one =
           (values_utf8 r.row.values f.numbers (recursion_from_All IsText r.row.values one.texts)) (shape_utf8 r.row.shape f.coordinates),
     )
 
-rows_are_utf8 : (tables : List TableDef) (at : ℕ) (table : TableDef) (rows : List LayerRow) → slice_get tables at ≡ Some table → AllByRecursion (IsLayerRow tables at) rows
+rows_are_utf8 : (tables : List TableDef) (at : ℕ) (table : TableDef) (rows : List LayerRow) → slice_get tables at ≡ Some table
+    → AllByRecursion (IsLayerRow tables at) rows
     → AllByRecursion (λ fields. AllByRecursion IsUtf8 fields) (map row_fields rows)
 rows_are_utf8 tables at table [] is all = tt
 rows_are_utf8 tables at table (r ∷ rows) is all = (row_utf8 tables at table r is all.0, rows_are_utf8 tables at table rows is all.1)
@@ -142,7 +124,7 @@ pub layer_again : ReadBackLaw
 layer_again tables at table rows rounded is =
     let all = recursion_from_All (IsLayerRow tables at) rows is.each in
     let records = header_of table ∷ map row_fields rows in
-    let utf8 = rows_utf8 records (header_utf8 tables at table is.sound is.stands, rows_are_utf8 tables at table rows is.stands all) in
+    let utf8 = rows_closed IsUtf8 utf8_closed records (header_utf8 tables at table is.sound is.stands, rows_are_utf8 tables at table rows is.stands all) in
     rw (
       is_utf8-from_IsUtf8 (layer_text table rows) utf8,
       no_mark table rows,

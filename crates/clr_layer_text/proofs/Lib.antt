@@ -8,5 +8,4 @@ pub mod MetresAgain
 pub mod RowAgain
 pub mod ShapeAgain
 pub mod TableLemmas
-pub mod TextAgain
 pub mod Turns

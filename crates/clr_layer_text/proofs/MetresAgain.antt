@@ -12,7 +12,8 @@ use Rattle.clr_records.proofs.Decimals.{number_again}
 use Rattle.clr_layer_text.specs.declared.limits.TheConstants.{MOST_METRES}
 use Rattle.clr_metres.specs.Metres.{metres_text, three_digits, unsigned_metres}
 use Rattle.clr_layer_text.specs.Metres.{behind_point, is_digit, millimetres_of, thousandths, unsigned_of}
-use Rattle.clr_layer_text.proofs.CutAgain.{IsDigitByte, IsNumberByte, Lacks, cut_again, decimal_bytes, each_so, joined, not_cut}
+use Rattle.clr_records.proofs.Turns.{joined}
+use Rattle.clr_layer_text.proofs.CutAgain.{IsDigitByte, IsNumberByte, Lacks, cut_again, decimal_bytes, each_so, not_cut}
 
 digit_byte : (d : ℕ) → d < 10 → is_digit (48 + d) ≡ true
 digit_byte d lt = rw (le-leb 48 (48 + d) (omega arith), le-leb (48 + d) 57 (omega arith)) refl
@@ -78,7 +79,8 @@ unsigned_bytes n le =
     let a = d.first in
     let b = d.second in
     let e = d.third in
-    joined IsNumberByte (decimal (n / 1000)) (46 ∷ three_digits (n % 1000)) (each_so IsDigitByte IsNumberByte (decimal (n / 1000)) digit_is (decimal_bytes (n / 1000) (omega arith)))
+    joined IsNumberByte (decimal (n / 1000)) (46 ∷ three_digits (n % 1000)) (each_so IsDigitByte IsNumberByte (decimal (n / 1000)) digit_is
+    (decimal_bytes (n / 1000) (omega arith)))
     ((omega arith, omega arith), ((omega arith, omega arith), ((omega arith, omega arith), ((omega arith, omega arith), tt))))
 
 pub metres_bytes : (z : ℤ) → unsigned_abs z ≤ GREATEST_COORDINATE → AllByRecursion IsNumberByte (metres_text z)
@@ -90,7 +92,8 @@ no_minus : (n : ℕ) → n ≤ GREATEST_COORDINATE → Lacks 45 (unsigned_metres
 no_minus n le =
     let low : n / 1000 < 1000001 = div_below n 1000 1000001 (omega arith) (omega arith) in
     joined (λ b. (b == 45) ≡ false) (decimal (n / 1000)) (46 ∷ three_digits (n % 1000))
-    (each_so IsDigitByte (λ b. (b == 45) ≡ false) (decimal (n / 1000)) (λ b is. let above = is.0 in ne_eqb b 45 (λ e. omega arith)) (decimal_bytes (n / 1000) (omega arith)))
+    (each_so IsDigitByte (λ b. (b == 45) ≡ false) (decimal (n / 1000)) (λ b is. let above = is.0 in ne_eqb b 45 (λ e. omega arith))
+    (decimal_bytes (n / 1000) (omega arith)))
     (refl, (ne_eqb _ 45 (λ e. omega arith), (ne_eqb _ 45 (λ e. omega arith), (ne_eqb _ 45 (λ e. omega arith), tt))))
 
 -- a number of millimetres that is written as metres is read as the same

@@ -77,13 +77,15 @@ key_again : (key : Option ℤ) → is_key (unwrap_or key (pos 1)) ≡ true → k
 key_again None e = refl
 key_again (Some z) e = some_key z e
 
-shape_field : (rounded : Bool) (front : List (List ℕ)) (wanted : Form) (shape : Shape) → is_of_form wanted shape ≡ true → has_coordinates shape ≡ true → is_bad_path shape ≡ false
+shape_field : (rounded : Bool) (front : List (List ℕ)) (wanted : Form) (shape : Shape) → is_of_form wanted shape ≡ true → has_coordinates shape ≡ true
+    → is_bad_path shape ≡ false
     → shape_in rounded (shape_behind (length front) wanted) (front ++ shape_fields shape) ≡ Ok shape
 shape_field rounded front form.Bare Bare of low good = refl
 shape_field rounded front form.Point Bare of low good = absurd cc
 shape_field rounded front form.Segment Bare of low good = absurd cc
 shape_field rounded front form.Path Bare of low good = absurd cc
-shape_field rounded front form.Point (At p) of low good = rw (field_here front (shape_text (At p)) []) (shape_again rounded form.Point (At p) of low good (λ e. absurd cc))
+shape_field rounded front form.Point
+    (At p) of low good = rw (field_here front (shape_text (At p)) []) (shape_again rounded form.Point (At p) of low good (λ e. absurd cc))
 shape_field rounded front form.Bare (At p) of low good = absurd cc
 shape_field rounded front form.Segment (At p) of low good = absurd cc
 shape_field rounded front form.Path (At p) of low good = absurd cc
@@ -92,7 +94,8 @@ shape_field rounded front form.Segment (Line p q) of low good =
 shape_field rounded front form.Bare (Line p q) of low good = absurd cc
 shape_field rounded front form.Point (Line p q) of low good = absurd cc
 shape_field rounded front form.Path (Line p q) of low good = absurd cc
-shape_field rounded front form.Path (Chain ps) of low good = rw (field_here front (shape_text (Chain ps)) []) (shape_again rounded form.Path (Chain ps) of low good (λ e. absurd cc))
+shape_field rounded front form.Path (Chain ps)
+    of low good = rw (field_here front (shape_text (Chain ps)) []) (shape_again rounded form.Path (Chain ps) of low good (λ e. absurd cc))
 shape_field rounded front form.Bare (Chain ps) of low good = absurd cc
 shape_field rounded front form.Point (Chain ps) of low good = absurd cc
 shape_field rounded front form.Segment (Chain ps) of low good = absurd cc
@@ -130,7 +133,8 @@ width_again table r long of =
     ))
 
 -- the record of a row that fits its table is read as the row
-pub row_again : (tables : List TableDef) (at : ℕ) (table : TableDef) (rounded : Bool) (r : LayerRow) → slice_get tables at ≡ Some table → row_fault tables (cell_of at r.key) r.row ≡ None
+pub row_again : (tables : List TableDef) (at : ℕ) (table : TableDef) (rounded : Bool) (r : LayerRow) → slice_get tables at ≡ Some table
+    → row_fault tables (cell_of at r.key) r.row ≡ None
     → row_of tables at rounded (written_fields table) (row_fields r) ≡ Ok r
 unfolding field_at whole_row_of
 row_again tables at table rounded r is fit =

@@ -17,7 +17,8 @@ use Rattle.clr_records.specs.Records.{in_turn}
 use Rattle.clr_metres.specs.Metres.{metres_text, three_digits}
 use Rattle.clr_layer_text.specs.Pieces.{is_empty, is_mark, pieces_of, words_of}
 use Rattle.clr_layer_text.specs.Wkt.{closed_of, line_as, line_text, next_text, place_of, place_text, places_of, places_text, point_text, shape_of, shape_text}
-use Rattle.clr_layer_text.proofs.CutAgain.{IsNumberByte, Lacks, cut_again, each_so, first_piece, joined, lacks_mark, one_piece}
+use Rattle.clr_records.proofs.Turns.{joined}
+use Rattle.clr_layer_text.proofs.CutAgain.{IsNumberByte, Lacks, cut_again, each_so, first_piece, lacks_mark, one_piece}
 use Rattle.clr_layer_text.proofs.MetresAgain.{metres_again, metres_bytes}
 
 coordinate_low : (p : Place) → is_place p ≡ true → (unsigned_abs p.x ≤ GREATEST_COORDINATE) × (unsigned_abs p.y ≤ GREATEST_COORDINATE)
@@ -66,11 +67,13 @@ next_again rounded p e =
 abbrev spaced : Place → List ℕ
 spaced p = 32 ∷ place_text p
 
-pieces_again : (front : List ℕ) (ps : List Place) → Lacks 44 front → list_all is_place ps ≡ true → pieces_of 44 (front ++ flat_map next_text ps) ≡ front ∷ map spaced ps
+pieces_again : (front : List ℕ) (ps : List Place) → Lacks 44 front → list_all is_place ps ≡ true → pieces_of 44 (front ++ flat_map next_text ps) ≡ front
+    ∷ map spaced ps
 pieces_again front [] all e = rw (append-nil front) (one_piece 44 front all)
 pieces_again front (p ∷ ps) all e =
     let t = and_parts (is_place p) (list_all is_place ps) e in
-    first_piece 44 front (spaced p ++ flat_map next_text ps) all ∙ ap (λ pieces. front ∷ pieces) (pieces_again (spaced p) ps (refl, place_lacks 44 p (omega arith) refl t.0) t.1)
+    first_piece 44 front (spaced p ++ flat_map next_text ps) all
+    ∙ ap (λ pieces. front ∷ pieces) (pieces_again (spaced p) ps (refl, place_lacks 44 p (omega arith) refl t.0) t.1)
 
 others_again : (rounded : Bool) (n : ℕ) (ps : List Place) → list_all is_place ps ≡ true → in_turn (λ _. place_of rounded) n (map spaced ps) ≡ Ok ps
 unfolding in_turn
@@ -79,7 +82,8 @@ others_again rounded n (p ∷ ps) e =
     let t = and_parts (is_place p) (list_all is_place ps) e in
     rw (next_again rounded p t.0, others_again rounded (n + 1) ps t.1) refl
 
-places_again : (rounded : Bool) (p : Place) (ps : List Place) → is_place p ≡ true → list_all is_place ps ≡ true → places_of rounded (places_text (p ∷ ps)) ≡ Ok (p ∷ ps)
+places_again : (rounded : Bool) (p : Place) (ps : List Place) → is_place p ≡ true → list_all is_place ps ≡ true → places_of rounded (places_text (p ∷ ps))
+    ≡ Ok (p ∷ ps)
 unfolding in_turn
 places_again rounded p ps e all =
     rw (pieces_again (place_text p) ps (place_lacks 44 p (omega arith) refl e) all, place_again rounded p e, others_again rounded (0 + 1) ps all) refl
@@ -90,13 +94,16 @@ closed_again : (s : List ℕ) → Lacks 41 s → closed_of (s ++ 41 ∷ []) ≡ 
 unfolding closed_of
 closed_again s all = rw (cut_again 41 s [] all) refl
 
-others_lack : (mark : ℕ) (ps : List Place) → mark < 45 → is_mark mark 32 ≡ false → is_mark mark 44 ≡ false → list_all is_place ps ≡ true → Lacks mark (flat_map next_text ps)
+others_lack : (mark : ℕ) (ps : List Place) → mark < 45 → is_mark mark 32 ≡ false → is_mark mark 44 ≡ false → list_all is_place ps ≡ true
+    → Lacks mark (flat_map next_text ps)
 others_lack mark [] low space comma e = tt
 others_lack mark (p ∷ ps) low space comma e =
     let t = and_parts (is_place p) (list_all is_place ps) e in
-    joined (λ b. is_mark mark b ≡ false) (next_text p) (flat_map next_text ps) (comma, (space, place_lacks mark p low space t.0)) (others_lack mark ps low space comma t.1)
+    joined (λ b. is_mark mark b ≡ false) (next_text p) (flat_map next_text ps) (comma, (space, place_lacks mark p low space t.0))
+    (others_lack mark ps low space comma t.1)
 
-places_lack : (mark : ℕ) (p : Place) (ps : List Place) → mark < 45 → is_mark mark 32 ≡ false → is_mark mark 44 ≡ false → is_place p ≡ true → list_all is_place ps ≡ true
+places_lack : (mark : ℕ) (p : Place) (ps : List Place) → mark < 45 → is_mark mark 32 ≡ false → is_mark mark 44 ≡ false → is_place p ≡ true
+    → list_all is_place ps ≡ true
     → Lacks mark (places_text (p ∷ ps))
 places_lack mark p ps low space comma e all =
     joined (λ b. is_mark mark b ≡ false) (place_text p) (flat_map next_text ps) (place_lacks mark p low space e) (others_lack mark ps low space comma all)
@@ -117,13 +124,15 @@ line_again : (rounded : Bool) (wanted : Form) (p : Place) (ps : List Place) → 
 unfolding shape_of
 line_again rounded wanted p ps e all =
     rw (
-      cut_again 40 (codes "LINESTRING ") (places_text (p ∷ ps) ++ 41 ∷ []) (refl, (refl, (refl, (refl, (refl, (refl, (refl, (refl, (refl, (refl, (refl, tt))))))))))),
+      cut_again 40 (codes "LINESTRING ") (places_text (p ∷ ps) ++ 41
+          ∷ []) (refl, (refl, (refl, (refl, (refl, (refl, (refl, (refl, (refl, (refl, (refl, tt))))))))))),
       closed_again (places_text (p ∷ ps)) (places_lack 41 p ps (omega arith) refl refl e all),
       places_again rounded p ps e all,
     ) refl
 
 -- a shape of a form, other than none, is read as the same
-pub shape_again : (rounded : Bool) (wanted : Form) (shape : Shape) → is_of_form wanted shape ≡ true → has_coordinates shape ≡ true → is_bad_path shape ≡ false → (shape ≡ Bare → ⊥)
+pub shape_again : (rounded : Bool) (wanted : Form) (shape : Shape) → is_of_form wanted shape ≡ true → has_coordinates shape ≡ true → is_bad_path shape ≡ false
+    → (shape ≡ Bare → ⊥)
     → shape_of rounded wanted (shape_text shape) ≡ Ok shape
 shape_again rounded wanted Bare of low good some = absurd (some refl)
 shape_again rounded wanted (At p) of low good some = point_again rounded wanted p low
@@ -169,10 +178,12 @@ word_low [] e = tt
 word_low (b ∷ s) e = let t = and_parts (ltb b 128) (list_all (λ c. ltb c 128) s) e in (ltb-true b 128 t.0, word_low s t.1)
 
 line_low : (ps : List Place) → list_all is_place ps ≡ true → AllByRecursion IsLow (line_text ps)
-line_low ps e = joined IsLow (codes "LINESTRING (") (places_text ps ++ 41 ∷ []) (word_low (codes "LINESTRING (") refl) (joined IsLow (places_text ps) (41 ∷ []) (places_low ps e) (omega arith, tt))
+line_low ps e = joined IsLow (codes "LINESTRING (") (places_text ps ++ 41
+    ∷ []) (word_low (codes "LINESTRING (") refl) (joined IsLow (places_text ps) (41 ∷ []) (places_low ps e) (omega arith, tt))
 
 pub shape_ascii : (shape : Shape) → has_coordinates shape ≡ true → AllByRecursion (λ b. b < 128) (shape_text shape)
 shape_ascii Bare low = tt
-shape_ascii (At p) low = joined IsLow (codes "POINT (") (place_text p ++ 41 ∷ []) (word_low (codes "POINT (") refl) (joined IsLow (place_text p) (41 ∷ []) (place_low p low) (omega arith, tt))
+shape_ascii (At p) low = joined IsLow (codes "POINT (") (place_text p ++ 41
+    ∷ []) (word_low (codes "POINT (") refl) (joined IsLow (place_text p) (41 ∷ []) (place_low p low) (omega arith, tt))
 shape_ascii (Line p q) low = let t = and_parts (is_place p) (is_place q) low in line_low (p ∷ q ∷ []) (rw (t.0, t.1) refl)
 shape_ascii (Chain ps) low = line_low ps low

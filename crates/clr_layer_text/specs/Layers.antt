@@ -2,9 +2,8 @@
 use Rattle.std.specs.Prelude.{ℕ, ◌+◌, ◌==◌, List, [], ◌∷◌, ◌++◌, drop, length, map, position}
 use Rattle.std.specs.Prelude.{◌||◌, Bool, true, false, not, Option, Some, None, Result, Ok, Err, slice_get, unwrap_or, ℤ, pos, if◌then◌else◌}
 use Rattle.std.specs.Fmt.{signed_decimal}
-use Rattle.std.specs.List.{flat_map, list_any}
+use Rattle.std.specs.List.{list_any}
 use Rattle.std.specs.Str.{bytes_eq}
-use Rattle.csv.specs.Writing.{default_writer, row_text}
 use Rattle.clr_rows.specs.declared.cells.CellId.{CellId}
 use Rattle.clr_rows.specs.declared.faults.RowFault.{RowFault}
 use Rattle.clr_rows.specs.declared.faults.RowFault.TheVariants.{NoTable}
@@ -21,6 +20,7 @@ use Rattle.clr_rows.specs.declared.tables.TableDef.{TableDef}
 use Rattle.clr_rows.specs.Schemas.{names_of, row_fault}
 use Rattle.clr_records.specs.Decimals.{number_of}
 use Rattle.clr_records.specs.Records.{◌>>=◌, at_record, field_of, in_turn, or_fault, records_in}
+use Rattle.clr_records.specs.Writing.{records_text}
 use Rattle.clr_layer_text.specs.declared.faults.LayerFault.{LayerFault}
 use Rattle.clr_layer_text.specs.declared.faults.LayerFault.TheVariants.{NotCsv, NoColumn, ColumnTwice, FieldCount, BadNumber, Unfit}
 use Rattle.clr_layer_text.specs.declared.headings.Heading.{Heading}
@@ -69,10 +69,6 @@ shape_fields (Chain vertices) = shape_text (Chain vertices) ∷ []
 -- the record of a row
 abbrev pub row_fields : LayerRow → List (List ℕ)
 row_fields r = key_text r.key ∷ (map value_text r.row.values ++ shape_fields r.row.shape)
-
--- the text of records, each a line
-abbrev pub records_text : List (List (List ℕ)) → List ℕ
-records_text records = flat_map (row_text default_writer) records
 
 -- the text of a layer
 abbrev pub layer_text : TableDef → List LayerRow → List ℕ
@@ -167,7 +163,8 @@ rows_from tables table rounded at n records = in_turn (λ m fields. at_record m 
 -- the rows of records, the first of which is the header
 abbrev pub layer_of : List TableDef → ℕ → Bool → List (List (List ℕ)) → Result (List LayerRow) (ℕ × LayerFault)
 layer_of tables table rounded [] = Err (1, NoColumn)
-layer_of tables table rounded (names ∷ records) = at_record 1 (fields_of_table names (slice_get tables table)) >>= λ at. rows_from tables table rounded at 2 records
+layer_of tables table rounded (names ∷ records) = at_record 1 (fields_of_table names (slice_get tables table)) >>= λ at. rows_from tables table rounded at 2
+    records
 
 -- the rows of a text
 abbrev pub layer_in : List TableDef → ℕ → Bool → List ℕ → Result (List LayerRow) (ℕ × LayerFault)

@@ -6,4 +6,3 @@ pub mod Pieces
 pub mod ReadBack
 pub mod TableRows
 pub mod Wkt
-pub mod Writing

@@ -60,20 +60,24 @@ same_letters a b = bytes_eq (map to_ascii_lowercase a) (map to_ascii_lowercase b
 -- kinds that may have curves
 abbrev pub is_curve : List ℕ → Bool
 is_curve word =
-    same_letters word (codes "CIRCULARSTRING") || same_letters word (codes "COMPOUNDCURVE") || same_letters word (codes "MULTICURVE") || same_letters word (codes "CURVEPOLYGON")
+    same_letters word (codes "CIRCULARSTRING") || same_letters word (codes "COMPOUNDCURVE") || same_letters word (codes "MULTICURVE")
+    || same_letters word (codes "CURVEPOLYGON")
 
 -- kinds of points and lines whose word says that their places have a height, a measure, or both
 abbrev pub has_height : List ℕ → Bool
 has_height word =
-    same_letters word (codes "POINTZ") || same_letters word (codes "LINESTRINGZ") || same_letters word (codes "MULTIPOINTZ") || same_letters word (codes "MULTILINESTRINGZ")
+    same_letters word (codes "POINTZ") || same_letters word (codes "LINESTRINGZ") || same_letters word (codes "MULTIPOINTZ")
+    || same_letters word (codes "MULTILINESTRINGZ")
 
 abbrev pub has_measure : List ℕ → Bool
 has_measure word =
-    same_letters word (codes "POINTM") || same_letters word (codes "LINESTRINGM") || same_letters word (codes "MULTIPOINTM") || same_letters word (codes "MULTILINESTRINGM")
+    same_letters word (codes "POINTM") || same_letters word (codes "LINESTRINGM") || same_letters word (codes "MULTIPOINTM")
+    || same_letters word (codes "MULTILINESTRINGM")
 
 abbrev pub has_both : List ℕ → Bool
 has_both word =
-    same_letters word (codes "POINTZM") || same_letters word (codes "LINESTRINGZM") || same_letters word (codes "MULTIPOINTZM") || same_letters word (codes "MULTILINESTRINGZM")
+    same_letters word (codes "POINTZM") || same_letters word (codes "LINESTRINGZM") || same_letters word (codes "MULTIPOINTZM")
+    || same_letters word (codes "MULTILINESTRINGZM")
 
 abbrev pub is_not_flat : List ℕ → Bool
 is_not_flat word = has_height word || has_measure word || has_both word

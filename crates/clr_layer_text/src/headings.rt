@@ -43,7 +43,7 @@ pub(crate) struct Headings {
 fn name_at(alloc: Global, header: &StringRecord, at: usize) -> Result<Words, AllocError>
     ensures { IfOk result (λ name. name ≡ field_of (fields_of header.now) at) }
 {
-    Ok(Words::new(String::from_str(alloc, field(header, at))?))
+    Words::from_str(alloc, field(header, at))
 }
 
 /// Returns the fields of a header.

@@ -4,10 +4,10 @@ ghost use Rattle.std.specs.Prelude.{◌≡◌, ◌++◌, ◌∷◌, [], Ok, IfOk
 ghost use Rattle.csv.specs.Records.{fields_of, partial_of};
 ghost use Rattle.csv.specs.Writing.{default_writer, row_text};
 ghost use Rattle.clr_rows.specs.Schemas.{names_of};
-ghost use Rattle.clr_layer_text.specs.Layers.{header_of, key_text, layer_text, records_text, row_fields, shape_fields, shape_name, value_text};
+ghost use Rattle.clr_layer_text.specs.Layers.{header_of, key_text, layer_text, row_fields, shape_fields, shape_name, value_text};
 ghost use Rattle.std.specs.List.{All};
 ghost use Rattle.clr_layer_text.specs.ReadBack.{HasTexts, IsText};
-ghost use Rattle.clr_layer_text.specs.Writing.{IsBetween, text_of};
+ghost use Rattle.clr_records.specs.Writing.{IsBetween, records_text, written_by};
 
 use crate::limits::SHAPE;
 use crate::rows::LayerRow;
@@ -121,7 +121,7 @@ fn record_of(alloc: Global, row: &LayerRow) -> Result<ByteRecord, AllocError>
 fn add_record(writer: &mut Writer<Vec<u8>>, line: &ByteRecord) -> Result<(), AllocError>
     requires { IsBetween writer.old }
     ensures between { OnOk result (IsBetween writer.new) }
-    ensures written { OnOk result (text_of writer.new ≡ text_of writer.old ++ row_text default_writer (fields_of line.now)) }
+    ensures written { OnOk result (written_by writer.new ≡ written_by writer.old ++ row_text default_writer (fields_of line.now)) }
 {
     match writer.write_byte_record(line) {
         Ok(()) => Ok(()),
@@ -136,7 +136,7 @@ fn add_rows(
 ) -> Result<(), AllocError>
     requires { IsBetween writer.old }
     ensures between { OnOk result (IsBetween writer.new) }
-    ensures written { OnOk result (text_of writer.new ≡ text_of writer.old ++ records_text (map row_fields rows.now)) }
+    ensures written { OnOk result (written_by writer.new ≡ written_by writer.old ++ records_text (map row_fields rows.now)) }
     ensures texts { OnOk result (All HasTexts rows.now) }
 {
     for row in rows {

@@ -18,7 +18,8 @@ Entries = List (String Global × Parts)
 
 -- a search over the keys is one over the names -------------------------------------------------
 
-first_key : (name : Name) (es : Entries) → position_or_len (λ (k : String Global). bytes_eq name (string_bytes k)) (keys_of es) ≡ position_or_len (λ (l : Layer). bytes_eq name l.name) (layers_of es)
+first_key : (name : Name) (es : Entries) → position_or_len (λ (k : String Global). bytes_eq name (string_bytes k)) (keys_of es)
+    ≡ position_or_len (λ (l : Layer). bytes_eq name l.name) (layers_of es)
 first_key name [] = refl
 first_key name (e ∷ es) = ap (λ n. cond (not (bytes_eq name (string_bytes e.0))) (1 + n) 0) (first_key name es)
 
@@ -30,24 +31,31 @@ pub find_key : (name : Name) (es : Entries) → position (λ (k : String Global)
 find_key name es = ap (λ (p : ℕ × ℕ). cond (nat_lt p.0 p.1) (Some p.0) None) (λ i. (first_key name es i, length_keys es i))
 
 -- a new name goes last
-pub insert_last : (k : String Global) (l : Parts) (es : Entries) → find_layer (layers_of es) (string_bytes k) ≡ None → layers_of (insert_entry string_eq es k l) ≡ layers_of es ++ layer_of (k, l) ∷ []
+pub insert_last : (k : String Global) (l : Parts) (es : Entries) → find_layer (layers_of es) (string_bytes k) ≡ None → layers_of (insert_entry string_eq es k l)
+    ≡ layers_of es ++ layer_of (k, l) ∷ []
 insert_last k l es none =
-    ap layers_of (insert_entry-absent string_eq k l es (Missing-position (string_eq k) es (find_key (string_bytes k) es ∙ none)).absent) ∙ map-append layer_of es ((k, l) ∷ [])
+    ap layers_of (insert_entry-absent string_eq k l es (Missing-position (string_eq k) es (find_key (string_bytes k) es ∙ none)).absent)
+    ∙ map-append layer_of es ((k, l) ∷ [])
 
-children_from : (name : Name) (es : Entries) (n : ℕ) → fold (λ a (l : Parts). a + cond (bytes_eq name l.parent) 1 0) n (values_of es) ≡ fold (λ a (l : Layer). a + cond (bytes_eq name l.parent) 1 0) n (layers_of es)
+children_from : (name : Name) (es : Entries) (n : ℕ) → fold (λ a (l : Parts). a + cond (bytes_eq name l.parent) 1 0) n (values_of es)
+    ≡ fold (λ a (l : Layer). a + cond (bytes_eq name l.parent) 1 0) n (layers_of es)
 children_from name [] n = refl
 children_from name (e ∷ es) n = children_from name es (n + cond (bytes_eq name e.1.parent) 1 0)
 
-pub children_here : (name : Name) (es : Entries) → count_by (λ (l : Parts). bytes_eq name l.parent) (values_of es) ≡ count_by (λ (l : Layer). bytes_eq name l.parent) (layers_of es)
+pub children_here : (name : Name) (es : Entries) → count_by (λ (l : Parts). bytes_eq name l.parent) (values_of es)
+    ≡ count_by (λ (l : Layer). bytes_eq name l.parent) (layers_of es)
 children_here name es = children_from name es 0
 
 -- what stands at a position --------------------------------------------------------------------
 
 -- the value there, under any name
 pub value_at : (es : Entries) (at : ℕ) (v : Parts) (k : Name) → slice_get (values_of es) at ≡ Some v
-    → ◌≡◌ {A = Layer} (let l = layer_at (layers_of es) at in record l { name = k }) (record { name = k; parent = v.parent; base = v.base; current = v.current; marks = v.marks.items; kept = v.kept })
+    → ◌≡◌ {A = Layer} (let l = layer_at (layers_of es) at in record l { name = k })
+    (record { name = k; parent = v.parent; base = v.base; current = v.current; marks = v.marks.items; kept = v.kept })
 value_at [] at v k h = absurd (cc)
-value_at (e ∷ es) zero v k h = let same : e.1 ≡ v = cc in ap (λ (p : Parts). let l : Layer = record { name = k; parent = p.parent; base = p.base; current = p.current; marks = p.marks.items; kept = p.kept } in l) same
+value_at (e ∷ es) zero v k h = let same : e.1 ≡ v = cc in
+    ap (λ (p : Parts). let l : Layer = record { name = k; parent = p.parent; base = p.base; current = p.current; marks = p.marks.items; kept = p.kept } in l)
+    same
 value_at (e ∷ es) (suc at) v k h = value_at es at v k h
 
 here : (es : Entries) (at : ℕ) (e : String Global × Parts) → slice_get es at ≡ Some e → layer_at (layers_of es) at ≡ layer_of e
@@ -55,7 +63,8 @@ here [] at e h = absurd (cc)
 here (d ∷ es) zero e h = let same : d ≡ e = cc in ap layer_of same
 here (d ∷ es) (suc at) e h = here es at e h
 
-pub entry_at : (es : Entries) (ls : List Layer) (at : ℕ) (e : String Global × Parts) → layers_of es ≡ ls → slice_get es at ≡ Some e → layer_at ls at ≡ layer_of e
+pub entry_at : (es : Entries) (ls : List Layer) (at : ℕ) (e : String Global × Parts) → layers_of es ≡ ls → slice_get es at ≡ Some e → layer_at ls at
+    ≡ layer_of e
 entry_at es ls at e is h = sym (ap (λ (xs : List Layer). layer_at xs at) is) ∙ here es at e h
 
 there : (es : Entries) (at : ℕ) → at < length (layers_of es) → is_some (slice_get es at) ≡ true
@@ -68,25 +77,31 @@ some_entry es ls at is lt = there es at (subst (λ (xs : List Layer). at < lengt
 
 -- one value changes ----------------------------------------------------------------------------
 
-changed_here : (es : Entries) (at : ℕ) (e : String Global × Parts) (v : Parts) (f : Layer → Layer) → slice_get es at ≡ Some e → layer_of (e.0, v) ≡ f (layer_of e)
+changed_here : (es : Entries) (at : ℕ) (e : String Global × Parts) (v : Parts) (f : Layer → Layer) → slice_get es at ≡ Some e → layer_of (e.0, v)
+    ≡ f (layer_of e)
     → layers_of (set_value_at es at v) ≡ layer_changed (layers_of es) at f
 changed_here [] at e v f h same = absurd (cc)
 changed_here (d ∷ es) zero e v f h same =
     let one : d ≡ e = cc in
-    ap (λ (c : String Global × Parts). layer_of (c.0, v) ∷ layers_of es) one ∙ ap (λ l. l ∷ layers_of es) same ∙ ap (λ (c : String Global × Parts). f (layer_of c) ∷ layers_of es) (sym one)
+    ap (λ (c : String Global × Parts). layer_of (c.0, v) ∷ layers_of es) one ∙ ap (λ l. l ∷ layers_of es) same
+    ∙ ap (λ (c : String Global × Parts). f (layer_of c) ∷ layers_of es) (sym one)
 changed_here (d ∷ es) (suc at) e v f h same = ap (λ ls. layer_of d ∷ ls) (changed_here es at e v f h same)
 
-pub changed : (es : Entries) (ls : List Layer) (at : ℕ) (k : String Global) (u v : Parts) (f : Layer → Layer) → layers_of es ≡ ls → slice_get es at ≡ Some (k, u) → layer_of (k, v) ≡ f (layer_of (k, u))
+pub changed : (es : Entries) (ls : List Layer) (at : ℕ) (k : String Global) (u v : Parts) (f : Layer → Layer) → layers_of es ≡ ls → slice_get es at
+    ≡ Some (k, u) → layer_of (k, v) ≡ f (layer_of (k, u))
     → layers_of (set_value_at es at v) ≡ layer_changed ls at f
 changed es ls at k u v f is h same = changed_here es at (k, u) v f h same ∙ ap (λ (xs : List Layer). layer_changed xs at f) is
 
-stays_here : (es : Entries) (at : ℕ) (e : String Global × Parts) (v : Parts) → slice_get es at ≡ Some e → layer_of (e.0, v) ≡ layer_of e → layers_of (set_value_at es at v) ≡ layers_of es
+stays_here : (es : Entries) (at : ℕ) (e : String Global × Parts) (v : Parts) → slice_get es at ≡ Some e → layer_of (e.0, v) ≡ layer_of e
+    → layers_of (set_value_at es at v) ≡ layers_of es
 stays_here [] at e v h same = absurd (cc)
 stays_here (d ∷ es) zero e v h same =
     let one : d ≡ e = cc in
-    ap (λ (c : String Global × Parts). layer_of (c.0, v) ∷ layers_of es) one ∙ ap (λ l. l ∷ layers_of es) same ∙ ap (λ (c : String Global × Parts). layer_of c ∷ layers_of es) (sym one)
+    ap (λ (c : String Global × Parts). layer_of (c.0, v) ∷ layers_of es) one ∙ ap (λ l. l ∷ layers_of es) same ∙ ap (λ (c : String Global × Parts). layer_of c
+    ∷ layers_of es) (sym one)
 stays_here (d ∷ es) (suc at) e v h same = ap (λ ls. layer_of d ∷ ls) (stays_here es at e v h same)
 
 -- a value that means the same
-pub stays : (es : Entries) (ls : List Layer) (at : ℕ) (k : String Global) (u v : Parts) → layers_of es ≡ ls → slice_get es at ≡ Some (k, u) → layer_of (k, v) ≡ layer_of (k, u) → layers_of (set_value_at es at v) ≡ ls
+pub stays : (es : Entries) (ls : List Layer) (at : ℕ) (k : String Global) (u v : Parts) → layers_of es ≡ ls → slice_get es at ≡ Some (k, u) → layer_of (k, v)
+    ≡ layer_of (k, u) → layers_of (set_value_at es at v) ≡ ls
 stays es ls at k u v is h same = stays_here es at (k, u) v h same ∙ is

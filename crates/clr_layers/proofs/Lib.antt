@@ -1,6 +1,5 @@
 pub mod Answered
 pub mod EntryLemmas
-pub mod FindLemmas
 pub mod MarkLemmas
 pub mod Meaning
 pub mod Places

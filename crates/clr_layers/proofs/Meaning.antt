@@ -6,13 +6,13 @@ use Rattle.std.specs.declared.option.Option.{Option}
 use Rattle.std.specs.List.{position_or_len}
 use Rattle.std.specs.Option.{option_or}
 use Rattle.std.specs.Str.{bytes_eq}
-use Rattle.std.specs.Cmp.Lexicographic.{bytes_decides}
-use Rattle.std.proofs.lemmas.Bool.{false≢true, ltb-true}
+use Rattle.std.proofs.lemmas.Bool.{ltb-true}
 use Rattle.clr_rows.specs.Contents.{Content}
+use Rattle.clr_rows.specs.Names.{live_name}
 use Rattle.std.proofs.lemmas.Option.{same_Some}
 use Rattle.clr_workspaces.specs.Marks.{Name}
-use Rattle.clr_workspaces.specs.Workspaces.{Workspace, no_workspace, workspace_at, find}
-use Rattle.clr_layers.specs.Layers.{Layer, no_layer, layer_at, find_layer, whole_of, top, content_by_name, above_in, grow, wholes, above_at}
+use Rattle.clr_workspaces.specs.Workspaces.{Workspace, no_workspace, live_workspace, workspace_at, find}
+use Rattle.clr_layers.specs.Layers.{Layer, no_layer, layer_at, leaf, find_layer, whole_of, top, content_by_name, above_in, grow, wholes, above_at}
 
 -- lengths, names and parents -------------------------------------------------------------------
 
@@ -27,7 +27,8 @@ length-wholes live [] = refl
 length-wholes live (l ∷ ls) = ap suc (length-grow (top live l ∷ []) ls)
 
 -- what a workspace shares with its layer, at each position and in the list
-module _ (f : Workspace → Name) (g : Layer → Name) (of_whole : (above : Content) (l : Layer) → f (whole_of above l) ≡ g l) (of_top : (live : Content) (l : Layer) → f (top live l) ≡ g l) (of_none : f no_workspace ≡ g no_layer) where
+module _ (f : Workspace → Name) (g : Layer → Name) (of_whole : (above : Content) (l : Layer) → f (whole_of above l)
+    ≡ g l) (of_top : (live : Content) (l : Layer) → f (top live l) ≡ g l) (of_none : f no_workspace ≡ g no_layer) where
   shared_grow : (ws : List Workspace) (ls : List Layer) (i : ℕ) → f (workspace_at (grow ws ls) i) ≡ g (layer_at ls i)
   unfolding grow
   shared_grow ws [] i = of_none
@@ -104,15 +105,18 @@ find-wholes live ls name =
 
 -- the workspace at a position --------------------------------------------------------------------
 
-grow-at : (ws : List Workspace) (ls : List Layer) (i : ℕ) → i < length ls → workspace_at (grow ws ls) i ≡ whole_of (above_in (ws ++ take i (grow ws ls)) (layer_at ls i)) (layer_at ls i)
+grow-at : (ws : List Workspace) (ls : List Layer) (i : ℕ) → i < length ls → workspace_at (grow ws ls) i
+    ≡ whole_of (above_in (ws ++ take i (grow ws ls)) (layer_at ls i)) (layer_at ls i)
 unfolding grow
 grow-at ws [] i lt = absurd (omega arith)
 grow-at ws (l ∷ ls) zero lt = ap (λ (vs : List Workspace). whole_of (above_in vs l) l) (sym (append-nil ws))
 grow-at ws (l ∷ ls) (suc i) lt =
     let w = whole_of (above_in ws l) l in
-    grow-at (ws ++ w ∷ []) ls i (omega arith) ∙ ap (λ (vs : List Workspace). whole_of (above_in vs (layer_at ls i)) (layer_at ls i)) (append_assoc ws (w ∷ []) (take i (grow (ws ++ w ∷ []) ls)))
+    grow-at (ws ++ w ∷ []) ls i (omega arith) ∙ ap (λ (vs : List Workspace). whole_of (above_in vs (layer_at ls i)) (layer_at ls i)) (append_assoc ws (w
+    ∷ []) (take i (grow (ws ++ w ∷ []) ls)))
 
-pub wholes-at : (live : Content) (ls : List Layer) (at : ℕ) → 0 < at → at < length ls → workspace_at (wholes live ls) at ≡ whole_of (above_at live ls at) (layer_at ls at)
+pub wholes-at : (live : Content) (ls : List Layer) (at : ℕ) → 0 < at → at < length ls → workspace_at (wholes live ls) at
+    ≡ whole_of (above_at live ls at) (layer_at ls at)
 unfolding wholes
 wholes-at live [] at some lt = absurd (omega arith)
 wholes-at live (l ∷ ls) zero some lt = absurd (omega arith)
@@ -127,53 +131,62 @@ pub live-wholes : (live : Content) (ls : List Layer) → 0 < length ls → (work
 live-wholes live ls lt = ap (λ (w : Workspace). w.current) (wholes-live live ls lt) ∙ current-top live (layer_at ls 0)
 
 -- the content that a layer lies over is its parent's
-named_first : (ws : List Workspace) (name : Name) (p n : ℕ) → position_or_len (λ (w : Workspace). bytes_eq name w.name) ws ≡ p → p < length ws → p < n → content_by_name (take n ws) name ≡ Some (workspace_at ws p).current
+named_first : (ws : List Workspace) (name : Name) (p n : ℕ) → position_or_len (λ (w : Workspace). bytes_eq name w.name) ws ≡ p → p < length ws → p < n
+    → content_by_name (take n ws) name ≡ Some (workspace_at ws p).current
 unfolding content_by_name
 named_first [] name p n e within lt = absurd (omega arith)
 named_first (w ∷ ws) name p zero e within lt = absurd (omega arith)
 named_first (w ∷ ws) name zero (suc n) e within lt = by (bytes_eq name w.name) e
   where
-    by : (b : Bool) → cond (not b) (1 + position_or_len (λ (w : Workspace). bytes_eq name w.name) ws) 0 ≡ 0 → cond b (Some w.current) (content_by_name (take n ws) name) ≡ Some w.current
+    by : (b : Bool) → cond (not b) (1 + position_or_len (λ (w : Workspace). bytes_eq name w.name) ws) 0 ≡ 0
+        → cond b (Some w.current) (content_by_name (take n ws) name) ≡ Some w.current
     by true e = refl
     by false e = absurd (omega (arith, e))
 named_first (w ∷ ws) name (suc p) (suc n) e within lt = by (bytes_eq name w.name) e (λ same. named_first ws name p n same (omega arith) (omega arith))
   where
     by : (b : Bool) → cond (not b) (1 + position_or_len (λ (w : Workspace). bytes_eq name w.name) ws) 0 ≡ suc p
-        → (position_or_len (λ (w : Workspace). bytes_eq name w.name) ws ≡ p → content_by_name (take n ws) name ≡ Some (workspace_at ws p).current) → cond b (Some w.current) (content_by_name (take n ws) name) ≡ Some (workspace_at ws p).current
+        → (position_or_len (λ (w : Workspace). bytes_eq name w.name) ws ≡ p → content_by_name (take n ws) name ≡ Some (workspace_at ws p).current)
+        → cond b (Some w.current) (content_by_name (take n ws) name) ≡ Some (workspace_at ws p).current
     by true e rest = absurd (omega (arith, e))
     by false e rest = rest (omega (arith, e))
 
-pub named_found : (ws : List Workspace) (name : Name) (p n : ℕ) → find ws name ≡ Some p → p < n → content_by_name (take n ws) name ≡ Some (workspace_at ws p).current
+pub named_found : (ws : List Workspace) (name : Name) (p n : ℕ) → find ws name ≡ Some p → p < n → content_by_name (take n ws) name
+    ≡ Some (workspace_at ws p).current
 named_found ws name p n e lt = by (nat_lt (position_or_len (λ (w : Workspace). bytes_eq name w.name) ws) (length ws)) refl e
   where
-    by : (b : Bool) → nat_lt (position_or_len (λ (w : Workspace). bytes_eq name w.name) ws) (length ws) ≡ b → cond b (Some (position_or_len (λ (w : Workspace). bytes_eq name w.name) ws)) None ≡ Some p → content_by_name (take n ws) name ≡ Some (workspace_at ws p).current
+    by : (b : Bool) → nat_lt (position_or_len (λ (w : Workspace). bytes_eq name w.name) ws) (length ws) ≡ b
+        → cond b (Some (position_or_len (λ (w : Workspace). bytes_eq name w.name) ws)) None ≡ Some p → content_by_name (take n ws) name
+        ≡ Some (workspace_at ws p).current
     by true within e = let same = same_Some _ p e in named_first ws name p n same (subst (λ k. k < length ws) same (ltb-true _ _ within)) lt
     by false within e = absurd (none-some p e)
 
 -- a name whose first position isn't among the first few isn't named there
-pub named_later : (ws : List Workspace) (name : Name) (n : ℕ) → n ≤ position_or_len (λ (w : Workspace). bytes_eq name w.name) ws → content_by_name (take n ws) name ≡ None
+pub named_later : (ws : List Workspace) (name : Name) (n : ℕ) → n ≤ position_or_len (λ (w : Workspace). bytes_eq name w.name) ws
+    → content_by_name (take n ws) name ≡ None
 unfolding content_by_name
 named_later ws name zero le = refl
 named_later [] name (suc n) le = refl
 named_later (w ∷ ws) name (suc n) le = by (bytes_eq name w.name) le (λ less. named_later ws name n less)
   where
     by : (b : Bool) → suc n ≤ cond (not b) (1 + position_or_len (λ (w : Workspace). bytes_eq name w.name) ws) 0
-        → (n ≤ position_or_len (λ (w : Workspace). bytes_eq name w.name) ws → content_by_name (take n ws) name ≡ None) → cond b (Some w.current) (content_by_name (take n ws) name) ≡ None
+        → (n ≤ position_or_len (λ (w : Workspace). bytes_eq name w.name) ws → content_by_name (take n ws) name ≡ None)
+        → cond b (Some w.current) (content_by_name (take n ws) name) ≡ None
     by true le rest = absurd (omega arith)
     by false le rest = rest (omega arith)
 
-pub named-append : (vs : List Workspace) (w : Workspace) (n : Name) → content_by_name (vs ++ w ∷ []) n ≡ option_or (content_by_name vs n) (cond (bytes_eq n w.name) (Some w.current) None)
+pub named-append : (vs : List Workspace) (w : Workspace) (n : Name) → content_by_name (vs ++ w ∷ []) n
+    ≡ option_or (content_by_name vs n) (cond (bytes_eq n w.name) (Some w.current) None)
 unfolding content_by_name
 named-append [] w n = refl
 named-append (v ∷ vs) w n = ap (cond (bytes_eq n v.name) (Some v.current)) (named-append vs w n) ∙ by (bytes_eq n v.name)
   where
-    by : (b : Bool) → cond b (Some v.current) (option_or (content_by_name vs n) (cond (bytes_eq n w.name) (Some w.current) None)) ≡ option_or (cond b (Some v.current) (content_by_name vs n)) (cond (bytes_eq n w.name) (Some w.current) None)
+    by : (b : Bool) → cond b (Some v.current) (option_or (content_by_name vs n) (cond (bytes_eq n w.name) (Some w.current) None))
+        ≡ option_or (cond b (Some v.current) (content_by_name vs n)) (cond (bytes_eq n w.name) (Some w.current) None)
     by true = refl
     by false = refl
 
-pub not_from : (b : Bool) → (b ≡ true → ⊥) → b ≡ false
-not_from true h = absurd (h refl)
-not_from false h = refl
+-- LIVE alone ---------------------------------------------------------------------------------------
 
-pub differ_back : (a b : Name) → bytes_eq a b ≡ false → bytes_eq b a ≡ false
-differ_back a b e = not_from (bytes_eq b a) (λ h. false≢true (sym e ∙ (bytes_decides a b).1 (sym ((bytes_decides b a).0 h))))
+pub root_made : (live : Content) → wholes live (leaf live_name [] ∷ []) ≡ live_workspace live ∷ []
+unfolding wholes top grow
+root_made live = refl

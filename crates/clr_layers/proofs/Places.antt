@@ -11,7 +11,8 @@ use Rattle.clr_differences.proofs.DifferenceLemmas.{AgreeOutside, hidden}
 use Rattle.clr_workspaces.specs.Marks.{Name}
 use Rattle.clr_workspaces.specs.Workspaces.{Workspace}
 use Rattle.clr_layers.specs.Layers.{Layer, layer_at, whole_of, top, content_by_name, above_in, grow, wholes, whole_mark, above_at, IsUnder}
-use Rattle.clr_layers.proofs.Meaning.{name-whole, named-append, differ_back, not_from}
+use Rattle.clr_layers.proofs.Meaning.{name-whole, named-append}
+use Rattle.clr_workspaces.proofs.FindLemmas.{differ_back, not_from}
 
 -- two lists of workspaces that differ at most in the content of one name
 record AreAlike (name : Name) (x y : Content) (vs ws : List Workspace) : Type 0 where
@@ -21,7 +22,8 @@ record AreAlike (name : Name) (x y : Content) (vs ws : List Workspace) : Type 0 
 
 alike_more : (name : Name) (x y : Content) (vs ws : List Workspace) (w : Workspace) → AreAlike name x y vs ws → AreAlike name x y (vs ++ w ∷ []) (ws ++ w ∷ [])
 alike_more name x y vs ws w a = record {
-  others = λ n differs. named-append ws w n ∙ ap (λ o. option_or o (cond (bytes_eq n w.name) (Some w.current) None)) (a.others n differs) ∙ sym (named-append vs w n);
+  others = λ n differs. named-append ws w n ∙ ap (λ o. option_or o (cond (bytes_eq n w.name) (Some w.current) None)) (a.others n differs)
+      ∙ sym (named-append vs w n);
   old = named-append vs w name ∙ ap (λ o. option_or o (cond (bytes_eq name w.name) (Some w.current) None)) a.old;
   new = named-append ws w name ∙ ap (λ o. option_or o (cond (bytes_eq name w.name) (Some w.current) None)) a.new;
 }
@@ -29,9 +31,18 @@ alike_more name x y vs ws w a = record {
 -- a layer with entries where the content below changes means the same
 whole_hidden : (m n : Content) (l : Layer) → AgreeOutside l.base m n → whole_of n l ≡ whole_of m l
 unfolding whole_of
-whole_hidden m n l agree = ap (λ (b : Content). record { name = l.name; parent = l.parent; base = b; current = seen_over b l.current; marks = map (whole_mark b) l.marks; kept = l.kept }) (hidden m n l.base agree)
+whole_hidden m n l agree = ap (λ (b : Content). record {
+  name = l.name;
+  parent = l.parent;
+  base = b;
+  current = seen_over b l.current;
+  marks =
+      map (whole_mark b) l.marks;
+  kept = l.kept;
+}) (hidden m n l.base agree)
 
-alike_whole : (name : Name) (x y : Content) (vs ws : List Workspace) (l : Layer) → AreAlike name x y vs ws → (IsUnder name l → AgreeOutside l.base x y) → whole_of (above_in ws l) l ≡ whole_of (above_in vs l) l
+alike_whole : (name : Name) (x y : Content) (vs ws : List Workspace) (l : Layer) → AreAlike name x y vs ws → (IsUnder name l → AgreeOutside l.base x y)
+    → whole_of (above_in ws l) l ≡ whole_of (above_in vs l) l
 alike_whole name x y vs ws l a agree = by (bytes_eq name l.parent) refl
   where
     by : (b : Bool) → bytes_eq name l.parent ≡ b → whole_of (above_in ws l) l ≡ whole_of (above_in vs l) l
@@ -55,9 +66,11 @@ after name x y vs ws (l ∷ ls) a agree =
     (λ i. same i ∷ grow (ws ++ same i ∷ []) ls)
     ∙ ap (λ rest. v ∷ rest) (after name x y (vs ++ v ∷ []) (ws ++ v ∷ []) ls (alike_more name x y vs ws v a) (λ k lt. agree (suc k) (omega arith)))
 
-alike_here : (vs : List Workspace) (v w : Workspace) → content_by_name vs v.name ≡ None → w.name ≡ v.name → AreAlike v.name v.current w.current (vs ++ v ∷ []) (vs ++ w ∷ [])
+alike_here : (vs : List Workspace) (v w : Workspace) → content_by_name vs v.name ≡ None → w.name ≡ v.name → AreAlike v.name v.current w.current (vs ++ v
+    ∷ []) (vs ++ w ∷ [])
 alike_here vs v w new same = record {
-  others = λ n differs. named-append vs w n ∙ ap (λ (b : Bool). option_or (content_by_name vs n) (cond b (Some w.current) None)) (ap (bytes_eq n) same ∙ differ_back v.name n differs)
+  others = λ n differs. named-append vs w n ∙ ap (λ (b : Bool). option_or (content_by_name vs n) (cond b (Some w.current) None)) (ap (bytes_eq n) same
+      ∙ differ_back v.name n differs)
       ∙ sym (named-append vs v n ∙ ap (λ (b : Bool). option_or (content_by_name vs n) (cond b (Some v.current) None)) (differ_back v.name n differs));
   old = named-append vs v v.name ∙ (λ i. option_or (new i) (cond (itself i) (Some v.current) None));
   new = named-append vs w v.name ∙ (λ i. option_or (new i) (cond ((ap (bytes_eq v.name) same ∙ itself) i) (Some w.current) None));
@@ -93,7 +106,8 @@ moved_grow ws (l ∷ ls) (suc at) m lt name parent new agree =
     let l_at = layer_at ls at in
     let same : above_in ((ws ++ w ∷ []) ++ take at (grow (ws ++ w ∷ []) ls)) l_at ≡ above_in (ws ++ w ∷ take at (grow (ws ++ w ∷ []) ls)) l_at = ap (λ (vs : List Workspace). above_in vs l_at) start in
     ap (λ rest. w ∷ rest) (moved_grow (ws ++ w ∷ []) ls at m (omega arith) name parent (ap (λ (vs : List Workspace). content_by_name vs l_at.name) start ∙ new)
-    (λ k k_lt under q none. ap (λ (c : Content). row_at (whole_of c m).current q) same ∙ agree (suc k) (omega arith) under q none ∙ sym (ap (λ (c : Content). row_at (whole_of c l_at).current q) same))
+    (λ k k_lt under q none. ap (λ (c : Content). row_at (whole_of c m).current q) same ∙ agree (suc k) (omega arith) under q none
+    ∙ sym (ap (λ (c : Content). row_at (whole_of c l_at).current q) same))
     ∙ ap (λ (c : Content). slice_set (grow (ws ++ w ∷ []) ls) at (whole_of c m)) same)
 
 -- each layer later than LIVE's has entries where two contents differ
@@ -110,7 +124,8 @@ moved live [] at m some lt name parent new agree = absurd (omega arith)
 moved live (l ∷ ls) zero m some lt name parent new agree = absurd (omega arith)
 moved live (l ∷ ls) (suc at) m some lt name parent new agree =
     let t = top live l in
-    ap (λ rest. t ∷ rest) (moved_grow (t ∷ []) ls at m (omega arith) name parent new (λ k k_lt under q none. agree (suc k) (omega arith) (omega arith) under q none))
+    ap (λ rest. t ∷ rest) (moved_grow (t ∷ []) ls at m (omega arith) name parent new (λ k k_lt under q none. agree (suc k) (omega arith) (omega arith) under q
+    none))
 
 -- LIVE's content changes, and its children have entries where it does
 pub moved_live : (live next : Content) (ls : List Layer) → 0 < length ls → LaterAgree (layer_at ls 0).name live next ls
@@ -119,7 +134,8 @@ unfolding wholes content_by_name top
 moved_live live next [] lt agree = absurd (omega arith)
 moved_live live next (l ∷ ls) lt agree =
     let a = alike_here [] (top live l) (top next l) refl refl in
-    ap (λ rest. top next l ∷ rest) (after l.name live next (top live l ∷ []) (top next l ∷ []) ls a (λ k k_lt under q none. agree (suc k) (omega arith) (omega arith) under q none))
+    ap (λ rest. top next l ∷ rest) (after l.name live next (top live l ∷ []) (top next l
+    ∷ []) ls a (λ k k_lt under q none. agree (suc k) (omega arith) (omega arith) under q none))
 
 -- a layer comes last
 grow-push : (ws : List Workspace) (ls : List Layer) (l : Layer) → grow ws (ls ++ l ∷ []) ≡ grow ws ls ++ whole_of (above_in (ws ++ grow ws ls) l) l ∷ []
@@ -127,9 +143,11 @@ unfolding grow
 grow-push ws [] l = ap (λ (vs : List Workspace). whole_of (above_in vs l) l ∷ []) (sym (append-nil ws))
 grow-push ws (x ∷ ls) l =
     let w = whole_of (above_in ws x) x in
-    ap (λ rest. w ∷ rest) (grow-push (ws ++ w ∷ []) ls l ∙ ap (λ (vs : List Workspace). grow (ws ++ w ∷ []) ls ++ whole_of (above_in vs l) l ∷ []) (append_assoc ws (w ∷ []) (grow (ws ++ w ∷ []) ls)))
+    ap (λ rest. w ∷ rest) (grow-push (ws ++ w ∷ []) ls l ∙ ap (λ (vs : List Workspace). grow (ws ++ w ∷ []) ls ++ whole_of (above_in vs l) l
+    ∷ []) (append_assoc ws (w ∷ []) (grow (ws ++ w ∷ []) ls)))
 
-pub wholes-push : (live : Content) (ls : List Layer) (l : Layer) → 0 < length ls → wholes live (ls ++ l ∷ []) ≡ wholes live ls ++ whole_of (above_in (wholes live ls) l) l ∷ []
+pub wholes-push : (live : Content) (ls : List Layer) (l : Layer) → 0 < length ls → wholes live (ls ++ l ∷ []) ≡ wholes live ls
+    ++ whole_of (above_in (wholes live ls) l) l ∷ []
 unfolding wholes
 wholes-push live [] l lt = absurd (omega arith)
 wholes-push live (x ∷ ls) l lt = ap (λ rest. top live x ∷ rest) (grow-push (top live x ∷ []) ls l)
@@ -138,7 +156,8 @@ wholes-push live (x ∷ ls) l lt = ap (λ rest. top live x ∷ rest) (grow-push 
 abbrev IsFree : Name → List Layer → Type 0
 IsFree name ls = (k : ℕ) → k < length ls → IsUnder name (layer_at ls k) → ⊥
 
-after_gone : (name : Name) (vs ws : List Workspace) (ls : List Layer) → ((n : Name) → bytes_eq name n ≡ false → content_by_name ws n ≡ content_by_name vs n) → IsFree name ls → grow ws ls ≡ grow vs ls
+after_gone : (name : Name) (vs ws : List Workspace) (ls : List Layer) → ((n : Name) → bytes_eq name n ≡ false → content_by_name ws n ≡ content_by_name vs n)
+    → IsFree name ls → grow ws ls ≡ grow vs ls
 unfolding grow
 after_gone name vs ws [] a free = refl
 after_gone name vs ws (l ∷ ls) a free =
@@ -153,20 +172,24 @@ or_none : {A : Type 0} (o : Option A) → option_or o None ≡ o
 or_none None = refl
 or_none (Some x) = refl
 
-removed_grow : (ws : List Workspace) (ls : List Layer) (at : ℕ) → at < length ls → IsFree (layer_at ls at).name ls → grow ws (remove ls at) ≡ remove (grow ws ls) at
+removed_grow : (ws : List Workspace) (ls : List Layer) (at : ℕ) → at < length ls → IsFree (layer_at ls at).name ls → grow ws (remove ls at)
+    ≡ remove (grow ws ls) at
 unfolding grow
 removed_grow ws [] at lt free = absurd (omega arith)
 removed_grow ws (l ∷ ls) zero lt free =
     let w = whole_of (above_in ws l) l in
     after_gone l.name (ws ++ w ∷ []) ws ls
-    (λ n differs. sym (named-append ws w n ∙ ap (λ (b : Bool). option_or (content_by_name ws n) (cond b (Some w.current) None)) (ap (bytes_eq n) (name-whole (above_in ws l) l) ∙ differ_back l.name n differs) ∙ or_none (content_by_name ws n)))
+    (λ n differs. sym (named-append ws w n ∙ ap (λ (b : Bool). option_or (content_by_name ws n) (cond b (Some w.current) None))
+    (ap (bytes_eq n) (name-whole (above_in ws l) l) ∙ differ_back l.name n differs) ∙ or_none (content_by_name ws n)))
     (λ k k_lt. free (suc k) (omega arith))
 removed_grow ws (l ∷ ls) (suc at) lt free =
     let w = whole_of (above_in ws l) l in
     ap (λ rest. w ∷ rest) (removed_grow (ws ++ w ∷ []) ls at (omega arith) (λ k k_lt. free (suc k) (omega arith)))
 
-pub leaf_removed : (live : Content) (ls : List Layer) (at : ℕ) → 0 < at → at < length ls → ((k : ℕ) → 0 < k → k < length ls → IsUnder (layer_at ls at).name (layer_at ls k) → ⊥) → wholes live (remove ls at) ≡ remove (wholes live ls) at
+pub leaf_removed : (live : Content) (ls : List Layer) (at : ℕ) → 0 < at → at < length ls
+    → ((k : ℕ) → 0 < k → k < length ls → IsUnder (layer_at ls at).name (layer_at ls k) → ⊥) → wholes live (remove ls at) ≡ remove (wholes live ls) at
 unfolding wholes
 leaf_removed live [] at some lt free = absurd (omega arith)
 leaf_removed live (l ∷ ls) zero some lt free = absurd (omega arith)
-leaf_removed live (l ∷ ls) (suc at) some lt free = let t = top live l in ap (λ rest. t ∷ rest) (removed_grow (t ∷ []) ls at (omega arith) (λ k k_lt. free (suc k) (omega arith) (omega arith)))
+leaf_removed live (l ∷ ls) (suc at) some lt free = let t = top live l in ap (λ rest. t
+    ∷ rest) (removed_grow (t ∷ []) ls at (omega arith) (λ k k_lt. free (suc k) (omega arith) (omega arith)))

@@ -6,11 +6,13 @@
 #![tactic(auto)]
 
 mod layer_views;
+mod leaves;
 mod stored_marks;
 mod stored_parts;
 mod workspace_maps;
 
 pub use layer_views::LayerView;
+pub use leaves::{live_alone, push_leaf};
 pub use stored_marks::{
     StoredMark, count_marks_of, count_saved, find_saved, has_child_after, sweep_each, sweep_each_at,
 };

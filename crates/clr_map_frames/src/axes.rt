@@ -11,18 +11,18 @@ use std::alloc::AllocError;
 /// The size of the numbers.
 const SMALL: Pixels = Pixels { tenths: 115 };
 
-/// The distance between two lines, in millimetres.
+/// Returns the distance between two lines, in millimetres.
 fn step_of(scene: &Scene<'_>) -> i64 {
     round_step(scene.view.width() / 4)
 }
 
-/// Where a number of the axis to the right stands.
+/// Returns where a number of the axis to the right stands.
 fn across(scene: &Scene<'_>, x: i64) -> Pixels {
     let y = scene.view.world.least.y;
     scene.view.spot(Place { x, y }).x
 }
 
-/// Where a number of the axis upwards stands.
+/// Returns where a number of the axis upwards stands.
 fn along(scene: &Scene<'_>, y: i64) -> Pixels {
     let x = scene.view.world.least.x;
     scene.view.spot(Place { x, y }).y
@@ -106,7 +106,7 @@ fn add_numbers_beside(sketch: &mut Sketch, scene: &Scene<'_>) -> Result<(), Allo
     Ok(())
 }
 
-/// The length that the scale shows, in millimetres.
+/// Returns the length that the scale shows, in millimetres.
 fn length_of_scale(scene: &Scene<'_>) -> i64 {
     round_step(scene.view.width() / 5)
 }
@@ -155,7 +155,7 @@ fn add_scale(sketch: &mut Sketch, scene: &Scene<'_>) -> Result<(), AllocError> {
     )
 }
 
-/// Draws the numbers, the frame and the scale. Fails for want of memory alone.
+/// Draws the numbers, the frame and the scale.
 pub fn add_axes(sketch: &mut Sketch, scene: &Scene<'_>) -> Result<(), AllocError> {
     add_numbers_below(sketch, scene)?;
     add_numbers_beside(sketch, scene)?;

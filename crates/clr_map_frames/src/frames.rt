@@ -46,7 +46,7 @@ fn add_row(groups: &mut Vec<Area>, scene: &Scene<'_>, row: Option<&Row>) -> Resu
     }
 }
 
-/// Returns the frames of the design at a position. Fails for want of memory alone.
+/// Returns the frames of the design at a position.
 pub fn frames_of(scene: &Scene<'_>, at: usize) -> Result<Vec<Area>, AllocError> {
     let mut groups = Vec::new(scene.field.alloc);
     if let Some(set) = scene.field.designs.changes(at) {
@@ -87,7 +87,7 @@ fn add_frames_of(
     Ok(())
 }
 
-/// Draws the grounds of the frames, which lie beneath the rows. Fails for want of memory alone.
+/// Draws the grounds of the frames, which lie beneath the rows.
 pub fn add_grounds(sketch: &mut Sketch, scene: &Scene<'_>) -> Result<(), AllocError> {
     for at in scene.field.designs.order() {
         let colours = scene.field.designs.colours(*at);
@@ -96,7 +96,7 @@ pub fn add_grounds(sketch: &mut Sketch, scene: &Scene<'_>) -> Result<(), AllocEr
     Ok(())
 }
 
-/// Draws the outlines of the frames. Fails for want of memory alone.
+/// Draws the outlines of the frames.
 pub fn add_outlines(sketch: &mut Sketch, scene: &Scene<'_>) -> Result<(), AllocError> {
     for at in scene.field.designs.order() {
         let colours = scene.field.designs.colours(*at);

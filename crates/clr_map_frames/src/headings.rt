@@ -14,7 +14,7 @@ const FEW: usize = 6;
 /// How many of many designs are named.
 const MOST_NAMED: usize = 4;
 
-/// The names of these designs, with commas between them.
+/// Returns the names of these designs, with commas between them.
 fn listed(field: Field<'_>, positions: &[usize]) -> Result<String, AllocError> {
     let mut text = String::new(field.alloc);
     for (number, at) in positions.iter().enumerate() {
@@ -26,7 +26,7 @@ fn listed(field: Field<'_>, positions: &[usize]) -> Result<String, AllocError> {
     Ok(text)
 }
 
-/// Returns the names of the designs, those of the cause first; where they are many, only some. Fails for want of memory alone.
+/// Returns the names of the designs, those of the cause first; where they are many, only some.
 pub fn names_text(field: Field<'_>) -> Result<String, AllocError> {
     let designs = field.designs;
     let count = designs.len();
@@ -45,7 +45,7 @@ pub fn names_text(field: Field<'_>) -> Result<String, AllocError> {
     format!(in field.alloc; "{names} and {others} more")
 }
 
-/// A text, cut behind as many characters as there is room for.
+/// Returns a text, cut behind as many characters as there is room for.
 fn fitting(alloc: Global, text: &str, size: Pixels, room: Pixels) -> Result<String, AllocError> {
     if words_width(text, size) <= room {
         return String::from_str(alloc, text);
@@ -61,7 +61,7 @@ fn fitting(alloc: Global, text: &str, size: Pixels, room: Pixels) -> Result<Stri
     Ok(cut)
 }
 
-/// Writes the names and the sentence. Fails for want of memory alone.
+/// Writes the names and the sentence.
 pub fn add_heading(
     sketch: &mut Sketch,
     word: &str,

@@ -12,14 +12,14 @@ use std::alloc::{AllocError, Global};
 /// The least and the greatest height of the small plan, in tenths of a pixel.
 const HEIGHTS: (i64, i64) = (900, 2000);
 
-/// Whether the map shows so little of everything that a small plan helps.
+/// Returns whether the map shows so little of everything that a small plan helps.
 fn helps(scene: &Scene<'_>) -> bool {
     let whole = scene.whole.most.x.saturating_sub(scene.whole.least.x);
     let tall = scene.whole.most.y.saturating_sub(scene.whole.least.y);
     scene.view.width().saturating_mul(100) < whole.max(tall).saturating_mul(55)
 }
 
-/// Where the small plan stands below this height, if there is room.
+/// Returns where the small plan stands below this height, if there is room.
 fn area_below(scene: &Scene<'_>, down: Pixels) -> Option<Area> {
     let bottom = scene.frame().bottom;
     let room = (bottom - down).tenths;
@@ -34,7 +34,7 @@ fn area_below(scene: &Scene<'_>, down: Pixels) -> Option<Area> {
     })
 }
 
-/// The spot on whole pixels.
+/// Returns the spot on whole pixels.
 fn on_pixels(spot: Spot) -> Spot {
     Spot {
         x: Pixels::whole(spot.x.tenths / 10),
@@ -42,7 +42,7 @@ fn on_pixels(spot: Spot) -> Spot {
     }
 }
 
-/// The same steps on whole pixels, without lines of no length.
+/// Returns the same steps on whole pixels, without lines of no length.
 fn coarse(alloc: Global, steps: &[Step]) -> Result<Vec<Step>, AllocError> {
     let mut coarse = Vec::new(alloc);
     let mut last = None;
@@ -80,7 +80,7 @@ fn with_row(extent: Option<Bounds>, row: Option<&Row>) -> Option<Bounds> {
     }
 }
 
-/// An area that is at least this wide and high.
+/// Returns an area that is at least this wide and high.
 fn at_least(area: Area, width: i64, height: i64) -> Area {
     let width = area.width().tenths.max(width.saturating_mul(10));
     let height = area.height().tenths.max(height.saturating_mul(10));
@@ -126,7 +126,7 @@ fn add_window(sketch: &mut Sketch, scene: &Scene<'_>, view: &View) -> Result<(),
     sketch.add_area(area, Pixels::whole(2), Ink::drawn(colour, Pixels::whole(2)))
 }
 
-/// Draws a small plan of everything below this height, where it helps and there is room. Fails for want of memory alone.
+/// Draws a small plan of everything below this height, where it helps and there is room.
 pub fn add_inset(sketch: &mut Sketch, scene: &Scene<'_>, down: Pixels) -> Result<(), AllocError> {
     if !helps(scene) {
         return Ok(());

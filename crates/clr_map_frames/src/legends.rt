@@ -145,7 +145,7 @@ fn add_count(text: &mut String, count: usize, word: &str) -> Result<(), AllocErr
     write!(text, "{count} {word}")
 }
 
-/// How much a design changes, in words.
+/// Returns how much a design changes, in words.
 fn counts_words(scene: &Scene<'_>, counts: Counts) -> Result<String, AllocError> {
     let mut text = String::new(scene.field.alloc);
     add_count(&mut text, counts.added, "added")?;
@@ -223,7 +223,8 @@ fn add_design(column: &mut Column<'_>, at: usize, has_room: bool) -> Result<(), 
     Ok(())
 }
 
-/// How many designs are listed: all where they are few, and otherwise those of the cause, if there is one.
+/// Returns how many designs are listed: all where they are few, and otherwise those of the cause, if there
+/// is one.
 fn listed(scene: &Scene<'_>) -> usize {
     let designs = scene.field.designs;
     let all = designs.len();
@@ -265,7 +266,7 @@ fn add_designs(column: &mut Column<'_>) -> Result<(), AllocError> {
     Ok(())
 }
 
-/// Whether the place of a cause has a ring.
+/// Returns whether the place of a cause has a ring.
 fn has_ring(scene: &Scene<'_>) -> bool {
     match scene.cause {
         Some(cause) => matches!(cause.mark, Mark::Ring(_)),
@@ -309,7 +310,7 @@ fn add_signs(column: &mut Column<'_>) -> Result<(), AllocError> {
     add_tables(column)
 }
 
-/// Returns what stands beside the map, and how far down it goes. Fails for want of memory alone.
+/// Returns what stands beside the map, and how far down it goes.
 pub fn legend_of<'a>(scene: &'a Scene<'a>) -> Result<(Layer, Pixels), AllocError> {
     let mut column = Column {
         sketch: Sketch::new(scene.field.alloc),

@@ -6,7 +6,7 @@ use clr_rows::{CellId, Form, Row, Schema, Shape};
 use clr_svg::{Ink, Pixels, Step};
 use std::alloc::AllocError;
 
-/// The sign of a table's points: the tables of points take the signs in their order.
+/// Returns the sign of a table's points: the tables of points take the signs in their order.
 pub fn sign_of_table(schema: &Schema, table: u16) -> Sign {
     let mut number = 0usize;
     for def in schema.tables().iter().take(table as usize) {
@@ -17,7 +17,7 @@ pub fn sign_of_table(schema: &Schema, table: u16) -> Sign {
     sign_at(number)
 }
 
-/// How broad the lines of the root are.
+/// Returns how broad the lines of the root are.
 fn line_width(detail: Detail) -> Pixels {
     match detail {
         Detail::Fine => Pixels::of_tenths(32),
@@ -37,7 +37,7 @@ pub fn add_lines(sketch: &mut Sketch, scene: &Scene<'_>) -> Result<(), AllocErro
     sketch.add_path(steps, Ink::drawn(PLAIN, line_width(scene.detail)))
 }
 
-/// Whether a point of the root is drawn by itself: it is seen, and no design changes it.
+/// Returns whether a point of the root is drawn by itself: it is seen, and no design changes it.
 fn is_drawn(scene: &Scene<'_>, cell: CellId, row: &Row) -> bool {
     scene.view.sees(&row.shape) && scene.field.designs.changer(cell).is_none()
 }
@@ -78,7 +78,7 @@ fn add_dots(sketch: &mut Sketch, scene: &Scene<'_>) -> Result<(), AllocError> {
 }
 
 /// Draws the points of the root that are seen and that no design changes: by signs, or by dots where there is little room, or not at all
-/// where there is less. Fails for want of memory alone.
+/// where there is less.
 pub fn add_signs(sketch: &mut Sketch, scene: &Scene<'_>) -> Result<(), AllocError> {
     match scene.detail {
         Detail::Fine => add_large_signs(sketch, scene),

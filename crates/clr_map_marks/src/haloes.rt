@@ -20,7 +20,7 @@ fn add_halo(sketch: &mut Sketch, scene: &Scene<'_>, row: &CauseRow) -> Result<()
     sketch.add_path(steps, Ink::drawn(HALO, HALO_RADIUS))
 }
 
-/// Draws the haloes of the rows that a cause names. Fails for want of memory alone.
+/// Draws the haloes of the rows that a cause names.
 pub fn add_haloes(sketch: &mut Sketch, scene: &Scene<'_>, cause: &Cause) -> Result<(), AllocError> {
     for row in &cause.rows {
         add_halo(sketch, scene, row)?;
@@ -28,14 +28,14 @@ pub fn add_haloes(sketch: &mut Sketch, scene: &Scene<'_>, cause: &Cause) -> Resu
     Ok(())
 }
 
-/// The middles of the first two rows of a cause.
+/// Returns the middles of the first two rows of a cause.
 fn two_middles(cause: &Cause) -> Option<(Place, Place)> {
     let first = cause.rows.as_slice().first()?;
     let second = cause.rows.as_slice().get(1)?;
     Some((middle_of(&first.row.shape)?, middle_of(&second.row.shape)?))
 }
 
-/// The spot halfway between two.
+/// Returns the spot halfway between two.
 fn halfway(from: Spot, to: Spot) -> Spot {
     Spot {
         x: from.x + (to.x - from.x).half(),
@@ -50,7 +50,7 @@ pub struct Marked {
     pub radius: Pixels,
 }
 
-/// The spot between the first two rows of a cause, and how far round it their mark goes.
+/// Returns the spot between the first two rows of a cause, and how far round it their mark goes.
 fn marked_between(scene: &Scene<'_>, cause: &Cause, radius: Pixels) -> Option<Marked> {
     let (first, second) = two_middles(cause)?;
     Some(Marked {
@@ -106,7 +106,7 @@ fn add_near(
     sketch.add_line(scene.view.spot(first), scene.view.spot(second), line)
 }
 
-/// Marks the place of a cause. Fails for want of memory alone.
+/// Marks the place of a cause.
 pub fn add_mark(sketch: &mut Sketch, scene: &Scene<'_>, cause: &Cause) -> Result<(), AllocError> {
     if let Mark::Ring(_) = cause.mark
         && let Some(marked) = marked_spot(scene, cause)

@@ -16,7 +16,7 @@ struct Lines {
     crosses: Vec<Spot>,
 }
 
-/// How broad the lines of designs are.
+/// Returns how broad the lines of designs are.
 fn mark_width(scene: &Scene<'_>) -> Pixels {
     match (scene.detail.is_fine(), scene.changes.is_fine()) {
         (true, true) => Pixels::of_tenths(46),
@@ -25,7 +25,7 @@ fn mark_width(scene: &Scene<'_>) -> Pixels {
     }
 }
 
-/// Whether two rows have one shape.
+/// Returns whether two rows have one shape.
 fn same_shape(a: &Row, b: &Row) -> bool {
     a.shape.same(&b.shape)
 }
@@ -57,7 +57,7 @@ fn add_change(lines: &mut Lines, scene: &Scene<'_>, change: &Change) -> Result<(
     }
 }
 
-/// The lines of a design.
+/// Returns the lines of a design.
 fn lines_of(alloc: Global, scene: &Scene<'_>, set: &ChangeSet) -> Result<Lines, AllocError> {
     let mut lines = Lines {
         added: Vec::new(alloc),
@@ -83,7 +83,7 @@ fn add_twice(
     sketch.add_path(again, above)
 }
 
-/// How long the dashes of lines that go are, and the gaps between them.
+/// Returns how long the dashes of lines that go are, and the gaps between them.
 fn dashes(scene: &Scene<'_>) -> (Pixels, Pixels) {
     if scene.changes.is_fine() {
         (Pixels::whole(7), Pixels::whole(6))
@@ -116,7 +116,7 @@ fn add_lines(
     Ok(())
 }
 
-/// Draws what designs change of lines, those that a cause names last. Fails for want of memory alone.
+/// Draws what designs change of lines, those that a cause names last.
 pub fn add_line_marks(sketch: &mut Sketch, scene: &Scene<'_>) -> Result<(), AllocError> {
     let designs = scene.field.designs;
     for at in designs.order().iter().rev() {

@@ -26,7 +26,7 @@ struct PointMark {
     place: Place,
 }
 
-/// How large the signs of designs are.
+/// Returns how large the signs of designs are.
 pub fn mark_radius(scene: &Scene<'_>) -> Pixels {
     if scene.changes.is_fine() {
         Pixels::of_tenths(66)
@@ -90,7 +90,7 @@ fn add_set(
     Ok(())
 }
 
-/// The marks of all designs, those at one place beside one another.
+/// Returns the marks of all designs, those at one place beside one another.
 fn marks_of(scene: &Scene<'_>) -> Result<Vec<PointMark>, AllocError> {
     let mut marks = Vec::new(scene.field.alloc);
     for at in scene.field.designs.order() {
@@ -134,7 +134,7 @@ pub fn marks_at(scene: &Scene<'_>, place: Place) -> u32 {
     count
 }
 
-/// How many marks stand at the place of the one at a position, before it and in all.
+/// Returns how many marks stand at the place of the one at a position, before it and in all.
 fn neighbours(marks: &[PointMark], at: usize, place: Place) -> (i64, i64) {
     let (mut before, mut all) = (0i64, 0i64);
     let first = at.saturating_sub(8);
@@ -149,7 +149,7 @@ fn neighbours(marks: &[PointMark], at: usize, place: Place) -> (i64, i64) {
     (before, all)
 }
 
-/// The spot of a mark, beside others at its place.
+/// Returns the spot of a mark, beside others at its place.
 fn spot_of(scene: &Scene<'_>, marks: &[PointMark], at: usize, mark: &PointMark) -> Spot {
     let spot = scene.view.spot(mark.place);
     let (before, all) = neighbours(marks, at, mark.place);
@@ -215,7 +215,8 @@ fn add_small_mark(
     add_sign(sketch, mark.sign, spot, radius, ink)
 }
 
-/// The square of the page, of the size of a sign, in which a mark stands, and which mark of that square it is.
+/// Returns the square of the page, of the size of a sign, in which a mark stands, and which mark of that
+/// square it is.
 fn square_of(scene: &Scene<'_>, mark: &PointMark) -> (i64, i64, usize, Deed) {
     let side = mark_radius(scene).tenths.saturating_mul(2).max(1);
     let spot = scene.view.spot(mark.place);
@@ -250,7 +251,6 @@ fn add_small_marks(
 }
 
 /// Draws what designs change of points. Where there is little room, marks of one kind that are nearer than their size are drawn once.
-/// Fails for want of memory alone.
 pub fn add_point_marks(sketch: &mut Sketch, scene: &Scene<'_>) -> Result<(), AllocError> {
     let marks = marks_of(scene)?;
     if !scene.changes.is_fine() {

@@ -22,7 +22,8 @@ pub record IsInOneOrder {A B : Type 0} (before : A → A → Type 0) (earlier : 
   pub falling : (x z : A) (y w : B) → stands x y → stands z w → earlier y w → before x z
 
 -- the subjects of a need in two settings, and what serves it there
-pub record Agree {A B : Type 0} (c : Setting A) (d : Setting B) (stands : A → B → Type 0) (n : Need) (a : Lived A) (b : Option (Lived A)) (p : Lived B) (q : Option (Lived B)) : Type 0 where
+pub record Agree {A B : Type 0} (c : Setting A) (d : Setting B) (stands : A → B → Type 0) (n : Need) (a : Lived A) (b : Option (Lived A)) (p : Lived B)
+    (q : Option (Lived B)) : Type 0 where
   pub first : IsSameVersion stands a p
   pub second : IsSameVersionToo stands b q
   pub to : (v : VersionId) (l : Lived A) → Serves c n a b v l → (m : Lived B) × Serves d n p q v m × IsSameVersion stands l m
@@ -115,7 +116,8 @@ module _ {A B : Type 0} (stands : A → B → Type 0) where
 
 -- whom a need involves ------------------------------------------------------------------------------
 
-module _ {A B : Type 0} (c : Setting A) (d : Setting B) (stands : A → B → Type 0) (n : Need) (a : Lived A) (b : Option (Lived A)) (p : Lived B) (q : Option (Lived B)) where
+module _ {A B : Type 0} (c : Setting A) (d : Setting B) (stands : A → B → Type 0) (n : Need) (a : Lived A) (b : Option (Lived A)) (p : Lived B)
+    (q : Option (Lived B)) where
   abbrev ServeIn : Type 0
   ServeIn = (v : VersionId) (l : Lived A) → Serves c n a b v l → (m : Lived B) × Serves d n p q v m × IsVersionIn stands l m
 
@@ -129,7 +131,8 @@ module _ {A B : Type 0} (c : Setting A) (d : Setting B) (stands : A → B → Ty
 
 -- one need ------------------------------------------------------------------------------------------
 
-module _ {A B : Type 0} (c : Setting A) (d : Setting B) (stands : A → B → Type 0) (one : IsOneToOne stands) (n : Need) (a : Lived A) (b : Option (Lived A)) (p : Lived B) (q : Option (Lived B))
+module _ {A B : Type 0} (c : Setting A) (d : Setting B) (stands : A → B → Type 0) (one : IsOneToOne stands) (n : Need) (a : Lived A) (b : Option (Lived A))
+    (p : Lived B) (q : Option (Lived B))
     (agree : Agree c d stands n a b p q) where
   pub touched_to : IsTouchedBy c n a b → IsTouchedBy d n p q
   touched_to (inl fresh) = inl fresh
@@ -197,7 +200,8 @@ module _ {A B : Type 0} (c : Setting A) (d : Setting B) (stands : A → B → Ty
 
   -- ---- what serves it with one life
 
-  pub serves_as_to : (life : Lifetime A) (other : Lifetime B) → IsSameLife stands life other → (v : VersionId) → ServesAs c n a b life v → ServesAs d n p q other v
+  pub serves_as_to : (life : Lifetime A) (other : Lifetime B) → IsSameLife stands life other → (v : VersionId) → ServesAs c n a b life v
+      → ServesAs d n p q other v
   serves_as_to life other is v (l, serve, e) = let (m, it, same) = agree.to v l serve in (m, it, life_to stands one l.life life m.life other same.life is e)
 
   -- whoever takes a serving version away stands for another
@@ -218,7 +222,8 @@ module _ {A B : Type 0} (c : Setting A) (d : Setting B) (stands : A → B → Ty
 least_as : (P Q : VersionId → Type 0) (v : VersionId) → ((w : VersionId) → P w → Q w) → ((w : VersionId) → Q w → P w) → IsLeastVersion P v → IsLeastVersion Q v
 least_as P Q v there back (is, least) = (there v is, λ w lesser h. least w lesser (back w h))
 
-module _ {A B : Type 0} (before : A → A → Type 0) (earlier : B → B → Type 0) (c : Setting A) (d : Setting B) (stands : A → B → Type 0) (one : IsOneToOne stands) (order : IsInOneOrder before earlier stands) (n : Need)
+module _ {A B : Type 0} (before : A → A → Type 0) (earlier : B → B → Type 0) (c : Setting A) (d : Setting B) (stands : A → B → Type 0) (one : IsOneToOne stands)
+    (order : IsInOneOrder before earlier stands) (n : Need)
     (a : Lived A) (b : Option (Lived A)) (p : Lived B) (q : Option (Lived B)) (agree : Agree c d stands n a b p q) where
   abbrev other : Agree d c (other_way stands) n p q a b
   other = turned_round stands c d n a b p q agree

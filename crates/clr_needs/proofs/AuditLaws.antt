@@ -30,5 +30,6 @@ first_after rules content changes first h = subst (λ view. IsFirstBroken rules 
 
 pub first_listed : FirstBrokenIsListed
 first_listed rules content changes first h =
-    first_once rules (row_at (taken_over content changes)) first (slice_get (broken_needs rules (taken_over content changes)) 0) (first_after rules content changes first h)
+    first_once rules (row_at (taken_over content changes)) first (slice_get (broken_needs rules (taken_over content changes)) 0)
+    (first_after rules content changes first h)
     (lists_broken rules (taken_over content changes)).first

@@ -42,7 +42,8 @@ module _ (c : Setting ℕ) (n : Need) where
   life_at life v l is = ap (has_life life) is
 
   -- a subject with this life
-  pub subject_told : (life : Lifetime ℕ) (a : Lived ℕ) (b : Option (Lived ℕ)) → IsPossible c n a b → has_life_too life c n ≡ true → (a.life ≡ life) ⊎ IsLifeOf life b
+  pub subject_told : (life : Lifetime ℕ) (a : Lived ℕ) (b : Option (Lived ℕ)) → IsPossible c n a b → has_life_too life c n ≡ true → (a.life ≡ life)
+      ⊎ IsLifeOf life b
   subject_told life a b p e = by n.second b p.second_is e
     where
       by : (w : Option VersionId) (b : Option (Lived ℕ)) → IsBesideToo c n.first a w b → has_life_by life c n.first w ≡ true → (a.life ≡ life) ⊎ IsLifeOf life b
@@ -54,7 +55,8 @@ module _ (c : Setting ℕ) (n : Need) where
         | inr h ↦ inr (sym (same_told b.life life (sym (life_at life w b is.is) ∙ h)))
       ]
 
-  pub told_subject : (life : Lifetime ℕ) (a : Lived ℕ) (b : Option (Lived ℕ)) → IsPossible c n a b → (a.life ≡ life) ⊎ IsLifeOf life b → has_life_too life c n ≡ true
+  pub told_subject : (life : Lifetime ℕ) (a : Lived ℕ) (b : Option (Lived ℕ)) → IsPossible c n a b → (a.life ≡ life) ⊎ IsLifeOf life b → has_life_too life c n
+      ≡ true
   told_subject life a b p h = by n.second b p.second_is h
     where
       by : (w : Option VersionId) (b : Option (Lived ℕ)) → IsBesideToo c n.first a w b → (a.life ≡ life) ⊎ IsLifeOf life b → has_life_by life c n.first w ≡ true
@@ -62,8 +64,10 @@ module _ (c : Setting ℕ) (n : Need) where
       by None None is (inr h) = absurd h
       by None (Some b) is h = absurd is
       by (Some w) None is h = absurd is
-      by (Some w) (Some b) is (inl h) = or_left (has_life life (version c n.first)) (has_life life (version c w)) (life_at life n.first a p.first_is ∙ lives_as life a h)
-      by (Some w) (Some b) is (inr h) = or_right (has_life life (version c n.first)) (has_life life (version c w)) (life_at life w b is.is ∙ lives_as life b (sym h))
+      by (Some w) (Some b) is (inl h) = or_left (has_life life (version c n.first)) (has_life life (version c w)) (life_at life n.first a p.first_is
+          ∙ lives_as life a h)
+      by (Some w) (Some b) is (inr h) = or_right (has_life life (version c n.first)) (has_life life (version c w)) (life_at life w b is.is
+          ∙ lives_as life b (sym h))
 
   pub brings_is_blocker : (told : Bool) (x : ℕ) → IsPossibleNeed c n → told ≡ has_life_too (With x) c n → told ≡ true → IsBlockerOf c n x
   brings_is_blocker told x (a, b, p) is e = (a, b, p, by (subject_told (With x) a b p (sym is ∙ e)))
@@ -78,7 +82,8 @@ module _ (c : Setting ℕ) (n : Need) where
         let (a, b, l, p, serve) = (are.exactly v).0 h in
         (a, b, p, inr (inr (v, l, serve, same_told l.life (Without x) (sym (life_at (Without x) v l serve.is) ∙ e))))
 
-    pub neither_is_blocker : (told : Bool) → told ≡ has_life_too (With x) c n → told ≡ false → IsLeastPassing (has_life_at (Without x) c) servers None → ¬ (IsBlockerOf c n x)
+    pub neither_is_blocker : (told : Bool) → told ≡ has_life_too (With x) c n → told ≡ false → IsLeastPassing (has_life_at (Without x) c) servers None
+        → ¬ (IsBlockerOf c n x)
     neither_is_blocker told is e none (a, b, p, inl h) = true≢false (sym (told_subject (With x) a b p (inl h)) ∙ sym is ∙ e)
     neither_is_blocker told is e none (a, b, p, inr (inl h)) = true≢false (sym (told_subject (With x) a b p (inr h)) ∙ sym is ∙ e)
     neither_is_blocker told is e none (a, b, p, inr (inr (v, l, serve, h))) =
@@ -119,7 +124,8 @@ module _ (c : Setting ℕ) (n : Need) where
       every : (x : ℕ) → IsBlockerBelow (k + 1) x → Contains (old ++ k ∷ []) x
       every x w = elim (cases_lt x k) [
         | inl less ↦ Contains-append_left old (k ∷ []) x ((before.exactly x).1 (record { below = less; blocks = w.blocks }))
-        | inr most ↦ (let less = w.below in let same : k ≡ x = omega (arith, less, most) in Contains-append_right old (k ∷ []) x (contained x (k ∷ []) (inl same)))
+        | inr most ↦ (let less = w.below in let same : k ≡ x = omega (arith, less, most) in Contains-append_right old (k
+            ∷ []) x (contained x (k ∷ []) (inl same)))
       ]
 
   pub one_blocks_not : (k : ℕ) (old : List ℕ) → ¬ (IsBlockerOf c n k) → AreBlockersTo k old → AreBlockersTo (k + 1) old
@@ -139,7 +145,8 @@ pub range_below : (len from k : ℕ) → has (λ i j. i == j) (range_with_len fr
 range_below zero from k h = absurd (false≢true h)
 range_below (suc len) from k h = by (or_cases (from == k) (has (λ i j. i == j) (range_with_len (from + 1) len) k) h) (range_below len (from + 1) k)
   where
-    by : (from == k ≡ true) ⊎ (has (λ i j. i == j) (range_with_len (from + 1) len) k ≡ true) → (has (λ i j. i == j) (range_with_len (from + 1) len) k ≡ true → k < (from + 1) + len) → k < from + suc len
+    by : (from == k ≡ true) ⊎ (has (λ i j. i == j) (range_with_len (from + 1) len) k ≡ true) → (has (λ i j. i == j) (range_with_len (from + 1) len) k ≡ true
+        → k < (from + 1) + len) → k < from + suc len
     by (inl e) later = let same = (Decides-eqb from k).0 e in omega (arith, same)
     by (inr g) later = let less = later g in omega (arith, less)
 
@@ -157,7 +164,11 @@ module _ (rules : List Rule) (root : Content) (sets : List Changes) where
     pub all_block : (k : ℕ) (list : List ℕ) → length sets ≤ k → AreBlockersTo s n k list → Blocks s n list
     all_block k list past are a b p = record {
       ascending = are.ascending;
-      exactly = λ x. (λ h. only x ((are.exactly x).0 h).blocks, λ w. (are.exactly x).1 (record { below = (let less = blocker_below a b p x w in omega (arith, less, past)); blocks = (a, b, p, w) }));
+      exactly = λ x. (
+        λ h. only x ((are.exactly x).0 h).blocks,
+        λ w. (are.exactly x).1
+            (record { below = (let less = blocker_below a b p x w in omega (arith, less, past)); blocks = (a, b, p, w) }),
+      );
     }
       where
         only : (x : ℕ) → IsBlockerOf s n x → IsBlocker s n a b x

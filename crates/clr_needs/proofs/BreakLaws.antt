@@ -85,7 +85,8 @@ module _ (rules : List Rule) (root : Content) (sets : List Changes) (one : lengt
     it_stands : are_living a b ≡ true → IsStandingNeed s ts n a b
     it_stands living = record { possible = p; live = λ l h. by n.second b p.second_is living l h }
       where
-        by : (w : Option VersionId) (b : Option (Lived ℕ)) → IsBesideToo s n.first a w b → are_living a b ≡ true → (l : Lifetime ℕ) → IsSubjectLife s a b l → lives s ts l ≡ true
+        by : (w : Option VersionId) (b : Option (Lived ℕ)) → IsBesideToo s n.first a w b → are_living a b ≡ true → (l : Lifetime ℕ) → IsSubjectLife s a b l
+            → lives s ts l ≡ true
         by None None is e l (inl f) = ap (lives s ts) f ∙ life_told n.first a p.first_is ∙ e
         by None None is e l (inr f) = absurd f
         by None (Some b) is e l h = absurd is
@@ -99,7 +100,8 @@ module _ (rules : List Rule) (root : Content) (sets : List Changes) (one : lengt
         first : is_living a.life ≡ true
         first = sym (life_told n.first a p.first_is) ∙ need.live a.life (inl refl)
 
-        by : (w : Option VersionId) (b : Option (Lived ℕ)) → IsBesideToo s n.first a w b → ((l : Lifetime ℕ) → IsLifeOf l b → lives s ts l ≡ true) → are_living a b ≡ true
+        by : (w : Option VersionId) (b : Option (Lived ℕ)) → IsBesideToo s n.first a w b → ((l : Lifetime ℕ) → IsLifeOf l b → lives s ts l ≡ true)
+            → are_living a b ≡ true
         by None None is live = first
         by None (Some b) is live = absurd is
         by (Some w) None is live = absurd is
@@ -133,7 +135,8 @@ module _ (rules : List Rule) (root : Content) (sets : List Changes) (one : lengt
   -- ---- every rule holds where each touched need is kept
 
   pub holds_after : Holds rules s.root → ((n : Need) → IsTouched s n → IsServedAfterMerge s n) → Holds rules (view_after_merge s)
-  holds_after holds kept = subst (Holds rules) views (holds_where_met s ts merge (λ n a b need. met_by s ts n a b merge (by n a b need (touched_or_served holds n a b need.possible))))
+  holds_after holds kept = subst (Holds rules) views
+      (holds_where_met s ts merge (λ n a b need. met_by s ts n a b merge (by n a b need (touched_or_served holds n a b need.possible))))
     where
       by : (n : Need) (a : Lived ℕ) (b : Option (Lived ℕ)) → IsStandingNeed s ts n a b → IsTouchedBy s n a b ⊎ HasServer s ts n a b → HasServer s ts n a b
       by n a b need (inl touched) = server_stands n a b (kept n (a, b, need.possible, touched) a b need.possible (living_too n a b need.possible need))
@@ -166,7 +169,8 @@ module _ (rules : List Rule) (root : Content) (sets : List Changes) (one : lengt
   pub broken_by : Holds rules s.root → (b : Broken) → IsBroken rules (view_after_merge s) b → (n : Need) × IsBrokenBy b n
   broken_by holds b broken = by b (subst (λ view. IsBroken rules view b) (sym views) broken)
     where
-      break_of : (b : Broken) (n : Need) (x : Lived ℕ) (y : Option (Lived ℕ)) → IsStandingNeed s ts n x y → b ≡ broken_of n → (HasServer s ts n x y → ⊥) → (n : Need) × IsBrokenBy b n
+      break_of : (b : Broken) (n : Need) (x : Lived ℕ) (y : Option (Lived ℕ)) → IsStandingNeed s ts n x y → b ≡ broken_of n → (HasServer s ts n x y → ⊥)
+          → (n : Need) × IsBrokenBy b n
       break_of b n x y need named unserved = go (touched_or_served holds n x y need.possible)
         where
           go : IsTouchedBy s n x y ⊎ HasServer s ts n x y → (n : Need) × IsBrokenBy b n
@@ -183,7 +187,8 @@ module _ (rules : List Rule) (root : Content) (sets : List Changes) (one : lengt
       by : (b : Broken) → IsBroken rules (view_with s ts) b → (n : Need) × IsBrokenBy b n
       by b broken = go broken.first broken.second broken.need broken.unmet broken.named
         where
-          go : (first : Held) (second : Option Held) → IsNeed rules (view_with s ts) (audit.ask_of b) first second → (IsMet rules (view_with s ts) (audit.ask_of b) first second → ⊥)
+          go : (first : Held) (second : Option Held) → IsNeed rules (view_with s ts) (audit.ask_of b) first second
+              → (IsMet rules (view_with s ts) (audit.ask_of b) first second → ⊥)
               → b ≡ broken_at (audit.ask_of b) first second → (n : Need) × IsBrokenBy b n
           go first None need unmet named =
               let v = has_version s ts merge first.0 first.1 need.stands in
@@ -202,7 +207,16 @@ module _ (rules : List Rule) (root : Content) (sets : List Changes) (one : lengt
               let y : Lived ℕ = record { row = second.1; life = w.life } in
               let n = need_of (audit.ask_of b) (record { cell = first.0; fresh = v.fresh }) (Some (record { cell = second.0; fresh = w.fresh })) in
               let stand : IsStandingNeed s ts n x (Some y) = record {
-                possible = record { first_is = v.is; second_is = record { is = w.is; ascending = need.beside.1; not_opposed = never_both s ts v.life w.life v.lives w.lives }; they_call = need.they_call };
+                possible = record {
+                  first_is = v.is;
+                  second_is = record {
+                    is = w.is;
+                    ascending = need.beside.1;
+                    not_opposed = never_both s ts v.life w.life
+                        v.lives w.lives;
+                  };
+                  they_call = need.they_call;
+                };
                 live = λ l h. both l x y v.lives w.lives h;
               } in
               break_of b n x (Some y) stand named (λ h. unmet (met_by s ts n x (Some y) merge h))
@@ -272,7 +286,8 @@ module _ (rules : List Rule) (root : Content) (sets : List Changes) (one : lengt
       let first = subjects_live m lost in
       let second = subjects_live n lost_too in
       λ i. ordering_then (nat_cmp m.rule n.rule) (ordering_then (version_order m.first n.first first.0 second.0 i)
-      (ordering_then (second_order m.second n.second first.1 second.1 i) (ordering_then (nat_cmp m.first_part n.first_part) (nat_cmp m.second_part n.second_part))))
+      (ordering_then (second_order m.second n.second first.1 second.1 i) (ordering_then (nat_cmp m.first_part n.first_part)
+      (nat_cmp m.second_part n.second_part))))
 
   less_not_gt : (o : Ordering) → o ≡ Less → is_gt o ≡ false
   less_not_gt Less e = refl
@@ -300,10 +315,12 @@ module _ (rules : List Rule) (root : Content) (sets : List Changes) (one : lengt
       least : (b : Broken) → IsBroken rules (view_after_merge s) b → is_gt (broken_cmp (broken_of n) b) ≡ false
       least b broken =
           let (m, h) = broken_by holds b broken in
-          subst (λ x. is_gt (broken_cmp (broken_of n) x) ≡ false) (sym h.named) (later m h.lost (place_of need_cmp needs k n d m less is ascending (every m h.touched)))
+          subst (λ x. is_gt (broken_cmp (broken_of n) x)
+          ≡ false) (sym h.named) (later m h.lost (place_of need_cmp needs k n d m less is ascending (every m h.touched)))
 
   -- the first is read from a list of the touched needs
-  pub first_is_least : Holds rules s.root → (needs read : List Need) (k : ℕ) (n d : Need) (lost : Bool) (b : Broken) → AreTouchedNeeds s needs → read ≡ needs → k < length read → n ≡ get_or read k d
+  pub first_is_least : Holds rules s.root → (needs read : List Need) (k : ℕ) (n d : Need) (lost : Bool) (b : Broken) → AreTouchedNeeds s needs → read ≡ needs
+      → k < length read → n ≡ get_or read k d
       → ((m : Need) → Contains (take k read) m → IsServedAfterMerge s m)
       → IsJudged s n lost
       → lost ≡ true
@@ -311,11 +328,14 @@ module _ (rules : List Rule) (root : Content) (sets : List Changes) (one : lengt
       → IsLeastBroken rules (view_after_merge s) b
   first_is_least holds needs read k n d lost b touched same less is kept judged told named =
       subst (IsLeastBroken rules (view_after_merge s)) (sym named)
-      (least_lost holds read k n d less is (subst (IsStrictlySortedBy need_cmp) (sym same) touched.ascending) (λ m t. subst (λ ms. Contains ms m) (sym same) ((touched.exactly m).1 t)) kept
+      (least_lost holds read k n d less is (subst (IsStrictlySortedBy need_cmp) (sym same) touched.ascending) (λ m t. subst (λ ms. Contains ms m) (sym same)
+      ((touched.exactly m).1 t)) kept
       (subst (IsJudged s n) told judged))
 
-  pub none_is_lost : Holds rules s.root → (needs read : List Need) (k : ℕ) → AreTouchedNeeds s needs → read ≡ needs → length read ≤ k → ((m : Need) → Contains (take k read) m → IsServedAfterMerge s m) → Holds rules (view_after_merge s)
-  none_is_lost holds needs read k touched same past kept = holds_after holds (λ m t. kept m (all_taken read k m past (subst (λ ms. Contains ms m) (sym same) ((touched.exactly m).1 t))))
+  pub none_is_lost : Holds rules s.root → (needs read : List Need) (k : ℕ) → AreTouchedNeeds s needs → read ≡ needs → length read ≤ k
+      → ((m : Need) → Contains (take k read) m → IsServedAfterMerge s m) → Holds rules (view_after_merge s)
+  none_is_lost holds needs read k touched same past kept = holds_after holds
+      (λ m t. kept m (all_taken read k m past (subst (λ ms. Contains ms m) (sym same) ((touched.exactly m).1 t))))
 
 -- ---- one need
 
@@ -337,7 +357,11 @@ module _ (c : Setting ℕ) (n : Need) where
         let once = subjects_once c n a x b y p q in (
           v,
           l,
-          record { is = serve.is; it_serves = sym (λ i. serves c.rules (ask_of n) (held_row n.first (once.0 i)) (held_too n.second (once.1 i)) (held_row v l)) ∙ serve.it_serves },
+          record {
+            is = serve.is;
+            it_serves = sym (λ i. serves c.rules (ask_of n) (held_row n.first (once.0 i)) (held_too n.second (once.1 i)) (held_row v l))
+                ∙ serve.it_serves;
+          },
           sym (ap is_living_at serve.is) ∙ living,
         )
 
@@ -346,7 +370,8 @@ module _ (c : Setting ℕ) (n : Need) where
   touched_possible needs are h = let (a, b, p, touched) = (are.exactly n).0 h in (a, b, p)
 
 -- the judgement of one more need
-pub kept_more : (c : Setting ℕ) (needs : List Need) (k : ℕ) (n : Need) (d : Need) (lost : Bool) → k < length needs → n ≡ get_or needs k d → ((m : Need) → Contains (take k needs) m → IsServedAfterMerge c m) → IsJudged c n lost → lost ≡ false
+pub kept_more : (c : Setting ℕ) (needs : List Need) (k : ℕ) (n : Need) (d : Need) (lost : Bool) → k < length needs → n ≡ get_or needs k d
+    → ((m : Need) → Contains (take k needs) m → IsServedAfterMerge c m) → IsJudged c n lost → lost ≡ false
     → (m : Need) → Contains (take (k + 1) needs) m → IsServedAfterMerge c m
 kept_more c needs k n d lost less is kept judged fails m h = by (one_more needs k d m less h)
   where

@@ -31,7 +31,8 @@ module _ {A : Type 0} (c : Setting A) where
         by (Some w) None is (inl e) (inr f) = absurd f
         by (Some w) None is (inr e) k = absurd e
         by (Some w) (Some d) is (inl e) (inr f) = is.not_opposed (subst (λ x. AreOpposed x d.life) e (subst (AreOpposed l) f opposed))
-        by (Some w) (Some d) is (inr e) (inl f) = is.not_opposed (opposed_too c d.life a.life (subst (λ x. AreOpposed x a.life) e (subst (AreOpposed l) f opposed)))
+        by (Some w) (Some d) is (inr e) (inl f) = is.not_opposed
+            (opposed_too c d.life a.life (subst (λ x. AreOpposed x a.life) e (subst (AreOpposed l) f opposed)))
         by (Some w) (Some d) is (inr e) (inr f) = itself d.life (subst (λ x. AreOpposed x d.life) e (subst (AreOpposed l) f opposed))
 
     -- a member that a subject's life names
@@ -85,7 +86,14 @@ module _ {A : Type 0} (c : Setting A) where
       where
         none_with : (x : A) → s.lived.life ≡ With x → Blocking n a b x → ⊥
         none_with x e (inl with) = none_lasts s.id s.lived (With x) s.serves e with
-        none_with x e (inr (v, l, serve, f)) = uncovered.not_together s.id v (s.lived, l, s.serves, serve, subst (λ k. AreOpposed k l.life) (sym e) (subst (AreOpposed (With x)) (sym f) refl))
+        none_with x e (inr (v, l, serve, f)) = uncovered.not_together s.id v (
+          s.lived,
+          l,
+          s.serves,
+          serve,
+          subst (λ k. AreOpposed k l.life) (sym e)
+              (subst (AreOpposed (With x)) (sym f) refl),
+        )
 
         by : (life : Lifetime A) → s.lived.life ≡ life → ⊥
         by Always e = uncovered.not_alone s.id (s.lived, s.serves, inl e)

@@ -64,7 +64,8 @@ module _ {A : Type 0} (c : Setting A) where
   is_not true h = absurd (false≢true h)
   is_not false h = refl
 
-  row_stands : (ts : List A) (fresh : Bool) (q : CellId) (x : Option A) (l : Lived A) → version_by fresh q x ≡ Some l → lives ts l.life ≡ true → standing_row c ts q x ≡ Some l.row
+  row_stands : (ts : List A) (fresh : Bool) (q : CellId) (x : Option A) (l : Lived A) → version_by fresh q x ≡ Some l → lives ts l.life ≡ true
+      → standing_row c ts q x ≡ Some l.row
   row_stands ts false q None l e h = (old_is None (c.root q) l e).0
   row_stands ts false q (Some n) l e h =
       let is = old_is (Some n) (c.root q) l e in
@@ -75,7 +76,8 @@ module _ {A : Type 0} (c : Setting A) where
       merged_row c ts q n (Some l.row) (ap (lives ts) (sym is.1) ∙ h) is.0
 
   -- a version whose life goes on stands
-  pub living_stands : (ts : List A) → IsMerge c ts → (v : VersionId) (l : Lived A) → version c v ≡ Some l → lives ts l.life ≡ true → view_with c ts v.cell ≡ Some l.row
+  pub living_stands : (ts : List A) → IsMerge c ts → (v : VersionId) (l : Lived A) → version c v ≡ Some l → lives ts l.life ≡ true → view_with c ts v.cell
+      ≡ Some l.row
   living_stands ts merge v l e h = taken_is c ts merge v.cell ∙ row_stands ts v.fresh v.cell (changer c v.cell) l (sym (version_by_changer v) ∙ e) h
 
   -- a row that stands at a cell is that of a version whose life goes on
@@ -88,7 +90,8 @@ module _ {A : Type 0} (c : Setting A) where
   pub has_version : (ts : List A) → IsMerge c ts → (q : CellId) (r : Row) → view_with c ts q ≡ Some r → HasVersion ts q r
   has_version ts merge q r e = by (changer c q) refl (changer_is c q) (sym (taken_is c ts merge q) ∙ e)
     where
-      with_life : (fresh : Bool) (life : Lifetime A) (x : Option A) → changer c q ≡ x → version_by fresh q x ≡ Some (record { row = r; life = life }) → lives ts life ≡ true → HasVersion ts q r
+      with_life : (fresh : Bool) (life : Lifetime A) (x : Option A) → changer c q ≡ x → version_by fresh q x ≡ Some (record { row = r; life = life })
+          → lives ts life ≡ true → HasVersion ts q r
       with_life fresh life x k is h = record {
         fresh = fresh;
         life = life;
@@ -96,7 +99,8 @@ module _ {A : Type 0} (c : Setting A) where
         lives = h;
       }
 
-      new : (n : A) (after : Option (Option Row)) → c.after n q ≡ after → is_some (c.after n q) ≡ true → changer c q ≡ Some n → has c.same ts n ≡ true → standing_row c ts q (Some n) ≡ Some r → HasVersion ts q r
+      new : (n : A) (after : Option (Option Row)) → c.after n q ≡ after → is_some (c.after n q) ≡ true → changer c q ≡ Some n → has c.same ts n ≡ true
+          → standing_row c ts q (Some n) ≡ Some r → HasVersion ts q r
       new n None a changes k h f = absurd (false≢true (ap is_some (sym a) ∙ changes))
       new n (Some row) a changes k h f = with_life true (With n) (Some n) k (ap (new_row n) (a ∙ ap Some (sym (merged_row c ts q n row h a) ∙ f))) h
 

@@ -26,25 +26,29 @@ module _ {A : Type 0} (c : Setting A) where
 
   -- ---- standing needs are the needs of the merged rows
 
-  pub is_need : (ts : List A) (n : Need) (a : Lived A) (b : Option (Lived A)) → IsMerge c ts → IsStandingNeed ts n a b → IsNeed c.rules (view_with c ts) (ask_of n) (held_row n.first a) (held_too n.second b)
+  pub is_need : (ts : List A) (n : Need) (a : Lived A) (b : Option (Lived A)) → IsMerge c ts → IsStandingNeed ts n a b
+      → IsNeed c.rules (view_with c ts) (ask_of n) (held_row n.first a) (held_too n.second b)
   is_need ts n a b merge need = record {
     stands = living_stands c ts merge n.first a need.possible.first_is (need.live a.life (inl refl));
     beside = beside n.second b need.possible.second_is (λ l h. need.live l (inr h));
     they_call = need.possible.they_call;
   }
     where
-      beside : (w : Option VersionId) (m : Option (Lived A)) → IsBesideToo c n.first a w m → ((l : Lifetime A) → IsLifeOf l m → lives c ts l ≡ true) → StandsBeside (view_with c ts) (held_row n.first a) (held_too w m)
+      beside : (w : Option VersionId) (m : Option (Lived A)) → IsBesideToo c n.first a w m → ((l : Lifetime A) → IsLifeOf l m → lives c ts l ≡ true)
+          → StandsBeside (view_with c ts) (held_row n.first a) (held_too w m)
       beside None None is live = tt
       beside None (Some m) is live = absurd is
       beside (Some w) None is live = absurd is
       beside (Some w) (Some m) is live = (living_stands c ts merge w m is.is (live m.life refl), is.ascending)
 
-  subject_lives : (ts : List A) (a : Lived A) (b : Option (Lived A)) → lives c ts a.life ≡ true → ((l : Lifetime A) → IsLifeOf l b → lives c ts l ≡ true) → (l : Lifetime A) → IsSubjectLife a b l → lives c ts l ≡ true
+  subject_lives : (ts : List A) (a : Lived A) (b : Option (Lived A)) → lives c ts a.life ≡ true → ((l : Lifetime A) → IsLifeOf l b → lives c ts l ≡ true)
+      → (l : Lifetime A) → IsSubjectLife a b l → lives c ts l ≡ true
   subject_lives ts a b first second l (inl e) = ap (lives c ts) e ∙ first
   subject_lives ts a b first second l (inr h) = second l h
 
   -- every rule holds there where each standing need is met
-  pub holds_where_met : (ts : List A) → IsMerge c ts → ((n : Need) (a : Lived A) (b : Option (Lived A)) → IsStandingNeed ts n a b → IsMetIn ts n a b) → Holds c.rules (view_with c ts)
+  pub holds_where_met : (ts : List A) → IsMerge c ts → ((n : Need) (a : Lived A) (b : Option (Lived A)) → IsStandingNeed ts n a b → IsMetIn ts n a b)
+      → Holds c.rules (view_with c ts)
   holds_where_met ts merge met ask first None need =
       let v = has_version c ts merge first.0 first.1 need.stands in
       let a : Lived A = record { row = first.1; life = v.life } in
@@ -57,7 +61,16 @@ module _ {A : Type 0} (c : Setting A) where
       let b : Lived A = record { row = second.1; life = w.life } in
       met (need_of ask (record { cell = first.0; fresh = v.fresh }) (Some (record { cell = second.0; fresh = w.fresh }))) a (Some b)
       (record {
-        possible = record { first_is = v.is; second_is = record { is = w.is; ascending = need.beside.1; not_opposed = never_both c ts v.life w.life v.lives w.lives }; they_call = need.they_call };
+        possible = record {
+          first_is = v.is;
+          second_is = record {
+            is = w.is;
+            ascending = need.beside.1;
+            not_opposed = never_both c ts v.life w.life v.lives
+                w.lives;
+          };
+          they_call = need.they_call;
+        };
         live = subject_lives ts a (Some b) v.lives (λ l h. ap (lives c ts) h ∙ w.lives);
       })
 

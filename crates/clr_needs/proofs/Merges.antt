@@ -85,7 +85,8 @@ module _ {A : Type 0} (c : Setting A) where
       of_root : (x : Option A) → c.root q ≡ standing_row [] q x
       of_root None = refl
       of_root (Some n) = refl
-  taken_is (n ∷ ns) merge q = by (c.after n q) refl (taken_is ns (record { apart = merge.apart; part = λ m h. merge.part m (or_right (c.same n m) (has c.same ns m) h) }) q)
+  taken_is (n ∷ ns) merge q = by (c.after n q) refl
+      (taken_is ns (record { apart = merge.apart; part = λ m h. merge.part m (or_right (c.same n m) (has c.same ns m) h) }) q)
     where
       by : (after : Option (Option Row)) → c.after n q ≡ after → view_with c ns q ≡ standing_row ns q (changer c q)
           → unwrap_or after (view_with c ns q) ≡ standing_row (n ∷ ns) q (changer c q)

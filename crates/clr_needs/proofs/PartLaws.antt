@@ -51,12 +51,14 @@ module _ {A B : Type 0} (c : Setting B) (d : Setting A) (stands : A → B → Ty
   new_of_part x y (Some None) h = tt
   new_of_part x y (Some (Some r)) h = record { row = refl; life = h }
 
-  module _ (root : (q : CellId) → d.root q ≡ c.root q) (after : (x : A) (y : B) (q : CellId) → stands x y → d.after x q ≡ c.after y q) (changers : (q : CellId) → IsChangerIn (changer d q) (changer c q)) where
+  module _ (root : (q : CellId) → d.root q ≡ c.root q) (after : (x : A) (y : B) (q : CellId) → stands x y → d.after x q ≡ c.after y q) (changers : (q : CellId)
+      → IsChangerIn (changer d q) (changer c q)) where
     new_at : (q : CellId) (x : Option A) (y : Option B) → IsChangerIn x y → IsVersionOfPart stands (new_version d.after q x) (new_version c.after q y)
     new_at q None None h = tt
     new_at q None (Some y) h = new_of_outside y (c.after y q) h
     new_at q (Some x) None h = absurd h
-    new_at q (Some x) (Some y) h = subst (λ row. IsVersionOfPart stands (new_row x row) (new_row y (c.after y q))) (sym (after x y q h)) (new_of_part x y (c.after y q) h)
+    new_at q (Some x) (Some y) h = subst (λ row. IsVersionOfPart stands (new_row x row) (new_row y (c.after y q))) (sym (after x y q h))
+        (new_of_part x y (c.after y q) h)
 
     pub versions_of_part : (v : VersionId) → IsVersionOfPart stands (version d v) (version c v)
     versions_of_part v =
@@ -65,7 +67,8 @@ module _ {A B : Type 0} (c : Setting B) (d : Setting A) (stands : A → B → Ty
       where
         by : (fresh : Bool) → IsVersionOfPart stands (version_by d fresh v.cell (changer d v.cell)) (version_by c fresh v.cell (changer c v.cell))
         by true = new_at v.cell (changer d v.cell) (changer c v.cell) (changers v.cell)
-        by false = subst (λ row. IsVersionOfPart stands (old_version (changer d v.cell) row) (old_version (changer c v.cell) (c.root v.cell))) (sym (root v.cell))
+        by false = subst (λ row. IsVersionOfPart stands (old_version (changer d v.cell) row) (old_version (changer c v.cell) (c.root v.cell)))
+            (sym (root v.cell))
             (old_of_part (c.root v.cell) (changer d v.cell) (changer c v.cell) (changers v.cell))
 
 -- what a part has -----------------------------------------------------------------------------------
@@ -124,9 +127,11 @@ module _ {A B : Type 0} (c : Setting B) (d : Setting A) (stands : A → B → Ty
         by (Some m) is h = (m, is, h)
 
     -- a version of the whole whose life names nobody outside is one of the part, with the same life
-    pub down : (v : VersionId) (m : Lived B) → version c v ≡ Some m → AreInside stands m.life → (l : Lived A) × (version d v ≡ Some l) × IsSameVersion stands l m
+    pub down : (v : VersionId) (m : Lived B) → version c v ≡ Some m → AreInside stands m.life → (l : Lived A) × (version d v ≡ Some l)
+        × IsSameVersion stands l m
     down v m e inside =
-        by (version d v) refl (same_version stands (version d v) (Some m) (subst (IsVersionOfPart stands (version d v)) e (part.versions v)) (λ k same. (let one : m ≡ k = cc in subst (λ j. AreInside stands j.life) one inside)))
+        by (version d v) refl (same_version stands (version d v) (Some m) (subst (IsVersionOfPart stands (version d v)) e (part.versions v))
+        (λ k same. (let one : m ≡ k = cc in subst (λ j. AreInside stands j.life) one inside)))
       where
         by : (o : Option (Lived A)) → version d v ≡ o → IsSameVersionToo stands o (Some m) → (l : Lived A) × (version d v ≡ Some l) × IsSameVersion stands l m
         by None is h = absurd h
@@ -186,13 +191,22 @@ module _ {A B : Type 0} (c : Setting B) (d : Setting A) (stands : A → B → Ty
         second a same None (Some l) is = absurd is
         second a same (Some w) None is = absurd is
         second a same (Some w) (Some l) is =
-            let (m, at, alike) = up w l is.is in
-            (Some m, record { is = at; ascending = is.ascending; not_opposed = λ e. is.not_opposed (opposed_down p.life l.life a.life m.life same.life alike.life e) }, alike)
+            let (m, at, alike) = up w l is.is in (
+              Some m,
+              record {
+                is = at;
+                ascending = is.ascending;
+                not_opposed = λ e. is.not_opposed (opposed_down p.life l.life a.life m.life same.life
+                    alike.life e);
+              },
+              alike,
+            )
 
     -- what serves in the part serves in the whole, and what serves there with a life that names nobody outside serves in the part
     module _ (n : Need) (p : Lived A) (q : Option (Lived A)) (a : Lived B) (b : Option (Lived B)) (first : p.row ≡ a.row) (second : AreSameRows q b) where
       same_serves : (v : VersionId) (l : Lived A) (m : Lived B) → l.row ≡ m.row
-          → serves d.rules (ask_of n) (held_row n.first p) (held_too n.second q) (held_row v l) ≡ serves c.rules (ask_of n) (held_row n.first a) (held_too n.second b) (held_row v m)
+          → serves d.rules (ask_of n) (held_row n.first p) (held_too n.second q) (held_row v l)
+          ≡ serves c.rules (ask_of n) (held_row n.first a) (held_too n.second b) (held_row v m)
       same_serves v l m row = λ i. serves (part.rules i) (ask_of n) (same_held n.first p a first i) (same_second n.second q b second i) (same_held v l m row i)
 
       pub serves_up : (v : VersionId) (l : Lived A) → Serves d n p q v l → (m : Lived B) × Serves c n a b v m × IsVersionIn stands l m
@@ -200,7 +214,8 @@ module _ {A B : Type 0} (c : Setting B) (d : Setting A) (stands : A → B → Ty
           let (m, is, same) = up v l serve.is in
           (m, record { is = is; it_serves = sym (same_serves v l m same.row) ∙ serve.it_serves }, same)
 
-      pub serves_down : (v : VersionId) (m : Lived B) → Serves c n a b v m → AreInside stands m.life → (l : Lived A) × Serves d n p q v l × IsSameVersion stands l m
+      pub serves_down : (v : VersionId) (m : Lived B) → Serves c n a b v m → AreInside stands m.life → (l : Lived A) × Serves d n p q v l
+          × IsSameVersion stands l m
       serves_down v m serve inside =
           let (l, is, same) = down v m serve.is inside in
           (l, record { is = is; it_serves = same_serves v l m same.row ∙ serve.it_serves }, same)
@@ -237,10 +252,19 @@ module _ {A B : Type 0} (c : Setting B) (d : Setting A) (stands : A → B → Ty
         second p same None (Some l) is names = absurd is
         second p same (Some w) None is names = absurd is
         second p same (Some w) (Some m) is names =
-            let (l, at, alike) = down w m is.is names in
-            (Some l, record { is = at; ascending = is.ascending; not_opposed = λ e. is.not_opposed (opposed_to stands part.one p.life l.life a.life m.life same.life alike.life e) }, alike)
+            let (l, at, alike) = down w m is.is names in (
+              Some l,
+              record {
+                is = at;
+                ascending = is.ascending;
+                not_opposed = λ e. is.not_opposed (opposed_to stands part.one p.life l.life a.life m.life
+                    same.life alike.life e);
+              },
+              alike,
+            )
 
-    pub matched : (n : Need) (p : Lived A) (q : Option (Lived A)) → IsPossible d n p q → (subjects : HasSubjects n p q) → AllInside n subjects.first subjects.second → IsMatched n p q
+    pub matched : (n : Need) (p : Lived A) (q : Option (Lived A)) → IsPossible d n p q → (subjects : HasSubjects n p q)
+        → AllInside n subjects.first subjects.second → IsMatched n p q
     matched n p q possible subjects inside =
         let found = agreeing n subjects.first subjects.second subjects.possible inside in
         let once = subjects_once d n p found.first q found.second possible found.possible in
@@ -248,7 +272,8 @@ module _ {A B : Type 0} (c : Setting B) (d : Setting A) (stands : A → B → Ty
           first = subjects.first;
           second = subjects.second;
           possible = subjects.possible;
-          agree = subst (λ k. Agree d c stands n k q subjects.first subjects.second) once.0 (subst (λ k. Agree d c stands n found.first k subjects.first subjects.second) once.1 found.agree);
+          agree = subst (λ k. Agree d c stands n k q subjects.first subjects.second) once.0
+              (subst (λ k. Agree d c stands n found.first k subjects.first subjects.second) once.1 found.agree);
         }
 
     -- whom a need of the part involves stands for one whom it involves in the whole

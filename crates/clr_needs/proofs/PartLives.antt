@@ -58,7 +58,8 @@ module _ {A B : Type 0} (stands : A → B → Type 0) where
   not_hidden (With y) h inside = h (inside y refl)
   not_hidden _ h inside = h
 
-  pub same_version : (l : Option (Lived A)) (m : Option (Lived B)) → IsVersionOfPart l m → ((k : Lived B) → m ≡ Some k → AreInside k.life) → IsSameVersionToo stands l m
+  pub same_version : (l : Option (Lived A)) (m : Option (Lived B)) → IsVersionOfPart l m → ((k : Lived B) → m ≡ Some k → AreInside k.life)
+      → IsSameVersionToo stands l m
   same_version None None h inside = tt
   same_version None (Some m) h inside = absurd (not_hidden m.life h (inside m refl))
   same_version (Some l) None h inside = absurd h

@@ -58,7 +58,8 @@ module _ (list : List ℕ) (ascending : IsStrictlySortedBy nat_cmp list) where
     | inl below ↦ below
     | inr most ↦ elim (cases_lt z x) [
       | inl other ↦ (let above = rise z x w y j h other in absurd (omega (arith, above, less)))
-      | inr least ↦ (let one : z ≡ x = omega (arith, most, least) in let alike = one_number x y w h (subst (λ i. StandsIn list i w) one j) in absurd (omega (arith, alike, less)))
+      | inr least ↦ (let one : z ≡ x = omega (arith, most, least) in let alike = one_number x y w h (subst (λ i. StandsIn list i w) one j) in
+          absurd (omega (arith, alike, less)))
     ]
   ]
 
@@ -107,7 +108,8 @@ module _ (rules : List Rule) (root : Content) (sets : List Changes) where
   pub below_member : (x : ℕ) → x < length sets → has c.same c.members x ≡ true
   below_member x less = range_has (length sets) 0 x (omega arith) (omega (arith, less))
 
-  module _ (list : List ℕ) (apart : AreApart sets) (ascending : IsStrictlySortedBy nat_cmp list) (members : (x : ℕ) → Contains list x → has c.same c.members x ≡ true) where
+  module _ (list : List ℕ) (apart : AreApart sets) (ascending : IsStrictlySortedBy nat_cmp list) (members : (x : ℕ) → Contains list x → has c.same c.members x
+      ≡ true) where
     abbrev d : Setting ℕ
     d = setting_at rules root sets list
 

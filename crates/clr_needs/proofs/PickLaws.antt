@@ -18,7 +18,8 @@ use Rattle.clr_needs.proofs.NeedSubjects.{subjects_once}
 least_as : (P Q : VersionId → Type 0) (v : VersionId) → ((w : VersionId) → P w → Q w) → ((w : VersionId) → Q w → P w) → IsLeastVersion P v → IsLeastVersion Q v
 least_as P Q v there back (is, least) = (there v is, λ w lesser h. least w lesser (back w h))
 
-module _ (c : Setting ℕ) (n : Need) (servers : List VersionId) (are : AreServers c n servers) (a : Lived ℕ) (b : Option (Lived ℕ)) (p : IsPossible c n a b) where
+module _ (c : Setting ℕ) (n : Need) (servers : List VersionId) (are : AreServers c n servers) (a : Lived ℕ) (b : Option (Lived ℕ))
+    (p : IsPossible c n a b) where
   -- ---- the versions that serve
 
   pub listed_serves : (v : VersionId) → Contains servers v → (l : Lived ℕ) × Serves c n a b v l
@@ -76,17 +77,26 @@ module _ (c : Setting ℕ) (n : Need) (servers : List VersionId) (are : AreServe
   is_alone : (v : VersionId) → IsLeastPassing (lasts_at c n) servers (Some v) → IsPick c n a b (Some (v, None))
   is_alone v least = least_as (IsPassing (lasts_at c n) servers) (CoversAlone c n a b) v covers covers_and_lasts least
 
-  are_two : (count : ℕ) (v w : VersionId) → IsLeastPassing (lasts_at c n) servers None → IsFirstPair c servers count (Some (v, w)) → IsPick c n a b (Some (v, Some w))
+  are_two : (count : ℕ) (v w : VersionId) → IsLeastPassing (lasts_at c n) servers None → IsFirstPair c servers count (Some (v, w))
+      → IsPick c n a b (Some (v, Some w))
   are_two count v w none (x, two, first) = (
     none_alone none,
-    (x, ((v, (least_served (Without x) v two.0).0), (w, (least_served (With x) w two.1).0)), λ y less h. first y less (both_pass y h), least_served (Without x) v two.0, least_served (With x) w two.1),
+    (
+      x,
+      ((v, (least_served (Without x) v two.0).0), (w, (least_served (With x) w two.1).0)),
+      λ y less h. first y less (both_pass y h),
+      least_served (Without x)
+          v two.0,
+      least_served (With x) w two.1,
+    ),
   )
 
 module _ (c : Setting ℕ) (n : Need) (servers : List VersionId) (are : AreServers c n servers) where
   pub picks_alone : (v : VersionId) → IsLeastPassing (lasts_at c n) servers (Some v) → Picks c n (Some (v, None))
   picks_alone v least a b p = is_alone c n servers are a b p v least
 
-  pub picks_two : (count : ℕ) (v w : VersionId) → IsLeastPassing (lasts_at c n) servers None → IsFirstPair c servers count (Some (v, w)) → Picks c n (Some (v, Some w))
+  pub picks_two : (count : ℕ) (v w : VersionId) → IsLeastPassing (lasts_at c n) servers None → IsFirstPair c servers count (Some (v, w))
+      → Picks c n (Some (v, Some w))
   picks_two count v w none first a b p = are_two c n servers are a b p count v w none first
 
 module _ (rules : List Rule) (root : Content) (sets : List Changes) (n : Need) (servers : List VersionId) where

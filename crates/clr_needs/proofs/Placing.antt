@@ -13,7 +13,8 @@ module _ {X : Type 0} (cmp : X → X → Ordering) where
     after : cmp y x ≡ Less → PlaceOf xs x k y
 
   -- where another element of the list stands beside the one at k
-  at_place : (xs : List X) (k : ℕ) (y d x : X) → k < length xs → y ≡ get_or xs k d → IsStrictlySortedBy cmp xs → Among x xs → Among x (take k xs) ⊎ ((y ≡ x) ⊎ (cmp y x ≡ Less))
+  at_place : (xs : List X) (k : ℕ) (y d x : X) → k < length xs → y ≡ get_or xs k d → IsStrictlySortedBy cmp xs → Among x xs → Among x (take k xs)
+      ⊎ ((y ≡ x) ⊎ (cmp y x ≡ Less))
   unfolding IsStrictlySortedBy
   at_place [] k y d x less is ascending h = absurd h
   at_place (z ∷ xs) zero y d x less is ascending (inl e) = inr (inl (is ∙ e))

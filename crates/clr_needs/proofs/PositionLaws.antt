@@ -88,7 +88,8 @@ module _ {A : Type 0} (c : Setting A) where
         → IsSameMember (first_changer c.after ns q) (first_changer d.after (range_with_len from (length ns)) q)
     unfolding first_changer
     same_first [] from rest passed = tt
-    same_first (n ∷ ns) from rest passed = by (is_some (c.after n q)) refl (λ e. same_first ns (from + 1) (λ i. ap (slice_get c.members) (omega arith) ∙ rest (suc i)) (passed_here e))
+    same_first (n ∷ ns) from rest passed = by (is_some (c.after n q)) refl (λ e. same_first ns (from + 1) (λ i. ap (slice_get c.members) (omega arith)
+        ∙ rest (suc i)) (passed_here e))
       where
         here : slice_get c.members from ≡ Some n
         here = ap (slice_get c.members) (omega arith) ∙ rest 0
@@ -112,10 +113,13 @@ module _ {A : Type 0} (c : Setting A) where
             → (is_some (c.after n q) ≡ false → IsSameMember (first_changer c.after ns q) (first_changer d.after (range_with_len (from + 1) (length ns)) q))
             → IsSameMember (cond (is_some (c.after n q)) (Some n) (first_changer c.after ns q))
             (cond (changes_at from) (Some from) (first_changer d.after (range_with_len (from + 1) (length ns)) q))
-        by true e more = subst (λ b. IsSameMember (cond (is_some (c.after n q)) (Some n) (first_changer c.after ns q)) (cond b (Some from) (first_changer d.after (range_with_len (from + 1) (length ns)) q))) (sym (same ∙ e))
+        by true e more = subst (λ b. IsSameMember (cond (is_some (c.after n q)) (Some n) (first_changer c.after ns q))
+            (cond b (Some from) (first_changer d.after (range_with_len (from + 1) (length ns)) q))) (sym (same ∙ e))
             (subst (λ b. IsSameMember (cond b (Some n) (first_changer c.after ns q)) (Some from)) (sym e) (record { there = here; first = not_before e }))
-        by false e more = subst (λ b. IsSameMember (cond (is_some (c.after n q)) (Some n) (first_changer c.after ns q)) (cond b (Some from) (first_changer d.after (range_with_len (from + 1) (length ns)) q))) (sym (same ∙ e))
-            (subst (λ b. IsSameMember (cond b (Some n) (first_changer c.after ns q)) (first_changer d.after (range_with_len (from + 1) (length ns)) q)) (sym e) (more e))
+        by false e more = subst (λ b. IsSameMember (cond (is_some (c.after n q)) (Some n) (first_changer c.after ns q))
+            (cond b (Some from) (first_changer d.after (range_with_len (from + 1) (length ns)) q))) (sym (same ∙ e))
+            (subst (λ b. IsSameMember (cond b (Some n) (first_changer c.after ns q)) (first_changer d.after (range_with_len (from + 1) (length ns)) q)) (sym e)
+            (more e))
 
     same_changer : IsSameMember (changer c q) (changer d q)
     same_changer = same_first c.members 0 (λ i. ap (slice_get c.members) (omega arith)) (λ j less changes. absurd (omega (arith, less)))
@@ -139,7 +143,8 @@ module _ {A : Type 0} (c : Setting A) where
   by_positions = record {
     one = record { one_right = one_position; one_left = one_member };
     rules = refl;
-    versions = versions_of_part d c (StandsAt c) (λ q. refl) (λ n k q at. ap (λ x. after_member c x q) (sym at.there)) (λ q. changer_in (changer c q) (changer d q) (same_changer q));
+    versions = versions_of_part d c (StandsAt c) (λ q. refl) (λ n k q at. ap (λ x. after_member c x q) (sym at.there))
+        (λ q. changer_in (changer c q) (changer d q) (same_changer q));
   }
 
   all_stand : (v : VersionId) (m : Lived ℕ) → version d v ≡ Some m → AreInside (StandsAt c) m.life
@@ -162,7 +167,8 @@ module _ {A : Type 0} (c : Setting A) where
 
   in_one_order : IsInOneOrder (ComesBefore c) IsLesser (StandsAt c)
   in_one_order = record {
-    rising = λ m n j k at at_n (i, l, first, second, less). (let low = one_position m i j first at in let high = one_position n l k second at_n in omega (arith, low, high, less));
+    rising = λ m n j k at at_n (i, l, first, second, less). (let low = one_position m i j first at in let high = one_position n l k second at_n in
+        omega (arith, low, high, less));
     falling = λ m n j k at at_n less. (j, k, at, at_n, less);
   }
 
@@ -186,7 +192,8 @@ module _ {A : Type 0} (c : Setting A) where
   positions_ascend [] (k ∷ ks) at order = absurd at
   positions_ascend (m ∷ ms) [] at order = absurd at
   positions_ascend (m ∷ ms) (k ∷ ks) at order = (
-    all_by (λ j. nat_cmp k j ≡ Less) ks (λ j h. (let (n, among_n, is) = named_at ms ks at.1 j h in less_number k j (in_one_order.rising m n k j at.0 is (order.0 n (contained n ms among_n))))),
+    all_by (λ j. nat_cmp k j ≡ Less) ks
+        (λ j h. (let (n, among_n, is) = named_at ms ks at.1 j h in less_number k j (in_one_order.rising m n k j at.0 is (order.0 n (contained n ms among_n))))),
     positions_ascend ms ks at.1 order.1,
   )
 
@@ -254,6 +261,10 @@ module _ {A : Type 0} (c : Setting A) where
     );
     blockers = λ n m k at. (blocker_of_to c (d c) stands (there c) n m k at, blocker_of_to (d c) c (other_way stands) (back c) n k m at);
     blocks = λ n ms ks at. (by_number c n ms ks at, by_name c n ms ks at);
-    dependent = λ x y j k at_x at_y. (dependent_to c (d c) stands (there c) x y j k at_x at_y, dependent_to (d c) c (other_way stands) (back c) j k x y at_x at_y);
+    dependent = λ x y j k at_x at_y. (
+      dependent_to c (d c) stands (there c) x y j k at_x at_y,
+      dependent_to (d c) c (other_way stands) (back c) j k x y at_x
+          at_y,
+    );
     apart = apart_by_name c;
   }

@@ -30,7 +30,8 @@ pub turned_alike : {A B : Type 0} (c : Setting A) (d : Setting B) (stands : A �
 turned_alike c d stands alike = record { one = turned_one stands alike.one; to = alike.back; back = alike.to }
 
 -- a part from which nobody is left out
-module _ {A B : Type 0} (c : Setting A) (d : Setting B) (stands : A → B → Type 0) (part : IsPart d c stands) (inside : (v : VersionId) (m : Lived B) → version d v ≡ Some m → AreInside stands m.life) where
+module _ {A B : Type 0} (c : Setting A) (d : Setting B) (stands : A → B → Type 0) (part : IsPart d c stands) (inside : (v : VersionId) (m : Lived B)
+    → version d v ≡ Some m → AreInside stands m.life) where
   all_inside : (n : Need) (p : Lived B) (q : Option (Lived B)) → IsPossible d n p q → AllInside d c stands n p q
   all_inside n p q possible y involves = each_involved d n (IsInside stands) (λ v m is. inside v m is) p q y possible involves
 
@@ -41,7 +42,13 @@ module _ {A B : Type 0} (c : Setting A) (d : Setting B) (stands : A → B → Ty
         let match = matched d c stands part n a b possible subjects (all_inside n subjects.first subjects.second subjects.possible) in
         record { first = match.first; second = match.second; possible = match.possible; agree = match.agree });
     back = λ n p q possible. (let found = agreeing d c stands part n p q possible (all_inside n p q possible) in
-        record { first = found.first; second = found.second; possible = found.possible; agree = turned_round stands c d n found.first found.second p q found.agree });
+        record {
+          first = found.first;
+          second = found.second;
+          possible = found.possible;
+          agree = turned_round stands c d n found.first found.second p q
+              found.agree;
+        });
   }
 
 -- one way --------------------------------------------------------------------------------------------
@@ -101,7 +108,8 @@ module _ {A B : Type 0} (c : Setting A) (d : Setting B) (stands : A → B → Ty
         },
       )
 
-  pub picks_to : (before : A → A → Type 0) (earlier : B → B → Type 0) → IsInOneOrder before earlier stands → (n : Need) (pick : Option (VersionId × Option VersionId)) → PicksBy before c n pick → PicksBy earlier d n pick
+  pub picks_to : (before : A → A → Type 0) (earlier : B → B → Type 0) → IsInOneOrder before earlier stands
+      → (n : Need) (pick : Option (VersionId × Option VersionId)) → PicksBy before c n pick → PicksBy earlier d n pick
   picks_to before earlier order n pick picks p q possible =
       let s = alike.back n p q possible in
       pick_to before earlier c d stands alike.one order n s.first s.second p q (from n p q s) pick (picks s.first s.second s.possible)

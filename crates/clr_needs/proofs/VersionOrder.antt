@@ -28,7 +28,11 @@ module _ (test : VersionId → Bool) (ids : List VersionId) where
 
   module _ (k : ℕ) (d : VersionId) (told : Bool) (less : k < length ids) (is : told ≡ test (get_or ids k d)) (none : NonePasses k) where
     pub first_is_least : IsStrictlySortedBy version_cmp ids → told ≡ true → IsLeastVersion (IsPassing test ids) (get_or ids k d)
-    first_is_least ascending passes = ((read_in ids k d less, sym is ∙ passes), λ w lesser h. by w lesser h.1 (place_of version_cmp ids k (get_or ids k d) d w less refl ascending h.0))
+    first_is_least ascending passes = (
+      (read_in ids k d less, sym is ∙ passes),
+      λ w lesser h. by w lesser h.1
+          (place_of version_cmp ids k (get_or ids k d) d w less refl ascending h.0),
+    )
       where
         by : (w : VersionId) → version_cmp w (get_or ids k d) ≡ Less → test w ≡ true → PlaceOf version_cmp ids w k (get_or ids k d) → ⊥
         by w lesser passed (before h) = none w h passed

@@ -43,7 +43,8 @@ lost_made P (Err run_fault.NoSeparator) h = h
 
 module _ (IsRight : Office → Certificate → Outcome → Type 0) (given : Case) where
   -- the texts don't give both
-  why_made : (why : CaseFault) → given ≡ Err why → (answer : Result Output RunFault) → IsMade (λ print. print ≡ fault_print why) answer → IsMade (IsPrintOfCase IsRight given) answer
+  why_made : (why : CaseFault) → given ≡ Err why → (answer : Result Output RunFault) → IsMade (λ print. print ≡ fault_print why) answer
+      → IsMade (IsPrintOfCase IsRight given) answer
   why_made why is answer =
       weaker_made (λ print. print ≡ fault_print why) (IsPrintOfCase IsRight given) (λ print h. subst (λ g. IsPrintOfCase IsRight g print) (sym is) h) answer
 
@@ -55,12 +56,14 @@ module _ (IsRight : Office → Certificate → Outcome → Type 0) (given : Case
   fault_made no_case.OutOfMemory is = lost_made (IsPrintOfCase IsRight given)
 
   -- they give both
-  pub case_made : (o left : Office) (c : Certificate) (output : Output) → given ≡ Ok (o, c) → IsRight o c (outcome_of output left) → IsMade (IsPrintOfCase IsRight given) (Ok output)
+  pub case_made : (o left : Office) (c : Certificate) (output : Output) → given ≡ Ok (o, c) → IsRight o c (outcome_of output left)
+      → IsMade (IsPrintOfCase IsRight given) (Ok output)
   case_made o left c output is h =
       subst (λ g. IsPrintOfCase IsRight g (print_of output.lines.items output.refused output.lost)) (sym is) (outcome_of output left, h, refl)
 
 module _ (o : Office) (c : Certificate) (v : Verdict) (output : Output)
-    (lines : output.lines.items ≡ verdict_text o.schema c.members c.root v) (refused : output.refused ≡ not (is_clear v)) (lost : output.lost ≡ is_without_memory v) where
+    (lines : output.lines.items ≡ verdict_text o.schema c.members c.root v) (refused : output.refused ≡ not (is_clear v)) (lost : output.lost
+    ≡ is_without_memory v) where
   of_verdict : outcome_of output o ≡ verdict_outcome o c v
   of_verdict = parts_are o _ _ _ _ _ _ lines refused lost
 
@@ -75,7 +78,8 @@ module _ (o left : Office) (c : Certificate) (names : List Name) (commands : Lis
   -- merges are performed
   pub merged : commands ≡ merges names → IsVerdict o (site_of c) (entries_in c.entries) verdict.Clear → IsQuietStart o (site_of c) commands replies left stopped
       → IsClearedRun o (site_of c) (take (length replies) commands) replies left
-      → output.lines.items ≡ merge_text replies stopped left → output.refused ≡ (list_any is_refused replies || is_some stopped) → output.lost ≡ list_any is_lost replies
+      → output.lines.items ≡ merge_text replies stopped left → output.refused ≡ (list_any is_refused replies || is_some stopped) → output.lost
+      ≡ list_any is_lost replies
       → IsMergeOutcome o c names (outcome_of output left)
   merged are clear start ran lines refused lost =
       let all : AreMerged o c names replies stopped left = record {

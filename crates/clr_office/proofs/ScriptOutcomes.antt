@@ -18,7 +18,8 @@ pub starts : (o : Office) (steps : List Step) → Leads o steps (nothing o) step
 starts o steps later is = is
 
 -- one more step
-pub goes_on : (start before after : Office) (steps : List Step) (i : ℕ) (s : Step) (lines line : List ℕ) (refused also lost now_lost : Bool) → i < length steps → s ≡ get_or steps i s
+pub goes_on : (start before after : Office) (steps : List Step) (i : ℕ) (s : Step) (lines line : List ℕ) (refused also lost now_lost : Bool) → i < length steps
+    → s ≡ get_or steps i s
     → IsOutcome before s (outcome line also now_lost after) → Leads start steps (outcome lines refused lost before) (drop i steps)
     → Leads start steps (outcome (lines ++ line) (refused || also) (lost || now_lost) after) (drop (i + 1) steps)
 goes_on start before after steps i s lines line refused also lost now_lost lt is now so_far later rest =
@@ -27,10 +28,12 @@ goes_on start before after steps i s lines line refused also lost now_lost lt is
     let both : IsScriptOutcome before (s ∷ drop (i + 1) steps) (followed_by first later) = (first, later, now, rest, refl) in
     let regrouped : followed_by (outcome lines refused lost before) (followed_by first later) ≡ followed_by (outcome (lines ++ line) (refused || also) (lost || now_lost) after) later =
     rw (append_assoc, sym (or_assoc refused also later.refused), sym (or_assoc lost now_lost later.lost)) refl in
-    subst (IsScriptOutcome start steps) regrouped (so_far (followed_by first later) (subst (λ xs. IsScriptOutcome before xs (followed_by first later)) next both))
+    subst (IsScriptOutcome start steps) regrouped (so_far (followed_by first later) (subst (λ xs. IsScriptOutcome before xs (followed_by first later)) next
+    both))
 
 -- no step is left
-pub ends : (start o : Office) (steps : List Step) (i : ℕ) (lines : List ℕ) (refused lost : Bool) → length steps ≤ i → Leads start steps (outcome lines refused lost o) (drop i steps)
+pub ends : (start o : Office) (steps : List Step) (i : ℕ) (lines : List ℕ) (refused lost : Bool) → length steps ≤ i
+    → Leads start steps (outcome lines refused lost o) (drop i steps)
     → IsScriptOutcome start steps (outcome lines refused lost o)
 ends start o steps i lines refused lost le so_far =
     let none : followed_by (outcome lines refused lost o) (nothing o) ≡ outcome lines refused lost o = rw (append-nil lines, or-false refused, or-false lost) refl in

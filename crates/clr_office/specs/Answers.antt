@@ -9,7 +9,7 @@ use Rattle.clr_sites.specs.SiteNames.{site}
 use Rattle.clr_lines.specs.Reports.{audit_text}
 use Rattle.clr_check_texts.specs.Cases.{case_of}
 use Rattle.clr_drafts.specs.Drafts.{draft_in}
-use Rattle.clr_office_text.specs.declared.faults.TextFault.{TextFault}
+use Rattle.clr_rule_text.specs.declared.faults.TextFault.{TextFault}
 use Rattle.clr_command_line.specs.declared.asks.Ask.{Ask}
 use Rattle.clr_command_line.specs.declared.asks.Ask.TheVariants as ask
 use Rattle.clr_office.specs.Outcomes.{IsPlanOutcome}

@@ -25,7 +25,7 @@ use clr_lines::audit_lines;
 use clr_rows::{LIVE, Words};
 use std::alloc::{AllocError, Global};
 
-/// The lines of an audit of LIVE, where rules may be broken.
+/// Returns the lines of an audit of LIVE, where rules may be broken.
 fn audit_draft(alloc: Global, draft: &Draft) -> Result<Output, AllocError>
     ensures { IfOk result (λ o. print_of o.lines.items o.refused o.lost ≡ audit_print draft.now) }
 {
@@ -37,7 +37,7 @@ fn audit_draft(alloc: Global, draft: &Draft) -> Result<Output, AllocError>
     })
 }
 
-/// The lines of an audit of LIVE in an office text.
+/// Returns the lines of an audit of LIVE in an office text.
 #[tactic(auto, unfolding(crate::specs::Answers::audit_of))]
 fn answer_audit(alloc: Global, office: &[u8]) -> Result<Output, RunFault>
     ensures { IsMade (λ print. print ≡ audit_of (draft_in office.now)) result }
@@ -59,7 +59,7 @@ pub fn answer_run(alloc: Global, office: &[u8], script: &[u8]) -> Result<Output,
     }
 }
 
-/// The plan of members over the office of a text.
+/// Returns the plan of members over the office of a text.
 fn answer_plan(
     alloc: Global,
     office: &[u8],
@@ -91,7 +91,7 @@ fn answer_merge(
     }
 }
 
-/// What is printed for what is asked of two texts.
+/// Returns what is printed for what is asked of two texts.
 fn answer_texts(alloc: Global, ask: &Ask, office: &[u8], second: &[u8]) -> Result<Output, RunFault>
     ensures { IsMade (IsAnswerWithin ask.now office.now second.now) result }
 {

@@ -11,14 +11,14 @@ use clr_independence::{Independence, Pair, independence_of, lines_of_independenc
 use clr_rows::Words;
 use std::alloc::{AllocError, Global};
 
-/// Whether some pair is dependent.
+/// Returns whether some pair is dependent.
 fn has_dependent_pair(pairs: &[Pair]) -> bool
     ensures { result ≡ list_any (λ p. not p.independent) pairs.now }
 {
     pairs.iter().any(|pair| !pair.independent)
 }
 
-/// Whether some pair is dependent, or the members are unfit.
+/// Returns whether some pair is dependent, or the members are unfit.
 fn has_dependence(said: &Independence) -> bool
     ensures { result ≡ has_dependence said.now }
 {

@@ -19,8 +19,7 @@ use clr_rows::{Schema, Words};
 use clr_steps::{Command, Reply};
 use std::alloc::{AllocError, Global};
 
-/// The merges of workspaces in the order of their names, after which they stay. It fails for want of
-/// memory alone.
+/// Returns the merges of workspaces in the order of their names, after which they stay.
 pub fn merge_commands(alloc: Global, names: &[Words]) -> Result<Vec<Command>, AllocError>
     ensures { IfOk result (λ commands. commands.items ≡ merges names.now) }
 {
@@ -32,7 +31,7 @@ pub fn merge_commands(alloc: Global, names: &[Words]) -> Result<Vec<Command>, Al
     Ok(commands)
 }
 
-/// The lines of replies. It fails for want of memory alone.
+/// Returns the lines of replies.
 pub fn replies_output(
     alloc: Global,
     schema: &Schema,
@@ -50,8 +49,7 @@ pub fn replies_output(
     Ok(all)
 }
 
-/// The line that says which merge isn't quiet, by its number from 1, where one isn't. It fails for want
-/// of memory alone.
+/// Returns the line that says which merge isn't quiet, by its number from 1, where one isn't.
 pub fn stop_output(alloc: Global, stopped: Option<usize>) -> Result<Output, AllocError>
     ensures lines { IfOk result (λ o. o.lines.items ≡ stop_text stopped) }
     ensures refused { IfOk result (λ o. o.refused ≡ is_some stopped) }
@@ -67,7 +65,7 @@ pub fn stop_output(alloc: Global, stopped: Option<usize>) -> Result<Output, Allo
     })
 }
 
-/// The lines of merges that were performed, and the text of the office that they left.
+/// Returns the lines of merges that were performed, and the text of the office that they left.
 fn run_output(alloc: Global, office: &Office, run: &ClearedRun) -> Result<Output, AllocError>
     ensures lines { IfOk result (λ o. o.lines.items ≡ merge_text run.now.replies.items run.now.stopped office.now) }
     ensures refused { IfOk result (λ o. o.refused ≡ (list_any is_refused run.now.replies.items || is_some run.now.stopped)) }

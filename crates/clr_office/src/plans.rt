@@ -11,7 +11,7 @@ use clr_plan_lines::plan_lines;
 use clr_rows::Words;
 use std::alloc::{AllocError, Global};
 
-/// The texts of names. It fails for want of memory alone.
+/// Returns the texts of names.
 pub fn texts<'a>(alloc: Global, names: &'a [Words]) -> Result<Vec<&'a str>, AllocError>
     ensures { IfOk result (λ texts. map (λ text. text.now) texts.items ≡ names.entry.now) }
 {

@@ -13,7 +13,7 @@ pub const MOST_INPUT_BYTES: usize = 67_108_864;
 /// How many bytes one read asks for.
 const PIECE: usize = 65_536;
 
-/// A buffer for one read.
+/// Returns a buffer for one read.
 fn empty_piece(alloc: Global) -> Result<Vec<u8>, AllocError>
     ensures { IfOk result (λ buffer. 0 < vec_len buffer) }
 {

@@ -16,7 +16,7 @@ use clr_texts::{
 };
 use std::alloc::{AllocError, Global};
 
-/// What a report prints where no workspace has the name.
+/// Returns what a report prints where no workspace has the name.
 fn unknown_workspace(alloc: Global, schema: &Schema) -> Result<Output, AllocError>
     ensures lines { IfOk result (λ o. o.lines.items ≡ reply_text schema.now NoWorkspace) }
     ensures refused { IfOk result (λ o. o.refused ≡ true) }
@@ -91,7 +91,7 @@ pub fn workspaces(alloc: Global, office: &Office) -> Result<Output, AllocError>
     Ok(Output::of_lines(workspaces_lines(alloc, office)?))
 }
 
-/// The text of the whole office, ended by `\n`. It fails for want of memory alone.
+/// Returns the text of the whole office, ended by `\n`.
 pub fn dump_text(alloc: Global, office: &Office) -> Result<Vec<u8>, AllocError>
     ensures { IfOk result (λ text. text.items ≡ dump_text office.now) }
 {

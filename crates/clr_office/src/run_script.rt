@@ -33,7 +33,7 @@ fn first_name(names: &Names) -> &str
     }
 }
 
-/// The names behind the first.
+/// Returns the names behind the first.
 fn later_names(names: &Names) -> &[Words]
     ensures { result.now ≡ drop 1 names.now }
 {

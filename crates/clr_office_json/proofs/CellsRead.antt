@@ -24,8 +24,9 @@ use Rattle.clr_rows.proofs.SchemaLemmas.{cell_parts, fits_table, table_of_name}
 use Rattle.clr_differences.specs.Differences.{Differences}
 use Rattle.clr_office_text.specs.declared.cells.NamedRow.{NamedRow}
 use Rattle.clr_office_text.specs.declared.named_cells.NamedCell.{NamedCell}
-use Rattle.clr_office_text.specs.Cells.{cell_of, has_paths, is_path_form, named_row_of, place_of, places_of, row_of, shape_of, shape_with, value_of, values_of, with_row, with_rows}
-use Rattle.clr_office_text.specs.Fields.{each}
+use Rattle.clr_office_text.specs.Cells.{cell_of, has_paths, is_path_form, named_row_of, place_of, places_of, row_of, shape_of, shape_with, values_of, with_row, with_rows}
+use Rattle.clr_rule_text.specs.Values.{value_of}
+use Rattle.clr_rule_text.specs.Fields.{each}
 use Rattle.clr_office_text.specs.Fits.{FitsDifferences}
 use Rattle.clr_office_text.specs.Patches.{named_cell_of, put_fault, with_cell, with_cells}
 use Rattle.clr_office_json.specs.CellData.{coordinates_of, named_cell, named_cell_data, named_cells, named_row, named_row_data, named_rows, row_data, row_or_gone_data}
@@ -90,9 +91,15 @@ pub record IsReadable (is_path : Bool) (key : ℤ) (row : Row) : Type 0 where
 row_read : (is_path : Bool) (table : List ℕ) (key : ℤ) (row : Row) → IsReadable is_path key row → row_of is_path (row_data table key row) ≡ Ok row
 unfolding row_of values_of shape_of
 row_read is_path table key row h =
-    rw (each_read (λ v. is_number v ≡ true) value_of value_data value_read row.values (all_pass is_number row.values h.values), places_read (vertices_of row.shape) h.places, h.shape) refl
+    rw (
+      each_read (λ v. is_number v ≡ true) value_of value_data value_read row.values (all_pass is_number row.values h.values),
+      places_read
+          (vertices_of row.shape) h.places,
+      h.shape,
+    ) refl
 
-named_row_read : (tables : List TableDef) (named : NamedRow) → IsReadable (has_paths tables named.table) named.key named.row → named_row_of tables (named_row_data named) ≡ Ok named
+named_row_read : (tables : List TableDef) (named : NamedRow) → IsReadable (has_paths tables named.table) named.key named.row
+    → named_row_of tables (named_row_data named) ≡ Ok named
 unfolding named_row_of
 named_row_read tables named h = rw (number_read named.key h.named, row_read (has_paths tables named.table) named.table named.key named.row h) refl
 
@@ -107,7 +114,8 @@ unfolding named_cell_of
 row_or_gone_read tables table key None h = rw (number_read key h) refl
 row_or_gone_read tables table key (Some row) h = rw (number_read key h.named, row_read (has_paths tables table) table key row h) refl
 
-named_cell_read : (tables : List TableDef) (named : NamedCell) → IsReadableOrGone (has_paths tables named.table) named.key named.row → named_cell_of tables (named_cell_data named) ≡ Ok named
+named_cell_read : (tables : List TableDef) (named : NamedCell) → IsReadableOrGone (has_paths tables named.table) named.key named.row
+    → named_cell_of tables (named_cell_data named) ≡ Ok named
 named_cell_read tables named h = row_or_gone_read tables named.table named.key named.row h
 
 module _ (tables : List TableDef) (schema : schema_fault tables ≡ None) where
@@ -131,26 +139,35 @@ module _ (tables : List TableDef) (schema : schema_fault tables ≡ None) where
         shape = formed t.0.shape row.shape t.2.form;
       })
 
-  cell_readable : (cell : CellId) (row : Option Row) → put_fault tables cell row ≡ None → IsReadableOrGone (has_paths tables (name_of_table tables cell.table)) cell.key row
+  cell_readable : (cell : CellId) (row : Option Row) → put_fault tables cell row ≡ None
+      → IsReadableOrGone (has_paths tables (name_of_table tables cell.table)) cell.key row
   cell_readable cell None fit = key_within cell.key (cell_parts tables cell fit).2
   cell_readable cell (Some row) fit = row_readable cell row fit
 
-  pub rows_readable : (content : Content) → FitsSchema tables content → AllByRecursion (λ n. IsReadable (has_paths tables n.table) n.key n.row) (named_rows tables content)
+  pub rows_readable : (content : Content) → FitsSchema tables content → AllByRecursion (λ n. IsReadable (has_paths tables n.table) n.key n.row)
+      (named_rows tables content)
   rows_readable content fits =
-      all_mapped (λ e. row_fault tables e.0 e.1 ≡ None) _ (named_row tables) (λ e fit. row_readable e.0 e.1 fit) (finite.entries content) (all_entries (λ q row. row_fault tables q row ≡ None) content fits)
+      all_mapped (λ e. row_fault tables e.0 e.1 ≡ None) _ (named_row tables) (λ e fit. row_readable e.0 e.1 fit) (finite.entries content)
+      (all_entries (λ q row. row_fault tables q row ≡ None) content fits)
 
-  pub cells_readable : (d : Differences) → FitsDifferences tables d → AllByRecursion (λ n. IsReadableOrGone (has_paths tables n.table) n.key n.row) (named_cells tables d)
+  pub cells_readable : (d : Differences) → FitsDifferences tables d → AllByRecursion (λ n. IsReadableOrGone (has_paths tables n.table) n.key n.row)
+      (named_cells tables d)
   cells_readable d fits =
-      all_mapped (λ e. put_fault tables e.0 e.1 ≡ None) _ (named_cell tables) (λ e fit. cell_readable e.0 e.1 fit) (finite.entries d) (all_entries (λ q row. put_fault tables q row ≡ None) d fits)
+      all_mapped (λ e. put_fault tables e.0 e.1 ≡ None) _ (named_cell tables) (λ e fit. cell_readable e.0 e.1 fit) (finite.entries d)
+      (all_entries (λ q row. put_fault tables q row ≡ None) d fits)
 
-  pub rows_read : (content : Content) → FitsSchema tables content → each (named_row_of tables) (items_of (map named_row_data (named_rows tables content))) ≡ Ok (named_rows tables content)
+  pub rows_read : (content : Content) → FitsSchema tables content → each (named_row_of tables) (items_of (map named_row_data (named_rows tables content)))
+      ≡ Ok (named_rows tables content)
   rows_read content fits =
-      each_read (λ n. IsReadable (has_paths tables n.table) n.key n.row) (named_row_of tables) named_row_data (named_row_read tables) (named_rows tables content)
+      each_read (λ n. IsReadable (has_paths tables n.table) n.key n.row) (named_row_of tables) named_row_data (named_row_read tables)
+      (named_rows tables content)
       (rows_readable content fits)
 
-  pub cells_read : (d : Differences) → FitsDifferences tables d → each (named_cell_of tables) (items_of (map named_cell_data (named_cells tables d))) ≡ Ok (named_cells tables d)
+  pub cells_read : (d : Differences) → FitsDifferences tables d → each (named_cell_of tables) (items_of (map named_cell_data (named_cells tables d)))
+      ≡ Ok (named_cells tables d)
   cells_read d fits =
-      each_read (λ n. IsReadableOrGone (has_paths tables n.table) n.key n.row) (named_cell_of tables) named_cell_data (named_cell_read tables) (named_cells tables d)
+      each_read (λ n. IsReadableOrGone (has_paths tables n.table) n.key n.row) (named_cell_of tables) named_cell_data (named_cell_read tables)
+      (named_cells tables d)
       (cells_readable d fits)
 
   -- at their cells ---------------------------------------------------------------------------
@@ -163,30 +180,36 @@ module _ (tables : List TableDef) (schema : schema_fault tables ≡ None) where
   unfolding cell_of
   cell_found cell known = rw (name_found cell.table known.0 known.1) refl
 
-  row_put : (content : Content) (e : CellId × Row) → row_fault tables e.0 e.1 ≡ None → finite.get content e.0 ≡ None → with_row tables content (named_row tables e) ≡ Ok (finite.insert content e.0 e.1)
+  row_put : (content : Content) (e : CellId × Row) → row_fault tables e.0 e.1 ≡ None → finite.get content e.0 ≡ None
+      → with_row tables content (named_row tables e) ≡ Ok (finite.insert content e.0 e.1)
   unfolding with_row
   row_put content e fit free = let t = fits_table tables e.0 e.1 fit in rw (cell_found e.0 (t.0, t.1), fit, free) refl
 
-  rows_put : (content : Content) (es : List (CellId × Row)) → T (is_sorted cell_cmp es) → AllByRecursion (λ e. row_fault tables e.0 e.1 ≡ None) es → AreFree content es → with_rows tables content (map (named_row tables) es) ≡ Ok (all_put content es)
+  rows_put : (content : Content) (es : List (CellId × Row)) → T (is_sorted cell_cmp es) → AllByRecursion (λ e. row_fault tables e.0 e.1 ≡ None) es
+      → AreFree content es → with_rows tables content (map (named_row tables) es) ≡ Ok (all_put content es)
   unfolding with_rows
   rows_put content [] sorted fits free = refl
   rows_put content (e ∷ es) sorted fits free =
-      rw (row_put content e fits.0 free.0) (rows_put (finite.insert content e.0 e.1) es (second _ _ sorted) fits.1 (free_after content e.0 e.1 es (first _ _ sorted) free.1))
+      rw (row_put content e fits.0 free.0) (rows_put (finite.insert content e.0 e.1) es (second _ _ sorted) fits.1
+      (free_after content e.0 e.1 es (first _ _ sorted) free.1))
 
   pub rows_again : (content : Content) → FitsSchema tables content → with_rows tables finite.empty (named_rows tables content) ≡ Ok content
   rows_again content fits =
-      rows_put finite.empty (finite.entries content) (finite.entries_sorted content) (all_entries (λ q row. row_fault tables q row ≡ None) content fits) (free_at_first (finite.entries content))
+      rows_put finite.empty (finite.entries content) (finite.entries_sorted content) (all_entries (λ q row. row_fault tables q row ≡ None) content fits)
+      (free_at_first (finite.entries content))
       ∙ ap (λ m. Ok m) (all_put_again content)
 
   known_cell : (cell : CellId) (row : Option Row) → put_fault tables cell row ≡ None → IsKnown cell
   known_cell cell None fit = let t = cell_parts tables cell fit in (t.0, t.1)
   known_cell cell (Some row) fit = let t = fits_table tables cell row fit in (t.0, t.1)
 
-  cell_put : (d : Differences) (e : CellId × Option Row) → put_fault tables e.0 e.1 ≡ None → finite.get d e.0 ≡ None → with_cell tables d (named_cell tables e) ≡ Ok (finite.insert d e.0 e.1)
+  cell_put : (d : Differences) (e : CellId × Option Row) → put_fault tables e.0 e.1 ≡ None → finite.get d e.0 ≡ None → with_cell tables d (named_cell tables e)
+      ≡ Ok (finite.insert d e.0 e.1)
   unfolding with_cell
   cell_put d e fit free = rw (cell_found e.0 (known_cell e.0 e.1 fit), fit, free) refl
 
-  cells_put : (d : Differences) (es : List (CellId × Option Row)) → T (is_sorted cell_cmp es) → AllByRecursion (λ e. put_fault tables e.0 e.1 ≡ None) es → AreFree d es → with_cells tables d (map (named_cell tables) es) ≡ Ok (all_put d es)
+  cells_put : (d : Differences) (es : List (CellId × Option Row)) → T (is_sorted cell_cmp es) → AllByRecursion (λ e. put_fault tables e.0 e.1 ≡ None) es
+      → AreFree d es → with_cells tables d (map (named_cell tables) es) ≡ Ok (all_put d es)
   unfolding with_cells
   cells_put d [] sorted fits free = refl
   cells_put d (e ∷ es) sorted fits free =
@@ -194,5 +217,6 @@ module _ (tables : List TableDef) (schema : schema_fault tables ≡ None) where
 
   pub cells_again : (d : Differences) → FitsDifferences tables d → with_cells tables finite.empty (named_cells tables d) ≡ Ok d
   cells_again d fits =
-      cells_put finite.empty (finite.entries d) (finite.entries_sorted d) (all_entries (λ q row. put_fault tables q row ≡ None) d fits) (free_at_first (finite.entries d))
+      cells_put finite.empty (finite.entries d) (finite.entries_sorted d) (all_entries (λ q row. put_fault tables q row ≡ None) d fits)
+      (free_at_first (finite.entries d))
       ∙ ap (λ m. Ok m) (all_put_again d)

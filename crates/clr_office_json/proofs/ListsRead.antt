@@ -8,13 +8,14 @@ use Rattle.clr_rows.specs.declared.rows.Value.{Value}
 use Rattle.clr_rows.specs.declared.rows.Value.TheVariants.{Int, Words}
 use Rattle.clr_rows.specs.Numbers.{is_i64}
 use Rattle.clr_rows.specs.Schemas.{is_key, is_number}
-use Rattle.clr_office_text.specs.declared.faults.TextFault.{TextFault}
-use Rattle.clr_office_text.specs.Cells.{value_of}
-use Rattle.clr_office_text.specs.Fields.{each, each_in, number_of}
+use Rattle.clr_rule_text.specs.declared.faults.TextFault.{TextFault}
+use Rattle.clr_rule_text.specs.Values.{value_of}
+use Rattle.clr_rule_text.specs.Fields.{each, each_in, number_of}
 use Rattle.clr_office_json.specs.Values.{number_data, value_data}
 
 -- what holds of each element is asked for its reading
-pub each_read : {A : Type 0} (P : A → Type 0) (f : Data → Result A TextFault) (g : A → Data) → ((x : A) → P x → f (g x) ≡ Ok x) → (xs : List A) → AllByRecursion P xs → each f (items_of (map g xs)) ≡ Ok xs
+pub each_read : {A : Type 0} (P : A → Type 0) (f : Data → Result A TextFault) (g : A → Data) → ((x : A) → P x → f (g x) ≡ Ok x) → (xs : List A)
+    → AllByRecursion P xs → each f (items_of (map g xs)) ≡ Ok xs
 unfolding each
 each_read P f g one [] all = refl
 each_read P f g one (x ∷ xs) all = rw (one x all.0, each_read P f g one xs all.1) refl
@@ -24,7 +25,8 @@ unfolding each
 any_read f g one [] = refl
 any_read f g one (x ∷ xs) = rw (one x, any_read f g one xs) refl
 
-pub each_found : {X A : Type 0} (P : A → Type 0) (f : X → Result A TextFault) (g : A → X) → ((x : A) → P x → f (g x) ≡ Ok x) → (xs : List A) → AllByRecursion P xs → each_in f (map g xs) ≡ Ok xs
+pub each_found : {X A : Type 0} (P : A → Type 0) (f : X → Result A TextFault) (g : A → X) → ((x : A) → P x → f (g x) ≡ Ok x) → (xs : List A)
+    → AllByRecursion P xs → each_in f (map g xs) ≡ Ok xs
 unfolding each_in
 each_found P f g one [] all = refl
 each_found P f g one (x ∷ xs) all = rw (one x all.0, each_found P f g one xs all.1) refl
@@ -34,7 +36,8 @@ pub all_pass : {A : Type 0} (p : A → Bool) (xs : List A) → list_all p xs ≡
 all_pass p [] h = tt
 all_pass p (x ∷ xs) h = let a = and_parts (p x) (list_all p xs) h in (a.0, all_pass p xs a.1)
 
-pub all_mapped : {A B : Type 0} (P : A → Type 0) (Q : B → Type 0) (f : A → B) → ((x : A) → P x → Q (f x)) → (xs : List A) → AllByRecursion P xs → AllByRecursion Q (map f xs)
+pub all_mapped : {A B : Type 0} (P : A → Type 0) (Q : B → Type 0) (f : A → B) → ((x : A) → P x → Q (f x)) → (xs : List A) → AllByRecursion P xs
+    → AllByRecursion Q (map f xs)
 all_mapped P Q f one [] all = tt
 all_mapped P Q f one (x ∷ xs) all = (one x all.0, all_mapped P Q f one xs all.1)
 

@@ -8,9 +8,9 @@ use Rattle.clr_rows.specs.declared.tables.Form.TheVariants as form
 use Rattle.clr_rows.specs.declared.tables.TableDef.{TableDef}
 use Rattle.clr_office_text.specs.declared.formats.Format.TheVariants.{Third}
 use Rattle.clr_office_text.specs.Cells.{live_of, live_rows_of}
-use Rattle.clr_office_text.specs.Fields.{each}
+use Rattle.clr_rule_text.specs.Fields.{each}
 use Rattle.clr_office_text.specs.Offices.{format_of, office_of, schema_of}
-use Rattle.clr_office_text.specs.Rules.{named_rules_of, rules_of}
+use Rattle.clr_rule_text.specs.Rules.{named_rules_of, rules_of}
 use Rattle.clr_office_text.specs.Tables.{column_of, columns_of, form_named, kind_named, pair_of, table_of, tables_of}
 use Rattle.clr_office_text.specs.Workspaces.{layers_of}
 use Rattle.clr_office_json.specs.Laws.{ReadsBack}

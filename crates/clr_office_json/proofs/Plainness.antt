@@ -12,9 +12,9 @@ use Rattle.clr_layers.specs.Layers.{Layer}
 use Rattle.clr_office_text.specs.declared.named_cells.NamedCell.{NamedCell}
 use Rattle.clr_office_text.specs.declared.named_marks.NamedMark.{NamedMark}
 use Rattle.clr_office_text.specs.declared.named_marks.NamedMark.TheVariants as named
-use Rattle.clr_office_text.specs.declared.named_rules.NamedRule.{NamedRule}
-use Rattle.clr_office_text.specs.declared.named_rules.NamedRule.TheVariants.{Unique, Partner, EndNode, Crossing, Near}
-use Rattle.clr_office_text.specs.declared.named_sides.NamedSide.{NamedSide}
+use Rattle.clr_rule_text.specs.declared.named_rules.NamedRule.{NamedRule}
+use Rattle.clr_rule_text.specs.declared.named_rules.NamedRule.TheVariants.{Unique, Partner, EndNode, Crossing, Near}
+use Rattle.clr_rule_text.specs.declared.named_sides.NamedSide.{NamedSide}
 use Rattle.clr_office_text.specs.Offices.{OfficeText}
 use Rattle.clr_office_json.specs.CellData.{coordinates_of, named_cell_data, named_cells, named_row_data, named_rows, row_data, row_or_gone_data}
 use Rattle.clr_office_json.specs.Laws.{IsPlain}
@@ -45,13 +45,25 @@ names_depth names = list_depth string 0 (λ name. omega arith) names
 
 rule_depth : (r : NamedRule) → depth (named_rule_data r) ≤ 4
 rule_depth (Unique subject columns) = omega (arith, side_depth subject, names_depth columns)
-rule_depth (Partner subject columns server server_columns) = omega (arith, side_depth subject, side_depth server, names_depth columns, names_depth server_columns)
+rule_depth (Partner subject columns server server_columns) = omega (
+  arith,
+  side_depth subject,
+  side_depth server,
+  names_depth columns,
+  names_depth
+      server_columns,
+)
 rule_depth (EndNode subject tip server) = omega (arith, side_depth subject, side_depth server)
 rule_depth (Crossing a b server) = omega (arith, side_depth a, side_depth b, side_depth server)
 rule_depth (Near a b d) = omega (arith, side_depth a, side_depth b)
 
 row_depth : (table : List ℕ) (key : ℤ) (row : Row) → depth (row_data table key row) ≤ 2
-row_depth table key row = omega (arith, list_depth number_data 0 (λ z. omega arith) (coordinates_of (vertices_of row.shape)), list_depth value_data 0 value_depth row.values)
+row_depth table key row = omega (
+  arith,
+  list_depth number_data 0 (λ z. omega arith) (coordinates_of (vertices_of row.shape)),
+  list_depth value_data 0
+      value_depth row.values,
+)
 
 row_or_gone_depth : (table : List ℕ) (key : ℤ) (row : Option Row) → depth (row_or_gone_data table key row) ≤ 2
 row_or_gone_depth table key None = omega arith
@@ -66,7 +78,13 @@ mark_depth (named.Saved name cells) = omega (arith, cells_depth cells)
 
 layer_depth : (tables : List TableDef) (l : Layer) → depth (layer_data tables l) ≤ 6
 layer_depth tables l =
-    omega (arith, cells_depth (named_cells tables l.base), cells_depth (named_cells tables l.current), list_depth named_mark_data 4 mark_depth (map (named_mark tables) l.marks))
+    omega (
+      arith,
+      cells_depth (named_cells tables l.base),
+      cells_depth (named_cells tables l.current),
+      list_depth named_mark_data 4 mark_depth
+          (map (named_mark tables) l.marks),
+    )
 
 office_depth : (o : OfficeText) → depth (office_data o) ≤ 127
 unfolding office_data
@@ -110,7 +128,12 @@ rule_plain (Crossing a b server) = rw (side_plain a, side_plain b, side_plain se
 rule_plain (Near a b d) = rw (side_plain a, side_plain b, number_plain d) refl
 
 row_plain : (table : List ℕ) (key : ℤ) (row : Row) → has_float (row_data table key row) ≡ false
-row_plain table key row = rw (number_plain key, list_plain number_data number_plain (coordinates_of (vertices_of row.shape)), list_plain value_data value_plain row.values) refl
+row_plain table key row = rw (
+  number_plain key,
+  list_plain number_data number_plain (coordinates_of (vertices_of row.shape)),
+  list_plain value_data value_plain
+      row.values,
+) refl
 
 row_or_gone_plain : (table : List ℕ) (key : ℤ) (row : Option Row) → has_float (row_or_gone_data table key row) ≡ false
 row_or_gone_plain table key None = rw (number_plain key) refl
@@ -125,7 +148,12 @@ mark_plain (named.Saved name cells) = rw (cells_plain cells) refl
 
 layer_plain : (tables : List TableDef) (l : Layer) → has_float (layer_data tables l) ≡ false
 layer_plain tables l =
-    rw (cells_plain (named_cells tables l.base), cells_plain (named_cells tables l.current), list_plain named_mark_data mark_plain (map (named_mark tables) l.marks)) refl
+    rw (
+      cells_plain (named_cells tables l.base),
+      cells_plain (named_cells tables l.current),
+      list_plain named_mark_data mark_plain
+          (map (named_mark tables) l.marks),
+    ) refl
 
 office_plain : (o : OfficeText) → has_float (office_data o) ≡ false
 unfolding office_data

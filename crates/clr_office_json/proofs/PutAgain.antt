@@ -17,17 +17,23 @@ abbrev pub AtCells : Type 0 → Type 0
 AtCells X = finite.FinMap cell_cmp X
 
 -- what holds at each cell of a map holds of its entries
-pub all_entries : {X : Type 0} (P : CellId → X → Type 0) (m : AtCells X) → ((q : CellId) (x : X) → finite.get m q ≡ Some x → P q x) → AllByRecursion (λ e. P e.0 e.1) (finite.entries m)
+pub all_entries : {X : Type 0} (P : CellId → X → Type 0) (m : AtCells X) → ((q : CellId) (x : X) → finite.get m q ≡ Some x → P q x)
+    → AllByRecursion (λ e. P e.0 e.1) (finite.entries m)
 all_entries {X} P m one = go (finite.entries m) (finite.entries_sorted m) (λ q x found. one q x (finite.get-entries m q ∙ found))
   where
-    later : (e : CellId × X) (es : List (CellId × X)) (q : CellId) (x : X) (b : Bool) → T (below_all cell_cmp e.0 es) → eq_by_cmp cell_cmp q e.0 ≡ b → find cell_cmp q es ≡ Some x → cond b (Some e.1) (find cell_cmp q es) ≡ Some x
+    later : (e : CellId × X) (es : List (CellId × X)) (q : CellId) (x : X) (b : Bool) → T (below_all cell_cmp e.0 es) → eq_by_cmp cell_cmp q e.0 ≡ b
+        → find cell_cmp q es ≡ Some x → cond b (Some e.1) (find cell_cmp q es) ≡ Some x
     later e es q x true below t found = absurd (none-some x (sym (ap (λ c. find cell_cmp c es) (tied_cells q e.0 t) ∙ find_below e.0 es below) ∙ found))
     later e es q x false below t found = found
 
-    go : (es : List (CellId × X)) → T (is_sorted cell_cmp es) → ((q : CellId) (x : X) → find cell_cmp q es ≡ Some x → P q x) → AllByRecursion (λ e. P e.0 e.1) es
+    go : (es : List (CellId × X)) → T (is_sorted cell_cmp es) → ((q : CellId) (x : X) → find cell_cmp q es ≡ Some x → P q x)
+        → AllByRecursion (λ e. P e.0 e.1) es
     go [] sorted one = tt
-    go (e ∷ es) sorted one =
-        (one e.0 e.1 (ap (λ b. cond b (Some e.1) (find cell_cmp e.0 es)) (tied_self e.0)), go es (second _ _ sorted) (λ q x found. one q x (later e es q x (eq_by_cmp cell_cmp q e.0) (first _ _ sorted) refl found)))
+    go (e ∷ es) sorted one = (
+      one e.0 e.1 (ap (λ b. cond b (Some e.1) (find cell_cmp e.0 es)) (tied_self e.0)),
+      go es (second _ _ sorted)
+          (λ q x found. one q x (later e es q x (eq_by_cmp cell_cmp q e.0) (first _ _ sorted) refl found)),
+    )
 
 module _ {X : Type 0} where
   abbrev pub all_put : AtCells X → List (CellId × X) → AtCells X
@@ -52,11 +58,13 @@ module _ {X : Type 0} where
   free_at_first [] = tt
   free_at_first (e ∷ es) = (finite.get-empty cell_cmp e.0, free_at_first es)
 
-  get-all_put : (m : AtCells X) (es : List (CellId × X)) (q : CellId) → T (is_sorted cell_cmp es) → finite.get (all_put m es) q ≡ or_else (find cell_cmp q es) (finite.get m q)
+  get-all_put : (m : AtCells X) (es : List (CellId × X)) (q : CellId) → T (is_sorted cell_cmp es) → finite.get (all_put m es) q
+      ≡ or_else (find cell_cmp q es) (finite.get m q)
   get-all_put m [] q sorted = refl
   get-all_put m (e ∷ es) q sorted =
       get-all_put (finite.insert m e.0 e.1) es q (second _ _ sorted) ∙ ap (or_else (find cell_cmp q es)) (finite.get-insert cell_cmp_total m e.0 e.1 q)
-      ∙ elim (eq_by_cmp cell_cmp q e.0) as (λ t. eq_by_cmp cell_cmp q e.0 ≡ t → or_else (find cell_cmp q es) (cond t (Some e.1) (finite.get m q)) ≡ or_else (cond t (Some e.1) (find cell_cmp q es)) (finite.get m q)) [
+      ∙ elim (eq_by_cmp cell_cmp q e.0) as (λ t. eq_by_cmp cell_cmp q e.0 ≡ t → or_else (find cell_cmp q es) (cond t (Some e.1) (finite.get m q))
+      ≡ or_else (cond t (Some e.1) (find cell_cmp q es)) (finite.get m q)) [
         | true ↦ λ t. ap (λ found. or_else found (Some e.1)) (ap (λ c. find cell_cmp c es) (tied_cells q e.0 t) ∙ find_below e.0 es (first _ _ sorted))
         | false ↦ λ t. refl
       ] refl

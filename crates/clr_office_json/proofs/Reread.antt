@@ -29,9 +29,9 @@ use Rattle.clr_differences.specs.Differences.{Differences}
 use Rattle.clr_layers.specs.Layers.{Layer}
 use Rattle.clr_layers.specs.declared.stored_marks.StoredMark.{StoredMark}
 use Rattle.clr_layers.specs.declared.stored_marks.StoredMark.TheVariants as stored
-use Rattle.clr_office_text.specs.declared.named_rules.NamedRule.{NamedRule}
-use Rattle.clr_office_text.specs.declared.named_rules.NamedRule.TheVariants.{Unique, Partner, EndNode, Crossing, Near}
-use Rattle.clr_office_text.specs.declared.named_sides.NamedSide.{NamedSide}
+use Rattle.clr_rule_text.specs.declared.named_rules.NamedRule.{NamedRule}
+use Rattle.clr_rule_text.specs.declared.named_rules.NamedRule.TheVariants.{Unique, Partner, EndNode, Crossing, Near}
+use Rattle.clr_rule_text.specs.declared.named_sides.NamedSide.{NamedSide}
 use Rattle.clr_office_text.specs.Cells.{has_paths}
 use Rattle.clr_office_text.specs.Fits.{FitsDifferences, FitsLayer, FitsMark, FitsOffice}
 use Rattle.clr_office_text.specs.Offices.{OfficeText}
@@ -54,11 +54,13 @@ IsReread d = of_json (outline d) ≡ Some d
 -- parts --------------------------------------------------------------------------------------
 
 -- what holds of each element is asked for its reading
-list_reread : {A : Type 0} (P : A → Type 0) (g : A → Data) → ((x : A) → P x → IsReread (g x)) → (xs : List A) → AllByRecursion P xs → of_items (items_outline (items_of (map g xs))) ≡ Some (items_of (map g xs))
+list_reread : {A : Type 0} (P : A → Type 0) (g : A → Data) → ((x : A) → P x → IsReread (g x)) → (xs : List A) → AllByRecursion P xs
+    → of_items (items_outline (items_of (map g xs))) ≡ Some (items_of (map g xs))
 list_reread P g one [] all = refl
 list_reread P g one (x ∷ xs) all = rw (one x all.0, list_reread P g one xs all.1) refl
 
-any_reread : {A : Type 0} (g : A → Data) → ((x : A) → IsReread (g x)) → (xs : List A) → of_items (items_outline (items_of (map g xs))) ≡ Some (items_of (map g xs))
+any_reread : {A : Type 0} (g : A → Data) → ((x : A) → IsReread (g x)) → (xs : List A) → of_items (items_outline (items_of (map g xs)))
+    ≡ Some (items_of (map g xs))
 any_reread g one [] = refl
 any_reread g one (x ∷ xs) = rw (one x, any_reread g one xs) refl
 
@@ -86,14 +88,21 @@ names_reread names = any_reread string (λ name. refl) names
 
 rule_reread : (r : NamedRule) → IsRuleWithin r → IsReread (named_rule_data r)
 rule_reread (Unique subject columns) h = rw (names_reread columns, side_reread subject h) refl
-rule_reread (Partner subject columns server server_columns) h = rw (names_reread columns, side_reread server h.1, names_reread server_columns, side_reread subject h.0) refl
+rule_reread (Partner subject columns server server_columns) h = rw (
+  names_reread columns,
+  side_reread server h.1,
+  names_reread server_columns,
+  side_reread
+      subject h.0,
+) refl
 rule_reread (EndNode subject t server) h = rw (side_reread server h.1, side_reread subject h.0) refl
 rule_reread (Crossing a b server) h = rw (side_reread a h.0, side_reread b h.1.0, side_reread server h.1.1) refl
 rule_reread (Near a b d) h = rw (side_reread a h.0, side_reread b h.1.0, number_reread d h.1.1) refl
 
 -- rows ---------------------------------------------------------------------------------------
 
-coordinates_reread : (ps : List Place) → list_all is_place_within ps ≡ true → of_items (items_outline (items_of (map number_data (coordinates_of ps)))) ≡ Some (items_of (map number_data (coordinates_of ps)))
+coordinates_reread : (ps : List Place) → list_all is_place_within ps ≡ true → of_items (items_outline (items_of (map number_data (coordinates_of ps))))
+    ≡ Some (items_of (map number_data (coordinates_of ps)))
 coordinates_reread [] h = refl
 coordinates_reread (p ∷ ps) h =
     let a = and_parts (is_place_within p) (list_all is_place_within ps) h in
@@ -108,19 +117,24 @@ row_reread is_path table key row h =
       list_reread (λ v. is_number v ≡ true) value_data value_reread row.values (all_pass is_number row.values h.values),
     ) refl
 
-row_or_gone_reread : (is_path : Bool) (table : List ℕ) (key : ℤ) (row : Option Row) → IsReadableOrGone is_path key row → IsReread (row_or_gone_data table key row)
+row_or_gone_reread : (is_path : Bool) (table : List ℕ) (key : ℤ) (row : Option Row) → IsReadableOrGone is_path key row
+    → IsReread (row_or_gone_data table key row)
 row_or_gone_reread is_path table key None h = rw (number_reread key h) refl
 row_or_gone_reread is_path table key (Some row) h = row_reread is_path table key row h
 
 module _ (tables : List TableDef) (schema : schema_fault tables ≡ None) where
-  rows_reread : (content : Content) → FitsSchema tables content → of_items (items_outline (items_of (map named_row_data (named_rows tables content)))) ≡ Some (items_of (map named_row_data (named_rows tables content)))
+  rows_reread : (content : Content) → FitsSchema tables content → of_items (items_outline (items_of (map named_row_data (named_rows tables content))))
+      ≡ Some (items_of (map named_row_data (named_rows tables content)))
   rows_reread content fits =
-      list_reread (λ n. IsReadable (has_paths tables n.table) n.key n.row) named_row_data (λ n h. row_reread (has_paths tables n.table) n.table n.key n.row h) (named_rows tables content)
+      list_reread (λ n. IsReadable (has_paths tables n.table) n.key n.row) named_row_data (λ n h. row_reread (has_paths tables n.table) n.table n.key n.row h)
+      (named_rows tables content)
       (rows_readable tables schema content fits)
 
-  cells_reread : (d : Differences) → FitsDifferences tables d → of_items (items_outline (items_of (map named_cell_data (named_cells tables d)))) ≡ Some (items_of (map named_cell_data (named_cells tables d)))
+  cells_reread : (d : Differences) → FitsDifferences tables d → of_items (items_outline (items_of (map named_cell_data (named_cells tables d))))
+      ≡ Some (items_of (map named_cell_data (named_cells tables d)))
   cells_reread d fits =
-      list_reread (λ n. IsReadableOrGone (has_paths tables n.table) n.key n.row) named_cell_data (λ n h. row_or_gone_reread (has_paths tables n.table) n.table n.key n.row h) (named_cells tables d)
+      list_reread (λ n. IsReadableOrGone (has_paths tables n.table) n.key n.row) named_cell_data (λ n h. row_or_gone_reread (has_paths tables n.table) n.table
+      n.key n.row h) (named_cells tables d)
       (cells_readable tables schema d fits)
 
   -- workspaces -------------------------------------------------------------------------------
@@ -133,7 +147,8 @@ module _ (tables : List TableDef) (schema : schema_fault tables ≡ None) where
   layer_reread l fits =
       rw (
         cells_reread l.base fits.base,
-        list_reread (λ m. IsReread (named_mark_data m)) named_mark_data (λ m is. is) (map (named_mark tables) l.marks) (all_mapped (FitsMark tables) (λ m. IsReread (named_mark_data m)) (named_mark tables) mark_reread l.marks fits.marks),
+        list_reread (λ m. IsReread (named_mark_data m)) named_mark_data (λ m is. is) (map (named_mark tables) l.marks)
+            (all_mapped (FitsMark tables) (λ m. IsReread (named_mark_data m)) (named_mark tables) mark_reread l.marks fits.marks),
         cells_reread l.current fits.current,
       ) refl
 

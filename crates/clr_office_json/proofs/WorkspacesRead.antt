@@ -10,7 +10,7 @@ use Rattle.clr_layers.specs.declared.stored_marks.StoredMark.{StoredMark}
 use Rattle.clr_layers.specs.declared.stored_marks.StoredMark.TheVariants as stored
 use Rattle.clr_office_text.specs.declared.formats.Format.TheVariants.{Third}
 use Rattle.clr_office_text.specs.declared.named_marks.NamedMark.{NamedMark}
-use Rattle.clr_office_text.specs.Fields.{each, each_in}
+use Rattle.clr_rule_text.specs.Fields.{each, each_in}
 use Rattle.clr_office_text.specs.Fits.{FitsLayer, FitsMark}
 use Rattle.clr_office_text.specs.Patches.{differences_at, named_cells_at}
 use Rattle.clr_office_text.specs.Workspaces.{head_of, layer_of, layers_after, mark_over, marks_of, named_mark_of, named_marks_of, saved_of, stands_in}
@@ -34,16 +34,19 @@ module _ (tables : List TableDef) (schema : schema_fault tables ≡ None) where
   mark_again (stored.Saved name d) fits = rw (cells_again tables schema d fits) refl
   mark_again (stored.Child name) fits = refl
 
-  marks_read : (marks : List StoredMark) → AllByRecursion (FitsMark tables) marks → each (named_mark_of tables) (items_of (map named_mark_data (map (named_mark tables) marks))) ≡ Ok (map (named_mark tables) marks)
+  marks_read : (marks : List StoredMark) → AllByRecursion (FitsMark tables) marks
+      → each (named_mark_of tables) (items_of (map named_mark_data (map (named_mark tables) marks))) ≡ Ok (map (named_mark tables) marks)
   marks_read marks fits =
-      each_read IsRead (named_mark_of tables) named_mark_data (λ mark is. is) (map (named_mark tables) marks) (all_mapped (FitsMark tables) IsRead (named_mark tables) mark_read marks fits)
+      each_read IsRead (named_mark_of tables) named_mark_data (λ mark is. is) (map (named_mark tables) marks)
+      (all_mapped (FitsMark tables) IsRead (named_mark tables) mark_read marks fits)
 
   marks_again : (marks : List StoredMark) → AllByRecursion (FitsMark tables) marks → each_in (mark_over tables) (map (named_mark tables) marks) ≡ Ok marks
   marks_again marks fits = each_found (FitsMark tables) (mark_over tables) (named_mark tables) mark_again marks fits
 
   -- workspaces -------------------------------------------------------------------------------
 
-  layer_read_again : (earlier : List Layer) (l : Layer) → FitsLayer tables l → stands_in earlier l.parent ≡ true → layer_of Third tables earlier (layer_data tables l) ≡ Ok l
+  layer_read_again : (earlier : List Layer) (l : Layer) → FitsLayer tables l → stands_in earlier l.parent ≡ true
+      → layer_of Third tables earlier (layer_data tables l) ≡ Ok l
   unfolding layer_of head_of differences_at named_cells_at marks_of named_marks_of
   layer_read_again earlier l fits stands =
       rw (
@@ -56,7 +59,8 @@ module _ (tables : List TableDef) (schema : schema_fault tables ≡ None) where
         marks_again l.marks fits.marks,
       ) refl
 
-  pub layers_read : (earlier ls : List Layer) → AllByRecursion (FitsLayer tables) ls → HaveParents earlier ls → layers_after Third tables earlier (items_of (map (layer_data tables) ls)) ≡ Ok (earlier ++ ls)
+  pub layers_read : (earlier ls : List Layer) → AllByRecursion (FitsLayer tables) ls → HaveParents earlier ls
+      → layers_after Third tables earlier (items_of (map (layer_data tables) ls)) ≡ Ok (earlier ++ ls)
   unfolding layers_after
   layers_read earlier [] fits under = ap (λ xs. Ok xs) (sym (append-nil earlier))
   layers_read earlier (l ∷ ls) fits under =

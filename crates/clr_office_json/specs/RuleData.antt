@@ -13,9 +13,9 @@ use Rattle.clr_rules.specs.declared.rules.Rule.TheVariants as rule
 use Rattle.clr_rules.specs.declared.rules.Tip.{Tip}
 use Rattle.clr_rules.specs.declared.rules.Tip.TheVariants as tip
 use Rattle.clr_rules.specs.declared.sides.Side.{Side}
-use Rattle.clr_office_text.specs.declared.named_rules.NamedRule.{NamedRule}
-use Rattle.clr_office_text.specs.declared.named_rules.NamedRule.TheVariants.{Unique, Partner, EndNode, Crossing, Near}
-use Rattle.clr_office_text.specs.declared.named_sides.NamedSide.{NamedSide}
+use Rattle.clr_rule_text.specs.declared.named_rules.NamedRule.{NamedRule}
+use Rattle.clr_rule_text.specs.declared.named_rules.NamedRule.TheVariants.{Unique, Partner, EndNode, Crossing, Near}
+use Rattle.clr_rule_text.specs.declared.named_sides.NamedSide.{NamedSide}
 use Rattle.clr_office_json.specs.Values.{list_data, number_data, value_data}
 
 -- with names ---------------------------------------------------------------------------------

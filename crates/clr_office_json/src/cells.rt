@@ -1,3 +1,5 @@
+//! Rows and cells, written as JSON.
+
 ghost use Rattle.std.specs.Prelude.{◌≡◌, ◌++◌, IfOk, None, OnOk};
 ghost use Rattle.clr_rows.specs.Schemas.{name_of_table};
 ghost use Rattle.clr_office_json.specs.CellData.{coordinates_of, live_data, named_cell, named_cell_data, row_data, shape_data};
@@ -87,8 +89,8 @@ fn write_live(text: &mut JsonText, schema: &Schema, live: &Sheet) -> Result<(), 
     text.end_array()
 }
 
-/// A text with the rows of LIVE written at its end, ascending by cell. It fails for want of memory
-/// alone, and then the text is lost.
+/// Returns a text with the rows of LIVE written at its end, ascending by cell. If memory runs out,
+/// the text is lost.
 pub fn with_live(mut text: JsonText, schema: &Schema, live: &Sheet) -> Result<JsonText, AllocError>
     ensures { IfOk result (λ longer. longer ≡ text ++ tokens_of (live_data schema.now live.now)) }
 {

@@ -1,3 +1,5 @@
+//! A JSON text that is written token by token.
+
 ghost use Rattle.std.specs.Prelude.{◌≡◌, [], ◌∷◌, ◌++◌, IfOk, OnErr, OnOk};
 ghost use Rattle.std.specs.Str.{IsUtf8};
 ghost use Rattle.json.specs.Lex.{tokens as tokens_in};
@@ -35,7 +37,7 @@ impl Model for JsonText {
 }
 
 impl JsonText {
-    /// The empty text. It fails for want of memory alone.
+    /// Returns the empty text.
     pub fn new(alloc: Global) -> Result<JsonText, AllocError>
         ensures { IfOk result (λ text. text ≡ []) }
     {
@@ -43,7 +45,7 @@ impl JsonText {
         Ok(JsonText { writer })
     }
 
-    /// The bytes of the text, which are read as the same tokens.
+    /// Returns the bytes of the text, which are read as the same tokens.
     pub fn into_bytes(self) -> Vec<u8>
         ensures bytes { result.items ≡ print self }
         ensures again { tokens_in result.items ≡ self }

@@ -1,3 +1,5 @@
+//! Names of columns, as an office text has them.
+
 ghost use Rattle.std.specs.Prelude.{◌≡◌, ◌++◌, OnOk};
 ghost use Rattle.clr_office_json.specs.RuleData.{name_of_column, name_of_number};
 ghost use Rattle.clr_office_json.specs.Tokens.{tokens_of};
@@ -8,7 +10,7 @@ use clr_rows::{KEY, Schema, Value};
 use clr_rules::Col;
 use std::alloc::AllocError;
 
-/// The name of a column by its number, or no bytes where there is no such column.
+/// Returns the name of a column by its number, or no bytes where there is no such column.
 pub fn numbered_name(schema: &Schema, table: u16, number: u16) -> &str
     ensures { result.now ≡ name_of_number schema.now table number }
 {
@@ -21,7 +23,7 @@ pub fn numbered_name(schema: &Schema, table: u16, number: u16) -> &str
     }
 }
 
-/// The name of a column of a rule: `KEY` for the primary key.
+/// Returns the name of a column of a rule: `KEY` for the primary key.
 pub fn column_name(schema: &Schema, table: u16, column: Col) -> &str
     ensures { result.now ≡ name_of_column schema.now table column }
 {

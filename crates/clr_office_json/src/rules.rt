@@ -1,3 +1,5 @@
+//! Rules of a book, written as JSON.
+
 ghost use Rattle.std.specs.Prelude.{◌≡◌, ◌++◌, map, IfOk, OnOk};
 ghost use Rattle.clr_rules.specs.declared.rules.Rule.TheVariants.{Unique, Partner, EndNode, Crossing, Near};
 ghost use Rattle.clr_office_json.specs.RuleData.{literal_data, name_of_number, named_columns, named_literal, named_rule, named_rule_data};
@@ -222,8 +224,8 @@ fn write_rules(text: &mut JsonText, schema: &Schema, rules: &[Rule]) -> Result<(
     text.end_array()
 }
 
-/// A text with the rules of a book written at its end, in their order, with the names that the
-/// schema has for tables and columns. It fails for want of memory alone, and then the text is lost.
+/// Returns a text with the rules of a book written at its end, in their order, with the names that
+/// the schema has for tables and columns. If memory runs out, the text is lost.
 pub fn with_rules(
     mut text: JsonText,
     schema: &Schema,

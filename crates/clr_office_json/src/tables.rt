@@ -1,3 +1,5 @@
+//! Tables of a schema, written as JSON.
+
 ghost use Rattle.std.specs.Prelude.{◌≡◌, ◌++◌, IfOk, OnOk};
 ghost use Rattle.clr_office_json.specs.TableData.{column_data, form_word, kind_word, table_data};
 ghost use Rattle.clr_office_json.specs.Tokens.{tokens_of};
@@ -69,8 +71,8 @@ fn write_tables(text: &mut JsonText, tables: &[TableDef]) -> Result<(), AllocErr
     text.end_array()
 }
 
-/// A text with the tables of a schema written at its end, in their order. It fails for want of
-/// memory alone, and then the text is lost.
+/// Returns a text with the tables of a schema written at its end, in their order. If memory runs
+/// out, the text is lost.
 pub fn with_tables(mut text: JsonText, schema: &Schema) -> Result<JsonText, AllocError>
     ensures { IfOk result (λ longer. longer ≡ text ++ tokens_of (list_data table_data schema.now)) }
 {

@@ -1,3 +1,5 @@
+//! Workspaces, written as JSON by what is stored of them.
+
 ghost use Rattle.std.specs.Prelude.{◌≡◌, ◌++◌, IfOk, OnOk};
 ghost use Rattle.std.specs.Option.{option_copied};
 ghost use Rattle.clr_layers.specs.declared.stored_marks.StoredMark.TheVariants.{Child, Saved};
@@ -110,9 +112,9 @@ fn write_workspace(
     text.end_object()
 }
 
-/// A text with a workspace written at its end by what is stored of it: the differences of its base,
-/// of its rows and of its savepoints, its marks in their order, and its flag. It fails for want of
-/// memory alone, and then the text is lost.
+/// Returns a text with a workspace written at its end by what is stored of it: the differences of
+/// its base, of its rows and of its savepoints, its marks in their order, and its flag. If memory
+/// runs out, the text is lost.
 pub fn with_workspace(
     mut text: JsonText,
     schema: &Schema,

@@ -1,14 +1,29 @@
-//! Tests of runs of the program. In some of them memory is refused: at every budget of bytes a run
-//! is answered rightly, or with want of memory, and is right when it is tried again.
+//! Tests of whole offices: runs of the program over devices that fail, checks of two texts, plans of offices that dice make, whose
+//! merges are then given in every order, and groups of members and which of them are independent, compared with what the definitions
+//! say, worked out plainly.
 #![tactic(auto)]
 
 #[cfg(test)]
 mod devices;
 #[cfg(test)]
+mod dice_groups;
+#[cfg(test)]
+mod dice_offices;
+#[cfg(test)]
 mod faults;
 #[cfg(test)]
-mod refused_asks;
+mod groups;
 #[cfg(test)]
-mod refused_runs;
+mod made_up;
+#[cfg(test)]
+mod made_up_edits;
+#[cfg(test)]
+mod plain;
+#[cfg(test)]
+mod scene_texts;
 #[cfg(test)]
 mod separators;
+#[cfg(test)]
+mod sites;
+#[cfg(test)]
+mod two_texts;

@@ -14,17 +14,17 @@ use Rattle.clr_layers.specs.Layers.{Layer}
 use Rattle.clr_layers.specs.declared.stored_marks.StoredMark.{StoredMark}
 use Rattle.clr_layers.specs.declared.stored_marks.StoredMark.TheVariants as stored
 use Rattle.clr_office_text.specs.declared.cells.NamedRow.{NamedRow}
-use Rattle.clr_office_text.specs.declared.faults.TextFault.{TextFault}
+use Rattle.clr_rule_text.specs.declared.faults.TextFault.{TextFault}
 use Rattle.clr_office_text.specs.declared.formats.Format.{Format}
 use Rattle.clr_office_text.specs.declared.named_cells.NamedCell.{NamedCell}
 use Rattle.clr_office_text.specs.declared.named_marks.NamedMark.{NamedMark}
 use Rattle.clr_office_text.specs.declared.named_marks.NamedMark.TheVariants as named
 use Rattle.clr_office_text.specs.Cells.{cell_of, live_of, live_rows_of, with_row, with_rows}
-use Rattle.clr_office_text.specs.Fields.{◌>>=◌, each_in, list_or_none, none_or_fault}
+use Rattle.clr_rule_text.specs.Fields.{◌>>=◌, each_in, list_or_none, none_or_fault}
 use Rattle.clr_office_text.specs.Fits.{FitsDifferences, FitsLayer, FitsMark, FitsOffice}
 use Rattle.clr_office_text.specs.Offices.{OfficeText, format_of, office_of, schema_of}
 use Rattle.clr_office_text.specs.Patches.{differences_at, differences_of, named_cells_at, put_fault, with_cell, with_cells}
-use Rattle.clr_office_text.specs.Rules.{named_rules_of, rule_over, rules_of}
+use Rattle.clr_rule_text.specs.Rules.{named_rules_of, rule_over, rules_of}
 use Rattle.clr_office_text.specs.Tables.{tables_of}
 use Rattle.clr_office_text.specs.Workspaces.{head_of, layer_of, layers_after, layers_of, mark_over, marks_of, named_marks_of, under_one_of}
 
@@ -38,7 +38,8 @@ none_where_ok fault (Some x) u e = absurd cc
 
 -- LIVE ---------------------------------------------------------------------------------------
 
-row_fits : (tables : List TableDef) (content more : Content) (named : NamedRow) → with_row tables content named ≡ Ok more → FitsSchema tables content → FitsSchema tables more
+row_fits : (tables : List TableDef) (content more : Content) (named : NamedRow) → with_row tables content named ≡ Ok more → FitsSchema tables content
+    → FitsSchema tables more
 unfolding with_row
 row_fits tables content more named e all =
     let at = then_ok (cell_of tables named.table named.key) _ _ e in
@@ -47,7 +48,8 @@ row_fits tables content more named e all =
     let made : set_cell content at.0 (Some named.row) ≡ more = (let f = free.2 in cc) in
     subst (λ m. FitsSchema tables m) made (put_keeps (λ c r. row_fault tables c r ≡ None) content at.0 named.row all (none_where_ok _ _ _ fits.1))
 
-pub rows_fit : (tables : List TableDef) (content whole : Content) (rows : List NamedRow) → with_rows tables content rows ≡ Ok whole → FitsSchema tables content → FitsSchema tables whole
+pub rows_fit : (tables : List TableDef) (content whole : Content) (rows : List NamedRow) → with_rows tables content rows ≡ Ok whole → FitsSchema tables content
+    → FitsSchema tables whole
 unfolding with_rows
 rows_fit tables content whole [] e all = subst (λ m. FitsSchema tables m) (let same : content ≡ whole = cc in same) all
 rows_fit tables content whole (named ∷ others) e all =
@@ -62,7 +64,8 @@ live_fits tables d live e =
 
 -- differences --------------------------------------------------------------------------------
 
-cell_fits : (tables : List TableDef) (d more : Differences) (named : NamedCell) → with_cell tables d named ≡ Ok more → FitsDifferences tables d → FitsDifferences tables more
+cell_fits : (tables : List TableDef) (d more : Differences) (named : NamedCell) → with_cell tables d named ≡ Ok more → FitsDifferences tables d
+    → FitsDifferences tables more
 unfolding with_cell
 cell_fits tables d more named e all =
     let at = then_ok (cell_of tables named.table named.key) _ _ e in
@@ -71,7 +74,8 @@ cell_fits tables d more named e all =
     let made : finite.insert d at.0 named.row ≡ more = (let f = free.2 in cc) in
     subst (λ m. FitsDifferences tables m) made (put_keeps (λ c r. put_fault tables c r ≡ None) d at.0 named.row all (none_where_ok _ _ _ fits.1))
 
-cells_fit : (tables : List TableDef) (d whole : Differences) (cells : List NamedCell) → with_cells tables d cells ≡ Ok whole → FitsDifferences tables d → FitsDifferences tables whole
+cells_fit : (tables : List TableDef) (d whole : Differences) (cells : List NamedCell) → with_cells tables d cells ≡ Ok whole → FitsDifferences tables d
+    → FitsDifferences tables whole
 unfolding with_cells
 cells_fit tables d whole [] e all = subst (λ m. FitsDifferences tables m) (let same : d ≡ whole = cc in same) all
 cells_fit tables d whole (named ∷ others) e all =
@@ -81,7 +85,8 @@ cells_fit tables d whole (named ∷ others) e all =
 differences_fit : (tables : List TableDef) (cells : List NamedCell) (d : Differences) → differences_of tables cells ≡ Ok d → FitsDifferences tables d
 differences_fit tables cells d e = cells_fit tables _ d cells e (none_keeps (λ c r. put_fault tables c r ≡ None))
 
-differences_fit_at : (key : List ℕ) (tables : List TableDef) (d : Data) (read : Differences) → differences_at key tables d ≡ Ok read → FitsDifferences tables read
+differences_fit_at : (key : List ℕ) (tables : List TableDef) (d : Data) (read : Differences) → differences_at key tables d ≡ Ok read
+    → FitsDifferences tables read
 unfolding differences_at
 differences_fit_at key tables d read e =
     let cells = then_ok (named_cells_at key tables d) _ _ e in
@@ -95,13 +100,15 @@ mark_fits tables (named.Saved name cells) read e =
     let d = then_ok (differences_of tables cells) _ _ e in
     subst (λ m. FitsMark tables m) (let f = d.2 in let same : stored.Saved name d.0 ≡ read = cc in same) (differences_fit tables cells d.0 d.1)
 
-each_fits : {X A : Type 0} (P : A → Type 0) (f : X → Result A TextFault) → ((x : X) (y : A) → f x ≡ Ok y → P y) → (xs : List X) (ys : List A) → each_in f xs ≡ Ok ys → AllByRecursion P ys
+each_fits : {X A : Type 0} (P : A → Type 0) (f : X → Result A TextFault) → ((x : X) (y : A) → f x ≡ Ok y → P y) → (xs : List X) (ys : List A) → each_in f xs
+    ≡ Ok ys → AllByRecursion P ys
 unfolding each_in
 each_fits P f one [] ys e = subst (λ zs. AllByRecursion P zs) (let same : [] ≡ ys = cc in same) tt
 each_fits P f one (x ∷ xs) ys e =
     let first = then_ok (f x) _ _ e in
     let others = then_ok (each_in f xs) _ _ first.2 in
-    subst (λ zs. AllByRecursion P zs) (let g = others.2 in let same : first.0 ∷ others.0 ≡ ys = cc in same) (one x first.0 first.1, each_fits P f one xs others.0 others.1)
+    subst (λ zs. AllByRecursion P zs) (let g = others.2 in let same : first.0 ∷ others.0 ≡ ys = cc in same)
+    (one x first.0 first.1, each_fits P f one xs others.0 others.1)
 
 marks_fit : (tables : List TableDef) (d : Data) (marks : List StoredMark) → marks_of tables d ≡ Ok marks → AllByRecursion (FitsMark tables) marks
 unfolding marks_of
@@ -109,7 +116,8 @@ marks_fit tables d marks e =
     let named = then_ok (named_marks_of tables d) _ _ e in
     each_fits (FitsMark tables) (mark_over tables) (mark_fits tables) named.0 marks named.2
 
-layer_fits : (format : Format) (tables : List TableDef) (earlier : List Layer) (d : Data) (l : Layer) → layer_of format tables earlier d ≡ Ok l → FitsLayer tables l
+layer_fits : (format : Format) (tables : List TableDef) (earlier : List Layer) (d : Data) (l : Layer) → layer_of format tables earlier d ≡ Ok l
+    → FitsLayer tables l
 unfolding layer_of
 layer_fits format tables earlier d l e =
     let read = then_ok (head_of format d) _ _ e in
@@ -119,21 +127,29 @@ layer_fits format tables earlier d l e =
     let marks = then_ok (marks_of tables d) _ _ rows.2 in
     let made : Layer = record { name = head.0.name; parent = head.0.parent; base = base.0; current = rows.0; marks = marks.0; kept = head.0.kept } in
     subst (λ m. FitsLayer tables m) (let f = marks.2 in let same : made ≡ l = cc in same)
-    (record { base = differences_fit_at _ tables d base.0 base.1; current = differences_fit_at _ tables d rows.0 rows.1; marks = marks_fit tables d marks.0 marks.1 })
+    (record {
+      base = differences_fit_at _ tables d base.0 base.1;
+      current = differences_fit_at _ tables d rows.0 rows.1;
+      marks = marks_fit tables d marks.0
+          marks.1;
+    })
 
 one_more_fits : {A : Type 0} (P : A → Type 0) (xs : List A) (x : A) → AllByRecursion P xs → P x → AllByRecursion P (xs ++ x ∷ [])
 one_more_fits P [] x all one = (one, tt)
 one_more_fits P (y ∷ ys) x all one = (all.0, one_more_fits P ys x all.1 one)
 
-layers_fit : (format : Format) (tables : List TableDef) (earlier : List Layer) (items : Items) (layers : List Layer) → layers_after format tables earlier items ≡ Ok layers
+layers_fit : (format : Format) (tables : List TableDef) (earlier : List Layer) (items : Items) (layers : List Layer) → layers_after format tables earlier items
+    ≡ Ok layers
     → AllByRecursion (FitsLayer tables) earlier → AllByRecursion (FitsLayer tables) layers
 unfolding layers_after
 layers_fit format tables earlier no_items layers e all = subst (λ m. AllByRecursion (FitsLayer tables) m) (let same : earlier ≡ layers = cc in same) all
 layers_fit format tables earlier (item d ds) layers e all =
     let next = then_ok (layer_of format tables earlier d) _ _ e in
-    layers_fit format tables (earlier ++ next.0 ∷ []) ds layers next.2 (one_more_fits (FitsLayer tables) earlier next.0 all (layer_fits format tables earlier d next.0 next.1))
+    layers_fit format tables (earlier ++ next.0 ∷ []) ds layers next.2 (one_more_fits (FitsLayer tables) earlier next.0 all
+    (layer_fits format tables earlier d next.0 next.1))
 
-all_layers_fit : (format : Format) (tables : List TableDef) (d : Data) (layers : List Layer) → layers_of format tables d ≡ Ok layers → AllByRecursion (FitsLayer tables) layers
+all_layers_fit : (format : Format) (tables : List TableDef) (d : Data) (layers : List Layer) → layers_of format tables d ≡ Ok layers
+    → AllByRecursion (FitsLayer tables) layers
 unfolding layers_of
 all_layers_fit format tables d layers e =
     let items = then_ok (list_or_none (get (codes "workspaces") d)) (layers_after format tables []) layers e in

@@ -1,5 +1,3 @@
-pub mod EachIn
-pub mod EachItem
 pub mod Fitting
 pub mod NameTurns
 pub mod PlacePairs

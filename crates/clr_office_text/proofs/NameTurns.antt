@@ -26,7 +26,8 @@ turned a b = by (bytes_eq a b) refl (bytes_eq b a) refl
     by true e false f = sym ((bytes_decides b a).1 (sym ((bytes_decides a b).0 e))) ∙ f
     by false e true f = sym e ∙ (bytes_decides a b).1 (sym ((bytes_decides b a).0 f))
 
-pub named_more : (names next : BTreeSet (String Global)) (key : String Global) (earlier : List Layer) (l : Layer) → HasNames names earlier → string_bytes key ≡ l.name
+pub named_more : (names next : BTreeSet (String Global)) (key : String Global) (earlier : List Layer) (l : Layer) → HasNames names earlier → string_bytes key
+    ≡ l.name
     → Updates string_cmp names next key true → HasNames next (earlier ++ l ∷ [])
 named_more names next key earlier l named is updates name =
     btree_set_updates_text (string_bytes key) names next true updates name
@@ -35,7 +36,8 @@ named_more names next key earlier l named is updates name =
   where
     by : (b : Bool) → contains_text names name ≡ list_any (λ (m : Layer). bytes_eq name m.name) earlier → b ≡ bytes_eq name l.name
         → cond b true (contains_text names name) ≡ (list_any (λ (m : Layer). bytes_eq name m.name) earlier || (bytes_eq name l.name || false))
-    by b before same = (λ i. cond b true (before i)) ∙ cases b (list_any (λ (m : Layer). bytes_eq name m.name) earlier) ∙ ap (λ t. list_any (λ (m : Layer). bytes_eq name m.name) earlier || (t || false)) same
+    by b before same = (λ i. cond b true (before i)) ∙ cases b (list_any (λ (m : Layer). bytes_eq name m.name) earlier)
+        ∙ ap (λ t. list_any (λ (m : Layer). bytes_eq name m.name) earlier || (t || false)) same
       where
         cases : (b x : Bool) → cond b true x ≡ (x || (b || false))
         cases true true = refl

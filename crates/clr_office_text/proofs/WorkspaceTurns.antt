@@ -2,37 +2,45 @@
 use Rattle.std.proofs.Common.{◌≡◌, ℕ, ◌+◌, ◌≤◌, ◌<◌, List, [], ◌∷◌, ◌++◌, length, get_or, drop, map, Result, Ok, refl, sym, ◌∙◌, add-one}
 use Rattle.std.proofs.Math.Seq.{drop-cons}
 use Rattle.std.proofs.lemmas.List.{drop_all, map-append}
-use Rattle.serde_json.specs.View.{view, items_view}
-use Rattle.serde_json.specs.declared.value.Value.{Value as Json}
+use Rattle.serde_json.specs.Data.{Data}
+use Rattle.clr_rule_text.specs.Seen.{items_seen}
 use Rattle.clr_rows.specs.declared.tables.TableDef.{TableDef}
 use Rattle.clr_layers.specs.Entries.{stored_layer}
 use Rattle.clr_layers.specs.Layers.{Layer}
-use Rattle.clr_office_text.specs.declared.faults.TextFault.{TextFault}
+use Rattle.clr_rule_text.specs.declared.faults.TextFault.{TextFault}
 use Rattle.clr_office_text.specs.declared.formats.Format.{Format}
 use Rattle.clr_layers.specs.declared.stored_parts.StoredPart.{StoredPart}
-use Rattle.clr_office_text.specs.Fields.{◌>>=◌, Fails}
+use Rattle.clr_rule_text.specs.Fields.{◌>>=◌, Fails}
 use Rattle.clr_office_text.specs.Workspaces.{layer_of, layers_after}
-use Rattle.clr_office_text.proofs.EachItem.{fails_with}
+use Rattle.clr_rule_text.proofs.EachItem.{fails_with}
 
-next : (format : Format) (tables : List TableDef) (earlier : List Layer) (vs : List Json) (i : ℕ) (v : Json) → i < length vs → v ≡ get_or vs i v
-    → layers_after format tables earlier (items_view (drop i vs)) ≡ layer_of format tables earlier (view v) >>= λ l. layers_after format tables (earlier ++ l ∷ []) (items_view (drop (i + 1) vs))
+next : {J : Type 0} (view : J → Data) (format : Format) (tables : List TableDef) (earlier : List Layer) (vs : List J) (i : ℕ) (v : J) → i < length vs → v
+    ≡ get_or vs i v
+    → layers_after format tables earlier (items_seen view (drop i vs)) ≡ layer_of format tables earlier (view v) >>= λ l. layers_after format tables (earlier
+    ++ l ∷ []) (items_seen view (drop (i + 1) vs))
 unfolding layers_after
-next format tables earlier vs i v lt is = rw (add-one i, drop-cons vs i v) (rw (← is) refl)
+next view format tables earlier vs i v lt is = rw (add-one i, drop-cons vs i v) (rw (← is) refl)
 
 -- one more workspace is read
-pub goes_on : (format : Format) (tables : List TableDef) (parts : List StoredPart) (vs : List Json) (i : ℕ) (v : Json) (one : StoredPart) (whole : Result (List Layer) TextFault) → i < length vs → v ≡ get_or vs i v
+pub goes_on : {J : Type 0} (view : J → Data) (format : Format) (tables : List TableDef) (parts : List StoredPart) (vs : List J) (i : ℕ) (v : J)
+    (one : StoredPart) (whole : Result (List Layer) TextFault) → i < length vs → v ≡ get_or vs i v
     → layer_of format tables (map stored_layer parts) (view v) ≡ Ok (stored_layer one)
-    → layers_after format tables (map stored_layer parts) (items_view (drop i vs)) ≡ whole → layers_after format tables (map stored_layer (parts ++ one ∷ [])) (items_view (drop (i + 1) vs)) ≡ whole
-goes_on format tables parts vs i v one whole lt is was so_far = rw (map-append stored_layer parts (one ∷ [])) (sym (next format tables (map stored_layer parts) vs i v lt is ∙ rw was refl) ∙ so_far)
+    → layers_after format tables (map stored_layer parts) (items_seen view (drop i vs)) ≡ whole
+    → layers_after format tables (map stored_layer (parts ++ one ∷ [])) (items_seen view (drop (i + 1) vs)) ≡ whole
+goes_on view format tables parts vs i v one whole lt is was so_far = rw (map-append stored_layer parts (one ∷ []))
+    (sym (next view format tables (map stored_layer parts) vs i v lt is ∙ rw was refl) ∙ so_far)
 
 -- a workspace has a fault, and so has the whole
-pub ends : (format : Format) (tables : List TableDef) (e : TextFault) (parts : List StoredPart) (vs : List Json) (i : ℕ) (v : Json) (whole : Result (List Layer) TextFault) → i < length vs → v ≡ get_or vs i v
+pub ends : {J : Type 0} (view : J → Data) (format : Format) (tables : List TableDef) (e : TextFault) (parts : List StoredPart) (vs : List J) (i : ℕ) (v : J)
+    (whole : Result (List Layer) TextFault) → i < length vs → v ≡ get_or vs i v
     → Fails e (layer_of format tables (map stored_layer parts) (view v))
-    → layers_after format tables (map stored_layer parts) (items_view (drop i vs)) ≡ whole → Fails e whole
-ends format tables e parts vs i v whole lt is failed so_far = fails_with e (layer_of format tables (map stored_layer parts) (view v)) _ whole failed (sym (next format tables (map stored_layer parts) vs i v lt is) ∙ so_far)
+    → layers_after format tables (map stored_layer parts) (items_seen view (drop i vs)) ≡ whole → Fails e whole
+ends view format tables e parts vs i v whole lt is failed so_far = fails_with e (layer_of format tables (map stored_layer parts) (view v)) _ whole failed
+    (sym (next view format tables (map stored_layer parts) vs i v lt is) ∙ so_far)
 
 -- no workspace is left
-pub is_done : (format : Format) (tables : List TableDef) (earlier : List Layer) (vs : List Json) (i : ℕ) (whole : Result (List Layer) TextFault) → length vs ≤ i
-    → layers_after format tables earlier (items_view (drop i vs)) ≡ whole → whole ≡ Ok earlier
+pub is_done : {J : Type 0} (view : J → Data) (format : Format) (tables : List TableDef) (earlier : List Layer) (vs : List J) (i : ℕ)
+    (whole : Result (List Layer) TextFault) → length vs ≤ i
+    → layers_after format tables earlier (items_seen view (drop i vs)) ≡ whole → whole ≡ Ok earlier
 unfolding layers_after
-is_done format tables earlier vs i whole le so_far = sym so_far ∙ rw (drop_all i vs le) refl
+is_done view format tables earlier vs i whole le so_far = sym so_far ∙ rw (drop_all i vs le) refl

@@ -2,33 +2,25 @@
 use Rattle.std.specs.Prelude.{ℕ, ℤ, Bool, true, false, List, [], ◌∷◌, codes, Option, Some, None, option_and_then, slice_get}
 use Rattle.std.specs.Prelude.{Result, Ok, Err, if◌then◌else◌}
 use Rattle.serde_json.specs.Data.{Data, Items, no_items, item}
-use Rattle.serde_json.specs.Find.{get, as_bool, as_str}
+use Rattle.serde_json.specs.Find.{get, as_bool}
 use Rattle.clr_rows.specs.declared.cells.CellId.{CellId}
 use Rattle.clr_rows.specs.declared.places.Place.{Place}
 use Rattle.clr_rows.specs.declared.places.Shape.{Shape}
 use Rattle.clr_rows.specs.declared.places.Shape.TheVariants.{Bare, At, Line, Chain}
 use Rattle.clr_rows.specs.declared.rows.Value.{Value}
-use Rattle.clr_rows.specs.declared.rows.Value.TheVariants.{Int, Words}
 use Rattle.clr_rows.specs.declared.rows.Row.{Row}
 use Rattle.clr_rows.specs.declared.tables.Form.{Form}
 use Rattle.clr_rows.specs.declared.tables.Form.TheVariants as form
 use Rattle.clr_rows.specs.declared.tables.TableDef.{TableDef}
 use Rattle.clr_rows.specs.Contents.{Content, no_rows, row_at, set_cell}
 use Rattle.clr_rows.specs.Schemas.{row_fault, table_named}
-use Rattle.clr_office_text.specs.declared.faults.TextFault.{TextFault}
-use Rattle.clr_office_text.specs.declared.faults.TextFault.TheVariants.{BadField, BadRow, RepeatedCell}
+use Rattle.clr_rule_text.specs.declared.faults.TextFault.{TextFault}
+use Rattle.clr_rule_text.specs.declared.faults.TextFault.TheVariants.{BadField, BadRow, RepeatedCell}
 use Rattle.clr_office_text.specs.declared.cells.NamedRow.{NamedRow}
-use Rattle.clr_office_text.specs.Fields.{◌>>=◌, none_or_fault, each, list_at, number_at, number_of, or_bad_field, words_at}
+use Rattle.clr_rule_text.specs.Fields.{◌>>=◌, none_or_fault, each, list_at, number_at, number_of, or_bad_field, words_at}
+use Rattle.clr_rule_text.specs.Values.{value_of}
 
 -- as they are written ------------------------------------------------------------------------
-
-abbrev pub words_or_number : Option (List ℕ) → Data → Result Value TextFault
-words_or_number (Some text) d = Ok (Words text)
-words_or_number None d = number_of d >>= λ n. Ok (Int n)
-
--- a text or a whole number
-abbrev pub value_of : Data → Result Value TextFault
-value_of d = words_or_number (as_str d) d
 
 unfoldable pub place_of : Data → Data → Result Place TextFault
 place_of x y = do

@@ -10,15 +10,15 @@ use Rattle.clr_rows.specs.Schemas.{schema_fault}
 use Rattle.clr_rules.specs.declared.rules.Rule.{Rule}
 use Rattle.clr_layers.specs.Entries.{stored_layer}
 use Rattle.clr_layers.specs.Layers.{Layer}
-use Rattle.clr_office_text.specs.declared.faults.TextFault.{TextFault}
-use Rattle.clr_office_text.specs.declared.faults.TextFault.TheVariants.{NotJson, BadField, BadSchema}
+use Rattle.clr_rule_text.specs.declared.faults.TextFault.{TextFault}
+use Rattle.clr_rule_text.specs.declared.faults.TextFault.TheVariants.{NotJson, BadField, BadSchema}
 use Rattle.clr_office_text.specs.declared.reading.OfficeParts.{OfficeParts}
 use Rattle.clr_office_text.specs.declared.formats.Format.{Format}
 use Rattle.clr_office_text.specs.declared.formats.Format.TheVariants.{First, Second, Third}
-use Rattle.clr_office_text.specs.Fields.{◌>>=◌, none_or_fault, number_at}
+use Rattle.clr_rule_text.specs.Fields.{◌>>=◌, none_or_fault, number_at}
 use Rattle.clr_office_text.specs.Tables.{tables_of}
 use Rattle.clr_office_text.specs.Cells.{live_of}
-use Rattle.clr_office_text.specs.Rules.{rules_of}
+use Rattle.clr_rule_text.specs.Rules.{rules_of}
 use Rattle.clr_office_text.specs.Workspaces.{layers_of}
 
 abbrev pub format_numbered : ℤ → Result Format TextFault

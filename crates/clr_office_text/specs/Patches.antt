@@ -9,11 +9,11 @@ use Rattle.clr_rows.specs.declared.rows.Row.{Row}
 use Rattle.clr_rows.specs.declared.tables.TableDef.{TableDef}
 use Rattle.clr_rows.specs.Schemas.{cell_fault, row_fault}
 use Rattle.clr_differences.specs.Differences.{Differences, no_differences}
-use Rattle.clr_office_text.specs.declared.faults.TextFault.{TextFault}
-use Rattle.clr_office_text.specs.declared.faults.TextFault.TheVariants.{BadRow, RepeatedCell}
+use Rattle.clr_rule_text.specs.declared.faults.TextFault.{TextFault}
+use Rattle.clr_rule_text.specs.declared.faults.TextFault.TheVariants.{BadRow, RepeatedCell}
 use Rattle.clr_office_text.specs.declared.named_cells.NamedCell.{NamedCell}
 use Rattle.clr_office_text.specs.Cells.{cell_of, has_paths, row_of}
-use Rattle.clr_office_text.specs.Fields.{◌>>=◌, each, flag_or_not, list_or_none, none_or_fault, number_at, words_at}
+use Rattle.clr_rule_text.specs.Fields.{◌>>=◌, each, flag_or_not, list_or_none, none_or_fault, number_at, words_at}
 
 -- a cell that is gone has no row, whatever else it has
 abbrev pub row_unless_gone : Bool → Bool → Data → Result (Option Row) TextFault

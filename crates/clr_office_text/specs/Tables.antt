@@ -7,11 +7,11 @@ use Rattle.clr_rows.specs.declared.tables.Kind.TheVariants as kind
 use Rattle.clr_rows.specs.declared.tables.Form.{Form}
 use Rattle.clr_rows.specs.declared.tables.Form.TheVariants as form
 use Rattle.clr_rows.specs.declared.tables.TableDef.{TableDef}
-use Rattle.clr_office_text.specs.declared.faults.TextFault.{TextFault}
-use Rattle.clr_office_text.specs.declared.faults.TextFault.TheVariants.{BadField}
+use Rattle.clr_rule_text.specs.declared.faults.TextFault.{TextFault}
+use Rattle.clr_rule_text.specs.declared.faults.TextFault.TheVariants.{BadField}
 use Rattle.clr_office_text.specs.declared.formats.Format.{Format}
 use Rattle.clr_office_text.specs.declared.formats.Format.TheVariants.{First, Second, Third}
-use Rattle.clr_office_text.specs.Fields.{◌>>=◌, each, field_of, list_at, list_of, words_at, words_of}
+use Rattle.clr_rule_text.specs.Fields.{◌>>=◌, each, field_of, list_at, list_of, words_at, words_of}
 
 abbrev pub kind_named : List ℕ → Result Kind TextFault
 kind_named word = if bytes_eq word (codes "INT") then Ok kind.Int else (if bytes_eq word (codes "TEXT") then Ok kind.Words else Err BadField)

@@ -12,14 +12,14 @@ use Rattle.clr_layers.specs.Layers.{Layer}
 use Rattle.clr_workspaces.specs.Marks.{Name}
 use Rattle.clr_layers.specs.declared.stored_marks.StoredMark.{StoredMark}
 use Rattle.clr_layers.specs.declared.stored_marks.StoredMark.TheVariants as stored
-use Rattle.clr_office_text.specs.declared.faults.TextFault.{TextFault}
-use Rattle.clr_office_text.specs.declared.faults.TextFault.TheVariants.{BadPart}
+use Rattle.clr_rule_text.specs.declared.faults.TextFault.{TextFault}
+use Rattle.clr_rule_text.specs.declared.faults.TextFault.TheVariants.{BadPart}
 use Rattle.clr_office_text.specs.declared.formats.Format.{Format}
 use Rattle.clr_office_text.specs.declared.formats.Format.TheVariants.{First, Second, Third}
 use Rattle.clr_office_text.specs.declared.named_marks.NamedMark.{NamedMark}
 use Rattle.clr_office_text.specs.declared.named_marks.NamedMark.TheVariants as named
 use Rattle.clr_office_text.specs.declared.workspaces.Head.{Head}
-use Rattle.clr_office_text.specs.Fields.{◌>>=◌, each, each_in, flag_or_not, list_or_none, words_at, words_of}
+use Rattle.clr_rule_text.specs.Fields.{◌>>=◌, each, each_in, flag_or_not, list_or_none, words_at, words_of}
 use Rattle.clr_office_text.specs.Patches.{differences_at, differences_of, named_cells_at}
 
 -- marks --------------------------------------------------------------------------------------

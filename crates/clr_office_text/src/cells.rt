@@ -2,15 +2,17 @@
 
 ghost use Rattle.std.specs.Prelude.{◌≡◌};
 ghost use Rattle.serde_json.specs.Find.{get};
-ghost use Rattle.serde_json.specs.View.{view, items_view};
-ghost use Rattle.clr_office_text.specs.Fields.{Gives, each};
+ghost use Rattle.clr_rule_text.specs.Fields.{Gives, each};
+ghost use Rattle.clr_rule_text.specs.Seen.{items_seen};
 ghost use Rattle.clr_office_text.specs.Cells.{has_paths as table_has_paths, live_rows_of, named_row_of, place_of, places_of, row_of};
-ghost use Rattle.clr_office_text.specs.Cells.{shape_of, shape_with as shape_in, value_of, values_of, without_flag};
+ghost use Rattle.clr_office_text.specs.Cells.{shape_of, shape_with as shape_in, values_of, without_flag};
+ghost use Rattle.clr_rule_text.specs.Values.{value_of};
 
-use crate::faults::TextFault;
-use crate::fields::{list_in, number, number_in, words_from, words_in};
 use clr_rows::{Form, Place, Row, Schema, Shape, Value, Values, Vertices, Words};
-use serde_json::Value as Json;
+use clr_rule_text::TextFault;
+use clr_rule_text::fields::{list_in, number, number_in, words_in};
+use clr_rule_text::json_values::JsonValue;
+pub use clr_rule_text::values::value;
 use std::alloc::Global;
 
 /// A row with its key and the name of its table, which may be unknown.
@@ -21,18 +23,8 @@ pub struct NamedRow {
     pub row: Row,
 }
 
-/// Returns a text or a whole number. Fails with `BadField` where it is anything else.
-pub fn value(alloc: Global, json: &Json) -> Result<Value, TextFault>
-    ensures { Gives (λ v. v) result (value_of (view json.now)) }
-{
-    match json.as_str() {
-        Some(text) => Ok(Value::Words(words_from(alloc, text)?)),
-        None => Ok(Value::Int(number(json)?)),
-    }
-}
-
-fn each_value(alloc: Global, items: &[Json]) -> Result<Vec<Value>, TextFault>
-    ensures { Gives (λ v. v.items) result (each value_of (items_view items.now)) }
+fn each_value<J: JsonValue>(alloc: Global, items: &[J]) -> Result<Vec<Value>, TextFault>
+    ensures { Gives (λ v. v.items) result (each value_of (items_seen J.stands_for items.now)) }
 {
     let mut values = Vec::new(alloc);
     for item in items {
@@ -43,8 +35,8 @@ fn each_value(alloc: Global, items: &[Json]) -> Result<Vec<Value>, TextFault>
 }
 
 #[tactic(auto, unfolding(crate::specs::Cells::place_of))]
-fn place(x: &Json, y: &Json) -> Result<Place, TextFault>
-    ensures { Gives (λ p. p) result (place_of (view x.now) (view y.now)) }
+fn place<J: JsonValue>(x: &J, y: &J) -> Result<Place, TextFault>
+    ensures { Gives (λ p. p) result (place_of (J.stands_for x.now) (J.stands_for y.now)) }
 {
     Ok(Place {
         x: number(x)?,
@@ -53,8 +45,8 @@ fn place(x: &Json, y: &Json) -> Result<Place, TextFault>
 }
 
 /// The places that numbers are two by two. Fails with `BadField` where one is left over.
-fn places(alloc: Global, numbers: &[Json]) -> Result<Vec<Place>, TextFault>
-    ensures { Gives (λ v. v.items) result (places_of (items_view numbers.now)) }
+fn places<J: JsonValue>(alloc: Global, numbers: &[J]) -> Result<Vec<Place>, TextFault>
+    ensures { Gives (λ v. v.items) result (places_of (items_seen J.stands_for numbers.now)) }
 {
     let mut places = Vec::new(alloc);
     let mut rest = numbers;
@@ -85,16 +77,16 @@ fn shape_with(is_path: bool, places: Vec<Place>) -> Result<Shape, TextFault>
 }
 
 #[tactic(auto, unfolding(crate::specs::Cells::values_of))]
-fn values(alloc: Global, json: &Json) -> Result<Values, TextFault>
-    ensures { Gives (λ v. v) result (values_of (view json.now)) }
+fn values<J: JsonValue>(alloc: Global, json: &J) -> Result<Values, TextFault>
+    ensures { Gives (λ v. v) result (values_of (J.stands_for json.now)) }
 {
     let list = each_value(alloc, list_in(json, "v")?)?;
     Ok(Values::new(list))
 }
 
 #[tactic(auto, unfolding(crate::specs::Cells::shape_of))]
-fn shape(alloc: Global, json: &Json, is_path: bool) -> Result<Shape, TextFault>
-    ensures { Gives (λ s. s) result (shape_of is_path (view json.now)) }
+fn shape<J: JsonValue>(alloc: Global, json: &J, is_path: bool) -> Result<Shape, TextFault>
+    ensures { Gives (λ s. s) result (shape_of is_path (J.stands_for json.now)) }
 {
     let places = places(alloc, list_in(json, "s")?)?;
     shape_with(is_path, places)
@@ -103,8 +95,8 @@ fn shape(alloc: Global, json: &Json, is_path: bool) -> Result<Shape, TextFault>
 /// Returns the row of a cell, in a table of paths or in another. Fails with `BadField` where there
 /// is none.
 #[tactic(auto, unfolding(crate::specs::Cells::row_of))]
-pub fn row(alloc: Global, json: &Json, is_path: bool) -> Result<Row, TextFault>
-    ensures { Gives (λ r. r) result (row_of is_path (view json.now)) }
+pub fn row<J: JsonValue>(alloc: Global, json: &J, is_path: bool) -> Result<Row, TextFault>
+    ensures { Gives (λ r. r) result (row_of is_path (J.stands_for json.now)) }
 {
     let values = values(alloc, json)?;
     let shape = shape(alloc, json, is_path)?;
@@ -112,12 +104,12 @@ pub fn row(alloc: Global, json: &Json, is_path: bool) -> Result<Row, TextFault>
 }
 
 /// Tests whether the flag at a key isn't set. Fails with `BadField` where it is set, or is no flag.
-fn require_no_flag(json: &Json, key: &str) -> Result<(), TextFault>
-    ensures { Gives (λ u. u) result (without_flag (get key.now (view json.now))) }
+fn require_no_flag<J: JsonValue>(json: &J, key: &str) -> Result<(), TextFault>
+    ensures { Gives (λ u. u) result (without_flag (get key.now (J.stands_for json.now))) }
 {
-    match json.get(key) {
+    match json.member(key) {
         None => Ok(()),
-        Some(flag) => match flag.as_bool() {
+        Some(found) => match found.flag() {
             Some(false) => Ok(()),
             _ => Err(TextFault::BadField),
         },
@@ -140,8 +132,12 @@ pub fn has_paths(schema: &Schema, name: &str) -> bool
 /// A row of LIVE with its key and the name of its table. Fails with `BadField` where a key is missing,
 /// a value is none of those that may stand there, or the cell has no row.
 #[tactic(auto, unfolding(crate::specs::Cells::named_row_of))]
-pub fn named_row(alloc: Global, json: &Json, schema: &Schema) -> Result<NamedRow, TextFault>
-    ensures { Gives (λ r. r) result (named_row_of schema.now (view json.now)) }
+pub fn named_row<J: JsonValue>(
+    alloc: Global,
+    json: &J,
+    schema: &Schema,
+) -> Result<NamedRow, TextFault>
+    ensures { Gives (λ r. r) result (named_row_of schema.now (J.stands_for json.now)) }
 {
     let table = words_in(alloc, json, "t")?;
     let key = number_in(json, "k")?;
@@ -151,12 +147,12 @@ pub fn named_row(alloc: Global, json: &Json, schema: &Schema) -> Result<NamedRow
     Ok(NamedRow { table, key, row })
 }
 
-fn each_named_row(
+fn each_named_row<J: JsonValue>(
     alloc: Global,
-    items: &[Json],
+    items: &[J],
     schema: &Schema,
 ) -> Result<Vec<NamedRow>, TextFault>
-    ensures { Gives (λ v. v.items) result (each (named_row_of schema.now) (items_view items.now)) }
+    ensures { Gives (λ v. v.items) result (each (named_row_of schema.now) (items_seen J.stands_for items.now)) }
 {
     let mut rows = Vec::new(alloc);
     for item in items {
@@ -169,8 +165,12 @@ fn each_named_row(
 /// Returns the rows of LIVE in an office text, each with its table's name. Fails with `BadField`
 /// where a key is missing, a value is none of those that may stand there, or a cell has no row.
 #[tactic(auto, unfolding(crate::specs::Cells::live_rows_of))]
-pub fn live_rows(alloc: Global, json: &Json, schema: &Schema) -> Result<Vec<NamedRow>, TextFault>
-    ensures { Gives (λ v. v.items) result (live_rows_of schema.now (view json.now)) }
+pub fn live_rows<J: JsonValue>(
+    alloc: Global,
+    json: &J,
+    schema: &Schema,
+) -> Result<Vec<NamedRow>, TextFault>
+    ensures { Gives (λ v. v.items) result (live_rows_of schema.now (J.stands_for json.now)) }
 {
     each_named_row(alloc, list_in(json, "live")?, schema)
 }

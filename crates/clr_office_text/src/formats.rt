@@ -1,13 +1,12 @@
 //! The formats of office texts.
 
 ghost use Rattle.std.specs.Prelude.{◌≡◌};
-ghost use Rattle.serde_json.specs.View.{view};
-ghost use Rattle.clr_office_text.specs.Fields.{Gives};
+ghost use Rattle.clr_rule_text.specs.Fields.{Gives};
 ghost use Rattle.clr_office_text.specs.Offices.{format_of};
 
-use crate::faults::TextFault;
-use crate::fields::number_in;
-use serde_json::Value as Json;
+use clr_rule_text::TextFault;
+use clr_rule_text::fields::number_in;
+use clr_rule_text::json_values::JsonValue;
 
 /// The format of an office text.
 #[derive(Clone, Copy, Debug, PartialEq, Eq)]
@@ -22,8 +21,8 @@ pub enum Format {
 
 /// Returns the format of an office text. Fails with `BadField` where it is none of 1 to 3.
 #[tactic(auto, unfolding(crate::specs::Offices::format_of))]
-pub fn read_format(json: &Json) -> Result<Format, TextFault>
-    ensures { Gives (λ f. f) result (format_of (view json.now)) }
+pub fn read_format<J: JsonValue>(json: &J) -> Result<Format, TextFault>
+    ensures { Gives (λ f. f) result (format_of (J.stands_for json.now)) }
 {
     match number_in(json, "format")? {
         1 => Ok(Format::First),

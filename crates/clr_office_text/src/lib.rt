@@ -8,20 +8,15 @@
 
 pub mod cells;
 pub mod earlier_names;
-mod faults;
-pub mod fields;
 pub mod formats;
 pub mod live;
 pub mod named_cells;
 pub mod named_marks;
-pub mod named_rules;
-pub mod named_sides;
 pub mod patches;
 pub mod reading;
-pub mod rules;
 pub mod tables;
 pub mod workspaces;
 
 pub use clr_layers::StoredPart;
-pub use faults::TextFault;
+pub use clr_rule_text::{TextFault, fields, named_rules, named_sides, rules};
 pub use reading::{OfficeParts, read_office};

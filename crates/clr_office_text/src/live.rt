@@ -1,16 +1,15 @@
 //! The content of LIVE in an office text.
 
 ghost use Rattle.std.specs.Prelude.{◌≡◌, IfOk, OnErr};
-ghost use Rattle.serde_json.specs.View.{view};
 ghost use Rattle.clr_rows.specs.Contents.{no_rows};
 ghost use Rattle.clr_rows.specs.Schemas.{FitsSchema};
-ghost use Rattle.clr_office_text.specs.Fields.{Gives};
+ghost use Rattle.clr_rule_text.specs.Fields.{Gives};
 ghost use Rattle.clr_office_text.specs.Cells.{cell_of, live_of, with_row, with_rows};
 
 use crate::cells::{NamedRow, live_rows};
-use crate::faults::TextFault;
 use clr_rows::{CellId, Schema, Sheet, Words};
-use serde_json::Value as Json;
+use clr_rule_text::TextFault;
+use clr_rule_text::json_values::JsonValue;
 use std::alloc::Global;
 
 /// Returns the cell of a key in the table of a name. Fails with `BadRow` where there is no such
@@ -59,8 +58,8 @@ fn sheet(alloc: Global, schema: &Schema, rows: Vec<NamedRow>) -> Result<Sheet, T
 /// cell by cell, with `BadRow` where the table isn't known or the row doesn't fit it, and with
 /// `RepeatedCell` where the cell stood earlier in the list.
 #[tactic(auto, unfolding(crate::specs::Cells::live_of))]
-pub fn live(alloc: Global, json: &Json, schema: &Schema) -> Result<Sheet, TextFault>
-    ensures value { Gives (λ s. s) result (live_of schema.now (view json.now)) }
+pub fn live<J: JsonValue>(alloc: Global, json: &J, schema: &Schema) -> Result<Sheet, TextFault>
+    ensures value { Gives (λ s. s) result (live_of schema.now (J.stands_for json.now)) }
     ensures fits { IfOk result (λ s. FitsSchema schema.now s) }
 {
     sheet(alloc, schema, live_rows(alloc, json, schema)?)

@@ -1,15 +1,15 @@
 //! Cells that are put over a content, as they are written.
 
 ghost use Rattle.std.specs.Prelude.{◌≡◌};
-ghost use Rattle.serde_json.specs.View.{view, items_view};
-ghost use Rattle.clr_office_text.specs.Fields.{Gives, each};
+ghost use Rattle.clr_rule_text.specs.Fields.{Gives, each};
+ghost use Rattle.clr_rule_text.specs.Seen.{items_seen};
 ghost use Rattle.clr_office_text.specs.Patches.{named_cell_of, named_cells_at, row_unless_gone as row_meant};
 
 use crate::cells::{has_paths, row};
-use crate::faults::TextFault;
-use crate::fields::{number_in, optional_flag, optional_list, words_in};
 use clr_rows::{Row, Schema, Words};
-use serde_json::Value as Json;
+use clr_rule_text::TextFault;
+use clr_rule_text::fields::{number_in, optional_flag, optional_list, words_in};
+use clr_rule_text::json_values::JsonValue;
 use std::alloc::Global;
 use std::marker::Model;
 
@@ -46,13 +46,13 @@ impl NamedCells {
     }
 }
 
-fn row_unless_gone(
+fn row_unless_gone<J: JsonValue>(
     alloc: Global,
     is_gone: bool,
     is_path: bool,
-    json: &Json,
+    json: &J,
 ) -> Result<Option<Row>, TextFault>
-    ensures { Gives (λ r. r) result (row_meant is_gone is_path (view json.now)) }
+    ensures { Gives (λ r. r) result (row_meant is_gone is_path (J.stands_for json.now)) }
 {
     if is_gone {
         return Ok(None);
@@ -63,8 +63,12 @@ fn row_unless_gone(
 /// A cell that is put over a content. Fails with `BadField` where a key is missing, or a value is none
 /// of those that may stand there.
 #[tactic(auto, unfolding(crate::specs::Patches::named_cell_of))]
-pub fn named_cell(alloc: Global, json: &Json, schema: &Schema) -> Result<NamedCell, TextFault>
-    ensures { Gives (λ c. c) result (named_cell_of schema.now (view json.now)) }
+pub fn named_cell<J: JsonValue>(
+    alloc: Global,
+    json: &J,
+    schema: &Schema,
+) -> Result<NamedCell, TextFault>
+    ensures { Gives (λ c. c) result (named_cell_of schema.now (J.stands_for json.now)) }
 {
     let table = words_in(alloc, json, "t")?;
     let key = number_in(json, "k")?;
@@ -74,12 +78,12 @@ pub fn named_cell(alloc: Global, json: &Json, schema: &Schema) -> Result<NamedCe
     Ok(NamedCell { table, key, row })
 }
 
-fn each_named_cell(
+fn each_named_cell<J: JsonValue>(
     alloc: Global,
-    items: &[Json],
+    items: &[J],
     schema: &Schema,
 ) -> Result<Vec<NamedCell>, TextFault>
-    ensures { Gives (λ v. v.items) result (each (named_cell_of schema.now) (items_view items.now)) }
+    ensures { Gives (λ v. v.items) result (each (named_cell_of schema.now) (items_seen J.stands_for items.now)) }
 {
     let mut cells = Vec::new(alloc);
     for item in items {
@@ -92,13 +96,13 @@ fn each_named_cell(
 /// Returns the cells at a key that are put over a content; a missing list is empty. Fails with
 /// `BadField` where a key is missing in a cell, or a value is none of those that may stand there.
 #[tactic(auto, unfolding(crate::specs::Patches::named_cells_at))]
-pub fn named_cells(
+pub fn named_cells<J: JsonValue>(
     alloc: Global,
-    json: &Json,
+    json: &J,
     key: &str,
     schema: &Schema,
 ) -> Result<NamedCells, TextFault>
-    ensures { Gives (λ v. v) result (named_cells_at key.now schema.now (view json.now)) }
+    ensures { Gives (λ v. v) result (named_cells_at key.now schema.now (J.stands_for json.now)) }
 {
     let list = each_named_cell(alloc, optional_list(json, key)?, schema)?;
     Ok(NamedCells { list })

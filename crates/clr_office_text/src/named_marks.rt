@@ -1,17 +1,17 @@
 //! Marks, as they are written.
 
 ghost use Rattle.std.specs.Prelude.{◌≡◌};
-ghost use Rattle.serde_json.specs.View.{view, items_view};
-ghost use Rattle.clr_office_text.specs.Fields.{Gives, each, each_in};
+ghost use Rattle.clr_rule_text.specs.Fields.{Gives, each, each_in};
+ghost use Rattle.clr_rule_text.specs.Seen.{items_seen};
 ghost use Rattle.clr_office_text.specs.Workspaces.{mark_over, marks_of, named_mark_of, named_marks_of, saved_of};
 
-use crate::faults::TextFault;
-use crate::fields::{optional_list, words, words_from, words_in};
 use crate::named_cells::{NamedCells, named_cells};
 use crate::patches::differences;
 use clr_layers::StoredMark;
 use clr_rows::{Schema, Words};
-use serde_json::Value as Json;
+use clr_rule_text::TextFault;
+use clr_rule_text::fields::{optional_list, words, words_from, words_in};
+use clr_rule_text::json_values::JsonValue;
 use std::alloc::Global;
 
 /// A mark as it is written: that of a child, or a savepoint with the cells that are put over the
@@ -23,8 +23,12 @@ pub enum NamedMark {
 }
 
 #[tactic(auto, unfolding(crate::specs::Workspaces::saved_of))]
-fn read_savepoint(alloc: Global, json: &Json, schema: &Schema) -> Result<NamedMark, TextFault>
-    ensures { Gives (λ m. m) result (saved_of schema.now (view json.now)) }
+fn read_savepoint<J: JsonValue>(
+    alloc: Global,
+    json: &J,
+    schema: &Schema,
+) -> Result<NamedMark, TextFault>
+    ensures { Gives (λ m. m) result (saved_of schema.now (J.stands_for json.now)) }
 {
     let name = words_in(alloc, json, "savepoint")?;
     let cells = named_cells(alloc, json, "rows", schema)?;
@@ -34,21 +38,25 @@ fn read_savepoint(alloc: Global, json: &Json, schema: &Schema) -> Result<NamedMa
 /// A mark of a workspace as it is written. Fails with `BadField` where a key is missing, or a value is
 /// none of those that may stand there.
 #[tactic(auto, unfolding(crate::specs::Workspaces::named_mark_of))]
-pub fn named_mark(alloc: Global, json: &Json, schema: &Schema) -> Result<NamedMark, TextFault>
-    ensures { Gives (λ m. m) result (named_mark_of schema.now (view json.now)) }
+pub fn named_mark<J: JsonValue>(
+    alloc: Global,
+    json: &J,
+    schema: &Schema,
+) -> Result<NamedMark, TextFault>
+    ensures { Gives (λ m. m) result (named_mark_of schema.now (J.stands_for json.now)) }
 {
-    match json.get("child") {
+    match json.member("child") {
         Some(child) => Ok(NamedMark::Child(words_from(alloc, words(child)?)?)),
         None => read_savepoint(alloc, json, schema),
     }
 }
 
-fn each_named_mark(
+fn each_named_mark<J: JsonValue>(
     alloc: Global,
-    items: &[Json],
+    items: &[J],
     schema: &Schema,
 ) -> Result<Vec<NamedMark>, TextFault>
-    ensures { Gives (λ v. v.items) result (each (named_mark_of schema.now) (items_view items.now)) }
+    ensures { Gives (λ v. v.items) result (each (named_mark_of schema.now) (items_seen J.stands_for items.now)) }
 {
     let mut marks = Vec::new(alloc);
     for item in items {
@@ -59,8 +67,12 @@ fn each_named_mark(
 }
 
 #[tactic(auto, unfolding(crate::specs::Workspaces::named_marks_of))]
-fn named_marks(alloc: Global, json: &Json, schema: &Schema) -> Result<Vec<NamedMark>, TextFault>
-    ensures { Gives (λ v. v.items) result (named_marks_of schema.now (view json.now)) }
+fn named_marks<J: JsonValue>(
+    alloc: Global,
+    json: &J,
+    schema: &Schema,
+) -> Result<Vec<NamedMark>, TextFault>
+    ensures { Gives (λ v. v.items) result (named_marks_of schema.now (J.stands_for json.now)) }
 {
     each_named_mark(alloc, optional_list(json, "marks")?, schema)
 }
@@ -96,8 +108,12 @@ fn each_mark(
 /// is empty. Fails with `BadField` where a key is missing in one of the marks, or a value is none
 /// of those that may stand there, and then, mark by mark, as the cells of a savepoint do.
 #[tactic(auto, unfolding(crate::specs::Workspaces::marks_of))]
-pub fn marks(alloc: Global, json: &Json, schema: &Schema) -> Result<Vec<StoredMark>, TextFault>
-    ensures { Gives (λ v. v.items) result (marks_of schema.now (view json.now)) }
+pub fn marks<J: JsonValue>(
+    alloc: Global,
+    json: &J,
+    schema: &Schema,
+) -> Result<Vec<StoredMark>, TextFault>
+    ensures { Gives (λ v. v.items) result (marks_of schema.now (J.stands_for json.now)) }
 {
     each_mark(alloc, schema, named_marks(alloc, json, schema)?)
 }

@@ -2,17 +2,16 @@
 
 ghost use Rattle.std.specs.Prelude.{◌≡◌, is_none, OnErr};
 ghost use Rattle.std.specs.Option.{option_copied};
-ghost use Rattle.serde_json.specs.View.{view};
 ghost use Rattle.clr_differences.specs.Differences.{no_differences};
-ghost use Rattle.clr_office_text.specs.Fields.{Gives};
+ghost use Rattle.clr_rule_text.specs.Fields.{Gives};
 ghost use Rattle.clr_office_text.specs.Patches.{differences_at, differences_of, put_fault, with_cell, with_cells};
 
-use crate::faults::TextFault;
 use crate::live::cell;
 use crate::named_cells::{NamedCell, NamedCells, named_cells};
 use clr_differences::Differences;
 use clr_rows::{CellId, Row, Schema};
-use serde_json::Value as Json;
+use clr_rule_text::TextFault;
+use clr_rule_text::json_values::JsonValue;
 use std::alloc::Global;
 
 /// Whether a row can be put at a cell, or none.
@@ -69,13 +68,13 @@ pub fn differences(
 /// `BadField` where a key is missing in a cell, or a value is none of those that may stand there,
 /// and then as `differences` does.
 #[tactic(auto, unfolding(crate::specs::Patches::differences_at))]
-pub fn differences_in(
+pub fn differences_in<J: JsonValue>(
     alloc: Global,
-    json: &Json,
+    json: &J,
     key: &str,
     schema: &Schema,
 ) -> Result<Differences, TextFault>
-    ensures { Gives (λ d. d) result (differences_at key.now schema.now (view json.now)) }
+    ensures { Gives (λ d. d) result (differences_at key.now schema.now (J.stands_for json.now)) }
 {
     differences(alloc, schema, named_cells(alloc, json, key, schema)?)
 }

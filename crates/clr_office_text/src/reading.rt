@@ -1,21 +1,23 @@
 //! Reading office texts.
 
 ghost use Rattle.std.specs.Prelude.{◌≡◌, IfOk};
-ghost use Rattle.serde_json.specs.View.{view};
-ghost use Rattle.clr_office_text.specs.Fields.{Gives};
+ghost use Rattle.clr_rule_text.specs.Fields.{Gives};
 ghost use Rattle.clr_office_text.specs.Fits.{FitsOffice};
 ghost use Rattle.clr_office_text.specs.Offices.{office_in, office_of, office_read, schema_of};
 
-use crate::faults::TextFault;
 use crate::formats::{Format, read_format};
 use crate::live::live;
-use crate::rules::read_rules;
 use crate::tables::tables;
 use crate::workspaces::stored_parts;
 use clr_layers::StoredPart;
 use clr_rows::{Schema, Sheet};
+use clr_rule_text::TextFault;
+use clr_rule_text::borrowed::read_value;
+use clr_rule_text::json_values::JsonValue;
+use clr_rule_text::rules::read_rules;
 use clr_rules::RuleBook;
-use serde_json::Value as Json;
+use json::Scratch;
+use simdutf8::compat::from_utf8;
 use std::alloc::Global;
 
 /// The parts of an office: its schema, its rules, the content of LIVE, and the workspaces under LIVE
@@ -31,8 +33,8 @@ pub struct OfficeParts {
 /// The schema of an office text. Fails with `BadField` where a key is missing in the tables, or a value is
 /// none of those that may stand there, and then with `BadSchema` where the tables make no schema.
 #[tactic(auto, unfolding(crate::specs::Offices::schema_of))]
-pub fn schema(alloc: Global, json: &Json, format: Format) -> Result<Schema, TextFault>
-    ensures { Gives (λ s. s) result (schema_of format (view json.now)) }
+pub fn schema<J: JsonValue>(alloc: Global, json: &J, format: Format) -> Result<Schema, TextFault>
+    ensures { Gives (λ s. s) result (schema_of format (J.stands_for json.now)) }
 {
     match Schema::new(tables(alloc, json, format)?) {
         Ok(schema) => Ok(schema),
@@ -41,8 +43,8 @@ pub fn schema(alloc: Global, json: &Json, format: Format) -> Result<Schema, Text
 }
 
 #[tactic(auto, unfolding(crate::specs::Offices::office_of))]
-fn office(alloc: Global, json: &Json) -> Result<OfficeParts, TextFault>
-    ensures value { Gives office_read result (office_of (view json.now)) }
+fn office<J: JsonValue>(alloc: Global, json: &J) -> Result<OfficeParts, TextFault>
+    ensures value { Gives office_read result (office_of (J.stands_for json.now)) }
     ensures fits { IfOk result (λ o. FitsOffice (office_read o)) }
 {
     let format = read_format(json)?;
@@ -77,14 +79,10 @@ pub fn read_office(alloc: Global, bytes: &[u8]) -> Result<OfficeParts, TextFault
     ensures value { Gives office_read result (office_in bytes.now) }
     ensures fits { IfOk result (λ o. FitsOffice (office_read o)) }
 {
-    match Json::from_slice(alloc, bytes) {
-        Ok(json) => office(alloc, &json),
-        Err(refused) => {
-            if refused.is_memory() {
-                Err(TextFault::OutOfMemory)
-            } else {
-                Err(TextFault::NotJson)
-            }
-        }
-    }
+    let Ok(text) = from_utf8(bytes) else {
+        return Err(TextFault::NotJson);
+    };
+    let mut scratch = Scratch::new(alloc);
+    let json = read_value(alloc, text, &mut scratch)?;
+    office(alloc, &json)
 }

@@ -1,19 +1,19 @@
 //! The tables of an office text.
 
 ghost use Rattle.std.specs.Prelude.{◌≡◌};
-ghost use Rattle.serde_json.specs.View.{view, items_view};
-ghost use Rattle.clr_office_text.specs.Fields.{Gives, each};
+ghost use Rattle.clr_rule_text.specs.Fields.{Gives, each};
+ghost use Rattle.clr_rule_text.specs.Seen.{items_seen};
 ghost use Rattle.clr_office_text.specs.Tables.{column_of, columns_of, form_of, kind_of, pair_of, path_in, table_of, tables_of};
 
-use crate::faults::TextFault;
-use crate::fields::{field, list, list_in, words, words_from, words_in};
 use crate::formats::Format;
 use clr_rows::{Columns, Form, Kind, TableDef, Words};
-use serde_json::Value as Json;
+use clr_rule_text::TextFault;
+use clr_rule_text::fields::{field, list, list_in, words, words_from, words_in};
+use clr_rule_text::json_values::JsonValue;
 use std::alloc::Global;
 
-fn kind(json: &Json) -> Result<Kind, TextFault>
-    ensures { Gives (λ k. k) result (kind_of (view json.now)) }
+fn kind<J: JsonValue>(json: &J) -> Result<Kind, TextFault>
+    ensures { Gives (λ k. k) result (kind_of (J.stands_for json.now)) }
 {
     match words(json)? {
         "INT" => Ok(Kind::Int),
@@ -32,8 +32,8 @@ fn path(format: Format) -> Result<Form, TextFault>
     }
 }
 
-fn form(json: &Json, format: Format) -> Result<Form, TextFault>
-    ensures { Gives (λ f. f) result (form_of format (view json.now)) }
+fn form<J: JsonValue>(json: &J, format: Format) -> Result<Form, TextFault>
+    ensures { Gives (λ f. f) result (form_of format (J.stands_for json.now)) }
 {
     match words(json)? {
         "NONE" => Ok(Form::Bare),
@@ -45,8 +45,8 @@ fn form(json: &Json, format: Format) -> Result<Form, TextFault>
 }
 
 #[tactic(auto, unfolding(crate::specs::Tables::pair_of))]
-fn pair(alloc: Global, items: &[Json]) -> Result<(Words, Kind), TextFault>
-    ensures { Gives (λ c. c) result (pair_of (items_view items.now)) }
+fn pair<J: JsonValue>(alloc: Global, items: &[J]) -> Result<(Words, Kind), TextFault>
+    ensures { Gives (λ c. c) result (pair_of (items_seen J.stands_for items.now)) }
 {
     match items {
         [name, word] => {
@@ -58,14 +58,14 @@ fn pair(alloc: Global, items: &[Json]) -> Result<(Words, Kind), TextFault>
 }
 
 #[tactic(auto, unfolding(crate::specs::Tables::column_of))]
-fn column(alloc: Global, json: &Json) -> Result<(Words, Kind), TextFault>
-    ensures { Gives (λ c. c) result (column_of (view json.now)) }
+fn column<J: JsonValue>(alloc: Global, json: &J) -> Result<(Words, Kind), TextFault>
+    ensures { Gives (λ c. c) result (column_of (J.stands_for json.now)) }
 {
     pair(alloc, list(json)?)
 }
 
-fn each_column(alloc: Global, items: &[Json]) -> Result<Vec<(Words, Kind)>, TextFault>
-    ensures { Gives (λ v. v.items) result (each column_of (items_view items.now)) }
+fn each_column<J: JsonValue>(alloc: Global, items: &[J]) -> Result<Vec<(Words, Kind)>, TextFault>
+    ensures { Gives (λ v. v.items) result (each column_of (items_seen J.stands_for items.now)) }
 {
     let mut columns = Vec::new(alloc);
     for item in items {
@@ -76,8 +76,8 @@ fn each_column(alloc: Global, items: &[Json]) -> Result<Vec<(Words, Kind)>, Text
 }
 
 #[tactic(auto, unfolding(crate::specs::Tables::columns_of))]
-fn columns(alloc: Global, json: &Json) -> Result<Columns, TextFault>
-    ensures { Gives (λ c. c) result (columns_of (view json.now)) }
+fn columns<J: JsonValue>(alloc: Global, json: &J) -> Result<Columns, TextFault>
+    ensures { Gives (λ c. c) result (columns_of (J.stands_for json.now)) }
 {
     let list = each_column(alloc, list_in(json, "columns")?)?;
     Ok(Columns::new(list))
@@ -86,8 +86,8 @@ fn columns(alloc: Global, json: &Json) -> Result<Columns, TextFault>
 /// A table of an office text. Fails with `BadField` where a key is missing, or a value is none of those
 /// that may stand there.
 #[tactic(auto, unfolding(crate::specs::Tables::table_of))]
-pub fn table(alloc: Global, json: &Json, format: Format) -> Result<TableDef, TextFault>
-    ensures { Gives (λ t. t) result (table_of format (view json.now)) }
+pub fn table<J: JsonValue>(alloc: Global, json: &J, format: Format) -> Result<TableDef, TextFault>
+    ensures { Gives (λ t. t) result (table_of format (J.stands_for json.now)) }
 {
     let name = words_in(alloc, json, "name")?;
     let columns = columns(alloc, json)?;
@@ -99,8 +99,12 @@ pub fn table(alloc: Global, json: &Json, format: Format) -> Result<TableDef, Tex
     })
 }
 
-fn each_table(alloc: Global, items: &[Json], format: Format) -> Result<Vec<TableDef>, TextFault>
-    ensures { Gives (λ v. v.items) result (each (table_of format) (items_view items.now)) }
+fn each_table<J: JsonValue>(
+    alloc: Global,
+    items: &[J],
+    format: Format,
+) -> Result<Vec<TableDef>, TextFault>
+    ensures { Gives (λ v. v.items) result (each (table_of format) (items_seen J.stands_for items.now)) }
 {
     let mut tables = Vec::new(alloc);
     for item in items {
@@ -113,8 +117,12 @@ fn each_table(alloc: Global, items: &[Json], format: Format) -> Result<Vec<Table
 /// Returns the tables of an office text. Fails with `BadField` where a key is missing, or a value
 /// is none of those that may stand there.
 #[tactic(auto, unfolding(crate::specs::Tables::tables_of))]
-pub fn tables(alloc: Global, json: &Json, format: Format) -> Result<Vec<TableDef>, TextFault>
-    ensures { Gives (λ v. v.items) result (tables_of format (view json.now)) }
+pub fn tables<J: JsonValue>(
+    alloc: Global,
+    json: &J,
+    format: Format,
+) -> Result<Vec<TableDef>, TextFault>
+    ensures { Gives (λ v. v.items) result (tables_of format (J.stands_for json.now)) }
 {
     each_table(alloc, list_in(json, "tables")?, format)
 }

@@ -1,20 +1,20 @@
 //! The workspaces of an office text, by their differences.
 
 ghost use Rattle.std.specs.Prelude.{◌≡◌, [], map};
-ghost use Rattle.serde_json.specs.View.{view, items_view};
 ghost use Rattle.clr_layers.specs.Entries.{stored_layer};
-ghost use Rattle.clr_office_text.specs.Fields.{Gives};
+ghost use Rattle.clr_rule_text.specs.Fields.{Gives};
+ghost use Rattle.clr_rule_text.specs.Seen.{items_seen};
 ghost use Rattle.clr_office_text.specs.Workspaces.{HasNames, head_of, kept_of, layer_of, layers_after, layers_of, under_one_of};
 
 use crate::earlier_names::{note_name, stands};
-use crate::faults::TextFault;
-use crate::fields::{optional_flag, optional_list, words_in};
 use crate::formats::Format;
 use crate::named_marks::marks;
 use crate::patches::differences_in;
 use clr_layers::{Layer, StoredPart};
 use clr_rows::{Schema, Words};
-use serde_json::Value as Json;
+use clr_rule_text::TextFault;
+use clr_rule_text::fields::{optional_flag, optional_list, words_in};
+use clr_rule_text::json_values::JsonValue;
 use std::alloc::Global;
 use std::collections::BTreeSet;
 
@@ -26,8 +26,8 @@ pub struct Head {
     pub kept: bool,
 }
 
-fn read_kept(json: &Json, format: Format) -> Result<bool, TextFault>
-    ensures { Gives (λ b. b) result (kept_of format (view json.now)) }
+fn read_kept<J: JsonValue>(json: &J, format: Format) -> Result<bool, TextFault>
+    ensures { Gives (λ b. b) result (kept_of format (J.stands_for json.now)) }
 {
     match format {
         Format::First | Format::Second => Ok(false),
@@ -38,8 +38,8 @@ fn read_kept(json: &Json, format: Format) -> Result<bool, TextFault>
 /// What is written first of a workspace. Fails with `BadField` where a key is missing, or a value is none
 /// of those that may stand there.
 #[tactic(auto, unfolding(crate::specs::Workspaces::head_of))]
-pub fn read_head(alloc: Global, json: &Json, format: Format) -> Result<Head, TextFault>
-    ensures { Gives (λ h. h) result (head_of format (view json.now)) }
+pub fn read_head<J: JsonValue>(alloc: Global, json: &J, format: Format) -> Result<Head, TextFault>
+    ensures { Gives (λ h. h) result (head_of format (J.stands_for json.now)) }
 {
     let name = words_in(alloc, json, "name")?;
     let parent = words_in(alloc, json, "parent")?;
@@ -65,16 +65,16 @@ fn head_under(
 
 /// A workspace, behind earlier ones of these names. Fails as `stored_parts` does at one workspace.
 #[tactic(auto, unfolding(crate::specs::Workspaces::layer_of))]
-pub fn workspace(
+pub fn workspace<J: JsonValue>(
     alloc: Global,
-    json: &Json,
+    json: &J,
     format: Format,
     schema: &Schema,
     earlier: &[StoredPart],
     names: &BTreeSet<String>,
 ) -> Result<StoredPart, TextFault>
     requires { HasNames names.now (map stored_layer earlier.now) }
-    ensures { Gives stored_layer result (layer_of format schema.now (map stored_layer earlier.now) (view json.now)) }
+    ensures { Gives stored_layer result (layer_of format schema.now (map stored_layer earlier.now) (J.stands_for json.now)) }
 {
     let head = head_under(earlier, names, read_head(alloc, json, format)?)?;
     let base = differences_in(alloc, json, "base", schema)?;
@@ -93,13 +93,13 @@ pub fn workspace(
     })
 }
 
-fn each_workspace(
+fn each_workspace<J: JsonValue>(
     alloc: Global,
-    items: &[Json],
+    items: &[J],
     format: Format,
     schema: &Schema,
 ) -> Result<Vec<StoredPart>, TextFault>
-    ensures { Gives (λ v. map stored_layer v.items) result (layers_after format schema.now [] (items_view items.now)) }
+    ensures { Gives (λ v. map stored_layer v.items) result (layers_after format schema.now [] (items_seen J.stands_for items.now)) }
 {
     let mut parts = Vec::new(alloc);
     let mut names = BTreeSet::new(alloc);
@@ -118,13 +118,13 @@ fn each_workspace(
 /// with `BadRow` where the table of a cell isn't known, or the row doesn't fit it, and with
 /// `RepeatedCell` where a cell stood earlier in its list.
 #[tactic(auto, unfolding(crate::specs::Workspaces::layers_of))]
-pub fn stored_parts(
+pub fn stored_parts<J: JsonValue>(
     alloc: Global,
-    json: &Json,
+    json: &J,
     format: Format,
     schema: &Schema,
 ) -> Result<Vec<StoredPart>, TextFault>
-    ensures { Gives (λ v. map stored_layer v.items) result (layers_of format schema.now (view json.now)) }
+    ensures { Gives (λ v. map stored_layer v.items) result (layers_of format schema.now (J.stands_for json.now)) }
 {
     each_workspace(alloc, optional_list(json, "workspaces")?, format, schema)
 }

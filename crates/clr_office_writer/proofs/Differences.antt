@@ -30,29 +30,41 @@ module _ (tables : List TableDef) (below content : Content) (q : CellId) where
   gone_fits None is changed fits = cc
   gone_fits (Some row) is changed fits = let t = fits_table tables q row (fits q row is) in cell_named tables q t.0 t.1 t.2.key
 
-  after_fits : (after : Option Row) → row_at content q ≡ after → not (same (row_at below q) after) ≡ true → FitsSchema tables below → FitsSchema tables content → put_fault tables q after ≡ None
+  after_fits : (after : Option Row) → row_at content q ≡ after → not (same (row_at below q) after) ≡ true → FitsSchema tables below → FitsSchema tables content
+      → put_fault tables q after ≡ None
   after_fits None is changed from to = gone_fits (row_at below q) refl changed from
   after_fits (Some row) is changed from to = to q row is
 
-  change_fits : (b : Bool) (x : Option Row) → is_changed below content q ≡ b → option_map after_of (cond b (Some (change_of below content q)) None) ≡ Some x → FitsSchema tables below → FitsSchema tables content → put_fault tables q x ≡ None
+  change_fits : (b : Bool) (x : Option Row) → is_changed below content q ≡ b → option_map after_of (cond b (Some (change_of below content q)) None) ≡ Some x
+      → FitsSchema tables below → FitsSchema tables content → put_fault tables q x ≡ None
   change_fits true x changed is from to =
       let e : row_at content q ≡ x = cc in
       after_fits x e (ap (λ after. not (same (row_at below q) after)) (sym e) ∙ changed) from to
   change_fits false x changed is from to = cc
 
-get-differences : (below content : Content) (q : CellId) → finite.get (differences_from below content) q ≡ option_map after_of (cond (is_changed below content q) (Some (change_of below content q)) None)
+get-differences : (below content : Content) (q : CellId) → finite.get (differences_from below content) q
+    ≡ option_map after_of (cond (is_changed below content q) (Some (change_of below content q)) None)
 get-differences below content q =
-    finite.get-from_sorted cell_cmp (rows_after (changes below content)) q (after_sorted (changes below content)) ∙ find-rows_after (changes below content) q ∙ ap (option_map after_of) (get-changes below content q)
+    finite.get-from_sorted cell_cmp (rows_after (changes below content)) q (after_sorted (changes below content)) ∙ find-rows_after (changes below content) q
+    ∙ ap (option_map after_of) (get-changes below content q)
 
-differences_fit : (tables : List TableDef) (below content : Content) → FitsSchema tables below → FitsSchema tables content → FitsDifferences tables (differences_from below content)
-differences_fit tables below content from to q x is = change_fits tables below content q (is_changed below content q) x refl (sym (get-differences below content q) ∙ is) from to
+differences_fit : (tables : List TableDef) (below content : Content) → FitsSchema tables below → FitsSchema tables content
+    → FitsDifferences tables (differences_from below content)
+differences_fit tables below content from to q x is = change_fits tables below content q (is_changed below content q) x refl
+    (sym (get-differences below content q) ∙ is) from to
 
-marks_fit : (tables : List TableDef) (base : Content) (marks : List Mark) → FitsSchema tables base → ((i : ℕ) → FitsSchema tables (saved_content (mark_at marks i))) → AllByRecursion (FitsMark tables) (map (mark_from base) marks)
+marks_fit : (tables : List TableDef) (base : Content) (marks : List Mark) → FitsSchema tables base
+    → ((i : ℕ) → FitsSchema tables (saved_content (mark_at marks i))) → AllByRecursion (FitsMark tables) (map (mark_from base) marks)
 marks_fit tables base [] from saved = tt
-marks_fit tables base (Saved name content ∷ marks) from saved = (differences_fit tables base content from (saved 0), marks_fit tables base marks from (λ i. saved (suc i)))
+marks_fit tables base (Saved name content ∷ marks) from saved = (
+  differences_fit tables base content from (saved 0),
+  marks_fit tables base marks from
+      (λ i. saved (suc i)),
+)
 marks_fit tables base (ChildMark name ∷ marks) from saved = (tt, marks_fit tables base marks from (λ i. saved (suc i)))
 
-pub layer_fits : (tables : List TableDef) (above : Content) (w : Workspace) → FitsSchema tables above → WorkspaceFits tables w → FitsLayer tables (layer_from above w)
+pub layer_fits : (tables : List TableDef) (above : Content) (w : Workspace) → FitsSchema tables above → WorkspaceFits tables w
+    → FitsLayer tables (layer_from above w)
 layer_fits tables above w from fits = record {
   base = differences_fit tables above w.base from fits.base;
   current = differences_fit tables w.base w.current fits.base fits.current;

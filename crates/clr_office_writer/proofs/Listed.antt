@@ -15,7 +15,8 @@ use Rattle.clr_office_json.specs.WorkspaceData.{layer_data}
 use Rattle.clr_office_json.proofs.ListsWritten.{list_goes_on}
 
 -- a workspace by what is stored of it
-pub one_written : (o : Office) (text : List Token) (position : ℕ) (l : Layer) (r : Result (List Token) AllocError) → Some l ≡ option_map (layer_in o) (part_at o position)
+pub one_written : (o : Office) (text : List Token) (position : ℕ) (l : Layer) (r : Result (List Token) AllocError) → Some l
+    ≡ option_map (layer_in o) (part_at o position)
     → IfOk r (λ longer. longer ≡ text ++ tokens_of (layer_data o.schema l))
     → IfOk r (λ longer. (v : Workspace) → part_at o position ≡ Some v → longer ≡ text ++ tokens_of (layer_data o.schema (layer_in o v)))
 one_written o text position l r at = IfOk-weaker r _ _ (λ longer h v e.
@@ -34,4 +35,5 @@ next_written o text longer whole n lt one before =
     let next = dropped_next o.workspaces n lt in
     let w = next.0 in
     let here : part_at o (n + 1) ≡ Some w = rw (add-one n) next.1 in
-    rw (add-one n) (list_goes_on (layer_data o.schema) text longer whole (layer_in o w) (map (layer_in o) (drop (suc n) o.workspaces)) (one w here) (rw next.2 at before))
+    rw (add-one n) (list_goes_on (layer_data o.schema) text longer whole (layer_in o w) (map (layer_in o) (drop (suc n) o.workspaces)) (one w here)
+    (rw next.2 at before))

@@ -13,8 +13,8 @@ use Rattle.clr_workspaces.specs.Marks.{Name}
 use Rattle.clr_workspaces.specs.Workspaces.{Workspace, no_workspace, live_workspace, workspace_at}
 use Rattle.clr_layers.proofs.Meaning.{named_found}
 use Rattle.clr_workspaces.specs.Soundness.{IsSound}
-use Rattle.clr_tree.proofs.FaultLemmas.{take_next}
-use Rattle.clr_tree.proofs.PartLemmas.{drop_at, past_all}
+use Rattle.clr_parts.proofs.FaultLemmas.{take_next}
+use Rattle.clr_parts.proofs.PartLemmas.{drop_at, past_all}
 use Rattle.clr_steps.specs.Invariants.{OfficeFits, WorkspaceFits}
 use Rattle.clr_steps.specs.Offices.{Office, content_of}
 use Rattle.clr_steps.specs.Positions.{content_at}
@@ -32,7 +32,8 @@ unfolding content_by_name
 stands_from [] name content e = absurd (none-some content e)
 stands_from (w ∷ ws) name content e = by (bytes_eq name w.name) e (stands_from ws name content)
   where
-    by : (b : Bool) → cond b (Some w.current) (content_by_name ws name) ≡ Some content → (content_by_name ws name ≡ Some content → list_any (λ w. bytes_eq name w.name) ws ≡ true) → b || list_any (λ w. bytes_eq name w.name) ws ≡ true
+    by : (b : Bool) → cond b (Some w.current) (content_by_name ws name) ≡ Some content → (content_by_name ws name ≡ Some content
+        → list_any (λ w. bytes_eq name w.name) ws ≡ true) → b || list_any (λ w. bytes_eq name w.name) ws ≡ true
     by true e rest = refl
     by false e rest = rest e
 
@@ -40,9 +41,14 @@ module _ (o : Office) where
   abbrev all : List Workspace
   all = live_workspace o.live ∷ o.workspaces
 
-  layers_fit : OfficeFits o → (ws : List Workspace) → ((i : ℕ) → WorkspaceFits o.schema (workspace_at ws i)) → AllByRecursion (FitsLayer o.schema) (map (layer_in o) ws)
+  layers_fit : OfficeFits o → (ws : List Workspace) → ((i : ℕ) → WorkspaceFits o.schema (workspace_at ws i))
+      → AllByRecursion (FitsLayer o.schema) (map (layer_in o) ws)
   layers_fit fits [] each = tt
-  layers_fit fits (w ∷ ws) each = (layer_fits o.schema (content_of o w.parent) w (fits_content_of o fits w.parent) (each 0), layers_fit fits ws (λ i. each (suc i)))
+  layers_fit fits (w ∷ ws) each = (
+    layer_fits o.schema (content_of o w.parent) w (fits_content_of o fits w.parent) (each 0),
+    layers_fit fits ws
+        (λ i. each (suc i)),
+  )
 
   pub text_fits : OfficeFits o → AllByRecursion (FitsLayer o.schema) (map (layer_in o) o.workspaces)
   text_fits fits = layers_fit fits o.workspaces fits.workspaces
@@ -67,7 +73,8 @@ module _ (o : Office) where
     regrown (suc k) n sum some =
         let lt : n < length all = omega (arith, sum) in
         let w = workspace_at all n in
-        rw (drop_at all n no_workspace lt) (rw (next_made n some lt) (rw (← take_next all n lt) (ap (λ ws. w ∷ ws) (regrown k (suc n) (omega (arith, sum)) (omega arith)))))
+        rw (drop_at all n no_workspace lt)
+        (rw (next_made n some lt) (rw (← take_next all n lt) (ap (λ ws. w ∷ ws) (regrown k (suc n) (omega (arith, sum)) (omega arith)))))
 
     pub workspaces_again : workspaces_over o.live (map (layer_in o) o.workspaces) ≡ o.workspaces
     workspaces_again = regrown (length o.workspaces) 1 (omega arith) (omega arith)

@@ -11,35 +11,38 @@ use Rattle.clr_rows.specs.Contents.{Content}
 use Rattle.clr_rows.specs.Names.{is_good_name}
 use Rattle.clr_workspaces.specs.Marks.{Name, Mark, Saved, ChildMark, is_mark_of, mark_count}
 use Rattle.clr_workspaces.specs.Workspaces.{Workspace, depth_of, depth_within, find, is_child_named, no_workspace, one_above, parent_of, live_workspace, workspace_at}
-use Rattle.clr_layers.proofs.FindLemmas.{first_is, first_of, has_name}
-use Rattle.clr_tree.specs.Parts.{first_below, has_good_marks, is_childs, is_marked_once, is_under, marks_fault_at, name_fault_at, workspaces_fault}
+use Rattle.clr_workspaces.proofs.FindLemmas.{first_is, first_of, has_name}
+use Rattle.clr_parts.specs.Parts.{first_below, has_good_marks, is_childs, is_marked_once, is_under, marks_fault_at, name_fault_at, workspaces_fault}
 use Rattle.clr_workspaces.specs.Roots.{IsRooted}
 use Rattle.clr_workspaces.specs.Soundness.{IsSound}
-use Rattle.clr_tree.specs.declared.parts.PartFault.{PartFault}
-use Rattle.clr_tree.specs.declared.parts.PartFault.TheVariants as fault
-use Rattle.clr_tree.proofs.CountLemmas.{count-tally, tally}
-use Rattle.clr_contents.proofs.DepthLemmas.{depth_step}
-use Rattle.clr_contents.proofs.RootLemmas.{no_parent}
+use Rattle.clr_parts.specs.declared.parts.PartFault.{PartFault}
+use Rattle.clr_parts.specs.declared.parts.PartFault.TheVariants as fault
+use Rattle.clr_workspaces.proofs.CountLemmas.{count-tally, tally}
+use Rattle.clr_workspaces.proofs.DepthLemmas.{depth_step}
+use Rattle.clr_workspaces.proofs.RootLemmas.{no_parent}
 use Rattle.clr_contents.proofs.SweepLemmas.{at_take}
-use Rattle.clr_tree.proofs.FaultLemmas.{below_next, below_none}
-use Rattle.clr_tree.proofs.PartLemmas.{fits}
-use Rattle.clr_tree.proofs.TreeLemmas.{one_child}
+use Rattle.clr_parts.proofs.FaultLemmas.{below_next, below_none}
+use Rattle.clr_parts.proofs.PartLemmas.{fits}
+use Rattle.clr_workspaces.proofs.TreeLemmas.{one_child}
 
 -- the first workspaces -----------------------------------------------------------------------
 
 -- a name that stands among them is found there, and otherwise not
-place_front : (ws : List Workspace) (name : Name) (n : ℕ) → position_or_len (has_name name) ws < n → position_or_len (has_name name) (take n ws) ≡ position_or_len (has_name name) ws
+place_front : (ws : List Workspace) (name : Name) (n : ℕ) → position_or_len (has_name name) ws < n → position_or_len (has_name name) (take n ws)
+    ≡ position_or_len (has_name name) ws
 place_front [] name zero lt = refl
 place_front [] name (suc n) lt = refl
 place_front (w ∷ ws) name zero lt = absurd (omega arith)
 place_front (w ∷ ws) name (suc n) lt = by (bytes_eq name w.name) lt (λ less. place_front ws name n less)
   where
-    by : (b : Bool) → cond (not b) (1 + position_or_len (has_name name) ws) 0 < suc n → (position_or_len (has_name name) ws < n → position_or_len (has_name name) (take n ws) ≡ position_or_len (has_name name) ws)
+    by : (b : Bool) → cond (not b) (1 + position_or_len (has_name name) ws) 0 < suc n → (position_or_len (has_name name) ws < n
+        → position_or_len (has_name name) (take n ws) ≡ position_or_len (has_name name) ws)
         → cond (not b) (1 + position_or_len (has_name name) (take n ws)) 0 ≡ cond (not b) (1 + position_or_len (has_name name) ws) 0
     by true less rest = refl
     by false less rest = ap (λ k. 1 + k) (rest (omega arith))
 
-place_whole : (ws : List Workspace) (name : Name) (n : ℕ) → position_or_len (has_name name) (take n ws) < length (take n ws) → position_or_len (has_name name) ws ≡ position_or_len (has_name name) (take n ws)
+place_whole : (ws : List Workspace) (name : Name) (n : ℕ) → position_or_len (has_name name) (take n ws) < length (take n ws)
+    → position_or_len (has_name name) ws ≡ position_or_len (has_name name) (take n ws)
 place_whole [] name zero lt = refl
 place_whole [] name (suc n) lt = refl
 place_whole (w ∷ ws) name zero lt = absurd (omega arith)
@@ -80,17 +83,24 @@ module _ (ws : List Workspace) (r : IsRooted ws) (n : ℕ) (some : 0 < n) (withi
         filled = omega (arith, count, some);
         live = ap (λ (w : Workspace). w.name) (at_take ws n 0 some) ∙ r.live;
         top = ap (λ (w : Workspace). w.parent) (at_take ws n 0 some) ∙ r.top;
-        good = λ i lt. let less : i < n = omega (arith, count, lt) in ap (λ (w : Workspace). is_good_name w.name) (at_take ws n i less) ∙ r.good i (omega (arith, less, within));
+        good = λ i lt. let less : i < n = omega (arith, count, lt) in ap (λ (w : Workspace). is_good_name w.name) (at_take ws n i less)
+            ∙ r.good i (omega (arith, less, within));
         own = λ i lt. let less : i < n = omega (arith, count, lt) in
-            ap (λ (w : Workspace). find (take n ws) w.name) (at_take ws n i less) ∙ find_front ws (workspace_at ws i).name i n (r.own i (omega (arith, less, within))) less within;
-        under = λ i later lt. let less : i < n = omega (arith, count, lt) in let p = r.under i later (omega (arith, less, within)) in
-            (p.0, ap (λ (w : Workspace). find (take n ws) w.parent) (at_take ws n i less) ∙ find_front ws (workspace_at ws i).parent p.0 n p.1 (let q = p.2 in omega (arith, q, less)) within, p.2);
+            ap (λ (w : Workspace). find (take n ws) w.name) (at_take ws n i less)
+            ∙ find_front ws (workspace_at ws i).name i n (r.own i (omega (arith, less, within))) less within;
+        under = λ i later lt. let less : i < n = omega (arith, count, lt) in let p = r.under i later (omega (arith, less, within)) in (
+          p.0,
+          ap (λ (w : Workspace). find (take n ws) w.parent) (at_take ws n i less)
+              ∙ find_front ws (workspace_at ws i).parent p.0 n p.1 (let q = p.2 in omega (arith, q, less)) within,
+          p.2,
+        );
       }
 
   front_depth : (k at : ℕ) → at < n → depth_within (take n ws) k at ≡ depth_within ws k at
   unfolding depth_within
   front_depth zero at lt = refl
-  front_depth (suc k) zero lt = ap (one_above (depth_within (take n ws) k)) (no_parent (take n ws) front_rooted) ∙ sym (ap (one_above (depth_within ws k)) (no_parent ws r))
+  front_depth (suc k) zero lt = ap (one_above (depth_within (take n ws) k)) (no_parent (take n ws) front_rooted)
+      ∙ sym (ap (one_above (depth_within ws k)) (no_parent ws r))
   front_depth (suc k) (suc at) lt =
       let p = r.under (suc at) (omega arith) (omega (arith, lt, within)) in
       let q = p.2 in
@@ -104,7 +114,8 @@ one_passes : {A : Type 0} (p : A → Bool) (xs : List A) (d : A) → 0 < tally p
 one_passes p [] d some = absurd (omega arith)
 one_passes p (x ∷ xs) d some = by (p x) refl some (λ more. one_passes p xs d more)
   where
-    by : (b : Bool) → p x ≡ b → 0 < cond b (suc (tally p xs)) (tally p xs) → (0 < tally p xs → (k : ℕ) × (k < length xs) × (p (get_or xs k d) ≡ true)) → (k : ℕ) × (k < length (x ∷ xs)) × (p (get_or (x ∷ xs) k d) ≡ true)
+    by : (b : Bool) → p x ≡ b → 0 < cond b (suc (tally p xs)) (tally p xs) → (0 < tally p xs → (k : ℕ) × (k < length xs) × (p (get_or xs k d) ≡ true)) → (k : ℕ)
+        × (k < length (x ∷ xs)) × (p (get_or (x ∷ xs) k d) ≡ true)
     by true e some rest = (0, omega arith, e)
     by false e some rest = let later = rest some in (suc later.0, (let lt = later.1 in omega (arith, lt)), later.2)
 
@@ -113,7 +124,8 @@ all_at p [] d each = refl
 all_at p (x ∷ xs) d each = and_from _ _ (each 0 (omega arith)) (all_at p xs d (λ k lt. each (suc k) (omega arith)))
 
 -- marks of children, each of which is found
-childs_found : (ws : List Workspace) (parent : Name) (marks : List Mark) → ((name : Name) → 0 < tally (is_mark_of name) marks → is_under ws parent (find ws name) ≡ true) → list_all (is_childs ws parent) marks ≡ true
+childs_found : (ws : List Workspace) (parent : Name) (marks : List Mark) → ((name : Name) → 0 < tally (is_mark_of name) marks
+    → is_under ws parent (find ws name) ≡ true) → list_all (is_childs ws parent) marks ≡ true
 childs_found ws parent [] each = refl
 childs_found ws parent (Saved name content ∷ marks) each = childs_found ws parent marks each
 childs_found ws parent (ChildMark child ∷ marks) each =
@@ -150,11 +162,13 @@ module _ (live : Content) (rest : List Workspace) (sound : IsSound (live_workspa
       let deep = depth_step ws (suc i) p.0 r within p.1 p.2 in
       let most = sound.shallow (suc i) within in
       let same : depth_of (take (suc i) ws) p.0 ≡ depth_of ws p.0 = front_depth ws r (suc i) (omega arith) le p.0 p.0 less in
-      fits (take (suc i) ws) w.name w.parent (r.good (suc i) within) (ap is_some (find_later ws w.name (suc i) (suc i) (r.own (suc i) within) (omega arith) le)) p.0 (find_front ws w.parent p.0 (suc i) p.1 p.2 le)
+      fits (take (suc i) ws) w.name w.parent (r.good (suc i) within) (ap is_some (find_later ws w.name (suc i) (suc i) (r.own (suc i) within) (omega arith) le))
+      p.0 (find_front ws w.parent p.0 (suc i) p.1 p.2 le)
       (omega (arith, count, within, few)) (omega (arith, same, deep, most))
 
   -- a child with a mark is found, and is a child
-  child_found : (j : ℕ) → 0 < j → j < length ws → (name : Name) → 0 < tally (is_mark_of name) (workspace_at ws j).marks → is_under ws (workspace_at ws j).name (find ws name) ≡ true
+  child_found : (j : ℕ) → 0 < j → j < length ws → (name : Name) → 0 < tally (is_mark_of name) (workspace_at ws j).marks
+      → is_under ws (workspace_at ws j).name (find ws name) ≡ true
   child_found j some lt name marked =
       let w = workspace_at ws j in
       let same : tally (is_mark_of name) w.marks ≡ tally (is_child_named w.name name) ws = sym (count-tally (is_mark_of name) w.marks) ∙ sound.marked j some lt name ∙ count-tally (is_child_named w.name name) ws in
@@ -163,7 +177,8 @@ module _ (live : Content) (rest : List Workspace) (sound : IsSound (live_workspa
       let named : name ≡ (workspace_at ws k.0).name = (bytes_decides name (workspace_at ws k.0).name).0 both.1 in
       ap (is_under ws w.name) (ap (find ws) named ∙ sound.rooted.own k.0 k.1) ∙ both.0
 
-  marked_once : (j : ℕ) → 0 < j → j < length ws → (k : ℕ) → k < length ws → is_marked_once (workspace_at ws j).name (workspace_at ws j).marks (workspace_at ws k) ≡ true
+  marked_once : (j : ℕ) → 0 < j → j < length ws → (k : ℕ) → k < length ws
+      → is_marked_once (workspace_at ws j).name (workspace_at ws j).marks (workspace_at ws k) ≡ true
   marked_once j some lt k k_lt = by (bytes_eq w.name v.parent) refl
     where
       w : Workspace

@@ -9,7 +9,7 @@ use Rattle.clr_rows.specs.Schemas.{schema_fault}
 use Rattle.clr_workspaces.specs.Workspaces.{live_workspace}
 use Rattle.clr_workspaces.specs.Soundness.{IsSound}
 use Rattle.clr_steps.specs.Offices.{Office}
-use Rattle.clr_engine.specs.Drafts.{IsFitting}
+use Rattle.clr_kept_finders.specs.Fitting.{IsFitting}
 use Rattle.clr_office_text.specs.Fits.{FitsOffice}
 use Rattle.clr_office_text.specs.Offices.{office_in}
 use Rattle.clr_office_json.specs.OfficeData.{office_data}
@@ -26,14 +26,17 @@ module _ (o : Office) where
   text_stands : schema_fault o.schema ≡ None → IsFitting o → FitsOffice (text_of o)
   text_stands schema fit = record { schema = schema; book = fit.book; live = fit.rows.live; layers = text_fits o fit.rows }
 
-  read_again : (bytes : List ℕ) (d : Data) → IsUtf8 bytes → read bytes ≡ Some d → d ≡ office_data (text_of o) → schema_fault o.schema ≡ None → IsFitting o → IsSound (live_workspace o.live ∷ o.workspaces) → office_in bytes ≡ Ok (text_of o)
+  read_again : (bytes : List ℕ) (d : Data) → IsUtf8 bytes → read bytes ≡ Some d → d ≡ office_data (text_of o) → schema_fault o.schema ≡ None → IsFitting o
+      → IsSound (live_workspace o.live ∷ o.workspaces) → office_in bytes ≡ Ok (text_of o)
   unfolding office_in
-  read_again bytes d utf8 is is_data schema fit sound = rw (is_utf8-from_IsUtf8 bytes utf8, is, is_data) (offices_read (text_of o) (text_stands schema fit) (have_parents o sound))
+  read_again bytes d utf8 is is_data schema fit sound = rw (is_utf8-from_IsUtf8 bytes utf8, is, is_data) (offices_read (text_of o) (text_stands schema fit)
+      (have_parents o sound))
 
   whole_again : IsSound (live_workspace o.live ∷ o.workspaces) → whole_office (text_of o) ≡ o
   whole_again sound = ap (λ ws. record o { workspaces = ws }) (workspaces_again o sound)
 
-  pub drafted_again : (bytes : List ℕ) → IsUtf8 bytes → tokens bytes ≡ tokens_of (office_data (text_of o)) → schema_fault o.schema ≡ None → IsFitting o → IsSound (live_workspace o.live ∷ o.workspaces) → draft_in bytes ≡ Ok o
+  pub drafted_again : (bytes : List ℕ) → IsUtf8 bytes → tokens bytes ≡ tokens_of (office_data (text_of o)) → schema_fault o.schema ≡ None → IsFitting o
+      → IsSound (live_workspace o.live ∷ o.workspaces) → draft_in bytes ≡ Ok o
   unfolding draft_in
   drafted_again bytes utf8 is schema fit sound =
       rw (read_again bytes (office_data (text_of o)) utf8 (text_reread (text_of o) bytes (text_stands schema fit) is) refl schema fit sound)

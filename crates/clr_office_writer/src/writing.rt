@@ -1,3 +1,5 @@
+//! The text of an office, written from what is stored of it.
+
 ghost use Rattle.std.specs.Prelude.{◌≡◌, ◌++◌, Some, Ok, map, IfOk};
 ghost use Rattle.clr_workspaces.specs.Workspaces.{Workspace as OneWorkspace};
 ghost use Rattle.clr_engine.specs.Drafts.{layer_in, part_at};
@@ -12,8 +14,8 @@ use clr_engine::Office;
 use clr_office_json::{JsonText, with_live, with_rules, with_tables, with_workspace};
 use std::alloc::{AllocError, Global};
 
-/// A text with the workspace at a position in order of creation written at its end, LIVE having
-/// position 0.
+/// Returns a text with the workspace at a position in order of creation written at its end, LIVE
+/// having position 0.
 fn with_workspace_at(
     text: JsonText,
     office: &Office,
@@ -28,7 +30,7 @@ fn with_workspace_at(
     }
 }
 
-/// A text with the workspaces below LIVE written at its end, in order of creation.
+/// Returns a text with the workspaces below LIVE written at its end, in order of creation.
 fn with_workspaces(mut text: JsonText, office: &Office) -> Result<JsonText, AllocError>
     ensures { IfOk result (λ longer. longer ≡ text ++ tokens_of (list_data (layer_data office.now.schema) (map (layer_in office.now) office.now.workspaces))) }
 {
@@ -41,7 +43,7 @@ fn with_workspaces(mut text: JsonText, office: &Office) -> Result<JsonText, Allo
     Ok(text)
 }
 
-/// The text of an office.
+/// Returns the text of an office.
 #[tactic(auto, unfolding(clr_office_json::specs::OfficeData::office_data))]
 fn office_text(alloc: Global, office: &Office) -> Result<JsonText, AllocError>
     ensures { IfOk result (λ text. text ≡ tokens_of (office_data (text_of office.now))) }
@@ -63,12 +65,11 @@ fn office_text(alloc: Global, office: &Office) -> Result<JsonText, AllocError>
     Ok(text)
 }
 
-/// The text of an office: JSON of format 3, compact, with every key of that format and the keys of
-/// each object in the order of their bytes; the cells of each list ascend. A workspace has in its
-/// base exactly the cells where it differs from what its parent sees now, and in its rows and
-/// savepoints exactly those where they differ from its base, however the office keeps them. Read
-/// again it is the same office: schema, rules, contents, marks in their order and flags. It fails
-/// for want of memory alone.
+/// Returns the text of an office: JSON of format 3, compact, with every key of that format and the
+/// keys of each object in the order of their bytes; the cells of each list ascend. A workspace has
+/// in its base exactly the cells where it differs from what its parent sees now, and in its rows
+/// and savepoints exactly those where they differ from its base, however the office keeps them.
+/// Read again it is the same office: schema, rules, contents, marks in their order and flags.
 pub fn write_office(alloc: Global, office: &Office) -> Result<Vec<u8>, AllocError>
     ensures text { IfOk result (λ bytes. bytes.items ≡ bytes_of office.now) }
     ensures again { IfOk result (λ bytes. draft_in bytes.items ≡ Ok office.now) }

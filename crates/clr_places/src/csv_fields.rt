@@ -33,7 +33,7 @@ fn is_record_end(byte: u8) -> bool {
 }
 
 impl Scan {
-    /// The scan at a byte, where a record begins that isn't blank.
+    /// Returns the scan at a byte, where a record begins that isn't blank.
     fn at(self, byte: u8) -> Scan {
         if self.state != State::Between || is_record_end(byte) {
             return self;
@@ -45,12 +45,12 @@ impl Scan {
         }
     }
 
-    /// Whether this field of this record begins here.
+    /// Returns whether this field of this record begins here.
     fn begins(self, record: usize, field: usize) -> bool {
         self.state == State::Before && self.record == record && self.field == field
     }
 
-    /// The scan behind a byte of a field that isn't in quotes, or no longer.
+    /// Returns the scan behind a byte of a field that isn't in quotes, or no longer.
     fn after_bare(self, byte: u8) -> Scan {
         let Scan { record, field, .. } = self;
         match byte {
@@ -72,7 +72,7 @@ impl Scan {
         }
     }
 
-    /// The scan behind a byte.
+    /// Returns the scan behind a byte.
     fn after(self, byte: u8) -> Scan {
         let Scan { record, field, .. } = self;
         let in_quotes = Scan {
@@ -95,7 +95,7 @@ impl Scan {
     }
 }
 
-/// How many bytes the byte order mark has that a text begins with, if any.
+/// Returns how many bytes the byte order mark has that a text begins with, if any.
 fn mark_length(text: &[u8]) -> usize
     ensures { result ≤ length text.now }
 {

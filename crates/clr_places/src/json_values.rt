@@ -4,7 +4,7 @@ ghost use Rattle.std.specs.Prelude.{◌≡◌, ◌+◌, ◌<◌, ◌≤◌, leng
 
 use crate::paths::Step;
 
-/// How many bytes of white space a text begins with.
+/// Returns how many bytes of white space a text begins with.
 fn space_length(text: &[u8]) -> usize
     ensures { result ≤ length text.now }
 {
@@ -18,7 +18,7 @@ fn is_space(byte: u8) -> bool {
     matches!(byte, b' ' | b'\t' | b'\n' | b'\r')
 }
 
-/// How many bytes a text in quotes has from behind its opening quote, with the closing one.
+/// Returns how many bytes a text in quotes has from behind its opening quote, with the closing one.
 fn quoted_length(text: &[u8]) -> usize
     ensures { result ≤ length text.now }
 {
@@ -45,14 +45,14 @@ struct Scan {
 }
 
 impl Scan {
-    /// Whether a value that is no list, no object and no text ends before this byte.
+    /// Returns whether a value that is no list, no object and no text ends before this byte.
     fn ends_before(self, byte: u8) -> bool {
         self.depth == 0
             && !self.in_text
             && (is_space(byte) || matches!(byte, b',' | b']' | b'}' | b':'))
     }
 
-    /// The scan behind a byte.
+    /// Returns the scan behind a byte.
     fn after(self, byte: u8) -> Scan {
         let Scan {
             depth,
@@ -85,7 +85,7 @@ fn closes(byte: u8) -> bool {
     matches!(byte, b']' | b'}' | b'"')
 }
 
-/// How many bytes the value has that a text begins with.
+/// Returns how many bytes the value has that a text begins with.
 fn value_length(text: &[u8]) -> usize
     ensures { result ≤ length text.now }
 {
@@ -116,7 +116,7 @@ struct Member {
     next: usize,
 }
 
-/// The first byte from an offset on that is no white space.
+/// Returns the first byte from an offset on that is no white space.
 fn skip_space(text: &[u8], at: usize) -> usize
     requires { at ≤ length text.now }
     ensures bound { result ≤ length text.now }
@@ -125,7 +125,8 @@ fn skip_space(text: &[u8], at: usize) -> usize
     at + space_length(&text[at..])
 }
 
-/// The first byte behind the value that begins at an offset, and behind the white space there.
+/// Returns the first byte behind the value that begins at an offset, and behind the white space
+/// there.
 fn skip_value(text: &[u8], at: usize) -> usize
     requires { at ≤ length text.now }
     ensures bound { result ≤ length text.now }
@@ -135,7 +136,7 @@ fn skip_value(text: &[u8], at: usize) -> usize
     skip_space(text, end)
 }
 
-/// The offset behind this byte, if it stands at an offset.
+/// Returns the offset behind this byte, if it stands at an offset.
 fn behind(text: &[u8], at: usize, byte: u8) -> Option<usize>
     requires { at ≤ length text.now }
     ensures { IfSome result (λ next. (at < next) × (next ≤ length text.now)) }
@@ -147,7 +148,7 @@ fn behind(text: &[u8], at: usize, byte: u8) -> Option<usize>
     }
 }
 
-/// The member that begins at an offset, behind white space.
+/// Returns the member that begins at an offset, behind white space.
 fn member_at(text: &[u8], at: usize) -> Option<Member>
     requires { at ≤ length text.now }
     ensures key { IfSome result (λ m. (m.key_start ≤ m.key_end) × (m.key_end ≤ length text.now)) }
@@ -166,8 +167,8 @@ fn member_at(text: &[u8], at: usize) -> Option<Member>
     })
 }
 
-/// Where the value begins at a key of the object that begins at an offset: of two equal keys the last
-/// one counts. A key that is written with escapes isn't found.
+/// Returns where the value begins at a key of the object that begins at an offset: of two equal keys
+/// the last one counts. A key that is written with escapes isn't found.
 fn member_value(text: &[u8], at: usize, key: &str) -> Option<usize>
     requires { at ≤ length text.now }
     ensures { IfSome result (λ found. found ≤ length text.now) }
@@ -189,7 +190,7 @@ fn member_value(text: &[u8], at: usize, key: &str) -> Option<usize>
     found
 }
 
-/// Where an item of the list begins that begins at an offset. Items are counted from 0.
+/// Returns where an item of the list begins that begins at an offset. Items are counted from 0.
 fn item_value(text: &[u8], at: usize, item: usize) -> Option<usize>
     requires { at ≤ length text.now }
     ensures { IfSome result (λ found. found ≤ length text.now) }

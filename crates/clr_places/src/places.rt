@@ -10,14 +10,14 @@ pub struct TextPlace {
     pub column: usize,
 }
 
-/// Whether a byte begins a character of UTF-8: all do but those from 128 to 191.
+/// Returns whether a byte begins a character of UTF-8: all do but those from 128 to 191.
 fn begins_character(byte: u8) -> bool
     ensures { result ≡ begins_character byte }
 {
     byte < 128 || 191 < byte
 }
 
-/// Where the last line end stands, counted backwards from the end of the text.
+/// Returns where the last line end stands, counted backwards from the end of the text.
 fn last_line_end(text: &[u8]) -> Option<usize>
     ensures value { result ≡ position is_line_end (reverse text.now) }
     ensures bound { IfSome result (λ count. count < length text.now) }
@@ -25,7 +25,7 @@ fn last_line_end(text: &[u8]) -> Option<usize>
     text.iter().rev().position(|byte| *byte == b'\n')
 }
 
-/// Where the first line end stands.
+/// Returns where the first line end stands.
 fn first_line_end(text: &[u8]) -> Option<usize>
     ensures value { result ≡ position is_line_end text.now }
     ensures bound { IfSome result (λ count. count < length text.now) }
@@ -33,7 +33,7 @@ fn first_line_end(text: &[u8]) -> Option<usize>
     text.iter().position(|byte| *byte == b'\n')
 }
 
-/// How many bytes stand behind the last line end, or in the whole text where there is none.
+/// Returns how many bytes stand behind the last line end, or in the whole text where there is none.
 fn last_line_length(text: &[u8]) -> usize
     ensures value { result ≡ last_line_length text.now }
     ensures bound { result ≤ length text.now }
@@ -44,7 +44,8 @@ fn last_line_length(text: &[u8]) -> usize
     }
 }
 
-/// How many bytes stand before the first line end, or in the whole text where there is none.
+/// Returns how many bytes stand before the first line end, or in the whole text where there is
+/// none.
 fn first_line_length(text: &[u8]) -> usize
     ensures value { result ≡ next_line_length text.now }
     ensures bound { result ≤ length text.now }

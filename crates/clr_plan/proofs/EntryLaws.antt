@@ -53,19 +53,22 @@ module _ (c : Setting ℕ) where
         by f (inr h) = last f (among f (e ∷ []) h)
 
     -- an earlier need has witnesses
-    has_pick : (list : List Entry) (m : Need) → AreEntriesOf (take k needs) list → Contains (take k needs) m → (p : VersionId × Option VersionId) × Picks c m (Some p)
+    has_pick : (list : List Entry) (m : Need) → AreEntriesOf (take k needs) list → Contains (take k needs) m → (p : VersionId × Option VersionId)
+        × Picks c m (Some p)
     has_pick list m so_far h =
         let (e, there, same) = among_mapped need_of m list (among m (map need_of list) (subst (λ ns. Contains ns m) (sym so_far.needs_are) h)) in
         ((e.one, e.two), subst (λ n. Picks c n (Some (e.one, e.two))) same (so_far.picks e (contained e list there)))
 
-    pub first_unpicked : (list : List Entry) → AreTouchedNeeds c needs → AreEntriesOf (take k needs) list → Picks c (get_or needs k d) None → IsFirstUnpicked c (get_or needs k d)
+    pub first_unpicked : (list : List Entry) → AreTouchedNeeds c needs → AreEntriesOf (take k needs) list → Picks c (get_or needs k d) None
+        → IsFirstUnpicked c (get_or needs k d)
     first_unpicked list touched so_far none = record {
       touched = (touched.exactly (get_or needs k d)).0 (read_in needs k d less);
       none = none;
       first = λ m lesser is. by m lesser (place_of need_cmp needs k (get_or needs k d) d m less refl touched.ascending ((touched.exactly m).1 is));
     }
       where
-        by : (m : Need) → need_cmp m (get_or needs k d) ≡ Less → PlaceOf need_cmp needs m k (get_or needs k d) → (p : VersionId × Option VersionId) × Picks c m (Some p)
+        by : (m : Need) → need_cmp m (get_or needs k d) ≡ Less → PlaceOf need_cmp needs m k (get_or needs k d) → (p : VersionId × Option VersionId)
+            × Picks c m (Some p)
         by m lesser (before h) = has_pick list m so_far h
         by m lesser (here e) = absurd (not_itself need_total m (subst (λ n. need_cmp m n ≡ Less) e lesser))
         by m lesser (after e) = absurd (not_both need_total m (get_or needs k d) lesser e)
@@ -76,7 +79,8 @@ module _ (c : Setting ℕ) where
   entries_needs [] = refl
   entries_needs (e ∷ es) = ap (λ ns. e.need ∷ ns) (entries_needs es)
 
-  pub all_entries : (needs : List Need) (k : ℕ) (list : List Entry) → length needs ≤ k → AreTouchedNeeds c needs → AreEntriesOf (take k needs) list → ArePicked c (entries_in list)
+  pub all_entries : (needs : List Need) (k : ℕ) (list : List Entry) → length needs ≤ k → AreTouchedNeeds c needs → AreEntriesOf (take k needs) list
+      → ArePicked c (entries_in list)
   all_entries needs k list past touched so_far = record {
     needs = subst (AreTouchedNeeds c) (sym (entries_needs list ∙ so_far.needs_are ∙ take_all k needs past)) touched;
     picks = λ claim h. (let (e, there, same) = among_mapped witnesses_of claim list (among claim (entries_in list) h) in

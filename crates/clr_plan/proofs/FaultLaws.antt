@@ -67,14 +67,18 @@ each_is P (Some w) v h e = let same : w ≡ v = cc in subst P same h
 
 of_names : (o : Office) (s : Site) → Each OfNames (name_fault o s)
 unfolding name_fault
-of_names o s = each_or OfNames (root_fault o s) (option_or (repeated_member s) (option_or (missing_member o s) (stray_member o s))) (each_if OfNames (is_kept o s.root) verdict.NotKept tt)
-    (each_or OfNames (repeated_member s) (option_or (missing_member o s) (stray_member o s)) (each_map OfNames verdict.RepeatedMember (first_repeated s.members) (λ x. tt))
-    (each_or OfNames (missing_member o s) (stray_member o s) (each_map OfNames verdict.NoWorkspace _ (λ x. tt)) (each_map OfNames verdict.NotUnderRoot _ (λ x. tt))))
+of_names o s = each_or OfNames (root_fault o s) (option_or (repeated_member s) (option_or (missing_member o s) (stray_member o s)))
+    (each_if OfNames (is_kept o s.root) verdict.NotKept tt)
+    (each_or OfNames (repeated_member s) (option_or (missing_member o s) (stray_member o s)) (each_map OfNames verdict.RepeatedMember (first_repeated s.members)
+    (λ x. tt))
+    (each_or OfNames (missing_member o s) (stray_member o s) (each_map OfNames verdict.NoWorkspace _ (λ x. tt)) (each_map OfNames verdict.NotUnderRoot _
+    (λ x. tt))))
 
 of_conflicts : (o : Office) (at : ℕ) (names : List Name) → Each OfConflicts (first_conflict o at names)
 unfolding first_conflict
 of_conflicts o at [] = tt
-of_conflicts o at (name ∷ names) = each_or OfConflicts _ (first_conflict o (suc at) names) (each_map OfConflicts (λ c. verdict.Conflict at c.0 c.1) (least_and_count (conflicts_in o name)) (λ c. tt)) (of_conflicts o (suc at) names)
+of_conflicts o at (name ∷ names) = each_or OfConflicts _ (first_conflict o (suc at) names) (each_map OfConflicts (λ c. verdict.Conflict at c.0 c.1)
+    (least_and_count (conflicts_in o name)) (λ c. tt)) (of_conflicts o (suc at) names)
 
 either_found : (r q : Option Verdict) (v : Verdict) → option_or r q ≡ Some v → (r ≡ Some v) ⊎ ((r ≡ None) × (q ≡ Some v))
 either_found None q v e = inr (refl, e)
@@ -89,10 +93,12 @@ pub no_name_fault : (o : Office) (s : Site) → member_fault o s ≡ None → na
 no_name_fault o s e = none_before (name_fault o s) (first_conflict o 0 s.members) e
 
 module _ (o : Office) (s : Site) where
-  found : (v : Verdict) → member_fault o s ≡ Some v → (IsUnfit o s v × OfNames v) ⊎ (((name_fault o s ≡ None) × (first_conflict o 0 s.members ≡ Some v)) × OfConflicts v)
+  found : (v : Verdict) → member_fault o s ≡ Some v → (IsUnfit o s v × OfNames v) ⊎ (((name_fault o s ≡ None) × (first_conflict o 0 s.members ≡ Some v))
+      × OfConflicts v)
   found v e = by (either_found (name_fault o s) (first_conflict o 0 s.members) v e)
     where
-      by : (name_fault o s ≡ Some v) ⊎ ((name_fault o s ≡ None) × (first_conflict o 0 s.members ≡ Some v)) → (IsUnfit o s v × OfNames v) ⊎ (((name_fault o s ≡ None) × (first_conflict o 0 s.members ≡ Some v)) × OfConflicts v)
+      by : (name_fault o s ≡ Some v) ⊎ ((name_fault o s ≡ None) × (first_conflict o 0 s.members ≡ Some v)) → (IsUnfit o s v × OfNames v)
+          ⊎ (((name_fault o s ≡ None) × (first_conflict o 0 s.members ≡ Some v)) × OfConflicts v)
       by (inl f) = inl (f, each_is OfNames (name_fault o s) v (of_names o s) f)
       by (inr f) = inr (f, each_is OfConflicts (first_conflict o 0 s.members) v (of_conflicts o 0 s.members) f.1)
 
@@ -100,32 +106,39 @@ module _ (o : Office) (s : Site) where
   pub memory_fault : IsFault o s verdict.OutOfMemory → name_fault o s ≡ None
   memory_fault (of_member e) = by (found verdict.OutOfMemory e)
     where
-      by : (IsUnfit o s verdict.OutOfMemory × ⊥) ⊎ (((name_fault o s ≡ None) × (first_conflict o 0 s.members ≡ Some verdict.OutOfMemory)) × ⊥) → name_fault o s ≡ None
+      by : (IsUnfit o s verdict.OutOfMemory × ⊥) ⊎ (((name_fault o s ≡ None) × (first_conflict o 0 s.members ≡ Some verdict.OutOfMemory)) × ⊥) → name_fault o s
+          ≡ None
       by (inl h) = absurd h.1
       by (inr h) = absurd h.1
   memory_fault (without_memory none same) = none
 
   -- a member in conflict is an order of its own
-  conflict_blocks : (at : ℕ) (cell : CellId) (count : ℕ) → IsFault o s (verdict.Conflict at cell count) → (name_fault o s ≡ None) × IsBlocked o s (at ∷ []) (verdict.Conflict at cell count)
+  conflict_blocks : (at : ℕ) (cell : CellId) (count : ℕ) → IsFault o s (verdict.Conflict at cell count) → (name_fault o s ≡ None)
+      × IsBlocked o s (at ∷ []) (verdict.Conflict at cell count)
   conflict_blocks at cell count (of_member e) = by (found (verdict.Conflict at cell count) e)
     where
-      by : (IsUnfit o s (verdict.Conflict at cell count) × ⊥) ⊎ (((name_fault o s ≡ None) × (first_conflict o 0 s.members ≡ Some (verdict.Conflict at cell count))) × Unit {0})
+      by : (IsUnfit o s (verdict.Conflict at cell count) × ⊥)
+          ⊎ (((name_fault o s ≡ None) × (first_conflict o 0 s.members ≡ Some (verdict.Conflict at cell count))) × Unit {0})
           → (name_fault o s ≡ None) × IsBlocked o s (at ∷ []) (verdict.Conflict at cell count)
       by (inl h) = absurd h.1
       by (inr h) = (h.0.0, of_conflict at cell count h.0.0 h.0.1 refl refl)
   conflict_blocks at cell count (without_memory none same) = absurd (let e : verdict.Conflict at cell count ≡ verdict.OutOfMemory = same in cc)
 
   blocked_plan : (order : List ℕ) (cause : Verdict) (p : Plan) → IsBlockedIn order cause p → name_fault o s ≡ None → IsBlocked o s order cause → IsPlan o s p
-  blocked_plan order cause (plan.Blocked list v) (same, is) none blocks = subst (λ w. IsBlocked o s list.items w) (sym is) (subst (λ xs. IsBlocked o s xs cause) (sym same) blocks)
+  blocked_plan order cause (plan.Blocked list v) (same, is) none blocks = subst (λ w. IsBlocked o s list.items w) (sym is)
+      (subst (λ xs. IsBlocked o s xs cause) (sym same) blocks)
   blocked_plan order cause (plan.Unfit v) h none blocks = absurd h
   blocked_plan order cause (plan.Cleared c) h none blocks = absurd h
   blocked_plan order cause plan.OutOfMemory h none blocks = none
 
-  pub conflict_plan : (at : ℕ) (cell : CellId) (count : ℕ) (p : Plan) → IsFault o s (verdict.Conflict at cell count) → IsBlockedIn (at ∷ []) (verdict.Conflict at cell count) p → IsPlan o s p
-  conflict_plan at cell count p fault h = let (none, blocks) = conflict_blocks at cell count fault in blocked_plan (at ∷ []) (verdict.Conflict at cell count) p h none blocks
+  pub conflict_plan : (at : ℕ) (cell : CellId) (count : ℕ) (p : Plan) → IsFault o s (verdict.Conflict at cell count)
+      → IsBlockedIn (at ∷ []) (verdict.Conflict at cell count) p → IsPlan o s p
+  conflict_plan at cell count p fault h = let (none, blocks) = conflict_blocks at cell count fault in blocked_plan (at ∷ []) (verdict.Conflict at cell count) p
+      h none blocks
 
   -- each other fault is one of names
-  pub unfit_plan : (v : Verdict) → ¬ (v ≡ verdict.OutOfMemory) → ((at : ℕ) (cell : CellId) (count : ℕ) → ¬ (v ≡ verdict.Conflict at cell count)) → IsFault o s v → IsUnfit o s v
+  pub unfit_plan : (v : Verdict) → ¬ (v ≡ verdict.OutOfMemory) → ((at : ℕ) (cell : CellId) (count : ℕ) → ¬ (v ≡ verdict.Conflict at cell count)) → IsFault o s v
+      → IsUnfit o s v
   unfit_plan v not_memory not_conflict (without_memory none same) = absurd (not_memory same)
   unfit_plan v not_memory not_conflict (of_member e) = by (found v e)
     where
@@ -147,10 +160,12 @@ module _ (o : Office) (s : Site) where
   -- two members that change a cell are an order
   pub shared_plan : (cell : CellId) (i j : ℕ) (p : Plan) → member_fault o s ≡ None → IsSceneFault (change_sets o s) (scene.SharedCell cell i j)
       → IsBlockedIn (i ∷ j ∷ []) (verdict.SharedCell cell i j) p → IsPlan o s p
-  shared_plan cell i j p none shared h = blocked_plan (i ∷ j ∷ []) (verdict.SharedCell cell i j) p h (no_name_fault o s none) (of_shared cell i j none shared refl refl)
+  shared_plan cell i j p none shared h = blocked_plan (i ∷ j ∷ []) (verdict.SharedCell cell i j) p h (no_name_fault o s none)
+      (of_shared cell i j none shared refl refl)
 
   -- what the touched needs decide
-  pub scene_plan : (c : Setting ℕ) (p : Plan) → member_fault o s ≡ None → AreApart (change_sets o s) → c ≡ setting_by_position o s → IsScenePlan c s p → IsPlan o s p
+  pub scene_plan : (c : Setting ℕ) (p : Plan) → member_fault o s ≡ None → AreApart (change_sets o s) → c ≡ setting_by_position o s → IsScenePlan c s p
+      → IsPlan o s p
   scene_plan c p none apart same h = by p (subst (λ d. IsScenePlan d s p) same h)
     where
       by : (p : Plan) → IsScenePlan (setting_by_position o s) s p → IsPlan o s p

@@ -29,13 +29,15 @@ use Rattle.clr_plan.specs.GroupNeeds.{AreReady, IsTouchedIn, group_need_cmp, mod
 use Rattle.clr_plan.proofs.GroupNeedLaws.{mapped_at}
 
 -- rising elements that are mapped to rising ones
-rising_by : {X Y : Type 0} (c : X → X → Ordering) (d : Y → Y → Ordering) (f : X → Y) (xs : List X) → ((x y : X) → Among x xs → Among y xs → c x y ≡ Less → d (f x) (f y) ≡ Less)
+rising_by : {X Y : Type 0} (c : X → X → Ordering) (d : Y → Y → Ordering) (f : X → Y) (xs : List X) → ((x y : X) → Among x xs → Among y xs → c x y ≡ Less
+    → d (f x) (f y) ≡ Less)
     → IsStrictlySortedBy c xs
     → IsStrictlySortedBy d (map f xs)
 unfolding IsStrictlySortedBy
 rising_by c d f [] keeps p = tt
 rising_by c d f (x ∷ xs) keeps p = (
-  all_by (λ y. d (f x) y ≡ Less) (map f xs) (λ y h. let m = among_mapped f y xs h in subst (λ w. d (f x) w ≡ Less) m.2 (keeps x m.0 (inl refl) (inr m.1) (each_of (λ w. c x w ≡ Less) m.0 xs p.0 m.1))),
+  all_by (λ y. d (f x) y ≡ Less) (map f xs) (λ y h. let m = among_mapped f y xs h in subst (λ w. d (f x) w
+      ≡ Less) m.2 (keeps x m.0 (inl refl) (inr m.1) (each_of (λ w. c x w ≡ Less) m.0 xs p.0 m.1))),
   rising_by c d f xs (λ y z h k. keeps y z (inr h) (inr k)) p.1,
 )
 
@@ -56,7 +58,8 @@ module _ {F : Type 0} (model : SceneModel F) (apart : AreApart model.sets) (grou
   at_group : (k : ℕ) (m : SceneModel F) → slice_get (models_at model groups) k ≡ Some m → (g : List ℕ) × (slice_get groups k ≡ Some g) × (model_at model g ≡ m)
   at_group k m e = by (slice_get groups k) refl (sym (slice_get-map (model_at model) groups k) ∙ e)
     where
-      by : (o : Option (List ℕ)) → slice_get groups k ≡ o → option_map (model_at model) o ≡ Some m → (g : List ℕ) × (slice_get groups k ≡ Some g) × (model_at model g ≡ m)
+      by : (o : Option (List ℕ)) → slice_get groups k ≡ o → option_map (model_at model) o ≡ Some m → (g : List ℕ) × (slice_get groups k ≡ Some g)
+          × (model_at model g ≡ m)
       by None is e = cc
       by (Some g) is e = (g, is, cc)
 
@@ -64,17 +67,21 @@ module _ {F : Type 0} (model : SceneModel F) (apart : AreApart model.sets) (grou
   listed k g at = (k, slice_get_within groups k g at, get_or_from_slice_get groups k g g at)
 
   pub are_ready : (settled : F → Settled) → IsReady settled model → AreReady settled (models_at model groups)
-  are_ready settled ready k m e = let (g, at, same) = at_group k m e in subst (IsReady settled) same (group_ready settled model apart groups are g (listed k g at) ready)
+  are_ready settled ready k m e = let (g, at, same) = at_group k m e in subst (IsReady settled) same (group_ready settled model apart groups are g
+      (listed k g at) ready)
 
   -- a need that is touched in the group at its position
-  touched_at : (x : GroupNeed) → IsTouchedIn (models_at model groups) x → (g : List ℕ) × (slice_get groups x.group ≡ Some g) × IsTouched (setting_of (model_at model g)) x.need
+  touched_at : (x : GroupNeed) → IsTouchedIn (models_at model groups) x → (g : List ℕ) × (slice_get groups x.group ≡ Some g)
+      × IsTouched (setting_of (model_at model g)) x.need
   touched_at x (m, e, touched) = let (g, at, same) = at_group x.group m e in (g, at, subst (λ w. IsTouched (setting_of w) x.need) (sym same) touched)
 
-  touched_there : (x : GroupNeed) (g : List ℕ) → slice_get groups x.group ≡ Some g → IsTouched (setting_of (model_at model g)) x.need → IsTouchedIn (models_at model groups) x
+  touched_there : (x : GroupNeed) (g : List ℕ) → slice_get groups x.group ≡ Some g → IsTouched (setting_of (model_at model g)) x.need
+      → IsTouchedIn (models_at model groups) x
   touched_there x g at touched = (model_at model g, slice_get-map (model_at model) groups x.group ∙ ap (option_map (model_at model)) at, touched)
 
   -- each touched need of all members is that of one group
-  pub are_touched : (list : List GroupNeed) → Lists group_need_cmp (IsTouchedIn (models_at model groups)) list → AreTouchedNeeds (setting_of model) (map need_in list)
+  pub are_touched : (list : List GroupNeed) → Lists group_need_cmp (IsTouchedIn (models_at model groups)) list
+      → AreTouchedNeeds (setting_of model) (map need_in list)
   are_touched list needs = record {
     ascending = rising_by group_need_cmp need_cmp need_in list keeps needs.ascending;
     exactly = λ n. (λ h. only n (among_mapped need_in n list (among n (map need_in list) h)), every n);
@@ -104,13 +111,15 @@ module _ {F : Type 0} (model : SceneModel F) (apart : AreApart model.sets) (grou
           contained n (map need_in list) (mapped_among need_in x list (among x list ((needs.exactly x).1 (touched_there x g at there))))
 
   -- a need of a group is possible there, and what is picked for it there is picked for it
-  pub possible_in : (x : GroupNeed) (m : SceneModel F) → slice_get (models_at model groups) x.group ≡ Some m → IsTouchedIn (models_at model groups) x → IsPossibleNeed (setting_of m) x.need
+  pub possible_in : (x : GroupNeed) (m : SceneModel F) → slice_get (models_at model groups) x.group ≡ Some m → IsTouchedIn (models_at model groups) x
+      → IsPossibleNeed (setting_of m) x.need
   possible_in x m at (w, e, (a, b, possible, touched)) =
       let both : Some w ≡ Some m = sym e ∙ at in
       let one : w ≡ m = cc in
       subst (λ v. IsPossibleNeed (setting_of v) x.need) one (a, b, possible)
 
-  pub picked_in : (x : GroupNeed) (m : SceneModel F) (p : Option (VersionId × Option VersionId)) → slice_get (models_at model groups) x.group ≡ Some m → IsTouchedIn (models_at model groups) x
+  pub picked_in : (x : GroupNeed) (m : SceneModel F) (p : Option (VersionId × Option VersionId)) → slice_get (models_at model groups) x.group ≡ Some m
+      → IsTouchedIn (models_at model groups) x
       → Picks (setting_of m) x.need p
       → Picks (setting_of model) x.need p
   picked_in x m p e is picks =
@@ -118,7 +127,8 @@ module _ {F : Type 0} (model : SceneModel F) (apart : AreApart model.sets) (grou
       let (k, other_at, touched) = touched_at x is in
       let both : Some g ≡ Some k = sym at ∙ other_at in
       let one : g ≡ k = cc in
-      ((split.same x.group g x.need at (subst (λ i. IsTouched (setting_of (model_at model i)) x.need) (sym one) touched)).pick p).0 (subst (λ w. Picks (setting_of w) x.need p) (sym same) picks)
+      ((split.same x.group g x.need at (subst (λ i. IsTouched (setting_of (model_at model i)) x.need) (sym one) touched)).pick p).0
+      (subst (λ w. Picks (setting_of w) x.need p) (sym same) picks)
 
 -- one need after another -----------------------------------------------------------------------
 
@@ -133,7 +143,8 @@ pub record AreGrouped {F : Type 0} (model : SceneModel F) (groups : List (List �
   pub scenes : models ≡ models_at model groups
   pub needs : Lists group_need_cmp (IsTouchedIn models) list
 
-module _ {F : Type 0} (model : SceneModel F) (groups : List (List ℕ)) (models : List (SceneModel F)) (list : List GroupNeed) (are : AreGrouped model groups models list) where
+module _ {F : Type 0} (model : SceneModel F) (groups : List (List ℕ)) (models : List (SceneModel F)) (list : List GroupNeed)
+    (are : AreGrouped model groups models list) where
   pub all_touched : AreTouchedNeeds (setting_of model) (map need_in list)
   all_touched = are_touched model are.apart groups are.grouped list (subst (λ ms. Lists group_need_cmp (IsTouchedIn ms) list) are.scenes are.needs)
 
@@ -164,7 +175,8 @@ module _ {F : Type 0} (model : SceneModel F) (groups : List (List ℕ)) (models 
       picked_at p picks = picked_in model are.apart groups are.grouped x m p other_at other_touched picks
 
 -- a scene at the position of its group
-pub part_at : {X F : Type 0} (h : X → SceneModel F) (parts : List X) (k : ℕ) (part : X) → k < length (map h parts) → part ≡ get_or parts k part → slice_get (map h parts) k ≡ Some (h part)
+pub part_at : {X F : Type 0} (h : X → SceneModel F) (parts : List X) (k : ℕ) (part : X) → k < length (map h parts) → part ≡ get_or parts k part
+    → slice_get (map h parts) k ≡ Some (h part)
 part_at h parts k part less is = mapped_at h parts k part (subst (λ n. k < n) (length-map parts h) less) is
 
 -- the scenes that were made, and their needs as they are read
@@ -180,5 +192,6 @@ grouped_by h model groups parts seen needs read apart grouped scenes same lists 
   apart = apart;
   grouped = grouped;
   scenes = scenes;
-  needs = subst (λ xs. Lists group_need_cmp (IsTouchedIn (map h parts)) xs) (sym alike) (subst (λ ps. Lists group_need_cmp (IsTouchedIn (map h ps)) needs) same lists);
+  needs = subst (λ xs. Lists group_need_cmp (IsTouchedIn (map h parts)) xs) (sym alike) (subst (λ ps. Lists group_need_cmp (IsTouchedIn (map h ps)) needs) same
+      lists);
 }

@@ -49,8 +49,13 @@ module _ (c : Setting ℕ) (group : ℕ) (needs read : List Need) (same : read �
       by (inl h) = h
       by (inr h) = absurd (none_taken read x.need h.1)
 
-  pub one_added : (k : ℕ) (d : Need) (old list new : List GroupNeed) → k < length read → new ≡ list ++ record { need = get_or read k d; group = group } ∷ [] → AreAddedTo k old list → AreAddedTo (k + 1) old new
-  one_added k d old list new less put are x = (λ h. only (Contains-append_cases list (y ∷ []) x (subst (λ xs. Contains xs x) put h)), λ h. subst (λ xs. Contains xs x) (sym put) (every h))
+  pub one_added : (k : ℕ) (d : Need) (old list new : List GroupNeed) → k < length read → new ≡ list ++ record { need = get_or read k d; group = group } ∷ []
+      → AreAddedTo k old list → AreAddedTo (k + 1) old new
+  one_added k d old list new less put are x = (
+    λ h. only (Contains-append_cases list (y ∷ []) x (subst (λ xs. Contains xs x) put h)),
+    λ h. subst
+        (λ xs. Contains xs x) (sym put) (every h),
+  )
     where
       y : GroupNeed
       y = record { need = get_or read k d; group = group }
@@ -60,7 +65,11 @@ module _ (c : Setting ℕ) (group : ℕ) (needs read : List Need) (same : read �
       fewer (inr (is, h)) = inr (is, kept_taken read k d x.need less h)
 
       last : (y ≡ x) ⊎ ⊥ → Contains old x ⊎ ((x.group ≡ group) × Contains (take (k + 1) read) x.need)
-      last (inl e) = inr (sym (ap (λ (z : GroupNeed). z.group) e), subst (Contains (take (k + 1) read)) (ap (λ (z : GroupNeed). z.need) e) (last_taken read k d less))
+      last (inl e) = inr (
+        sym (ap (λ (z : GroupNeed). z.group) e),
+        subst (Contains (take (k + 1) read)) (ap (λ (z : GroupNeed). z.need) e)
+            (last_taken read k d less),
+      )
       last (inr none) = absurd none
 
       only : Contains list x ⊎ Contains (y ∷ []) x → Contains old x ⊎ ((x.group ≡ group) × Contains (take (k + 1) read) x.need)
@@ -74,7 +83,8 @@ module _ (c : Setting ℕ) (group : ℕ) (needs read : List Need) (same : read �
         | inr last ↦ Contains-append_right list (y ∷ []) x (contained x (y ∷ []) (inl (λ i. record { need = sym last i; group = sym is i })))
       ]
 
-  pub all_added : (k : ℕ) (old list : List GroupNeed) → length read ≤ k → AreTouchedNeeds c needs → AreAddedTo k old list → (x : GroupNeed) → Contains list x ↔ (Contains old x ⊎ IsOf c group x)
+  pub all_added : (k : ℕ) (old list : List GroupNeed) → length read ≤ k → AreTouchedNeeds c needs → AreAddedTo k old list → (x : GroupNeed)
+      → Contains list x ↔ (Contains old x ⊎ IsOf c group x)
   all_added k old list past touched are x = (λ h. only ((are x).0 h), every)
     where
       only : Contains old x ⊎ ((x.group ≡ group) × Contains (take k read) x.need) → Contains old x ⊎ IsOf c group x
@@ -114,8 +124,15 @@ module _ {F : Type 0} (models : List (SceneModel F)) where
             inr (is, subst (λ v. IsTouched (setting_of v) x.need) one t))
       ]
 
-  pub all_before : (k : ℕ) (list : List GroupNeed) → length models ≤ k → ((x : GroupNeed) → Contains list x ↔ IsTouchedBefore k x) → (x : GroupNeed) → Contains list x ↔ IsTouchedIn models x
-  all_before k list past are x = (λ h. ((are x).0 h).1, λ t. (are x).1 ((let within = slice_get_within models x.group t.0 t.1 in omega (arith, within, past)), t))
+  pub all_before : (k : ℕ) (list : List GroupNeed) → length models ≤ k → ((x : GroupNeed) → Contains list x ↔ IsTouchedBefore k x) → (x : GroupNeed)
+      → Contains list x ↔ IsTouchedIn models x
+  all_before k list past are x = (
+    λ h. ((are x).0 h).1,
+    λ t. (are x).1 (
+      (let within = slice_get_within models x.group t.0 t.1 in omega (arith, within, past)),
+      t,
+    ),
+  )
 
 -- what is made of the element at a position
 pub mapped_at : {X Y : Type 0} (f : X → Y) (xs : List X) (k : ℕ) (x : X) → k < length xs → x ≡ get_or xs k x → slice_get (map f xs) k ≡ Some (f x)
@@ -128,7 +145,8 @@ pub past_mapped : {X Y : Type 0} (f : X → Y) (xs : List X) (k : ℕ) → lengt
 past_mapped f xs k past = subst (λ n. n ≤ k) (sym (length-map xs f)) past
 
 -- the scene of one more group
-pub one_scene : {X V F : Type 0} (h : X → SceneModel F) (model : SceneModel F) (f : V → List ℕ) (groups : List V) (k : ℕ) (d : V) (old new : List X) (part : X) → k < length groups → new ≡ old ++ part ∷ []
+pub one_scene : {X V F : Type 0} (h : X → SceneModel F) (model : SceneModel F) (f : V → List ℕ) (groups : List V) (k : ℕ) (d : V) (old new : List X) (part : X)
+    → k < length groups → new ≡ old ++ part ∷ []
     → h part ≡ model_at model (f (get_or groups k d))
     → map h old ≡ models_at model (map f (take k groups))
     → map h new ≡ models_at model (map f (take (k + 1) groups))

@@ -87,4 +87,5 @@ stays o s plan.OutOfMemory clear h found = absurd (false≢true (sym found))
 pub lasting_law : (o : Office) (s : Site) (p : Plan) → IsPlan o s p → Lasts o s p
 lasting_law o s p h first site entries commands lost covers holds quiet later same once found =
     let clear = lasting_reordered first site entries commands lost covers holds quiet in
-    stays o s p (subst (λ now. (other : Site) → NamesTheSame (standing now site) other → repeated_member other ≡ None → StaysClear now other) (sym later) clear s same once) h found
+    stays o s p (subst (λ now. (other : Site) → NamesTheSame (standing now site) other → repeated_member other ≡ None → StaysClear now other) (sym later) clear
+    s same once) h found

@@ -5,20 +5,13 @@ ghost use Rattle.std.specs.Prelude.{◌≡◌, IfOk, map};
 use clr_rows::{Names, Words};
 use std::alloc::{AllocError, Global};
 
-/// A text of its own.
-pub(crate) fn words(alloc: Global, text: &str) -> Result<Words, AllocError>
-    ensures { IfOk result (λ words. words ≡ text.now) }
-{
-    Ok(Words::new(String::from_str(alloc, text)?))
-}
-
-/// The names of members, as they are given.
+/// Returns the names of members, as they are given.
 pub(crate) fn names(alloc: Global, members: &[&str]) -> Result<Names, AllocError>
     ensures { IfOk result (λ names. names ≡ map (λ name. name.now) members.now) }
 {
     let mut list = Vec::with_capacity(alloc, members.len())?;
     for name in members {
-        list.push(words(alloc, name)?)?;
+        list.push(Words::from_str(alloc, name)?)?;
     }
     Ok(Names::new(list))
 }

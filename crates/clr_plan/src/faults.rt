@@ -14,7 +14,7 @@ use clr_clearance::Verdict;
 use clr_needs::SceneFault;
 use std::alloc::Global;
 
-/// A blocked plan, or `OutOfMemory` where no memory is found for its order.
+/// Returns a blocked plan, or `OutOfMemory` where no memory is found for its order.
 fn blocked_plan(alloc: Global, order: &[usize], cause: Verdict) -> Plan
     ensures { IsBlockedIn order.now cause result }
 {
@@ -24,8 +24,8 @@ fn blocked_plan(alloc: Global, order: &[usize], cause: Verdict) -> Plan
     }
 }
 
-/// The plan where a test of names or the test for conflicts fails: the member in conflict is an order
-/// of its own.
+/// Returns the plan where a test of names or the test for conflicts fails: the member in conflict is
+/// an order of its own.
 pub(crate) fn plan_fault(alloc: Global, fault: Verdict) -> Plan
     ensures { (o : Office) (s : Site) → IsFault o s fault → IsPlan o s result }
 {
@@ -48,7 +48,7 @@ pub(crate) fn plan_fault(alloc: Global, fault: Verdict) -> Plan
     }
 }
 
-/// The plan where there is no scene: the first two members that change a cell are an order.
+/// Returns the plan where there is no scene: the first two members that change a cell are an order.
 pub(crate) fn plan_shared(alloc: Global, fault: SceneFault) -> Plan
     ensures { (o : Office) (s : Site) → member_fault o s ≡ None → IsSceneFault (change_sets o s) fault → IsPlan o s result }
 {

@@ -38,7 +38,7 @@ fn add_needs<V: RowView, F: RowFinder>(
     Ok(())
 }
 
-/// The touched needs of the scenes of groups, ascending.
+/// Returns the touched needs of the scenes of groups, ascending.
 pub(crate) fn group_needs<V: RowView, F: RowFinder>(
     alloc: Global,
     parts: &[Scene<'_, V, F>],

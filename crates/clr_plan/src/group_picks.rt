@@ -15,8 +15,8 @@ use clr_foot::Scene;
 use clr_rows::RowView;
 use std::alloc::{AllocError, Global};
 
-/// The touched needs of a scene with the witnesses that are picked for them, each in the scene of
-/// the group in which it is touched.
+/// Returns the touched needs of a scene with the witnesses that are picked for them, each in the
+/// scene of the group in which it is touched.
 pub(crate) fn pick_by_group<V: RowView, F: RowFinder>(
     alloc: Global,
     scene: &Scene<'_, V, F>,

@@ -11,7 +11,7 @@ use clr_foot::Scene;
 use clr_rows::RowView;
 use std::alloc::{AllocError, Global};
 
-/// The scene of each group of a scene's members.
+/// Returns the scene of each group of a scene's members.
 pub(crate) fn group_scenes<'a, V: RowView, F: RowFinder>(
     alloc: Global,
     scene: &Scene<'a, V, F>,

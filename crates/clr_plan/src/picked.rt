@@ -21,7 +21,8 @@ pub(crate) enum Picked {
     Unpicked(Need),
 }
 
-/// The touched needs of a scene with the witnesses that are picked for them, all in this scene.
+/// Returns the touched needs of a scene with the witnesses that are picked for them, all in this
+/// scene.
 fn pick_in_scene<V: RowView, F: RowFinder>(
     alloc: Global,
     scene: &Scene<'_, V, F>,
@@ -44,8 +45,8 @@ fn pick_in_scene<V: RowView, F: RowFinder>(
     Ok(Picked::Entries(Entries::new(list)))
 }
 
-/// The touched needs of a scene with the witnesses that are picked for them, each in the scene of
-/// its group where there are several groups.
+/// Returns the touched needs of a scene with the witnesses that are picked for them, each in the
+/// scene of its group where there are several groups.
 pub(crate) fn pick_all<V: RowView, F: RowFinder>(
     alloc: Global,
     scene: &Scene<'_, V, F>,

@@ -14,7 +14,7 @@ use clr_engine::Office;
 use clr_sites::{SiteParts, read_site};
 use std::alloc::Global;
 
-/// The plan that the parts of a site decide.
+/// Returns the plan that the parts of a site decide.
 fn plan_parts(
     alloc: Global,
     office: &Office,

@@ -19,7 +19,8 @@ module _ {A B : Type 0} (xs : List A) (ys : List B) where
   pub flat_map_one_more : {C : Type 0} (f : A × B → List C) (i : ℕ) (x : A) (y : B) → i < length xs → i < length ys → x ≡ get_or xs i x → y ≡ get_or ys i y
       → flat_map f (take (i + 1) (zip xs ys)) ≡ flat_map f (take i (zip xs ys)) ++ f (x, y)
   flat_map_one_more f i x y p q e h =
-      ap (flat_map f) (one_pair_more i x y p q e h) ∙ flat_map-append f (take i (zip xs ys)) ((x, y) ∷ []) ∙ ap (λ l. flat_map f (take i (zip xs ys)) ++ l) (append-nil (f (x, y)))
+      ap (flat_map f) (one_pair_more i x y p q e h) ∙ flat_map-append f (take i (zip xs ys)) ((x, y) ∷ []) ∙ ap (λ l. flat_map f (take i (zip xs ys))
+      ++ l) (append-nil (f (x, y)))
 
   -- as many as there are
   pub all_pairs : (n : ℕ) → n ≡ min (length xs) (length ys) → take n (zip xs ys) ≡ zip xs ys

@@ -46,7 +46,8 @@ is_blocked _ = false
 unfoldable pub spot_feature : Spot → Feature
 spot_feature spot = record {
   properties =
-      text_property (codes "table") [] ∷ number_property (codes "key") (pos 0) ∷ text_property (codes "workspace") [] ∷ text_property (codes "what") (codes "site")
+      text_property (codes "table") [] ∷ number_property (codes "key") (pos 0) ∷ text_property (codes "workspace") []
+      ∷ text_property (codes "what") (codes "site")
       ∷ flag_property (codes "cause") true ∷ text_property (codes "says") spot.says ∷ [];
   shape = At spot.place;
 }

@@ -9,7 +9,7 @@ use clr_plan::Plan;
 use clr_rows::CellId;
 use std::alloc::{AllocError, Global};
 
-/// The cells of the rows that need something.
+/// Returns the cells of the rows that need something.
 fn cells_of_need(alloc: Global, need: &Need) -> Result<Vec<CellId>, AllocError>
     ensures { IfOk result (λ cells. cells.items ≡ need.now.first.cell ∷ second_cell need.now.second) }
 {
@@ -21,7 +21,7 @@ fn cells_of_need(alloc: Global, need: &Need) -> Result<Vec<CellId>, AllocError>
     Ok(cells)
 }
 
-/// The cells that a verdict names.
+/// Returns the cells that a verdict names.
 fn named_cells(alloc: Global, verdict: &Verdict) -> Result<Vec<CellId>, AllocError>
     ensures { IfOk result (λ cells. cells.items ≡ named_cells verdict.now) }
 {
@@ -34,7 +34,7 @@ fn named_cells(alloc: Global, verdict: &Verdict) -> Result<Vec<CellId>, AllocErr
     }
 }
 
-/// Returns the cells that the cause of a plan names: none where the plan isn't blocked. Fails for want of memory alone.
+/// Returns the cells that the cause of a plan names: none where the plan isn't blocked.
 pub(crate) fn cause_cells(alloc: Global, plan: &Plan) -> Result<Vec<CellId>, AllocError>
     ensures { IfOk result (λ cells. cells.items ≡ cause_cells plan.now) }
 {

@@ -51,7 +51,7 @@ fn add_member(
     Ok(())
 }
 
-/// Adds the features of what designs change, in the order of their names. Fails for want of memory alone.
+/// Adds the features of what designs change, in the order of their names.
 pub(crate) fn add_changes(
     alloc: Global,
     text: &mut Vec<u8>,

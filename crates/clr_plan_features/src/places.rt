@@ -19,12 +19,12 @@ pub(crate) struct Spot {
     pub says: Words,
 }
 
-/// The number halfway between two others.
+/// Returns the number halfway between two others.
 fn halfway(one: i64, other: i64) -> i64 {
     one.saturating_add(other.saturating_sub(one) / 2)
 }
 
-/// The place halfway between two points.
+/// Returns the place halfway between two points.
 fn place_between(one: &Shape, other: &Shape) -> Option<Place> {
     match (one, other) {
         (Shape::At(one), Shape::At(other)) => Some(Place {
@@ -35,7 +35,8 @@ fn place_between(one: &Shape, other: &Shape) -> Option<Place> {
     }
 }
 
-/// The place that a map marks, if it marks one: of points that stand too near, the place between them.
+/// Returns the place that a map marks, if it marks one: of points that stand too near, the place
+/// between them.
 fn marked_place(cause: &Cause) -> Option<Place> {
     match cause.mark {
         Mark::Ring(site) => Some(site.place),
@@ -47,7 +48,7 @@ fn marked_place(cause: &Cause) -> Option<Place> {
     }
 }
 
-/// The place of the cause of a plan, if it has one.
+/// Returns the place of the cause of a plan, if it has one.
 fn spot_of_cause(
     alloc: Global,
     office: &Office,
@@ -77,8 +78,7 @@ fn spot_of_cause(
     }))
 }
 
-/// Returns the place of the cause of a plan, with what a map says there: none where the plan isn't blocked, or its cause has no place. Fails
-/// for want of memory alone.
+/// Returns the place of the cause of a plan, with what a map says there: none where the plan isn't blocked, or its cause has no place.
 pub(crate) fn spot_of(
     alloc: Global,
     office: &Office,
@@ -95,7 +95,7 @@ pub(crate) fn spot_of(
     }
 }
 
-/// The feature of a place.
+/// Returns the feature of a place.
 #[tactic(auto, unfolding(crate::specs::PlanFeatures::spot_feature))]
 fn spot_feature(alloc: Global, spot: &Spot) -> Result<Feature, AllocError>
     ensures { IfOk result (λ feature. feature ≡ spot_feature spot.now) }
@@ -113,7 +113,7 @@ fn spot_feature(alloc: Global, spot: &Spot) -> Result<Feature, AllocError>
     })
 }
 
-/// Adds the feature of a place, if there is one. Fails for want of memory alone.
+/// Adds the feature of a place, if there is one.
 pub(crate) fn add_spot(
     alloc: Global,
     text: &mut Vec<u8>,

@@ -15,7 +15,7 @@ use clr_plan_words::Members;
 use clr_rows::Sheet;
 use std::alloc::{AllocError, Global};
 
-/// The rows of a root, and none where it doesn't stand.
+/// Returns the rows of a root, and none where it doesn't stand.
 fn rows_of(alloc: Global, office: &Office, root: &str) -> Result<Sheet, AllocError>
     ensures { IfOk result (λ rows. rows ≡ rows_of_root office.now root.now) }
 {
@@ -28,7 +28,7 @@ fn rows_of(alloc: Global, office: &Office, root: &str) -> Result<Sheet, AllocErr
 /// Returns the features of a plan of members of a root, as GeoJSON in metres, one a line: each row of the root that no member changes; each
 /// row that a member adds or changes, as it has it, and each that it takes away, as it was; and the place of the cause, where the plan is
 /// blocked and the cause has a place. Each row tells its table, its key, its workspace, what becomes of it, whether the cause names its cell,
-/// and its values. The system of coordinates is a number of the register of EPSG, or none. Fails for want of memory alone.
+/// and its values. The system of coordinates is a number of the register of EPSG, or none.
 pub fn plan_features(
     alloc: Global,
     office: &Office,

@@ -47,7 +47,7 @@ fn is_among(cells: &[CellId], cell: CellId) -> bool
     cells.iter().any(|other| is_same_cell(cell, *other))
 }
 
-/// The name of the property of a column.
+/// Returns the name of the property of a column.
 fn name_of_column(alloc: Global, column: &str) -> Result<String, AllocError>
     ensures { IfOk result (λ name. string_bytes name ≡ codes "v_" ++ column.now) }
 {
@@ -56,7 +56,7 @@ fn name_of_column(alloc: Global, column: &str) -> Result<String, AllocError>
     Ok(name)
 }
 
-/// The property of a value of a column.
+/// Returns the property of a value of a column.
 fn value_property(alloc: Global, column: &str, value: &Value) -> Result<Property, AllocError>
     ensures { IfOk result (λ property. property ≡ value_property (codes "v_" ++ column.now) value.now) }
 {
@@ -98,7 +98,7 @@ fn add_row_values(
     }
 }
 
-/// The properties of a row that tell where it stands and what becomes of it.
+/// Returns the properties of a row that tell where it stands and what becomes of it.
 #[tactic(auto, unfolding(crate::specs::RowFeatures::cell_properties))]
 fn cell_properties(
     alloc: Global,
@@ -119,7 +119,7 @@ fn cell_properties(
     Ok(list)
 }
 
-/// Returns the feature of a row at a cell, in a workspace: the cells are those that a cause names. Fails for want of memory alone.
+/// Returns the feature of a row at a cell, in a workspace: the cells are those that a cause names.
 #[tactic(auto, unfolding(crate::specs::RowFeatures::row_feature))]
 pub(crate) fn row_feature(
     alloc: Global,

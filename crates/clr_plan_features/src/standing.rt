@@ -43,7 +43,7 @@ fn add_row(
     add_feature(text, &feature)
 }
 
-/// Adds the features of those rows of the root that none of these change sets changes, ascending. Fails for want of memory alone.
+/// Adds the features of those rows of the root that none of these change sets changes, ascending.
 pub(crate) fn add_standing(
     alloc: Global,
     text: &mut Vec<u8>,

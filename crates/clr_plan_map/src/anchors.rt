@@ -29,7 +29,8 @@ pub(crate) fn some_of(scene: &Scene<'_>, spots: &[Spot]) -> Result<Vec<Spot>, Al
     Ok(some)
 }
 
-/// The spots of a row at which its label may point: those that aren't near the place of the cause, if there are any.
+/// Returns the spots of a row at which its label may point: those that aren't near the place of the cause, if there
+/// are any.
 pub(crate) fn anchors_of(
     scene: &Scene<'_>,
     row: &Row,

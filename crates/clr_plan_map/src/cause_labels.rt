@@ -8,7 +8,7 @@ use clr_plan_scenes::{Cause, CauseRow, Scene};
 use clr_svg::{Colour, Pixels};
 use std::alloc::AllocError;
 
-/// A row as a label names it: its table, its key, and the design that has it.
+/// Returns a row as a label names it: its table, its key, and the design that has it.
 fn row_words(scene: &Scene<'_>, row: &CauseRow) -> Result<String, AllocError> {
     let table = scene.field.schema.name_of_table(row.cell.table);
     let key = row.cell.key;

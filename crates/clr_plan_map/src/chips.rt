@@ -18,7 +18,7 @@ pub(crate) struct Look {
 }
 
 impl Look {
-    /// The look of what fails.
+    /// Returns the look of what fails.
     pub(crate) fn alarm(reach: Pixels) -> Look {
         Look {
             colour: ALARM,
@@ -28,7 +28,7 @@ impl Look {
         }
     }
 
-    /// The look of a row.
+    /// Returns the look of a row.
     pub(crate) fn row(colour: Colour) -> Look {
         Look {
             colour,
@@ -38,24 +38,25 @@ impl Look {
         }
     }
 
-    /// How wide a label of these words is. Strong letters are about as wide as plain ones that are two pixels higher.
+    /// Returns how wide a label of these words is. Strong letters are about as wide as plain ones that are two pixels
+    /// higher.
     fn width(self, words: &str) -> Pixels {
         words_width(words, self.size + Pixels::whole(2)) + self.size + Pixels::whole(8)
     }
 
-    /// How high a label is.
+    /// Returns how high a label is.
     fn height(self) -> Pixels {
         self.size + Pixels::whole(if self.is_filled { 15 } else { 11 })
     }
 }
 
-/// How far two spots are apart, along the axis in which they are farther.
+/// Returns how far two spots are apart, along the axis in which they are farther.
 pub(crate) fn distance(from: Spot, to: Spot) -> i64 {
     let across = (to.x - from.x).tenths.saturating_abs();
     across.max((to.y - from.y).tenths.saturating_abs())
 }
 
-/// The spot that is this far from one spot on the way to another.
+/// Returns the spot that is this far from one spot on the way to another.
 fn spot_towards(from: Spot, to: Spot, reach: Pixels) -> Spot {
     let whole = distance(from, to);
     let x = (to.x - from.x).tenths.saturating_mul(reach.tenths);

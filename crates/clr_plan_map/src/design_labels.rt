@@ -9,7 +9,7 @@ use clr_rows::Row;
 use clr_svg::{Pixels, Spot};
 use std::alloc::AllocError;
 
-/// The spots round a frame at which the name of its design may stand.
+/// Returns the spots round a frame at which the name of its design may stand.
 fn anchors_round(scene: &Scene<'_>, frame: Area) -> Result<Vec<Spot>, AllocError> {
     let middle = frame.middle();
     let mut anchors = Vec::new(scene.field.alloc);
@@ -37,7 +37,7 @@ fn add_spots(
     Ok(())
 }
 
-/// The spots at which the name of a design may point.
+/// Returns the spots at which the name of a design may point.
 fn anchors_of_design(scene: &Scene<'_>, at: usize) -> Result<Vec<Spot>, AllocError> {
     if has_frames(scene) {
         return match largest(frames_of(scene, at)?.as_slice()) {

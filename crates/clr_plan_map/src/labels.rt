@@ -11,7 +11,7 @@ use clr_plan_scenes::Scene;
 use clr_svg::Pixels;
 use std::alloc::AllocError;
 
-/// Draws the labels of a plan. Fails for want of memory alone.
+/// Draws the labels of a plan.
 pub(crate) fn add_labels(
     sketch: &mut Sketch,
     scene: &Scene<'_>,

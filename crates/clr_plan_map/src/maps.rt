@@ -28,7 +28,7 @@ struct Drawn {
     sentence: String,
 }
 
-/// The sheet of the page, and the ground of the map.
+/// Returns the sheet of the page, and the ground of the map.
 fn paper(scene: &Scene<'_>, height: Pixels) -> Result<Layer, AllocError> {
     let mut sketch = Sketch::new(scene.field.alloc);
     let corner = Spot {
@@ -46,7 +46,7 @@ fn paper(scene: &Scene<'_>, height: Pixels) -> Result<Layer, AllocError> {
     Ok(sketch.into_layer())
 }
 
-/// What is seen through the window of the map.
+/// Returns what is seen through the window of the map.
 fn inner(scene: &Scene<'_>) -> Result<Layer, AllocError> {
     let mut sketch = Sketch::new(scene.field.alloc);
     if has_frames(scene) {
@@ -69,7 +69,7 @@ fn inner(scene: &Scene<'_>) -> Result<Layer, AllocError> {
     Ok(sketch.into_layer_within(scene.frame()))
 }
 
-/// What stands over the map and round it, and below the legend, which goes this far down.
+/// Returns what stands over the map and round it, and below the legend, which goes this far down.
 fn outer(
     scene: &Scene<'_>,
     plan: &Plan,
@@ -85,7 +85,7 @@ fn outer(
     Ok(sketch.into_layer())
 }
 
-/// What is drawn of a plan with this cause, if it has one.
+/// Returns what is drawn of a plan with this cause, if it has one.
 fn drawn_with(field: Field<'_>, plan: &Plan, cause: Option<&Cause>) -> Result<Drawn, AllocError> {
     let scene = Scene::new(field, cause);
     let height = scene.frame().bottom + FOOT;
@@ -105,7 +105,7 @@ fn drawn_with(field: Field<'_>, plan: &Plan, cause: Option<&Cause>) -> Result<Dr
     })
 }
 
-/// The members that a plan's order names.
+/// Returns the members that a plan's order names.
 fn leaders_of(plan: &Plan) -> &[usize] {
     match plan {
         Plan::Blocked { order, .. } => order.as_slice(),
@@ -113,7 +113,7 @@ fn leaders_of(plan: &Plan) -> &[usize] {
     }
 }
 
-/// The rows of a root, or none where it doesn't stand.
+/// Returns the rows of a root, or none where it doesn't stand.
 fn rows_of(alloc: Global, office: &Office, root: &str) -> Result<Sheet, AllocError> {
     match office.rows(root)? {
         Some(rows) => Ok(rows),
@@ -121,7 +121,7 @@ fn rows_of(alloc: Global, office: &Office, root: &str) -> Result<Sheet, AllocErr
     }
 }
 
-/// What is drawn of a plan.
+/// Returns what is drawn of a plan.
 fn drawn_plan(
     alloc: Global,
     office: &Office,
@@ -156,7 +156,7 @@ fn with_verdict(
     Ok(layers)
 }
 
-/// The page of what is drawn of a plan, with its verdict over it.
+/// Returns the page of what is drawn of a plan, with its verdict over it.
 fn page_of(
     alloc: Global,
     schema: &Schema,
@@ -183,7 +183,6 @@ fn page_of(
 /// Returns the map of a plan of members of a root, as the text of a page of vector graphics. Its title begins with the word for what the
 /// plan says, its last layer shows that word, and its description ends with the lines of the plan. Each text of the office is escaped. The
 /// rows are those of the root, with what each member changes over them; the map shows what is round the cause, or else round the changes.
-/// Fails for want of memory alone.
 pub fn plan_map(
     alloc: Global,
     office: &Office,

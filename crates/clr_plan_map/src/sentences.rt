@@ -9,7 +9,7 @@ use clr_plan_words::{Setting, answer_words, rule_of};
 use clr_wording::rule_sentence;
 use std::alloc::{AllocError, Global};
 
-/// What sentences are made of.
+/// Returns what sentences are made of.
 fn setting_of(field: Field<'_>) -> Setting<'_> {
     Setting {
         alloc: field.alloc,
@@ -18,7 +18,7 @@ fn setting_of(field: Field<'_>) -> Setting<'_> {
     }
 }
 
-/// A text of several lines as one line.
+/// Returns a text of several lines as one line.
 fn one_line(alloc: Global, text: &str) -> Result<String, AllocError> {
     let mut line = String::new(alloc);
     for (number, part) in text.trim().lines().enumerate() {
@@ -30,7 +30,7 @@ fn one_line(alloc: Global, text: &str) -> Result<String, AllocError> {
     Ok(line)
 }
 
-/// A cleared plan.
+/// Returns a cleared plan.
 fn cleared(field: Field<'_>, certificate: &Certificate) -> Result<String, AllocError> {
     let needs = certificate.entries.as_slice().len();
     let looked_at = if needs == 1 { "need was" } else { "needs were" };
@@ -43,7 +43,7 @@ fn cleared(field: Field<'_>, certificate: &Certificate) -> Result<String, AllocE
     }
 }
 
-/// The order in which a merge is refused.
+/// Returns the order in which a merge is refused.
 fn order_sentence(field: Field<'_>, order: &[usize]) -> Result<String, AllocError> {
     let mut text = String::new(field.alloc);
     if let [only] = order {
@@ -62,7 +62,7 @@ fn order_sentence(field: Field<'_>, order: &[usize]) -> Result<String, AllocErro
     Ok(text)
 }
 
-/// The rule of a need.
+/// Returns the rule of a need.
 fn need_sentence(field: Field<'_>, need: &Need) -> Result<String, AllocError> {
     let Some(rule) = rule_of(field.office, need) else {
         return Ok(String::new(field.alloc));
@@ -72,7 +72,7 @@ fn need_sentence(field: Field<'_>, need: &Need) -> Result<String, AllocError> {
     format!(in field.alloc; "Rule {number}: {sentence}")
 }
 
-/// Why a merge is refused.
+/// Returns why a merge is refused.
 fn cause_sentence(field: Field<'_>, cause: &Verdict) -> Result<String, AllocError> {
     if let Verdict::Uncovered(need) = cause {
         return need_sentence(field, need);
@@ -81,7 +81,7 @@ fn cause_sentence(field: Field<'_>, cause: &Verdict) -> Result<String, AllocErro
     one_line(field.alloc, words.reason.as_str())
 }
 
-/// A blocked plan: the order in which a merge is refused, and why.
+/// Returns a blocked plan: the order in which a merge is refused, and why.
 fn blocked(field: Field<'_>, order: &[usize], cause: &Verdict) -> Result<String, AllocError> {
     let mut text = order_sentence(field, order)?;
     let why = cause_sentence(field, cause)?;
@@ -89,7 +89,7 @@ fn blocked(field: Field<'_>, order: &[usize], cause: &Verdict) -> Result<String,
     Ok(text)
 }
 
-/// Returns a plan in a sentence or two, on one line. Fails for want of memory alone.
+/// Returns a plan in a sentence or two, on one line.
 pub(crate) fn plan_sentence(field: Field<'_>, plan: &Plan) -> Result<String, AllocError> {
     match plan {
         Plan::Cleared(certificate) => cleared(field, certificate),

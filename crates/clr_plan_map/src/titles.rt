@@ -25,7 +25,7 @@ pub(crate) fn plan_word(plan: &Plan) -> &'static str
     }
 }
 
-/// The colour of the word for what a plan says.
+/// Returns the colour of the word for what a plan says.
 fn plan_colour(plan: &Plan) -> Colour {
     match plan {
         Plan::Cleared(_) => CLEAR,
@@ -34,7 +34,7 @@ fn plan_colour(plan: &Plan) -> Colour {
     }
 }
 
-/// The word for what a plan says, as a label.
+/// Returns the word for what a plan says, as a label.
 fn verdict_label(alloc: Global, plan: &Plan) -> Result<Label, AllocError>
     ensures { IfOk result (λ label. string_bytes label.words ≡ plan_word plan.now) }
 {
@@ -52,7 +52,7 @@ fn verdict_label(alloc: Global, plan: &Plan) -> Result<Label, AllocError>
     })
 }
 
-/// Returns the layer with the word for what a plan says. Fails for want of memory alone.
+/// Returns the layer with the word for what a plan says.
 pub(crate) fn verdict_layer(alloc: Global, plan: &Plan) -> Result<Layer, AllocError>
     ensures { IfOk result (λ layer. ShowsFirst layer.elements.items (plan_word plan.now)) }
 {
@@ -65,7 +65,7 @@ pub(crate) fn verdict_layer(alloc: Global, plan: &Plan) -> Result<Layer, AllocEr
     })
 }
 
-/// Returns the title of a map: the word for what the plan says, and names. Fails for want of memory alone.
+/// Returns the title of a map: the word for what the plan says, and names.
 pub(crate) fn title_of(alloc: Global, plan: &Plan, names: &str) -> Result<Vec<u8>, AllocError>
     ensures { IfOk result (λ title. title.items ≡ plan_word plan.now ++ codes ": " ++ names.now) }
 {
@@ -75,7 +75,7 @@ pub(crate) fn title_of(alloc: Global, plan: &Plan, names: &str) -> Result<Vec<u8
     Ok(title)
 }
 
-/// Returns the description of a map: a sentence, and the lines of the plan. Fails for want of memory alone.
+/// Returns the description of a map: a sentence, and the lines of the plan.
 pub(crate) fn description_of(
     alloc: Global,
     schema: &Schema,

@@ -13,7 +13,7 @@ use std::alloc::AllocError;
 /// The most entries of a certificate whose witnesses have labels.
 const MOST_ENTRIES: usize = 12;
 
-/// A cell as a label names it.
+/// Returns a cell as a label names it.
 fn cell_words(scene: &Scene<'_>, cell: CellId) -> Result<String, AllocError> {
     let table = scene.field.schema.name_of_table(cell.table);
     let key = cell.key;
@@ -58,7 +58,7 @@ fn add_witness_label(
     )
 }
 
-/// Whether an earlier entry has the same witnesses.
+/// Returns whether an earlier entry has the same witnesses.
 fn is_repeated(entries: &[Entry], at: usize, entry: &Entry) -> bool {
     entries
         .iter()

@@ -6,7 +6,7 @@ use clr_html::Block;
 use clr_plan_words::Setting;
 use std::alloc::AllocError;
 
-/// Adds why members are blocked: the reason, the rows that the cause names, and where they meet. Fails for want of memory alone.
+/// Adds why members are blocked: the reason, the rows that the cause names, and where they meet.
 pub(crate) fn add_cause(
     section: &mut Builder,
     setting: Setting<'_>,

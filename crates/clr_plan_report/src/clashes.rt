@@ -15,7 +15,7 @@ fn listed(alloc: Global, names: &[&str]) -> Result<String, AllocError> {
     Ok(text)
 }
 
-/// The row of a set: its members, and why they can't be merged together.
+/// Returns the row of a set: its members, and why they can't be merged together.
 fn clash_row(setting: Setting<'_>, clash: &SiteClash) -> Result<Row, AllocError> {
     let alloc = setting.alloc;
     let names = names_at(alloc, setting.members.names, clash.members.as_slice())?;
@@ -35,7 +35,7 @@ fn clash_row(setting: Setting<'_>, clash: &SiteClash) -> Result<Row, AllocError>
     row_of(alloc, &[list.as_str(), cause.reason.as_str()])
 }
 
-/// The table of sets.
+/// Returns the table of sets.
 fn clashes_table(setting: Setting<'_>, clashes: &[SiteClash]) -> Result<Table, AllocError> {
     let mut table = table_of(setting.alloc, &["Designs", "Why not together"])?;
     for clash in clashes {

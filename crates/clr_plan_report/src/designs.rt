@@ -13,7 +13,8 @@ use std::alloc::AllocError;
 /// How many rows of a design are told one by one.
 const MOST_ROWS: usize = 400;
 
-/// The rank of a design in which the map gives out its colours: those that a cause names come first.
+/// Returns the rank of a design in which the map gives out its colours: those that a cause names
+/// come first.
 fn rank_of(leaders: &[usize], at: usize) -> usize {
     if let Some(rank) = leaders.iter().position(|other| *other == at) {
         return rank;
@@ -27,12 +28,12 @@ fn rank_of(leaders: &[usize], at: usize) -> usize {
     rank
 }
 
-/// The colour of a design on the map.
+/// Returns the colour of a design on the map.
 fn colour_of(leaders: &[usize], at: usize) -> Colour {
     design_colours(rank_of(leaders, at)).line
 }
 
-/// What becomes of the row of a change.
+/// Returns what becomes of the row of a change.
 fn what_becomes(change: &Change) -> &'static str {
     if change.before.is_none() {
         "added"
@@ -43,7 +44,7 @@ fn what_becomes(change: &Change) -> &'static str {
     }
 }
 
-/// A row in words, or nothing where there is none.
+/// Returns a row in words, or nothing where there is none.
 fn words_of(setting: Setting<'_>, cell: CellId, row: Option<&Row>) -> Result<String, AllocError> {
     match row {
         Some(row) => row_words(setting.alloc, setting.office.schema(), cell, row),
@@ -51,7 +52,7 @@ fn words_of(setting: Setting<'_>, cell: CellId, row: Option<&Row>) -> Result<Str
     }
 }
 
-/// What becomes of a row, and the row as it was and as it is then.
+/// Returns what becomes of a row, and the row as it was and as it is then.
 fn change_row(setting: Setting<'_>, cell: CellId, change: &Change) -> Result<TableRow, AllocError> {
     let label = setting.cell_label(cell)?;
     let before = words_of(setting, cell, change.before.as_ref())?;
@@ -65,7 +66,7 @@ fn change_row(setting: Setting<'_>, cell: CellId, change: &Change) -> Result<Tab
     row_of(setting.alloc, &cells)
 }
 
-/// The table of what a design changes.
+/// Returns the table of what a design changes.
 fn changes_table(setting: Setting<'_>, set: &ChangeSet) -> Result<Table, AllocError> {
     let mut table = table_of(setting.alloc, &["Row", "Is", "Before", "After"])?;
     for (cell, change) in set.iter().take(MOST_ROWS) {
@@ -81,7 +82,7 @@ fn changes_table(setting: Setting<'_>, set: &ChangeSet) -> Result<Table, AllocEr
     Ok(table)
 }
 
-/// A design, with its rows folded.
+/// Returns a design, with its rows folded.
 fn fold_of(
     setting: Setting<'_>,
     leaders: &[usize],
@@ -101,7 +102,7 @@ fn fold_of(
     })
 }
 
-/// Adds the designs, each with its rows folded; nothing where there are none. Fails for want of memory alone.
+/// Adds the designs, each with its rows folded; nothing where there are none.
 pub(crate) fn add_designs(
     section: &mut Builder,
     setting: Setting<'_>,

@@ -74,7 +74,7 @@ fn lines_of(
     Ok(text)
 }
 
-/// What the lines at the foot of a report are.
+/// Returns what the lines at the foot of a report are.
 fn note_of(plan: &Plan) -> &'static str {
     match plan {
         Plan::Cleared(_) => {
@@ -86,7 +86,7 @@ fn note_of(plan: &Plan) -> &'static str {
     }
 }
 
-/// Returns the last section of a report: what its lines are, and then the command and the lines. Fails for want of memory alone.
+/// Returns the last section of a report: what its lines are, and then the command and the lines.
 pub(crate) fn foot_of(
     alloc: Global,
     schema: &Schema,

@@ -21,7 +21,7 @@ pub(crate) fn plan_word(plan: &Plan) -> &'static str
     }
 }
 
-/// Whether what a plan says is welcome.
+/// Returns whether what a plan says is welcome.
 fn plan_tone(plan: &Plan) -> Tone {
     match plan {
         Plan::Cleared(_) => Tone::Good,
@@ -30,7 +30,7 @@ fn plan_tone(plan: &Plan) -> Tone {
     }
 }
 
-/// Returns who is to be merged into what. Fails for want of memory alone.
+/// Returns who is to be merged into what.
 pub(crate) fn about(alloc: Global, root: &str, members: &[&str]) -> Result<String, AllocError> {
     let mut text = String::new(alloc);
     if members.is_empty() {
@@ -42,7 +42,7 @@ pub(crate) fn about(alloc: Global, root: &str, members: &[&str]) -> Result<Strin
     Ok(text)
 }
 
-/// Returns the title of a report: the word for what the plan says, and what it is about. Fails for want of memory alone.
+/// Returns the title of a report: the word for what the plan says, and what it is about.
 pub(crate) fn title_of(alloc: Global, plan: &Plan, about: &str) -> Result<Vec<u8>, AllocError>
     ensures { IfOk result (λ title. title.items ≡ plan_word plan.now ++ codes ": " ++ about.now) }
 {
@@ -52,8 +52,7 @@ pub(crate) fn title_of(alloc: Global, plan: &Plan, about: &str) -> Result<Vec<u8
     Ok(title)
 }
 
-/// Returns the first section of a report: the word for what the plan says, what it is about, and a picture. Fails for want of memory
-/// alone.
+/// Returns the first section of a report: the word for what the plan says, what it is about, and a picture.
 pub(crate) fn head_of(
     alloc: Global,
     plan: &Plan,

@@ -32,7 +32,7 @@ fn add_rest(section: &mut Builder, count: usize) -> Result<(), AllocError> {
     section.add_paragraph(words.as_str())
 }
 
-/// Adds the needs of a certificate, each with what serves it and until when. Fails for want of memory alone.
+/// Adds the needs of a certificate, each with what serves it and until when.
 pub(crate) fn add_needs(
     section: &mut Builder,
     setting: Setting<'_>,

@@ -22,8 +22,7 @@ fn add_trials(
     Ok(())
 }
 
-/// Adds what was tried and what the planner says of it, the cleared ones first; nothing where nothing was tried. Fails for want of
-/// memory alone.
+/// Adds what was tried and what the planner says of it, the cleared ones first; nothing where nothing was tried.
 pub(crate) fn add_remedies(section: &mut Builder, trials: &[Trial]) -> Result<(), AllocError> {
     if trials.is_empty() {
         return Ok(());

@@ -21,7 +21,7 @@ use clr_rows::Schema;
 use clr_words::{Trial, try_remedies};
 use std::alloc::{AllocError, Global};
 
-/// Why a plan says what it says, and what would help.
+/// Returns why a plan says what it says, and what would help.
 fn why_of(setting: Setting<'_>, plan: &Plan, trials: &[Trial]) -> Result<Section, AllocError> {
     let mut section = Builder::new(setting.alloc);
     section.add_heading("Why")?;
@@ -40,7 +40,7 @@ fn why_of(setting: Setting<'_>, plan: &Plan, trials: &[Trial]) -> Result<Section
     Ok(section.into_section())
 }
 
-/// The members that a plan's order names.
+/// Returns the members that a plan's order names.
 fn leaders_of(plan: &Plan) -> &[usize] {
     match plan {
         Plan::Blocked { order, .. } => order.as_slice(),
@@ -48,7 +48,7 @@ fn leaders_of(plan: &Plan) -> &[usize] {
     }
 }
 
-/// The designs, and the smallest sets of them that can't be merged together.
+/// Returns the designs, and the smallest sets of them that can't be merged together.
 fn designs_of(setting: Setting<'_>, plan: &Plan) -> Result<Section, AllocError> {
     let mut section = Builder::new(setting.alloc);
     add_designs(&mut section, setting, leaders_of(plan))?;
@@ -56,7 +56,7 @@ fn designs_of(setting: Setting<'_>, plan: &Plan) -> Result<Section, AllocError> 
     Ok(section.into_section())
 }
 
-/// What stands between the head and the foot.
+/// Returns what stands between the head and the foot.
 fn sections_between(
     alloc: Global,
     office: &Office,
@@ -77,7 +77,8 @@ fn sections_between(
     Ok(sections)
 }
 
-/// The page of a report with this picture, and with these sections between its head and its foot.
+/// Returns the page of a report with this picture, and with these sections between its head and its
+/// foot.
 fn page_of(
     alloc: Global,
     schema: &Schema,

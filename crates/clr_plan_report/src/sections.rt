@@ -47,7 +47,7 @@ pub(crate) fn row_of(alloc: Global, cells: &[&str]) -> Result<Row, AllocError> {
 }
 
 impl Builder {
-    /// A section with nothing in it.
+    /// Returns a section with nothing in it.
     pub(crate) fn new(alloc: Global) -> Builder {
         Builder {
             alloc,
@@ -75,7 +75,7 @@ impl Builder {
         Ok(self.blocks.push(block)?)
     }
 
-    /// The section.
+    /// Returns the section.
     pub(crate) fn into_section(self) -> Section {
         Section {
             blocks: self.blocks,

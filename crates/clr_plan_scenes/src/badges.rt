@@ -6,7 +6,7 @@ use clr_rules::{Col, ColumnList, Rule};
 use clr_wording::Metres;
 use std::alloc::{AllocError, Global};
 
-/// The few words for a server that is missing.
+/// Returns the few words for a server that is missing.
 fn badge_of_server(
     alloc: Global,
     server: &str,
@@ -39,7 +39,7 @@ fn add_columns(
     Ok(())
 }
 
-/// The name of a column, or no bytes where there is none.
+/// Returns the name of a column, or no bytes where there is none.
 fn column_name<'a>(schema: &'a Schema, table: u16, column: Col) -> &'a str {
     let Col::At(at) = column else {
         return "KEY";
@@ -53,7 +53,7 @@ fn column_name<'a>(schema: &'a Schema, table: u16, column: Col) -> &'a str {
     }
 }
 
-/// Returns the few words that say why a need fails under a rule, where this many rows that served it go. Fails for want of memory alone.
+/// Returns the few words that say why a need fails under a rule, where this many rows that served it go.
 pub(crate) fn badge_of_need(
     alloc: Global,
     schema: &Schema,

@@ -42,7 +42,7 @@ pub struct Cause {
     pub says: String,
 }
 
-/// The design that brings, changes or removes a row.
+/// Returns the design that brings, changes or removes a row.
 fn owner_of(standing: Standing) -> Option<usize> {
     match standing {
         Standing::New(at)
@@ -70,7 +70,7 @@ fn add_version(
     Ok(())
 }
 
-/// The rows of the subjects of a need.
+/// Returns the rows of the subjects of a need.
 fn subjects_of(field: Field<'_>, need: &Need) -> Result<Vec<CauseRow>, AllocError> {
     let mut rows = Vec::new(field.alloc);
     add_version(&mut rows, field, need.first)?;
@@ -80,7 +80,7 @@ fn subjects_of(field: Field<'_>, need: &Need) -> Result<Vec<CauseRow>, AllocErro
     Ok(rows)
 }
 
-/// How the place of a need under a rule is marked.
+/// Returns how the place of a need under a rule is marked.
 fn mark_of(field: Field<'_>, rule: &Rule, need: &Need, rows: &[CauseRow]) -> Mark {
     match rule {
         Rule::Unique { .. } => Mark::Link,
@@ -112,7 +112,7 @@ fn add_goer(
     Ok(())
 }
 
-/// The rows that served a need and go with a design.
+/// Returns the rows that served a need and go with a design.
 fn goers_of(field: Field<'_>, need: &Need) -> Result<Vec<CauseRow>, AllocError> {
     let changes = server_changes(field.alloc, field.office, &field.designs.members, need)?;
     let mut goers = Vec::new(field.alloc);
@@ -122,7 +122,7 @@ fn goers_of(field: Field<'_>, need: &Need) -> Result<Vec<CauseRow>, AllocError> 
     Ok(goers)
 }
 
-/// A need that nothing covers.
+/// Returns a need that nothing covers.
 fn uncovered(field: Field<'_>, need: &Need) -> Result<Option<Cause>, AllocError> {
     let Some(rule) = rule_of(field.office, need) else {
         return Ok(None);
@@ -161,7 +161,7 @@ fn add_row_of_design(
     Ok(())
 }
 
-/// A ring round the middle of the first of these rows, where it has one.
+/// Returns a ring round the middle of the first of these rows, where it has one.
 fn ring_round(rows: &[CauseRow]) -> Mark {
     let Some(first) = rows.first() else {
         return Mark::Nothing;
@@ -175,7 +175,7 @@ fn ring_round(rows: &[CauseRow]) -> Mark {
     }
 }
 
-/// A cell at which designs meet one another or the root.
+/// Returns a cell at which designs meet one another or the root.
 fn contested(
     field: Field<'_>,
     cell: CellId,
@@ -195,7 +195,7 @@ fn contested(
     }))
 }
 
-/// Returns what the cause of a plan is about, or none where the plan has no cause. Fails for want of memory alone.
+/// Returns what the cause of a plan is about, or none where the plan has no cause.
 pub fn cause_of(field: Field<'_>, plan: &Plan) -> Result<Option<Cause>, AllocError> {
     let Plan::Blocked { cause, .. } = plan else {
         return Ok(None);

@@ -15,7 +15,7 @@ pub struct Designs<'a> {
     leading: usize,
 }
 
-/// The positions of designs, those that lead first.
+/// Returns the positions of designs, those that lead first.
 fn order_of(alloc: Global, count: usize, leaders: &[usize]) -> Result<Vec<usize>, AllocError> {
     let mut order = Vec::from_slice(alloc, leaders)?;
     for at in 0..count {
@@ -28,7 +28,7 @@ fn order_of(alloc: Global, count: usize, leaders: &[usize]) -> Result<Vec<usize>
 
 impl<'a> Designs<'a> {
     /// Reads what designs change that are to be merged into a root; the leaders are the positions of those that a cause names. A name of no
-    /// workspace changes nothing. Fails for want of memory alone.
+    /// workspace changes nothing.
     pub fn read(
         alloc: Global,
         office: &Office,

@@ -7,7 +7,7 @@ use clr_drawing::{extent_of, joined};
 use clr_rows::{Place, Row, Shape, Sheet};
 use clr_segments::Bounds;
 
-/// The box of some rows.
+/// Returns the box of some rows.
 fn extent_of_rows(rows: &Sheet) -> Option<Bounds> {
     let mut extent = None;
     for (_, row) in rows.iter() {
@@ -16,7 +16,7 @@ fn extent_of_rows(rows: &Sheet) -> Option<Bounds> {
     extent
 }
 
-/// The least box that holds a box and a row, where there are these.
+/// Returns the least box that holds a box and a row, where there are these.
 fn with_row(extent: Option<Bounds>, row: Option<&Row>) -> Option<Bounds> {
     match row {
         Some(row) => extent_of(extent, &row.shape),
@@ -24,7 +24,7 @@ fn with_row(extent: Option<Bounds>, row: Option<&Row>) -> Option<Bounds> {
     }
 }
 
-/// The least box that holds a box, if there is one, and what a design changes.
+/// Returns the least box that holds a box, if there is one, and what a design changes.
 fn extent_of_set(extent: Option<Bounds>, set: &ChangeSet) -> Option<Bounds> {
     let mut extent = extent;
     for (_, change) in set.iter() {
@@ -34,7 +34,7 @@ fn extent_of_set(extent: Option<Bounds>, set: &ChangeSet) -> Option<Bounds> {
     extent
 }
 
-/// The box of what designs change, before and after.
+/// Returns the box of what designs change, before and after.
 pub(crate) fn extent_of_changes(designs: &Designs<'_>) -> Option<Bounds> {
     let mut extent = None;
     for at in designs.order() {
@@ -45,7 +45,7 @@ pub(crate) fn extent_of_changes(designs: &Designs<'_>) -> Option<Bounds> {
     extent
 }
 
-/// The least box that holds a box, if there is one, and these rows.
+/// Returns the least box that holds a box, if there is one, and these rows.
 fn extent_of_cause_rows(extent: Option<Bounds>, rows: &[CauseRow]) -> Option<Bounds> {
     let mut extent = extent;
     for row in rows {
@@ -54,7 +54,7 @@ fn extent_of_cause_rows(extent: Option<Bounds>, rows: &[CauseRow]) -> Option<Bou
     extent
 }
 
-/// The box of what a cause is about.
+/// Returns the box of what a cause is about.
 pub(crate) fn extent_of_cause(cause: &Cause) -> Option<Bounds> {
     let extent = extent_of_cause_rows(None, cause.rows.as_slice());
     let extent = extent_of_cause_rows(extent, cause.goers.as_slice());
@@ -64,7 +64,7 @@ pub(crate) fn extent_of_cause(cause: &Cause) -> Option<Bounds> {
     }
 }
 
-/// The box of a world in which nothing stands.
+/// Returns the box of a world in which nothing stands.
 fn nowhere() -> Bounds {
     Bounds {
         least: Place { x: 0, y: 0 },
@@ -72,7 +72,7 @@ fn nowhere() -> Bounds {
     }
 }
 
-/// The box of rows and of what is changed of them.
+/// Returns the box of rows and of what is changed of them.
 pub(crate) fn extent_of_everything(rows: &Sheet, changed: Option<Bounds>) -> Bounds {
     match (extent_of_rows(rows), changed) {
         (extent, Some(bounds)) => joined(extent, bounds),

@@ -44,7 +44,8 @@ pub(crate) fn view_of(world: Bounds, least: i64) -> View {
     View::new(world, frame)
 }
 
-/// The part of the world that a map round a cause shows: all of it where that isn't much more, and otherwise what is round the cause.
+/// Returns the part of the world that a map round a cause shows: all of it where that isn't much more, and otherwise what is round
+/// the cause.
 pub(crate) fn world_of_cause(whole: Bounds, cause: Bounds) -> Bounds {
     let side = longer_side(cause).max(1);
     if longer_side(whole) <= side.saturating_mul(6) {
@@ -54,7 +55,8 @@ pub(crate) fn world_of_cause(whole: Bounds, cause: Bounds) -> Bounds {
     }
 }
 
-/// The part of the world that a map of changes shows: all of it where that isn't much more, and otherwise what is round the changes.
+/// Returns the part of the world that a map of changes shows: all of it where that isn't much more, and otherwise what is round the
+/// changes.
 pub(crate) fn world_of_changes(whole: Bounds, changes: Bounds) -> Bounds {
     let side = longer_side(changes).max(1);
     if longer_side(whole).saturating_mul(10) < side.saturating_mul(16) {

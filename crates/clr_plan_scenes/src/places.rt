@@ -17,19 +17,19 @@ pub struct CausePlace {
     pub is_whole: bool,
 }
 
-/// The way from one coordinate to another.
+/// Returns the way from one coordinate to another.
 fn way(from: i64, to: i64) -> Option<i128> {
     i128::from(to).checked_sub(i128::from(from))
 }
 
-/// The cross product of the way from a to b and the way from c to d.
+/// Returns the cross product of the way from a to b and the way from c to d.
 fn cross_product(a: Place, b: Place, c: Place, d: Place) -> Option<i128> {
     let rising = way(a.x, b.x)?.checked_mul(way(c.y, d.y)?)?;
     let falling = way(a.y, b.y)?.checked_mul(way(c.x, d.x)?)?;
     rising.checked_sub(falling)
 }
 
-/// The whole number near the share of the way from one coordinate to another.
+/// Returns the whole number near the share of the way from one coordinate to another.
 fn coordinate_near(from: i64, to: i64, numerator: i128, denominator: i128) -> Option<i64> {
     let shift = way(from, to)?
         .checked_mul(numerator)?
@@ -37,7 +37,7 @@ fn coordinate_near(from: i64, to: i64, numerator: i128, denominator: i128) -> Op
     i64::try_from(i128::from(from).checked_add(shift)?).ok()
 }
 
-/// A place near where the lines through two parts cross.
+/// Returns a place near where the lines through two parts cross.
 fn crossing_near(first: (Place, Place), second: (Place, Place)) -> Option<Place> {
     let (a, b) = first;
     let (c, d) = second;
@@ -49,14 +49,14 @@ fn crossing_near(first: (Place, Place), second: (Place, Place)) -> Option<Place>
     })
 }
 
-/// The number between two others that is nearer to the middle, where ranges overlap.
+/// Returns the number between two others that is nearer to the middle, where ranges overlap.
 fn middle_of_common(a: i64, b: i64, c: i64, d: i64) -> i64 {
     let low = a.min(b).max(c.min(d));
     let high = a.max(b).min(c.max(d));
     low.saturating_add(high.saturating_sub(low) / 2)
 }
 
-/// A place in the middle of what two parts of one line share.
+/// Returns a place in the middle of what two parts of one line share.
 fn middle_of_overlap(first: (Place, Place), second: (Place, Place)) -> Place {
     Place {
         x: middle_of_common(first.0.x, first.1.x, second.0.x, second.1.x),
@@ -64,14 +64,14 @@ fn middle_of_overlap(first: (Place, Place), second: (Place, Place)) -> Place {
     }
 }
 
-/// The parts of the subjects of a need.
+/// Returns the parts of the subjects of a need.
 fn parts_of(need: &Need, rows: &[CauseRow]) -> Option<((Place, Place), (Place, Place))> {
     let first = part(&rows.first()?.row.shape, need.first_part)?;
     let second = part(&rows.get(1)?.row.shape, need.second_part)?;
     Some((first, second))
 }
 
-/// A place near where the subjects of a need meet.
+/// Returns a place near where the subjects of a need meet.
 fn place_near(meeting: Meeting, need: &Need, rows: &[CauseRow]) -> Option<Place> {
     let (first, second) = parts_of(need, rows)?;
     match meeting {
@@ -80,7 +80,7 @@ fn place_near(meeting: Meeting, need: &Need, rows: &[CauseRow]) -> Option<Place>
     }
 }
 
-/// The middle of the first subject of a need whose rule asks for no place.
+/// Returns the middle of the first subject of a need whose rule asks for no place.
 fn middle_of_first(rows: &[CauseRow]) -> Option<CausePlace> {
     Some(CausePlace {
         place: middle_of(&rows.first()?.row.shape)?,
@@ -88,7 +88,7 @@ fn middle_of_first(rows: &[CauseRow]) -> Option<CausePlace> {
     })
 }
 
-/// Where a need with these subjects fails, or none where they have no place.
+/// Returns where a need with these subjects fails, or none where they have no place.
 pub(crate) fn place_of_need(
     field: Field<'_>,
     need: &Need,

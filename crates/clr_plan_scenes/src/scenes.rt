@@ -28,7 +28,7 @@ const HIGH: i64 = 5600;
 /// How many designs are few.
 const FEW: usize = 6;
 
-/// How many rows with a shape are seen.
+/// Returns how many rows with a shape are seen.
 fn seen_rows(rows: &Sheet, view: &View) -> usize {
     let mut count = 0usize;
     for (_, row) in rows.iter() {
@@ -56,7 +56,7 @@ fn seen_in_set(set: &ChangeSet, view: &View) -> usize {
     count
 }
 
-/// How many changes are seen.
+/// Returns how many changes are seen.
 fn seen_changes(designs: &Designs<'_>, view: &View) -> usize {
     let mut count = 0usize;
     for at in designs.order() {
@@ -67,7 +67,7 @@ fn seen_changes(designs: &Designs<'_>, view: &View) -> usize {
     count
 }
 
-/// The view of a plan: of what is round a cause, or of the changes.
+/// Returns the view of a plan: of what is round a cause, or of the changes.
 fn view_of_plan(
     designs: &Designs<'_>,
     cause: Option<&Cause>,

@@ -47,8 +47,7 @@ fn add_cleared(text: &mut String, setting: Setting<'_>) -> Result<(), AllocError
 }
 
 /// Returns what a plan answers, in sentences, each a line: whether the members can be merged, and in which order a merge is
-/// refused; or which name has to be mended first. Nothing is told of a plan that found no memory. Fails for want of memory
-/// alone.
+/// refused; or which name has to be mended first. Nothing is told of a plan that found no memory.
 pub fn answer_words(setting: Setting<'_>, plan: &Plan) -> Result<String, AllocError> {
     let mut text = String::new(setting.alloc);
     match plan {

@@ -163,8 +163,7 @@ impl Setting<'_> {
         }
     }
 
-    /// Returns why members are blocked. Nothing is told of a verdict that blocks none. Fails for want of memory
-    /// alone.
+    /// Returns why members are blocked. Nothing is told of a verdict that blocks none.
     pub fn cause_words(&self, verdict: &Verdict) -> Result<CauseWords, AllocError> {
         let mut cause = CauseWords {
             reason: String::new(self.alloc),

@@ -43,7 +43,7 @@ pub struct Members<'a> {
     pub changes: Vec<ChangeSet>,
 }
 
-/// What a workspace changes, and nothing where there is none.
+/// Returns what a workspace changes, and nothing where there is none.
 fn changes_of(alloc: Global, office: &Office, name: &str) -> Result<ChangeSet, AllocError>
     ensures { IfOk result (λ set. set ≡ changes_in office.now name.now) }
 {
@@ -53,7 +53,7 @@ fn changes_of(alloc: Global, office: &Office, name: &str) -> Result<ChangeSet, A
     }
 }
 
-/// What workspaces change, in their order.
+/// Returns what workspaces change, in their order.
 fn change_sets(alloc: Global, office: &Office, names: &[&str]) -> Result<Vec<ChangeSet>, AllocError>
     ensures { IfOk result (λ sets. sets.items ≡ map (changes_in office.now) (map (λ name. name.now) names.now)) }
 {
@@ -64,7 +64,7 @@ fn change_sets(alloc: Global, office: &Office, names: &[&str]) -> Result<Vec<Cha
     Ok(sets)
 }
 
-/// The position of the first change set that changes a cell.
+/// Returns the position of the first change set that changes a cell.
 fn changer_among(sets: &[ChangeSet], cell: CellId) -> Option<usize>
     ensures { result ≡ first_changer (after_of sets.now) (positions sets.now) cell }
 {
@@ -94,19 +94,19 @@ impl<'a> Members<'a> {
         })
     }
 
-    /// The name of the member at a position, or an empty one past the end.
+    /// Returns the name of the member at a position, or an empty one past the end.
     pub fn name(&self, at: usize) -> &str {
         member_name(self.names, at)
     }
 
-    /// The first member that changes a cell.
+    /// Returns the first member that changes a cell.
     pub fn changer_of(&self, cell: CellId) -> Option<usize>
         ensures { result ≡ first_changer (after_of self.now.changes.items) (positions self.now.changes.items) cell }
     {
         changer_among(self.changes.as_slice(), cell)
     }
 
-    /// The row that a member brings to a cell that it changes.
+    /// Returns the row that a member brings to a cell that it changes.
     pub fn row_after(&self, at: usize, cell: CellId) -> Option<&Row>
         ensures { option_copied result ≡ set_row (λ e. e.after) self.now.changes.items at cell }
     {
@@ -115,7 +115,7 @@ impl<'a> Members<'a> {
         change.after.as_ref()
     }
 
-    /// The row that a member took over at a cell that it changes.
+    /// Returns the row that a member took over at a cell that it changes.
     pub fn row_before(&self, at: usize, cell: CellId) -> Option<&Row>
         ensures { option_copied result ≡ set_row (λ e. e.before) self.now.changes.items at cell }
     {
@@ -124,7 +124,7 @@ impl<'a> Members<'a> {
         change.before.as_ref()
     }
 
-    /// Where a version stands.
+    /// Returns where a version stands.
     pub fn standing(&self, version: VersionId) -> Standing {
         match self.changer_of(version.cell) {
             None => Standing::Stays,
@@ -134,7 +134,7 @@ impl<'a> Members<'a> {
         }
     }
 
-    /// The row that the first member which changes a cell brings there.
+    /// Returns the row that the first member which changes a cell brings there.
     fn new_row(&self, cell: CellId) -> Option<&Row>
         ensures { option_copied result
             ≡ new_row_at self.now.changes.items cell }
@@ -145,7 +145,7 @@ impl<'a> Members<'a> {
         }
     }
 
-    /// The row of a version.
+    /// Returns the row of a version.
     pub fn row_of<'b>(&'b self, office: &'b Office, version: VersionId) -> Option<&'b Row>
         ensures { (s : Site) → AreMembers office.entry.now s self.entry.now → option_copied result ≡ row_in office.entry.now s version }
     {

@@ -51,7 +51,7 @@ impl Setting<'_> {
         Ok(text)
     }
 
-    /// Returns a need, and what serves it. Fails for want of memory alone.
+    /// Returns a need, and what serves it.
     pub fn need_words(&self, entry: &Entry) -> Result<NeedWords, AllocError> {
         Ok(NeedWords {
             rule: self.rule_words(&entry.need)?,

@@ -10,7 +10,7 @@ use clr_rules::{ColumnList, Rule, Side};
 use clr_wording::{At, Meeting, add_names, field_words, rule_sentence, rule_title, side_words};
 use std::alloc::AllocError;
 
-/// Whether no row can stand where a need asks for one.
+/// Returns whether no row can stand where a need asks for one.
 fn is_hopeless(site: Meeting) -> bool {
     match site {
         Meeting::Between => true,
@@ -19,7 +19,7 @@ fn is_hopeless(site: Meeting) -> bool {
     }
 }
 
-/// The word for the rows of a need.
+/// Returns the word for the rows of a need.
 fn rows_word(need: &Need) -> &'static str {
     match need.second {
         Some(_) => "them",

@@ -28,14 +28,14 @@ struct Asked<'a> {
     second: Option<Held<'a>>,
 }
 
-/// Whether a row fits the schema of an office.
+/// Returns whether a row fits the schema of an office.
 fn fits(office: &Office, held: Held<'_>) -> bool
     ensures { result ≡ true → FitsCell office.now.schema (held_of held.entry) }
 {
     office.schema().fits(held.cell, held.row).is_ok()
 }
 
-/// Whether a row fits the schema of an office, where there is one.
+/// Returns whether a row fits the schema of an office, where there is one.
 fn fits_too(office: &Office, held: Option<Held<'_>>) -> bool
     ensures { result ≡ true → All (FitsCell office.now.schema) (option_to_list (option_map held_of held.entry)) }
 {
@@ -46,7 +46,7 @@ fn fits_too(office: &Office, held: Option<Held<'_>>) -> bool
 }
 
 impl Asked<'_> {
-    /// Whether a row serves the need, in an office whose schema all its rows fit.
+    /// Returns whether a row serves the need, in an office whose schema all its rows fit.
     fn is_served(&self, office: &Office, server: Held<'_>) -> bool {
         let book = office.book();
         if self.need.rule as usize >= book.len() || !fits(office, self.first) {
@@ -58,7 +58,7 @@ impl Asked<'_> {
         book.serves(self.need.ask(), self.first, self.second, server)
     }
 
-    /// Whether a row serves the need, where there is one.
+    /// Returns whether a row serves the need, where there is one.
     fn is_served_by(&self, office: &Office, cell: CellId, row: Option<&Row>) -> bool {
         match row {
             Some(row) => self.is_served(office, Held { cell, row }),
@@ -112,7 +112,7 @@ fn asked_by<'a>(office: &'a Office, members: &'a Members<'_>, need: &'a Need) ->
 }
 
 /// Finds the changes of members that bring a row which serves a need, or take one away, in the order of
-/// the members and of the cells. Fails for want of memory alone.
+/// the members and of the cells.
 pub fn server_changes(
     alloc: Global,
     office: &Office,

@@ -14,7 +14,7 @@ pub struct Setting<'a> {
 }
 
 impl Setting<'_> {
-    /// Returns a cell as `main 20`. Fails for want of memory alone.
+    /// Returns a cell as `main 20`.
     pub fn cell_label(&self, cell: CellId) -> Result<String, AllocError> {
         let table = self.office.schema().name_of_table(cell.table);
         let key = cell.key;

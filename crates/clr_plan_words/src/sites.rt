@@ -8,7 +8,7 @@ use clr_rules::{Rule, Side, Tip};
 use clr_segments::part;
 use clr_wording::{Meeting, meet_parts};
 
-/// The first or the last vertex of a segment or a path.
+/// Returns the first or the last vertex of a segment or a path.
 fn end_of(tip: Tip, shape: &Shape) -> Option<Place> {
     match (tip, shape) {
         (Tip::First, Shape::Line(place, _)) => Some(*place),
@@ -19,7 +19,7 @@ fn end_of(tip: Tip, shape: &Shape) -> Option<Place> {
     }
 }
 
-/// Where two rows meet, by the parts of a need.
+/// Returns where two rows meet, by the parts of a need.
 fn crossing_site(need: &Need, first: &Row, second: &Row) -> Meeting {
     let one = part(&first.shape, need.first_part);
     let two = part(&second.shape, need.second_part);
@@ -29,7 +29,7 @@ fn crossing_site(need: &Need, first: &Row, second: &Row) -> Meeting {
     }
 }
 
-/// The end of a row as a place where a row that serves it would have to stand.
+/// Returns the end of a row as a place where a row that serves it would have to stand.
 fn end_site(tip: Tip, row: &Row) -> Meeting {
     match end_of(tip, &row.shape) {
         Some(place) => Meeting::Whole(place),
@@ -37,13 +37,13 @@ fn end_site(tip: Tip, row: &Row) -> Meeting {
     }
 }
 
-/// The rule of a need.
+/// Returns the rule of a need.
 pub fn rule_of<'a>(office: &'a Office, need: &Need) -> Option<&'a Rule> {
     office.book().rules().get(need.rule as usize)
 }
 
-/// Where a row that serves a need would have to stand: the place where its rows meet, or the end of the
-/// one row. No place is told where the rule asks for none.
+/// Returns where a row that serves a need would have to stand: the place where its rows meet, or the
+/// end of the one row. No place is told where the rule asks for none.
 pub fn site_of(office: &Office, members: &Members<'_>, need: &Need) -> Meeting {
     let Some(first) = members.row_of(office, need.first) else {
         return Meeting::NoParts;
@@ -59,7 +59,7 @@ pub fn site_of(office: &Office, members: &Members<'_>, need: &Need) -> Meeting {
     }
 }
 
-/// The side whose rows serve under a rule, if any can.
+/// Returns the side whose rows serve under a rule, if any can.
 pub fn server_side(rule: &Rule) -> Option<&Side> {
     match rule {
         Rule::Partner { server, .. } => Some(server),

@@ -32,5 +32,6 @@ more_hints o names name old new given (hints, all, e) (inr (near, nobody, named,
     let is : IsNameHint o names hint = record { given = given; nobody = nobody; near = named } in (
       hints ++ hint ∷ [],
       one_more (IsNameHint o names) hints hint all is,
-      added ∙ ap (λ ls. ls ++ hint_text hint) e ∙ sym (flat_map-append hint_text hints (hint ∷ []) ∙ ap (λ ls. flat_map hint_text hints ++ ls) (append-nil (hint_text hint))),
+      added ∙ ap (λ ls. ls ++ hint_text hint) e ∙ sym (flat_map-append hint_text hints (hint ∷ [])
+          ∙ ap (λ ls. flat_map hint_text hints ++ ls) (append-nil (hint_text hint))),
     )

@@ -5,7 +5,7 @@ use Rattle.clr_cert.specs.declared.certificates.Certificate.{Certificate}
 use Rattle.clr_check_texts.specs.Cases.{Case, IsCaseFault}
 use Rattle.clr_check_texts.specs.declared.cases.CaseFault.{CaseFault}
 use Rattle.clr_check_texts.specs.declared.cases.CaseFault.TheVariants as no_case
-use Rattle.clr_office_text.specs.declared.faults.TextFault.{TextFault}
+use Rattle.clr_rule_text.specs.declared.faults.TextFault.{TextFault}
 use Rattle.clr_office.specs.Clearances.{fault_print}
 use Rattle.clr_office.specs.Printing.{IsNoPrint}
 use Rattle.clr_office.specs.Printing.{IsMade as AreLinesMade, IsPrintIn as IsLinesIn, IsTextFault as IsLinesFault, Printed as Lines}

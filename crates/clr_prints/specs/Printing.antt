@@ -5,7 +5,7 @@ use Rattle.clr_engine.specs.Drafts.{unheld_in}
 use Rattle.clr_cert.specs.declared.certificates.Certificate.{Certificate}
 use Rattle.clr_check_texts.specs.Cases.{Case}
 use Rattle.clr_check_texts.specs.declared.cases.CaseFault.{CaseFault}
-use Rattle.clr_office_text.specs.declared.faults.TextFault.{TextFault}
+use Rattle.clr_rule_text.specs.declared.faults.TextFault.{TextFault}
 use Rattle.clr_office.specs.Clearances.{fault_print}
 use Rattle.clr_office.specs.Printing.{IsNoPrint, status_of}
 use Rattle.clr_office.specs.Printing.{IsPrintIn as IsLinesIn, Printed as Lines}

@@ -10,7 +10,7 @@ use clr_office::Words;
 use clr_rows::LIVE;
 use std::alloc::{AllocError, Global};
 
-/// The names of all workspaces, that of LIVE first.
+/// Returns the names of all workspaces, that of LIVE first.
 fn names_of_workspaces<'a>(alloc: Global, office: &'a Office) -> Result<Vec<&'a str>, AllocError>
     ensures { IfOk result (λ names. All (λ name. IsNamed office.now name.now) names.items) }
 {
@@ -23,7 +23,7 @@ fn names_of_workspaces<'a>(alloc: Global, office: &'a Office) -> Result<Vec<&'a 
     Ok(names)
 }
 
-/// The name of a workspace that may be meant by a name that no workspace has.
+/// Returns the name of a workspace that may be meant by a name that no workspace has.
 fn meant<'a>(
     alloc: Global,
     office: &Office,
@@ -38,7 +38,7 @@ fn meant<'a>(
     nearest(alloc, name, known)
 }
 
-/// The line of a hint at a name, and at the one that may be meant by it.
+/// Returns the line of a hint at a name, and at the one that may be meant by it.
 fn hint_line(alloc: Global, name: &str, near: &str) -> Result<Vec<u8>, AllocError>
     ensures { IfOk result (λ line. line.items ≡ hint_text (record { name = name.now; near = near.now })) }
 {
@@ -68,7 +68,8 @@ fn add_hint(
     Ok(())
 }
 
-/// The lines of hints at names that no workspace has, where one has a name like them: the root, and the others.
+/// Returns the lines of hints at names that no workspace has, where one has a name like them: the root, and the
+/// others.
 pub fn hint_lines(
     alloc: Global,
     office: &Office,
@@ -86,7 +87,8 @@ pub fn hint_lines(
     Ok(lines)
 }
 
-/// What is printed for a root and names, and behind its notes hints at those that no workspace has.
+/// Returns what is printed for a root and names, and behind its notes hints at those that no
+/// workspace has.
 pub fn with_hints(
     alloc: Global,
     office: &Office,

@@ -21,7 +21,8 @@ pub enum Ending {
 }
 
 impl Ending {
-    /// The ending of lines that tell whether something was refused and whether something found no memory.
+    /// Returns the ending of lines that tell whether something was refused and whether something found no
+    /// memory.
     pub fn of(refused: bool, lost: bool) -> Ending
         ensures status { status_by result ≡ status_of refused lost }
         ensures lost { is_lost result ≡ lost }
@@ -46,7 +47,8 @@ pub struct Print {
 }
 
 impl Print {
-    /// A text with notes, where something was refused or not, and something found no memory or not.
+    /// Returns a text with notes, where something was refused or not, and something found no memory
+    /// or not.
     pub fn new(text: Vec<u8>, notes: Vec<u8>, refused: bool, lost: bool) -> Print
         ensures { printed result ≡ print_of text.items notes.items refused lost }
     {
@@ -57,14 +59,14 @@ impl Print {
         }
     }
 
-    /// A text that refuses nothing, without notes.
+    /// Returns a text that refuses nothing, without notes.
     pub fn of_text(alloc: Global, text: Vec<u8>) -> Print
         ensures { printed result ≡ print_of text.items [] false false }
     {
         Print::new(text, Vec::new(alloc), false, false)
     }
 
-    /// The same with lines behind the notes.
+    /// Returns the same with lines behind the notes.
     pub fn with_notes(mut self, lines: &[u8]) -> Result<Print, AllocError>
         ensures { IfOk result (λ p. printed p ≡ with_lines lines.now (printed self)) }
     {
@@ -72,7 +74,7 @@ impl Print {
         Ok(self)
     }
 
-    /// What goes to standard output: the text, and nothing where something found no memory.
+    /// Returns what goes to standard output: the text, and nothing where something found no memory.
     pub fn shown(&self) -> &[u8]
         ensures { result.now ≡ unless_lost (is_lost self.now.ending) self.now.text.items }
     {
@@ -82,8 +84,8 @@ impl Print {
         }
     }
 
-    /// The exit status: 0 where all was done, 1 where something was refused, 2 where a text has a fault, and
-    /// 3 where something found no memory.
+    /// Returns the exit status: 0 where all was done, 1 where something was refused, 2 where a text has a
+    /// fault, and 3 where something found no memory.
     pub fn status(&self) -> u8
         ensures { result ≡ status_by self.now.ending }
     {

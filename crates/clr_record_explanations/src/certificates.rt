@@ -19,7 +19,7 @@ pub struct CertificateFault {
     pub remark: Remark,
 }
 
-/// What is said of the fault that is found in a certificate.
+/// Returns what is said of the fault that is found in a certificate.
 fn remark_on(
     alloc: Global,
     schema: &Schema,
@@ -39,7 +39,7 @@ fn remark_on(
 }
 
 /// Returns the fault of a certificate over a schema, as `read_certificate` answers it, the number of its record and what is said of
-/// it: where it stands, what is wrong, and a hint where one helps; or none where it can be read. Fails for want of memory alone.
+/// it: where it stands, what is wrong, and a hint where one helps; or none where it can be read.
 pub fn explain_certificate(
     alloc: Global,
     schema: &Schema,

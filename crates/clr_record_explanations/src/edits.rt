@@ -17,7 +17,7 @@ const TABLE: usize = 1;
 /// How many fields stand before the values of an edit: its word, the table and the key.
 const FIRST_VALUE: usize = 3;
 
-/// That an edit begins with another word.
+/// Returns that an edit begins with another word.
 fn bad_word(alloc: Global, fields: &StringRecord) -> Result<RecordSlip, AllocError> {
     let word = field(fields, 0);
     let sentence = format!(in alloc;
@@ -27,7 +27,7 @@ fn bad_word(alloc: Global, fields: &StringRecord) -> Result<RecordSlip, AllocErr
     Ok(RecordSlip::new(0, sentence).with_hint(hint))
 }
 
-/// That an edit of a table has another count of fields than it must have.
+/// Returns that an edit of a table has another count of fields than it must have.
 fn bad_count_in(
     alloc: Global,
     fields: &StringRecord,
@@ -48,7 +48,7 @@ fn bad_count_in(
     Ok(RecordSlip::new(0, sentence))
 }
 
-/// That an edit has another count of fields than it must have.
+/// Returns that an edit has another count of fields than it must have.
 fn bad_count(
     alloc: Global,
     schema: &Schema,
@@ -62,7 +62,8 @@ fn bad_count(
     Ok(RecordSlip::new(0, sentence))
 }
 
-/// Whether a field of an edit must be a number: the key, a value of a column INT, a coordinate.
+/// Returns whether a field of an edit must be a number: the key, a value of a column INT, a
+/// coordinate.
 fn is_number_field(table: Option<&TableDef>, at: usize) -> bool {
     if at < FIRST_VALUE {
         return at == 2;
@@ -76,7 +77,7 @@ fn is_number_field(table: Option<&TableDef>, at: usize) -> bool {
     }
 }
 
-/// The first field of an edit that must be a number and is none.
+/// Returns the first field of an edit that must be a number and is none.
 fn number_field(schema: &Schema, fields: &StringRecord) -> usize {
     let table = table_of(schema, field(fields, 1));
     for at in 2..fields.len() {
@@ -87,7 +88,7 @@ fn number_field(schema: &Schema, fields: &StringRecord) -> usize {
     2
 }
 
-/// That a field of an edit is no number and must be one.
+/// Returns that a field of an edit is no number and must be one.
 fn bad_number(
     alloc: Global,
     schema: &Schema,
@@ -101,7 +102,7 @@ fn bad_number(
     Ok(RecordSlip::new(at, sentence))
 }
 
-/// Returns what is wrong with a record that is read as an edit, for the fault that it has. Fails for want of memory alone.
+/// Returns what is wrong with a record that is read as an edit, for the fault that it has.
 pub fn explain_edit(
     alloc: Global,
     schema: &Schema,

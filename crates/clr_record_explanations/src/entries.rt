@@ -11,7 +11,7 @@ use std::alloc::{AllocError, Global};
 
 const KINDS: &[&str] = &["root", "member", "need"];
 
-/// That a record has another count of fields than six.
+/// Returns that a record has another count of fields than six.
 fn bad_count(alloc: Global, fields: &StringRecord) -> Result<RecordSlip, AllocError> {
     let count = fields.len();
     let sentence = format!(in alloc; "a record has {RECORD_FIELDS} fields, and here are {count}")?;
@@ -23,7 +23,7 @@ fn bad_count(alloc: Global, fields: &StringRecord) -> Result<RecordSlip, AllocEr
     Ok(slip.with_hint(Some(hint)))
 }
 
-/// That a record begins with none of the three words.
+/// Returns that a record begins with none of the three words.
 fn bad_kind(alloc: Global, fields: &StringRecord) -> Result<RecordSlip, AllocError> {
     let word = field(fields, 0);
     let sentence = format!(in alloc; "'{word}' is none of root, member and need")?;
@@ -31,7 +31,7 @@ fn bad_kind(alloc: Global, fields: &StringRecord) -> Result<RecordSlip, AllocErr
     Ok(RecordSlip::new(0, sentence).with_hint(hint))
 }
 
-/// The first field behind the name of a record that isn't empty.
+/// Returns the first field behind the name of a record that isn't empty.
 fn field_behind_name(fields: &StringRecord) -> Option<usize> {
     for at in 2..RECORD_FIELDS {
         if !field(fields, at).is_empty() {
@@ -41,7 +41,7 @@ fn field_behind_name(fields: &StringRecord) -> Option<usize> {
     None
 }
 
-/// What is wrong with a record of a name.
+/// Returns what is wrong with a record of a name.
 fn bad_name(alloc: Global, fields: &StringRecord) -> Result<RecordSlip, AllocError> {
     let name = field(fields, 1);
     if field(fields, 0) == "root" && name == LIVE {
@@ -57,7 +57,7 @@ fn bad_name(alloc: Global, fields: &StringRecord) -> Result<RecordSlip, AllocErr
     }
 }
 
-/// Returns what is wrong with a record of a certificate, for the fault that it has. Fails for want of memory alone.
+/// Returns what is wrong with a record of a certificate, for the fault that it has.
 pub fn explain_entry(
     alloc: Global,
     schema: &Schema,

@@ -20,7 +20,7 @@ impl RecordSlip {
         }
     }
 
-    /// Returns a slip with these words as its sentence. Fails for want of memory alone.
+    /// Returns a slip with these words as its sentence.
     pub fn of_words(alloc: Global, field: usize, sentence: &str) -> Result<RecordSlip, AllocError> {
         Ok(RecordSlip::new(field, String::from_str(alloc, sentence)?))
     }

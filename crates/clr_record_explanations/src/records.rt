@@ -8,7 +8,7 @@ use clr_hints::{blank_lines_hint, encoding_fault};
 use clr_places::field_at;
 use std::alloc::{AllocError, Global};
 
-/// Where a field of a record begins, or else the record, or else the text.
+/// Returns where a field of a record begins, or else the record, or else the text.
 fn offset_of(text: &[u8], number: usize, field: usize) -> usize
     ensures { result ≤ length text.now }
 {
@@ -19,7 +19,7 @@ fn offset_of(text: &[u8], number: usize, field: usize) -> usize
     }
 }
 
-/// The hint that there is, or else one at blank lines.
+/// Returns the hint that there is, or else one at blank lines.
 fn hint_or_blank_lines(
     alloc: Global,
     text: &[u8],
@@ -31,7 +31,7 @@ fn hint_or_blank_lines(
     }
 }
 
-/// The remark that a slip of a record makes.
+/// Returns the remark that a slip of a record makes.
 pub fn remark_on_record(
     alloc: Global,
     text: &[u8],
@@ -57,7 +57,7 @@ pub fn remark_on_record(
     })
 }
 
-/// What is said of a text that isn't UTF-8.
+/// Returns what is said of a text that isn't UTF-8.
 pub fn remark_on_encoding(alloc: Global, text: &[u8]) -> Result<Remark, AllocError>
     ensures within { IfOk result (λ remark. remark.offset ≤ length text.now) }
     ensures place { IfOk result (λ remark. string_bytes remark.place ≡ []) }

@@ -13,7 +13,8 @@ pub(crate) const RECORD_FIELDS: usize = 6;
 /// The field of the first witness; those between it and the rule are subjects.
 const FIRST_WITNESS: usize = 4;
 
-/// Whether a text has the form of a version of a row of a known table, with a part behind it where it is a subject.
+/// Returns whether a text has the form of a version of a row of a known table, with a part behind it where it is a
+/// subject.
 fn is_version(schema: &Schema, text: &str, at: usize) -> bool {
     let mut parts = text.split('/');
     let table = parts.next().unwrap_or("");
@@ -27,12 +28,12 @@ fn is_version(schema: &Schema, text: &str, at: usize) -> bool {
     is_cell && matches!(word, "old" | "new") && is_part && parts.next().is_none()
 }
 
-/// Whether a version may be missing: the second subject and the second witness.
+/// Returns whether a version may be missing: the second subject and the second witness.
 fn can_be_missing(at: usize) -> bool {
     at == 3 || at == 5
 }
 
-/// A hint at the table of a version, where it isn't known.
+/// Returns a hint at the table of a version, where it isn't known.
 fn table_hint(alloc: Global, schema: &Schema, text: &str) -> Result<Option<String>, AllocError> {
     let Some((table, _)) = text.split_once('/') else {
         return Ok(None);
@@ -44,7 +45,7 @@ fn table_hint(alloc: Global, schema: &Schema, text: &str) -> Result<Option<Strin
     name_hint(alloc, table, names.as_slice())
 }
 
-/// That a field of a need is no version of a row.
+/// Returns that a field of a need is no version of a row.
 fn bad_version(
     alloc: Global,
     schema: &Schema,
@@ -58,7 +59,7 @@ fn bad_version(
     Ok(RecordSlip::new(at, sentence).with_hint(hint))
 }
 
-/// The first version of a need that can't be one.
+/// Returns the first version of a need that can't be one.
 fn first_bad_version(
     alloc: Global,
     schema: &Schema,
@@ -74,7 +75,7 @@ fn first_bad_version(
     RecordSlip::of_words(alloc, 2, "a key or a part is out of range")
 }
 
-/// What is wrong with a need, whose rule or one of whose versions can't be.
+/// Returns what is wrong with a need, whose rule or one of whose versions can't be.
 pub(crate) fn bad_need(
     alloc: Global,
     schema: &Schema,

@@ -22,7 +22,7 @@ pub struct ScriptFault {
     pub remark: Remark,
 }
 
-/// What is wrong with a record, as what it is read.
+/// Returns what is wrong with a record, as what it is read.
 fn slip_of(
     alloc: Global,
     schema: &Schema,
@@ -37,7 +37,7 @@ fn slip_of(
     }
 }
 
-/// What is said of the fault that is found in a script.
+/// Returns what is said of the fault that is found in a script.
 fn remark_on(
     alloc: Global,
     schema: &Schema,
@@ -57,7 +57,7 @@ fn remark_on(
 }
 
 /// Returns the fault of a script over a schema, as `read_script` answers it, the number of its record and what is said of it: where
-/// it stands, what is wrong, and a hint where one helps; or none where the script can be read. Fails for want of memory alone.
+/// it stands, what is wrong, and a hint where one helps; or none where the script can be read.
 pub fn explain_script(
     alloc: Global,
     schema: &Schema,

@@ -45,7 +45,7 @@ fn word_of(pattern: &'static str) -> &'static str {
     }
 }
 
-/// The step that begins with a word, or no text.
+/// Returns the step that begins with a word, or no text.
 fn pattern_of(word: &str) -> &'static str {
     for pattern in PATTERNS {
         if word_of(*pattern) == word {
@@ -55,7 +55,7 @@ fn pattern_of(word: &str) -> &'static str {
     ""
 }
 
-/// The words that a step can begin with.
+/// Returns the words that a step can begin with.
 fn all_words(alloc: Global) -> Result<Vec<&'static str>, AllocError> {
     let mut words = Vec::new(alloc);
     for pattern in PATTERNS {
@@ -64,7 +64,7 @@ fn all_words(alloc: Global) -> Result<Vec<&'static str>, AllocError> {
     Ok(words)
 }
 
-/// That a word isn't known where it stands.
+/// Returns that a word isn't known where it stands.
 fn bad_word(alloc: Global, fields: &StringRecord) -> Result<RecordSlip, AllocError> {
     match field(fields, 0) {
         "merge" => RecordSlip::of_words(alloc, 2, "the third field of a merge is keep or remove"),
@@ -82,7 +82,7 @@ fn bad_word(alloc: Global, fields: &StringRecord) -> Result<RecordSlip, AllocErr
     }
 }
 
-/// That no step begins with a word.
+/// Returns that no step begins with a word.
 fn unknown_word(alloc: Global, word: &str) -> Result<RecordSlip, AllocError> {
     let words = all_words(alloc)?;
     let sentence = format!(in alloc; "no step begins with '{word}'")?;
@@ -90,12 +90,12 @@ fn unknown_word(alloc: Global, word: &str) -> Result<RecordSlip, AllocError> {
     Ok(RecordSlip::new(0, sentence).with_hint(hint))
 }
 
-/// How many fields a step has.
+/// Returns how many fields a step has.
 fn count_of(pattern: &str) -> usize {
     pattern.split(',').count()
 }
 
-/// That a step has another count of fields than its word asks for.
+/// Returns that a step has another count of fields than its word asks for.
 fn bad_count(alloc: Global, fields: &StringRecord) -> Result<RecordSlip, AllocError> {
     let word = field(fields, 0);
     let count = fields.len();
@@ -107,7 +107,7 @@ fn bad_count(alloc: Global, fields: &StringRecord) -> Result<RecordSlip, AllocEr
     Ok(RecordSlip::new(0, sentence))
 }
 
-/// That the number of a step isn't one.
+/// Returns that the number of a step isn't one.
 fn bad_number(alloc: Global, fields: &StringRecord) -> Result<RecordSlip, AllocError> {
     let at = if field(fields, 0) == "resolve" { 3 } else { 2 };
     let text = field(fields, at);
@@ -117,8 +117,7 @@ fn bad_number(alloc: Global, fields: &StringRecord) -> Result<RecordSlip, AllocE
     Ok(RecordSlip::new(at, sentence))
 }
 
-/// Returns what is wrong with a record that is read as a step of its own, for the fault that it has. Fails for want of memory
-/// alone.
+/// Returns what is wrong with a record that is read as a step of its own, for the fault that it has.
 pub fn explain_step(
     alloc: Global,
     schema: &Schema,
@@ -133,7 +132,7 @@ pub fn explain_step(
     }
 }
 
-/// Returns that an `apply` asks for more edits than records stand behind it. Fails for want of memory alone.
+/// Returns that an `apply` asks for more edits than records stand behind it.
 pub fn explain_short_apply(alloc: Global, fields: &StringRecord) -> Result<RecordSlip, AllocError> {
     let wanted = field(fields, 2);
     let sentence = format!(in alloc; "apply asks for {wanted} edits, and fewer records follow")?;

@@ -27,21 +27,21 @@ pub struct CertificateFault {
     pub fields: Option<StringRecord>,
 }
 
-/// Whether a record begins as a root record.
+/// Returns whether a record begins as a root record.
 fn names_root(fields: &StringRecord) -> bool
     ensures { result ≡ names_root (fields_of fields.now) }
 {
     field(fields, 0) == "root"
 }
 
-/// Whether a root record stands among records.
+/// Returns whether a root record stands among records.
 fn has_root(records: &[StringRecord]) -> bool
     ensures { result ≡ list_any (λ r. names_root (fields_of r)) records.now }
 {
     records.iter().any(|fields| names_root(fields))
 }
 
-/// Whether a root record stands before a place, counted from 0.
+/// Returns whether a root record stands before a place, counted from 0.
 fn has_root_before(records: &[StringRecord], at: usize) -> bool
     requires { at ≤ length records.now }
     ensures { result ≡ has_root (take at (map fields_of records.now)) }
@@ -49,8 +49,8 @@ fn has_root_before(records: &[StringRecord], at: usize) -> bool
     has_root(&records[..at])
 }
 
-/// The number and the fault that `read_certificate` answers, or none where the certificate can be read.
-/// It fails for want of memory alone.
+/// Returns the number and the fault that `read_certificate` answers, or none where the certificate can
+/// be read.
 fn told_fault(
     alloc: Global,
     schema: &Schema,
@@ -65,7 +65,7 @@ fn told_fault(
     }
 }
 
-/// The fault of a text of records, with the record of its number.
+/// Returns the fault of a text of records, with the record of its number.
 fn fault_among(records: Vec<StringRecord>, number: usize, fault: CertFault) -> CertificateFault
     requires first { 0 < number }
     requires last { number ≤ length records.items }
@@ -85,7 +85,7 @@ fn fault_among(records: Vec<StringRecord>, number: usize, fault: CertFault) -> C
     }
 }
 
-/// The fault of a text, with the record of its number. It fails for want of memory alone.
+/// Returns the fault of a text, with the record of its number.
 fn fault_in(
     alloc: Global,
     schema: &Schema,
@@ -113,7 +113,7 @@ fn fault_in(
 
 /// Finds the fault of a certificate, as `read_certificate` answers it, and the record of the number that it
 /// answers; none where the certificate can be read. The record is the first whose own reading answers just
-/// this fault, the records before it being read. It fails for want of memory alone.
+/// this fault, the records before it being read.
 pub fn find_certificate_fault(
     alloc: Global,
     schema: &Schema,

@@ -19,7 +19,8 @@ pub enum Role {
     ShortApply,
 }
 
-/// How many edits a record asks for: those of an `apply` whose count can be read, and else none.
+/// Returns how many edits a record asks for: those of an `apply` whose count can be read, and else
+/// none.
 fn edits_asked(fields: &StringRecord) -> usize
     ensures { result ≡ edits_asked (fields_of fields.now) }
 {
@@ -32,7 +33,7 @@ fn edits_asked(fields: &StringRecord) -> usize
     }
 }
 
-/// How many edits are to come behind a record, where so many are to come before it.
+/// Returns how many edits are to come behind a record, where so many are to come before it.
 fn left_after(fields: &StringRecord, left: usize) -> usize
     ensures { result ≡ left_after (fields_of fields.now) left }
 {
@@ -42,7 +43,7 @@ fn left_after(fields: &StringRecord, left: usize) -> usize
     }
 }
 
-/// How many edits are to come behind the first records of a script.
+/// Returns how many edits are to come behind the first records of a script.
 fn edits_left(records: &[StringRecord]) -> usize
     ensures { result ≡ edits_left (map fields_of records.now) 0 }
 {
@@ -53,7 +54,7 @@ fn edits_left(records: &[StringRecord]) -> usize
     left
 }
 
-/// What the record at a place, counted from 0, is read as.
+/// Returns what the record at a place, counted from 0, is read as.
 pub fn role_at(records: &[StringRecord], at: usize) -> Role
     requires { at < length records.now }
     ensures { result ≡ role_in (map fields_of records.now) at }

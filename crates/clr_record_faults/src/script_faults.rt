@@ -27,8 +27,8 @@ pub struct ScriptFault {
     pub fields: Option<StringRecord>,
 }
 
-/// The number and the fault that `read_script` answers, or none where the script can be read. It fails
-/// for want of memory alone.
+/// Returns the number and the fault that `read_script` answers, or none where the script can be
+/// read.
 fn told_fault(
     alloc: Global,
     schema: &Schema,
@@ -44,7 +44,7 @@ fn told_fault(
     Ok(Some(told))
 }
 
-/// The fault of a text of records, with the record of its number.
+/// Returns the fault of a text of records, with the record of its number.
 fn fault_among(records: Vec<StringRecord>, number: usize, fault: RecordFault) -> ScriptFault
     requires first { 0 < number }
     requires last { number ≤ length records.items }
@@ -64,7 +64,7 @@ fn fault_among(records: Vec<StringRecord>, number: usize, fault: RecordFault) ->
     }
 }
 
-/// The fault of a text, with the record of its number. It fails for want of memory alone.
+/// Returns the fault of a text, with the record of its number.
 fn fault_in(
     alloc: Global,
     schema: &Schema,
@@ -93,7 +93,7 @@ fn fault_in(
 /// Finds the fault of a script, as `read_script` answers it, and the record of the number that it answers;
 /// none where the script can be read. The record is the first whose own reading, as a step or as an edit,
 /// answers just this fault, the records before it being read. Or it is an `apply` that asks for more edits
-/// than records stand behind it, and then all records can be read. It fails for want of memory alone.
+/// than records stand behind it, and then all records can be read.
 pub fn find_script_fault(
     alloc: Global,
     schema: &Schema,

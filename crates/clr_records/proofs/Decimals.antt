@@ -65,5 +65,6 @@ pub no_number : (text : List ℕ) → ((z : ℤ) → is_i64 z ≡ true → text 
 no_number text h = no_other text (number_of text) refl h
 
 -- what std's parsing gives of a number's decimal
-pub parsed : {E : Type 0} (z : ℤ) (text : List ℕ) (answer : Result ℤ E) → is_i64 z ≡ true → text ≡ signed_decimal z → ParsesSigned w64 10 text answer → answer ≡ Ok z
+pub parsed : {E : Type 0} (z : ℤ) (text : List ℕ) (answer : Result ℤ E) → is_i64 z ≡ true → text ≡ signed_decimal z → ParsesSigned w64 10 text answer → answer
+    ≡ Ok z
 parsed z text answer e is h = let f = within z e in parse-signed_decimal w64 z text answer f.0 f.1 is h

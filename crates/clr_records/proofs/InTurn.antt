@@ -12,7 +12,8 @@ no_front : {A E : Type 0} (read : Result (List A) E) → with_front [] read ≡ 
 no_front (Ok others) = refl
 no_front (Err e) = refl
 
-pub regroup : {A E : Type 0} (front : List A) (a : A) (read : Result (List A) E) → with_front front (read >>= λ others. Ok (a ∷ others)) ≡ with_front (front ++ a ∷ []) read
+pub regroup : {A E : Type 0} (front : List A) (a : A) (read : Result (List A) E) → with_front front (read >>= λ others. Ok (a ∷ others))
+    ≡ with_front (front ++ a ∷ []) read
 regroup front a (Ok others) = ap (λ ys. Ok ys) (sym (append_assoc front (a ∷ []) others))
 regroup front a (Err e) = refl
 
@@ -24,12 +25,14 @@ next f n xs i x lt is =
     rw (add-one i, drop-cons xs i x) (rw (← is, after) refl)
 
 -- one more item is read
-pub one_more : {X A E : Type 0} (f : ℕ → X → Result A E) (front : List A) (n : ℕ) (xs : List X) (i : ℕ) (x : X) (a : A) (total : Result (List A) E) → i < length xs → x ≡ get_or xs i x → f (n + i) x ≡ Ok a
+pub one_more : {X A E : Type 0} (f : ℕ → X → Result A E) (front : List A) (n : ℕ) (xs : List X) (i : ℕ) (x : X) (a : A) (total : Result (List A) E)
+    → i < length xs → x ≡ get_or xs i x → f (n + i) x ≡ Ok a
     → with_front front (in_turn f (n + i) (drop i xs)) ≡ total → with_front (front ++ a ∷ []) (in_turn f (n + (i + 1)) (drop (i + 1) xs)) ≡ total
 one_more f front n xs i x a total lt is h so_far = sym (regroup front a _) ∙ (sym (rw (next f n xs i x lt is, h) refl) ∙ so_far)
 
 -- an item has a fault, and so has the whole
-pub first_fault : {X A E : Type 0} (f : ℕ → X → Result A E) (e : E) (front : List A) (n : ℕ) (xs : List X) (i : ℕ) (x : X) (total : Result (List A) E) → i < length xs → x ≡ get_or xs i x → f (n + i) x ≡ Err e
+pub first_fault : {X A E : Type 0} (f : ℕ → X → Result A E) (e : E) (front : List A) (n : ℕ) (xs : List X) (i : ℕ) (x : X) (total : Result (List A) E)
+    → i < length xs → x ≡ get_or xs i x → f (n + i) x ≡ Err e
     → with_front front (in_turn f (n + i) (drop i xs)) ≡ total → total ≡ Err e
 first_fault f e front n xs i x total lt is h so_far = sym so_far ∙ rw (next f n xs i x lt is, h) refl
 
@@ -45,5 +48,6 @@ unfolding in_turn
 seen f view n [] = refl
 seen f view n (x ∷ xs) = rw (seen f view (n + 1) xs) refl
 
-pub begins : {X Y A E : Type 0} (f : ℕ → Y → Result A E) (view : X → Y) (n : ℕ) (xs : List X) → with_front [] (in_turn (λ m x. f m (view x)) (n + 0) (drop 0 xs)) ≡ in_turn f n (map view xs)
+pub begins : {X Y A E : Type 0} (f : ℕ → Y → Result A E) (view : X → Y) (n : ℕ) (xs : List X)
+    → with_front [] (in_turn (λ m x. f m (view x)) (n + 0) (drop 0 xs)) ≡ in_turn f n (map view xs)
 begins f view n xs = let same : n + 0 ≡ n = omega arith in rw (same, seen f view n xs) (no_front (in_turn (λ m x. f m (view x)) n xs))

@@ -3,7 +3,7 @@
 use crate::schemas::{NETWORK, schema};
 use crate::texts::{add_word, text_in};
 use clr_change::{ChangeSet, Edit, Edits, first_conflict, stage};
-use clr_row_texts::{cell, row};
+use clr_row_test_kit::{cell, row};
 use clr_rows::{CellId, Change, Row, Sheet};
 use std::alloc::Global;
 

@@ -1,7 +1,7 @@
 //! Texts, values, rows and shapes, whether they are the same, and copies of them.
 
 use crate::schemas::columns;
-use clr_row_texts::{place, places, row, shape, value, values, words};
+use clr_row_test_kit::{place, places, row, shape, value, values, words};
 use clr_rows::{Shape, Vertices};
 use std::alloc::Global;
 

@@ -2,7 +2,7 @@
 ghost use Rattle.std.specs.Prelude.{IfSome};
 ghost use Rattle.clr_rows.specs.Places.{InRange};
 
-use clr_row_texts::{number, places};
+use clr_row_test_kit::{number, places};
 use clr_rows::Place;
 use clr_segments::{Bounds, Meet, box_of, boxes_touch, lies_on, meet, near, turn};
 use std::alloc::Global;

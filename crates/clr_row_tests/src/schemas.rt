@@ -1,6 +1,6 @@
 //! Schemas of texts, by `cases`, and what they answer.
 
-use clr_row_texts::{cell, ordinal, row, words};
+use clr_row_test_kit::{cell, ordinal, row, words};
 use clr_rows::{Columns, Form, Kind, RowFault, Schema, TableDef, Words};
 use std::alloc::Global;
 

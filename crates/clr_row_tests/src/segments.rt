@@ -1,7 +1,7 @@
 //! Parts and boxes of shapes.
 
 use crate::places::bounds_text;
-use clr_row_texts::{ordinal, shape};
+use clr_row_test_kit::{ordinal, shape};
 use clr_segments::{box_of_shape, part, parts};
 use std::alloc::Global;
 

@@ -30,16 +30,19 @@ pub parts_of : {A : Type 0} (old more new : List A) → IsBegun old more new →
 parts_of old more new begun =
     let left = drop (length new) (old ++ more) in
     append_cancel_left old more (drop (length old) new ++ left)
-    (sym (take-append-drop (length new) (old ++ more)) ∙ ap (λ xs. xs ++ left) (begun.beginning ∙ added_is old more new begun) ∙ append_assoc old (drop (length old) new) left)
+    (sym (take-append-drop (length new) (old ++ more)) ∙ ap (λ xs. xs ++ left) (begun.beginning ∙ added_is old more new begun)
+    ∙ append_assoc old (drop (length old) new) left)
 
 -- a front of what was to be added was added, and then a beginning of what follows it
-pub then_begun : {A : Type 0} (old more mid new front next back : List A) → mid ≡ old ++ front → more ≡ front ++ (next ++ back) → IsBegun mid next new → IsBegun old more new
+pub then_begun : {A : Type 0} (old more mid new front next back : List A) → mid ≡ old ++ front → more ≡ front ++ (next ++ back) → IsBegun mid next new
+    → IsBegun old more new
 then_begun old more mid new front next back is parts begun =
     let added = drop (length mid) new in
     let left = drop (length new) (mid ++ next) in
     some_begun old more new (front ++ added) (left ++ back)
     (added_is mid next new begun ∙ ap (λ xs. xs ++ added) is ∙ append_assoc old front added)
-    (parts ∙ ap (λ xs. front ++ (xs ++ back)) (parts_of mid next new begun) ∙ ap (λ xs. front ++ xs) (append_assoc added left back) ∙ sym (append_assoc front added (left ++ back)))
+    (parts ∙ ap (λ xs. front ++ (xs ++ back)) (parts_of mid next new begun) ∙ ap (λ xs. front ++ xs) (append_assoc added left back)
+    ∙ sym (append_assoc front added (left ++ back)))
 
 -- where more was to be added behind it
 pub begun_before : {A : Type 0} (old more back new : List A) → IsBegun old more new → IsBegun old (more ++ back) new
@@ -56,14 +59,19 @@ begun_at f xs at unread old mid new lt before begun =
     let x = get_or xs at unread in
     let rest = drop (at + 1) xs in
     then_begun old (flat_map f xs) mid new (flat_map f (take at xs)) (f x) (flat_map f rest) before
-    (ap (flat_map f) (sym (take-append-drop at xs)) ∙ flat_map-append f (take at xs) (drop at xs) ∙ ap (λ ys. flat_map f (take at xs) ++ flat_map f ys) (drop_more xs at unread lt)) begun
+    (ap (flat_map f) (sym (take-append-drop at xs)) ∙ flat_map-append f (take at xs) (drop at xs)
+    ∙ ap (λ ys. flat_map f (take at xs) ++ flat_map f ys) (drop_more xs at unread lt)) begun
 
 -- where the last piece was added, or nothing of it
-pub last_begun : {A : Type 0} (done : Bool) (old more mid new front last : List A) → new ≡ (if done then mid ++ last else mid) → mid ≡ old ++ front → more ≡ front ++ last → IsBegun old more new
-last_begun true old more mid new front last is before parts = all_begun old more new (is ∙ ap (λ xs. xs ++ last) before ∙ append_assoc old front last ∙ ap (λ xs. old ++ xs) (sym parts))
+pub last_begun : {A : Type 0} (done : Bool) (old more mid new front last : List A) → new ≡ (if done then mid ++ last else mid) → mid ≡ old ++ front → more
+    ≡ front ++ last → IsBegun old more new
+last_begun true old more mid new front last is before parts = all_begun old more new (is ∙ ap (λ xs. xs ++ last) before ∙ append_assoc old front last
+    ∙ ap (λ xs. old ++ xs) (sym parts))
 last_begun false old more mid new front last is before parts = some_begun old more new front last (is ∙ before) parts
 
 -- where what was to be added of the items before it was added, one for each, and then nothing
-pub begun_before_item : {X A : Type 0} (f : X → A) (xs : List X) (at : ℕ) (old mid new : List A) → mid ≡ old ++ map f (take at xs) → new ≡ mid → IsBegun old (map f xs) new
+pub begun_before_item : {X A : Type 0} (f : X → A) (xs : List X) (at : ℕ) (old mid new : List A) → mid ≡ old ++ map f (take at xs) → new ≡ mid
+    → IsBegun old (map f xs) new
 begun_before_item f xs at old mid new before is =
-    some_begun old (map f xs) new (map f (take at xs)) (map f (drop at xs)) (is ∙ before) (ap (map f) (sym (take-append-drop at xs)) ∙ map-append f (take at xs) (drop at xs))
+    some_begun old (map f xs) new (map f (take at xs)) (map f (drop at xs)) (is ∙ before) (ap (map f) (sym (take-append-drop at xs))
+    ∙ map-append f (take at xs) (drop at xs))

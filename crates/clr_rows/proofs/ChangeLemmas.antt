@@ -36,9 +36,11 @@ module _ {X : Type 0} (p : CellId → Bool) (v : CellId → X) where
   abbrev chosen : List CellId → List (CellId × X)
   chosen ks = map (λ k. (k, v k)) (filter p ks)
 
-  find_chosen_first : (k : CellId) (ks : List CellId) (q : CellId) → find cell_cmp q (chosen (k ∷ ks)) ≡ cond (p k && eq_by_cmp cell_cmp q k) (Some (v k)) (find cell_cmp q (chosen ks))
+  find_chosen_first : (k : CellId) (ks : List CellId) (q : CellId) → find cell_cmp q (chosen (k ∷ ks))
+      ≡ cond (p k && eq_by_cmp cell_cmp q k) (Some (v k)) (find cell_cmp q (chosen ks))
   find_chosen_first k ks q =
-      elim (p k) as (λ b. find cell_cmp q (map (λ k. (k, v k)) (cond b (k ∷ filter p ks) (filter p ks))) ≡ cond (b && eq_by_cmp cell_cmp q k) (Some (v k)) (find cell_cmp q (chosen ks))) [ true ↦ refl | false ↦ refl ]
+      elim (p k) as (λ b. find cell_cmp q (map (λ k. (k, v k)) (cond b (k ∷ filter p ks) (filter p ks)))
+      ≡ cond (b && eq_by_cmp cell_cmp q k) (Some (v k)) (find cell_cmp q (chosen ks))) [ true ↦ refl | false ↦ refl ]
 
   repeated : (b r : Bool) (x : X) → cond (b && true) (Some x) (cond (b && r) (Some x) None) ≡ cond (b && true) (Some x) None
   repeated true r x = refl
@@ -58,7 +60,8 @@ module _ {X : Type 0} (p : CellId → Bool) (v : CellId → X) where
   find_chosen (k ∷ ks) q =
       let rest = find_chosen ks q in
       find_chosen_first k ks q
-      ∙ elim (eq_by_cmp cell_cmp q k) as (λ t. eq_by_cmp cell_cmp q k ≡ t → cond (p k && t) (Some (v k)) (find cell_cmp q (chosen ks)) ≡ cond (p q && (t || list_any (eq_by_cmp cell_cmp q) ks)) (Some (v q)) None) [
+      ∙ elim (eq_by_cmp cell_cmp q k) as (λ t. eq_by_cmp cell_cmp q k ≡ t → cond (p k && t) (Some (v k)) (find cell_cmp q (chosen ks))
+      ≡ cond (p q && (t || list_any (eq_by_cmp cell_cmp q) ks)) (Some (v q)) None) [
         | true ↦ λ e. ap (λ c. cond (p c && true) (Some (v c)) (find cell_cmp q (chosen ks))) (sym (tied_cells q k e))
             ∙ ap (λ r. cond (p q && true) (Some (v q)) r) rest ∙ repeated (p q) _ (v q)
         | false ↦ λ e. not_here (p k) (v k) _ ∙ rest
@@ -73,13 +76,15 @@ one_is_there (Some a) None = refl
 one_is_there (Some a) (Some b) = elim (not (same (Some a) (Some b))) as (λ x. (x && true) ≡ x) [ true ↦ refl | false ↦ refl ]
 
 -- a changed cell has a row in one of the contents
-changed_cell : (base current : Content) (q : CellId) → (is_changed base current q && list_any (eq_by_cmp cell_cmp q) (cells_of base ++ cells_of current)) ≡ is_changed base current q
+changed_cell : (base current : Content) (q : CellId) → (is_changed base current q && list_any (eq_by_cmp cell_cmp q) (cells_of base ++ cells_of current))
+    ≡ is_changed base current q
 changed_cell base current q =
     ap (λ b. is_changed base current q && b) (list_any-append (eq_by_cmp cell_cmp q) (cells_of base) (cells_of current)
     ∙ (λ i. sym (finite.contains_key-keys base q) i || sym (finite.contains_key-keys current q) i))
     ∙ one_is_there (row_at base q) (row_at current q)
 
-pub get-changes : (base current : Content) (q : CellId) → finite.get (changes base current) q ≡ (if is_changed base current q then Some (change_of base current q) else None)
+pub get-changes : (base current : Content) (q : CellId) → finite.get (changes base current) q
+    ≡ (if is_changed base current q then Some (change_of base current q) else None)
 unfolding changes
 get-changes base current q =
     finite.get-from_entries cell_cmp_total _ q ∙ find_chosen (is_changed base current) (change_of base current) (cells_of base ++ cells_of current) q
@@ -87,7 +92,8 @@ get-changes base current q =
 
 -- a content compared with itself has no changes
 pub changes-self : (content : Content) → changes content content ≡ finite.empty
-changes-self content = same_changes _ _ (λ q. get-changes content content q ∙ ap (λ b. cond (not b) (Some (change_of content content q)) None) (same_itself (row_at content q)) ∙ sym (finite.get-empty cell_cmp q))
+changes-self content = same_changes _ _ (λ q. get-changes content content q
+    ∙ ap (λ b. cond (not b) (Some (change_of content content q)) None) (same_itself (row_at content q)) ∙ sym (finite.get-empty cell_cmp q))
 
 -- rows put over a content --------------------------------------------------------------------
 
@@ -96,16 +102,19 @@ abbrev pub AreApart : List (CellId × Option Row) → Type 0
 AreApart [] = Unit {0}
 AreApart (e ∷ es) = (find cell_cmp e.0 es ≡ None) × AreApart es
 
-pub row-set_cell : (content : Content) (cell : CellId) (row : Option Row) (q : CellId) → row_at (set_cell content cell row) q ≡ (if eq_by_cmp cell_cmp q cell then row else row_at content q)
+pub row-set_cell : (content : Content) (cell : CellId) (row : Option Row) (q : CellId) → row_at (set_cell content cell row) q
+    ≡ (if eq_by_cmp cell_cmp q cell then row else row_at content q)
 row-set_cell content cell None q = finite.get-remove cell_cmp_total content cell q
 row-set_cell content cell (Some row) q = finite.get-insert cell_cmp_total content cell row q
 
-pub row-over : (content : Content) (es : List (CellId × Option Row)) (q : CellId) → AreApart es → row_at (over content es) q ≡ unwrap_or (find cell_cmp q es) (row_at content q)
+pub row-over : (content : Content) (es : List (CellId × Option Row)) (q : CellId) → AreApart es → row_at (over content es) q
+    ≡ unwrap_or (find cell_cmp q es) (row_at content q)
 unfolding over
 row-over content [] q apart = refl
 row-over content (e ∷ es) q apart =
     row-over (set_cell content e.0 e.1) es q apart.1 ∙ ap (unwrap_or (find cell_cmp q es)) (row-set_cell content e.0 e.1 q)
-    ∙ elim (eq_by_cmp cell_cmp q e.0) as (λ t. eq_by_cmp cell_cmp q e.0 ≡ t → unwrap_or (find cell_cmp q es) (cond t e.1 (row_at content q)) ≡ unwrap_or (cond t (Some e.1) (find cell_cmp q es)) (row_at content q)) [
+    ∙ elim (eq_by_cmp cell_cmp q e.0) as (λ t. eq_by_cmp cell_cmp q e.0 ≡ t → unwrap_or (find cell_cmp q es) (cond t e.1 (row_at content q))
+    ≡ unwrap_or (cond t (Some e.1) (find cell_cmp q es)) (row_at content q)) [
       | true ↦ λ t. ap (λ (found : Option (Option Row)). unwrap_or found e.1) (ap (λ c. find cell_cmp c es) (tied_cells q e.0 t) ∙ apart.0)
       | false ↦ λ t. refl
     ] refl
@@ -128,7 +137,10 @@ module _ {X : Type 0} where
     sorted-filter [] sorted = tt
     sorted-filter (e ∷ es) sorted =
         let rest = sorted-filter es (second _ _ sorted) in
-        elim (p e) as (λ b. T (is_sorted cell_cmp (cond b (e ∷ filter p es) (filter p es)))) [ true ↦ both _ _ (below-filter e.0 es (first _ _ sorted)) rest | false ↦ rest ]
+        elim (p e) as (λ b. T (is_sorted cell_cmp (cond b (e ∷ filter p es) (filter p es)))) [
+          | true ↦ both _ _ (below-filter e.0 es (first _ _ sorted)) rest
+          | false ↦ rest
+        ]
 
   all_from_below : (cell : CellId) (es : List (CellId × X)) → T (below_all cell_cmp cell es) → AllByRecursion (λ c. cell_cmp cell c ≡ Less) (map (λ e. e.0) es)
   all_from_below cell [] below = tt
@@ -153,7 +165,8 @@ module _ {X : Type 0} where
     find-map [] q = refl
     find-map (e ∷ es) q =
         ap (cond (eq_by_cmp cell_cmp q e.0) (Some (f e.1))) (find-map es q)
-        ∙ elim (eq_by_cmp cell_cmp q e.0) as (λ b. cond b (Some (f e.1)) (option_map f (find cell_cmp q es)) ≡ option_map f (cond b (Some e.1) (find cell_cmp q es))) [ true ↦ refl | false ↦ refl ]
+        ∙ elim (eq_by_cmp cell_cmp q e.0) as (λ b. cond b (Some (f e.1)) (option_map f (find cell_cmp q es))
+        ≡ option_map f (cond b (Some e.1) (find cell_cmp q es))) [ true ↦ refl | false ↦ refl ]
 
 -- entries in order are apart
 pub apart_from_sorted : (es : List (CellId × Option Row)) → T (is_sorted cell_cmp es) → AreApart es
@@ -167,23 +180,27 @@ after_of change = change.after
 pub find-rows_after : (changed : Changes) (q : CellId) → find cell_cmp q (rows_after changed) ≡ option_map after_of (finite.get changed q)
 find-rows_after changed q = find-map after_of (finite.entries changed) q ∙ ap (option_map after_of) (sym (finite.get-entries changed q))
 
-pub row-taken_over : (content : Content) (changed : Changes) (q : CellId) → row_at (taken_over content changed) q ≡ unwrap_or (option_map after_of (finite.get changed q)) (row_at content q)
+pub row-taken_over : (content : Content) (changed : Changes) (q : CellId) → row_at (taken_over content changed) q
+    ≡ unwrap_or (option_map after_of (finite.get changed q)) (row_at content q)
 row-taken_over content changed q =
     row-over content (rows_after changed) q (apart_from_sorted _ (sorted-map after_of (finite.entries changed) (finite.entries_sorted changed)))
     ∙ ap (λ found. unwrap_or found (row_at content q)) (find-rows_after changed q)
 
 -- a content taken over by what changed between two others
-pub row-merged : (target base current : Content) (q : CellId) → row_at (taken_over target (changes base current)) q ≡ unwrap_or (change_at base current q) (row_at target q)
+pub row-merged : (target base current : Content) (q : CellId) → row_at (taken_over target (changes base current)) q
+    ≡ unwrap_or (change_at base current q) (row_at target q)
 row-merged target base current q =
     row-taken_over target (changes base current) q
     ∙ ap (λ found. unwrap_or (option_map after_of found) (row_at target q)) (get-changes base current q)
-    ∙ elim (is_changed base current q) as (λ b. unwrap_or (option_map after_of (cond b (Some (change_of base current q)) None)) (row_at target q) ≡ unwrap_or (cond b (Some (row_at current q)) None) (row_at target q)) [ true ↦ refl | false ↦ refl ]
+    ∙ elim (is_changed base current q) as (λ b. unwrap_or (option_map after_of (cond b (Some (change_of base current q)) None)) (row_at target q)
+    ≡ unwrap_or (cond b (Some (row_at current q)) None) (row_at target q)) [ true ↦ refl | false ↦ refl ]
 
 -- the changes put over the base give the content that they came from
 pub taken_over-own : (base current : Content) → taken_over base (changes base current) ≡ current
 taken_over-own base current = same_content _ _ (λ q. row-merged base base current q ∙ go q (same (row_at base q) (row_at current q)) refl)
   where
-    go : (q : CellId) (b : Bool) → same (row_at base q) (row_at current q) ≡ b → unwrap_or (cond (not b) (Some (row_at current q)) None) (row_at base q) ≡ row_at current q
+    go : (q : CellId) (b : Bool) → same (row_at base q) (row_at current q) ≡ b → unwrap_or (cond (not b) (Some (row_at current q)) None) (row_at base q)
+        ≡ row_at current q
     go q true e = same_is _ _ e
     go q false e = refl
 
@@ -199,24 +216,32 @@ find_conflict : (target : Content) (es : List (CellId × Change)) (q : CellId) �
 find_conflict target [] q sorted = refl
 find_conflict target (e ∷ es) q sorted =
     let rest = find_conflict target es q (second _ _ sorted) in
-    elim (eq_by_cmp cell_cmp q e.0) as (λ t. eq_by_cmp cell_cmp q e.0 ≡ t → list_any (eq_by_cmp cell_cmp q) (map (λ e. e.0) (filter (is_conflict target) (e ∷ es))) ≡ has_conflict target q (cond t (Some e.1) (find cell_cmp q es))) [
+    elim (eq_by_cmp cell_cmp q e.0) as (λ t. eq_by_cmp cell_cmp q e.0 ≡ t
+    → list_any (eq_by_cmp cell_cmp q) (map (λ e. e.0) (filter (is_conflict target) (e ∷ es)))
+    ≡ has_conflict target q (cond t (Some e.1) (find cell_cmp q es))) [
       | true ↦ λ t. let none : find cell_cmp q es ≡ None = ap (λ c. find cell_cmp c es) (tied_cells q e.0 t) ∙ find_below e.0 es (first _ _ sorted) in
-          ap (λ (r : Bool). list_any (eq_by_cmp cell_cmp q) (map (λ e. e.0) (cond r (e ∷ filter (is_conflict target) es) (filter (is_conflict target) es)))) (ap (λ c. not (same (row_at target c) e.1.before)) (sym (tied_cells q e.0 t)))
-          ∙ elim (not (same (row_at target q) e.1.before)) as (λ r. list_any (eq_by_cmp cell_cmp q) (map (λ e. e.0) (cond r (e ∷ filter (is_conflict target) es) (filter (is_conflict target) es))) ≡ r) [
+          ap (λ (r : Bool). list_any (eq_by_cmp cell_cmp q) (map (λ e. e.0) (cond r (e ∷ filter (is_conflict target) es) (filter (is_conflict target) es))))
+          (ap (λ c. not (same (row_at target c) e.1.before)) (sym (tied_cells q e.0 t)))
+          ∙ elim (not (same (row_at target q) e.1.before)) as
+          (λ r. list_any (eq_by_cmp cell_cmp q) (map (λ e. e.0) (cond r (e ∷ filter (is_conflict target) es) (filter (is_conflict target) es))) ≡ r) [
             | true ↦ ap (λ b. b || list_any (eq_by_cmp cell_cmp q) (map (λ e. e.0) (filter (is_conflict target) es))) t
             | false ↦ rest ∙ ap (has_conflict target q) none
           ]
       | false ↦ λ t.
-          elim (is_conflict target e) as (λ r. list_any (eq_by_cmp cell_cmp q) (map (λ e. e.0) (cond r (e ∷ filter (is_conflict target) es) (filter (is_conflict target) es))) ≡ list_any (eq_by_cmp cell_cmp q) (map (λ e. e.0) (filter (is_conflict target) es))) [
+          elim (is_conflict target e) as (λ r. list_any (eq_by_cmp cell_cmp q)
+          (map (λ e. e.0) (cond r (e ∷ filter (is_conflict target) es) (filter (is_conflict target) es)))
+          ≡ list_any (eq_by_cmp cell_cmp q) (map (λ e. e.0) (filter (is_conflict target) es))) [
             | true ↦ ap (λ b. b || list_any (eq_by_cmp cell_cmp q) (map (λ e. e.0) (filter (is_conflict target) es))) t
             | false ↦ refl
           ] ∙ rest
     ] refl
 
 -- the cells in conflict are just the changed cells where the target's row isn't the row before
-pub any-conflicts : (target : Content) (changed : Changes) (q : CellId) → list_any (eq_by_cmp cell_cmp q) (conflicts target changed) ≡ has_conflict target q (finite.get changed q)
+pub any-conflicts : (target : Content) (changed : Changes) (q : CellId) → list_any (eq_by_cmp cell_cmp q) (conflicts target changed)
+    ≡ has_conflict target q (finite.get changed q)
 unfolding conflicts
-any-conflicts target changed q = find_conflict target (finite.entries changed) q (finite.entries_sorted changed) ∙ ap (has_conflict target q) (sym (finite.get-entries changed q))
+any-conflicts target changed q = find_conflict target (finite.entries changed) q (finite.entries_sorted changed)
+    ∙ ap (has_conflict target q) (sym (finite.get-entries changed q))
 
 pub conflicts-ascend : (target : Content) (changed : Changes) → IsStrictlySortedBy cell_cmp (conflicts target changed)
 unfolding conflicts

@@ -59,14 +59,18 @@ any_at p (y ∷ ys) zero x e h = let same : y ≡ x = cc in rw (same, h) refl
 any_at p (y ∷ ys) (suc i) x e h = or_right (p y) (list_any p ys) (any_at p ys i x e h)
 
 -- a key at a position has a value
-pub held_at : {K X : Type 0} {R : K → K → Ordering} → IsTotalOrder R → (m : FinMap R X) (i : ℕ) (k : K) → slice_get (keys m) i ≡ Some k → is_some (get m k) ≡ true
+pub held_at : {K X : Type 0} {R : K → K → Ordering} → IsTotalOrder R → (m : FinMap R X) (i : ℕ) (k : K) → slice_get (keys m) i ≡ Some k → is_some (get m k)
+    ≡ true
 held_at {R = R} o m i k e = contains_key-keys m k ∙ any_at (eq_by_cmp R k) (keys m) i k e (ap is_eq (tied_itself o k))
 
 -- the key at a position, if there is one, has a value
-pub held_where : {K X : Type 0} {R : K → K → Ordering} → IsTotalOrder R → (m : FinMap R X) (i : ℕ) (found : Option K) → found ≡ slice_get (keys m) i → IfSome found (λ k. IsSome (get m k))
+pub held_where : {K X : Type 0} {R : K → K → Ordering} → IsTotalOrder R → (m : FinMap R X) (i : ℕ) (found : Option K) → found ≡ slice_get (keys m) i
+    → IfSome found (λ k. IsSome (get m k))
 held_where o m i None e = tt
 held_where o m i (Some k) e = held_at o m i k (sym e)
 
 -- the keys of sorted entries are those of the map that they make
-pub keys-from_sorted : {K X : Type 0} {R : K → K → Ordering} (es : List (K × X)) (m : FinMap R X) → T (is_sorted R es) → from_sorted es ≡ m → map (λ e. e.0) es ≡ keys m
-keys-from_sorted {K = K} {X = X} {R = R} es m ascending is = ap (λ (xs : List (K × X)). map (λ e. e.0) xs) (sym (entries-from_sorted R es ascending)) ∙ ap (λ (n : FinMap R X). keys n) is
+pub keys-from_sorted : {K X : Type 0} {R : K → K → Ordering} (es : List (K × X)) (m : FinMap R X) → T (is_sorted R es) → from_sorted es ≡ m → map (λ e. e.0) es
+    ≡ keys m
+keys-from_sorted {K = K} {X = X} {R = R} es m ascending is = ap (λ (xs : List (K × X)). map (λ e. e.0) xs) (sym (entries-from_sorted R es ascending))
+    ∙ ap (λ (n : FinMap R X). keys n) is

@@ -38,8 +38,10 @@ module _ {X : Type 0} (P : CellId → X → Type 0) where
 
 module _ (tables : List TableDef) where
   -- a content that a row is put into, or that finds no memory for it, still fits
-  pub put_fits : (old new : Content) (cell : CellId) (row : Row) (r : Result (Option Row) AllocError) → OnOk r (new ≡ finite.insert old cell row) → OnErr r (new ≡ old) → FitsSchema tables old → row_fault tables cell row ≡ None → FitsSchema tables new
-  put_fits old new cell row (Ok before) put left all one = subst (λ (m : Content). FitsSchema tables m) (sym put) (put_keeps (λ c r. row_fault tables c r ≡ None) old cell row all one)
+  pub put_fits : (old new : Content) (cell : CellId) (row : Row) (r : Result (Option Row) AllocError) → OnOk r (new ≡ finite.insert old cell row)
+      → OnErr r (new ≡ old) → FitsSchema tables old → row_fault tables cell row ≡ None → FitsSchema tables new
+  put_fits old new cell row (Ok before) put left all one = subst (λ (m : Content). FitsSchema tables m) (sym put) (put_keeps (λ c r. row_fault tables c r
+      ≡ None) old cell row all one)
   put_fits old new cell row (Err e) put left all one = subst (λ (m : Content). FitsSchema tables m) (sym left) all
 
   pub none_fit : FitsSchema tables no_rows

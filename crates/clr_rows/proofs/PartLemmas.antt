@@ -7,7 +7,8 @@ use Rattle.clr_rows.specs.declared.places.Place.{Place}
 use Rattle.clr_rows.specs.Parts.{path_parts}
 
 -- a pair of two lists side by side has an element of each
-zip_at : {X Y : Type 0} (xs : List X) (ys : List Y) (i : ℕ) (p : X × Y) → slice_get (zip xs ys) i ≡ Some p → (slice_get xs i ≡ Some p.0) × (slice_get ys i ≡ Some p.1)
+zip_at : {X Y : Type 0} (xs : List X) (ys : List Y) (i : ℕ) (p : X × Y) → slice_get (zip xs ys) i ≡ Some p → (slice_get xs i ≡ Some p.0)
+    × (slice_get ys i ≡ Some p.1)
 zip_at [] ys i p is = cc
 zip_at (x ∷ xs) [] i p is = cc
 zip_at (x ∷ xs) (y ∷ ys) zero p is = let same = same_Some (x, y) p is in (ap (λ e. Some e.0) same, ap (λ e. Some e.1) same)
@@ -18,14 +19,16 @@ next_at [] i x is = cc
 next_at (y ∷ ys) i x is = is
 
 -- the n-th part of a path goes from its n-th vertex to the next, counted from 0
-pub path_part : (vertices : List Place) (n : ℕ) (part : Place × Place) → slice_get (path_parts vertices) n ≡ Some part → (slice_get vertices n ≡ Some part.0) × (slice_get vertices (suc n) ≡ Some part.1)
+pub path_part : (vertices : List Place) (n : ℕ) (part : Place × Place) → slice_get (path_parts vertices) n ≡ Some part → (slice_get vertices n ≡ Some part.0)
+    × (slice_get vertices (suc n) ≡ Some part.1)
 path_part vertices n part is = let ends = zip_at vertices (drop 1 vertices) n part is in (ends.0, next_at vertices n part.1 ends.1)
 
 next_as : {X : Type 0} (xs : List X) (i : ℕ) → slice_get (drop 1 xs) i ≡ slice_get xs (suc i)
 next_as [] i = refl
 next_as (y ∷ ys) i = refl
 
-both_at : {X Y : Type 0} (xs : List X) (ys : List Y) (i : ℕ) (x : X) (y : Y) → slice_get xs i ≡ Some x → slice_get ys i ≡ Some y → slice_get (zip xs ys) i ≡ Some (x, y)
+both_at : {X Y : Type 0} (xs : List X) (ys : List Y) (i : ℕ) (x : X) (y : Y) → slice_get xs i ≡ Some x → slice_get ys i ≡ Some y → slice_get (zip xs ys) i
+    ≡ Some (x, y)
 both_at [] ys i x y is are = cc
 both_at (a ∷ xs) [] i x y is are = cc
 both_at (a ∷ xs) (b ∷ ys) zero x y is are = let first = same_Some a x is in let second = same_Some b y are in λ j. Some (first j, second j)
@@ -38,7 +41,8 @@ none_beside (a ∷ xs) (b ∷ ys) zero none = cc
 none_beside (a ∷ xs) (b ∷ ys) (suc i) none = none_beside xs ys i none
 
 -- two neighbours are a part
-pub part_between : (vertices : List Place) (n : ℕ) (p q : Place) → slice_get vertices n ≡ Some p → slice_get vertices (suc n) ≡ Some q → slice_get (path_parts vertices) n ≡ Some (p, q)
+pub part_between : (vertices : List Place) (n : ℕ) (p q : Place) → slice_get vertices n ≡ Some p → slice_get vertices (suc n) ≡ Some q
+    → slice_get (path_parts vertices) n ≡ Some (p, q)
 part_between vertices n p q is next = both_at vertices (drop 1 vertices) n p q is (next_as vertices n ∙ next)
 
 -- the last vertex begins none

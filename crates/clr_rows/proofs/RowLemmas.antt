@@ -22,9 +22,11 @@ tied_cells a b e = cell_cmp_exact a b (equal (cell_cmp a b) e)
 
 -- the row at a cell after one was put there, or taken away, and at any other cell
 pub put_here : (m : Content) (cell : CellId) (row : Row) → row_at (finite.insert m cell row) cell ≡ Some row
-put_here m cell row = finite.get-insert cell_cmp_total m cell row cell ∙ ap (λ b. cond b (Some row) (finite.get m cell)) (ap is_eq (tied_itself cell_cmp_total cell))
+put_here m cell row = finite.get-insert cell_cmp_total m cell row cell
+    ∙ ap (λ b. cond b (Some row) (finite.get m cell)) (ap is_eq (tied_itself cell_cmp_total cell))
 
-pub put_elsewhere : (m : Content) (cell other : CellId) (row : Row) → eq_by_cmp cell_cmp other cell ≡ false → row_at (finite.insert m cell row) other ≡ row_at m other
+pub put_elsewhere : (m : Content) (cell other : CellId) (row : Row) → eq_by_cmp cell_cmp other cell ≡ false → row_at (finite.insert m cell row) other
+    ≡ row_at m other
 put_elsewhere m cell other row apart = finite.get-insert cell_cmp_total m cell row other ∙ ap (λ b. cond b (Some row) (finite.get m other)) apart
 
 pub taken_here : (m : Content) (cell : CellId) → row_at (finite.remove m cell) cell ≡ None

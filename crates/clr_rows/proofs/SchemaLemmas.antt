@@ -36,7 +36,8 @@ list_any-map p f [] = refl
 list_any-map p f (x ∷ xs) = ap (λ b. p (f x) || b) (list_any-map p f xs)
 
 -- the names from the i-th on differ if the i-th isn't among the later ones, and those differ
-pub distinct_from : {X : Type 0} (f : X → List ℕ) (xs : List X) (i : ℕ) (x : X) → i < length xs → x ≡ get_or xs i x → are_distinct (map f (drop i xs)) ≡ (not (list_any (λ y. bytes_eq (f x) (f y)) (drop (i + 1) xs)) && are_distinct (map f (drop (i + 1) xs)))
+pub distinct_from : {X : Type 0} (f : X → List ℕ) (xs : List X) (i : ℕ) (x : X) → i < length xs → x ≡ get_or xs i x → are_distinct (map f (drop i xs))
+    ≡ (not (list_any (λ y. bytes_eq (f x) (f y)) (drop (i + 1) xs)) && are_distinct (map f (drop (i + 1) xs)))
 distinct_from f xs i x h is =
     rw (add-one, drop-cons xs i x h, ← is, list_any-map (bytes_eq (f x)) f (drop (suc i) xs))
 
@@ -60,12 +61,14 @@ few tables h = and_parts _ _ (passed (nat_le (length tables) MOST_TABLES && list
 pub few_tables : (tables : List TableDef) → schema_fault tables ≡ None → length tables ≤ MOST_TABLES
 few_tables tables h = leb-true (length tables) MOST_TABLES (few tables h).0
 
-pub few_columns : (tables : List TableDef) (i : ℕ) (table : TableDef) → schema_fault tables ≡ None → slice_get tables i ≡ Some table → length table.columns ≤ MOST_COLUMNS
+pub few_columns : (tables : List TableDef) (i : ℕ) (table : TableDef) → schema_fault tables ≡ None → slice_get tables i ≡ Some table
+    → length table.columns ≤ MOST_COLUMNS
 few_columns tables i table h is = leb-true (length table.columns) MOST_COLUMNS (at_each has_room tables i table (few tables h).1 is)
 
 -- names of a schema --------------------------------------------------------------------------
 
-names : (tables : List TableDef) → schema_fault tables ≡ None → (list_all has_good_names tables ≡ true) × (are_distinct (map (λ t. t.name) tables) ≡ true) × (list_all has_distinct_columns tables ≡ true)
+names : (tables : List TableDef) → schema_fault tables ≡ None → (list_all has_good_names tables ≡ true) × (are_distinct (map (λ t. t.name) tables) ≡ true)
+    × (list_all has_distinct_columns tables ≡ true)
 unfolding schema_fault
 names tables h =
     let a = passed (nat_le (length tables) MOST_TABLES && list_all has_room tables) unfit.TooMany _ h in
@@ -74,19 +77,25 @@ names tables h =
     let e = and_parts (are_distinct (map (λ t. t.name) tables)) (list_all has_distinct_columns tables) d.0 in
     (b.0, e.0, e.1)
 
-pub good_table_name : (tables : List TableDef) (i : ℕ) (table : TableDef) → schema_fault tables ≡ None → slice_get tables i ≡ Some table → is_good_name table.name ≡ true
-good_table_name tables i table h is = (and_parts (is_good_name table.name) (list_all (λ c. is_column_name c.0) table.columns) (at_each has_good_names tables i table (names tables h).0 is)).0
+pub good_table_name : (tables : List TableDef) (i : ℕ) (table : TableDef) → schema_fault tables ≡ None → slice_get tables i ≡ Some table
+    → is_good_name table.name ≡ true
+good_table_name tables i table h is = (and_parts (is_good_name table.name) (list_all (λ c. is_column_name c.0) table.columns)
+    (at_each has_good_names tables i table (names tables h).0 is)).0
 
-pub good_column_name : (tables : List TableDef) (i j : ℕ) (table : TableDef) (column : List ℕ × Kind) → schema_fault tables ≡ None → slice_get tables i ≡ Some table → slice_get table.columns j ≡ Some column → is_column_name column.0 ≡ true
-good_column_name tables i j table column h is at = at_each (λ c. is_column_name c.0) table.columns j column (and_parts (is_good_name table.name) (list_all (λ c. is_column_name c.0) table.columns) (at_each has_good_names tables i table (names tables h).0 is)).1 at
+pub good_column_name : (tables : List TableDef) (i j : ℕ) (table : TableDef) (column : List ℕ × Kind) → schema_fault tables ≡ None → slice_get tables i
+    ≡ Some table → slice_get table.columns j ≡ Some column → is_column_name column.0 ≡ true
+good_column_name tables i j table column h is at = at_each (λ c. is_column_name c.0) table.columns j column
+    (and_parts (is_good_name table.name) (list_all (λ c. is_column_name c.0) table.columns) (at_each has_good_names tables i table (names tables h).0 is)).1 at
 
 -- an element whose name equals no later one's differs from each later one
-apart : {X : Type 0} (f : X → List ℕ) (name : List ℕ) (xs : List X) (i : ℕ) (x : X) → list_any (bytes_eq name) (map f xs) ≡ false → slice_get xs i ≡ Some x → bytes_eq name (f x) ≡ false
+apart : {X : Type 0} (f : X → List ℕ) (name : List ℕ) (xs : List X) (i : ℕ) (x : X) → list_any (bytes_eq name) (map f xs) ≡ false → slice_get xs i ≡ Some x
+    → bytes_eq name (f x) ≡ false
 apart f name [] i x none is = cc
 apart f name (y ∷ ys) zero x none is = let h = or_parts (bytes_eq name (f y)) (list_any (bytes_eq name) (map f ys)) none in cc
 apart f name (y ∷ ys) (suc i) x none is = apart f name ys i x (or_parts (bytes_eq name (f y)) (list_any (bytes_eq name) (map f ys)) none).1 is
 
-position_by_name : {X : Type 0} (f : X → List ℕ) (xs : List X) (i : ℕ) (x : X) → are_distinct (map f xs) ≡ true → slice_get xs i ≡ Some x → position_or_len (λ y. bytes_eq (f y) (f x)) xs ≡ i
+position_by_name : {X : Type 0} (f : X → List ℕ) (xs : List X) (i : ℕ) (x : X) → are_distinct (map f xs) ≡ true → slice_get xs i ≡ Some x
+    → position_or_len (λ y. bytes_eq (f y) (f x)) xs ≡ i
 position_by_name f [] i x h is = cc
 position_by_name f (y ∷ ys) zero x h is =
     let e : y ≡ x = cc in
@@ -99,14 +108,17 @@ position_by_name f (y ∷ ys) (suc i) x h is =
     rw (other, rest) (omega arith)
 
 -- where names differ, the first element of a name is the one that has it
-position_of_name : {X : Type 0} (f : X → List ℕ) (xs : List X) (i : ℕ) (x : X) → are_distinct (map f xs) ≡ true → slice_get xs i ≡ Some x → position (λ y. bytes_eq (f y) (f x)) xs ≡ Some i
+position_of_name : {X : Type 0} (f : X → List ℕ) (xs : List X) (i : ℕ) (x : X) → are_distinct (map f xs) ≡ true → slice_get xs i ≡ Some x
+    → position (λ y. bytes_eq (f y) (f x)) xs ≡ Some i
 position_of_name f xs i x h is = rw (position_by_name f xs i x h is, lt-ltb i (length xs) (slice_get_within xs i x is)) refl
 
 -- a table, and a column, is found by its name
-pub table_of_name : (tables : List TableDef) (i : ℕ) (table : TableDef) → schema_fault tables ≡ None → slice_get tables i ≡ Some table → table_named tables table.name ≡ Some i
+pub table_of_name : (tables : List TableDef) (i : ℕ) (table : TableDef) → schema_fault tables ≡ None → slice_get tables i ≡ Some table
+    → table_named tables table.name ≡ Some i
 table_of_name tables i table h is = position_of_name (λ t. t.name) tables i table (names tables h).1 is
 
-pub column_of_name : (tables : List TableDef) (i j : ℕ) (table : TableDef) (column : List ℕ × Kind) → schema_fault tables ≡ None → slice_get tables i ≡ Some table → slice_get table.columns j ≡ Some column → column_named tables i column.0 ≡ Some j
+pub column_of_name : (tables : List TableDef) (i j : ℕ) (table : TableDef) (column : List ℕ × Kind) → schema_fault tables ≡ None → slice_get tables i
+    ≡ Some table → slice_get table.columns j ≡ Some column → column_named tables i column.0 ≡ Some j
 column_of_name tables i j table column h is at =
     rw is (position_of_name (λ c. c.0) table.columns j column (at_each has_distinct_columns tables i table (names tables h).2 is) at)
 
@@ -129,7 +141,8 @@ unmet : {E : Type 0} (b : Bool) (e : E) (rest : Option E) → (if b then Some e 
 unmet true e rest h = cc
 unmet false e rest h = (refl, h)
 
-in_range : (cell : CellId) (row : Row) → is_in_range cell row ≡ true → (is_key cell.key ≡ true) × (has_coordinates row.shape ≡ true) × (list_all is_number row.values ≡ true)
+in_range : (cell : CellId) (row : Row) → is_in_range cell row ≡ true → (is_key cell.key ≡ true) × (has_coordinates row.shape ≡ true)
+    × (list_all is_number row.values ≡ true)
 in_range cell row h =
     let ab = and_parts (is_key cell.key && has_coordinates row.shape) (list_all is_number row.values) h in
     let a = and_parts (is_key cell.key) (has_coordinates row.shape) ab.0 in
@@ -147,12 +160,14 @@ fits_in table cell row h =
     let path = unmet (is_bad_path row.shape) BadPath _ parts.1 in
     record { count = eqb-true _ _ a.0; kinds = b.0; short = d.0; form = e.0; key = g.0; coordinates = g.1; numbers = g.2; parts = parts.0; vertices = path.0 }
 
-fits_at : (found : Option TableDef) (cell : CellId) (row : Row) → fault_at found cell row ≡ None → (table : TableDef) × (found ≡ Some table) × Fits table cell row
+fits_at : (found : Option TableDef) (cell : CellId) (row : Row) → fault_at found cell row ≡ None → (table : TableDef) × (found ≡ Some table)
+    × Fits table cell row
 fits_at None cell row h = cc
 fits_at (Some table) cell row h = (table, refl, fits_in table cell row h)
 
 -- a row without a fault stands in a known table, and passes its tests
-pub fits_table : (tables : List TableDef) (cell : CellId) (row : Row) → row_fault tables cell row ≡ None → (table : TableDef) × (slice_get tables cell.table ≡ Some table) × Fits table cell row
+pub fits_table : (tables : List TableDef) (cell : CellId) (row : Row) → row_fault tables cell row ≡ None → (table : TableDef)
+    × (slice_get tables cell.table ≡ Some table) × Fits table cell row
 unfolding row_fault
 fits_table tables cell row h = fits_at (slice_get tables cell.table) cell row h
 
@@ -160,7 +175,13 @@ fits_table tables cell row h = fits_at (slice_get tables cell.table) cell row h
 
 -- a key as a number from 1 on
 pub key_of : (key : ℤ) → is_key key ≡ true → (n : ℕ) × (key ≡ pos n) × (1 ≤ n) × (n ≤ unsigned_abs GREATEST_KEY)
-key_of (pos n) h = let a = and_parts (nat_le 1 n) (nat_le n (unsigned_abs GREATEST_KEY)) h in (n, refl, leb-true 1 n a.0, leb-true n (unsigned_abs GREATEST_KEY) a.1)
+key_of (pos n) h = let a = and_parts (nat_le 1 n) (nat_le n (unsigned_abs GREATEST_KEY)) h in (
+  n,
+  refl,
+  leb-true 1 n a.0,
+  leb-true n (unsigned_abs GREATEST_KEY)
+      a.1,
+)
 key_of (negsuc n) h = cc
 
 place_in_range : (p : Place) → is_place p ≡ true → InRange p
@@ -169,7 +190,8 @@ place_in_range p h =
     record { in_x = leb-true (unsigned_abs p.x) GREATEST_COORDINATE a.0; in_y = leb-true (unsigned_abs p.y) GREATEST_COORDINATE a.1 }
 
 places_differ : (p q : Place) → same_place p q ≡ false → Differ p q
-places_differ p q h = λ x y. both_ways (same_place p q) h (and_from (int_eq p.x q.x) (int_eq p.y q.y) ((Decides-int_eq p.x q.x).1 x) ((Decides-int_eq p.y q.y).1 y))
+places_differ p q h = λ x y. both_ways (same_place p q) h (and_from (int_eq p.x q.x) (int_eq p.y q.y) ((Decides-int_eq p.x q.x).1 x)
+    ((Decides-int_eq p.y q.y).1 y))
 
 -- a test that no element passes is passed by none
 at_none : {X : Type 0} (p : X → Bool) (xs : List X) (i : ℕ) (x : X) → list_any p xs ≡ false → slice_get xs i ≡ Some x → p x ≡ false
@@ -178,7 +200,8 @@ at_none p (y ∷ ys) zero x none is = let h = or_parts (p y) (list_any p ys) non
 at_none p (y ∷ ys) (suc i) x none is = at_none p ys i x (or_parts (p y) (list_any p ys) none).1 is
 
 -- the ends of each part are in range and differ
-part_ends : (shape : Shape) (n : ℕ) (p q : Place) → has_coordinates shape ≡ true → has_zero_part shape ≡ false → slice_get (parts_of shape) n ≡ Some (p, q) → InRange p × InRange q × Differ p q
+part_ends : (shape : Shape) (n : ℕ) (p q : Place) → has_coordinates shape ≡ true → has_zero_part shape ≡ false → slice_get (parts_of shape) n ≡ Some (p, q)
+    → InRange p × InRange q × Differ p q
 part_ends Bare n p q all none is = cc
 part_ends (At r) n p q all none is = cc
 part_ends (Line r u) zero p q all none is =
@@ -186,8 +209,12 @@ part_ends (Line r u) zero p q all none is =
     let same = same_Some (r, u) (p, q) is in
     let first = ap (λ (e : Place × Place). e.0) same in
     let second = ap (λ (e : Place × Place). e.1) same in
-    let apart = places_differ r u (or_parts (same_place r u) false none).0 in
-    (subst InRange first (place_in_range r a.0), subst InRange second (place_in_range u a.1), subst (λ e. Differ p e) second (subst (λ e. Differ e u) first apart))
+    let apart = places_differ r u (or_parts (same_place r u) false none).0 in (
+      subst InRange first (place_in_range r a.0),
+      subst InRange second (place_in_range u a.1),
+      subst (λ e. Differ p e) second
+          (subst (λ e. Differ e u) first apart),
+    )
 part_ends (Line r u) (suc n) p q all none is = cc
 part_ends (Chain vertices) n p q all none is =
     let ends = path_part vertices n (p, q) is in (
@@ -208,7 +235,8 @@ few_parts (Line p q) h = omega arith
 few_parts (Chain vertices) h = omega (arith, length-path_parts vertices, (path_length vertices h).1)
 
 -- a value beside its column is of its kind
-kind_at : (columns : List (List ℕ × Kind)) (values : List Value) (i : ℕ) (column : List ℕ × Kind) (value : Value) → are_of_kinds columns values ≡ true → slice_get columns i ≡ Some column → slice_get values i ≡ Some value → is_of_kind column.1 value ≡ true
+kind_at : (columns : List (List ℕ × Kind)) (values : List Value) (i : ℕ) (column : List ℕ × Kind) (value : Value) → are_of_kinds columns values ≡ true
+    → slice_get columns i ≡ Some column → slice_get values i ≡ Some value → is_of_kind column.1 value ≡ true
 kind_at [] values i column value all at is = cc
 kind_at (c ∷ cs) [] i column value all at is = cc
 kind_at (c ∷ cs) (v ∷ vs) zero column value all at is = let h = and_parts (is_of_kind c.1 v) (are_of_kinds cs vs) all in cc
@@ -219,7 +247,8 @@ keyed None cell table is h = cc
 keyed (Some t) cell table is h = rw h refl
 
 -- a key in range of a known table names a row that could stand
-pub cell_named : (tables : List TableDef) (cell : CellId) (table : TableDef) → slice_get tables cell.table ≡ Some table → is_key cell.key ≡ true → cell_fault tables cell ≡ None
+pub cell_named : (tables : List TableDef) (cell : CellId) (table : TableDef) → slice_get tables cell.table ≡ Some table → is_key cell.key ≡ true
+    → cell_fault tables cell ≡ None
 unfolding cell_fault
 cell_named tables cell table is h = keyed (slice_get tables cell.table) cell table is h
 
@@ -232,7 +261,8 @@ named None cell h = cc
 named (Some t) cell h = (t, refl, key_in_range (is_key cell.key) h)
 
 -- a cell that names a row that could stand has a known table and a key in range
-pub cell_parts : (tables : List TableDef) (cell : CellId) → cell_fault tables cell ≡ None → (table : TableDef) × (slice_get tables cell.table ≡ Some table) × (is_key cell.key ≡ true)
+pub cell_parts : (tables : List TableDef) (cell : CellId) → cell_fault tables cell ≡ None → (table : TableDef) × (slice_get tables cell.table ≡ Some table)
+    × (is_key cell.key ≡ true)
 unfolding cell_fault
 cell_parts tables cell h = named (slice_get tables cell.table) cell h
 
@@ -275,7 +305,8 @@ module _ (tables : List TableDef) (cell : CellId) (row : Row) (fit : row_fault t
   row_line p q is = row_part 0 p q (ap (λ s. slice_get (parts_of s) 0) is)
 
   pub row_vertex : (vertices : List Place) (n : ℕ) (p : Place) → row.shape ≡ Chain vertices → slice_get vertices n ≡ Some p → InRange p
-  row_vertex vertices n p is at = place_in_range p (at_each is_place vertices n p (subst (λ s. has_coordinates s ≡ true) is (fits_table tables cell row fit).2.coordinates) at)
+  row_vertex vertices n p is at = place_in_range p (at_each is_place vertices n p (subst (λ s. has_coordinates s
+      ≡ true) is (fits_table tables cell row fit).2.coordinates) at)
 
   -- a path has no fewer vertices than the fewest, and no more than the most
   pub row_vertices : (vertices : List Place) → row.shape ≡ Chain vertices → (LEAST_VERTICES ≤ length vertices) × (length vertices ≤ MOST_VERTICES)
@@ -288,7 +319,8 @@ module _ (tables : List TableDef) (cell : CellId) (row : Row) (fit : row_fault t
       let same : t.0 ≡ table = cc in
       subst (λ u. Fits u cell row) same t.2
 
-  pub row_kind : (table : TableDef) (i : ℕ) (column : List ℕ × Kind) (value : Value) → slice_get tables cell.table ≡ Some table → slice_get table.columns i ≡ Some column → slice_get row.values i ≡ Some value → is_of_kind column.1 value ≡ true
+  pub row_kind : (table : TableDef) (i : ℕ) (column : List ℕ × Kind) (value : Value) → slice_get tables cell.table ≡ Some table → slice_get table.columns i
+      ≡ Some column → slice_get row.values i ≡ Some value → is_of_kind column.1 value ≡ true
   row_kind table i column value of at is = kind_at table.columns row.values i column value (row_fits table of).kinds at is
 
   -- the row's cell names a row that could stand

@@ -33,7 +33,8 @@ over-last m (f ∷ es) e = over-last (set_cell m f.0 f.1) es e
 abbrev everywhere : Option Row → List CellId → List (CellId × Option Row)
 everywhere row cells = map (λ cell. (cell, row)) cells
 
-pub over_more : (m : Content) (row : Option Row) (cells : List CellId) (i : ℕ) (d : CellId) → i < length cells → over m (everywhere row (take (i + 1) cells)) ≡ set_cell (over m (everywhere row (take i cells))) (get_or cells i d) row
+pub over_more : (m : Content) (row : Option Row) (cells : List CellId) (i : ℕ) (d : CellId) → i < length cells → over m (everywhere row (take (i + 1) cells))
+    ≡ set_cell (over m (everywhere row (take i cells))) (get_or cells i d) row
 over_more m row cells i d less =
     ap (λ cs. over m (everywhere row cs)) (take_more cells i d less)
     ∙ ap (over m) (map-append (λ cell. (cell, row)) (take i cells) (get_or cells i d ∷ []))
@@ -49,7 +50,8 @@ at_either true true row old = refl
 at_either true false row old = refl
 at_either false b row old = refl
 
-row-everywhere : (m : Content) (row : Option Row) (cells : List CellId) (q : CellId) → row_at (over m (everywhere row cells)) q ≡ cond (is_among q cells) row (row_at m q)
+row-everywhere : (m : Content) (row : Option Row) (cells : List CellId) (q : CellId) → row_at (over m (everywhere row cells)) q
+    ≡ cond (is_among q cells) row (row_at m q)
 row-everywhere m row [] q = ap (λ (n : Content). row_at n q) (over-none m)
 row-everywhere m row (c ∷ cs) q =
     ap (λ (n : Content). row_at n q) (over-first m (c, row) (everywhere row cs))
@@ -63,7 +65,8 @@ module _ (p : CellId → Bool) where
   among_passing [] q = elim (p q) as (λ b. false ≡ (b && false)) [ true ↦ refl | false ↦ refl ]
   among_passing (c ∷ cs) q = by (among_passing cs q) (eq_by_cmp cell_cmp q c) (p c) (p q) refl refl refl
     where
-      by : is_among q (filter p cs) ≡ (p q && is_among q cs) → (t b r : Bool) → eq_by_cmp cell_cmp q c ≡ t → p c ≡ b → p q ≡ r → is_among q (cond b (c ∷ filter p cs) (filter p cs)) ≡ (r && (t || is_among q cs))
+      by : is_among q (filter p cs) ≡ (p q && is_among q cs) → (t b r : Bool) → eq_by_cmp cell_cmp q c ≡ t → p c ≡ b → p q ≡ r
+          → is_among q (cond b (c ∷ filter p cs) (filter p cs)) ≡ (r && (t || is_among q cs))
       by rest true true true tie e f = ap (λ t. t || is_among q (filter p cs)) tie
       by rest true true false tie e f = absurd (false≢true (sym f ∙ ap p (tied_cells q c tie) ∙ e))
       by rest true false true tie e f = absurd (false≢true (sym e ∙ ap p (sym (tied_cells q c tie)) ∙ f))
@@ -89,7 +92,8 @@ undone m cells i = same_content _ _ (λ q.
     ∙ by q (is_among q cells) refl
     ∙ sym (row-everywhere m None cells q))
   where
-    by : (q : CellId) (t : Bool) → is_among q cells ≡ t → cond t None (cond (is_among q (take i cells)) (Some placeholder) (row_at m q)) ≡ cond t None (row_at m q)
+    by : (q : CellId) (t : Bool) → is_among q cells ≡ t → cond t None (cond (is_among q (take i cells)) (Some placeholder) (row_at m q))
+        ≡ cond t None (row_at m q)
     by q true e = refl
     by q false e = ap (λ b. cond b (Some placeholder) (row_at m q)) (none_before q cells i e)
 
@@ -120,7 +124,8 @@ unfolding over
 named_row m n [] q named = absurd (false≢true named)
 named_row m n (e ∷ es) q named = by (named_row (set_cell m e.0 e.1) (set_cell n e.0 e.1) es q) (eq_by_cmp cell_cmp q e.0) refl
   where
-    by : (is_among q (map (λ e. e.0) es) ≡ true → row_at (over (set_cell m e.0 e.1) es) q ≡ row_at (over (set_cell n e.0 e.1) es) q) → (t : Bool) → eq_by_cmp cell_cmp q e.0 ≡ t → row_at (over (set_cell m e.0 e.1) es) q ≡ row_at (over (set_cell n e.0 e.1) es) q
+    by : (is_among q (map (λ e. e.0) es) ≡ true → row_at (over (set_cell m e.0 e.1) es) q ≡ row_at (over (set_cell n e.0 e.1) es) q) → (t : Bool)
+        → eq_by_cmp cell_cmp q e.0 ≡ t → row_at (over (set_cell m e.0 e.1) es) q ≡ row_at (over (set_cell n e.0 e.1) es) q
     by rest true tie =
         agreed (set_cell m e.0 e.1) (set_cell n e.0 e.1) es q
         (row-set_cell m e.0 e.1 q ∙ ap (λ t. cond t e.1 (row_at m q)) tie ∙ sym (row-set_cell n e.0 e.1 q ∙ ap (λ t. cond t e.1 (row_at n q)) tie))
@@ -150,16 +155,19 @@ module _ (m : Content) (es : List (CellId × Option Row)) where
   abbrev ready : Content
   ready = over (over m (with_placeholders (missing m named))) (with_none (missing last named))
 
-  row-ready : (q : CellId) → row_at ready q ≡ cond (not (is_some (row_at last q)) && is_among q named) None (cond (not (is_some (row_at m q)) && is_among q named) (Some placeholder) (row_at m q))
+  row-ready : (q : CellId) → row_at ready q ≡ cond (not (is_some (row_at last q)) && is_among q named) None (cond (not (is_some (row_at m q))
+      && is_among q named) (Some placeholder) (row_at m q))
   row-ready q =
       row-everywhere (over m (with_placeholders (missing m named))) None (missing last named) q
       ∙ (λ i. cond (among_passing (λ c. not (is_some (row_at last c))) named q i) None (row-everywhere m (Some placeholder) (missing m named) q i))
-      ∙ ap (λ t. cond (not (is_some (row_at last q)) && is_among q named) None (cond t (Some placeholder) (row_at m q))) (among_passing (λ c. not (is_some (row_at m c))) named q)
+      ∙ ap (λ t. cond (not (is_some (row_at last q)) && is_among q named) None (cond t (Some placeholder) (row_at m q)))
+      (among_passing (λ c. not (is_some (row_at m c))) named q)
 
   none_last : (q : CellId) → is_among q named ≡ false → row_at last q ≡ None
   none_last q other = other_row no_rows es q other ∙ finite.get-empty cell_cmp q
 
-  filled : (row old : Option Row) → is_some row ≡ true → is_some (cond (not (is_some row) && true) None (cond (not (is_some old) && true) (Some placeholder) old)) ≡ true
+  filled : (row old : Option Row) → is_some row ≡ true
+      → is_some (cond (not (is_some row) && true) None (cond (not (is_some old) && true) (Some placeholder) old)) ≡ true
   filled None old h = absurd (false≢true h)
   filled (Some r) None h = refl
   filled (Some r) (Some s) h = refl
@@ -169,36 +177,46 @@ module _ (m : Content) (es : List (CellId × Option Row)) where
   has_place q there = by (is_among q named) refl
     where
       by : (t : Bool) → is_among q named ≡ t → is_some (row_at ready q) ≡ true
-      by true e = ap is_some (row-ready q ∙ ap (λ t. cond (not (is_some (row_at last q)) && t) None (cond (not (is_some (row_at m q)) && t) (Some placeholder) (row_at m q))) e) ∙ filled (row_at last q) (row_at m q) there
+      by true e = ap is_some (row-ready q
+          ∙ ap (λ t. cond (not (is_some (row_at last q)) && t) None (cond (not (is_some (row_at m q)) && t) (Some placeholder) (row_at m q))) e)
+          ∙ filled (row_at last q) (row_at m q) there
       by false e = absurd (false≢true (sym (ap is_some (none_last q e)) ∙ there))
 
   at_named : (row old : Option Row) → unwrap_or (option_map Some row) (cond (not (is_some row) && true) None old) ≡ row
   at_named None old = refl
   at_named (Some r) old = refl
 
-  at_other : (row old : Option Row) → row ≡ None → unwrap_or (option_map Some row) (cond (not (is_some row) && false) None (cond (not (is_some old) && false) (Some placeholder) old)) ≡ old
+  at_other : (row old : Option Row) → row ≡ None
+      → unwrap_or (option_map Some row) (cond (not (is_some row) && false) None (cond (not (is_some old) && false) (Some placeholder) old)) ≡ old
   at_other None None none = refl
   at_other None (Some s) none = refl
   at_other (Some r) old none = cc
 
   -- the rows that are given last moved to their places are all that was to be put
   pub all_written : over ready (with_rows (finite.entries last)) ≡ over m es
-  all_written = same_content _ _ (λ q. row-with_rows ready last q ∙ ap (unwrap_or (option_map Some (row_at last q))) (row-ready q) ∙ by q (is_among q named) refl)
+  all_written = same_content _ _ (λ q. row-with_rows ready last q ∙ ap (unwrap_or (option_map Some (row_at last q))) (row-ready q)
+      ∙ by q (is_among q named) refl)
     where
-      by : (q : CellId) (t : Bool) → is_among q named ≡ t → unwrap_or (option_map Some (row_at last q)) (cond (not (is_some (row_at last q)) && is_among q named) None (cond (not (is_some (row_at m q)) && is_among q named) (Some placeholder) (row_at m q))) ≡ row_at (over m es) q
+      by : (q : CellId) (t : Bool) → is_among q named ≡ t → unwrap_or (option_map Some (row_at last q)) (cond (not (is_some (row_at last q))
+          && is_among q named) None (cond (not (is_some (row_at m q)) && is_among q named) (Some placeholder) (row_at m q))) ≡ row_at (over m es) q
       by q true e =
-          ap (λ t. unwrap_or (option_map Some (row_at last q)) (cond (not (is_some (row_at last q)) && t) None (cond (not (is_some (row_at m q)) && t) (Some placeholder) (row_at m q)))) e
+          ap (λ t. unwrap_or (option_map Some (row_at last q)) (cond (not (is_some (row_at last q)) && t) None (cond (not (is_some (row_at m q))
+          && t) (Some placeholder) (row_at m q)))) e
           ∙ at_named (row_at last q) _ ∙ sym (named_row m no_rows es q e)
       by q false e =
-          ap (λ t. unwrap_or (option_map Some (row_at last q)) (cond (not (is_some (row_at last q)) && t) None (cond (not (is_some (row_at m q)) && t) (Some placeholder) (row_at m q)))) e
+          ap (λ t. unwrap_or (option_map Some (row_at last q)) (cond (not (is_some (row_at last q)) && t) None (cond (not (is_some (row_at m q))
+          && t) (Some placeholder) (row_at m q)))) e
           ∙ at_other (row_at last q) (row_at m q) (none_last q e) ∙ sym (other_row m es q e)
 
-  module _ (rows : Content) (cleared : List CellId) (room taken : Content) (rows_are : rows ≡ last) (cleared_are : cleared ≡ missing rows named) (room_is : room ≡ over m (with_placeholders (missing m named))) (taken_is : taken ≡ over room (with_none cleared)) where
+  module _ (rows : Content) (cleared : List CellId) (room taken : Content) (rows_are : rows ≡ last) (cleared_are : cleared ≡ missing rows named) (room_is : room
+      ≡ over m (with_placeholders (missing m named))) (taken_is : taken ≡ over room (with_none cleared)) where
     taken-ready : taken ≡ ready
-    taken-ready = taken_is ∙ (λ i. over (room_is i) (with_none (cleared_are i))) ∙ ap (λ (n : Content). over (over m (with_placeholders (missing m named))) (with_none (missing n named))) rows_are
+    taken-ready = taken_is ∙ (λ i. over (room_is i) (with_none (cleared_are i)))
+        ∙ ap (λ (n : Content). over (over m (with_placeholders (missing m named))) (with_none (missing n named))) rows_are
 
     pub rows_have_places : (q : CellId) → is_some (row_at rows q) ≡ true → is_some (row_at taken q) ≡ true
-    rows_have_places q there = ap (λ (n : Content). is_some (row_at n q)) taken-ready ∙ has_place q (sym (ap (λ (n : Content). is_some (row_at n q)) rows_are) ∙ there)
+    rows_have_places q there = ap (λ (n : Content). is_some (row_at n q)) taken-ready ∙ has_place q (sym (ap (λ (n : Content). is_some (row_at n q)) rows_are)
+        ∙ there)
 
     pub moved_is : over taken (with_rows (finite.entries rows)) ≡ over m es
     moved_is = (λ i. over (taken-ready i) (with_rows (finite.entries (rows_are i)))) ∙ all_written
@@ -218,5 +236,6 @@ pub first_found : (e : CellId × Row) (es : List (CellId × Row)) → is_some (f
 first_found e es = ap (λ t. is_some (cond t (Some e.1) (finite.find cell_cmp e.0 es))) (tied_self e.0)
 
 -- a row that is among the later ones is among them all
-pub later_found : (q : CellId) (e : CellId × Row) (es : List (CellId × Row)) → is_some (finite.find cell_cmp q es) ≡ true → is_some (finite.find cell_cmp q (e ∷ es)) ≡ true
+pub later_found : (q : CellId) (e : CellId × Row) (es : List (CellId × Row)) → is_some (finite.find cell_cmp q es) ≡ true
+    → is_some (finite.find cell_cmp q (e ∷ es)) ≡ true
 later_found q e es there = replaced (finite.find cell_cmp q es) (Some e.1) (eq_by_cmp cell_cmp q e.0) refl there

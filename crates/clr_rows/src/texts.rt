@@ -2,7 +2,7 @@
 
 ghost use Rattle.std.specs.Prelude.{◌≡◌, ◌↔◌, string_bytes, IfOk, IsTrue};
 
-use std::alloc::AllocError;
+use std::alloc::{AllocError, Global};
 use std::marker::Model;
 
 /// A text, compared by its bytes.
@@ -25,6 +25,15 @@ impl Words {
         ensures { result ≡ string_bytes text }
     {
         Words { text }
+    }
+
+    /// Returns a text with the bytes of this string.
+    pub fn from_str(alloc: Global, text: &str) -> Result<Words, AllocError>
+        ensures { IfOk result (λ words. words ≡ text.now) }
+    {
+        Ok(Words {
+            text: String::from_str(alloc, text)?,
+        })
     }
 
     /// Returns the text as a string.

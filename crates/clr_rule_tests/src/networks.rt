@@ -1,6 +1,6 @@
 //! Schemas of texts: a line for each table, with its name, its form, and its columns by name and kind.
 
-use clr_row_texts::words;
+use clr_row_test_kit::words;
 use clr_rows::{Columns, Form, Kind, Schema, TableDef};
 use std::alloc::Global;
 

@@ -1,6 +1,6 @@
 //! Rules of texts, by `cases`. A text that can't be read is none.
 
-use clr_row_texts::{number, ordinal, value};
+use clr_row_test_kit::{number, ordinal, value};
 use clr_rows::Value;
 use clr_rules::{Col, ColumnList, Filter, Rule, Side, Tip};
 use std::alloc::Global;

@@ -1,6 +1,6 @@
 //! Spots in their order, and as keys of a map.
 
-use clr_row_texts::{number, values};
+use clr_row_test_kit::{number, values};
 use clr_spots::Spot;
 use std::alloc::Global;
 use std::collections::BTreeMap;

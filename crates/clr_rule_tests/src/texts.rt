@@ -1,6 +1,6 @@
 //! Rows at their cells, of texts. A text that can't be read is none.
 
-use clr_row_texts::{cell, row};
+use clr_row_test_kit::{cell, row};
 use clr_rows::{CellId, Row};
 use std::alloc::Global;
 

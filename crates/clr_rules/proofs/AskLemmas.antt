@@ -51,7 +51,8 @@ same_number n = tied_itself nat_cmp_total n
 
 up_to_rise : (number m n : ℕ) → IsStrictlySortedBy ask_cmp (asks_up_to number m n)
 up_to_rise number m n = rising_flat nat_cmp ask_cmp (λ i. map (λ j. ask_of_parts number i j) (range_with_len 1 n))
-    (λ i. rising_mapped nat_cmp ask_cmp (λ j. ask_of_parts number i j) (λ j k e. rw (same_number number, same_number i) e) (range_with_len 1 n) (range_rises 1 n))
+    (λ i. rising_mapped nat_cmp ask_cmp (λ j. ask_of_parts number i j) (λ j k e. rw (same_number number, same_number i) e) (range_with_len 1 n)
+    (range_rises 1 n))
     (λ i k e x y h l.
     let (j, _, p) = among_mapped (λ j. ask_of_parts number i j) x (range_with_len 1 n) h in
     let (o, _, q) = among_mapped (λ j. ask_of_parts number k j) y (range_with_len 1 n) l in
@@ -75,7 +76,8 @@ asked_rule rules number s (Some t) ask h =
 
 -- every ask that calls is one of them -------------------------------------------------------------
 pub up_to_has : (number m n i j : ℕ) → 1 ≤ i → i ≤ m → 1 ≤ j → j ≤ n → Among (ask_of_parts number i j) (asks_up_to number m n)
-up_to_has number m n i j low high left right = flat_among (λ i. map (λ j. ask_of_parts number i j) (range_with_len 1 n)) i (ask_of_parts number i j) (range_with_len 1 m)
+up_to_has number m n i j low high left right = flat_among (λ i. map (λ j. ask_of_parts number i j) (range_with_len 1 n)) i (ask_of_parts number i j)
+    (range_with_len 1 m)
     (in_range 1 m i low (omega (arith, high)))
     (mapped_among (λ j. ask_of_parts number i j) j (range_with_len 1 n) (in_range 1 n j left (omega (arith, right))))
 
@@ -98,7 +100,8 @@ both_there None p e = absurd (false≢true e)
 both_there (Some a) None e = absurd (false≢true e)
 both_there (Some a) (Some b) e = (a, b, refl, refl)
 
-asked_by : (r : Option Rule) (ask : Ask) (s t : Held) → are_subjects_of r ask s (Some t) ≡ true → Among ask (asks_up_to ask.rule (part_count_by r s) (part_count_by r t))
+asked_by : (r : Option Rule) (ask : Ask) (s t : Held) → are_subjects_of r ask s (Some t) ≡ true
+    → Among ask (asks_up_to ask.rule (part_count_by r s) (part_count_by r t))
 unfolding are_subjects
 asked_by None ask s t e = absurd (false≢true e)
 asked_by (Some (Unique subject columns)) ask s t e = plain_has ask.rule 1 1 ask (and_parts (is_plain ask) _ e).0 refl (omega arith) (omega arith)

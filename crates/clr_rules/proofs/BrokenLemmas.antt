@@ -37,7 +37,8 @@ found : (q : CellId) (r : Row) (es : List Held) → find cell_cmp q es ≡ Some 
 found q r [] e = absurd (cc)
 found q r (x ∷ es) e = go (eq_by_cmp cell_cmp q x.0) refl e (found q r es)
   where
-    go : (b : Bool) → eq_by_cmp cell_cmp q x.0 ≡ b → cond b (Some x.1) (find cell_cmp q es) ≡ Some r → (find cell_cmp q es ≡ Some r → Among (q, r) es) → Among (q, r) (x ∷ es)
+    go : (b : Bool) → eq_by_cmp cell_cmp q x.0 ≡ b → cond b (Some x.1) (find cell_cmp q es) ≡ Some r → (find cell_cmp q es ≡ Some r → Among (q, r) es)
+        → Among (q, r) (x ∷ es)
     go true p d more = let i : q ≡ x.0 = cell_cmp_exact q x.0 ((Equal-is (cell_cmp q x.0)).0 p) in let j : x.1 ≡ r = cc in inl (λ k. (sym i k, j k))
     go false p d more = inr (more d)
 
@@ -86,7 +87,8 @@ lt_is Greater e = absurd (false≢true e)
 
 chosen : (content : Content) (s : Held) (t : Option Held) → StandsBeside (row_at content) s t → Among t (choices s (rows_in content))
 chosen content s None h = inl refl
-chosen content s (Some t) h = inr (mapped_among Some t (filter (is_after s) (rows_in content)) (kept_among (is_after s) t (rows_in content) (held_listed content t h.0) (ap is_lt h.1)))
+chosen content s (Some t) h = inr (mapped_among Some t (filter (is_after s) (rows_in content)) (kept_among (is_after s) t (rows_in content)
+    (held_listed content t h.0) (ap is_lt h.1)))
 
 choice_stands : (content : Content) (s : Held) (t : Option Held) → Among t (choices s (rows_in content)) → StandsBeside (row_at content) s t
 choice_stands content s t (inl e) = subst (StandsBeside (row_at content) s) e tt
@@ -149,11 +151,21 @@ unfolding broken_below
 origin rules zero rows b h = absurd h
 origin rules (suc n) rows b h = elim (among_either b (broken_below rules n rows) (broken_of rules n rows) h) [
   | inl k ↦ (let o = origin rules n rows b k in
-      record { below = omega (arith, o.below); first = o.first; second = o.second; first_listed = o.first_listed; second_listed = o.second_listed; broken = o.broken; named = o.named })
+      record {
+        below = omega (arith, o.below);
+        first = o.first;
+        second = o.second;
+        first_listed = o.first_listed;
+        second_listed = o.second_listed;
+        broken =
+            o.broken;
+        named = o.named;
+      })
   | inr k ↦ from_one rules n (suc n) rows b (omega arith) k
 ]
 
-listed_from : (rules : List Rule) (ask : Ask) (rows : List Held) (s : Held) (t : Option Held) → Among s rows → Among t (choices s rows) → is_broken rules ask rows s t ≡ true
+listed_from : (rules : List Rule) (ask : Ask) (rows : List Held) (s : Held) (t : Option Held) → Among s rows → Among t (choices s rows)
+    → is_broken rules ask rows s t ≡ true
     → calls rules ask s t ≡ true
     → Among (broken_at ask s t) (broken_of rules ask.rule rows)
 unfolding broken_of broken_from
@@ -167,7 +179,8 @@ unfolding broken_below
 below_listed rules k zero rows b less h = absurd (omega (arith, less))
 below_listed rules k (suc n) rows b less h = elim (cases_lt k n) [
   | inl l ↦ among_left b (broken_below rules n rows) (broken_of rules n rows) (below_listed rules k n rows b l h)
-  | inr l ↦ (let same : k ≡ n = omega (arith, less, l) in among_right b (broken_below rules n rows) (broken_of rules n rows) (subst (λ (i : ℕ). Among b (broken_of rules i rows)) same h))
+  | inr l ↦ (let same : k ≡ n = omega (arith, less, l) in among_right b (broken_below rules n rows) (broken_of rules n rows)
+      (subst (λ (i : ℕ). Among b (broken_of rules i rows)) same h))
 ]
 
 -- listed and broken ----------------------------------------------------------------------------
@@ -199,7 +212,8 @@ unmet_listed rules content ask s t need = go (list_any (serves rules ask s t) (r
         let (r, h, f) = some_of (serves rules ask s t) (rows_in content) e in
         inl (r, listed_stands content r h, f)
     go false e = inr (below_listed rules ask.rule (length rules) (rows_in content) (broken_at ask s t) (rule_there rules ask s t need.they_call)
-        (listed_from rules ask (rows_in content) s t (held_listed content s need.stands) (chosen content s t need.beside) (rw (need.they_call, e) refl) need.they_call))
+        (listed_from rules ask (rows_in content) s t (held_listed content s need.stands) (chosen content s t need.beside) (rw (need.they_call, e) refl)
+        need.they_call))
 
 pub broken_listed : (rules : List Rule) (content : Content) (b : Broken) → IsBroken rules (row_at content) b → Among b (broken_needs rules content)
 broken_listed rules content b h = elim (unmet_listed rules content (ask_of b) h.first h.second h.need) [
@@ -221,7 +235,8 @@ some_choices_rise rows p = rising_mapped held_cmp choice_cmp Some (λ x z e. e) 
 pub choices_rise : (s : Held) (rows : List Held) → IsStrictlySortedBy held_cmp rows → IsStrictlySortedBy choice_cmp (choices s rows)
 unfolding IsStrictlySortedBy
 choices_rise s rows p = (
-  all_by (λ t. choice_cmp None t ≡ Less) (map Some (filter (is_after s) rows)) (λ t h. let m = among_mapped Some t (filter (is_after s) rows) h in subst (λ u. choice_cmp None u ≡ Less) m.2 refl),
+  all_by (λ t. choice_cmp None t ≡ Less) (map Some (filter (is_after s) rows)) (λ t h. let m = among_mapped Some t (filter (is_after s) rows) h in
+      subst (λ u. choice_cmp None u ≡ Less) m.2 refl),
   some_choices_rise (filter (is_after s) rows) (IsStrictlySortedBy-filter held_cmp (is_after s) rows p),
 )
 
@@ -248,28 +263,33 @@ unfolding broken_cmp
 by_rule x y h = rw (less_number x.rule y.rule h) refl
 
 between_rises : (rules : List Rule) (n : ℕ) (rows : List Held) (s : Held) (t : Option Held) → IsStrictlySortedBy broken_cmp (broken_between rules n rows s t)
-between_rises rules n rows s t = rising_mapped ask_cmp broken_cmp (λ ask. broken_at ask s t) (λ a b e. by_ask a b s t e) (filter (λ ask. is_broken rules ask rows s t) (asks rules n s t))
+between_rises rules n rows s t = rising_mapped ask_cmp broken_cmp (λ ask. broken_at ask s t) (λ a b e. by_ask a b s t e)
+    (filter (λ ask. is_broken rules ask rows s t) (asks rules n s t))
     (IsStrictlySortedBy-filter ask_cmp (λ ask. is_broken rules ask rows s t) (asks rules n s t) (asks_rise rules n s t))
 
 -- what is listed for two subjects, by its ask
-between_from : (rules : List Rule) (n : ℕ) (rows : List Held) (s : Held) (t : Option Held) (b : Broken) → Among b (broken_between rules n rows s t) → (ask : Ask) × (ask.rule ≡ n) × (broken_at ask s t ≡ b)
+between_from : (rules : List Rule) (n : ℕ) (rows : List Held) (s : Held) (t : Option Held) (b : Broken) → Among b (broken_between rules n rows s t)
+    → (ask : Ask) × (ask.rule ≡ n) × (broken_at ask s t ≡ b)
 between_from rules n rows s t b h =
     let (ask, l, e) = among_mapped (λ ask. broken_at ask s t) b (filter (λ ask. is_broken rules ask rows s t) (asks rules n s t)) h in
     (ask, asked_rule rules n s t ask (among_kept (λ ask. is_broken rules ask rows s t) ask (asks rules n s t) l).0, e)
 
-between_below : (rules : List Rule) (n : ℕ) (rows : List Held) (s r : Held) (t u : Option Held) → ((a b : Ask) → a.rule ≡ b.rule → broken_cmp (broken_at a s t) (broken_at b r u) ≡ Less)
+between_below : (rules : List Rule) (n : ℕ) (rows : List Held) (s r : Held) (t u : Option Held)
+    → ((a b : Ask) → a.rule ≡ b.rule → broken_cmp (broken_at a s t) (broken_at b r u) ≡ Less)
     → AllBelow broken_cmp (broken_between rules n rows s t) (broken_between rules n rows r u)
 between_below rules n rows s r t u less x y h k =
     let (a, i, p) = between_from rules n rows s t x h in
     let (b, j, q) = between_from rules n rows r u y k in
     subst (λ (z : Broken). broken_cmp z y ≡ Less) p (subst (λ (z : Broken). broken_cmp (broken_at a s t) z ≡ Less) q (less a b (i ∙ sym j)))
 
-from_rises : (rules : List Rule) (n : ℕ) (rows : List Held) (s : Held) → IsStrictlySortedBy held_cmp rows → IsStrictlySortedBy broken_cmp (broken_from rules n rows s)
+from_rises : (rules : List Rule) (n : ℕ) (rows : List Held) (s : Held) → IsStrictlySortedBy held_cmp rows
+    → IsStrictlySortedBy broken_cmp (broken_from rules n rows s)
 unfolding broken_from
 from_rises rules n rows s p = rising_flat choice_cmp broken_cmp (broken_between rules n rows s) (between_rises rules n rows s)
     (λ t u e. between_below rules n rows s s t u (λ a b same. by_second a b s t u same e)) (choices s rows) (choices_rise s rows p)
 
-from_below : (rules : List Rule) (n : ℕ) (rows : List Held) (s r : Held) → held_cmp s r ≡ Less → AllBelow broken_cmp (broken_from rules n rows s) (broken_from rules n rows r)
+from_below : (rules : List Rule) (n : ℕ) (rows : List Held) (s r : Held) → held_cmp s r ≡ Less
+    → AllBelow broken_cmp (broken_from rules n rows s) (broken_from rules n rows r)
 unfolding broken_from
 from_below rules n rows s r e x y h k =
     let (t, _, p) = among_flat (broken_between rules n rows s) x (choices s rows) h in
@@ -283,7 +303,8 @@ of_rises rules n rows p = rising_flat held_cmp broken_cmp (broken_from rules n r
 below_rises : (rules : List Rule) (n : ℕ) (rows : List Held) → IsStrictlySortedBy held_cmp rows → IsStrictlySortedBy broken_cmp (broken_below rules n rows)
 unfolding broken_below IsStrictlySortedBy
 below_rises rules zero rows p = tt
-below_rises rules (suc n) rows p = rising_joined broken_cmp (broken_below rules n rows) (broken_of rules n rows) (below_rises rules n rows p) (of_rises rules n rows p)
+below_rises rules (suc n) rows p = rising_joined broken_cmp (broken_below rules n rows) (broken_of rules n rows) (below_rises rules n rows p)
+    (of_rises rules n rows p)
     (λ x y h k. by_rule x y (omega (arith, rule_from rules n rows y k, (origin rules n rows x h).below)))
 
 pub broken_rises : (rules : List Rule) (content : Content) → IsStrictlySortedBy broken_cmp (broken_needs rules content)
@@ -307,7 +328,8 @@ first_is rules content [] e = λ ask s t need. elim (unmet_listed rules content 
 ]
 first_is rules content (b ∷ bs) e = record {
   broken = listed_broken rules content b (subst (λ (l : List Broken). Among b l) (sym e) (inl refl));
-  least = λ c h. at_least c (subst (λ (l : List Broken). Among c l) e (broken_listed rules content c h)) (subst (IsStrictlySortedBy broken_cmp) e (broken_rises rules content));
+  least = λ c h. at_least c (subst (λ (l : List Broken). Among c l) e (broken_listed rules content c h)) (subst (IsStrictlySortedBy broken_cmp) e
+      (broken_rises rules content));
 }
   where
     at_least : (c : Broken) → Among c (b ∷ bs) → IsStrictlySortedBy broken_cmp (b ∷ bs) → is_gt (broken_cmp b c) ≡ false
@@ -317,13 +339,22 @@ first_is rules content (b ∷ bs) e = record {
 pub lists_broken : BrokenLaw
 lists_broken rules content = record {
   ascending = broken_rises rules content;
-  exactly = λ b. (λ h. listed_broken rules content b (among b (broken_needs rules content) h), λ h. contained b (broken_needs rules content) (broken_listed rules content b h));
+  exactly = λ b. (
+    λ h. listed_broken rules content b (among b (broken_needs rules content) h),
+    λ h. contained b (broken_needs rules content)
+        (broken_listed rules content b h),
+  );
   first = first_is rules content (broken_needs rules content) refl;
 }
 
 -- rows that fit ------------------------------------------------------------------------------------
 pub rows_fit : (rules : List Rule) (content : Content) → FitsContent rules content → FitTogether rules (rows_in content)
-rows_fit rules content fit = record { tables = fit.tables; book = fit.book; each = all_fit (rows_in content) (λ s h. fit.rows s.0 s.1 (listed_stands content s h)) }
+rows_fit rules content fit = record {
+  tables = fit.tables;
+  book = fit.book;
+  each = all_fit (rows_in content)
+      (λ s h. fit.rows s.0 s.1 (listed_stands content s h));
+}
   where
     all_fit : (rows : List Held) → ((s : Held) → Among s rows → FitsCell fit.tables s) → All (FitsCell fit.tables) rows
     all_fit [] h = All-nil (FitsCell fit.tables)

@@ -23,11 +23,13 @@ parts_meet ask s t e = go (part_of s.1.shape ask.first_part) (part_of t.1.shape 
     go (Some a) None i j e = absurd (false≢true e)
     go (Some a) (Some b) i j e = record { one = a; other = b; is_one = i; is_other = j; common = common_from_search a.0 a.1 b.0 b.1 e }
 
-meet_parts : (tables : List TableDef) (ask : Ask) (s t : Held) → FitsCell tables s → FitsCell tables t → PartsMeet ask s t → have_meeting (part_of s.1.shape ask.first_part) (part_of t.1.shape ask.second_part) ≡ true
+meet_parts : (tables : List TableDef) (ask : Ask) (s t : Held) → FitsCell tables s → FitsCell tables t → PartsMeet ask s t
+    → have_meeting (part_of s.1.shape ask.first_part) (part_of t.1.shape ask.second_part) ≡ true
 meet_parts tables ask s t f g m =
     let a = m.one in
     let b = m.other in
-    rw (m.is_one, m.is_other) (search_from_common a.0 a.1 b.0 b.1 (sound_part tables s ask.first_part a f m.is_one).differ (sound_part tables t ask.second_part b g m.is_other).differ m.common)
+    rw (m.is_one, m.is_other) (search_from_common a.0 a.1 b.0 b.1 (sound_part tables s ask.first_part a f m.is_one).differ
+    (sound_part tables t ask.second_part b g m.is_other).differ m.common)
 
 pub crossing_subjects : CrossingSubjects
 unfolding are_subjects
@@ -41,11 +43,13 @@ not_from : (b : Bool) → (b ≡ true → ⊥) → not b ≡ true
 not_from true h = absurd (h refl)
 not_from false h = refl
 
-at_crossing : (tables : List TableDef) (ask : Ask) (s t r : Held) → FitsCell tables s → FitsCell tables t → is_crossing_at (part_of s.1.shape ask.first_part) (part_of t.1.shape ask.second_part) (point_of r) ≡ true
+at_crossing : (tables : List TableDef) (ask : Ask) (s t r : Held) → FitsCell tables s → FitsCell tables t
+    → is_crossing_at (part_of s.1.shape ask.first_part) (part_of t.1.shape ask.second_part) (point_of r) ≡ true
     → IsAtCrossing ask s t r
 at_crossing tables ask s t r f g e = go (part_of s.1.shape ask.first_part) (part_of t.1.shape ask.second_part) (point_of r) refl refl refl e
   where
-    go : (o p : Option Segment) (q : Option Place) → part_of s.1.shape ask.first_part ≡ o → part_of t.1.shape ask.second_part ≡ p → point_of r ≡ q → is_crossing_at o p q ≡ true → IsAtCrossing ask s t r
+    go : (o p : Option Segment) (q : Option Place) → part_of s.1.shape ask.first_part ≡ o → part_of t.1.shape ask.second_part ≡ p → point_of r ≡ q
+        → is_crossing_at o p q ≡ true → IsAtCrossing ask s t r
     go None p q i j k e = absurd (false≢true e)
     go (Some a) None q i j k e = absurd (false≢true e)
     go (Some a) (Some b) None i j k e = absurd (false≢true e)

@@ -46,7 +46,8 @@ module _ {X : Type 0} where
   among_kept p x [] h = absurd h
   among_kept p x (z ∷ xs) h = go (p z) refl h (among_kept p x xs)
     where
-      go : (b : Bool) → p z ≡ b → Among x (cond b (z ∷ filter p xs) (filter p xs)) → (Among x (filter p xs) → Among x xs × (p x ≡ true)) → Among x (z ∷ xs) × (p x ≡ true)
+      go : (b : Bool) → p z ≡ b → Among x (cond b (z ∷ filter p xs) (filter p xs)) → (Among x (filter p xs) → Among x xs × (p x ≡ true)) → Among x (z ∷ xs)
+          × (p x ≡ true)
       go true d (inl s) more = (inl s, rw s at d)
       go true d (inr k) more = let m = more k in (inr m.0, m.1)
       go false d k more = let m = more k in (inr m.0, m.1)
@@ -98,7 +99,11 @@ module _ {X Y : Type 0} where
 
   pub among_flat : (f : X → List Y) (y : Y) (xs : List X) → Among y (flat_map f xs) → (x : X) × Among x xs × Among y (f x)
   among_flat f y [] h = absurd h
-  among_flat f y (z ∷ xs) h = elim (among_either y (f z) (flat_map f xs) h) [ inl k ↦ (z, inl refl, k) | inr k ↦ (let m = among_flat f y xs k in (m.0, inr m.1, m.2)) ]
+  among_flat f y (z ∷ xs) h = elim (among_either y (f z) (flat_map f xs) h) [
+    | inl k ↦ (z, inl refl, k)
+    | inr k ↦ (let m = among_flat f y xs k in
+        (m.0, inr m.1, m.2))
+  ]
 
 -- lists that rise ----------------------------------------------------------------------------
 
@@ -111,24 +116,31 @@ module _ {X : Type 0} (c : X → X → Ordering) where
   unfolding IsStrictlySortedBy
   rising_joined [] ys p q below = q
   rising_joined (x ∷ xs) ys p q below = (
-    all_by (λ y. c x y ≡ Less) (xs ++ ys) (λ y h. elim (among_either y xs ys h) [ inl k ↦ each_of (λ y. c x y ≡ Less) y xs p.0 k | inr k ↦ below x y (inl refl) k ]),
+    all_by (λ y. c x y ≡ Less) (xs ++ ys) (λ y h. elim (among_either y xs ys h) [
+      | inl k ↦ each_of (λ y. c x y ≡ Less) y xs p.0 k
+      | inr k ↦ below x y (inl refl)
+          k
+    ]),
     rising_joined xs ys p.1 q (λ z y h k. below z y (inr h) k),
   )
 
 module _ {X Y : Type 0} (c : X → X → Ordering) (d : Y → Y → Ordering) where
   -- lists of rising elements, each below those of the next
-  pub rising_flat : (f : X → List Y) → ((x : X) → IsStrictlySortedBy d (f x)) → ((x z : X) → c x z ≡ Less → AllBelow d (f x) (f z)) → (xs : List X) → IsStrictlySortedBy c xs → IsStrictlySortedBy d (flat_map f xs)
+  pub rising_flat : (f : X → List Y) → ((x : X) → IsStrictlySortedBy d (f x)) → ((x z : X) → c x z ≡ Less → AllBelow d (f x) (f z)) → (xs : List X)
+      → IsStrictlySortedBy c xs → IsStrictlySortedBy d (flat_map f xs)
   unfolding IsStrictlySortedBy
   rising_flat f each below [] p = tt
   rising_flat f each below (x ∷ xs) p = rising_joined d (f x) (flat_map f xs) (each x) (rising_flat f each below xs p.1)
       (λ y z h k. let m = among_flat f z xs k in below x m.0 (each_of (λ w. c x w ≡ Less) m.0 xs p.0 m.1) y z h m.2)
 
   -- rising elements that are mapped to rising ones
-  pub rising_mapped : (f : X → Y) → ((x z : X) → c x z ≡ Less → d (f x) (f z) ≡ Less) → (xs : List X) → IsStrictlySortedBy c xs → IsStrictlySortedBy d (map f xs)
+  pub rising_mapped : (f : X → Y) → ((x z : X) → c x z ≡ Less → d (f x) (f z) ≡ Less) → (xs : List X) → IsStrictlySortedBy c xs
+      → IsStrictlySortedBy d (map f xs)
   unfolding IsStrictlySortedBy
   rising_mapped f keeps [] p = tt
   rising_mapped f keeps (x ∷ xs) p = (
-    all_by (λ y. d (f x) y ≡ Less) (map f xs) (λ y h. let m = among_mapped f y xs h in subst (λ w. d (f x) w ≡ Less) m.2 (keeps x m.0 (each_of (λ w. c x w ≡ Less) m.0 xs p.0 m.1))),
+    all_by (λ y. d (f x) y ≡ Less) (map f xs) (λ y h. let m = among_mapped f y xs h in subst (λ w. d (f x) w
+        ≡ Less) m.2 (keeps x m.0 (each_of (λ w. c x w ≡ Less) m.0 xs p.0 m.1))),
     rising_mapped f keeps xs p.1,
   )
 
@@ -151,7 +163,8 @@ module _ {X : Type 0} {c : X → X → Ordering} (o : IsTotalOrder c) where
   heads x y xs ys p q (inr h) (inl e) = sym e
   heads x y xs ys p q (inr h) (inr k) = absurd (not_both x y (each_of (λ z. c x z ≡ Less) y xs p.0 k) (each_of (λ z. c y z ≡ Less) x ys q.0 h))
 
-  pub same_rising : (xs ys : List X) → IsStrictlySortedBy c xs → IsStrictlySortedBy c ys → ((x : X) → Among x xs → Among x ys) → ((x : X) → Among x ys → Among x xs) → xs ≡ ys
+  pub same_rising : (xs ys : List X) → IsStrictlySortedBy c xs → IsStrictlySortedBy c ys → ((x : X) → Among x xs → Among x ys)
+      → ((x : X) → Among x ys → Among x xs) → xs ≡ ys
   unfolding IsStrictlySortedBy
   same_rising [] [] p q there back = refl
   same_rising [] (y ∷ ys) p q there back = absurd (back y (inl refl))

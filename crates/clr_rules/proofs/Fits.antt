@@ -14,7 +14,8 @@ AreAmong part rows = (s : Held) → Among s part → Among s rows
 
 all_part : (P : Held → Type 0) (part rows : List Held) → All P rows → AreAmong part rows → All P part
 all_part P [] rows all h = All-nil P
-all_part P (s ∷ part) rows all h = All-cons P s part (All-contains P rows s all (contained s rows (h s (inl refl)))) (all_part P part rows all (λ r k. h r (inr k)))
+all_part P (s ∷ part) rows all h = All-cons P s part (All-contains P rows s all (contained s rows (h s (inl refl))))
+    (all_part P part rows all (λ r k. h r (inr k)))
 
 pub fit_part : (rules : List Rule) (part rows : List Held) → FitTogether rules rows → AreAmong part rows → FitTogether rules part
 fit_part rules part rows fit h = record { tables = fit.tables; book = fit.book; each = all_part (FitsCell fit.tables) part rows fit.each h }

@@ -66,27 +66,34 @@ distance_without_fault tables rule h =
     let e = passed (has_forms tables rule) WrongShape _ d.1 in
     (passed (has_distance rule) BadDistance _ e.1).0
 
-pub no_fault : (number : ℕ) (fault : Option RuleFault) (later : Option (ℕ × RuleFault)) → fault_or_later number fault later ≡ None → (fault ≡ None) × (later ≡ None)
+pub no_fault : (number : ℕ) (fault : Option RuleFault) (later : Option (ℕ × RuleFault)) → fault_or_later number fault later ≡ None → (fault ≡ None)
+    × (later ≡ None)
 no_fault number (Some fault) later h = cc
 no_fault number None later h = (refl, h)
 
-rule_without_fault : (tables : List TableDef) (from : ℕ) (rules : List Rule) (i : ℕ) (rule : Rule) → first_fault tables from rules ≡ None → slice_get rules i ≡ Some rule → rule_fault tables rule ≡ None
+rule_without_fault : (tables : List TableDef) (from : ℕ) (rules : List Rule) (i : ℕ) (rule : Rule) → first_fault tables from rules ≡ None → slice_get rules i
+    ≡ Some rule → rule_fault tables rule ≡ None
 unfolding first_fault
 rule_without_fault tables from [] i rule h is = cc
-rule_without_fault tables from (r ∷ rules) zero rule h is = let same : r ≡ rule = cc in subst (λ x. rule_fault tables x ≡ None) same (no_fault from (rule_fault tables r) (first_fault tables (from + 1) rules) h).0
-rule_without_fault tables from (r ∷ rules) (suc i) rule h is = rule_without_fault tables (from + 1) rules i rule (no_fault from (rule_fault tables r) (first_fault tables (from + 1) rules) h).1 is
+rule_without_fault tables from (r ∷ rules) zero rule h is = let same : r ≡ rule = cc in subst (λ x. rule_fault tables x
+    ≡ None) same (no_fault from (rule_fault tables r) (first_fault tables (from + 1) rules) h).0
+rule_without_fault tables from (r ∷ rules) (suc i) rule h is = rule_without_fault tables (from + 1) rules i rule
+    (no_fault from (rule_fault tables r) (first_fault tables (from + 1) rules) h).1 is
 
 first_in_book : (few : Bool) (fault : Option (ℕ × RuleFault)) → (if few then fault else Some (MOST_RULES, TooMany)) ≡ None → fault ≡ None
 first_in_book true fault h = h
 first_in_book false fault h = cc
 
 -- a rule of a book that fits a schema has no fault in it
-pub rule_fits : (tables : List TableDef) (rules : List Rule) (i : ℕ) (rule : Rule) → FitsBook tables rules → slice_get rules i ≡ Some rule → rule_fault tables rule ≡ None
+pub rule_fits : (tables : List TableDef) (rules : List Rule) (i : ℕ) (rule : Rule) → FitsBook tables rules → slice_get rules i ≡ Some rule
+    → rule_fault tables rule ≡ None
 unfolding book_fault
-rule_fits tables rules i rule h is = rule_without_fault tables 0 rules i rule (first_in_book (nat_le (length rules) MOST_RULES) (first_fault tables 0 rules) h) is
+rule_fits tables rules i rule h is = rule_without_fault tables 0 rules i rule (first_in_book (nat_le (length rules) MOST_RULES) (first_fault tables 0 rules) h)
+    is
 
 -- a distance in a book that fits is one that `near` takes
-pub distance_fits : (rules : List Rule) (rows : List Held) (i : ℕ) (rule : Rule) → FitTogether rules rows → slice_get rules i ≡ Some rule → has_distance rule ≡ true
+pub distance_fits : (rules : List Rule) (rows : List Held) (i : ℕ) (rule : Rule) → FitTogether rules rows → slice_get rules i ≡ Some rule → has_distance rule
+    ≡ true
 distance_fits rules rows i rule h is = distance_without_fault h.tables rule (rule_fits h.tables rules i rule h.book is)
 
 -- the literals of a book that fits are within 64 bits
@@ -97,9 +104,11 @@ literal_within (Some k) v h = (and_parts (is_of_kind k v) (is_number v) h).1
 side_within : (tables : List TableDef) (side : Side) → has_filter tables side ≡ true → is_side_within side ≡ true
 side_within tables side h = go side.filter h
   where
-    go : (fs : List (ℕ × Value)) → list_all (λ f. is_literal_of (kind_of tables side.table (column.At f.0)) f.1) fs ≡ true → list_all (λ f. is_number f.1) fs ≡ true
+    go : (fs : List (ℕ × Value)) → list_all (λ f. is_literal_of (kind_of tables side.table (column.At f.0)) f.1) fs ≡ true → list_all (λ f. is_number f.1) fs
+        ≡ true
     go [] h = refl
-    go (f ∷ fs) h = let p = and_parts (is_literal_of (kind_of tables side.table (column.At f.0)) f.1) _ h in and_from _ _ (literal_within (kind_of tables side.table (column.At f.0)) f.1 p.0) (go fs p.1)
+    go (f ∷ fs) h = let p = and_parts (is_literal_of (kind_of tables side.table (column.At f.0)) f.1) _ h in and_from _ _
+        (literal_within (kind_of tables side.table (column.At f.0)) f.1 p.0) (go fs p.1)
 
 sides_within : (tables : List TableDef) (a b : Side) → (has_filter tables a && has_filter tables b) ≡ true → (is_side_within a && is_side_within b) ≡ true
 sides_within tables a b h = let p = and_parts _ _ h in and_from _ _ (side_within tables a p.0) (side_within tables b p.1)

@@ -15,7 +15,8 @@ either_way true false z w e = inr (and_parts z w e)
 either_way false y z w e = inr (and_parts z w e)
 
 -- each of two rows of two sides has a role
-pub both_have_roles : (a b : Side) (s t : Held) → are_of_sides a b s t ≡ true → ((is_of_side a s || is_of_side b s) ≡ true) × ((is_of_side a t || is_of_side b t) ≡ true)
+pub both_have_roles : (a b : Side) (s t : Held) → are_of_sides a b s t ≡ true → ((is_of_side a s || is_of_side b s) ≡ true)
+    × ((is_of_side a t || is_of_side b t) ≡ true)
 both_have_roles a b s t e = elim (either_way (is_of_side a s) (is_of_side b t) (is_of_side a t) (is_of_side b s) e) [
   | inl h ↦ (or_left _ _ h.0, or_right _ _ h.1)
   | inr h ↦ (or_right _ _ h.1, or_left _ _ h.0)

@@ -67,7 +67,8 @@ value_again kind.Words (Int n) of number = absurd cc
 value_again kind.Words (Words text) of number = refl
 
 values_again : (fields front : List (List ℕ)) (columns : List (List ℕ × Kind)) (values : List Value) (rest : List (List ℕ))
-    → length values ≡ length columns → are_of_kinds columns values ≡ true → list_all is_number values ≡ true → fields ≡ front ++ (map value_field values ++ rest)
+    → length values ≡ length columns → are_of_kinds columns values ≡ true → list_all is_number values ≡ true → fields ≡ front
+    ++ (map value_field values ++ rest)
     → values_of columns fields (length front) ≡ Ok values
 unfolding in_turn field_at
 values_again fields front [] [] rest long of numbers is = refl
@@ -92,7 +93,8 @@ place_again p e =
     rw (whole_again p.x (coordinate_number p.x t.0), whole_again p.y (coordinate_number p.y t.1)) refl
 
 -- a place in two fields behind a front
-place_behind : (front rest : List (List ℕ)) (p : Place) (i k : ℕ) → i ≡ length front + k → field_of rest k ≡ signed_decimal p.x → field_of rest (k + 1) ≡ signed_decimal p.y
+place_behind : (front rest : List (List ℕ)) (p : Place) (i k : ℕ) → i ≡ length front + k → field_of rest k ≡ signed_decimal p.x → field_of rest (k + 1)
+    ≡ signed_decimal p.y
     → is_place p ≡ true → place_of (front ++ rest) i ≡ Ok p
 place_behind front rest p i k is x y e =
     let second : i + 1 ≡ length front + (k + 1) = omega (arith, is) in
@@ -141,7 +143,8 @@ count_of_path n k is good =
     let half : n / 2 ≡ k = omega (arith, is) in
     rw (even, half, t.0, t.1) refl
 
-count_again : (wanted : Form) (shape : Shape) → is_of_form wanted shape ≡ true → is_bad_path shape ≡ false → can_have_coordinates wanted (length (shape_fields shape)) ≡ true
+count_again : (wanted : Form) (shape : Shape) → is_of_form wanted shape ≡ true → is_bad_path shape ≡ false
+    → can_have_coordinates wanted (length (shape_fields shape)) ≡ true
 count_again form.Bare Bare of good = refl
 count_again form.Point Bare of good = absurd cc
 count_again form.Segment Bare of good = absurd cc
@@ -168,7 +171,8 @@ behind a b d row = a ∷ b ∷ d ∷ (map value_field row.values ++ shape_fields
 three_again : (a b d : List ℕ) (row : Row) → nat_le 3 (length (behind a b d row)) ≡ true
 three_again a b d row = le-leb 3 (length (behind a b d row)) (omega arith)
 
-fields_again : (table : TableDef) (a b d : List ℕ) (row : Row) → length row.values ≡ length table.columns → can_have_coordinates table.shape (length (shape_fields row.shape)) ≡ true
+fields_again : (table : TableDef) (a b d : List ℕ) (row : Row) → length row.values ≡ length table.columns
+    → can_have_coordinates table.shape (length (shape_fields row.shape)) ≡ true
     → row_can_have_fields table (length (behind a b d row)) ≡ true
 fields_again table a b d row count coordinates =
     let long : length (behind a b d row) ≡ 3 + length table.columns + length (shape_fields row.shape) =

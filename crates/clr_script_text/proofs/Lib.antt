@@ -1,4 +1,2 @@
 mod EditAgain
-mod RecordsAgain
 mod ScriptAgain
-pub mod Turns

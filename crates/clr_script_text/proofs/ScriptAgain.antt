@@ -1,15 +1,10 @@
 -- The text of the script that makes a design is read as the steps that make it.
 use Rattle.std.proofs.Common.{◌≡◌, ℕ, ◌+◌, ◌<◌, ◌^◌, true, List, [], ◌∷◌, ◌++◌, length, map, codes, Ok, Some, None, pos, ℤ, refl, arith}
 use Rattle.std.specs.Prelude.{IsUtf8, slice_get}
-use Rattle.std.specs.Fmt.{signed_decimal}
 use Rattle.std.specs.List.{All, AllByRecursion, flat_map, list_all}
 use Rattle.std.proofs.lemmas.Bool.{and_parts, le-leb, lt-ltb}
-use Rattle.std.proofs.lemmas.Bool.Decides.{nat_tests}
-use Rattle.std.proofs.lemmas.Fmt.{IsAscii-signed}
 use Rattle.std.proofs.lemmas.List.{length-map, take_all}
-use Rattle.std.proofs.lemmas.List.Elements.{All-from_recursion, recursion_from_All}
-use Rattle.std.proofs.lemmas.Str.{IsUtf8-from_ascii}
-use Rattle.std.proofs.lemmas.Str.Ascii.{IsAscii-from_all}
+use Rattle.std.proofs.lemmas.List.Elements.{recursion_from_All}
 use Rattle.csv.specs.Reading.{strip_bom}
 use Rattle.csv.specs.Records.{field_at}
 use Rattle.csv.specs.Writing.{default_writer, escaped, fields_text, is_blank, row_text}
@@ -21,21 +16,23 @@ use Rattle.clr_rows.specs.declared.rows.Row.{Row}
 use Rattle.clr_rows.specs.declared.rows.Value.{Value}
 use Rattle.clr_rows.specs.declared.rows.Value.TheVariants.{Int, Words}
 use Rattle.clr_rows.specs.declared.tables.TableDef.{TableDef}
-use Rattle.clr_rows.specs.Names.{is_good_name, is_name_byte}
+use Rattle.clr_rows.specs.Names.{is_good_name}
 use Rattle.clr_rows.specs.Numbers.{is_i64}
 use Rattle.clr_rows.specs.Schemas.{has_coordinates, is_coordinate, is_key, is_number, is_place, name_of_table, row_fault, schema_fault}
 use Rattle.clr_rows.proofs.SchemaLemmas as schema
 use Rattle.clr_change.specs.declared.edits.Edit.{Edit}
 use Rattle.clr_change.specs.declared.edits.Edit.TheVariants.{Insert, Update, Delete}
 use Rattle.clr_records.specs.Records.{in_turn}
-use Rattle.clr_records.proofs.Decimals.{number_again, within}
+use Rattle.clr_records.proofs.Decimals.{number_again}
+use Rattle.clr_records.proofs.RecordsAgain.{IsPlain, records_again}
+use Rattle.clr_records.proofs.Turns.{joined}
+use Rattle.clr_records.proofs.Utf8.{name_utf8, number_utf8}
 use Rattle.clr_lines.specs.Rows.{place_fields, row_fields, rows_writer, shape_fields, value_field}
 use Rattle.clr_scripts.specs.Edits.{edits_from}
 use Rattle.clr_scripts.specs.Scripts.{apply_of, command_of, plain_step_of, script_of, step_of, steps_from}
-use Rattle.clr_script_text.specs.Scripts.{apply_fields, cell_fields, create_fields, design_records, design_steps, edit_fields, records_text}
+use Rattle.clr_script_text.specs.Scripts.{apply_fields, cell_fields, create_fields, design_records, design_steps, edit_fields, script_text}
 use Rattle.clr_script_text.specs.ReadBack.{Fits, HasTexts, IsText, ReadBackLaw}
 use Rattle.clr_script_text.proofs.EditAgain.{coordinate_number, edit_again, key_number}
-use Rattle.clr_script_text.proofs.RecordsAgain.{IsPlain, records_again}
 
 -- the records are read -----------------------------------------------------------------------------
 
@@ -51,7 +48,8 @@ unfolding steps_from
 passed_over tables n [] = refl
 passed_over tables n (fields ∷ rows) = passed_over tables (n + 1) rows
 
-steps_again : (tables : List TableDef) (name root : List ℕ) (edits : List Edit) → schema_fault tables ≡ None → AllByRecursion (Fits tables) edits → length edits < 2 ^ 63
+steps_again : (tables : List TableDef) (name root : List ℕ) (edits : List Edit) → schema_fault tables ≡ None → AllByRecursion (Fits tables) edits
+    → length edits < 2 ^ 63
     → script_of tables (design_records tables name root edits) ≡ Ok (design_steps name root edits)
 unfolding steps_from step_of apply_of plain_step_of command_of field_at
 steps_again tables name root edits sound fit few =
@@ -68,30 +66,10 @@ steps_again tables name root edits sound fit few =
 
 -- the fields are in UTF-8 --------------------------------------------------------------------------
 
-name_byte_low : (b : ℕ) → is_name_byte b ≡ true → b < 128
-name_byte_low b e = grind (arith, nat_tests)
-
-low_bytes : (s : List ℕ) → list_all is_name_byte s ≡ true → AllByRecursion (λ b. b < 128) s
-low_bytes [] e = tt
-low_bytes (b ∷ s) e = let t = and_parts (is_name_byte b) (list_all is_name_byte s) e in (name_byte_low b t.0, low_bytes s t.1)
-
-low_utf8 : (s : List ℕ) → AllByRecursion (λ b. b < 128) s → IsUtf8 s
-low_utf8 s all = IsUtf8-from_ascii s (IsAscii-from_all s (All-from_recursion (λ b. b < 128) s all))
-
-name_utf8 : (name : List ℕ) → is_good_name name ≡ true → IsUtf8 name
-unfolding is_good_name
-name_utf8 name e = low_utf8 name (low_bytes name (and_parts _ (list_all is_name_byte name) e).1)
-
-number_utf8 : (z : ℤ) → is_i64 z ≡ true → IsUtf8 (signed_decimal z)
-number_utf8 z e = IsUtf8-from_ascii (signed_decimal z) (IsAscii-signed z (within z e).1)
-
-joined : (xs ys : List (List ℕ)) → AllByRecursion IsUtf8 xs → AllByRecursion IsUtf8 ys → AllByRecursion IsUtf8 (xs ++ ys)
-joined [] ys all more = more
-joined (x ∷ xs) ys all more = (all.0, joined xs ys all.1 more)
-
 values_utf8 : (values : List Value) → list_all is_number values ≡ true → AllByRecursion IsText values → AllByRecursion IsUtf8 (map value_field values)
 values_utf8 [] numbers texts = tt
-values_utf8 (Int n ∷ values) numbers texts = let t = and_parts (is_i64 n) (list_all is_number values) numbers in (number_utf8 n t.0, values_utf8 values t.1 texts.1)
+values_utf8 (Int n ∷ values) numbers texts = let t = and_parts (is_i64 n) (list_all is_number values) numbers in
+    (number_utf8 n t.0, values_utf8 values t.1 texts.1)
 values_utf8 (Words text ∷ values) numbers texts = (texts.0, values_utf8 values numbers texts.1)
 
 place_utf8 : (p : Place) → is_place p ≡ true → AllByRecursion IsUtf8 (place_fields p)
@@ -103,15 +81,16 @@ vertices_utf8 : (ps : List Place) → list_all is_place ps ≡ true → AllByRec
 vertices_utf8 [] e = tt
 vertices_utf8 (p ∷ ps) e =
     let t = and_parts (is_place p) (list_all is_place ps) e in
-    joined (place_fields p) (flat_map place_fields ps) (place_utf8 p t.0) (vertices_utf8 ps t.1)
+    joined IsUtf8 (place_fields p) (flat_map place_fields ps) (place_utf8 p t.0) (vertices_utf8 ps t.1)
 
 shape_utf8 : (shape : Shape) → has_coordinates shape ≡ true → AllByRecursion IsUtf8 (shape_fields shape)
 shape_utf8 Bare e = tt
 shape_utf8 (At p) e = place_utf8 p e
-shape_utf8 (Line p q) e = let t = and_parts (is_place p) (is_place q) e in joined (place_fields p) (place_fields q) (place_utf8 p t.0) (place_utf8 q t.1)
+shape_utf8 (Line p q) e = let t = and_parts (is_place p) (is_place q) e in joined IsUtf8 (place_fields p) (place_fields q) (place_utf8 p t.0) (place_utf8 q t.1)
 shape_utf8 (Chain ps) e = vertices_utf8 ps e
 
-cell_utf8 : (tables : List TableDef) (cell : CellId) (table : TableDef) → schema_fault tables ≡ None → slice_get tables cell.table ≡ Some table → is_key cell.key ≡ true
+cell_utf8 : (tables : List TableDef) (cell : CellId) (table : TableDef) → schema_fault tables ≡ None → slice_get tables cell.table ≡ Some table
+    → is_key cell.key ≡ true
     → AllByRecursion IsUtf8 (cell_fields tables cell)
 cell_utf8 tables cell table sound is key =
     let name : IsUtf8 (name_of_table tables cell.table) = rw is (name_utf8 table.name (schema.good_table_name tables cell.table table sound is)) in
@@ -121,30 +100,31 @@ row_utf8 : (tables : List TableDef) (cell : CellId) (row : Row) → schema_fault
     → AllByRecursion IsUtf8 (row_fields tables cell row)
 row_utf8 tables cell row sound fit texts =
     let f = schema.fits_table tables cell row fit in
-    joined (cell_fields tables cell) (map value_field row.values ++ shape_fields row.shape) (cell_utf8 tables cell f.0 sound f.1 f.2.key)
-    (joined (map value_field row.values) (shape_fields row.shape) (values_utf8 row.values f.2.numbers (recursion_from_All IsText row.values texts)) (shape_utf8 row.shape f.2.coordinates))
+    joined IsUtf8 (cell_fields tables cell) (map value_field row.values ++ shape_fields row.shape) (cell_utf8 tables cell f.0 sound f.1 f.2.key)
+    (joined IsUtf8 (map value_field row.values) (shape_fields row.shape) (values_utf8 row.values f.2.numbers (recursion_from_All IsText row.values texts))
+    (shape_utf8 row.shape f.2.coordinates))
 
-edit_plain : (tables : List TableDef) (e : Edit) → schema_fault tables ≡ None → Fits tables e → HasTexts e → IsPlain (edit_fields tables e)
+edit_plain : (tables : List TableDef) (e : Edit) → schema_fault tables ≡ None → Fits tables e → HasTexts e → IsPlain IsUtf8 (edit_fields tables e)
 unfolding is_good_name
-edit_plain tables (Insert cell row) sound fit texts = record { some = refl; utf8 = (name_utf8 (codes "insert") refl, row_utf8 tables cell row sound fit texts) }
-edit_plain tables (Update cell row) sound fit texts = record { some = refl; utf8 = (name_utf8 (codes "update") refl, row_utf8 tables cell row sound fit texts) }
+edit_plain tables (Insert cell row) sound fit texts = record { some = refl; each = (name_utf8 (codes "insert") refl, row_utf8 tables cell row sound fit texts) }
+edit_plain tables (Update cell row) sound fit texts = record { some = refl; each = (name_utf8 (codes "update") refl, row_utf8 tables cell row sound fit texts) }
 edit_plain tables (Delete cell) sound fit texts =
     let f = schema.cell_parts tables cell fit in
-    record { some = refl; utf8 = (name_utf8 (codes "delete") refl, cell_utf8 tables cell f.0 sound f.1 f.2) }
+    record { some = refl; each = (name_utf8 (codes "delete") refl, cell_utf8 tables cell f.0 sound f.1 f.2) }
 
 edits_plain : (tables : List TableDef) (edits : List Edit) → schema_fault tables ≡ None → AllByRecursion (Fits tables) edits → AllByRecursion HasTexts edits
-    → AllByRecursion IsPlain (map (edit_fields tables) edits)
+    → AllByRecursion (IsPlain IsUtf8) (map (edit_fields tables) edits)
 edits_plain tables [] sound fit texts = tt
 edits_plain tables (e ∷ edits) sound fit texts = (edit_plain tables e sound fit.0 texts.0, edits_plain tables edits sound fit.1 texts.1)
 
-create_plain : (name root : List ℕ) → IsUtf8 name → IsUtf8 root → IsPlain (create_fields name root)
+create_plain : (name root : List ℕ) → IsUtf8 name → IsUtf8 root → IsPlain IsUtf8 (create_fields name root)
 unfolding is_good_name
-create_plain name root n r = record { some = refl; utf8 = (name_utf8 (codes "create") refl, (n, (r, tt))) }
+create_plain name root n r = record { some = refl; each = (name_utf8 (codes "create") refl, (n, (r, tt))) }
 
-apply_plain : (name : List ℕ) (count : ℕ) → IsUtf8 name → count < 2 ^ 63 → IsPlain (apply_fields name count)
+apply_plain : (name : List ℕ) (count : ℕ) → IsUtf8 name → count < 2 ^ 63 → IsPlain IsUtf8 (apply_fields name count)
 unfolding is_good_name
 apply_plain name count n few =
-    record { some = refl; utf8 = (name_utf8 (codes "apply") refl, (n, (number_utf8 (pos count) (lt-ltb count (2 ^ 63) few), tt))) }
+    record { some = refl; each = (name_utf8 (codes "apply") refl, (n, (number_utf8 (pos count) (lt-ltb count (2 ^ 63) few), tt))) }
 
 -- a writer that takes any number of fields writes as csv does by itself ------------------------------
 
@@ -168,7 +148,7 @@ row_same : (fields : List (List ℕ)) → row_text rows_writer fields ≡ row_te
 row_same [] = rw (blank_same []) refl
 row_same (x ∷ fields) = rw (escaped_same x, fields_same fields, blank_same (x ∷ fields)) refl
 
-records_same : (rows : List (List (List ℕ))) → records_text rows ≡ flat_map (row_text default_writer) rows
+records_same : (rows : List (List (List ℕ))) → script_text rows ≡ flat_map (row_text default_writer) rows
 records_same [] = refl
 records_same (r ∷ rows) = rw (row_same r, records_same rows) refl
 
@@ -186,7 +166,7 @@ script_again tables name root edits is =
     let fit = recursion_from_All (Fits tables) edits is.fit in
     let texts = recursion_from_All HasTexts edits is.texts in
     let records = design_records tables name root edits in
-    let plain : AllByRecursion IsPlain records = (create_plain name root is.named is.rooted, (apply_plain name (length edits) is.named is.few, edits_plain tables edits is.sound fit texts)) in
+    let plain : AllByRecursion (IsPlain IsUtf8) records = (create_plain name root is.named is.rooted, (apply_plain name (length edits) is.named is.few, edits_plain tables edits is.sound fit texts)) in
     rw (
       records_same records,
       records_again records plain (no_mark name root (apply_fields name (length edits) ∷ map (edit_fields tables) edits)),

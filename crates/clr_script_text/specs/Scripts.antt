@@ -2,10 +2,7 @@
 use Rattle.std.specs.Prelude.{ℕ, List, [], ◌∷◌, ◌++◌, length, map, codes}
 use Rattle.std.specs.Fmt.{decimal, signed_decimal}
 use Rattle.std.specs.List.{flat_map}
-use Rattle.std.specs.declared.alloc.Global.{Global}
-use Rattle.std.specs.declared.vec.Vec.{Vec}
-use Rattle.csv.specs.Writing.{row_text, writer_pending, writer_under}
-use Rattle.csv.specs.declared.writer.Writer.{Writer}
+use Rattle.csv.specs.Writing.{row_text}
 use Rattle.clr_rows.specs.declared.cells.CellId.{CellId}
 use Rattle.clr_rows.specs.declared.tables.TableDef.{TableDef}
 use Rattle.clr_rows.specs.Schemas.{name_of_table}
@@ -40,14 +37,10 @@ apply_fields name count = codes "apply" ∷ name ∷ decimal count ∷ []
 abbrev pub design_records : List TableDef → List ℕ → List ℕ → List Edit → List (List (List ℕ))
 design_records tables name root edits = create_fields name root ∷ apply_fields name (length edits) ∷ map (edit_fields tables) edits
 
--- the text of records, each a line
-abbrev pub records_text : List (List (List ℕ)) → List ℕ
-records_text records = flat_map (row_text rows_writer) records
+-- the text of the records of a script, each a line
+abbrev pub script_text : List (List (List ℕ)) → List ℕ
+script_text records = flat_map (row_text rows_writer) records
 
 -- the text of the script that makes a design
 abbrev pub design_script : List TableDef → List ℕ → List ℕ → List Edit → List ℕ
-design_script tables name root edits = records_text (design_records tables name root edits)
-
--- what a writer over a list has written, also what it still holds back
-abbrev pub text_of : Writer (Vec ℕ Global) → List ℕ
-text_of writer = (writer_under writer).items ++ writer_pending writer
+design_script tables name root edits = script_text (design_records tables name root edits)

@@ -6,7 +6,8 @@ ghost use Rattle.csv.specs.Records.{fields_of, partial_of};
 ghost use Rattle.csv.specs.Writing.{row_text};
 ghost use Rattle.clr_lines.specs.Rows.{IsBetween, row_fields, rows_writer};
 ghost use Rattle.clr_scripts.specs.Scripts.{script_in_text};
-ghost use Rattle.clr_script_text.specs.Scripts.{cell_fields, design_script, design_steps, edit_fields, records_text, text_of};
+ghost use Rattle.clr_records.specs.Writing.{written_by};
+ghost use Rattle.clr_script_text.specs.Scripts.{cell_fields, design_script, design_steps, edit_fields, script_text};
 ghost use Rattle.clr_script_text.specs.ReadBack.{Fits, HasTexts, IsText};
 
 use crate::fields::{add, add_cell, add_row};
@@ -64,7 +65,7 @@ fn edit_record(alloc: Global, schema: &Schema, edit: &Edit) -> Result<ByteRecord
 fn add_record(writer: &mut Writer<Vec<u8>>, fields: &ByteRecord) -> Result<(), AllocError>
     requires { IsBetween writer.old }
     ensures between { OnOk result (IsBetween writer.new) }
-    ensures written { OnOk result (text_of writer.new ≡ text_of writer.old ++ row_text rows_writer (fields_of fields.now)) }
+    ensures written { OnOk result (written_by writer.new ≡ written_by writer.old ++ row_text rows_writer (fields_of fields.now)) }
 {
     match writer.write_byte_record(fields) {
         Ok(()) => Ok(()),
@@ -82,7 +83,7 @@ fn add_command(
 ) -> Result<(), AllocError>
     requires { IsBetween writer.old }
     ensures between { OnOk result (IsBetween writer.new) }
-    ensures written { OnOk result (text_of writer.new ≡ text_of writer.old ++ row_text rows_writer (command.now ∷ first.now ∷ second.now ∷ [])) }
+    ensures written { OnOk result (written_by writer.new ≡ written_by writer.old ++ row_text rows_writer (command.now ∷ first.now ∷ second.now ∷ [])) }
 {
     let mut fields = ByteRecord::new(alloc);
     add(&mut fields, command.as_bytes())?;
@@ -99,7 +100,7 @@ fn add_edits(
 ) -> Result<(), AllocError>
     requires { IsBetween writer.old }
     ensures between { OnOk result (IsBetween writer.new) }
-    ensures written { OnOk result (text_of writer.new ≡ text_of writer.old ++ records_text (map (edit_fields schema.now) edits.now)) }
+    ensures written { OnOk result (written_by writer.new ≡ written_by writer.old ++ script_text (map (edit_fields schema.now) edits.now)) }
     ensures texts { OnOk result (All HasTexts edits.now) }
 {
     for edit in edits {

@@ -15,13 +15,15 @@ pub begins : (fields : List (List ℕ)) (at : ℕ) → at < length fields → dr
 unfolding field_at
 begins [] at lt = absurd (omega arith)
 begins (f ∷ fs) zero lt = refl
-begins (f ∷ fs) (suc at) lt = begins fs at (omega arith) ∙ ap (λ k. field_of fs at ∷ drop k fs) (add-one at) ∙ ap (λ k. field_of fs at ∷ drop k (f ∷ fs)) (sym (add-one (suc at)))
+begins (f ∷ fs) (suc at) lt = begins fs at (omega arith) ∙ ap (λ k. field_of fs at ∷ drop k fs) (add-one at)
+    ∙ ap (λ k. field_of fs at ∷ drop k (f ∷ fs)) (sym (add-one (suc at)))
 
 -- two fields, and those behind them
 two : (fields : List (List ℕ)) (at : ℕ) → at + 1 < length fields → drop at fields ≡ field_of fields at ∷ (field_of fields (at + 1) ∷ drop (at + 2) fields)
 two fields at lt =
     let last : at + 1 + 1 ≡ at + 2 = omega arith in
-    begins fields at (omega arith) ∙ ap (λ (fs : List (List ℕ)). field_of fields at ∷ fs) (begins fields (at + 1) lt ∙ ap (λ k. field_of fields (at + 1) ∷ drop k fields) last)
+    begins fields at (omega arith) ∙ ap (λ (fs : List (List ℕ)). field_of fields at ∷ fs) (begins fields (at + 1) lt
+    ∙ ap (λ k. field_of fields (at + 1) ∷ drop k fields) last)
 
 one_more : {A : Type 0} (front : List A) (one : Result A RecordFault) (others : Result (List A) RecordFault)
     → with_front front (one >>= λ x. others >>= λ xs. Ok (x ∷ xs)) ≡ one >>= λ x. with_front (front ++ x ∷ []) others
@@ -34,7 +36,8 @@ unfolding vertices_of
 next front fields at lt = rw (two fields at lt) (one_more front (place_of fields at) (vertices_of (drop (at + 2) fields)))
 
 -- one more vertex is read
-pub goes_on : (front : List Place) (fields : List (List ℕ)) (at : ℕ) (p : Place) (total : Result (List Place) RecordFault) → at + 1 < length fields → place_of fields at ≡ Ok p
+pub goes_on : (front : List Place) (fields : List (List ℕ)) (at : ℕ) (p : Place) (total : Result (List Place) RecordFault) → at + 1 < length fields
+    → place_of fields at ≡ Ok p
     → with_front front (vertices_of (drop at fields)) ≡ total → with_front (front ++ p ∷ []) (vertices_of (drop (at + 2) fields)) ≡ total
 goes_on front fields at p total lt was so_far = sym (next front fields at lt ∙ rw was refl) ∙ so_far
 
@@ -48,7 +51,8 @@ so fault.NoTable read is = is
 so fault.BadNumber read is = is
 
 -- a vertex has a fault, and so has the whole
-pub stops : (e : RecordFault) (front : List Place) (fields : List (List ℕ)) (at : ℕ) (total : Result (List Place) RecordFault) → at + 1 < length fields → place_of fields at ≡ Err e
+pub stops : (e : RecordFault) (front : List Place) (fields : List (List ℕ)) (at : ℕ) (total : Result (List Place) RecordFault) → at + 1 < length fields
+    → place_of fields at ≡ Err e
     → with_front front (vertices_of (drop at fields)) ≡ total → Fails e total
 stops e front fields at total lt failed so_far = so e total (sym so_far ∙ (next front fields at lt ∙ rw failed refl))
 

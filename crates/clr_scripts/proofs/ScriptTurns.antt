@@ -23,13 +23,17 @@ own : (count : ℕ) (rows : List Row) → map fields_of (take (min count (length
 own count rows = rw (take_min count rows) (sym (take-map fields_of count rows))
 
 pub apply_stops : (tables : List TableDef) (n : ℕ) (fields : List (List ℕ)) (rows : List Row) (count m : ℕ) (e : RecordFault) → edit_count fields ≡ Ok count
-    → FailsAt m e (edits_from tables (n + 1) (map fields_of (take (min count (length rows)) rows))) → FailsAt m e (apply_of tables n fields (map fields_of rows))
+    → FailsAt m e (edits_from tables (n + 1) (map fields_of (take (min count (length rows)) rows)))
+    → FailsAt m e (apply_of tables n fields (map fields_of rows))
 unfolding apply_of
 apply_stops tables n fields rows count m e is h =
-    passes_at m e (edits_from tables (n + 1) (map fields_of (take (min count (length rows)) rows))) (apply_of tables n fields (map fields_of rows)) (λ f k. rw (is, ← own count rows, k) refl) h
+    passes_at m e (edits_from tables (n + 1) (map fields_of (take (min count (length rows)) rows))) (apply_of tables n fields (map fields_of rows))
+    (λ f k. rw (is, ← own count rows, k) refl) h
 
-pub apply_whole : (tables : List TableDef) (n : ℕ) (fields : List (List ℕ)) (rows : List Row) (count : ℕ) (edits : List Edit) → edit_count fields ≡ Ok count → count ≤ length rows
-    → edits_from tables (n + 1) (map fields_of (take (min count (length rows)) rows)) ≡ Ok edits → apply_of tables n fields (map fields_of rows) ≡ Ok (Act (Apply (field_of fields 1) edits))
+pub apply_whole : (tables : List TableDef) (n : ℕ) (fields : List (List ℕ)) (rows : List Row) (count : ℕ) (edits : List Edit) → edit_count fields ≡ Ok count
+    → count ≤ length rows
+    → edits_from tables (n + 1) (map fields_of (take (min count (length rows)) rows)) ≡ Ok edits → apply_of tables n fields (map fields_of rows)
+    ≡ Ok (Act (Apply (field_of fields 1) edits))
 unfolding apply_of
 apply_whole tables n fields rows count edits is le h =
     let there : nat_le count (length (map fields_of rows)) ≡ true = le-leb count _ (omega (arith, length-map rows fields_of)) in
@@ -48,28 +52,37 @@ skips tables (suc k) n rows i r more lt is =
     rw (less, add-one i, drop-cons rows i r) refl
 
 -- a record that is the last step's own is passed over
-pub passed_over : (tables : List TableDef) (front : List Step) (k n : ℕ) (rows : List Row) (i : ℕ) (r : Row) (total : Result (List Step) (ℕ × RecordFault)) → 0 < k → i < length rows → r ≡ get_or rows i r
-    → with_front front (steps_from tables k n (map fields_of (drop i rows))) ≡ total → with_front front (steps_from tables (k - 1) (n + 1) (map fields_of (drop (i + 1) rows))) ≡ total
+pub passed_over : (tables : List TableDef) (front : List Step) (k n : ℕ) (rows : List Row) (i : ℕ) (r : Row) (total : Result (List Step) (ℕ × RecordFault))
+    → 0 < k → i < length rows → r ≡ get_or rows i r
+    → with_front front (steps_from tables k n (map fields_of (drop i rows))) ≡ total
+    → with_front front (steps_from tables (k - 1) (n + 1) (map fields_of (drop (i + 1) rows))) ≡ total
 passed_over tables front k n rows i r total more lt is so_far = rw (← skips tables k n rows i r more lt is) so_far
 
 begun : (tables : List TableDef) (n : ℕ) (rows : List Row) (i : ℕ) (r : Row) → i < length rows → r ≡ get_or rows i r
-    → steps_from tables 0 n (map fields_of (drop i rows)) ≡ (step_of tables n (fields_of r) (map fields_of (drop (i + 1) rows)) >>= λ step. steps_from tables (edits_in step) (n + 1) (map fields_of (drop (i + 1) rows)) >>= λ others. Ok (step ∷ others))
+    → steps_from tables 0 n (map fields_of (drop i rows))
+    ≡ (step_of tables n (fields_of r) (map fields_of (drop (i + 1) rows)) >>= λ step. steps_from tables (edits_in step) (n + 1)
+    (map fields_of (drop (i + 1) rows)) >>= λ others. Ok (step ∷ others))
 unfolding steps_from
 begun tables n rows i r lt is = rw (add-one i, drop-cons rows i r) (rw (← is) refl)
 
 -- one more step is read
-pub one_step : (tables : List TableDef) (front : List Step) (n : ℕ) (rows : List Row) (i : ℕ) (r : Row) (step : Step) (total : Result (List Step) (ℕ × RecordFault)) → i < length rows → r ≡ get_or rows i r → step_of tables n (fields_of r) (map fields_of (drop (i + 1) rows)) ≡ Ok step
-    → with_front front (steps_from tables 0 n (map fields_of (drop i rows))) ≡ total → with_front (front ++ step ∷ []) (steps_from tables (edits_in step) (n + 1) (map fields_of (drop (i + 1) rows))) ≡ total
+pub one_step : (tables : List TableDef) (front : List Step) (n : ℕ) (rows : List Row) (i : ℕ) (r : Row) (step : Step) (total : Result (List Step) (ℕ
+    × RecordFault)) → i < length rows → r ≡ get_or rows i r → step_of tables n (fields_of r) (map fields_of (drop (i + 1) rows)) ≡ Ok step
+    → with_front front (steps_from tables 0 n (map fields_of (drop i rows))) ≡ total
+    → with_front (front ++ step ∷ []) (steps_from tables (edits_in step) (n + 1) (map fields_of (drop (i + 1) rows))) ≡ total
 one_step tables front n rows i r step total lt is h so_far = sym (regroup front step _) ∙ (sym (rw (begun tables n rows i r lt is, h) refl) ∙ so_far)
 
 -- the fault of a step is that of the whole
-pub step_stops : (tables : List TableDef) (front : List Step) (n : ℕ) (rows : List Row) (i : ℕ) (r : Row) (m : ℕ) (e : RecordFault) (total : Result (List Step) (ℕ × RecordFault)) → i < length rows → r ≡ get_or rows i r → FailsAt m e (step_of tables n (fields_of r) (map fields_of (drop (i + 1) rows)))
+pub step_stops : (tables : List TableDef) (front : List Step) (n : ℕ) (rows : List Row) (i : ℕ) (r : Row) (m : ℕ) (e : RecordFault)
+    (total : Result (List Step) (ℕ × RecordFault)) → i < length rows → r ≡ get_or rows i r
+    → FailsAt m e (step_of tables n (fields_of r) (map fields_of (drop (i + 1) rows)))
     → with_front front (steps_from tables 0 n (map fields_of (drop i rows))) ≡ total → FailsAt m e total
 step_stops tables front n rows i r m e total lt is h so_far =
     passes_at m e (step_of tables n (fields_of r) (map fields_of (drop (i + 1) rows))) total (λ f k. sym so_far ∙ rw (begun tables n rows i r lt is, k) refl) h
 
 -- no record is left
-pub whole_script : (tables : List TableDef) (front : List Step) (k n : ℕ) (rows : List Row) (i : ℕ) (total : Result (List Step) (ℕ × RecordFault)) → length rows ≤ i
+pub whole_script : (tables : List TableDef) (front : List Step) (k n : ℕ) (rows : List Row) (i : ℕ) (total : Result (List Step) (ℕ × RecordFault))
+    → length rows ≤ i
     → with_front front (steps_from tables k n (map fields_of (drop i rows))) ≡ total → total ≡ Ok front
 unfolding steps_from
 whole_script tables front zero n rows i total le so_far = sym so_far ∙ rw (drop_all i rows le) (ap (λ ys. Ok ys) (append-nil front))

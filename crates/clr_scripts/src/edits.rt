@@ -51,7 +51,7 @@ fn value(alloc: Global, kind: Kind, text: &str) -> Result<Value, RecordFault>
 {
     match kind {
         Kind::Int => Ok(Value::Int(number(text)?)),
-        Kind::Words => Ok(Value::Words(Words::new(String::from_str(alloc, text)?))),
+        Kind::Words => Ok(Value::Words(Words::from_str(alloc, text)?)),
     }
 }
 

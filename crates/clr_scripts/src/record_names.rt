@@ -16,7 +16,7 @@ use std::alloc::Global;
 pub fn words(alloc: Global, fields: &StringRecord, at: usize) -> Result<Words, RecordFault>
     ensures { Gives result (Ok (field_of (fields_of fields.now) at)) }
 {
-    Ok(Words::new(String::from_str(alloc, field(fields, at))?))
+    Ok(Words::from_str(alloc, field(fields, at))?)
 }
 
 /// Returns the name of a record of two fields.

@@ -68,8 +68,20 @@ number_at x p q n b =
     let low = b.0 in
     let high = b.1 in
     by_lt_z p q
-    (λ less. (up (q -ℤ p), up (x -ℤ p), rising x p q less (omega (arith, linear, least)) (omega (arith, linear, most)), up_is_size (q -ℤ p) (omega (arith, linear))))
-    (λ more. (up (p -ℤ q), up (p -ℤ x), falling x p q (omega (arith, linear)) (omega (arith, linear, least)) (omega (arith, linear, most)), up_is_size (p -ℤ q) (omega (arith, linear)) ∙ size-turned p q))
+    (λ less. (
+      up (q -ℤ p),
+      up (x -ℤ p),
+      rising x p q less (omega (arith, linear, least)) (omega (arith, linear, most)),
+      up_is_size (q -ℤ p)
+          (omega (arith, linear)),
+    ))
+    (λ more. (
+      up (p -ℤ q),
+      up (p -ℤ x),
+      falling x p q (omega (arith, linear)) (omega (arith, linear, least)) (omega (arith, linear, most)),
+      up_is_size (p -ℤ q)
+          (omega (arith, linear)) ∙ size-turned p q,
+    ))
 
 -- ---- shares and numbers
 -- equal shares are one number
@@ -121,7 +133,8 @@ scaled_number x p q d s k f h = record {
 
 -- ---- the greater of the lower ends against the lesser of the upper ends
 -- what is in both ranges is from the one to the other
-pub common_range : (d : ℕ) (m p q r u : ℤ) → Between (pos d *ℤ int_min p q) m (pos d *ℤ int_max p q) → Between (pos d *ℤ int_min r u) m (pos d *ℤ int_max r u) → Between (pos d *ℤ greater_low p q r u) m (pos d *ℤ lesser_high p q r u)
+pub common_range : (d : ℕ) (m p q r u : ℤ) → Between (pos d *ℤ int_min p q) m (pos d *ℤ int_max p q) → Between (pos d *ℤ int_min r u) m (pos d *ℤ int_max r u)
+    → Between (pos d *ℤ greater_low p q r u) m (pos d *ℤ lesser_high p q r u)
 common_range d m p q r u h k = (
   by_lt_z (int_min r u) (int_min p q)
       (λ l. let e : greater_low p q r u ≡ int_min p q = omega (arith, linear, int_max_is (int_min p q) (int_min r u)) in rw e h.0)
@@ -131,7 +144,8 @@ common_range d m p q r u h k = (
       (λ l. let e : lesser_high p q r u ≡ int_max r u = omega (arith, linear, int_min_is (int_max p q) (int_max r u)) in rw e k.1),
 )
 
-common_between : (p q r u : ℤ) (d s t : ℕ) → CommonNumber p q r u d s t → Between (pos d *ℤ greater_low p q r u) (part_way d s p q) (pos d *ℤ lesser_high p q r u)
+common_between : (p q r u : ℤ) (d s t : ℕ) → CommonNumber p q r u d s t
+    → Between (pos d *ℤ greater_low p q r u) (part_way d s p q) (pos d *ℤ lesser_high p q r u)
 common_between p q r u d s t h =
     let first = part_way-boxed d s p q h.on_first in
     let second = part_way-boxed d t r u h.on_second in
@@ -147,13 +161,21 @@ same_product : (a b c d : ℕ) → a ≡ c → b ≡ d → a * b ≡ c * d
 same_product a b c d h k = ap₂ (λ (m n : ℕ). m * n) h k
 
 -- each whole number from the one to the other is common to both
-common_at : (x p q r u : ℤ) → p ≢ q → r ≢ u → greater_low p q r u ≤ℤ x → x ≤ℤ lesser_high p q r u → (d : ℕ) × (s : ℕ) × (t : ℕ) × CommonNumber p q r u d s t × NumberAt x p q d s × (d ≡ unsigned_abs (q -ℤ p) * unsigned_abs (u -ℤ r))
+common_at : (x p q r u : ℤ) → p ≢ q → r ≢ u → greater_low p q r u ≤ℤ x → x ≤ℤ lesser_high p q r u → (d : ℕ) × (s : ℕ) × (t : ℕ) × CommonNumber p q r u d s t
+    × NumberAt x p q d s × (d ≡ unsigned_abs (q -ℤ p) * unsigned_abs (u -ℤ r))
 common_at x p q r u n m low high =
     let lows = int_max_is (int_min p q) (int_min r u) in
     let highs = int_min_is (int_max p q) (int_max r u) in
     let a = number_at x p q n (omega (arith, linear, lows), omega (arith, linear, highs)) in
-    let b = number_at x r u m (omega (arith, linear, lows), omega (arith, linear, highs)) in
-    (a.0 * b.0, a.1 * b.0, b.1 * a.0, common x p q r u a.0 a.1 b.0 b.1 a.2 b.2, scaled_number x p q a.0 a.1 b.0 b.2.positive a.2, same_product a.0 b.0 (unsigned_abs (q -ℤ p)) (unsigned_abs (u -ℤ r)) a.3 b.3)
+    let b = number_at x r u m (omega (arith, linear, lows), omega (arith, linear, highs)) in (
+      a.0 * b.0,
+      a.1 * b.0,
+      b.1 * a.0,
+      common x p q r u a.0 a.1 b.0 b.1 a.2 b.2,
+      scaled_number x p q a.0 a.1 b.0 b.2.positive a.2,
+      same_product a.0 b.0
+          (unsigned_abs (q -ℤ p)) (unsigned_abs (u -ℤ r)) a.3 b.3,
+    )
 
 pub ranges_once : (p q r u : ℤ) → p ≢ q → r ≢ u → greater_low p q r u ≡ lesser_high p q r u → RangesMeet Once p q r u
 ranges_once p q r u n m e =

@@ -36,7 +36,14 @@ crosswise : (a b c d : ℕ) → a * d + b * c ≤ (a + b) * (c + d)
 crosswise a b c d = omega (arith, add-mul a b (c + d), mul-add a c d, mul-add b c d)
 
 det_size : (ux uy vx vy : ℤ) → unsigned_abs (det ux uy vx vy) ≤ (unsigned_abs ux + unsigned_abs uy) * (unsigned_abs vx + unsigned_abs vy)
-det_size ux uy vx vy = omega (arith, size-sub (ux *ℤ vy) (uy *ℤ vx), unsigned_abs-mul ux vy, unsigned_abs-mul uy vx, crosswise (unsigned_abs ux) (unsigned_abs uy) (unsigned_abs vx) (unsigned_abs vy))
+det_size ux uy vx vy = omega (
+  arith,
+  size-sub (ux *ℤ vy) (uy *ℤ vx),
+  unsigned_abs-mul ux vy,
+  unsigned_abs-mul uy vx,
+  crosswise (unsigned_abs ux)
+      (unsigned_abs uy) (unsigned_abs vx) (unsigned_abs vy),
+)
 
 abbrev limit : Place → Place → Place → Place → ℕ
 limit p q r u = axis_distance p q * axis_distance r u
@@ -65,7 +72,8 @@ by_slope D N M slanted n m up down =
     let high = int_max_is (pos 0) D in
     by_lt_z (pos 0) D
     (λ p. up p (omega (arith, linear, low, n.0)) (omega (arith, linear, high, n.1)) (omega (arith, linear, low, m.0)) (omega (arith, linear, high, m.1)))
-    (λ p. down (omega (arith, linear)) (omega (arith, linear, low, n.0)) (omega (arith, linear, high, n.1)) (omega (arith, linear, low, m.0)) (omega (arith, linear, high, m.1)))
+    (λ p. down (omega (arith, linear)) (omega (arith, linear, low, n.0)) (omega (arith, linear, high, n.1)) (omega (arith, linear, low, m.0))
+    (omega (arith, linear, high, m.1)))
 
 least_shares : (ux uy vx vy wx wy : ℤ) (d s t : ℕ) → det ux uy vx vy ≢ pos 0 → Shares ux uy vx vy wx wy d s t → SomeShares ux uy vx vy wx wy
 least_shares ux uy vx vy wx wy d s t slanted h =
@@ -163,16 +171,20 @@ some_looser most more p q r u h (d, s, t, k, b) = (d, s, t, k, omega arith)
 two_looser : (most more : ℕ) (p q r u : Place) → most ≤ more → TwoWithin most p q r u → TwoWithin more p q r u
 two_looser most more p q r u h k = record { two = k.two; one_within = omega arith; another_within = omega arith }
 
-pub some_within : (p q r u : Place) (d s t : ℕ) → Differ p q → Differ r u → CommonPoint p q r u d s t → SomeWithin (axis_distance p q * axis_distance r u) p q r u
+pub some_within : (p q r u : Place) (d s t : ℕ) → Differ p q → Differ r u → CommonPoint p q r u d s t
+    → SomeWithin (axis_distance p q * axis_distance r u) p q r u
 some_within p q r u d s t l n h = by_same (slant p q r u) (pos 0)
     (λ slanted. slanted_within p q r u d s t slanted h)
     (λ flat. let line = collinear p q r u d s t flat h in by_same p.x q.x
-    (λ long. some_looser (unsigned_abs (q.x -ℤ p.x) * unsigned_abs (u.x -ℤ r.x)) (limit p q r u) p q r u (x_within p q r u) (some_by_x p q r u d s t line long n h))
-    (λ same. some_looser (unsigned_abs (q.y -ℤ p.y) * unsigned_abs (u.y -ℤ r.y)) (limit p q r u) p q r u (y_within p q r u) (some_by_y p q r u d s t line (l same) n h)))
+    (λ long. some_looser (unsigned_abs (q.x -ℤ p.x) * unsigned_abs (u.x -ℤ r.x)) (limit p q r u) p q r u (x_within p q r u)
+    (some_by_x p q r u d s t line long n h))
+    (λ same. some_looser (unsigned_abs (q.y -ℤ p.y) * unsigned_abs (u.y -ℤ r.y)) (limit p q r u) p q r u (y_within p q r u)
+    (some_by_y p q r u d s t line (l same) n h)))
 
 pub two_within : (p q r u : Place) → Differ p q → Differ r u → TwoCommonPoints p q r u → TwoWithin (axis_distance p q * axis_distance r u) p q r u
 two_within p q r u l n h = by_same (slant p q r u) (pos 0)
     (λ slanted. absurd (slanted_not_two p q r u slanted h))
     (λ flat. let line = collinear p q r u h.d h.s h.t flat h.one in by_same p.x q.x
     (λ long. two_looser (unsigned_abs (q.x -ℤ p.x) * unsigned_abs (u.x -ℤ r.x)) (limit p q r u) p q r u (x_within p q r u) (two_by_x p q r u line long n h))
-    (λ same. two_looser (unsigned_abs (q.y -ℤ p.y) * unsigned_abs (u.y -ℤ r.y)) (limit p q r u) p q r u (y_within p q r u) (two_by_y p q r u line (l same) n h)))
+    (λ same. two_looser (unsigned_abs (q.y -ℤ p.y) * unsigned_abs (u.y -ℤ r.y)) (limit p q r u) p q r u (y_within p q r u)
+    (two_by_y p q r u line (l same) n h)))

@@ -81,7 +81,8 @@ crossing_once a b c d f n =
     let slanted : slant a b c d ≢ pos 0 = not_parallel (cross_product a b c) (slant a b c d) first line in
     let w = slanted_meet (b.x -ℤ a.x) (b.y -ℤ a.y) (d.x -ℤ c.x) (d.y -ℤ c.y) (c.x -ℤ a.x) (c.y -ℤ a.y) slanted first second in (
       (w.0, w.1, w.2, from_shares a b c d w.0 w.1 w.2 w.3),
-      λ k s t k' s' t' h h'. slanted_once (b.x -ℤ a.x) (b.y -ℤ a.y) (d.x -ℤ c.x) (d.y -ℤ c.y) (c.x -ℤ a.x) (c.y -ℤ a.y) k s t k' s' t' slanted (to_shares a b c d k s t h) (to_shares a b c d k' s' t' h'),
+      λ k s t k' s' t' h h'. slanted_once (b.x -ℤ a.x) (b.y -ℤ a.y) (d.x -ℤ c.x) (d.y -ℤ c.y) (c.x -ℤ a.x) (c.y -ℤ a.y) k s t k' s' t' slanted
+          (to_shares a b c d k s t h) (to_shares a b c d k' s' t' h'),
     )
 
 -- ---- of one line: the x coordinates decide, where the first segment has length in x
@@ -105,7 +106,8 @@ from_common_x a b c d k s t line n h = record {
   on_second = h.on_second;
   equal_x = h.equal;
   equal_y = ways_from_shares k s t a.y b.y c.y d.y
-      (other_coordinate (b.x -ℤ a.x) (b.y -ℤ a.y) (d.x -ℤ c.x) (d.y -ℤ c.y) (c.x -ℤ a.x) (c.y -ℤ a.y) (pos s) (pos k) (pos t) (difference_apart a.x b.x n) (parallel a b c d line) line.0
+      (other_coordinate (b.x -ℤ a.x) (b.y -ℤ a.y) (d.x -ℤ c.x) (d.y -ℤ c.y) (c.x -ℤ a.x) (c.y -ℤ a.y) (pos s) (pos k) (pos t) (difference_apart a.x b.x n)
+      (parallel a b c d line) line.0
       (shares_from_ways k s t a.x b.x c.x d.x h.equal));
 }
 

@@ -17,7 +17,16 @@ add-*ℤ a b c = omega (arith, linear, *ℤ-add c a b, *ℤ_comm (a +ℤ b) c, *
 pub *ℤ-neg : (a b : ℤ) → a *ℤ neg_ℤ b ≡ neg_ℤ (a *ℤ b)
 *ℤ-neg a b =
     let n = neg_is b in
-    omega (arith, linear, product_is, ap (λ (k : ℕ). up a * k) n.0, ap (λ (k : ℕ). down a * k) n.0, ap (λ (k : ℕ). up a * k) n.1, ap (λ (k : ℕ). down a * k) n.1)
+    omega (
+      arith,
+      linear,
+      product_is,
+      ap (λ (k : ℕ). up a * k) n.0,
+      ap (λ (k : ℕ). down a * k) n.0,
+      ap (λ (k : ℕ). up a * k) n.1,
+      ap (λ (k : ℕ). down a * k)
+          n.1,
+    )
 
 pub neg-*ℤ : (a b : ℤ) → neg_ℤ a *ℤ b ≡ neg_ℤ (a *ℤ b)
 neg-*ℤ a b = omega (arith, linear, *ℤ-neg b a, *ℤ_comm (neg_ℤ a) b, *ℤ_comm a b)
@@ -26,7 +35,21 @@ pub *ℤ_assoc : (a b c : ℤ) → (a *ℤ b) *ℤ c ≡ a *ℤ (b *ℤ c)
 *ℤ_assoc a b c =
     let left = product_is a b in
     let right = product_is b c in
-    omega (arith, linear, product_is, ap (λ (n : ℕ). n * up c) left.0, ap (λ (n : ℕ). n * down c) left.0, ap (λ (n : ℕ). n * up c) left.1, ap (λ (n : ℕ). n * down c) left.1, ap (λ (n : ℕ). up a * n) right.0, ap (λ (n : ℕ). down a * n) right.0, ap (λ (n : ℕ). up a * n) right.1, ap (λ (n : ℕ). down a * n) right.1)
+    omega (
+      arith,
+      linear,
+      product_is,
+      ap (λ (n : ℕ). n * up c) left.0,
+      ap (λ (n : ℕ). n * down c) left.0,
+      ap (λ (n : ℕ). n * up c) left.1,
+      ap
+          (λ (n : ℕ). n * down c) left.1,
+      ap (λ (n : ℕ). up a * n) right.0,
+      ap (λ (n : ℕ). down a * n) right.0,
+      ap (λ (n : ℕ). up a * n) right.1,
+      ap
+          (λ (n : ℕ). down a * n) right.1,
+    )
 
 pub *ℤ_left_comm : (a b c : ℤ) → a *ℤ (b *ℤ c) ≡ b *ℤ (a *ℤ c)
 *ℤ_left_comm a b c = sym (*ℤ_assoc a b c) ∙ ap (λ (n : ℤ). n *ℤ c) (*ℤ_comm a b) ∙ *ℤ_assoc b a c

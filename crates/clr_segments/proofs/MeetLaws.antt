@@ -12,7 +12,8 @@ exchanged : (p q r u : Place) (d s t : ℕ) → CommonPoint p q r u d s t → Co
 exchanged p q r u d s t h = record { positive = h.positive; on_first = h.on_second; on_second = h.on_first; equal_x = sym h.equal_x; equal_y = sym h.equal_y }
 
 -- where the shares of the first segment are the same, so are those of the second, whose ends differ in this coordinate
-same_in_one : (p q r u : ℤ) (d s t d' s' t' : ℕ) → r ≢ u → part_way d s p q ≡ part_way d t r u → part_way d' s' p q ≡ part_way d' t' r u → s * d' ≡ s' * d → t * d' ≡ t' * d
+same_in_one : (p q r u : ℤ) (d s t d' s' t' : ℕ) → r ≢ u → part_way d s p q ≡ part_way d t r u → part_way d' s' p q ≡ part_way d' t' r u → s * d' ≡ s' * d
+    → t * d' ≡ t' * d
 same_in_one p q r u d s t d' s' t' n h k e =
     let first : (pos s *ℤ pos d') *ℤ (q -ℤ p) ≡ (pos s' *ℤ pos d) *ℤ (q -ℤ p) = ap (λ (z : ℕ). pos z *ℤ (q -ℤ p)) e in
     let by_first = simp expand at first in
@@ -22,7 +23,8 @@ same_in_one p q r u d s t d' s' t' n h k e =
     let whole : pos (t * d') ≡ pos (t' * d) = cancel (u -ℤ r) (pos t *ℤ pos d') (pos t' *ℤ pos d) (difference_apart r u n) both in
     omega (arith, linear, whole)
 
-same_on_second : (p q r u : Place) (d s t d' s' t' : ℕ) → Differ r u → CommonPoint p q r u d s t → CommonPoint p q r u d' s' t' → s * d' ≡ s' * d → t * d' ≡ t' * d
+same_on_second : (p q r u : Place) (d s t d' s' t' : ℕ) → Differ r u → CommonPoint p q r u d s t → CommonPoint p q r u d' s' t' → s * d' ≡ s' * d → t * d'
+    ≡ t' * d
 same_on_second p q r u d s t d' s' t' l h k e = by_same r.x u.x
     (λ n. same_in_one p.x q.x r.x u.x d s t d' s' t' n h.equal_x k.equal_x e)
     (λ same. same_in_one p.y q.y r.y u.y d s t d' s' t' (l same) h.equal_y k.equal_y e)
@@ -43,7 +45,8 @@ segments_swapped Overlap p q r u l n h = record {
   t' = h.s';
   one = exchanged p q r u h.d h.s h.t h.one;
   another = exchanged p q r u h.d' h.s' h.t' h.another;
-  differ = λ e. h.differ (same_on_second r u p q h.d h.t h.s h.d' h.t' h.s' l (exchanged p q r u h.d h.s h.t h.one) (exchanged p q r u h.d' h.s' h.t' h.another) e);
+  differ = λ e. h.differ (same_on_second r u p q h.d h.t h.s h.d' h.t' h.s' l (exchanged p q r u h.d h.s h.t h.one) (exchanged p q r u h.d' h.s' h.t' h.another)
+      e);
 }
 
 -- ---- the other end first: the share of the way back is what is left of the way

@@ -52,7 +52,8 @@ other_share ux uy wx wy d s long e h =
 abbrev pub LiesOnWithin : ℕ → Place → Place → Place → Type 0
 LiesOnWithin most x p q = (d : ℕ) × (s : ℕ) × PointAt x p q d s × (d ≤ most)
 
-on_segment_by_x : (x p q : Place) → p.x ≢ q.x → cross_product p q x ≡ pos 0 → Between (int_min p.x q.x) x.x (int_max p.x q.x) → LiesOnWithin (unsigned_abs (q.x -ℤ p.x)) x p q
+on_segment_by_x : (x p q : Place) → p.x ≢ q.x → cross_product p q x ≡ pos 0 → Between (int_min p.x q.x) x.x (int_max p.x q.x)
+    → LiesOnWithin (unsigned_abs (q.x -ℤ p.x)) x p q
 on_segment_by_x x p q n e b =
     let a = number_at x.x p.x q.x n b in (
       a.0,
@@ -74,14 +75,16 @@ on_segment_mirrored most x p q (d, s, h, b) = (d, s, record { positive = h.posit
 looser : (most more : ℕ) (x p q : Place) → most ≤ more → LiesOnWithin most x p q → LiesOnWithin more x p q
 looser most more x p q h (d, s, k, b) = (d, s, k, omega arith)
 
-pub point_on_segment : (x p q : Place) → Differ p q → cross_product p q x ≡ pos 0 → InBox x (box_between p q) → LiesOnWithin (unsigned_abs (q.x -ℤ p.x) + unsigned_abs (q.y -ℤ p.y)) x p q
+pub point_on_segment : (x p q : Place) → Differ p q → cross_product p q x ≡ pos 0 → InBox x (box_between p q)
+    → LiesOnWithin (unsigned_abs (q.x -ℤ p.x) + unsigned_abs (q.y -ℤ p.y)) x p q
 point_on_segment x p q l e b = by_same p.x q.x
     (λ n. looser (unsigned_abs (q.x -ℤ p.x)) (unsigned_abs (q.x -ℤ p.x) + unsigned_abs (q.y -ℤ p.y)) x p q (omega arith) (on_segment_by_x x p q n e b.0))
     (λ same. looser (unsigned_abs (q.y -ℤ p.y)) (unsigned_abs (q.x -ℤ p.x) + unsigned_abs (q.y -ℤ p.y)) x p q (omega arith)
     (on_segment_mirrored (unsigned_abs (q.y -ℤ p.y)) x p q (on_segment_by_x (mirror_of x) (mirror_of p) (mirror_of q) (l same) (mirrored_line p q x e) b.1)))
 
 -- ---- the two answers of the code
-pub tested_by_box : (x p q : Place) (b : Bounds) (t : Bool) → Differ p q → cross_product p q x ≡ pos 0 → b ≡ box_between p q → IsTrue t ↔ InBox x b → IsTrue t ↔ LiesOn x p q
+pub tested_by_box : (x p q : Place) (b : Bounds) (t : Bool) → Differ p q → cross_product p q x ≡ pos 0 → b ≡ box_between p q → IsTrue t ↔ InBox x b
+    → IsTrue t ↔ LiesOn x p q
 tested_by_box x p q b t l e same h = (λ k. let a = point_on_segment x p q l e (rw same at (h.0 k)) in (a.0, a.1, a.2), λ k. h.1 (rw same (point_boxed x p q k)))
 
 pub refused_by_turn : (x p q : Place) (t : Bool) → cross_product p q x ≢ pos 0 → ¬ (IsTrue t) → IsTrue t ↔ LiesOn x p q

@@ -19,7 +19,8 @@ unfolding any_up_to
 found_up_to zero test e = (0, omega arith, e)
 found_up_to (suc most) test e = by_part (found_up_to most test) (or_cases (any_up_to most test) (test (suc most)) e)
   where
-    by_part : (any_up_to most test ≡ true → (k : ℕ) × (k ≤ most) × (test k ≡ true)) → (any_up_to most test ≡ true) ⊎ (test (suc most) ≡ true) → (k : ℕ) × (k ≤ suc most) × (test k ≡ true)
+    by_part : (any_up_to most test ≡ true → (k : ℕ) × (k ≤ most) × (test k ≡ true)) → (any_up_to most test ≡ true) ⊎ (test (suc most) ≡ true) → (k : ℕ)
+        × (k ≤ suc most) × (test k ≡ true)
     by_part below (inl h) = let a = below h in (a.0, omega arith, a.2)
     by_part below (inr h) = (suc most, omega arith, h)
 
@@ -96,7 +97,8 @@ found_common p q r u test e =
     let both = and_parts (is_common_point p q r u a.0 b.0 c.0) (test a.0 b.0) c.2 in
     (a.0, b.0, c.0, (common_decides p q r u a.0 b.0 c.0).0 both.0, both.1)
 
-find_common : (p q r u : Place) (test : ℕ → ℕ → Bool) (d s t : ℕ) → d ≤ axis_distance p q * axis_distance r u → CommonPoint p q r u d s t → test d s ≡ true → any_common_point p q r u test ≡ true
+find_common : (p q r u : Place) (test : ℕ → ℕ → Bool) (d s t : ℕ) → d ≤ axis_distance p q * axis_distance r u → CommonPoint p q r u d s t → test d s ≡ true
+    → any_common_point p q r u test ≡ true
 unfolding any_common_point
 find_common p q r u test d s t h k e =
     find_up_to (axis_distance p q * axis_distance r u) d (λ d. any_up_to d (λ s. any_up_to d (λ t. is_common_point p q r u d s t && test d s))) h

@@ -34,7 +34,13 @@ box_with-holds b p =
     let below = int_min_is b.least.y p.y in
     let right = int_max_is b.most.x p.x in
     let above = int_max_is b.most.y p.y in
-    record { left = omega (arith, linear, left); right = omega (arith, linear, right); below = omega (arith, linear, below); above = omega (arith, linear, above) }
+    record {
+      left = omega (arith, linear, left);
+      right = omega (arith, linear, right);
+      below = omega (arith, linear, below);
+      above =
+          omega (arith, linear, above);
+    }
 
 box_with-place : (b : Bounds) (p : Place) → InBox p (box_with b p)
 box_with-place b p =
@@ -96,8 +102,10 @@ least_all b e (p ∷ ps) h k = least_all (box_with b p) e ps (box_with-least b e
 -- ---- the box of a shape
 pub shape_boxed : (shape : Shape) (b : Bounds) → box_of_shape shape ≡ Some b → IsLeastBoxOf (vertices_of shape) b
 shape_boxed Bare b is = cc
-shape_boxed (At p) b is = subst (λ e. IsLeastBoxOf (p ∷ []) e) (same_Some (box_between p p) b is) (record { holds = ((ends_in p p).0, tt); least = λ e h. between-least p p e h.0 h.0 })
-shape_boxed (Line p q) b is = subst (λ e. IsLeastBoxOf (p ∷ q ∷ []) e) (same_Some (box_between p q) b is) (record { holds = ((ends_in p q).0, ((ends_in p q).1, tt)); least = λ e h. between-least p q e h.0 h.1.0 })
+shape_boxed (At p) b is = subst (λ e. IsLeastBoxOf (p ∷ []) e) (same_Some (box_between p p) b is)
+    (record { holds = ((ends_in p p).0, tt); least = λ e h. between-least p p e h.0 h.0 })
+shape_boxed (Line p q) b is = subst (λ e. IsLeastBoxOf (p ∷ q ∷ []) e) (same_Some (box_between p q) b is)
+    (record { holds = ((ends_in p q).0, ((ends_in p q).1, tt)); least = λ e h. between-least p q e h.0 h.1.0 })
 shape_boxed (Chain []) b is = cc
 shape_boxed (Chain (p ∷ ps)) b is =
     let own = box_between p p in
@@ -130,12 +138,14 @@ holds_between p q b h k = λ d s positive on. (
   (part_way-above d s p.y q.y b.least.y on h.1.0 k.1.0, part_way-below d s p.y q.y b.most.y on h.1.1 k.1.1),
 )
 
-pub part_boxed : (shape : Shape) (n : ℕ) (p q : Place) (b : Bounds) → part_of shape n ≡ Some (p, q) → box_of_shape shape ≡ Some b → IsWithin (box_between p q) b × HoldsSegment p q b
+pub part_boxed : (shape : Shape) (n : ℕ) (p q : Place) (b : Bounds) → part_of shape n ≡ Some (p, q) → box_of_shape shape ≡ Some b → IsWithin (box_between p q) b
+    × HoldsSegment p q b
 part_boxed shape n p q b at is =
     let ends = part_vertices shape n p q b at (shape_boxed shape b is).holds in
     (between-least p q b ends.0 ends.1, holds_between p q b ends.0 ends.1)
 
-pub shapes_touch : (s t : Shape) (m n : ℕ) (p q r u : Place) (b c : Bounds) → part_of s m ≡ Some (p, q) → part_of t n ≡ Some (r, u) → SomeCommonPoint p q r u → box_of_shape s ≡ Some b → box_of_shape t ≡ Some c → BoxesTouch b c
+pub shapes_touch : (s t : Shape) (m n : ℕ) (p q r u : Place) (b c : Bounds) → part_of s m ≡ Some (p, q) → part_of t n ≡ Some (r, u) → SomeCommonPoint p q r u
+    → box_of_shape s ≡ Some b → box_of_shape t ≡ Some c → BoxesTouch b c
 shapes_touch s t m n p q r u b c first second (d, i, j, h) is are =
     shared_whole b c d (part_way d i p.x q.x) (part_way d i p.y q.y) h.positive
     ((part_boxed s m p q b first is).1 d i h.positive h.on_first)

@@ -63,7 +63,8 @@ one_ratio D N s d s' d' slanted e f =
     let whole : pos (s * d') ≡ pos (s' * d) = cancel D (pos s *ℤ pos d') (pos s' *ℤ pos d) slanted both in
     omega (arith, linear, whole)
 
-pub slanted_once : (ux uy vx vy wx wy : ℤ) (d s t d' s' t' : ℕ) → det ux uy vx vy ≢ pos 0 → Shares ux uy vx vy wx wy d s t → Shares ux uy vx vy wx wy d' s' t' → s * d' ≡ s' * d
+pub slanted_once : (ux uy vx vy wx wy : ℤ) (d s t d' s' t' : ℕ) → det ux uy vx vy ≢ pos 0 → Shares ux uy vx vy wx wy d s t → Shares ux uy vx vy wx wy d' s' t'
+    → s * d' ≡ s' * d
 slanted_once ux uy vx vy wx wy d s t d' s' t' slanted h k =
     one_ratio (det ux uy vx vy) (det wx wy vx vy) s d s' d' slanted
     (first_share (pos s) (pos d) (pos t) ux uy vx vy wx wy h.in_x h.in_y)
@@ -122,7 +123,8 @@ on_both_sides m n h = by_lt_z (pos 0) m
     (λ q. inl (p, q)))
 
 -- for the determinants D of u and v, N of w and v, and M of w and u: N / D and M / D are the shares
-pub shares_up : (ux uy vx vy wx wy D N M : ℤ) → D ≡ det ux uy vx vy → N ≡ det wx wy vx vy → M ≡ det wx wy ux uy → pos 0 <ℤ D → pos 0 ≤ℤ N → N ≤ℤ D → pos 0 ≤ℤ M → M ≤ℤ D → SomeShares ux uy vx vy wx wy
+pub shares_up : (ux uy vx vy wx wy D N M : ℤ) → D ≡ det ux uy vx vy → N ≡ det wx wy vx vy → M ≡ det wx wy ux uy → pos 0 <ℤ D → pos 0 ≤ℤ N → N ≤ℤ D → pos 0 ≤ℤ M
+    → M ≤ℤ D → SomeShares ux uy vx vy wx wy
 shares_up ux uy vx vy wx wy D N M e f g p n0 nd m0 md = (
   up D,
   up N,
@@ -137,7 +139,8 @@ shares_up ux uy vx vy wx wy D N M e f g p n0 nd m0 md = (
   rw (← e, ← up_is_size D (omega (arith, linear))) (omega arith),
 )
 
-pub shares_down : (ux uy vx vy wx wy D N M : ℤ) → D ≡ det ux uy vx vy → N ≡ det wx wy vx vy → M ≡ det wx wy ux uy → D <ℤ pos 0 → D ≤ℤ N → N ≤ℤ pos 0 → D ≤ℤ M → M ≤ℤ pos 0 → SomeShares ux uy vx vy wx wy
+pub shares_down : (ux uy vx vy wx wy D N M : ℤ) → D ≡ det ux uy vx vy → N ≡ det wx wy vx vy → M ≡ det wx wy ux uy → D <ℤ pos 0 → D ≤ℤ N → N ≤ℤ pos 0 → D ≤ℤ M
+    → M ≤ℤ pos 0 → SomeShares ux uy vx vy wx wy
 shares_down ux uy vx vy wx wy D N M e f g p nd n0 md m0 =
     let positive : pos 0 <ℤ neg_ℤ D = omega (arith, linear) in
     let d : neg_ℤ D ≡ pos (up (neg_ℤ D)) = natural (neg_ℤ D) (omega (arith, linear)) in
@@ -159,13 +162,15 @@ shares_down ux uy vx vy wx wy D N M e f g p nd n0 md m0 =
     negated : (D N M u w v : ℤ) → N *ℤ u ≡ D *ℤ w +ℤ M *ℤ v → neg_ℤ N *ℤ u ≡ neg_ℤ D *ℤ w +ℤ neg_ℤ M *ℤ v
     negated D N M u w v h = rw (neg-*ℤ N u, neg-*ℤ D w, neg-*ℤ M v) (omega (arith, linear, h))
 
-pub slanted_meet : (ux uy vx vy wx wy : ℤ) → det ux uy vx vy ≢ pos 0 → ¬ (SameSign (det ux uy wx wy) (det ux uy wx wy +ℤ det ux uy vx vy)) → ¬ (SameSign (det wx wy vx vy) (det wx wy vx vy -ℤ det ux uy vx vy)) → SomeShares ux uy vx vy wx wy
+pub slanted_meet : (ux uy vx vy wx wy : ℤ) → det ux uy vx vy ≢ pos 0 → ¬ (SameSign (det ux uy wx wy) (det ux uy wx wy +ℤ det ux uy vx vy))
+    → ¬ (SameSign (det wx wy vx vy) (det wx wy vx vy -ℤ det ux uy vx vy)) → SomeShares ux uy vx vy wx wy
 slanted_meet ux uy vx vy wx wy slanted h k =
     by_signs (det ux uy vx vy) (det wx wy vx vy) (det wx wy ux uy) (det ux uy wx wy) slanted (det-swap wx wy ux uy)
     (on_both_sides (det ux uy wx wy) (det ux uy wx wy +ℤ det ux uy vx vy) h)
     (on_both_sides (det wx wy vx vy) (det wx wy vx vy -ℤ det ux uy vx vy) k)
     (shares_up ux uy vx vy wx wy (det ux uy vx vy) (det wx wy vx vy) (det wx wy ux uy) (omega (arith, linear)) (omega (arith, linear)) (omega (arith, linear)))
-    (shares_down ux uy vx vy wx wy (det ux uy vx vy) (det wx wy vx vy) (det wx wy ux uy) (omega (arith, linear)) (omega (arith, linear)) (omega (arith, linear)))
+    (shares_down ux uy vx vy wx wy (det ux uy vx vy) (det wx wy vx vy) (det wx wy ux uy) (omega (arith, linear)) (omega (arith, linear))
+    (omega (arith, linear)))
   where
     by_signs : {P : Type 0} (D N M O : ℤ) → D ≢ pos 0 → M ≡ neg_ℤ O
         → ((O ≤ℤ pos 0) × (pos 0 ≤ℤ (O +ℤ D))) ⊎ ((pos 0 ≤ℤ O) × ((O +ℤ D) ≤ℤ pos 0))
@@ -182,7 +187,8 @@ slanted_meet ux uy vx vy wx wy slanted h k =
     by_signs D N M O n e (inr a) (inr b) f g = absurd (n (omega (arith, linear, a.0, a.1, b.0, b.1)))
 
 -- ---- parallel vectors: the equation in one coordinate carries the other
-pub other_coordinate : (ux uy vx vy wx wy s d t : ℤ) → ux ≢ pos 0 → det ux uy vx vy ≡ pos 0 → det ux uy wx wy ≡ pos 0 → s *ℤ ux ≡ d *ℤ wx +ℤ t *ℤ vx → s *ℤ uy ≡ d *ℤ wy +ℤ t *ℤ vy
+pub other_coordinate : (ux uy vx vy wx wy s d t : ℤ) → ux ≢ pos 0 → det ux uy vx vy ≡ pos 0 → det ux uy wx wy ≡ pos 0 → s *ℤ ux ≡ d *ℤ wx +ℤ t *ℤ vx → s *ℤ uy
+    ≡ d *ℤ wy +ℤ t *ℤ vy
 other_coordinate ux uy vx vy wx wy s d t long e f h =
     let by_uy = simp expand at (ap (λ (z : ℤ). uy *ℤ z) h) in
     let by_t = simp expand at (ap (λ (z : ℤ). t *ℤ z) e) in

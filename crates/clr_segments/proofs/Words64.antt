@@ -29,12 +29,15 @@ product_fits z h = fits z (le_trans h (lit≤ tt))
 pub two_words : {A : Type 0} (f : ℤ → ℤ → A) (m n : ℤ) → SFits w64 m → SFits w64 n → f (word_value m) (word_value n) ≡ f m n
 two_words f m n h k = ap₂ f (to_z-of_z h) (to_z-of_z k)
 
-pub four_words : {A : Type 0} (f : ℤ → ℤ → ℤ → ℤ → A) (p q r u : ℤ) → SFits w64 p → SFits w64 q → SFits w64 r → SFits w64 u → f (word_value p) (word_value q) (word_value r) (word_value u) ≡ f p q r u
+pub four_words : {A : Type 0} (f : ℤ → ℤ → ℤ → ℤ → A) (p q r u : ℤ) → SFits w64 p → SFits w64 q → SFits w64 r → SFits w64 u
+    → f (word_value p) (word_value q) (word_value r) (word_value u) ≡ f p q r u
 four_words f p q r u a b c d = two_words (λ (x y : ℤ). f x y (word_value r) (word_value u)) p q a b ∙ two_words (λ (x y : ℤ). f p q x y) r u c d
 
 -- what holds of the words holds of the numbers
-pub holds_of_words : (f : ℤ → ℤ → ℤ → ℤ → Type 0) (p q r u : ℤ) → SFits w64 p → SFits w64 q → SFits w64 r → SFits w64 u → f (word_value p) (word_value q) (word_value r) (word_value u) → f p q r u
-holds_of_words f p q r u a b c d h = subst₂ (λ (x y : ℤ). f p q x y) (to_z-of_z c) (to_z-of_z d) (subst₂ (λ (x y : ℤ). f x y (word_value r) (word_value u)) (to_z-of_z a) (to_z-of_z b) h)
+pub holds_of_words : (f : ℤ → ℤ → ℤ → ℤ → Type 0) (p q r u : ℤ) → SFits w64 p → SFits w64 q → SFits w64 r → SFits w64 u
+    → f (word_value p) (word_value q) (word_value r) (word_value u) → f p q r u
+holds_of_words f p q r u a b c d h = subst₂ (λ (x y : ℤ). f p q x y) (to_z-of_z c) (to_z-of_z d) (subst₂ (λ (x y : ℤ). f x y (word_value r) (word_value u))
+    (to_z-of_z a) (to_z-of_z b) h)
 
 -- ---- differences, products and their sums
 pub difference_is : (x y d : ℤ) → unsigned_abs x ≤ GREATEST_COORDINATE → unsigned_abs y ≤ GREATEST_COORDINATE → d ≡ word_value x -ℤ word_value y → d ≡ x -ℤ y
@@ -46,7 +49,8 @@ product_is x y p h k e = e ∙ two_words (λ (a b : ℤ). a *ℤ b) x y (differe
 pub product_bound : (x y : ℤ) → unsigned_abs x ≤ greatest_difference → unsigned_abs y ≤ greatest_difference → unsigned_abs (x *ℤ y) ≤ greatest_product
 product_bound x y h k = rw (unsigned_abs-mul x y) (mul-le-mul h k)
 
-pub product_in_word : (x y : ℤ) → unsigned_abs x ≤ greatest_difference → unsigned_abs y ≤ greatest_difference → word_value (word_value x *ℤ word_value y) ≡ x *ℤ y
+pub product_in_word : (x y : ℤ) → unsigned_abs x ≤ greatest_difference → unsigned_abs y ≤ greatest_difference → word_value (word_value x *ℤ word_value y)
+    ≡ x *ℤ y
 product_in_word x y h k =
     ap word_value (two_words (λ (a b : ℤ). a *ℤ b) x y (difference_fits x h) (difference_fits y k)) ∙ to_z-of_z (product_fits (x *ℤ y) (product_bound x y h k))
 

@@ -16,7 +16,7 @@ use clr_engine::Office;
 use clr_sites::name_fault;
 use std::alloc::{AllocError, Global};
 
-/// What a workspace changed, and nothing where there is none. It fails for want of memory alone.
+/// Returns what a workspace changed, and nothing where there is none.
 fn changes_in(alloc: Global, office: &Office, name: &str) -> Result<ChangeSet, AllocError>
     ensures { IfOk result (λ set. set ≡ changes_in office.now name.now) }
 {
@@ -26,7 +26,7 @@ fn changes_in(alloc: Global, office: &Office, name: &str) -> Result<ChangeSet, A
     }
 }
 
-/// What each member changed, in their order. It fails for want of memory alone.
+/// Returns what each member changed, in their order.
 fn change_sets(alloc: Global, office: &Office, names: &[&str]) -> Result<Vec<ChangeSet>, AllocError>
     ensures { IfOk result (λ sets. sets.items ≡ map (changes_in office.now) (map (λ name. name.now) names.now)) }
 {
@@ -37,7 +37,7 @@ fn change_sets(alloc: Global, office: &Office, names: &[&str]) -> Result<Vec<Cha
     Ok(sets)
 }
 
-/// The sets where no test of names fails. It fails for want of memory alone.
+/// Returns the sets where no test of names fails.
 fn clashes_of_children(
     alloc: Global,
     office: &Office,

@@ -9,7 +9,7 @@ use clr_engine::Office;
 use clr_rows::CellId;
 use std::alloc::{AllocError, Global};
 
-/// The conflict at some cells, if there are any.
+/// Returns the conflict at some cells, if there are any.
 fn conflict_in(cells: Option<Vec<CellId>>) -> Option<Verdict>
     ensures { result ≡ conflict_in (unwrap_or (option_map (λ list. list.items) cells) []) }
 {
@@ -24,7 +24,7 @@ fn conflict_in(cells: Option<Vec<CellId>>) -> Option<Verdict>
     }
 }
 
-/// The conflict of a member with the root, if there is one. It fails for want of memory alone.
+/// Returns the conflict of a member with the root, if there is one.
 fn conflict_of(office: &Office, name: &str) -> Result<Option<Verdict>, AllocError>
     ensures { IfOk result (λ conflict. conflict ≡ conflict_of office.now name.now) }
 {
@@ -32,7 +32,7 @@ fn conflict_of(office: &Office, name: &str) -> Result<Option<Verdict>, AllocErro
     Ok(conflict_in(cells))
 }
 
-/// The member at a position alone, where it is in conflict. It fails for want of memory alone.
+/// Returns the member at a position alone, where it is in conflict.
 fn conflict_clash(
     alloc: Global,
     office: &Office,
@@ -76,8 +76,7 @@ fn add_member(
     }
 }
 
-/// The members that are in conflict, each alone, and the positions of the others. It fails for want of memory
-/// alone.
+/// Returns the members that are in conflict, each alone, and the positions of the others.
 pub(crate) fn conflicts_of(
     alloc: Global,
     office: &Office,

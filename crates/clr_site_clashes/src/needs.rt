@@ -13,7 +13,7 @@ use clr_engine::Office;
 use clr_sites::read_site;
 use std::alloc::{AllocError, Global};
 
-/// A set of those looked at, by positions among all. It fails for want of memory alone.
+/// Returns a set of those looked at, by positions among all.
 fn need_clash(alloc: Global, looked: &[usize], clash: &Clash) -> Result<SiteClash, AllocError>
     ensures { IfOk result (λ set. clash_of set ≡ need_clash looked.now (listed_of clash.now)) }
 {
@@ -22,7 +22,7 @@ fn need_clash(alloc: Global, looked: &[usize], clash: &Clash) -> Result<SiteClas
     Ok(SiteClash { members, cause })
 }
 
-/// Sets of those looked at, by positions among all. It fails for want of memory alone.
+/// Sets of those looked at, by positions among all.
 fn clashes_among(
     alloc: Global,
     looked: &[usize],
@@ -37,8 +37,8 @@ fn clashes_among(
     Ok(list)
 }
 
-/// The smallest sets of members that break a need which nothing covers, where no test of these members fails and
-/// no cell is changed by two. It fails for want of memory alone.
+/// Returns the smallest sets of members that break a need which nothing covers, where no test of these members
+/// fails and no cell is changed by two.
 pub(crate) fn need_clashes(
     alloc: Global,
     office: &Office,

@@ -9,7 +9,7 @@ use clr_change::ChangeSet;
 use clr_clearance::Verdict;
 use std::alloc::{AllocError, Global};
 
-/// Two members and the least cell that both change, if there is one. It fails for want of memory alone.
+/// Two members and the least cell that both change, if there is one.
 fn pair_clash(
     alloc: Global,
     sets: &[ChangeSet],
@@ -53,8 +53,8 @@ fn add_pair(
     Ok(())
 }
 
-/// The members at earlier positions that change a cell which the member at a position changes, each with it. It
-/// fails for want of memory alone.
+/// Returns the members at earlier positions that change a cell which the member at a position changes, each
+/// with it.
 fn earlier_clashes(
     alloc: Global,
     sets: &[ChangeSet],
@@ -91,8 +91,8 @@ fn add_member(
     Ok(())
 }
 
-/// The pairs of members that change one cell, and the positions of those that change none which an earlier one
-/// changes. It fails for want of memory alone.
+/// Returns the pairs of members that change one cell, and the positions of those that change none which an
+/// earlier one changes.
 pub(crate) fn pairs_of(
     alloc: Global,
     sets: &[ChangeSet],

@@ -20,7 +20,7 @@ fn add_name<'a>(
     Ok(())
 }
 
-/// Returns the names at some positions; one past the end has none. It fails for want of memory alone.
+/// Returns the names at some positions; one past the end has none.
 pub fn names_at<'a>(
     alloc: Global,
     names: &[&'a str],
@@ -46,7 +46,7 @@ fn add_number(numbers: &[usize], position: u16, list: &mut Vec<usize>) -> Result
     Ok(())
 }
 
-/// The numbers at some positions; one past the end has none. It fails for want of memory alone.
+/// Returns the numbers at some positions; one past the end has none.
 pub(crate) fn numbers_at(
     alloc: Global,
     numbers: &[usize],

@@ -5,7 +5,7 @@ ghost use Rattle.clr_site_clashes.specs.SharedCells.{shared_cell};
 use clr_change::ChangeSet;
 use clr_rows::CellId;
 
-/// The least cell that two members change, if there is one.
+/// Returns the least cell that two members change, if there is one.
 pub(crate) fn shared_cell(first: &ChangeSet, second: &ChangeSet) -> Option<CellId>
     ensures { result ≡ shared_cell first.now second.now }
 {

@@ -37,7 +37,11 @@ apart n (m ∷ ms) f = (f 0 m refl, apart n ms (λ k. f (suc k)))
 distinct : (names : List Name) → AllDiffer names → IsDistinct same_name names
 unfolding IsDistinct
 distinct [] differ = tt
-distinct (n ∷ ns) differ = (apart n ns (λ k m e. other k m e (same_name n m) refl), distinct ns (λ j k name e f. let next = differ (suc j) (suc k) name e f in omega (arith, next)))
+distinct (n ∷ ns) differ = (
+  apart n ns (λ k m e. other k m e (same_name n m) refl),
+  distinct ns (λ j k name e f. let next = differ (suc j) (suc k) name e f in
+      omega (arith, next)),
+)
   where
     other : (k : ℕ) (m : Name) → slice_get ns k ≡ Some m → (b : Bool) → same_name n m ≡ b → same_name n m ≡ false
     other k m e true same = absurd (let first : 0 ≡ suc k = differ 0 (suc k) n refl (e ∙ ap Some (sym (same_is n m same))) in omega (arith, first))
@@ -56,7 +60,8 @@ named : (name : Name) (ws : List Workspace) (w : Workspace) → find_name name w
 named name [] w e = absurd (cc)
 named name (v ∷ vs) w e = by (named name vs w) (same_name name v.name) refl e
   where
-    by : (find_name name vs ≡ Some w → list_any (same_name name) (names_of vs) ≡ true) → (b : Bool) → same_name name v.name ≡ b → cond b (Some v) (find_name name vs) ≡ Some w
+    by : (find_name name vs ≡ Some w → list_any (same_name name) (names_of vs) ≡ true) → (b : Bool) → same_name name v.name ≡ b
+        → cond b (Some v) (find_name name vs) ≡ Some w
         → list_any (same_name name) (names_of (v ∷ vs)) ≡ true
     by rest true same f = or_left (same_name name v.name) (list_any (same_name name) (names_of vs)) same
     by rest false same f = or_right (same_name name v.name) (list_any (same_name name) (names_of vs)) (rest f)

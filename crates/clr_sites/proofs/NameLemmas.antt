@@ -69,11 +69,14 @@ module _ (o : Office) (root name : Name) (members : List Name) where
   unfolding is_root same_name
   root_is_none e = sym (λ i. not (e i) && option_map_or (λ (w : Workspace). bytes_eq w.parent root) (workspace o name) false)
 
-  pub child_by_parent : (parent : Name) (b : Bool) → bytes_eq name root ≡ false → Some parent ≡ parent_in o name → b ≡ bytes_eq parent root → b ≡ is_child o (site root members) name
+  pub child_by_parent : (parent : Name) (b : Bool) → bytes_eq name root ≡ false → Some parent ≡ parent_in o name → b ≡ bytes_eq parent root → b
+      ≡ is_child o (site root members) name
   unfolding is_root same_name
-  child_by_parent parent b e f is = is ∙ by (workspace o name) f ∙ sym (λ i. not (e i) && option_map_or (λ (w : Workspace). bytes_eq w.parent root) (workspace o name) false)
+  child_by_parent parent b e f is = is ∙ by (workspace o name) f
+      ∙ sym (λ i. not (e i) && option_map_or (λ (w : Workspace). bytes_eq w.parent root) (workspace o name) false)
     where
-      by : (r : Option Workspace) → Some parent ≡ option_map (λ (w : Workspace). w.parent) r → bytes_eq parent root ≡ option_map_or (λ (w : Workspace). bytes_eq w.parent root) r false
+      by : (r : Option Workspace) → Some parent ≡ option_map (λ (w : Workspace). w.parent) r → bytes_eq parent root
+          ≡ option_map_or (λ (w : Workspace). bytes_eq w.parent root) r false
       by None h = absurd (cc)
       by (Some w) h = let one : parent ≡ w.parent = cc in ap (λ p. bytes_eq p root) one
 
@@ -81,7 +84,8 @@ module _ (o : Office) (root name : Name) (members : List Name) where
   unfolding is_root same_name
   none_without_parent e f = by (workspace o name) f ∙ sym (λ i. not (e i) && option_map_or (λ (w : Workspace). bytes_eq w.parent root) (workspace o name) false)
     where
-      by : (r : Option Workspace) → None ≡ option_map (λ (w : Workspace). w.parent) r → false ≡ option_map_or (λ (w : Workspace). bytes_eq w.parent root) r false
+      by : (r : Option Workspace) → None ≡ option_map (λ (w : Workspace). w.parent) r → false
+          ≡ option_map_or (λ (w : Workspace). bytes_eq w.parent root) r false
       by None h = refl
       by (Some w) h = absurd (cc)
 
@@ -105,7 +109,8 @@ module _ (p : Name → Bool) (names : List Name) where
 
   first_at : (at : ℕ) → at ≤ length names → NonePasses at → ((n : Name) → slice_get names at ≡ Some n → p n ≡ true) → position_or_len p names ≡ at
   first_at at le before here =
-      position_or_len_is p names at [] le (λ k less. before k (get_or names k []) less (slice_get-get_or names k [] (omega (arith, less, le)))) (λ less. here (get_or names at []) (slice_get-get_or names at [] less))
+      position_or_len_is p names at [] le (λ k less. before k (get_or names k []) less (slice_get-get_or names k [] (omega (arith, less, le))))
+      (λ less. here (get_or names at []) (slice_get-get_or names at [] less))
 
   position_at : (at : ℕ) → position_or_len p names ≡ at → position p names ≡ cond (nat_lt at (length names)) (Some at) None
   position_at at e = λ i. cond (nat_lt (e i) (length names)) (Some (e i)) None
@@ -113,7 +118,8 @@ module _ (p : Name → Bool) (names : List Name) where
   pub first_passes : (at : ℕ) (n : Name) → slice_get names at ≡ Some n → p n ≡ true → NonePasses at → Some at ≡ position p names
   first_passes at n is passes before =
       let within = slice_get_within names at n is in
-      sym (position_at at (first_at at (omega (arith, within)) before (λ m e. (let one : n ≡ m = (let both : Some n ≡ Some m = sym is ∙ e in cc) in ap p (sym one) ∙ passes)))
+      sym (position_at at (first_at at (omega (arith, within)) before (λ m e. (let one : n ≡ m = (let both : Some n ≡ Some m = sym is ∙ e in cc) in
+      ap p (sym one) ∙ passes)))
       ∙ ap (λ b. cond b (Some at) None) (lt-ltb at (length names) within))
 
   pub none_passes : (at : ℕ) → length names ≤ at → NonePasses at → None ≡ position p names
@@ -127,7 +133,8 @@ module _ (p : Name → Bool) (names : List Name) where
 
 abbrev pub fault_of : Bool → Option ℕ → Option ℕ → Option ℕ → Option Verdict
 fault_of kept repeated missing stray =
-    option_or (cond kept None (Some verdict.NotKept)) (option_or (option_map verdict.RepeatedMember repeated) (option_or (option_map verdict.NoWorkspace missing) (option_map verdict.NotUnderRoot stray)))
+    option_or (cond kept None (Some verdict.NotKept)) (option_or (option_map verdict.RepeatedMember repeated)
+    (option_or (option_map verdict.NoWorkspace missing) (option_map verdict.NotUnderRoot stray)))
 
 module _ (o : Office) (s : Site) where
   abbrev pub missing : Option ℕ
@@ -136,7 +143,8 @@ module _ (o : Office) (s : Site) where
   abbrev pub stray : Option ℕ
   stray = position (λ name. not (is_child o s name)) s.members
 
-  pub tests_are : (kept : Bool) (a b c : Option ℕ) → kept ≡ is_kept o s.root → a ≡ first_repeated s.members → b ≡ missing → c ≡ stray → fault_of kept a b c ≡ name_fault o s
+  pub tests_are : (kept : Bool) (a b c : Option ℕ) → kept ≡ is_kept o s.root → a ≡ first_repeated s.members → b ≡ missing → c ≡ stray → fault_of kept a b c
+      ≡ name_fault o s
   unfolding name_fault
   tests_are kept a b c e f g h = λ i. fault_of (e i) (f i) (g i) (h i)
 
@@ -149,7 +157,8 @@ module _ (o : Office) (s : Site) where
   pub missing_fails : (at : ℕ) → true ≡ is_kept o s.root → None ≡ first_repeated s.members → Some at ≡ missing → Some (verdict.NoWorkspace at) ≡ name_fault o s
   missing_fails at e f g = tests_are true None (Some at) stray e f g refl
 
-  pub stray_fails : (at : ℕ) → true ≡ is_kept o s.root → None ≡ first_repeated s.members → None ≡ missing → Some at ≡ stray → Some (verdict.NotUnderRoot at) ≡ name_fault o s
+  pub stray_fails : (at : ℕ) → true ≡ is_kept o s.root → None ≡ first_repeated s.members → None ≡ missing → Some at ≡ stray → Some (verdict.NotUnderRoot at)
+      ≡ name_fault o s
   stray_fails at e f g h = tests_are true None None (Some at) e f g h
 
   pub none_fails : true ≡ is_kept o s.root → None ≡ first_repeated s.members → None ≡ missing → None ≡ stray → None ≡ name_fault o s
@@ -162,7 +171,8 @@ module _ (o : Office) (s : Site) (ws : Name) where
   unfolding is_under_other
   under_by_parent parent b f is = is ∙ by (workspace o ws) f
     where
-      by : (r : Option Workspace) → Some parent ≡ option_map (λ (w : Workspace). w.parent) r → is_other s parent ≡ option_map_or (λ (w : Workspace). is_other s w.parent) r false
+      by : (r : Option Workspace) → Some parent ≡ option_map (λ (w : Workspace). w.parent) r → is_other s parent
+          ≡ option_map_or (λ (w : Workspace). is_other s w.parent) r false
       by None h = absurd (cc)
       by (Some w) h = let one : parent ≡ w.parent = cc in ap (is_other s) one
 

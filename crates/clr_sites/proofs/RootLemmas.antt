@@ -7,7 +7,7 @@ use Rattle.clr_workspaces.specs.Marks.{Name}
 use Rattle.clr_grid.specs.RowMaps.{Rows}
 use Rattle.clr_finders.specs.Sharing.{IsSettledFor}
 use Rattle.clr_steps.specs.Offices.{Office, content_of, is_kept, stands}
-use Rattle.clr_engine.specs.Finders.{IsFinderAt, IsPositionOf, current_at, kept_at}
+use Rattle.clr_kept_finders.specs.Finders.{IsFinderAt, IsPositionOf, current_at, kept_at}
 use Rattle.clr_sites.proofs.NameLemmas.{not_kept}
 
 module _ (o : Office) (name : Name) where
@@ -35,7 +35,8 @@ module _ (o : Office) (name : Name) where
     IsOfRows (Some finder) = IsSettledFor finder.now.settled o.book (content_of o name)
 
     pub finder_is : (at : ℕ) (finder : Option (Bor Rows)) → IsPositionOf o name at → IsFinderAt o.book (kept_at o at) (option_copied finder) → IsOfRows finder
-    finder_is at finder is e = by finder (subst (λ content. IsFinderAt o.book content (option_copied finder)) (is.kept ∙ ap (λ b. cond b (Some (content_of o name)) None) kept) e)
+    finder_is at finder is e = by finder (subst (λ content. IsFinderAt o.book content (option_copied finder)) (is.kept
+        ∙ ap (λ b. cond b (Some (content_of o name)) None) kept) e)
       where
         by : (r : Option (Bor Rows)) → IsFinderAt o.book (Some (content_of o name)) (option_copied r) → IsOfRows r
         by None h = absurd h

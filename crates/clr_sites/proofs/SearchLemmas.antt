@@ -54,7 +54,8 @@ module _ {K : Type 0} (cmp : K → K → Ordering) (total : IsTotalOrder cmp) (e
   ties : (x y : K) → x ≡ y → cmp x y ≡ Equal
   ties x y e = ap (cmp x) (sym e) ∙ tied_itself total x
 
-  pub found_or_not : (xs : List K) (x : K) (r : Result ℕ ℕ) → IsStrictlySortedBy cmp xs → IsSearchInRange r (length xs) → IsBinarySearchResult (λ y. cmp y x) xs r → IsTold (is_ok r) (Contains xs x)
+  pub found_or_not : (xs : List K) (x : K) (r : Result ℕ ℕ) → IsStrictlySortedBy cmp xs → IsSearchInRange r (length xs)
+      → IsBinarySearchResult (λ y. cmp y x) xs r → IsTold (is_ok r) (Contains xs x)
   found_or_not xs x (Ok k) rises within search = (k, within, exact (get_or xs k x) x (search x))
   found_or_not xs x (Err i) rises within search = λ h. not_there h
     where

@@ -23,7 +23,7 @@ use Rattle.clr_steps.specs.Offices.{Office, content_of, current_of, find_name, i
 use Rattle.clr_steps.specs.Quiet.{Site, root_content}
 use Rattle.clr_steps.specs.Readings.{changes_in, conflicts_in, if_stands}
 use Rattle.clr_steps.proofs.FitLemmas.{fits_content_of}
-use Rattle.clr_engine.specs.Drafts.{IsAdmitted}
+use Rattle.clr_kept_finders.specs.Fitting.{IsAdmitted}
 use Rattle.clr_clearance.specs.declared.verdicts.Verdict.{Verdict}
 use Rattle.clr_clearance.specs.declared.verdicts.Verdict.TheVariants as verdict
 use Rattle.clr_clearance.specs.Sites.{RootHolds, change_sets, setting_by_position}
@@ -48,8 +48,10 @@ map_more f xs k x e = let next : k + 1 ≡ suc k = omega arith in ap (λ n. map 
 
 -- conflicts ----------------------------------------------------------------------------------------
 
-pub cells_are : (o : Office) (name : Name) (cells : Option (List CellId)) → cells ≡ if_stands o name (conflicts_in o name) → unwrap_or cells [] ≡ conflicts_in o name
-cells_are o name None e = sym (ap (λ r. option_map_or (λ (w : Workspace). conflicts (content_of o w.parent) (own_changes w)) r []) (nowhere o name (unshown o name (conflicts_in o name) e)))
+pub cells_are : (o : Office) (name : Name) (cells : Option (List CellId)) → cells ≡ if_stands o name (conflicts_in o name) → unwrap_or cells []
+    ≡ conflicts_in o name
+cells_are o name None e = sym (ap (λ r. option_map_or (λ (w : Workspace). conflicts (content_of o w.parent) (own_changes w)) r [])
+    (nowhere o name (unshown o name (conflicts_in o name) e)))
 cells_are o name (Some cells) e = shown o name (conflicts_in o name) cells e
 
 module _ (o : Office) (names : List Name) where
@@ -67,17 +69,21 @@ module _ (o : Office) (names : List Name) where
   abbrev conflict_at : ℕ → Option (CellId × ℕ) → Option Verdict
   conflict_at at found = option_map (λ (c : CellId × ℕ). verdict.Conflict at c.0 c.1) found
 
-  next : (at : ℕ) (name : Name) → slice_get names at ≡ Some name → first_conflict o at (drop at names) ≡ option_or (conflict_at at (least_and_count (conflicts_in o name))) (first_conflict o (suc at) (drop (suc at) names))
+  next : (at : ℕ) (name : Name) → slice_get names at ≡ Some name → first_conflict o at (drop at names)
+      ≡ option_or (conflict_at at (least_and_count (conflicts_in o name))) (first_conflict o (suc at) (drop (suc at) names))
   unfolding first_conflict
   next at name e = ap (first_conflict o at) (drop_suc names at name e)
 
-  pub conflict_found : (at : ℕ) (name : Name) (c : CellId × ℕ) → slice_get names at ≡ Some name → Some c ≡ least_and_count (conflicts_in o name) → IsLater at → Some (verdict.Conflict at c.0 c.1) ≡ first_conflict o 0 names
-  conflict_found at name c e found later = sym (later ∙ next at name e ∙ ap (λ r. option_or (conflict_at at r) (first_conflict o (suc at) (drop (suc at) names))) (sym found))
+  pub conflict_found : (at : ℕ) (name : Name) (c : CellId × ℕ) → slice_get names at ≡ Some name → Some c ≡ least_and_count (conflicts_in o name) → IsLater at
+      → Some (verdict.Conflict at c.0 c.1) ≡ first_conflict o 0 names
+  conflict_found at name c e found later = sym (later ∙ next at name e
+      ∙ ap (λ r. option_or (conflict_at at r) (first_conflict o (suc at) (drop (suc at) names))) (sym found))
 
   pub conflict_later : (at : ℕ) (name : Name) → slice_get names at ≡ Some name → None ≡ least_and_count (conflicts_in o name) → IsLater at → IsLater (at + 1)
   conflict_later at name e none later =
       let one : suc at ≡ at + 1 = omega arith in
-      later ∙ next at name e ∙ ap (λ r. option_or (conflict_at at r) (first_conflict o (suc at) (drop (suc at) names))) (sym none) ∙ ap (λ k. first_conflict o k (drop k names)) one
+      later ∙ next at name e ∙ ap (λ r. option_or (conflict_at at r) (first_conflict o (suc at) (drop (suc at) names))) (sym none)
+      ∙ ap (λ k. first_conflict o k (drop k names)) one
 
   pub conflict_nowhere : (at : ℕ) → length names ≤ at → IsLater at → None ≡ first_conflict o 0 names
   unfolding first_conflict
@@ -102,15 +108,20 @@ module _ (o : Office) (admitted : IsAdmitted o) where
   after_fits : (name : Name) (cell : CellId) (row : Row) → after_in (changes_in o name) cell ≡ Some (Some row) → FitsCell o.schema (cell, row)
   after_fits name cell row e = by (workspace o name) refl e
     where
-      by : (r : Option Workspace) → workspace o name ≡ r → after_in (option_map_or own_changes r no_changes) cell ≡ Some (Some row) → FitsCell o.schema (cell, row)
-      by None is h = absurd (let none : after_in no_changes cell ≡ None = ap (option_map (λ (e : Change). e.after)) (finite.get-empty _ cell) in let both : None ≡ Some (Some row) = sym none ∙ h in cc)
+      by : (r : Option Workspace) → workspace o name ≡ r → after_in (option_map_or own_changes r no_changes) cell ≡ Some (Some row)
+          → FitsCell o.schema (cell, row)
+      by None is h = absurd (let none : after_in no_changes cell ≡ None = ap (option_map (λ (e : Change). e.after)) (finite.get-empty _ cell) in
+          let both : None ≡ Some (Some row) = sym none ∙ h in cc)
       by (Some w) is h = changed (is_changed w.base w.current cell) (sym (ap (option_map (λ (e : Change). e.after)) (get-changes w.base w.current cell)) ∙ h)
         where
-          changed : (b : Bool) → option_map (λ (e : Change). e.after) (cond b (Some (change_of w.base w.current cell)) None) ≡ Some (Some row) → FitsCell o.schema (cell, row)
-          changed true g = fits_content_of o admitted.fit.rows name cell row (ap (λ content. row_at content cell) (content_standing name w is) ∙ (let one : row_at w.current cell ≡ Some row = cc in one))
+          changed : (b : Bool) → option_map (λ (e : Change). e.after) (cond b (Some (change_of w.base w.current cell)) None) ≡ Some (Some row)
+              → FitsCell o.schema (cell, row)
+          changed true g = fits_content_of o admitted.fit.rows name cell row (ap (λ content. row_at content cell) (content_standing name w is)
+              ∙ (let one : row_at w.current cell ≡ Some row = cc in one))
           changed false g = absurd (cc)
 
-  sets_fit : (names : List Name) (n : ℕ) (cell : CellId) (row : Row) → after_of (map (changes_in o) names) n cell ≡ Some (Some row) → FitsCell o.schema (cell, row)
+  sets_fit : (names : List Name) (n : ℕ) (cell : CellId) (row : Row) → after_of (map (changes_in o) names) n cell ≡ Some (Some row)
+      → FitsCell o.schema (cell, row)
   sets_fit [] n cell row e = absurd (cc)
   sets_fit (name ∷ names) zero cell row e = after_fits name cell row e
   sets_fit (name ∷ names) (suc n) cell row e = sets_fit names n cell row e
@@ -126,9 +137,12 @@ module _ (o : Office) (admitted : IsAdmitted o) where
     new_fits v l None e = absurd (cc)
     new_fits v l (Some n) e = sets_fit s.members n v.cell l.row (new_is (setting_by_position o s) n (after_of sets n v.cell) l e).0
 
-    either_fits : (v : VersionId) (l : Lived ℕ) (b : Bool) → cond b (new_version (after_of sets) v.cell (first v.cell)) (old_version (first v.cell) (row_at (content_of o s.root) v.cell)) ≡ Some l → FitsCell o.schema (held_row v l)
+    either_fits : (v : VersionId) (l : Lived ℕ) (b : Bool)
+        → cond b (new_version (after_of sets) v.cell (first v.cell)) (old_version (first v.cell) (row_at (content_of o s.root) v.cell)) ≡ Some l
+        → FitsCell o.schema (held_row v l)
     either_fits v l true e = new_fits v l (first v.cell) e
-    either_fits v l false e = fits_content_of o admitted.fit.rows s.root v.cell l.row (old_is (setting_by_position o s) (first v.cell) (row_at (content_of o s.root) v.cell) l e).0
+    either_fits v l false e = fits_content_of o admitted.fit.rows s.root v.cell l.row (old_is (setting_by_position o s) (first v.cell)
+        (row_at (content_of o s.root) v.cell) l e).0
 
     pub site_fits : FitsSetting (setting_by_position o s)
     unfolding version root_content

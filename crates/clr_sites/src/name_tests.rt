@@ -4,7 +4,7 @@ ghost use Rattle.std.specs.Prelude.{◌≡◌, ℕ, List, not, position};
 ghost use Rattle.clr_steps.specs.Offices.{is_kept, stands};
 ghost use Rattle.clr_clearance.specs.Sites.{is_child};
 ghost use Rattle.clr_clearance.specs.Verdicts.{name_fault};
-ghost use Rattle.clr_engine.specs.Drafts.{IsAdmitted};
+ghost use Rattle.clr_kept_finders.specs.Fitting.{IsAdmitted};
 ghost use Rattle.clr_sites.specs.SiteNames.{site};
 
 use crate::name_lists::NameList;
@@ -13,7 +13,7 @@ use clr_clearance::Verdict;
 use clr_engine::Office;
 use std::alloc::Global;
 
-/// Whether a name is that of a child of the root.
+/// Returns whether a name is that of a child of the root.
 fn is_child(office: &Office, root: &str, name: &str) -> bool
     ensures { (members : List (List ℕ)) → result ≡ is_child office.now (site root.now members) name.now }
 {
@@ -26,14 +26,14 @@ fn is_child(office: &Office, root: &str, name: &str) -> bool
     }
 }
 
-/// Whether a name is neither LIVE's nor a workspace's.
+/// Returns whether a name is neither LIVE's nor a workspace's.
 fn is_missing(office: &Office, name: &str) -> bool
     ensures { result ≡ not (stands office.now name.now) }
 {
     office.kept(name).is_none()
 }
 
-/// The first member that is neither LIVE nor a workspace.
+/// Returns the first member that is neither LIVE nor a workspace.
 fn first_missing<N: NameList>(office: &Office, members: &N) -> Option<usize>
     ensures { result ≡ position (λ name. not (stands office.now name)) (N.names members.now) }
 {
@@ -45,7 +45,7 @@ fn first_missing<N: NameList>(office: &Office, members: &N) -> Option<usize>
     None
 }
 
-/// The first member that isn't a child of the root.
+/// Returns the first member that isn't a child of the root.
 fn first_stray<N: NameList>(office: &Office, root: &str, members: &N) -> Option<usize>
     ensures { result ≡ position (λ name. not (is_child office.now (site root.now (N.names members.now)) name)) (N.names members.now) }
 {
@@ -57,7 +57,7 @@ fn first_stray<N: NameList>(office: &Office, root: &str, members: &N) -> Option<
     None
 }
 
-/// Whether a root stands and every rule is to hold in it.
+/// Returns whether a root stands and every rule is to hold in it.
 fn is_kept(office: &Office, root: &str) -> bool
     ensures value { result ≡ is_kept office.now root.now }
     ensures admitted { IsAdmitted office.now }

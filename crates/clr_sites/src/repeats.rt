@@ -7,7 +7,7 @@ use crate::name_lists::NameList;
 use std::alloc::Global;
 use std::collections::BTreeSet;
 
-/// Whether the name at a position stands earlier in the list.
+/// Returns whether the name at a position stands earlier in the list.
 fn stands_earlier<N: NameList>(names: &N, position: usize) -> bool
     requires { position < length (N.names names.now) }
     ensures { result ≡ is_repeated (N.names names.now) position }
@@ -21,7 +21,8 @@ fn stands_earlier<N: NameList>(names: &N, position: usize) -> bool
     false
 }
 
-/// The first repeated name, found by comparing each name with those before it. It takes no memory.
+/// Returns the first repeated name, found by comparing each name with those before it. It takes no
+/// memory.
 fn first_repeated_by_pairs<N: NameList>(names: &N) -> Option<usize>
     ensures { result ≡ first_repeated (N.names names.now) }
 {
@@ -33,8 +34,8 @@ fn first_repeated_by_pairs<N: NameList>(names: &N) -> Option<usize>
     None
 }
 
-/// The position of the first name that stands earlier in the list. The names are gathered in a set;
-/// where no memory is found for it, each name is compared with those before it.
+/// Returns the position of the first name that stands earlier in the list. The names are gathered
+/// in a set; where no memory is found for it, each name is compared with those before it.
 pub(crate) fn first_repeated<N: NameList>(alloc: Global, names: &N) -> Option<usize>
     ensures { result ≡ first_repeated (N.names names.now) }
 {

@@ -9,7 +9,7 @@ ghost use Rattle.clr_foot.specs.Scenes.{model_of};
 ghost use Rattle.clr_steps.specs.Offices.{content_of, is_kept};
 ghost use Rattle.clr_steps.specs.Quiet.{Site};
 ghost use Rattle.clr_steps.specs.Readings.{changes_in};
-ghost use Rattle.clr_engine.specs.Drafts.{IsAdmitted};
+ghost use Rattle.clr_kept_finders.specs.Fitting.{IsAdmitted};
 ghost use Rattle.clr_clearance.specs.Sites.{change_sets};
 ghost use Rattle.clr_clearance.specs.Verdicts.{first_conflict, member_fault};
 ghost use Rattle.clr_sites.specs.Faults.{IsFault};
@@ -29,7 +29,7 @@ use clr_rows::CellId;
 use clr_tree::View;
 use std::alloc::{AllocError, Global};
 
-/// The least of some cells, if there are any, and how many they are.
+/// Returns the least of some cells, if there are any, and how many they are.
 fn least_and_count(cells: Option<Vec<CellId>>) -> Option<(CellId, usize)>
     ensures { result ≡ least_and_count (unwrap_or (option_map (λ list. list.items) cells) []) }
 {
@@ -40,7 +40,7 @@ fn least_and_count(cells: Option<Vec<CellId>>) -> Option<(CellId, usize)>
     }
 }
 
-/// What a workspace changed, and nothing where there is none.
+/// Returns what a workspace changed, and nothing where there is none.
 fn changes(alloc: Global, office: &Office, name: &str) -> Result<ChangeSet, AllocError>
     ensures { IfOk result (λ set. set ≡ changes_in office.now name.now) }
 {
@@ -50,7 +50,8 @@ fn changes(alloc: Global, office: &Office, name: &str) -> Result<ChangeSet, Allo
     }
 }
 
-/// The rows of a root that is kept as the office shows them, and the office's finder of them.
+/// Returns the rows of a root that is kept as the office shows them, and the office's finder of
+/// them.
 fn root_rows<'a>(office: &'a Office, root: &str) -> (View<'a>, &'a SpotIndex)
     requires { is_kept office.now root.now ≡ true }
     ensures rows { result.0 ≡ content_of office.entry.now root.now }
@@ -62,7 +63,8 @@ fn root_rows<'a>(office: &'a Office, root: &str) -> (View<'a>, &'a SpotIndex)
     (rows, finder)
 }
 
-/// The first member in conflict with the root, its least cell in conflict and how many there are.
+/// Returns the first member in conflict with the root, its least cell in conflict and how many
+/// there are.
 fn first_conflict<N: NameList>(office: &Office, members: &N) -> Result<Option<Verdict>, AllocError>
     ensures { IfOk result (λ fault. fault ≡ first_conflict office.now 0 (N.names members.now)) }
 {
@@ -79,7 +81,7 @@ fn first_conflict<N: NameList>(office: &Office, members: &N) -> Result<Option<Ve
     Ok(None)
 }
 
-/// What each member changed, in their order.
+/// Returns what each member changed, in their order.
 fn change_sets<N: NameList>(
     alloc: Global,
     office: &Office,
@@ -94,7 +96,7 @@ fn change_sets<N: NameList>(
     Ok(sets)
 }
 
-/// The root's rows and what each member changed.
+/// Returns the root's rows and what each member changed.
 fn read_parts<'a, N: NameList>(
     alloc: Global,
     office: &'a Office,

@@ -34,6 +34,8 @@ pub near_begun : (m : Filed) (xs : List Spot) (wide : Bool) (old mid new : List 
     → mid ≡ (old ++ m.wide) ++ flat_map (entries_at m.by_spot) (take k xs) → new ≡ mid → IsBegun old (near m xs wide) new
 near_begun m xs wide old mid new k few is same =
     subst (λ b. IsBegun old (cond b m.all (m.wide ++ flat_map (entries_at m.by_spot) xs)) new) (sym few)
-    (some_begun old (m.wide ++ flat_map (entries_at m.by_spot) xs) new (m.wide ++ flat_map (entries_at m.by_spot) (take k xs)) (flat_map (entries_at m.by_spot) (drop k xs))
+    (some_begun old (m.wide ++ flat_map (entries_at m.by_spot) xs) new (m.wide ++ flat_map (entries_at m.by_spot) (take k xs))
+    (flat_map (entries_at m.by_spot) (drop k xs))
     (same ∙ is ∙ append_assoc old m.wide (flat_map (entries_at m.by_spot) (take k xs)))
-    (ap (λ es. m.wide ++ es) (flat_parts (entries_at m.by_spot) xs k) ∙ sym (append_assoc m.wide (flat_map (entries_at m.by_spot) (take k xs)) (flat_map (entries_at m.by_spot) (drop k xs)))))
+    (ap (λ es. m.wide ++ es) (flat_parts (entries_at m.by_spot) xs k)
+    ∙ sym (append_assoc m.wide (flat_map (entries_at m.by_spot) (take k xs)) (flat_map (entries_at m.by_spot) (drop k xs)))))

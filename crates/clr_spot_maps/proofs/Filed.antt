@@ -17,14 +17,16 @@ use Rattle.clr_spot_maps.specs.Filing.{Filed, EntriesBySpot, IsFiled, entries_at
 spot_itself : (x : Spot) → eq_by_cmp spot_cmp x x ≡ true
 spot_itself x = (Equal-is (spot_cmp x x)).1 (tied_itself spot_cmp_total x)
 
-entries_after : (m : EntriesBySpot) (y x : Spot) (e : FiledPart) → entries_at (filed_at m y e) x ≡ unwrap_or (cond (eq_by_cmp spot_cmp x y) (Some (entries_at m y ++ e ∷ [])) (finite.get m x)) []
+entries_after : (m : EntriesBySpot) (y x : Spot) (e : FiledPart) → entries_at (filed_at m y e) x
+    ≡ unwrap_or (cond (eq_by_cmp spot_cmp x y) (Some (entries_at m y ++ e ∷ [])) (finite.get m x)) []
 entries_after m y x e = ap (λ o. unwrap_or o []) (finite.get-insert spot_cmp_total m y (entries_at m y ++ e ∷ []) x)
 
 stays_at : (m : EntriesBySpot) (y x : Spot) (e q : FiledPart) → Among q (entries_at m x) → Among q (entries_at (filed_at m y e) x)
 stays_at m y x e q h = subst (Among q) (sym (entries_after m y x e)) (go (eq_by_cmp spot_cmp x y) refl)
   where
     go : (b : Bool) → eq_by_cmp spot_cmp x y ≡ b → Among q (unwrap_or (cond b (Some (entries_at m y ++ e ∷ [])) (finite.get m x)) [])
-    go true tie = let same : x ≡ y = spot_cmp_exact x y ((Equal-is (spot_cmp x y)).0 tie) in among_left q (entries_at m y) (e ∷ []) (subst (λ z. Among q (entries_at m z)) same h)
+    go true tie = let same : x ≡ y = spot_cmp_exact x y ((Equal-is (spot_cmp x y)).0 tie) in among_left q (entries_at m y) (e
+        ∷ []) (subst (λ z. Among q (entries_at m z)) same h)
     go false tie = h
 
 stays_at_all : (m : EntriesBySpot) (ys : List Spot) (x : Spot) (e q : FiledPart) → Among q (entries_at m x) → Among q (entries_at (filed_at_all m ys e) x)
@@ -32,7 +34,8 @@ stays_at_all m [] x e q h = h
 stays_at_all m (y ∷ ys) x e q h = stays_at_all (filed_at m y e) ys x e q (stays_at m y x e q h)
 
 put_at : (m : EntriesBySpot) (x : Spot) (e : FiledPart) → Among e (entries_at (filed_at m x e) x)
-put_at m x e = subst (Among e) (sym (entries_after m x x e ∙ ap (λ b. unwrap_or (cond b (Some (entries_at m x ++ e ∷ [])) (finite.get m x)) []) (spot_itself x)))
+put_at m x e = subst (Among e) (sym (entries_after m x x e ∙ ap (λ b. unwrap_or (cond b (Some (entries_at m x ++ e ∷ [])) (finite.get m x)) [])
+    (spot_itself x)))
     (among_right e (entries_at m x) (e ∷ []) (inl refl))
 
 put_at_each : (m : EntriesBySpot) (ys : List Spot) (x : Spot) (e : FiledPart) → Among x ys → Among e (entries_at (filed_at_all m ys e) x)
@@ -53,7 +56,8 @@ entry_stays m e q xs ys wide h = record {
 
 pub entry_filed : (m : Filed) (e : FiledPart) (xs : List Spot) → IsFiled (filed_entry m e (unless_many xs) (are_many xs)) e xs
 entry_filed m e xs = record {
-  wide = λ many. contained e (cond (are_many xs) (m.wide ++ e ∷ []) m.wide) (subst (λ b. Among e (cond b (m.wide ++ e ∷ []) m.wide)) (sym many) (among_right e m.wide (e ∷ []) (inl refl)));
+  wide = λ many. contained e (cond (are_many xs) (m.wide ++ e ∷ []) m.wide) (subst (λ b. Among e (cond b (m.wide ++ e ∷ []) m.wide)) (sym many)
+      (among_right e m.wide (e ∷ []) (inl refl)));
   at = λ x k. contained e (entries_at (filed_at_all m.by_spot (unless_many xs) e) x) (put_at_each m.by_spot (unless_many xs) x e (among x (unless_many xs) k));
   all = contained e (m.all ++ e ∷ []) (among_right e m.all (e ∷ []) (inl refl));
 }

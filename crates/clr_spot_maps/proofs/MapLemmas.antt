@@ -28,11 +28,13 @@ module _ {K X : Type 0} {R : K → K → Ordering} (o : IsTotalOrder R) (exact :
       ∙ sym (finite.get-insert o (finite.from_entries es) k x q ∙ ap (cond (eq_by_cmp R q k) (Some x)) (get_entry es q)))
 
   -- entries with the same values make one map
-  pub same_entries : (es fs : List (K × X)) → ((q : K) → lookup (is_at (R q)) fs ≡ lookup (is_at (R q)) es) → finite.from_entries {R = R} fs ≡ finite.from_entries es
+  pub same_entries : (es fs : List (K × X)) → ((q : K) → lookup (is_at (R q)) fs ≡ lookup (is_at (R q)) es) → finite.from_entries {R = R} fs
+      ≡ finite.from_entries es
   same_entries es fs h = finite.same_map o exact _ _ (λ q. get_entry fs q ∙ h q ∙ sym (get_entry es q))
 
 -- a list that is written back as it was
-pub same_written : (f g : Spot → Option (List FiledPart)) (s : Spot) (w m : List FiledPart) → ((x : Spot) → g x ≡ cond (is_at (spot_cmp s) x) (Some w) (f x)) → w ≡ m → Some m ≡ f s
+pub same_written : (f g : Spot → Option (List FiledPart)) (s : Spot) (w m : List FiledPart) → ((x : Spot) → g x ≡ cond (is_at (spot_cmp s) x) (Some w) (f x))
+    → w ≡ m → Some m ≡ f s
     → (x : Spot) → g x ≡ f x
 same_written f g s w m is same here x = is x ∙ go (is_at (spot_cmp s) x) refl
   where
@@ -53,12 +55,24 @@ filed_last m (y ∷ done) x e = filed_last (filed_at m y e) done x e
 pub filed_none : (m : EntriesBySpot) (xs : List Spot) (e : FiledPart) → IsFiledTo m xs e m xs
 filed_none m xs e = ([], refl, refl)
 
-pub filed_next : (m : EntriesBySpot) (xs : List Spot) (e : FiledPart) (n : EntriesBySpot) (x : Spot) (left : List Spot) → IsFiledTo m xs e n (x ∷ left) → IsFiledTo m xs e (filed_at n x e) left
-filed_next m xs e n x left (done, is, whole) = (done ++ x ∷ [], ap (λ n. filed_at n x e) is ∙ sym (filed_last m done x e), append_assoc done (x ∷ []) left ∙ whole)
+pub filed_next : (m : EntriesBySpot) (xs : List Spot) (e : FiledPart) (n : EntriesBySpot) (x : Spot) (left : List Spot) → IsFiledTo m xs e n (x ∷ left)
+    → IsFiledTo m xs e (filed_at n x e) left
+filed_next m xs e n x left (done, is, whole) = (
+  done ++ x ∷ [],
+  ap (λ n. filed_at n x e) is ∙ sym (filed_last m done x e),
+  append_assoc done (x ∷ []) left
+      ∙ whole,
+)
 
 -- it is filed at the first of them
-pub filed_some : (m : EntriesBySpot) (xs : List Spot) (e : FiledPart) (n : EntriesBySpot) (left : List Spot) → IsFiledTo m xs e n left → (k : ℕ) × (n ≡ filed_at_all m (take k xs) e)
-filed_some m xs e n left (done, is, whole) = (length done, is ∙ ap (λ ys. filed_at_all m ys e) (sym (ap (take (length done)) (sym whole) ∙ take-append_seam done left)))
+pub filed_some : (m : EntriesBySpot) (xs : List Spot) (e : FiledPart) (n : EntriesBySpot) (left : List Spot) → IsFiledTo m xs e n left → (k : ℕ)
+    × (n ≡ filed_at_all m (take k xs) e)
+filed_some m xs e n left (done, is, whole) = (
+  length done,
+  is
+      ∙ ap (λ ys. filed_at_all m ys e) (sym (ap (take (length done)) (sym whole) ∙ take-append_seam done left)),
+)
 
-pub filed_more : (es : List (Spot × List FiledPart)) (x : Spot) (e : FiledPart) → finite.insert (finite.from_entries es) x (unwrap_or (lookup (is_at (spot_cmp x)) es) [] ++ e ∷ []) ≡ filed_at (finite.from_entries es) x e
+pub filed_more : (es : List (Spot × List FiledPart)) (x : Spot) (e : FiledPart)
+    → finite.insert (finite.from_entries es) x (unwrap_or (lookup (is_at (spot_cmp x)) es) [] ++ e ∷ []) ≡ filed_at (finite.from_entries es) x e
 filed_more es x e = ap (λ o. finite.insert (finite.from_entries es) x (unwrap_or o [] ++ e ∷ [])) (sym (get_entry spot_cmp_total spot_cmp_exact es x))

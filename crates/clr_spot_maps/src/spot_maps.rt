@@ -119,8 +119,8 @@ impl SpotMap {
         Ok(())
     }
 
-    /// Files an entry at the spots of its row, or as that of a wide one. It fails for want of
-    /// memory alone; then all that was filed stays, and the entry may be filed at some of them.
+    /// Files an entry at the spots of its row, or as that of a wide one. If memory runs out, all
+    /// that was filed stays, and the entry may be filed at some of them.
     pub fn file(&mut self, alloc: Global, entry: FiledPart, spots: Spots) -> Result<(), AllocError>
         ensures ok { OnOk result (self.new ≡ filed_entry self.old entry spots.list spots.wide) }
         ensures err { OnErr result (IsPartlyFiled self.old entry spots.list spots.wide self.new) }
@@ -160,8 +160,8 @@ impl SpotMap {
     }
 
     /// Adds the entries that may stand in a need with a row of these spots: all where it is wide,
-    /// and else those of its spots and the wide ones. It fails for want of memory alone; then what
-    /// stood in the list stands there, with the first of these behind it.
+    /// and else those of its spots and the wide ones. If memory runs out, what stood in the list
+    /// stands there, with the first of these behind it.
     pub fn add_near(&self, spots: &Spots, list: &mut Vec<FiledPart>) -> Result<(), AllocError>
         ensures ok { OnOk result (list.new.items ≡ list.old.items ++ near self.now spots.now.list spots.now.wide) }
         ensures err { OnErr result (IsBegun list.old.items (near self.now spots.now.list spots.now.wide) list.new.items) }

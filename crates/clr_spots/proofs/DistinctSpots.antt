@@ -24,11 +24,16 @@ AreDistinct = IsDistinct same_spot
 apart : (x y : Spot) → (x ≡ y → ⊥) → same_spot x y ≡ false
 apart x y n = false_from_ne_true (same_spot x y) (λ e. n (same_spot_is x y e))
 
-both_distinct : (xs ys : List Spot) → AreDistinct xs → AreDistinct ys → ((x y : Spot) → Among x xs → Among y ys → same_spot x y ≡ false) → AreDistinct (xs ++ ys)
+both_distinct : (xs ys : List Spot) → AreDistinct xs → AreDistinct ys → ((x y : Spot) → Among x xs → Among y ys → same_spot x y ≡ false)
+    → AreDistinct (xs ++ ys)
 unfolding IsDistinct
 both_distinct [] ys p q h = q
 both_distinct (x ∷ xs) ys p q h = (
-  all_by (λ y. same_spot x y ≡ false) (xs ++ ys) (λ y k. elim (among_either y xs ys k) [ inl l ↦ each_of (λ z. same_spot x z ≡ false) y xs p.0 l | inr l ↦ h x y (inl refl) l ]),
+  all_by (λ y. same_spot x y ≡ false) (xs ++ ys) (λ y k. elim (among_either y xs ys k) [
+    | inl l ↦ each_of (λ z. same_spot x z ≡ false) y xs p.0 l
+    | inr l ↦ h x y
+        (inl refl) l
+  ]),
   both_distinct xs ys p.1 q (λ w y k l. h w y (inr k) l),
 )
 
@@ -66,7 +71,8 @@ second_of (spot.Values vs) d = d
 
 column_distinct : (i j : ℤ) (n : ℕ) → AreDistinct (column_of_squares i j n)
 column_distinct i j zero = none_distinct
-column_distinct i j (suc n) = both_distinct (column_of_squares i j n) (Square i (j +ℤ pos n) ∷ []) (column_distinct i j n) (one_distinct (Square i (j +ℤ pos n)))
+column_distinct i j (suc n) = both_distinct (column_of_squares i j n) (Square i (j +ℤ pos n)
+    ∷ []) (column_distinct i j n) (one_distinct (Square i (j +ℤ pos n)))
     (λ x y h k. apart x y (λ e. let c = in_column i j n x h in last i j c.0 n c.1 x y c.2 k e))
   where
     last : (i j : ℤ) (k n : ℕ) → k < n → (x y : Spot) → x ≡ Square i (j +ℤ pos k) → Among y (Square i (j +ℤ pos n) ∷ []) → x ≡ y → ⊥
@@ -75,7 +81,8 @@ column_distinct i j (suc n) = both_distinct (column_of_squares i j n) (Square i 
 
 grid_distinct : (i j : ℤ) (m n : ℕ) → AreDistinct (grid_of_squares i j m n)
 grid_distinct i j zero n = none_distinct
-grid_distinct i j (suc m) n = both_distinct (grid_of_squares i j m n) (column_of_squares (i +ℤ pos m) j n) (grid_distinct i j m n) (column_distinct (i +ℤ pos m) j n)
+grid_distinct i j (suc m) n = both_distinct (grid_of_squares i j m n) (column_of_squares (i +ℤ pos m) j n) (grid_distinct i j m n)
+    (column_distinct (i +ℤ pos m) j n)
     (λ x y h k. apart x y (λ e.
     let g = in_grid i j m n x h in
     let c = in_column (i +ℤ pos m) j n y k in
@@ -102,7 +109,8 @@ kept_distinct p (x ∷ xs) d = go (p x) (kept_distinct p xs d.1)
 
 joined_distinct : (xs ys : List Spot) → AreDistinct xs → AreDistinct ys → AreDistinct (union xs ys)
 joined_distinct xs ys p q = both_distinct xs (filter new ys) p (kept_distinct new ys q)
-    (λ x y h k. false_from_ne_true (same_spot x y) (λ e. clash (list_any (λ w. same_spot w y) xs) (any_by (λ w. same_spot w y) x xs h e) (among_kept new y ys k).1))
+    (λ x y h k. false_from_ne_true (same_spot x y) (λ e. clash (list_any (λ w. same_spot w y) xs) (any_by (λ w. same_spot w y) x xs h e)
+    (among_kept new y ys k).1))
   where
     new : Spot → Bool
     new = λ y. not (list_any (λ x. same_spot x y) xs)

@@ -43,7 +43,8 @@ taken_more f [] k x e = absurd (cc)
 taken_more f (y ∷ xs) zero x e = let same : y ≡ x = cc in ap (λ z. f z ∷ []) same
 taken_more f (y ∷ xs) (suc k) x e = simp unary_clauses (ap (λ ys. f y ∷ ys) (simp unary_clauses at (taken_more f xs k x e)))
 
-pub part_added : (shape : Shape) (k : ℕ) (e : Segment) (list : List Spot) → slice_get (parts_of shape) k ≡ Some e → list ≡ squares_of_all (take k (boxes_of_parts shape))
+pub part_added : (shape : Shape) (k : ℕ) (e : Segment) (list : List Spot) → slice_get (parts_of shape) k ≡ Some e → list
+    ≡ squares_of_all (take k (boxes_of_parts shape))
     → union list (squares_of (box_between e.0 e.1)) ≡ squares_of_all (take (k + 1) (boxes_of_parts shape))
 unfolding squares_of_all
 part_added shape k e list at is =
@@ -58,10 +59,12 @@ first_too_many bs k e = many_more (fold add_squares [] (take k bs)) (fold add_sq
     (sym (fold-append add_squares [] (take k bs) (drop k bs)) ∙ ap (fold add_squares []) (take-append-drop k bs))
     (all_longer (fold add_squares [] (take k bs)) (drop k bs))) e
 
-pub part_too_many : (shape : Shape) (k : ℕ) (e : Segment) (list : List Spot) → slice_get (parts_of shape) k ≡ Some e → list ≡ squares_of_all (take k (boxes_of_parts shape))
+pub part_too_many : (shape : Shape) (k : ℕ) (e : Segment) (list : List Spot) → slice_get (parts_of shape) k ≡ Some e → list
+    ≡ squares_of_all (take k (boxes_of_parts shape))
     → are_many (union list (squares_of (box_between e.0 e.1))) ≡ true
     → are_many (squares_of_all (boxes_of_parts shape)) ≡ true
-part_too_many shape k e list at is many = first_too_many (boxes_of_parts shape) (k + 1) (subst (λ (xs : List Spot). are_many xs ≡ true) (part_added shape k e list at is) many)
+part_too_many shape k e list at is many = first_too_many (boxes_of_parts shape) (k + 1) (subst (λ (xs : List Spot). are_many xs
+    ≡ true) (part_added shape k e list at is) many)
 
 pub none_kept : (xs : List Spot) → are_many xs ≡ true → [] ≡ unless_many xs
 none_kept xs e = sym (ap (λ many. if many then [] else xs) e)
@@ -69,8 +72,10 @@ none_kept xs e = sym (ap (λ many. if many then [] else xs) e)
 pub all_kept : (xs ys : List Spot) → xs ≡ ys → are_many xs ≡ false → xs ≡ unless_many ys
 all_kept xs ys same e = sym (ap (λ (zs : List Spot). unless_many zs) (sym same) ∙ ap (λ many. if many then [] else xs) e)
 
-pub all_taken : (shape : Shape) (k : ℕ) (list : List Spot) → list ≡ squares_of_all (take k (boxes_of_parts shape)) → length (parts_of shape) ≤ k → list ≡ squares_of_all (boxes_of_parts shape)
-all_taken shape k list is h = is ∙ ap squares_of_all (take_all k (boxes_of_parts shape) (omega (arith, h, length-map (parts_of shape) (λ (s : Segment). box_between s.0 s.1))))
+pub all_taken : (shape : Shape) (k : ℕ) (list : List Spot) → list ≡ squares_of_all (take k (boxes_of_parts shape)) → length (parts_of shape) ≤ k → list
+    ≡ squares_of_all (boxes_of_parts shape)
+all_taken shape k list is h = is
+    ∙ ap squares_of_all (take_all k (boxes_of_parts shape) (omega (arith, h, length-map (parts_of shape) (λ (s : Segment). box_between s.0 s.1))))
 
 pub no_boxes : (shape : Shape) → [] ≡ squares_of_all (take 0 (boxes_of_parts shape))
 unfolding squares_of_all
@@ -102,17 +107,20 @@ front_kept : (xs list : List Spot) (y : Spot) → take (length xs) list ≡ xs �
 front_kept xs list y same h = take-append-le (length xs) list (y ∷ []) h ∙ same
 
 -- one more spot, which is new or isn't
-pub new_added : (xs ys list rest read : List Spot) (y : Spot) (has : Bool) → AddsNew xs ys list (y ∷ rest) → read ≡ take (length xs) list → has ≡ list_any (λ x. same_spot x y) read → has ≡ false
+pub new_added : (xs ys list rest read : List Spot) (y : Spot) (has : Bool) → AddsNew xs ys list (y ∷ rest) → read ≡ take (length xs) list → has
+    ≡ list_any (λ x. same_spot x y) read → has ≡ false
     → AddsNew xs ys (list ++ y ∷ []) rest
 new_added xs ys list rest read y has h at test none =
     let new : list_any (λ x. same_spot x y) xs ≡ false = ap (λ ws. list_any (λ x. same_spot x y) ws) (sym (at ∙ h.first)) ∙ sym test ∙ none in
     record {
       first = front_kept xs list y h.first h.longer;
       longer = omega (arith, length-append list (y ∷ []), h.longer);
-      whole = append_assoc list (y ∷ []) (filter (is_new xs) rest) ∙ ap (λ b. list ++ cond (not b) (y ∷ filter (is_new xs) rest) (filter (is_new xs) rest)) (sym new) ∙ h.whole;
+      whole = append_assoc list (y ∷ []) (filter (is_new xs) rest) ∙ ap (λ b. list ++ cond (not b) (y ∷ filter (is_new xs) rest) (filter (is_new xs) rest))
+          (sym new) ∙ h.whole;
     }
 
-pub old_left : (xs ys list rest read : List Spot) (y : Spot) (has : Bool) → AddsNew xs ys list (y ∷ rest) → read ≡ take (length xs) list → has ≡ list_any (λ x. same_spot x y) read → has ≡ true
+pub old_left : (xs ys list rest read : List Spot) (y : Spot) (has : Bool) → AddsNew xs ys list (y ∷ rest) → read ≡ take (length xs) list → has
+    ≡ list_any (λ x. same_spot x y) read → has ≡ true
     → AddsNew xs ys list rest
 old_left xs ys list rest read y has h at test some =
     let old : list_any (λ x. same_spot x y) xs ≡ true = ap (λ ws. list_any (λ x. same_spot x y) ws) (sym (at ∙ h.first)) ∙ sym test ∙ some in

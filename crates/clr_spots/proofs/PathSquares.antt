@@ -16,7 +16,8 @@ listed_before x xs (b ∷ bs) h = listed_before x (union xs (squares_of b)) bs (
 
 listed_among : (x : Spot) (b : Bounds) (xs : List Spot) (bs : List Bounds) → Among b bs → Listed x (squares_of b) → Listed x (fold add_squares xs bs)
 listed_among x b xs [] k h = absurd k
-listed_among x b xs (c ∷ bs) (inl same) h = listed_before x (union xs (squares_of c)) bs (joined_back x xs (squares_of c) (subst (λ (e : Bounds). Listed x (squares_of e)) (sym same) h))
+listed_among x b xs (c ∷ bs) (inl same) h = listed_before x (union xs (squares_of c)) bs
+    (joined_back x xs (squares_of c) (subst (λ (e : Bounds). Listed x (squares_of e)) (sym same) h))
 listed_among x b xs (c ∷ bs) (inr k) h = listed_among x b (union xs (squares_of c)) bs k h
 
 -- a square of one of the boxes

@@ -45,8 +45,12 @@ parts_meet (Some a) (Some b) e = segments_meet a b e
 -- a point of a part is in one of its squares
 point_on : (p : Place) (a : Segment) → lies_on p a.0 a.1 ≡ true → Common (squares_of (box_between a.0 a.1)) (square_at (Some p))
 point_on p a e =
-    let x = Square (square_of p.x) (square_of p.y) in
-    (x, list_any-from_Contains same_spot_equiv x (squares_of (box_between a.0 a.1)) (place_listed p (box_between a.0 a.1) (point_boxed p a.0 a.1 (on_from_search p a.0 a.1 e))), listed_alone x)
+    let x = Square (square_of p.x) (square_of p.y) in (
+      x,
+      list_any-from_Contains same_spot_equiv x (squares_of (box_between a.0 a.1))
+          (place_listed p (box_between a.0 a.1) (point_boxed p a.0 a.1 (on_from_search p a.0 a.1 e))),
+      listed_alone x,
+    )
 
 point_meets : (o p : Option Segment) (q : Option Place) → is_crossing_at o p q ≡ true → Common (squares_of_part o) (square_at q)
 point_meets None p q e = absurd (false≢true e)
@@ -80,15 +84,18 @@ pair_has (Near a b d) ask s t e = either_way _ _ _ _ (and_parts (are_of_sides a 
 server_has : (rule : Rule) (ask : Ask) (s : Held) (t : Option Held) (r : Held) → is_server rule ask s t r ≡ true → (roles rule r).server ≡ true
 unfolding is_server roles
 server_has (Unique subject columns) ask s t r e = absurd (false≢true e)
-server_has (Partner subject columns server server_columns) ask s None r e = (and_parts (is_of_side server r) _ (and_parts (is_of_side subject s) _ (and_parts (is_plain ask) _ e).1).1).0
+server_has (Partner subject columns server server_columns) ask s None r e =
+    (and_parts (is_of_side server r) _ (and_parts (is_of_side subject s) _ (and_parts (is_plain ask) _ e).1).1).0
 server_has (Partner subject columns server server_columns) ask s (Some t) r e = absurd (false≢true e)
-server_has (EndNode subject tip server) ask s None r e = (and_parts (is_of_side server r) _ (and_parts (is_of_side subject s) _ (and_parts (is_plain ask) _ e).1).1).0
+server_has (EndNode subject tip server) ask s None r e =
+    (and_parts (is_of_side server r) _ (and_parts (is_of_side subject s) _ (and_parts (is_plain ask) _ e).1).1).0
 server_has (EndNode subject tip server) ask s (Some t) r e = absurd (false≢true e)
 server_has (Crossing a b server) ask s None r e = absurd (false≢true e)
 server_has (Crossing a b server) ask s (Some t) r e = (and_parts (is_of_side server r) _ e).0
 server_has (Near a b d) ask s t r e = absurd (false≢true e)
 
-pair_meets : (rule : Rule) (ask : Ask) (s t : Held) → has_distance rule ≡ true → are_subjects rule ask s (Some t) ≡ true → Common (subject_spots rule ask.first_part s) (subject_spots rule ask.second_part t)
+pair_meets : (rule : Rule) (ask : Ask) (s t : Held) → has_distance rule ≡ true → are_subjects rule ask s (Some t) ≡ true
+    → Common (subject_spots rule ask.first_part s) (subject_spots rule ask.second_part t)
 unfolding are_subjects subject_spots
 pair_meets (Unique subject columns) ask s t k e =
     let sides = and_parts (is_of_side subject s) _ (and_parts (is_plain ask) _ e).1 in
@@ -105,7 +112,8 @@ pair_meets (Near a b d) ask s t k e =
     let have = both_have_roles a b s t both.0 in
     in_both _ _ _ _ have.0 have.1 (nearness d (point_of s) (point_of t) k both.1)
 
-server_meets : (rule : Rule) (ask : Ask) (s : Held) (t : Option Held) (r : Held) → are_subjects rule ask s t ≡ true → is_server rule ask s t r ≡ true → Common (subject_spots rule ask.first_part s) (server_spots rule r)
+server_meets : (rule : Rule) (ask : Ask) (s : Held) (t : Option Held) (r : Held) → are_subjects rule ask s t ≡ true → is_server rule ask s t r ≡ true
+    → Common (subject_spots rule ask.first_part s) (server_spots rule r)
 unfolding are_subjects is_server subject_spots server_spots
 server_meets (Unique subject columns) ask s t r e f = absurd (false≢true f)
 server_meets (Partner subject columns server server_columns) ask s None r e f =
@@ -126,19 +134,23 @@ server_meets (Crossing a b server) ask s (Some t) r e f =
 server_meets (Near a b d) ask s t r e f = absurd (false≢true f)
 
 -- the rule of an ask -------------------------------------------------------------------------
-there : (rules : List Rule) (ask : Ask) (s : Held) (t : Option Held) → calls rules ask s t ≡ true → (rule : Rule) × (slice_get rules ask.rule ≡ Some rule) × (are_subjects rule ask s t ≡ true)
+there : (rules : List Rule) (ask : Ask) (s : Held) (t : Option Held) → calls rules ask s t ≡ true → (rule : Rule) × (slice_get rules ask.rule ≡ Some rule)
+    × (are_subjects rule ask s t ≡ true)
 unfolding calls
 there rules ask s t e = go (slice_get rules ask.rule) refl e
   where
-    go : (r : Option Rule) → slice_get rules ask.rule ≡ r → call.are_subjects_of r ask s t ≡ true → (rule : Rule) × (slice_get rules ask.rule ≡ Some rule) × (are_subjects rule ask s t ≡ true)
+    go : (r : Option Rule) → slice_get rules ask.rule ≡ r → call.are_subjects_of r ask s t ≡ true → (rule : Rule) × (slice_get rules ask.rule ≡ Some rule)
+        × (are_subjects rule ask s t ≡ true)
     go None at f = absurd (false≢true f)
     go (Some rule) at f = (rule, at, f)
 
-there_served : (rules : List Rule) (ask : Ask) (s : Held) (t : Option Held) (r : Held) → serves rules ask s t r ≡ true → (rule : Rule) × (slice_get rules ask.rule ≡ Some rule) × (is_server rule ask s t r ≡ true)
+there_served : (rules : List Rule) (ask : Ask) (s : Held) (t : Option Held) (r : Held) → serves rules ask s t r ≡ true → (rule : Rule)
+    × (slice_get rules ask.rule ≡ Some rule) × (is_server rule ask s t r ≡ true)
 unfolding serves
 there_served rules ask s t r e = go (slice_get rules ask.rule) refl e
   where
-    go : (o : Option Rule) → slice_get rules ask.rule ≡ o → call.is_server_of o ask s t r ≡ true → (rule : Rule) × (slice_get rules ask.rule ≡ Some rule) × (is_server rule ask s t r ≡ true)
+    go : (o : Option Rule) → slice_get rules ask.rule ≡ o → call.is_server_of o ask s t r ≡ true → (rule : Rule) × (slice_get rules ask.rule ≡ Some rule)
+        × (is_server rule ask s t r ≡ true)
     go None at f = absurd (false≢true f)
     go (Some rule) at f = (rule, at, f)
 
@@ -149,19 +161,22 @@ subject_alone rules ask s e = let (rule, at, called) = there rules ask s None e 
 
 -- of two rows that call the one may be the first subject and the other the second
 pub subjects_beside : (rules : List Rule) (ask : Ask) (s t : Held) → calls rules ask s (Some t) ≡ true
-    → (((roles_under rules ask.rule s).first ≡ true) × ((roles_under rules ask.rule t).second ≡ true)) ⊎ (((roles_under rules ask.rule t).first ≡ true) × ((roles_under rules ask.rule s).second ≡ true))
+    → (((roles_under rules ask.rule s).first ≡ true) × ((roles_under rules ask.rule t).second ≡ true)) ⊎ (((roles_under rules ask.rule t).first ≡ true)
+    × ((roles_under rules ask.rule s).second ≡ true))
 unfolding roles_under
 subjects_beside rules ask s t e = let (rule, at, called) = there rules ask s (Some t) e in rw at (pair_has rule ask s t called)
 
 -- a row that serves may
-pub server_role : (rules : List Rule) (ask : Ask) (s : Held) (t : Option Held) (r : Held) → serves rules ask s t r ≡ true → (roles_under rules ask.rule r).server ≡ true
+pub server_role : (rules : List Rule) (ask : Ask) (s : Held) (t : Option Held) (r : Held) → serves rules ask s t r ≡ true
+    → (roles_under rules ask.rule r).server ≡ true
 unfolding roles_under
 server_role rules ask s t r e = let (rule, at, served) = there_served rules ask s t r e in rw at (server_has rule ask s t r served)
 
 pub subjects_meet : (rules : List Rule) (rows : List Held) (ask : Ask) (s t : Held) → FitTogether rules rows → calls rules ask s (Some t) ≡ true
     → Common (subject_spots_under rules ask.rule ask.first_part s) (subject_spots_under rules ask.rule ask.second_part t)
 unfolding subject_spots_under
-subjects_meet rules rows ask s t fit e = let (rule, at, called) = there rules ask s (Some t) e in rw at (pair_meets rule ask s t (distance_fits rules rows ask.rule rule fit at) called)
+subjects_meet rules rows ask s t fit e = let (rule, at, called) = there rules ask s (Some t) e in
+    rw at (pair_meets rule ask s t (distance_fits rules rows ask.rule rule fit at) called)
 
 pub servers_meet : (rules : List Rule) (ask : Ask) (s : Held) (t : Option Held) (r : Held) → calls rules ask s t ≡ true → serves rules ask s t r ≡ true
     → Common (subject_spots_under rules ask.rule ask.first_part s) (server_spots_under rules ask.rule r)
@@ -186,7 +201,8 @@ plain_first ask e = (0, omega arith, eqb-true _ _ (and_parts _ _ e).0)
 plain_second : (ask : Ask) → is_plain ask ≡ true → IsPart 1 ask.second_part
 plain_second ask e = (0, omega arith, eqb-true _ _ (and_parts _ _ e).1)
 
-pub first_part_by : (r : Option Rule) (ask : Ask) (s : Held) (t : Option Held) → call.are_subjects_of r ask s t ≡ true → IsPart (part_count_by r s) ask.first_part
+pub first_part_by : (r : Option Rule) (ask : Ask) (s : Held) (t : Option Held) → call.are_subjects_of r ask s t ≡ true
+    → IsPart (part_count_by r s) ask.first_part
 unfolding are_subjects
 first_part_by None ask s t e = absurd (false≢true e)
 first_part_by (Some (Unique subject columns)) ask s None e = absurd (false≢true e)
@@ -216,11 +232,13 @@ second_part_by (Some (Crossing a b server)) ask s t e =
 second_part_by (Some (Near a b d)) ask s t e = plain_second ask (and_parts (is_plain ask) _ e).0
 
 -- the parts that are asked about are there
-pub first_part_there : (rules : List Rule) (ask : Ask) (s : Held) (t : Option Held) → calls rules ask s t ≡ true → (k : ℕ) × (k < part_count rules ask.rule s) × (ask.first_part ≡ suc k)
+pub first_part_there : (rules : List Rule) (ask : Ask) (s : Held) (t : Option Held) → calls rules ask s t ≡ true → (k : ℕ) × (k < part_count rules ask.rule s)
+    × (ask.first_part ≡ suc k)
 unfolding calls part_count
 first_part_there rules ask s t e = first_part_by (slice_get rules ask.rule) ask s t e
 
-pub second_part_there : (rules : List Rule) (ask : Ask) (s t : Held) → calls rules ask s (Some t) ≡ true → (k : ℕ) × (k < part_count rules ask.rule t) × (ask.second_part ≡ suc k)
+pub second_part_there : (rules : List Rule) (ask : Ask) (s t : Held) → calls rules ask s (Some t) ≡ true → (k : ℕ) × (k < part_count rules ask.rule t)
+    × (ask.second_part ≡ suc k)
 unfolding calls part_count
 second_part_there rules ask s t e = second_part_by (slice_get rules ask.rule) ask s t e
 

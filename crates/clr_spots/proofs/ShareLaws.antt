@@ -45,7 +45,8 @@ field_is None (Some w) e = absurd (false≢true e)
 field_is (Some v) None e = absurd (false≢true e)
 field_is (Some v) (Some w) e = ap Some (value_is v w e)
 
-fields_are : (s t : Held) (cs ds : List Col) → length cs ≡ length ds → list_all (λ p. same_field (field s p.0) (field t p.1)) (zip cs ds) ≡ true → filter_map (field s) cs ≡ filter_map (field t) ds
+fields_are : (s t : Held) (cs ds : List Col) → length cs ≡ length ds → list_all (λ p. same_field (field s p.0) (field t p.1)) (zip cs ds) ≡ true
+    → filter_map (field s) cs ≡ filter_map (field t) ds
 fields_are s t [] [] l e = refl
 fields_are s t [] (d ∷ ds) l e = absurd (omega arith)
 fields_are s t (c ∷ cs) [] l e = absurd (omega arith)
@@ -64,8 +65,12 @@ equal_values s t cs ds e =
 -- ---- squares
 pub touching : (b c : Bounds) → BoxesTouch b c → Common (squares_of b) (squares_of c)
 touching b c w =
-    let x = Square (square_of w.0.x) (square_of w.0.y) in
-    (x, list_any-from_Contains same_spot_equiv x (squares_of b) (place_listed w.0 b w.1), list_any-from_Contains same_spot_equiv x (squares_of c) (place_listed w.0 c w.2))
+    let x = Square (square_of w.0.x) (square_of w.0.y) in (
+      x,
+      list_any-from_Contains same_spot_equiv x (squares_of b) (place_listed w.0 b w.1),
+      list_any-from_Contains same_spot_equiv x (squares_of c)
+          (place_listed w.0 c w.2),
+    )
 
 pub one_square : (o p : Option Place) → are_one_point o p ≡ true → Common (square_at o) (square_at p)
 one_square None p e = absurd (false≢true e)
@@ -79,8 +84,14 @@ pub segments_meet : (a b : Segment) → have_common_point a.0 a.1 b.0 b.1 ≡ tr
 segments_meet a b e = touching (box_between a.0 a.1) (box_between b.0 b.1) (segments_touch a.0 a.1 b.0 b.1 (common_from_search a.0 a.1 b.0 b.1 e))
 
 in_own_box : (p : Place) → InBox p (box_between p p)
-in_own_box p =
-    ((omega (arith, ints, int_min_is p.x p.x), omega (arith, ints, int_max_is p.x p.x)), (omega (arith, ints, int_min_is p.y p.y), omega (arith, ints, int_max_is p.y p.y)))
+in_own_box p = (
+  (omega (arith, ints, int_min_is p.x p.x), omega (arith, ints, int_max_is p.x p.x)),
+  (
+    omega (arith, ints, int_min_is p.y p.y),
+    omega
+        (arith, ints, int_max_is p.y p.y),
+  ),
+)
 
 pub on_segment : (x : Place) (a : Segment) → lies_on x a.0 a.1 ≡ true → Common (squares_of (box_between a.0 a.1)) (squares_of (box_between x x))
 on_segment x a e = touching (box_between a.0 a.1) (box_between x x) (x, point_boxed x a.0 a.1 (on_from_search x a.0 a.1 e), in_own_box x)
@@ -92,12 +103,14 @@ box_among (b ∷ xs) zero a e = let same : b ≡ a = cc in inl (λ i. box_betwee
 box_among (b ∷ xs) (suc n) a e = inr (box_among xs n a e)
 
 -- the squares of a part are the shape's
-part_listed : (f : Shape) (n : ℕ) (a : Segment) (x : Spot) → part_of f n ≡ Some a → Listed x (squares_of (box_between a.0 a.1)) → Listed x (squares_of_all (boxes_in f))
+part_listed : (f : Shape) (n : ℕ) (a : Segment) (x : Spot) → part_of f n ≡ Some a → Listed x (squares_of (box_between a.0 a.1))
+    → Listed x (squares_of_all (boxes_in f))
 part_listed f zero a x e h = absurd (cc)
 part_listed Bare (suc n) a x e h = absurd (cc)
 part_listed (At p) (suc n) a x e h = absurd (cc)
 part_listed (Line p q) (suc n) a x e h = listed_in_boxes x (box_between a.0 a.1) (boxes_in (Line p q)) (box_among (parts_of (Line p q)) n a e) h
-part_listed (Chain vertices) (suc n) a x e h = listed_in_boxes x (box_between a.0 a.1) (boxes_in (Chain vertices)) (box_among (parts_of (Chain vertices)) n a e) h
+part_listed (Chain vertices) (suc n) a x e h = listed_in_boxes x (box_between a.0 a.1) (boxes_in (Chain vertices)) (box_among (parts_of (Chain vertices)) n a e)
+    h
 
 point_listed : (f : Shape) (p : Place) (x : Spot) → point_in f ≡ Some p → Listed x (squares_of (box_between p p)) → Listed x (squares_of_all (boxes_in f))
 point_listed Bare p x e h = absurd (cc)
@@ -109,7 +122,8 @@ point_listed (Chain vertices) p x e h = absurd (cc)
 meeting : (f g : Shape) (m n : ℕ) → have_meeting (part_of f m) (part_of g n) ≡ true → Common (squares_of_all (boxes_in f)) (squares_of_all (boxes_in g))
 meeting f g m n e = go (part_of f m) (part_of g n) refl refl e
   where
-    go : (o p : Option Segment) → part_of f m ≡ o → part_of g n ≡ p → have_meeting o p ≡ true → Common (squares_of_all (boxes_in f)) (squares_of_all (boxes_in g))
+    go : (o p : Option Segment) → part_of f m ≡ o → part_of g n ≡ p → have_meeting o p ≡ true
+        → Common (squares_of_all (boxes_in f)) (squares_of_all (boxes_in g))
     go None p at by e = absurd (false≢true e)
     go (Some a) None at by e = absurd (false≢true e)
     go (Some a) (Some b) at by e = let w = segments_meet a b e in (w.0, part_listed f m a w.0 at w.1, part_listed g n b w.0 by w.2)
@@ -119,7 +133,8 @@ crossing_at : (f g h : Shape) (m n : ℕ) → is_crossing_at (part_of f m) (part
     → Common (squares_of_all (boxes_in f)) (squares_of_all (boxes_in h)) × Common (squares_of_all (boxes_in g)) (squares_of_all (boxes_in h))
 crossing_at f g h m n e = go (part_of f m) (part_of g n) (point_in h) refl refl refl e
   where
-    on_part : (f : Shape) (n : ℕ) (a : Segment) (x : Place) → part_of f n ≡ Some a → point_in h ≡ Some x → lies_on x a.0 a.1 ≡ true → Common (squares_of_all (boxes_in f)) (squares_of_all (boxes_in h))
+    on_part : (f : Shape) (n : ℕ) (a : Segment) (x : Place) → part_of f n ≡ Some a → point_in h ≡ Some x → lies_on x a.0 a.1 ≡ true
+        → Common (squares_of_all (boxes_in f)) (squares_of_all (boxes_in h))
     on_part f n a x at by e = let w = on_segment x a e in (w.0, part_listed f n a w.0 at w.1, point_listed h x w.0 by w.2)
 
     go : (o p : Option Segment) (q : Option Place) → part_of f m ≡ o → part_of g n ≡ p → point_in h ≡ q → is_crossing_at o p q ≡ true
@@ -149,11 +164,18 @@ HaveCommonToo rule s None = ⊤
 HaveCommonToo rule s (Some t) = HaveCommon rule s t
 
 -- a spot of what both rows have in their roles is common
-in_roles : (rule : Rule) (s t : Held) (m n : Bool) (xs ys : List Spot) → all_spots rule s ≡ in_role m xs → all_spots rule t ≡ in_role n ys → m ≡ true → n ≡ true → Common xs ys → HaveCommon rule s t
-in_roles rule s t m n xs ys e f h k w = (w.0, subst (Listed w.0) (sym e) (listed_in_role w.0 m xs h w.1), subst (Listed w.0) (sym f) (listed_in_role w.0 n ys k w.2))
+in_roles : (rule : Rule) (s t : Held) (m n : Bool) (xs ys : List Spot) → all_spots rule s ≡ in_role m xs → all_spots rule t ≡ in_role n ys → m ≡ true → n ≡ true
+    → Common xs ys → HaveCommon rule s t
+in_roles rule s t m n xs ys e f h k w = (
+  w.0,
+  subst (Listed w.0) (sym e) (listed_in_role w.0 m xs h w.1),
+  subst (Listed w.0) (sym f)
+      (listed_in_role w.0 n ys k w.2),
+)
 
 -- ---- subjects
-unique_common : (subject : Side) (columns : List Col) (ask : Ask) (s t : Held) → are_subjects (Unique subject columns) ask s (Some t) ≡ true → HaveCommon (Unique subject columns) s t
+unique_common : (subject : Side) (columns : List Col) (ask : Ask) (s t : Held) → are_subjects (Unique subject columns) ask s (Some t) ≡ true
+    → HaveCommon (Unique subject columns) s t
 unfolding are_subjects all_spots
 unique_common subject columns ask s t e =
     let sides = and_parts (is_of_side subject s) _ (and_parts _ _ e).1 in
@@ -168,10 +190,12 @@ crossing_common a b server ask s t e =
     let parts = and_parts (are_of_sides a b s t) _ e in
     let roles = both_have_roles a b s t parts.0 in
     let has = λ (q : Held). is_of_side a q || is_of_side b q || is_of_side server q in
-    in_roles (Crossing a b server) s t (has s) (has t) (squares_of_all (boxes_in s.1.shape)) (squares_of_all (boxes_in t.1.shape)) refl refl (or_left _ _ roles.0) (or_left _ _ roles.1)
+    in_roles (Crossing a b server) s t (has s) (has t) (squares_of_all (boxes_in s.1.shape)) (squares_of_all (boxes_in t.1.shape)) refl refl
+    (or_left _ _ roles.0) (or_left _ _ roles.1)
     (meeting s.1.shape t.1.shape ask.first_part ask.second_part parts.1)
 
-near_common : (a b : Side) (d : ℤ) (ask : Ask) (s t : Held) → is_distance d ≡ true → are_subjects (Near a b d) ask s (Some t) ≡ true → HaveCommon (Near a b d) s t
+near_common : (a b : Side) (d : ℤ) (ask : Ask) (s t : Held) → is_distance d ≡ true → are_subjects (Near a b d) ask s (Some t) ≡ true
+    → HaveCommon (Near a b d) s t
 unfolding are_subjects all_spots
 near_common a b d ask s t k e =
     let parts = and_parts (are_of_sides a b s t) _ (and_parts _ _ e).1 in
@@ -179,7 +203,8 @@ near_common a b d ask s t k e =
     in_roles (Near a b d) s t (is_of_side a s || is_of_side b s) (is_of_side a t || is_of_side b t) _ _ refl refl roles.0 roles.1
     (nearness d (point_of s) (point_of t) k parts.1)
 
-pub subjects_meet : (rule : Rule) (ask : Ask) (s : Held) (t : Option Held) → has_distance rule ≡ true → are_subjects rule ask s t ≡ true → HaveCommonToo rule s t
+pub subjects_meet : (rule : Rule) (ask : Ask) (s : Held) (t : Option Held) → has_distance rule ≡ true → are_subjects rule ask s t ≡ true
+    → HaveCommonToo rule s t
 unfolding are_subjects
 subjects_meet rule ask s None k e = tt
 subjects_meet (Unique subject columns) ask s (Some t) k e = unique_common subject columns ask s t e
@@ -203,25 +228,30 @@ across_roles rule s r m n m' n' xs ys xs' ys' e f h k w = (
   subst (Listed w.0) (sym f) (joined_back w.0 (in_role m' xs') (in_role n' ys') (listed_in_role w.0 n' ys' k w.2)),
 )
 
-partner_common : (subject server : Side) (columns server_columns : List Col) (ask : Ask) (s r : Held) → is_server (Partner subject columns server server_columns) ask s None r ≡ true
+partner_common : (subject server : Side) (columns server_columns : List Col) (ask : Ask) (s r : Held)
+    → is_server (Partner subject columns server server_columns) ask s None r ≡ true
     → HaveCommon (Partner subject columns server server_columns) s r
 unfolding is_server all_spots
 partner_common subject server columns server_columns ask s r e =
     let sides = and_parts (is_of_side subject s) _ (and_parts _ _ e).1 in
     let rest = and_parts (is_of_side server r) (are_equal_in s columns r server_columns) sides.1 in
     let x = values_in s columns in
-    across_roles (Partner subject columns server server_columns) s r (is_of_side subject s) (is_of_side server s) (is_of_side subject r) (is_of_side server r) _ _ _ _ refl refl sides.0 rest.0
+    across_roles (Partner subject columns server server_columns) s r (is_of_side subject s) (is_of_side server s) (is_of_side subject r) (is_of_side server r) _
+    _ _ _ refl refl sides.0 rest.0
     (x, listed_alone x, subst (λ y. Listed x (y ∷ [])) (equal_values s r columns server_columns rest.1) (listed_alone x))
 
-end_common : (subject server : Side) (tip : Tip) (ask : Ask) (s r : Held) → is_server (EndNode subject tip server) ask s None r ≡ true → HaveCommon (EndNode subject tip server) s r
+end_common : (subject server : Side) (tip : Tip) (ask : Ask) (s r : Held) → is_server (EndNode subject tip server) ask s None r ≡ true
+    → HaveCommon (EndNode subject tip server) s r
 unfolding is_server all_spots
 end_common subject server tip ask s r e =
     let sides = and_parts (is_of_side subject s) _ (and_parts _ _ e).1 in
     let rest = and_parts (is_of_side server r) _ sides.1 in
-    across_roles (EndNode subject tip server) s r (is_of_side subject s) (is_of_side server s) (is_of_side subject r) (is_of_side server r) _ _ _ _ refl refl sides.0 rest.0
+    across_roles (EndNode subject tip server) s r (is_of_side subject s) (is_of_side server s) (is_of_side subject r) (is_of_side server r) _ _ _ _ refl refl
+    sides.0 rest.0
     (one_square (end_of tip s) (point_of r) rest.1)
 
-crossing_served : (a b server : Side) (ask : Ask) (s t r : Held) → are_subjects (Crossing a b server) ask s (Some t) ≡ true → is_server (Crossing a b server) ask s (Some t) r ≡ true
+crossing_served : (a b server : Side) (ask : Ask) (s t r : Held) → are_subjects (Crossing a b server) ask s (Some t) ≡ true
+    → is_server (Crossing a b server) ask s (Some t) r ≡ true
     → HaveCommon (Crossing a b server) s r × HaveCommon (Crossing a b server) r t
 unfolding are_subjects is_server all_spots
 crossing_served a b server ask s t r e f =
@@ -236,7 +266,8 @@ crossing_served a b server ask s t r e f =
       in_roles rule r t (has r) (has t) (squares r) (squares t) refl refl own (or_left _ _ roles.1) (common.1.0, common.1.2, common.1.1),
     )
 
-pub servers_meet : (rule : Rule) (ask : Ask) (s : Held) (t : Option Held) (r : Held) → are_subjects rule ask s t ≡ true → is_server rule ask s t r ≡ true → HaveCommon rule s r × HaveCommonToo rule r t
+pub servers_meet : (rule : Rule) (ask : Ask) (s : Held) (t : Option Held) (r : Held) → are_subjects rule ask s t ≡ true → is_server rule ask s t r ≡ true
+    → HaveCommon rule s r × HaveCommonToo rule r t
 unfolding is_server
 servers_meet (Unique subject columns) ask s t r e f = absurd (false≢true f)
 servers_meet (Partner subject columns server server_columns) ask s None r e f = (partner_common subject server columns server_columns ask s r f, tt)
@@ -255,8 +286,10 @@ common_share_too : (rule : Rule) (s : Held) (t : Option Held) → HaveCommonToo 
 common_share_too rule s None w = tt
 common_share_too rule s (Some t) w = common_share rule s t w
 
-pub subjects_share : (rule : Rule) (ask : Ask) (s : Held) (t : Option Held) → has_distance rule ≡ true → are_subjects rule ask s t ≡ true → SharesBeside rule s t
+pub subjects_share : (rule : Rule) (ask : Ask) (s : Held) (t : Option Held) → has_distance rule ≡ true → are_subjects rule ask s t ≡ true
+    → SharesBeside rule s t
 subjects_share rule ask s t k e = common_share_too rule s t (subjects_meet rule ask s t k e)
 
-pub servers_share : (rule : Rule) (ask : Ask) (s : Held) (t : Option Held) (r : Held) → are_subjects rule ask s t ≡ true → is_server rule ask s t r ≡ true → (share rule s r ≡ true) × SharesBeside rule r t
+pub servers_share : (rule : Rule) (ask : Ask) (s : Held) (t : Option Held) (r : Held) → are_subjects rule ask s t ≡ true → is_server rule ask s t r ≡ true
+    → (share rule s r ≡ true) × SharesBeside rule r t
 servers_share rule ask s t r e f = let m = servers_meet rule ask s t r e f in (common_share rule s r m.0, common_share_too rule r t m.1)

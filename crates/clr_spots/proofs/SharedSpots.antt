@@ -36,7 +36,8 @@ joined_front x xs ys h = listed_in_front x xs (filter (λ y. not (list_any (λ w
 turned : (x : Spot) (xs : List Spot) → list_any (λ w. same_spot w x) xs ≡ list_any (same_spot x) xs
 turned x xs = ap (λ (f : Spot → Bool). list_any f xs) (λ i w. same_spot_equiv.symm w x i)
 
-one_stays : (x y : Spot) (xs ys rest : List Spot) (has : Bool) → list_any (λ w. same_spot w y) xs ≡ has → list_any (same_spot x) xs ≡ false → (same_spot x y ≡ true) ⊎ Listed x ys → (Listed x ys → Listed x rest) → Listed x (cond (not has) (y ∷ rest) rest)
+one_stays : (x y : Spot) (xs ys rest : List Spot) (has : Bool) → list_any (λ w. same_spot w y) xs ≡ has → list_any (same_spot x) xs ≡ false
+    → (same_spot x y ≡ true) ⊎ Listed x ys → (Listed x ys → Listed x rest) → Listed x (cond (not has) (y ∷ rest) rest)
 one_stays x y xs ys rest true e new (inl same) later =
     let old : list_any (same_spot x) xs ≡ true = subst (λ z. list_any (same_spot z) xs ≡ true) (sym (same_spot_is x y same)) (sym (turned y xs) ∙ e) in
     absurd (false≢true (sym new ∙ old))
@@ -48,7 +49,8 @@ one_stays x y xs ys rest false e new (inr behind) later = or_right (same_spot x 
 stays : (x : Spot) (xs ys : List Spot) → list_any (same_spot x) xs ≡ false → Listed x ys → Listed x (filter (λ y. not (list_any (λ w. same_spot w y) xs)) ys)
 stays x xs [] new h = absurd (false≢true h)
 stays x xs (y ∷ ys) new h =
-    one_stays x y xs ys (filter (λ z. not (list_any (λ w. same_spot w z) xs)) ys) (list_any (λ w. same_spot w y) xs) refl new (or_cases (same_spot x y) (list_any (same_spot x) ys) h) (stays x xs ys new)
+    one_stays x y xs ys (filter (λ z. not (list_any (λ w. same_spot w z) xs)) ys) (list_any (λ w. same_spot w y) xs) refl new
+    (or_cases (same_spot x y) (list_any (same_spot x) ys) h) (stays x xs ys new)
 
 pub joined_back : (x : Spot) (xs ys : List Spot) → Listed x ys → Listed x (union xs ys)
 joined_back x xs ys h = elim (cases_Bool (list_any (same_spot x) xs)) [

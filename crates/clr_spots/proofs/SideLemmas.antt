@@ -10,6 +10,8 @@ one_field None = refl
 one_field (Some y) = refl
 
 -- the columns up to the next one
-pub next_field : {X Y : Type 0} (f : X → Option Y) (xs : List X) (i : ℕ) (d : X) (o : Option Y) → i < length xs → o ≡ f (get_or xs i d) → filter_map f (take (i + 1) xs) ≡ filter_map f (take i xs) ++ option_to_list o
+pub next_field : {X Y : Type 0} (f : X → Option Y) (xs : List X) (i : ℕ) (d : X) (o : Option Y) → i < length xs → o ≡ f (get_or xs i d)
+    → filter_map f (take (i + 1) xs) ≡ filter_map f (take i xs) ++ option_to_list o
 next_field f xs i d o h is =
-    ap (filter_map f) (take_more xs i d h) ∙ filter_map-append f (take i xs) (get_or xs i d ∷ []) ∙ ap (λ ys. filter_map f (take i xs) ++ ys) (one_field (f (get_or xs i d)) ∙ ap option_to_list (sym is))
+    ap (filter_map f) (take_more xs i d h) ∙ filter_map-append f (take i xs) (get_or xs i d ∷ [])
+    ∙ ap (λ ys. filter_map f (take i xs) ++ ys) (one_field (f (get_or xs i d)) ∙ ap option_to_list (sym is))

@@ -14,14 +14,16 @@ longer : (m n : ℕ) → nat_cmp m n ≡ nat_cmp (suc m) (suc n)
 longer m n = grind (arith, nat_tests)
 
 -- where one list ends, their lengths decide
-pub order_of_ends : (a b : List Value) (i : ℕ) → i ≤ length a → i ≤ length b → (i < length a → i < length b → ⊥) → slice_cmp value_cmp (drop i a) (drop i b) ≡ nat_cmp (length a) (length b)
+pub order_of_ends : (a b : List Value) (i : ℕ) → i ≤ length a → i ≤ length b → (i < length a → i < length b → ⊥) → slice_cmp value_cmp (drop i a) (drop i b)
+    ≡ nat_cmp (length a) (length b)
 order_of_ends [] [] zero f g h = refl
 order_of_ends [] (y ∷ ys) zero f g h = grind (arith, nat_tests)
 order_of_ends (x ∷ xs) [] zero f g h = grind (arith, nat_tests)
 order_of_ends (x ∷ xs) (y ∷ ys) zero f g h = absurd (h (omega arith) (omega arith))
 order_of_ends [] b (suc i) f g h = absurd (omega arith)
 order_of_ends (x ∷ xs) [] (suc i) f g h = absurd (omega arith)
-order_of_ends (x ∷ xs) (y ∷ ys) (suc i) f g h = order_of_ends xs ys i (omega arith) (omega arith) (λ p q. h (omega arith) (omega arith)) ∙ longer (length xs) (length ys)
+order_of_ends (x ∷ xs) (y ∷ ys) (suc i) f g h = order_of_ends xs ys i (omega arith) (omega arith) (λ p q. h (omega arith) (omega arith))
+    ∙ longer (length xs) (length ys)
 
 -- ---- a spot that is added to others
 new_added : (xs : List Spot) (y : Spot) → list_any (λ x. same_spot x y) xs ≡ false → union xs (y ∷ []) ≡ xs ++ y ∷ []
@@ -30,8 +32,12 @@ new_added xs y e = ap (λ has. xs ++ cond (not has) (y ∷ []) []) e
 old_left : (xs : List Spot) (y : Spot) → list_any (λ x. same_spot x y) xs ≡ true → union xs (y ∷ []) ≡ xs
 old_left xs y e = ap (λ has. xs ++ cond (not has) (y ∷ []) []) e ∙ append-nil xs
 
-pub joined_new : (xs read zs : List Spot) (o : Option Spot) (y : Spot) (has : Bool) → o ≡ Some y → read ≡ xs → has ≡ list_any (λ x. same_spot x y) read → has ≡ false → zs ≡ xs ++ y ∷ [] → zs ≡ union xs (option_to_list o)
-joined_new xs read zs o y has is same test none all = all ∙ sym (ap (λ p. union xs (option_to_list p)) is ∙ new_added xs y (ap (λ ws. list_any (λ x. same_spot x y) ws) (sym same) ∙ sym test ∙ none))
+pub joined_new : (xs read zs : List Spot) (o : Option Spot) (y : Spot) (has : Bool) → o ≡ Some y → read ≡ xs → has ≡ list_any (λ x. same_spot x y) read → has
+    ≡ false → zs ≡ xs ++ y ∷ [] → zs ≡ union xs (option_to_list o)
+joined_new xs read zs o y has is same test none all = all ∙ sym (ap (λ p. union xs (option_to_list p)) is
+    ∙ new_added xs y (ap (λ ws. list_any (λ x. same_spot x y) ws) (sym same) ∙ sym test ∙ none))
 
-pub joined_old : (xs read : List Spot) (o : Option Spot) (y : Spot) (has : Bool) → o ≡ Some y → read ≡ xs → has ≡ list_any (λ x. same_spot x y) read → has ≡ true → xs ≡ union xs (option_to_list o)
-joined_old xs read o y has is same test some = sym (ap (λ p. union xs (option_to_list p)) is ∙ old_left xs y (ap (λ ws. list_any (λ x. same_spot x y) ws) (sym same) ∙ sym test ∙ some))
+pub joined_old : (xs read : List Spot) (o : Option Spot) (y : Spot) (has : Bool) → o ≡ Some y → read ≡ xs → has ≡ list_any (λ x. same_spot x y) read → has
+    ≡ true → xs ≡ union xs (option_to_list o)
+joined_old xs read o y has is same test some = sym (ap (λ p. union xs (option_to_list p)) is
+    ∙ old_left xs y (ap (λ ws. list_any (λ x. same_spot x y) ws) (sym same) ∙ sym test ∙ some))

@@ -19,14 +19,20 @@ length_of_column i j (suc n) = rw (length-append (column_of_squares i j n) (Squa
 
 length_of_grid : (i j : ℤ) (m n : ℕ) → length (grid_of_squares i j m n) ≡ m * n
 length_of_grid i j zero n = omega arith
-length_of_grid i j (suc m) n = rw (length-append (grid_of_squares i j m n) (column_of_squares (i +ℤ pos m) j n), length_of_grid i j m n, length_of_column (i +ℤ pos m) j n) (omega arith)
+length_of_grid i j (suc m) n = rw (
+  length-append (grid_of_squares i j m n) (column_of_squares (i +ℤ pos m) j n),
+  length_of_grid i j m n,
+  length_of_column
+      (i +ℤ pos m) j n,
+) (omega arith)
 
 pub count_of_squares : (b : Bounds) → length (squares_of b) ≡ span b.least.x b.most.x * span b.least.y b.most.y
 unfolding squares_of
 count_of_squares b = length_of_grid (square_of b.least.x) (square_of b.least.y) (span b.least.x b.most.x) (span b.least.y b.most.y)
 
 -- ---- the square of a coordinate
-floor_is : (z : ℤ) → (up (square_of z) * 100000 + down z ≤ down (square_of z) * 100000 + up z) × (down (square_of z) * 100000 + up z < up (square_of z) * 100000 + down z + 100000)
+floor_is : (z : ℤ) → (up (square_of z) * 100000 + down z ≤ down (square_of z) * 100000 + up z)
+    × (down (square_of z) * 100000 + up z < up (square_of z) * 100000 + down z + 100000)
 floor_is (pos n) = omega arith
 floor_is (negsuc n) = omega arith
 
@@ -39,7 +45,12 @@ square_by_steps k x h g = omega (arith, ints, floor_is x)
 -- some number from low to high is in each square between theirs
 some_in_square : (low high k : ℤ) → low ≤ℤ high → Between (square_of low) k (square_of high) → (x : ℤ) × Between low x high × (square_of x ≡ k)
 some_in_square low high k h w = by_lt_z low (k *ℤ pos 100000)
-    (λ below. (k *ℤ pos 100000, (omega (arith, linear), omega (arith, ints, floor_is high, w.1)), square_by_steps k (k *ℤ pos 100000) (omega (arith, linear)) (omega (arith, linear))))
+    (λ below. (
+      k *ℤ pos 100000,
+      (omega (arith, linear), omega (arith, ints, floor_is high, w.1)),
+      square_by_steps k (k *ℤ pos 100000) (omega (arith, linear))
+          (omega (arith, linear)),
+    ))
     (λ above. (low, (omega (arith, linear), h), square_by_steps k low above (omega (arith, ints, floor_is low, w.0))))
 
 -- ---- what a grid has
@@ -47,14 +58,17 @@ in_column : (i j : ℤ) (n k : ℕ) → k < n → Contains (column_of_squares i 
 in_column i j zero k h = absurd (omega arith)
 in_column i j (suc n) k h = elim (cases_lt k n) [
   | inl less ↦ Contains-append_left (column_of_squares i j n) (Square i (j +ℤ pos n) ∷ []) (Square i (j +ℤ pos k)) (in_column i j n k less)
-  | inr more ↦ let last : n ≡ k = omega arith in subst (λ (z : ℕ). Contains (column_of_squares i j (suc n)) (Square i (j +ℤ pos z))) last (Contains-push (column_of_squares i j n) (Square i (j +ℤ pos n)))
+  | inr more ↦ let last : n ≡ k = omega arith in subst (λ (z : ℕ). Contains (column_of_squares i j (suc n)) (Square i (j +ℤ pos z))) last
+      (Contains-push (column_of_squares i j n) (Square i (j +ℤ pos n)))
 ]
 
 in_grid : (i j : ℤ) (m n k l : ℕ) → k < m → l < n → Contains (grid_of_squares i j m n) (Square (i +ℤ pos k) (j +ℤ pos l))
 in_grid i j zero n k l h g = absurd (omega arith)
 in_grid i j (suc m) n k l h g = elim (cases_lt k m) [
-  | inl less ↦ Contains-append_left (grid_of_squares i j m n) (column_of_squares (i +ℤ pos m) j n) (Square (i +ℤ pos k) (j +ℤ pos l)) (in_grid i j m n k l less g)
-  | inr more ↦ let last : m ≡ k = omega arith in subst (λ (z : ℕ). Contains (grid_of_squares i j (suc m) n) (Square (i +ℤ pos z) (j +ℤ pos l))) last (Contains-append_right (grid_of_squares i j m n) (column_of_squares (i +ℤ pos m) j n) (Square (i +ℤ pos m) (j +ℤ pos l)) (in_column (i +ℤ pos m) j n l g))
+  | inl less ↦ Contains-append_left (grid_of_squares i j m n) (column_of_squares (i +ℤ pos m) j n) (Square (i +ℤ pos k) (j +ℤ pos l))
+      (in_grid i j m n k l less g)
+  | inr more ↦ let last : m ≡ k = omega arith in subst (λ (z : ℕ). Contains (grid_of_squares i j (suc m) n) (Square (i +ℤ pos z) (j +ℤ pos l))) last
+      (Contains-append_right (grid_of_squares i j m n) (column_of_squares (i +ℤ pos m) j n) (Square (i +ℤ pos m) (j +ℤ pos l)) (in_column (i +ℤ pos m) j n l g))
 ]
 
 -- a is less than m steps above i
@@ -109,16 +123,19 @@ span_reaches low x high h =
 
 pub place_listed : (p : Place) (b : Bounds) → InBox p b → Contains (squares_of b) (Square (square_of p.x) (square_of p.y))
 unfolding squares_of
-place_listed p b h = in_reach (square_of b.least.x) (square_of b.least.y) (square_of p.x) (square_of p.y) (span b.least.x b.most.x) (span b.least.y b.most.y) (span_reaches b.least.x p.x b.most.x h.0) (span_reaches b.least.y p.y b.most.y h.1)
+place_listed p b h = in_reach (square_of b.least.x) (square_of b.least.y) (square_of p.x) (square_of p.y) (span b.least.x b.most.x) (span b.least.y b.most.y)
+    (span_reaches b.least.x p.x b.most.x h.0) (span_reaches b.least.y p.y b.most.y h.1)
 
 within_span : (low high k : ℤ) → low ≤ℤ high → Reaches (square_of low) (span low high) k → Between (square_of low) k (square_of high)
 within_span low high k h w = let order : square_of low ≤ℤ square_of high = square_order low high h in let most = w.1 in (w.0, omega (arith, ints))
 
-listed_inside : (b : Bounds) (i j : ℤ) → Contains (squares_of b) (Square i j) → Inside (square_of b.least.x) (square_of b.least.y) (span b.least.x b.most.x) (span b.least.y b.most.y) (Square i j)
+listed_inside : (b : Bounds) (i j : ℤ) → Contains (squares_of b) (Square i j) → Inside (square_of b.least.x) (square_of b.least.y) (span b.least.x b.most.x)
+    (span b.least.y b.most.y) (Square i j)
 unfolding squares_of
 listed_inside b i j c =
     let inside = Inside (square_of b.least.x) (square_of b.least.y) (span b.least.x b.most.x) (span b.least.y b.most.y) in
-    All-contains inside (squares_of b) (Square i j) (grid_inside (square_of b.least.x) (square_of b.least.y) (span b.least.x b.most.x) (span b.least.y b.most.y)) c
+    All-contains inside (squares_of b) (Square i j) (grid_inside (square_of b.least.x) (square_of b.least.y) (span b.least.x b.most.x)
+    (span b.least.y b.most.y)) c
 
 pub squares_of_box : (b : Bounds) (i j : ℤ) → b.least.x ≤ℤ b.most.x → b.least.y ≤ℤ b.most.y → Contains (squares_of b) (Square i j) ↔ SquareMeets i j b
 squares_of_box b i j h g = (there, back)

@@ -34,7 +34,8 @@ module _ (schema : List TableDef) (book : List Rule) (ws : List Workspace) (soun
 
   -- what all commands share --------------------------------------------------------------------------------
 
-  on_is : {A : Type 0} (n : Name) (k : ℕ) → find ws n ≡ Some (suc k) → (f : Workspace → A) (none : A) → option_map_or f (workspace o n) none ≡ f (workspace_at ws (suc k))
+  on_is : {A : Type 0} (n : Name) (k : ℕ) → find ws n ≡ Some (suc k) → (f : Workspace → A) (none : A) → option_map_or f (workspace o n) none
+      ≡ f (workspace_at ws (suc k))
   on_is n k e f none = rw ((seen schema book ws sound n).found, e) refl
 
   not_live : (n : Name) (k : ℕ) → find ws n ≡ Some (suc k) → is_live n ≡ false
@@ -54,10 +55,12 @@ module _ (schema : List TableDef) (book : List Rule) (ws : List Workspace) (soun
       → office_of schema book (change_at ws (suc k) f) ≡ with_workspaces o (modify (workspace_at ws (suc k)).name f (below_live ws))
   own_changed n k f e =
       let m = (workspace_at ws (suc k)).name in
-      ap (office_of schema book) (changed_is m f ws (suc k) (only m (suc k) (own n (suc k) e))) ∙ modified_below schema book m f ws sound.rooted.live (not_live m k (own n (suc k) e))
+      ap (office_of schema book) (changed_is m f ws (suc k) (only m (suc k) (own n (suc k) e)))
+      ∙ modified_below schema book m f ws sound.rooted.live (not_live m k (own n (suc k) e))
 
   -- an operation that names the position of the parent
-  under_is : (k above : ℕ) (f : ℕ → List Workspace) → parent_of ws (suc k) ≡ Some above → office_of schema book (under_parent ws (suc k) f) ≡ office_of schema book (f above)
+  under_is : (k above : ℕ) (f : ℕ → List Workspace) → parent_of ws (suc k) ≡ Some above → office_of schema book (under_parent ws (suc k) f)
+      ≡ office_of schema book (f above)
   under_is k above f under = ap (λ r. office_of schema book (at_position ws r f)) under
 
   -- an operation is known by what it makes of the workspace there
@@ -79,17 +82,20 @@ module _ (schema : List TableDef) (book : List Rule) (ws : List Workspace) (soun
   unfolding effect after_mark
   mark_is n s k e = own_changed n k (save s) e ∙ sym (on_is n k e (λ w. after_mark o w s) o)
 
-  pub unmark_is : (n s : Name) (k i : ℕ) → find ws n ≡ Some (suc k) → find_mark (workspace_at ws (suc k)).marks s ≡ Some i → office_of schema book (tree.after_unmark ws (suc k) i) ≡ effect o (command.Unmark n s)
+  pub unmark_is : (n s : Name) (k i : ℕ) → find ws n ≡ Some (suc k) → find_mark (workspace_at ws (suc k)).marks s ≡ Some i
+      → office_of schema book (tree.after_unmark ws (suc k) i) ≡ effect o (command.Unmark n s)
   unfolding effect after_unmark
   unmark_is n s k i e h =
       let w = workspace_at ws (suc k) in
       let one : IsOnly (is_saved_as s) w.marks i = only_savepoint s w.marks i (sound.saved (suc k) (within schema book ws sound n (suc k) e)) h in
       let f = with_marks (filter (λ m. not (is_saved_as s m))) in
-      ap (office_of schema book) (alike (suc k) (with_marks (λ ms. remove ms i)) f (ap (λ (ms : List Mark). with_marks (λ old. ms) w) (remove_only (is_saved_as s) w.marks i one)))
+      ap (office_of schema book) (alike (suc k) (with_marks (λ ms. remove ms i)) f (ap (λ (ms : List Mark). with_marks (λ old. ms) w)
+      (remove_only (is_saved_as s) w.marks i one)))
       ∙ own_changed n k f e
       ∙ sym (on_is n k e (λ w. after_unmark o w s) o)
 
-  pub roll_to_is : (n s : Name) (k i : ℕ) → find ws n ≡ Some (suc k) → find_mark (workspace_at ws (suc k)).marks s ≡ Some i → office_of schema book (tree.after_roll_to ws (suc k) i) ≡ effect o (command.RollTo n s)
+  pub roll_to_is : (n s : Name) (k i : ℕ) → find ws n ≡ Some (suc k) → find_mark (workspace_at ws (suc k)).marks s ≡ Some i
+      → office_of schema book (tree.after_roll_to ws (suc k) i) ≡ effect o (command.RollTo n s)
   unfolding effect after_roll_to
   roll_to_is n s k i e h =
       let w = workspace_at ws (suc k) in
@@ -101,7 +107,8 @@ module _ (schema : List TableDef) (book : List Rule) (ws : List Workspace) (soun
   unfolding effect after_roll_all
   roll_all_is n k e = own_changed n k roll_all e ∙ sym (on_is n k e (after_roll_all o) o)
 
-  pub resolve_is : (n : Name) (cell : CellId) (keep : Keep) (k above : ℕ) → find ws n ≡ Some (suc k) → parent_of ws (suc k) ≡ Some above → office_of schema book (tree.after_rebase ws (suc k) (rebase_as.OneRow cell keep)) ≡ effect o (command.Resolve n cell keep)
+  pub resolve_is : (n : Name) (cell : CellId) (keep : Keep) (k above : ℕ) → find ws n ≡ Some (suc k) → parent_of ws (suc k) ≡ Some above
+      → office_of schema book (tree.after_rebase ws (suc k) (rebase_as.OneRow cell keep)) ≡ effect o (command.Resolve n cell keep)
   unfolding effect after_resolve
   resolve_is n cell keep k above e under =
       let w = workspace_at ws (suc k) in
@@ -121,7 +128,8 @@ module _ (schema : List TableDef) (book : List Rule) (ws : List Workspace) (soun
   -- a new one ------------------------------------------------------------------------------------------------
 
   leaf_is : (n p : Name) (at : ℕ) → find ws p ≡ Some at → let above = workspace_at ws at in new_leaf n above.name above.current ≡ new_leaf n p (content_of o p)
-  leaf_is n p at e = ap (λ (m : Name). new_leaf n m (workspace_at ws at).current) (sym (name_is schema book ws sound p at e)) ∙ ap (new_leaf n p) (sym (content_is p at e))
+  leaf_is n p at e = ap (λ (m : Name). new_leaf n m (workspace_at ws at).current) (sym (name_is schema book ws sound p at e))
+      ∙ ap (new_leaf n p) (sym (content_is p at e))
 
   pub create_is : (n p : Name) (at : ℕ) → find ws p ≡ Some at → office_of schema book (tree.after_create ws n at) ≡ effect o (command.Create n p)
   unfolding effect after_create
@@ -140,13 +148,15 @@ module _ (schema : List TableDef) (book : List Rule) (ws : List Workspace) (soun
 
   -- one taken out ----------------------------------------------------------------------------------------------
 
-  pub remove_is : (n : Name) (k above : ℕ) → find ws n ≡ Some (suc k) → parent_of ws (suc k) ≡ Some above → above < suc k → office_of schema book (tree.after_remove ws (suc k)) ≡ effect o (command.Remove n)
+  pub remove_is : (n : Name) (k above : ℕ) → find ws n ≡ Some (suc k) → parent_of ws (suc k) ≡ Some above → above < suc k
+      → office_of schema book (tree.after_remove ws (suc k)) ≡ effect o (command.Remove n)
   unfolding effect after_remove
   remove_is n k above e under before =
       let w = workspace_at ws (suc k) in
       let mine = own n (suc k) e in
       under_is k above (tree.after_remove_under ws (suc k)) under
-      ∙ removed_is schema book w.name w.parent (suc k) above ws sound.rooted.live (not_live w.name k mine) before (only w.name (suc k) mine) (only w.parent above under)
+      ∙ removed_is schema book w.name w.parent (suc k) above ws sound.rooted.live (not_live w.name k mine) before (only w.name (suc k) mine)
+      (only w.parent above under)
       ∙ sym (on_is n k e (after_remove o) o)
 
   -- a workspace and its parent --------------------------------------------------------------------------------
@@ -166,7 +176,8 @@ module _ (schema : List TableDef) (book : List Rule) (ws : List Workspace) (soun
           absurd (omega arith)
 
   refreshed_is : (k above : ℕ) → let w = workspace_at ws (suc k) in find ws w.name ≡ Some (suc k) → parent_of ws (suc k) ≡ Some above → above < suc k
-      → office_of schema book (tree.after_refresh ws (suc k) above) ≡ with_workspaces o (modify_marks w.parent (mark_last w.name) (modify w.name (refresh (workspace_at ws above).current) o.workspaces))
+      → office_of schema book (tree.after_refresh ws (suc k) above)
+      ≡ with_workspaces o (modify_marks w.parent (mark_last w.name) (modify w.name (refresh (workspace_at ws above).current) o.workspaces))
   refreshed_is k zero mine under before =
       let w = workspace_at ws (suc k) in
       let f = refresh (workspace_at ws 0).current in
@@ -187,37 +198,44 @@ module _ (schema : List TableDef) (book : List Rule) (ws : List Workspace) (soun
       ∙ ap (λ (x : Office). with_workspaces x (modify w.name f x.workspaces)) (modified_marks schema book w.parent (mark_last w.name) ws)
       ∙ ap (with_workspaces o) (sym (modify_both w.parent w.name g f (λ v. refl) (λ v. refl) (apart k (suc a) mine under before) o.workspaces))
 
-  pub refresh_is : (n : Name) (k above : ℕ) → find ws n ≡ Some (suc k) → parent_of ws (suc k) ≡ Some above → above < suc k → office_of schema book (tree.after_rebase ws (suc k) rebase_as.Refresh) ≡ effect o (command.Refresh n)
+  pub refresh_is : (n : Name) (k above : ℕ) → find ws n ≡ Some (suc k) → parent_of ws (suc k) ≡ Some above → above < suc k
+      → office_of schema book (tree.after_rebase ws (suc k) rebase_as.Refresh) ≡ effect o (command.Refresh n)
   unfolding effect after_refresh
   refresh_is n k above e under before =
       let w = workspace_at ws (suc k) in
       under_is k above (tree.after_rebase_under ws (suc k) rebase_as.Refresh) under
       ∙ refreshed_is k above (own n (suc k) e) under before
-      ∙ ap (λ (c : Content). with_workspaces o (modify_marks w.parent (mark_last w.name) (modify w.name (refresh c) o.workspaces))) (sym (content_is w.parent above under))
+      ∙ ap (λ (c : Content). with_workspaces o (modify_marks w.parent (mark_last w.name) (modify w.name (refresh c) o.workspaces)))
+      (sym (content_is w.parent above under))
       ∙ sym (on_is n k e (after_refresh o) o)
 
   -- a merge, as two modifications by name
   merged_by_name : (k above : ℕ) → find ws (workspace_at ws (suc k)).name ≡ Some (suc k) → parent_of ws (suc k) ≡ Some above
-      → let w = workspace_at ws (suc k) in tree.after_merge ws (suc k) above ≡ modify w.name with_base_merged (modify w.parent (with_current (taken_over (workspace_at ws above).current (own_changes w))) ws)
+      → let w = workspace_at ws (suc k) in tree.after_merge ws (suc k) above
+      ≡ modify w.name with_base_merged (modify w.parent (with_current (taken_over (workspace_at ws above).current (own_changes w))) ws)
   merged_by_name k above mine under =
       let w = workspace_at ws (suc k) in
       let f = with_current (taken_over (workspace_at ws above).current (own_changes w)) in
       ap (λ (xs : List Workspace). change_at xs (suc k) with_base_merged) (changed_is w.parent f ws above (only w.parent above under))
       ∙ changed_is w.name with_base_merged (modify w.parent f ws) (suc k) (only_modify w.name w.parent f (λ v. refl) ws (suc k) (only w.name (suc k) mine))
 
-  merged_is : (k above : ℕ) → find ws (workspace_at ws (suc k)).name ≡ Some (suc k) → parent_of ws (suc k) ≡ Some above → office_of schema book (tree.after_merge ws (suc k) above) ≡ after_merge o (workspace_at ws (suc k))
+  merged_is : (k above : ℕ) → find ws (workspace_at ws (suc k)).name ≡ Some (suc k) → parent_of ws (suc k) ≡ Some above
+      → office_of schema book (tree.after_merge ws (suc k) above) ≡ after_merge o (workspace_at ws (suc k))
   unfolding after_merge merged_content
   merged_is k above mine under =
       let w = workspace_at ws (suc k) in
       let c = taken_over (workspace_at ws above).current (own_changes w) in
       let f = with_current c in
       ap (office_of schema book) (merged_by_name k above mine under)
-      ∙ modified_below schema book w.name with_base_merged (modify w.parent f ws) (part_modify (λ v. v.name) w.parent f (λ v. refl) ws 0 ∙ sound.rooted.live) (not_live w.name k mine)
+      ∙ modified_below schema book w.name with_base_merged (modify w.parent f ws) (part_modify (λ v. v.name) w.parent f (λ v. refl) ws 0
+      ∙ sound.rooted.live) (not_live w.name k mine)
       ∙ ap (λ (x : Office). with_workspaces x (modify w.name with_base_merged x.workspaces))
-      (modified_content schema book w.parent c ws above sound.rooted.live (only w.parent above under) ∙ ap (λ d. set_content o w.parent (taken_over d (own_changes w))) (sym (content_is w.parent above under)))
+      (modified_content schema book w.parent c ws above sound.rooted.live (only w.parent above under)
+      ∙ ap (λ d. set_content o w.parent (taken_over d (own_changes w))) (sym (content_is w.parent above under)))
 
   merged_removed : (k above : ℕ) → find ws (workspace_at ws (suc k)).name ≡ Some (suc k) → parent_of ws (suc k) ≡ Some above → above < suc k
-      → let w = workspace_at ws (suc k) in office_of schema book (tree.after_remove (tree.after_merge ws (suc k) above) (suc k)) ≡ after_remove (after_merge o w) w
+      → let w = workspace_at ws (suc k) in office_of schema book (tree.after_remove (tree.after_merge ws (suc k) above) (suc k))
+      ≡ after_remove (after_merge o w) w
   unfolding after_remove
   merged_removed k above mine under before =
       let w = workspace_at ws (suc k) in
@@ -233,7 +251,8 @@ module _ (schema : List TableDef) (book : List Rule) (ws : List Workspace) (soun
       ap (λ (xs : List Workspace). office_of schema book (tree.after_remove xs (suc k))) is
       ∙ ap (λ r. office_of schema book (at_position vs r (tree.after_remove_under vs (suc k)))) up
       ∙ ap (λ m. office_of schema book (change_at (without_at vs (suc k)) above (with_marks (without_mark_of m)))) name
-      ∙ removed_is schema book w.name w.parent (suc k) above vs (part (λ v. v.name) (λ v. refl) (λ v. refl) 0 ∙ sound.rooted.live) (not_live w.name k mine) before
+      ∙ removed_is schema book w.name w.parent (suc k) above vs (part (λ v. v.name) (λ v. refl) (λ v. refl) 0 ∙ sound.rooted.live) (not_live w.name k mine)
+      before
       (stays w.name (suc k) (only w.name (suc k) mine)) (stays w.parent above (only w.parent above under))
       ∙ ap (λ (x : Office). after_remove x w) (sym (ap (office_of schema book) is) ∙ merged_is k above mine under)
 
@@ -241,10 +260,12 @@ module _ (schema : List TableDef) (book : List Rule) (ws : List Workspace) (soun
       → office_of schema book (merge_at ws gone (suc k)) ≡ effect o (command.Merge n gone)
   unfolding effect
   merge_is n gone k above e under before =
-      ap (λ r. let vs = at_position ws r (tree.after_rebase_under ws (suc k) rebase_as.Merge) in office_of schema book (cond gone (tree.after_remove vs (suc k)) vs)) under
+      ap (λ r. let vs = at_position ws r (tree.after_rebase_under ws (suc k) rebase_as.Merge) in office_of schema book
+      (cond gone (tree.after_remove vs (suc k)) vs)) under
       ∙ by gone
       ∙ sym (on_is n k e (λ w. cond gone (after_remove (after_merge o w) w) (after_merge o w)) o)
     where
-      by : (gone : Bool) → let vs = tree.after_merge ws (suc k) above in let w = workspace_at ws (suc k) in office_of schema book (cond gone (tree.after_remove vs (suc k)) vs) ≡ cond gone (after_remove (after_merge o w) w) (after_merge o w)
+      by : (gone : Bool) → let vs = tree.after_merge ws (suc k) above in let w = workspace_at ws (suc k) in office_of schema book
+          (cond gone (tree.after_remove vs (suc k)) vs) ≡ cond gone (after_remove (after_merge o w) w) (after_merge o w)
       by true = merged_removed k above (own n (suc k) e) under before
       by false = merged_is k above (own n (suc k) e) under

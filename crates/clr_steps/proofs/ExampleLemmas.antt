@@ -13,11 +13,13 @@ unfolding refusal refusals_of effect step same_name is_live workspace stands is_
 names = refl
 
 pub savepoints : SavepointExample
-unfolding refusal refusals_of effect step same_name is_live workspace stands is_kept content_of after_create after_remove after_mark after_unmark after_roll_to rolled_content breaks has_child depth_within is_good_name
+unfolding refusal refusals_of effect step same_name is_live workspace stands is_kept content_of after_create after_remove after_mark after_unmark after_roll_to
+    rolled_content breaks has_child depth_within is_good_name
 savepoints = refl
 
 pub rolls : RollExample
-unfolding refusal refusals_of effect step same_name is_live workspace stands is_kept content_of after_create after_remove after_mark after_unmark after_roll_to after_roll_all rolled_content breaks has_child depth_within is_good_name
+unfolding refusal refusals_of effect step same_name is_live workspace stands is_kept content_of after_create after_remove after_mark after_unmark after_roll_to
+    after_roll_all rolled_content breaks has_child depth_within is_good_name
 rolls = refl
 
 pub levels : LevelExample

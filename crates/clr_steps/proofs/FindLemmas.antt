@@ -42,21 +42,25 @@ seen_by g n ws = option_map g (find_name n ws)
 
 module _ {B : Type 0} (g : Workspace → B) (n : Name) where
   -- a modification that g can't see at the name
-  pub seen_modify : (m : Name) (f : Workspace → Workspace) → LeavesName f → ((w : Workspace) → same_name m w.name ≡ true → same_name n w.name ≡ true → g (f w) ≡ g w) → (ws : List Workspace) → seen_by g n (modify m f ws) ≡ seen_by g n ws
+  pub seen_modify : (m : Name) (f : Workspace → Workspace) → LeavesName f → ((w : Workspace) → same_name m w.name ≡ true → same_name n w.name ≡ true → g (f w)
+      ≡ g w) → (ws : List Workspace) → seen_by g n (modify m f ws) ≡ seen_by g n ws
   seen_modify m f leaves blind [] = refl
   seen_modify m f leaves blind (w ∷ ws) = by (same_name m w.name) refl (same_name n w.name) refl (seen_modify m f leaves blind ws)
     where
       by : (b : Bool) → same_name m w.name ≡ b → (d : Bool) → same_name n w.name ≡ d → seen_by g n (modify m f ws) ≡ seen_by g n ws
-          → option_map g (cond (same_name n (cond b (f w) w).name) (Some (cond b (f w) w)) (find_name n (modify m f ws))) ≡ option_map g (cond d (Some w) (find_name n ws))
+          → option_map g (cond (same_name n (cond b (f w) w).name) (Some (cond b (f w) w)) (find_name n (modify m f ws)))
+          ≡ option_map g (cond d (Some w) (find_name n ws))
       by true p true q rest = let here : same_name n (f w).name ≡ true = ap (same_name n) (leaves w) ∙ q in rw here (ap Some (blind w p q))
       by true p false q rest = let here : same_name n (f w).name ≡ false = ap (same_name n) (leaves w) ∙ q in rw here rest
       by false p true q rest = rw q refl
       by false p false q rest = rw q rest
 
-  pub seen_other : (m : Name) (f : Workspace → Workspace) → LeavesName f → same_name m n ≡ false → (ws : List Workspace) → seen_by g n (modify m f ws) ≡ seen_by g n ws
+  pub seen_other : (m : Name) (f : Workspace → Workspace) → LeavesName f → same_name m n ≡ false → (ws : List Workspace) → seen_by g n (modify m f ws)
+      ≡ seen_by g n ws
   seen_other m f leaves apart ws = seen_modify m f leaves (λ w p q. absurd (differ m n w.name apart p q)) ws
 
-  pub seen_marks : ((w : Workspace) (marks : List Mark) → g (record w { marks = marks }) ≡ g w) → (m : Name) (f : List Mark → List Mark) (ws : List Workspace) → seen_by g n (modify_marks m f ws) ≡ seen_by g n ws
+  pub seen_marks : ((w : Workspace) (marks : List Mark) → g (record w { marks = marks }) ≡ g w) → (m : Name) (f : List Mark → List Mark) (ws : List Workspace)
+      → seen_by g n (modify_marks m f ws) ≡ seen_by g n ws
   seen_marks blind m f ws = seen_modify m (λ w. record w { marks = f w.marks }) (λ w. refl) (λ w p q. blind w (f w.marks)) ws
 
   pub seen_without : (m : Name) → same_name m n ≡ false → (ws : List Workspace) → seen_by g n (without m ws) ≡ seen_by g n ws
@@ -75,7 +79,8 @@ module _ {B : Type 0} (g : Workspace → B) (n : Name) where
   seen_append w apart [] = rw apart refl
   seen_append w apart (v ∷ ws) = by (same_name n v.name) (seen_append w apart ws)
     where
-      by : (b : Bool) → seen_by g n (ws ++ w ∷ []) ≡ seen_by g n ws → option_map g (cond b (Some v) (find_name n (ws ++ w ∷ []))) ≡ option_map g (cond b (Some v) (find_name n ws))
+      by : (b : Bool) → seen_by g n (ws ++ w ∷ []) ≡ seen_by g n ws → option_map g (cond b (Some v) (find_name n (ws ++ w ∷ [])))
+          ≡ option_map g (cond b (Some v) (find_name n ws))
       by true rest = refl
       by false rest = rest
 
@@ -119,6 +124,7 @@ found_name o n w e = sym (same_is n w.name (by_list o.workspaces (beside (is_liv
     by_list [] e = absurd (cc)
     by_list (v ∷ ws) e = by (same_name n v.name) refl e (by_list ws)
       where
-        by : (b : Bool) → same_name n v.name ≡ b → cond b (Some v) (find_name n ws) ≡ Some w → (find_name n ws ≡ Some w → same_name n w.name ≡ true) → same_name n w.name ≡ true
+        by : (b : Bool) → same_name n v.name ≡ b → cond b (Some v) (find_name n ws) ≡ Some w → (find_name n ws ≡ Some w → same_name n w.name ≡ true)
+            → same_name n w.name ≡ true
         by true p d rest = let one : v ≡ w = cc in ap (λ (x : Workspace). same_name n x.name) (sym one) ∙ p
         by false p d rest = rest d

@@ -47,11 +47,14 @@ module _ {X : Type 0} (p : X → Bool) where
   pub position_later : (x : X) (xs : List X) → p x ≡ false → position p (x ∷ xs) ≡ option_map suc (position p xs)
   position_later x xs e = rw e (by (nat_lt (position_or_len p xs) (length xs)) refl)
     where
-      past : (c : Bool) → nat_lt (position_or_len p xs) (length xs) ≡ false → nat_lt (1 + position_or_len p xs) (suc (length xs)) ≡ c → cond c (Some (1 + position_or_len p xs)) None ≡ None
+      past : (c : Bool) → nat_lt (position_or_len p xs) (length xs) ≡ false → nat_lt (1 + position_or_len p xs) (suc (length xs)) ≡ c
+          → cond c (Some (1 + position_or_len p xs)) None ≡ None
       past false h e = refl
       past true h e = absurd (true≢false (sym (lt-ltb _ _ (omega (arith, ltb-true _ _ e))) ∙ h))
 
-      by : (b : Bool) → nat_lt (position_or_len p xs) (length xs) ≡ b → cond (nat_lt (1 + position_or_len p xs) (suc (length xs))) (Some (1 + position_or_len p xs)) None ≡ option_map suc (cond (nat_lt (position_or_len p xs) (length xs)) (Some (position_or_len p xs)) None)
+      by : (b : Bool) → nat_lt (position_or_len p xs) (length xs) ≡ b
+          → cond (nat_lt (1 + position_or_len p xs) (suc (length xs))) (Some (1 + position_or_len p xs)) None
+          ≡ option_map suc (cond (nat_lt (position_or_len p xs) (length xs)) (Some (position_or_len p xs)) None)
       by true h = rw (h, lt-ltb (1 + position_or_len p xs) (suc (length xs)) (omega (arith, ltb-true _ _ h))) (ap Some (omega arith))
       by false h = rw h (past (nat_lt (1 + position_or_len p xs) (suc (length xs))) h refl)
 

@@ -44,7 +44,8 @@ module _ (schema : List TableDef) where
       none_some h = cc
 
   -- rows of a content, or of a workspace whose changes it takes over
-  pub taken_fits : (target base current : Content) → FitsSchema schema target → FitsSchema schema current → FitsSchema schema (taken_over target (changes base current))
+  pub taken_fits : (target base current : Content) → FitsSchema schema target → FitsSchema schema current
+      → FitsSchema schema (taken_over target (changes base current))
   taken_fits target base current above below cell row e = by (is_changed base current cell) (sym (row-merged target base current cell) ∙ e)
     where
       by : (b : Bool) → unwrap_or (cond b (Some (row_at current cell)) None) (row_at target cell) ≡ Some row → row_fault schema cell row ≡ None
@@ -52,7 +53,8 @@ module _ (schema : List TableDef) where
       by false h = above cell row h
 
   -- one cell set to what another content has there
-  pub set_fits : (content other : Content) (cell : CellId) → FitsSchema schema content → FitsSchema schema other → FitsSchema schema (set_cell content cell (row_at other cell))
+  pub set_fits : (content other : Content) (cell : CellId) → FitsSchema schema content → FitsSchema schema other
+      → FitsSchema schema (set_cell content cell (row_at other cell))
   set_fits content other cell fits also q row e = by (eq_by_cmp cell_cmp q cell) refl (sym (row-set_cell content cell (row_at other cell) q) ∙ e)
     where
       by : (b : Bool) → eq_by_cmp cell_cmp q cell ≡ b → cond b (row_at other cell) (row_at content q) ≡ Some row → row_fault schema q row ≡ None
@@ -126,15 +128,18 @@ module _ (schema : List TableDef) where
   abbrev EachFits : List Workspace → Type 0
   EachFits ws = (i : ℕ) → Fits (workspace_at ws i)
 
-  each_modify : (m : Name) (f : Workspace → Workspace) → ((w : Workspace) → Fits w → Fits (f w)) → (ws : List Workspace) → EachFits ws → EachFits (modify m f ws)
+  each_modify : (m : Name) (f : Workspace → Workspace) → ((w : Workspace) → Fits w → Fits (f w)) → (ws : List Workspace) → EachFits ws
+      → EachFits (modify m f ws)
   each_modify m f fits [] each = each
-  each_modify m f fits (w ∷ ws) each = each_cons Fits no_workspace no_fits _ (modify m f ws) (by (same_name m w.name)) (each_modify m f fits ws (λ i. each (suc i)))
+  each_modify m f fits (w ∷ ws) each = each_cons Fits no_workspace no_fits _ (modify m f ws) (by (same_name m w.name))
+      (each_modify m f fits ws (λ i. each (suc i)))
     where
       by : (b : Bool) → Fits (cond b (f w) w)
       by true = fits w (each 0)
       by false = each 0
 
-  each_marks : (m : Name) (f : List Mark → List Mark) → ((marks : List Mark) → EachSaved marks → EachSaved (f marks)) → (ws : List Workspace) → EachFits ws → EachFits (modify_marks m f ws)
+  each_marks : (m : Name) (f : List Mark → List Mark) → ((marks : List Mark) → EachSaved marks → EachSaved (f marks)) → (ws : List Workspace) → EachFits ws
+      → EachFits (modify_marks m f ws)
   each_marks m f saves ws each = each_modify m (with_marks f) (λ w h. record { base = h.base; current = h.current; saved = saves w.marks h.saved }) ws each
 
   find_fits : (n : Name) (ws : List Workspace) (w : Workspace) → EachFits ws → find_name n ws ≡ Some w → Fits w
@@ -154,22 +159,43 @@ module _ (schema : List TableDef) where
   roll_to_fits i w h = record {
     base = h.base;
     current = h.saved i;
-    saved = each_append Saves (ChildMark []) no_saved (take (suc i) w.marks) _ (each_take Saves (ChildMark []) no_saved (suc i) w.marks h.saved) (saved_filter is_child_mark (drop (suc i) w.marks) (each_drop Saves (ChildMark []) no_saved (suc i) w.marks h.saved));
+    saved = each_append Saves (ChildMark []) no_saved (take (suc i) w.marks) _ (each_take Saves (ChildMark []) no_saved (suc i) w.marks h.saved)
+        (saved_filter is_child_mark (drop (suc i) w.marks) (each_drop Saves (ChildMark []) no_saved (suc i) w.marks h.saved));
   }
 
   roll_all_fits : (w : Workspace) → Fits w → Fits (roll_all w)
   roll_all_fits w h = record { base = h.base; current = h.base; saved = saved_filter is_child_mark w.marks h.saved }
 
   refresh_fits : (above : Content) → FitsSchema schema above → (w : Workspace) → Fits w → Fits (refresh above w)
-  refresh_fits above fits w h = record { base = fits; current = taken_fits schema above w.base w.current fits h.current; saved = saved_filter is_child_mark w.marks h.saved }
+  refresh_fits above fits w h = record {
+    base = fits;
+    current = taken_fits schema above w.base w.current fits h.current;
+    saved = saved_filter is_child_mark
+        w.marks h.saved;
+  }
 
   rebase_fits : (w : Workspace) → Fits w → Fits (with_base_merged w)
-  rebase_fits w h = record { base = subst (FitsSchema schema) (sym (taken_over-own w.base w.current)) h.current; current = h.current; saved = saved_filter is_child_mark w.marks h.saved }
+  rebase_fits w h = record {
+    base = subst (FitsSchema schema) (sym (taken_over-own w.base w.current)) h.current;
+    current = h.current;
+    saved =
+        saved_filter is_child_mark w.marks h.saved;
+  }
 
   pub keep_row_fits : (cell : CellId) (keep : Keep) (above : Content) → FitsSchema schema above → (w : Workspace) → Fits w → Fits (keep_row cell keep above w)
-  keep_row_fits cell keeps.Parent above fits w h = record { base = set_fits schema w.base above cell h.base fits; current = set_fits schema w.current above cell h.current fits; saved = h.saved }
+  keep_row_fits cell keeps.Parent above fits w h = record {
+    base = set_fits schema w.base above cell h.base fits;
+    current = set_fits schema w.current above cell
+        h.current fits;
+    saved = h.saved;
+  }
   keep_row_fits cell keeps.Child above fits w h = record { base = set_fits schema w.base above cell h.base fits; current = h.current; saved = h.saved }
-  keep_row_fits cell keeps.Base above fits w h = record { base = set_fits schema w.base above cell h.base fits; current = set_fits schema w.current w.base cell h.current h.base; saved = h.saved }
+  keep_row_fits cell keeps.Base above fits w h = record {
+    base = set_fits schema w.base above cell h.base fits;
+    current = set_fits schema w.current w.base cell
+        h.current h.base;
+    saved = h.saved;
+  }
 
 -- offices ---------------------------------------------------------------------------------------------------------
 
@@ -194,10 +220,12 @@ module _ (o : Office) (g : OfficeFits o) where
       by true h = absurd (cc)
       by false h = find_fits o.schema n o.workspaces w g.workspaces h
 
-  fits_modify : (m : Name) (f : Workspace → Workspace) → ((w : Workspace) → WorkspaceFits o.schema w → WorkspaceFits o.schema (f w)) → OfficeFits (with_workspaces o (modify m f o.workspaces))
+  fits_modify : (m : Name) (f : Workspace → Workspace) → ((w : Workspace) → WorkspaceFits o.schema w → WorkspaceFits o.schema (f w))
+      → OfficeFits (with_workspaces o (modify m f o.workspaces))
   fits_modify m f fits = fits_with (modify m f o.workspaces) (each_modify o.schema m f fits o.workspaces g.workspaces)
 
-  fits_marks : (m : Name) (f : List Mark → List Mark) → ((marks : List Mark) → EachSaved o.schema marks → EachSaved o.schema (f marks)) → OfficeFits (with_workspaces o (modify_marks m f o.workspaces))
+  fits_marks : (m : Name) (f : List Mark → List Mark) → ((marks : List Mark) → EachSaved o.schema marks → EachSaved o.schema (f marks))
+      → OfficeFits (with_workspaces o (modify_marks m f o.workspaces))
   fits_marks m f saves = fits_with (modify_marks m f o.workspaces) (each_marks o.schema m f saves o.workspaces g.workspaces)
 
   fits_content : (n : Name) (content : Content) → FitsSchema o.schema content → OfficeFits (set_content o n content)
@@ -214,7 +242,8 @@ module _ (o : Office) (g : OfficeFits o) where
       let fits = fits_content_of p in
       let marks = (fits_marks p (with_mark_of n) (λ marks h. saved_more o.schema marks (ChildMark n) h (none_fits o.schema))).workspaces in
       fits_with _ (each_append (WorkspaceFits o.schema) no_workspace (no_fits o.schema) (modify_marks p (with_mark_of n) o.workspaces) _ marks
-      (each_one (WorkspaceFits o.schema) no_workspace (no_fits o.schema) (new_leaf n p (content_of o p)) (record { base = fits; current = fits; saved = λ i. none_fits o.schema })))
+      (each_one (WorkspaceFits o.schema) no_workspace (no_fits o.schema) (new_leaf n p (content_of o p))
+      (record { base = fits; current = fits; saved = λ i. none_fits o.schema })))
 
   fits_merged : (w : Workspace) → WorkspaceFits o.schema w → FitsSchema o.schema (merged_content o w)
   unfolding merged_content
@@ -242,7 +271,8 @@ module _ (o : Office) (g : OfficeFits o) where
 
   fits_resolve : (w : Workspace) (cell : CellId) (keep : Keep) → OfficeFits (after_resolve o w cell keep)
   unfolding after_resolve
-  fits_resolve w cell keep = fits_modify w.name (keep_row cell keep (content_of o w.parent)) (keep_row_fits o.schema cell keep (content_of o w.parent) (fits_content_of w.parent))
+  fits_resolve w cell keep = fits_modify w.name (keep_row cell keep (content_of o w.parent)) (keep_row_fits o.schema cell keep (content_of o w.parent)
+      (fits_content_of w.parent))
 
   fits_kept : (w : Workspace) (b : Bool) → OfficeFits (set_kept o w b)
   unfolding set_kept
@@ -252,14 +282,16 @@ fits_remove : (o : Office) → OfficeFits o → (w : Workspace) → OfficeFits (
 unfolding after_remove
 fits_remove o g w =
     let rest = fits_with o g (without w.name o.workspaces) (each_filter (WorkspaceFits o.schema) no_workspace (no_fits o.schema) (λ v. not (same_name w.name v.name)) o.workspaces g.workspaces) in
-    fits_marks (with_workspaces o (without w.name o.workspaces)) rest w.parent (without_mark_of w.name) (λ marks h. saved_filter o.schema (λ m. not (is_mark_of w.name m)) marks h)
+    fits_marks (with_workspaces o (without w.name o.workspaces)) rest w.parent (without_mark_of w.name)
+    (λ marks h. saved_filter o.schema (λ m. not (is_mark_of w.name m)) marks h)
 
 fits_refresh : (o : Office) → OfficeFits o → (w : Workspace) → OfficeFits (after_refresh o w)
 unfolding after_refresh
 fits_refresh o g w =
     let f = refresh (content_of o w.parent) in
     let next = fits_modify o g w.name f (refresh_fits o.schema (content_of o w.parent) (fits_content_of o g w.parent)) in
-    fits_marks (with_workspaces o (modify w.name f o.workspaces)) next w.parent (mark_last w.name) (λ marks h. saved_more o.schema _ (ChildMark w.name) (saved_filter o.schema (λ m. not (is_mark_of w.name m)) marks h) (none_fits o.schema))
+    fits_marks (with_workspaces o (modify w.name f o.workspaces)) next w.parent (mark_last w.name) (λ marks h. saved_more o.schema _ (ChildMark w.name)
+    (saved_filter o.schema (λ m. not (is_mark_of w.name m)) marks h) (none_fits o.schema))
 
 fits_merge : (o : Office) → OfficeFits o → (w : Workspace) → WorkspaceFits o.schema w → OfficeFits (after_merge o w)
 unfolding after_merge
@@ -267,11 +299,13 @@ fits_merge o g w h =
     let above = set_content o w.parent (merged_content o w) in
     fits_modify above (fits_content o g w.parent (merged_content o w) (fits_merged o g w h)) w.name with_base_merged (rebase_fits above.schema)
 
-fits_either : (o : Office) → OfficeFits o → (w : Workspace) (gone : Bool) → WorkspaceFits o.schema w → OfficeFits (cond gone (after_remove (after_merge o w) w) (after_merge o w))
+fits_either : (o : Office) → OfficeFits o → (w : Workspace) (gone : Bool) → WorkspaceFits o.schema w
+    → OfficeFits (cond gone (after_remove (after_merge o w) w) (after_merge o w))
 fits_either o g w true h = fits_remove (after_merge o w) (fits_merge o g w h) w
 fits_either o g w false h = fits_merge o g w h
 
-fits_on : (o : Office) → OfficeFits o → (n : Name) (f : Workspace → Office) → ((w : Workspace) → WorkspaceFits o.schema w → OfficeFits (f w)) → OfficeFits (option_map_or f (workspace o n) o)
+fits_on : (o : Office) → OfficeFits o → (n : Name) (f : Workspace → Office) → ((w : Workspace) → WorkspaceFits o.schema w → OfficeFits (f w))
+    → OfficeFits (option_map_or f (workspace o n) o)
 fits_on o g n f fits = by (workspace o n) refl
   where
     by : (r : Option Workspace) → workspace o n ≡ r → OfficeFits (option_map_or f r o)
@@ -281,7 +315,8 @@ fits_on o g n f fits = by (workspace o n) refl
 -- edits that can be made
 fits_apply : (o : Office) → OfficeFits o → (n : Name) (edits : List Edit) → edit_refusal o n edits ≡ None → OfficeFits (after_apply o n edits)
 unfolding after_apply edited_content edit_refusal
-fits_apply o g n edits none = fits_content o g n (after_edits (content_of o n) edits) (all_edited_fits o.schema (content_of o n) edits (fits_content_of o g n) (by (first_bad_edit o.schema (content_of o n) 1 edits) none))
+fits_apply o g n edits none = fits_content o g n (after_edits (content_of o n) edits) (all_edited_fits o.schema (content_of o n) edits (fits_content_of o g n)
+    (by (first_bad_edit o.schema (content_of o n) 1 edits) none))
   where
     by : (r : Option (ℕ × EditFault)) → option_map bad_edit r ≡ None → r ≡ None
     by None e = refl
@@ -291,7 +326,8 @@ fits_effect : (o : Office) → OfficeFits o → (c : Command) → refusal o c �
 unfolding effect refusal
 fits_effect o g (command.Create n p) none = fits_create o g n p
 fits_effect o g (command.Remove n) none = fits_on o g n _ (λ w h. fits_remove o g w)
-fits_effect o g (command.Apply n edits) none = fits_apply o g n edits (rules.each_none (when (not (stands o n)) NoWorkspace ∷ edit_refusal o n edits ∷ breaks o n (edited_content o n edits) ∷ []) none).1.0
+fits_effect o g (command.Apply n edits) none = fits_apply o g n edits (rules.each_none (when (not (stands o n)) NoWorkspace ∷ edit_refusal o n edits
+    ∷ breaks o n (edited_content o n edits) ∷ []) none).1.0
 fits_effect o g (command.Mark n s) none = fits_on o g n _ (λ w h. fits_mark o g w s)
 fits_effect o g (command.Unmark n s) none = fits_on o g n _ (λ w h. fits_unmark o g w s)
 fits_effect o g (command.RollTo n s) none = fits_on o g n _ (λ w h. fits_roll_to o g w s)

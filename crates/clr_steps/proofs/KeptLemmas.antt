@@ -22,7 +22,8 @@ abbrev pub root_of : Workspace → Root
 root_of w = record { current = w.current; kept = w.kept }
 
 -- the content of a name, and whether it is kept, by what is seen
-pub content_seen : (o : Office) (n : Name) → content_of o n ≡ cond (is_live n) o.live (option_map_or (λ (r : Root). r.current) (seen_by root_of n o.workspaces) no_rows)
+pub content_seen : (o : Office) (n : Name) → content_of o n
+    ≡ cond (is_live n) o.live (option_map_or (λ (r : Root). r.current) (seen_by root_of n o.workspaces) no_rows)
 unfolding content_of
 content_seen o n = ap (cond (is_live n) o.live) (by (find_name n o.workspaces))
   where
@@ -34,7 +35,8 @@ pub kept_seen : (o : Office) (n : Name) → is_kept o n ≡ (is_live n || option
 unfolding is_kept workspace
 kept_seen o n = by (is_live n) (find_name n o.workspaces)
   where
-    by : (b : Bool) (r : Option Workspace) → (b || option_map_or (λ (w : Workspace). w.kept) (cond b None r) false) ≡ (b || option_map_or (λ (r : Root). r.kept) (option_map root_of r) false)
+    by : (b : Bool) (r : Option Workspace) → (b || option_map_or (λ (w : Workspace). w.kept) (cond b None r) false)
+        ≡ (b || option_map_or (λ (r : Root). r.kept) (option_map root_of r) false)
     by true r = refl
     by false None = refl
     by false (Some w) = refl

@@ -68,7 +68,8 @@ of_workspace o w (command.Resolve n cell keep) = (of_when _ _ refl, (of_breaks o
 of_workspace o w (command.Hold n) = (of_broken _ o.book w.current, tt)
 of_workspace o w (command.Release n) = tt
 
-below_live : (o : Office) (c : Command) → IsNoLoss (cond (is_live (name_in c)) (Some LiveIsFixed) (option_map_or (λ w. first_of (refusals_of o w c)) (workspace o (name_in c)) (Some NoWorkspace)))
+below_live : (o : Office) (c : Command)
+    → IsNoLoss (cond (is_live (name_in c)) (Some LiveIsFixed) (option_map_or (λ w. first_of (refusals_of o w c)) (workspace o (name_in c)) (Some NoWorkspace)))
 below_live o c = by (is_live (name_in c)) (workspace o (name_in c))
   where
     by : (b : Bool) (r : Option Workspace) → IsNoLoss (cond b (Some LiveIsFixed) (option_map_or (λ w. first_of (refusals_of o w c)) r (Some NoWorkspace)))
@@ -78,8 +79,10 @@ below_live o c = by (is_live (name_in c)) (workspace o (name_in c))
 
 of_refusal : (o : Office) (c : Command) → IsNoLoss (refusal o c)
 unfolding refusal
-of_refusal o (command.Create n p) = of_first (when (not (stands o p)) NoWorkspace ∷ when (not (is_good_name n)) BadName ∷ when (stands o n) NameTaken ∷ when (is_full o || is_deep o p) TooMany ∷ []) (of_when _ _ refl, (of_when _ _ refl, (of_when _ _ refl, (of_when _ _ refl, tt))))
-of_refusal o (command.Apply n edits) = of_first (when (not (stands o n)) NoWorkspace ∷ edit_refusal o n edits ∷ breaks o n (edited_content o n edits) ∷ []) (of_when _ _ refl, (of_edits o n edits, (of_breaks o n _, tt)))
+of_refusal o (command.Create n p) = of_first (when (not (stands o p)) NoWorkspace ∷ when (not (is_good_name n)) BadName ∷ when (stands o n) NameTaken
+    ∷ when (is_full o || is_deep o p) TooMany ∷ []) (of_when _ _ refl, (of_when _ _ refl, (of_when _ _ refl, (of_when _ _ refl, tt))))
+of_refusal o (command.Apply n edits) = of_first (when (not (stands o n)) NoWorkspace ∷ edit_refusal o n edits ∷ breaks o n (edited_content o n edits)
+    ∷ []) (of_when _ _ refl, (of_edits o n edits, (of_breaks o n _, tt)))
 of_refusal o (command.Remove n) = below_live o (command.Remove n)
 of_refusal o (command.Mark n s) = below_live o (command.Mark n s)
 of_refusal o (command.Unmark n s) = below_live o (command.Unmark n s)

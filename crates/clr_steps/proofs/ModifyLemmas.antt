@@ -38,7 +38,8 @@ closed_is n ws at h = remove_only (has_name n) ws at h
 
 -- what a modification that leaves names leaves -----------------------------------------------------------
 
-same_of_either : {A : Type 0} (part : Workspace → A) (f : Workspace → Workspace) (w : Workspace) → part (f w) ≡ part w → (b : Bool) → part (cond b (f w) w) ≡ part w
+same_of_either : {A : Type 0} (part : Workspace → A) (f : Workspace → Workspace) (w : Workspace) → part (f w) ≡ part w → (b : Bool) → part (cond b (f w) w)
+    ≡ part w
 same_of_either part f w e true = e
 same_of_either part f w e false = refl
 
@@ -56,7 +57,8 @@ module _ (n m : Name) (f : Workspace → Workspace) (leaves : LeavesName f) wher
   only_modify (w ∷ ws) (suc at) h = (here w ∙ h.0, only_modify ws at h.1)
 
 -- a part of each workspace that f leaves
-pub part_modify : {A : Type 0} (part : Workspace → A) (m : Name) (f : Workspace → Workspace) → ((w : Workspace) → part (f w) ≡ part w) → (ws : List Workspace) (i : ℕ) → part (workspace_at (modify m f ws) i) ≡ part (workspace_at ws i)
+pub part_modify : {A : Type 0} (part : Workspace → A) (m : Name) (f : Workspace → Workspace) → ((w : Workspace) → part (f w) ≡ part w)
+    → (ws : List Workspace) (i : ℕ) → part (workspace_at (modify m f ws) i) ≡ part (workspace_at ws i)
 part_modify part m f leaves [] i = refl
 part_modify part m f leaves (w ∷ ws) zero = same_of_either part f w (leaves w) (same_name m w.name)
 part_modify part m f leaves (w ∷ ws) (suc i) = part_modify part m f leaves ws i
@@ -86,9 +88,12 @@ modify_both n m f g kf kg apart (w ∷ ws) =
   where
     by : (a b : Bool) → same_name n w.name ≡ a → same_name m w.name ≡ b → if_named n f (if_named m g w) ≡ if_named m g (if_named n f w)
     by true true ea eb = absurd (true≢false (sym eb ∙ apart w.name ea))
-    by true false ea eb = ap (if_named n f) (if_named_is m g w false eb) ∙ if_named_is n f w true ea ∙ sym (ap (if_named m g) (if_named_is n f w true ea) ∙ if_named_is m g (f w) false (ap (same_name m) (kf w) ∙ eb))
-    by false true ea eb = ap (if_named n f) (if_named_is m g w true eb) ∙ if_named_is n f (g w) false (ap (same_name n) (kg w) ∙ ea) ∙ sym (ap (if_named m g) (if_named_is n f w false ea) ∙ if_named_is m g w true eb)
-    by false false ea eb = ap (if_named n f) (if_named_is m g w false eb) ∙ if_named_is n f w false ea ∙ sym (ap (if_named m g) (if_named_is n f w false ea) ∙ if_named_is m g w false eb)
+    by true false ea eb = ap (if_named n f) (if_named_is m g w false eb) ∙ if_named_is n f w true ea ∙ sym (ap (if_named m g) (if_named_is n f w true ea)
+        ∙ if_named_is m g (f w) false (ap (same_name m) (kf w) ∙ eb))
+    by false true ea eb = ap (if_named n f) (if_named_is m g w true eb) ∙ if_named_is n f (g w) false (ap (same_name n) (kg w) ∙ ea)
+        ∙ sym (ap (if_named m g) (if_named_is n f w false ea) ∙ if_named_is m g w true eb)
+    by false false ea eb = ap (if_named n f) (if_named_is m g w false eb) ∙ if_named_is n f w false ea ∙ sym (ap (if_named m g) (if_named_is n f w false ea)
+        ∙ if_named_is m g w false eb)
 
 -- what they make of the office ---------------------------------------------------------------------------
 
@@ -106,7 +111,8 @@ module _ (schema : List TableDef) (book : List Rule) where
   modified_marks n f [] = refl
   modified_marks n f (l ∷ ws) = by (same_name n l.name)
     where
-      by : (b : Bool) → office_of schema book (cond b (with_marks f l) l ∷ modify_marks n f ws) ≡ with_workspaces (office_of schema book (l ∷ ws)) (modify_marks n f ws)
+      by : (b : Bool) → office_of schema book (cond b (with_marks f l) l ∷ modify_marks n f ws)
+          ≡ with_workspaces (office_of schema book (l ∷ ws)) (modify_marks n f ws)
       by true = refl
       by false = refl
 
@@ -129,7 +135,8 @@ module _ (schema : List TableDef) (book : List Rule) where
   without_below n (l ∷ ws) live e = let h : bytes_eq n l.name ≡ false = ap (bytes_eq n) live ∙ e in rw h refl
 
   -- a workspace taken out, and its mark
-  pub removed_is : (n p : Name) (at above : ℕ) (ws : List Workspace) → (workspace_at ws 0).name ≡ live_name → is_live n ≡ false → above < at → IsOnly (has_name n) ws at → IsOnly (has_name p) ws above
+  pub removed_is : (n p : Name) (at above : ℕ) (ws : List Workspace) → (workspace_at ws 0).name ≡ live_name → is_live n ≡ false → above < at
+      → IsOnly (has_name n) ws at → IsOnly (has_name p) ws above
       → office_of schema book (change_at (without_at ws at) above (with_marks (without_mark_of n)))
       ≡ with_workspaces (office_of schema book ws) (modify_marks p (without_mark_of n) (without n (below_live ws)))
   removed_is n p at above ws live e lt h under =
@@ -140,6 +147,7 @@ module _ (schema : List TableDef) (book : List Rule) where
       ∙ ap (λ (o : Office). with_workspaces o (modify p f o.workspaces)) (without_below n ws live e)
 
   -- one more at the end
-  pub appended_is : (ws : List Workspace) (w : Workspace) → (workspace_at ws 0).name ≡ live_name → office_of schema book (ws ++ w ∷ []) ≡ with_workspaces (office_of schema book ws) (below_live ws ++ w ∷ [])
+  pub appended_is : (ws : List Workspace) (w : Workspace) → (workspace_at ws 0).name ≡ live_name → office_of schema book (ws ++ w ∷ [])
+      ≡ with_workspaces (office_of schema book ws) (below_live ws ++ w ∷ [])
   appended_is [] w live = absurd (true≢false (ap (bytes_eq []) live))
   appended_is (l ∷ ws) w live = refl

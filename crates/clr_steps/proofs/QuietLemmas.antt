@@ -45,15 +45,18 @@ site_left site o p h = record {
 }
   where
     content : (b : Bool) → is_live site.root ≡ b
-        → cond b p.live (option_map_or (λ (r : Root). r.current) (seen_by root_of site.root p.workspaces) no_rows) ≡ cond b o.live (option_map_or (λ (r : Root). r.current) (seen_by root_of site.root o.workspaces) no_rows)
+        → cond b p.live (option_map_or (λ (r : Root). r.current) (seen_by root_of site.root p.workspaces) no_rows)
+        ≡ cond b o.live (option_map_or (λ (r : Root). r.current) (seen_by root_of site.root o.workspaces) no_rows)
     content true e = h.live e
     content false e = ap (λ r. option_map_or (λ (r : Root). r.current) r no_rows) (h.root e)
 
-    flag : (b : Bool) → is_live site.root ≡ b → (b || option_map_or (λ (r : Root). r.kept) (seen_by root_of site.root p.workspaces) false) ≡ (b || option_map_or (λ (r : Root). r.kept) (seen_by root_of site.root o.workspaces) false)
+    flag : (b : Bool) → is_live site.root ≡ b → (b || option_map_or (λ (r : Root). r.kept) (seen_by root_of site.root p.workspaces) false)
+        ≡ (b || option_map_or (λ (r : Root). r.kept) (seen_by root_of site.root o.workspaces) false)
     flag true e = refl
     flag false e = ap (λ r. option_map_or (λ (r : Root). r.kept) r false) (h.root e)
 
-    member : (n : Name) (b : Bool) → seen_by member_of n p.workspaces ≡ seen_by member_of n o.workspaces → option_map member_of (cond b None (find_name n p.workspaces)) ≡ option_map member_of (cond b None (find_name n o.workspaces))
+    member : (n : Name) (b : Bool) → seen_by member_of n p.workspaces ≡ seen_by member_of n o.workspaces
+        → option_map member_of (cond b None (find_name n p.workspaces)) ≡ option_map member_of (cond b None (find_name n o.workspaces))
     member n true e = refl
     member n false e = e
 
@@ -69,7 +72,8 @@ outside site n h = let both = and_parts (not (is_root site n)) (not (is_member s
 -- what each part of an effect leaves -----------------------------------------------------------------------
 
 module _ (site : Site) where
-  leaves_modified : (o : Office) (m : Name) (f : Workspace → Workspace) → LeavesName f → IsOutside site m → Leaves site o (with_workspaces o (modify m f o.workspaces))
+  leaves_modified : (o : Office) (m : Name) (f : Workspace → Workspace) → LeavesName f → IsOutside site m
+      → Leaves site o (with_workspaces o (modify m f o.workspaces))
   unfolding is_root
   leaves_modified o m f names out = record {
     live = λ e. refl;
@@ -100,7 +104,8 @@ module _ (site : Site) where
     members = λ n k. seen_append member_of n w (other_way w.name n (has_apart site.members w.name n other k)) o.workspaces;
   }
     where
-      stands : is_live site.root ≡ false → (r : Option Workspace) → (is_live site.root || option_map_or (λ (r : Root). r.kept) (option_map root_of r) false) ≡ true → is_some r ≡ true
+      stands : is_live site.root ≡ false → (r : Option Workspace) → (is_live site.root || option_map_or (λ (r : Root). r.kept) (option_map root_of r) false)
+          ≡ true → is_some r ≡ true
       stands e None h = or_false (is_live site.root) false h e
       stands e (Some w) h = refl
 
@@ -108,7 +113,8 @@ module _ (site : Site) where
   unfolding set_content is_root is_live same_name
   leaves_content o m content out = by (is_live m) refl
     where
-      by : (b : Bool) → is_live m ≡ b → Leaves site o (cond b (record o { live = content }) (record o { workspaces = modify m (with_current content) o.workspaces }))
+      by : (b : Bool) → is_live m ≡ b
+          → Leaves site o (cond b (record o { live = content }) (record o { workspaces = modify m (with_current content) o.workspaces }))
       by true e = record {
         live = λ k. absurd (true≢false (sym (same_itself m) ∙ ap (same_name m) (same_is m _ e ∙ sym (same_is site.root _ k)) ∙ out.root));
         root = λ k. refl;
@@ -117,14 +123,21 @@ module _ (site : Site) where
       by false e = leaves_modified o m (with_current content) (λ w. refl) out
 
   -- a Hold or a Release, which isn't seen of a member
-  leaves_hold : (o : Office) (w : Workspace) (b : Bool) → (is_live site.root ≡ false → seen_by root_of site.root (modify w.name (with_kept b) o.workspaces) ≡ seen_by root_of site.root o.workspaces) → Leaves site o (set_kept o w b)
+  leaves_hold : (o : Office) (w : Workspace) (b : Bool) → (is_live site.root ≡ false → seen_by root_of site.root (modify w.name (with_kept b) o.workspaces)
+      ≡ seen_by root_of site.root o.workspaces) → Leaves site o (set_kept o w b)
   unfolding set_kept
-  leaves_hold o w b root = record { live = λ e. refl; root = root; members = λ n k. seen_modify member_of n w.name (with_kept b) (λ v. refl) (λ v p q. refl) o.workspaces }
+  leaves_hold o w b root = record {
+    live = λ e. refl;
+    root = root;
+    members = λ n k. seen_modify member_of n w.name (with_kept b) (λ v. refl) (λ v p q. refl)
+        o.workspaces;
+  }
 
   -- a Hold or a Release of another name, and a Hold of the root, which is kept
   hold_other : (o : Office) (n : Name) (w : Workspace) (b : Bool) → w.name ≡ n → is_root site n ≡ false → Leaves site o (set_kept o w b)
   unfolding is_root
-  hold_other o n w b e out = leaves_hold o w b (λ live. seen_other root_of site.root w.name (with_kept b) (λ v. refl) (ap (λ m. same_name m site.root) e ∙ out) o.workspaces)
+  hold_other o n w b e out = leaves_hold o w b (λ live. seen_other root_of site.root w.name (with_kept b) (λ v. refl) (ap (λ m. same_name m site.root) e
+      ∙ out) o.workspaces)
 
   hold_root : (o : Office) (n : Name) (w : Workspace) → w.name ≡ n → is_root site n ≡ true → IsRootKept o site → Leaves site o (set_kept o w true)
   unfolding is_root
@@ -134,9 +147,11 @@ module _ (site : Site) where
       ∙ ap (option_map root_of) (find_modify site.root (with_kept true) (λ v. refl) o.workspaces)
       ∙ by live (find_name site.root o.workspaces) (sym (kept_seen o site.root) ∙ kept))
     where
-      by : is_live site.root ≡ false → (r : Option Workspace) → (is_live site.root || option_map_or (λ (r : Root). r.kept) (option_map root_of r) false) ≡ true → option_map root_of (option_map (with_kept true) r) ≡ option_map root_of r
+      by : is_live site.root ≡ false → (r : Option Workspace) → (is_live site.root || option_map_or (λ (r : Root). r.kept) (option_map root_of r) false) ≡ true
+          → option_map root_of (option_map (with_kept true) r) ≡ option_map root_of r
       by live None h = refl
-      by live (Some v) h = ap (λ (b : Bool). let r : Root = record { current = v.current; kept = b } in Some r) (sym (or_false (is_live site.root) v.kept h live))
+      by live (Some v) h = ap (λ (b : Bool). let r : Root = record { current = v.current; kept = b } in Some r)
+          (sym (or_false (is_live site.root) v.kept h live))
 
   -- what each effect leaves ------------------------------------------------------------------------------------
 
@@ -167,7 +182,8 @@ module _ (site : Site) where
     module _ (out : IsOutside site w.name) where
       leaves_remove : Leaves site o (after_remove o w)
       unfolding after_remove
-      leaves_remove = let next = with_workspaces o (without w.name o.workspaces) in leaves_then site o next _ (leaves_without o w.name out) (leaves_marks next w.parent _)
+      leaves_remove = let next = with_workspaces o (without w.name o.workspaces) in leaves_then site o next _ (leaves_without o w.name out)
+          (leaves_marks next w.parent _)
 
       leaves_roll_to : (s : Name) → Leaves site o (after_roll_to o w s)
       unfolding after_roll_to
@@ -203,12 +219,14 @@ module _ (site : Site) where
           let next = set_content o w.parent (merged_content o w) in
           leaves_then site o next _ (leaves_content o w.parent (merged_content o w) above) (leaves_modified next w.name with_base_merged (λ v. refl) out)
 
-  leaves_either : (o : Office) (w : Workspace) (gone : Bool) → IsOutside site w.name → IsOutside site w.parent → Leaves site o (cond gone (after_remove (after_merge o w) w) (after_merge o w))
+  leaves_either : (o : Office) (w : Workspace) (gone : Bool) → IsOutside site w.name → IsOutside site w.parent
+      → Leaves site o (cond gone (after_remove (after_merge o w) w) (after_merge o w))
   leaves_either o w true out above = leaves_then site o (after_merge o w) _ (leaves_merge o w out above) (leaves_remove (after_merge o w) w out)
   leaves_either o w false out above = leaves_merge o w out above
 
 -- an effect on the workspace of a name, if there is one
-leaves_on : (site : Site) (o : Office) (n : Name) (f : Workspace → Office) → ((w : Workspace) → workspace o n ≡ Some w → w.name ≡ n → Leaves site o (f w)) → Leaves site o (option_map_or f (workspace o n) o)
+leaves_on : (site : Site) (o : Office) (n : Name) (f : Workspace → Office) → ((w : Workspace) → workspace o n ≡ Some w → w.name ≡ n → Leaves site o (f w))
+    → Leaves site o (option_map_or f (workspace o n) o)
 leaves_on site o n f h = by (workspace o n) refl
   where
     by : (r : Option Workspace) → workspace o n ≡ r → Leaves site o (option_map_or f r o)
@@ -223,14 +241,16 @@ above : (site : Site) (o : Office) (n : Name) (w : Workspace) → workspace o n 
 unfolding is_under_other
 above site o n w e h = outside site w.parent (sym (ap (λ r. option_map_or (λ (v : Workspace). is_other site v.parent) r false) e) ∙ h)
 
-leaves_effect : (site : Site) (o : Office) (c : Command) → IsRootKept o site → is_quiet o site c ≡ true → is_of_member site c ≡ false → Leaves site o (effect o c)
+leaves_effect : (site : Site) (o : Office) (c : Command) → IsRootKept o site → is_quiet o site c ≡ true → is_of_member site c ≡ false
+    → Leaves site o (effect o c)
 unfolding effect is_quiet
 leaves_effect site o (command.Create n p) kept quiet plain = leaves_create site o n p (not-true _ quiet) kept
 leaves_effect site o (command.Remove n) kept quiet plain = leaves_on site o n _ (λ w is e. leaves_remove site o w (named site n w e (outside site n quiet)))
 leaves_effect site o (command.Apply n edits) kept quiet plain = leaves_apply site o n edits (outside site n quiet)
 leaves_effect site o (command.Mark n s) kept quiet plain = leaves_on site o n _ (λ w is e. leaves_mark site o w s)
 leaves_effect site o (command.Unmark n s) kept quiet plain = leaves_on site o n _ (λ w is e. leaves_unmark site o w s)
-leaves_effect site o (command.RollTo n s) kept quiet plain = leaves_on site o n _ (λ w is e. leaves_roll_to site o w (named site n w e (outside site n quiet)) s)
+leaves_effect site o (command.RollTo n s) kept quiet plain = leaves_on site o n _ (λ w is e. leaves_roll_to site o w (named site n w e (outside site n quiet))
+    s)
 leaves_effect site o (command.RollAll n) kept quiet plain = leaves_on site o n _ (λ w is e. leaves_roll_all site o w (named site n w e (outside site n quiet)))
 leaves_effect site o (command.Refresh n) kept quiet plain =
     let out : IsOutside site n = record { root = not-true _ (or_false _ _ quiet plain); members = plain } in
@@ -239,7 +259,8 @@ leaves_effect site o (command.Merge n gone) kept quiet plain =
     let both = and_parts (not (is_root site n)) (is_under_other o site n) (or_false _ _ quiet plain) in
     let out : IsOutside site n = record { root = not-true _ both.0; members = plain } in
     leaves_on site o n _ (λ w is e. leaves_either site o w gone (named site n w e out) (above site o n w is both.1))
-leaves_effect site o (command.Resolve n cell keep) kept quiet plain = leaves_on site o n _ (λ w is e. leaves_resolve site o w (named site n w e (outside site n quiet)) cell keep)
+leaves_effect site o (command.Resolve n cell keep) kept quiet plain = leaves_on site o n _
+    (λ w is e. leaves_resolve site o w (named site n w e (outside site n quiet)) cell keep)
 leaves_effect site o (command.Hold n) kept quiet plain = leaves_on site o n _ (λ w is e. by w e (is_root site n) refl)
   where
     by : (w : Workspace) → w.name ≡ n → (b : Bool) → is_root site n ≡ b → Leaves site o (set_kept o w true)

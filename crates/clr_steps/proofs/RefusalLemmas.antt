@@ -33,10 +33,13 @@ module _ (schema : List TableDef) (book : List Rule) (ws : List Workspace) (soun
 
   -- a command on a workspace, where it is refused for the same at the position under LIVE
   of_below : (c : Command) → ((k : ℕ) → find ws (name_in c) ≡ Some (suc k) → refusals_of o (workspace_at ws (suc k)) c ≡ refusals_at book ws (suc k) c)
-      → cond (is_live (name_in c)) (Some LiveIsFixed) (option_map_or (λ w. first_of (refusals_of o w c)) (workspace o (name_in c)) (Some NoWorkspace)) ≡ refusal_below (find ws (name_in c)) (λ at. refusals_at book ws at c)
+      → cond (is_live (name_in c)) (Some LiveIsFixed) (option_map_or (λ w. first_of (refusals_of o w c)) (workspace o (name_in c)) (Some NoWorkspace))
+      ≡ refusal_below (find ws (name_in c)) (λ at. refusals_at book ws at c)
   of_below c same = rw ((see (name_in c)).live, (see (name_in c)).found) (by (find ws (name_in c)) refl)
     where
-      by : (r : Option ℕ) → find ws (name_in c) ≡ r → cond (is_top r) (Some LiveIsFixed) (option_map_or (λ w. first_of (refusals_of o w c)) (below_top ws r) (Some NoWorkspace)) ≡ refusal_below r (λ at. refusals_at book ws at c)
+      by : (r : Option ℕ) → find ws (name_in c) ≡ r
+          → cond (is_top r) (Some LiveIsFixed) (option_map_or (λ w. first_of (refusals_of o w c)) (below_top ws r) (Some NoWorkspace))
+          ≡ refusal_below r (λ at. refusals_at book ws at c)
       by None e = refl
       by (Some zero) e = refl
       by (Some (suc k)) e = ap first_of (same k e)
@@ -55,7 +58,8 @@ module _ (schema : List TableDef) (book : List Rule) (ws : List Workspace) (soun
 
   pub refused_is : (c : Command) → refusal o c ≡ refusal_at schema book ws c
   unfolding refusal refusal_at refusals_of refusals_at edit_refusal breaks conflict is_in_conflict edited_content rolled_content merged_content resolved_content
-  refused_is (command.Create name parent) = rw ((see parent).stands, (see name).stands, none_is (find ws parent), full_is, depth_is schema book ws sound parent) refl
+  refused_is (command.Create name parent) = rw ((see parent).stands, (see name).stands, none_is (find ws parent), full_is, depth_is schema book ws sound parent)
+      refl
   refused_is (command.Apply name edits) = rw ((see name).stands, (see name).content, none_is (find ws name), kept_is schema book ws sound name) refl
   refused_is (command.Remove name) = of_below (command.Remove name) (λ k e. rw (child_here name k e) refl)
   refused_is (command.Mark name savepoint) = of_below (command.Mark name savepoint) (λ k e. refl)
@@ -63,10 +67,12 @@ module _ (schema : List TableDef) (book : List Rule) (ws : List Workspace) (soun
   refused_is (command.RollTo name savepoint) = of_below (command.RollTo name savepoint) (λ k e. rw (kept_here name k e) refl)
   refused_is (command.RollAll name) = of_below (command.RollAll name) (λ k e. rw (child_here name k e, kept_here name k e) refl)
   refused_is (command.Refresh name) = of_below (command.Refresh name) (λ k e. rw (above k, kept_here name k e) refl)
-  refused_is (command.Merge name remove) = of_below (command.Merge name remove) (λ k e. rw (above k, child_here name k e, kept_is schema book ws sound (workspace_at ws (suc k)).parent) refl)
+  refused_is (command.Merge name remove) = of_below (command.Merge name remove)
+      (λ k e. rw (above k, child_here name k e, kept_is schema book ws sound (workspace_at ws (suc k)).parent) refl)
   refused_is (command.Resolve name cell keep) = of_below (command.Resolve name cell keep) (λ k e.
       let w = workspace_at ws (suc k) in
-      rw (kept_here name k e) (ap (λ c. when (not (is_in_conflict_with c w cell)) NotInConflict ∷ broken_where w.kept book (keep_row cell keep c w).current ∷ []) (above k)))
+      rw (kept_here name k e) (ap (λ c. when (not (is_in_conflict_with c w cell)) NotInConflict ∷ broken_where w.kept book (keep_row cell keep c w).current
+      ∷ []) (above k)))
   refused_is (command.Hold name) = of_below (command.Hold name) (λ k e. refl)
   refused_is (command.Release name) = of_below (command.Release name) (λ k e. refl)
 

@@ -51,9 +51,11 @@ good_of o h = record {
         subst (λ c. Holds o.book (row_at c)) content (h n flag)
 
 holds_of : (o : Office) → Good o → HoldsWhereKept o
-holds_of o g n flag = subst (λ c. Holds o.book (row_at c)) (sym (content_seen o n)) (by (is_live n) refl (seen_by root_of n o.workspaces) (g.below n) (sym (kept_seen o n) ∙ flag))
+holds_of o g n flag = subst (λ c. Holds o.book (row_at c)) (sym (content_seen o n)) (by (is_live n) refl (seen_by root_of n o.workspaces) (g.below n)
+    (sym (kept_seen o n) ∙ flag))
   where
-    by : (b : Bool) → is_live n ≡ b → (r : Option Root) → (is_live n ≡ false → IsGood o.book r) → (is_live n || option_map_or (λ (r : Root). r.kept) r false) ≡ true
+    by : (b : Bool) → is_live n ≡ b → (r : Option Root) → (is_live n ≡ false → IsGood o.book r) → (is_live n || option_map_or (λ (r : Root). r.kept) r false)
+        ≡ true
         → Holds o.book (row_at (cond b o.live (option_map_or (λ (r : Root). r.current) r no_rows)))
     by true e r good h = g.live
     by false e None good h = absurd (false≢true (or_false (is_live n) false h e))
@@ -84,10 +86,13 @@ pub record IsUnrefused (o : Office) (c : Command) : Type 0 where
   pub is : workspace o (name_in c) ≡ Some at
   pub free : first_of (refusals_of o at c) ≡ None
 
-pub unrefused : (o : Office) (c : Command) → cond (is_live (name_in c)) (Some LiveIsFixed) (option_map_or (λ w. first_of (refusals_of o w c)) (workspace o (name_in c)) (Some NoWorkspace)) ≡ None → IsUnrefused o c
+pub unrefused : (o : Office) (c : Command)
+    → cond (is_live (name_in c)) (Some LiveIsFixed) (option_map_or (λ w. first_of (refusals_of o w c)) (workspace o (name_in c)) (Some NoWorkspace)) ≡ None
+    → IsUnrefused o c
 unrefused o c e = by (is_live (name_in c)) (workspace o (name_in c)) refl e
   where
-    by : (b : Bool) (r : Option Workspace) → workspace o (name_in c) ≡ r → cond b (Some LiveIsFixed) (option_map_or (λ w. first_of (refusals_of o w c)) r (Some NoWorkspace)) ≡ None → IsUnrefused o c
+    by : (b : Bool) (r : Option Workspace) → workspace o (name_in c) ≡ r
+        → cond b (Some LiveIsFixed) (option_map_or (λ w. first_of (refusals_of o w c)) r (Some NoWorkspace)) ≡ None → IsUnrefused o c
     by true r is e = absurd (cc)
     by false None is e = absurd (cc)
     by false (Some w) is e = record { at = w; is = is; free = e }
@@ -102,7 +107,8 @@ module _ (o : Office) (g : Good o) where
   good_marks m f = same_seen (modify_marks m f o.workspaces) (λ n. seen_marks root_of n (λ w marks. refl) m f o.workspaces)
 
   -- a modification after which what is found under the name is good
-  good_modify : (m : Name) (f : Workspace → Workspace) → LeavesName f → ((v : Workspace) → is_live m ≡ false → find_name m o.workspaces ≡ Some v → IsGood o.book (Some (root_of (f v)))) → Good (with_workspaces o (modify m f o.workspaces))
+  good_modify : (m : Name) (f : Workspace → Workspace) → LeavesName f → ((v : Workspace) → is_live m ≡ false → find_name m o.workspaces ≡ Some v
+      → IsGood o.book (Some (root_of (f v)))) → Good (with_workspaces o (modify m f o.workspaces))
   good_modify m f leaves good = record { live = g.live; below = λ n e. by n e (same_name m n) refl }
     where
       found : is_live m ≡ false → (r : Option Workspace) → find_name m o.workspaces ≡ r → IsGood o.book (option_map root_of (option_map f r))
@@ -113,7 +119,8 @@ module _ (o : Office) (g : Good o) where
       by n e true same =
           let one = same_is m n same in
           subst (λ k. IsGood o.book (seen_by root_of k (modify m f o.workspaces))) one
-          (subst (IsGood o.book) (sym (ap (option_map root_of) (find_modify m f leaves o.workspaces))) (found (ap is_live one ∙ e) (find_name m o.workspaces) refl))
+          (subst (IsGood o.book) (sym (ap (option_map root_of) (find_modify m f leaves o.workspaces))) (found (ap is_live one
+          ∙ e) (find_name m o.workspaces) refl))
       by n e false apart = subst (IsGood o.book) (sym (seen_other root_of n m f leaves apart o.workspaces)) (g.below n e)
 
   good_without : (m : Name) → Good (with_workspaces o (without m o.workspaces))
@@ -122,7 +129,8 @@ module _ (o : Office) (g : Good o) where
       by : (n : Name) → is_live n ≡ false → (b : Bool) → same_name m n ≡ b → IsGood o.book (seen_by root_of n (without m o.workspaces))
       by n e true same =
           let one = same_is m n same in
-          subst (λ k. IsGood o.book (seen_by root_of k (without m o.workspaces))) one (subst (IsGood o.book) (sym (ap (option_map root_of) (find_without m o.workspaces))) tt)
+          subst (λ k. IsGood o.book (seen_by root_of k (without m o.workspaces))) one
+          (subst (IsGood o.book) (sym (ap (option_map root_of) (find_without m o.workspaces))) tt)
       by n e false apart = subst (IsGood o.book) (sym (seen_without root_of n m apart o.workspaces)) (g.below n e)
 
   -- a new workspace isn't kept
@@ -137,7 +145,9 @@ module _ (o : Office) (g : Good o) where
       by n [] h = last (same_name n w.name)
       by n (v ∷ ws) h = go (same_name n v.name) h (by n ws)
         where
-          go : (b : Bool) → IsGood o.book (option_map root_of (cond b (Some v) (find_name n ws))) → (IsGood o.book (seen_by root_of n ws) → IsGood o.book (seen_by root_of n (ws ++ w ∷ []))) → IsGood o.book (option_map root_of (cond b (Some v) (find_name n (ws ++ w ∷ []))))
+          go : (b : Bool) → IsGood o.book (option_map root_of (cond b (Some v) (find_name n ws)))
+              → (IsGood o.book (seen_by root_of n ws) → IsGood o.book (seen_by root_of n (ws ++ w ∷ [])))
+              → IsGood o.book (option_map root_of (cond b (Some v) (find_name n (ws ++ w ∷ []))))
           go true h rest = h
           go false h rest = rest h
 
@@ -149,8 +159,13 @@ module _ (o : Office) (g : Good o) where
   good_content m content none = by (is_live m) refl
     where
       by : (b : Bool) → is_live m ≡ b → Good (cond b (record o { live = content }) (record o { workspaces = modify m (with_current content) o.workspaces }))
-      by true e = record { live = holds_where (is_kept o m) o.book content none (kept_seen o m ∙ ap (λ b. b || option_map_or (λ (r : Root). r.kept) (seen_by root_of m o.workspaces) false) e); below = g.below }
-      by false e = good_modify m (with_current content) (λ v. refl) (λ v live is. λ kept. holds_where (is_kept o m) o.book content none (kept_is m v live is ∙ kept))
+      by true e = record {
+        live = holds_where (is_kept o m) o.book content none (kept_seen o m
+            ∙ ap (λ b. b || option_map_or (λ (r : Root). r.kept) (seen_by root_of m o.workspaces) false) e);
+        below = g.below;
+      }
+      by false e = good_modify m (with_current content) (λ v. refl) (λ v live is. λ kept. holds_where (is_kept o m) o.book content none (kept_is m v live is
+          ∙ kept))
 
   -- a workspace that was found
   module _ (n : Name) (w : Workspace) (is : workspace o n ≡ Some w) where
@@ -166,19 +181,22 @@ module _ (o : Office) (g : Good o) where
             some k = cc
 
     -- another content, which isn't refused
-    good_workspace : (f : Workspace → Workspace) → LeavesName f → (f w).kept ≡ w.kept → breaks o w.name (f w).current ≡ None → Good (with_workspaces o (modify w.name f o.workspaces))
+    good_workspace : (f : Workspace → Workspace) → LeavesName f → (f w).kept ≡ w.kept → breaks o w.name (f w).current ≡ None
+        → Good (with_workspaces o (modify w.name f o.workspaces))
     unfolding breaks
     good_workspace f leaves flag none = good_modify w.name f leaves (λ v live e. λ kept.
         let one = found_again v e in
         subst (λ (x : Workspace). Holds o.book (row_at (f x).current)) (sym one)
-        (holds_where (is_kept o w.name) o.book (f w).current none (kept_is w.name v live e ∙ ap (λ (x : Workspace). x.kept) one ∙ sym flag ∙ ap (λ (x : Workspace). (f x).kept) (sym one) ∙ kept)))
+        (holds_where (is_kept o w.name) o.book (f w).current none (kept_is w.name v live e ∙ ap (λ (x : Workspace). x.kept) one ∙ sym flag
+        ∙ ap (λ (x : Workspace). (f x).kept) (sym one) ∙ kept)))
 
     -- held, where every rule holds in it already or isn't refused
     good_hold : broken_where (not w.kept) o.book w.current ≡ None → Good (set_kept o w true)
     unfolding set_kept
     good_hold none = good_modify w.name (with_kept true) (λ v. refl) (λ v live e. λ kept.
         let one = found_again v e in
-        subst (λ (x : Workspace). Holds o.book (row_at x.current)) (sym one) (by w.kept refl none (subst (λ x. IsGood o.book (option_map root_of x)) (e ∙ ap Some one) (g.below w.name live))))
+        subst (λ (x : Workspace). Holds o.book (row_at x.current)) (sym one) (by w.kept refl none (subst (λ x. IsGood o.book (option_map root_of x)) (e
+        ∙ ap Some one) (g.below w.name live))))
       where
         by : (b : Bool) → w.kept ≡ b → broken_where (not b) o.book w.current ≡ None → IsGood o.book (Some (root_of w)) → Holds o.book (row_at w.current)
         by true h none old = old h
@@ -196,23 +214,28 @@ good_merge : (o : Office) → Good o → (w : Workspace) → breaks o w.parent (
 unfolding after_merge
 good_merge o g w none =
     let above = set_content o w.parent (merged_content o w) in
-    same_seen above (good_content o g w.parent (merged_content o w) none) (modify w.name with_base_merged above.workspaces) (λ n. seen_modify root_of n w.name with_base_merged (λ v. refl) (λ v p q. refl) above.workspaces)
+    same_seen above (good_content o g w.parent (merged_content o w) none) (modify w.name with_base_merged above.workspaces)
+    (λ n. seen_modify root_of n w.name with_base_merged (λ v. refl) (λ v p q. refl) above.workspaces)
 
-good_either : (o : Office) → Good o → (w : Workspace) (gone : Bool) → breaks o w.parent (merged_content o w) ≡ None → Good (cond gone (after_remove (after_merge o w) w) (after_merge o w))
+good_either : (o : Office) → Good o → (w : Workspace) (gone : Bool) → breaks o w.parent (merged_content o w) ≡ None
+    → Good (cond gone (after_remove (after_merge o w) w) (after_merge o w))
 good_either o g w true none = good_remove (after_merge o w) (good_merge o g w none) w
 good_either o g w false none = good_merge o g w none
 
-good_roll_to : (o : Office) → Good o → (n : Name) (w : Workspace) (s : Name) → workspace o n ≡ Some w → breaks o w.name (rolled_content w s) ≡ None → Good (after_roll_to o w s)
+good_roll_to : (o : Office) → Good o → (n : Name) (w : Workspace) (s : Name) → workspace o n ≡ Some w → breaks o w.name (rolled_content w s) ≡ None
+    → Good (after_roll_to o w s)
 unfolding after_roll_to rolled_content
 good_roll_to o g n w s is none = by (find_mark w.marks s) none
   where
-    by : (r : Option _) → breaks o w.name (option_map_or (λ i. saved_content (mark_at w.marks i)) r w.current) ≡ None → Good (option_map_or (λ i. let next : Office = record o { workspaces = modify w.name (roll_to i) o.workspaces } in next) r o)
+    by : (r : Option _) → breaks o w.name (option_map_or (λ i. saved_content (mark_at w.marks i)) r w.current) ≡ None
+        → Good (option_map_or (λ i. let next : Office = record o { workspaces = modify w.name (roll_to i) o.workspaces } in next) r o)
     by None h = g
     by (Some i) h = good_workspace o g n w is (roll_to i) (λ v. refl) refl h
 
 good_create : (o : Office) → Good o → (n p : Name) → Good (after_create o n p)
 unfolding after_create
-good_create o g n p = good_append (with_workspaces o (modify_marks p (with_mark_of n) o.workspaces)) (good_marks o g p (with_mark_of n)) (new_leaf n p (content_of o p)) refl
+good_create o g n p = good_append (with_workspaces o (modify_marks p (with_mark_of n) o.workspaces)) (good_marks o g p (with_mark_of n))
+    (new_leaf n p (content_of o p)) refl
 
 good_mark : (o : Office) → Good o → (w : Workspace) (s : Name) → Good (after_mark o w s)
 unfolding after_mark
@@ -226,13 +249,15 @@ good_roll_all : (o : Office) → Good o → (n : Name) (w : Workspace) → works
 unfolding after_roll_all
 good_roll_all o g n w is none = good_workspace o g n w is roll_all (λ v. refl) refl none
 
-good_refresh : (o : Office) → Good o → (n : Name) (w : Workspace) → workspace o n ≡ Some w → breaks o w.name (merged_content o w) ≡ None → Good (after_refresh o w)
+good_refresh : (o : Office) → Good o → (n : Name) (w : Workspace) → workspace o n ≡ Some w → breaks o w.name (merged_content o w) ≡ None
+    → Good (after_refresh o w)
 unfolding after_refresh merged_content
 good_refresh o g n w is none =
     let f = refresh (content_of o w.parent) in
     good_marks (with_workspaces o (modify w.name f o.workspaces)) (good_workspace o g n w is f (λ v. refl) refl none) w.parent _
 
-good_resolve : (o : Office) → Good o → (n : Name) (w : Workspace) (cell : _) (keep : _) → workspace o n ≡ Some w → breaks o w.name (resolved_content o w cell keep) ≡ None → Good (after_resolve o w cell keep)
+good_resolve : (o : Office) → Good o → (n : Name) (w : Workspace) (cell : _) (keep : _) → workspace o n ≡ Some w
+    → breaks o w.name (resolved_content o w cell keep) ≡ None → Good (after_resolve o w cell keep)
 unfolding after_resolve resolved_content
 good_resolve o g n w cell keep is none = good_workspace o g n w is (keep_row cell keep (content_of o w.parent)) (name keep) (flag keep) none
   where
@@ -258,10 +283,13 @@ on_found o c u f g = subst (λ r. Good (option_map_or f r o)) (sym u.is) g
 good_effect : (o : Office) → Good o → (c : Command) → refusal o c ≡ None → Good (effect o c)
 unfolding effect refusal refusals_of
 good_effect o g (command.Create n p) none = good_create o g n p
-good_effect o g (command.Apply n edits) none = good_apply o g n edits (each_none (when (not (stands o n)) NoWorkspace ∷ edit_refusal o n edits ∷ breaks o n (edited_content o n edits) ∷ []) none).1.1.0
+good_effect o g (command.Apply n edits) none = good_apply o g n edits (each_none (when (not (stands o n)) NoWorkspace ∷ edit_refusal o n edits
+    ∷ breaks o n (edited_content o n edits) ∷ []) none).1.1.0
 good_effect o g (command.Remove n) none = let c = command.Remove n in let u = unrefused o c none in on_found o c u (after_remove o) (good_remove o g u.at)
-good_effect o g (command.Mark n s) none = let c = command.Mark n s in let u = unrefused o c none in on_found o c u (λ w. after_mark o w s) (good_mark o g u.at s)
-good_effect o g (command.Unmark n s) none = let c = command.Unmark n s in let u = unrefused o c none in on_found o c u (λ w. after_unmark o w s) (good_unmark o g u.at s)
+good_effect o g (command.Mark n s) none = let c = command.Mark n s in let u = unrefused o c none in on_found o c u (λ w. after_mark o w s)
+    (good_mark o g u.at s)
+good_effect o g (command.Unmark n s) none = let c = command.Unmark n s in let u = unrefused o c none in on_found o c u (λ w. after_unmark o w s)
+    (good_unmark o g u.at s)
 good_effect o g (command.RollTo n s) none =
     let c = command.RollTo n s in
     let u = unrefused o c none in
@@ -277,13 +305,16 @@ good_effect o g (command.Refresh n) none =
 good_effect o g (command.Merge n gone) none =
     let c = command.Merge n gone in
     let u = unrefused o c none in
-    on_found o c u (λ w. cond gone (after_remove (after_merge o w) w) (after_merge o w)) (good_either o g u.at gone (each_none (refusals_of o u.at c) u.free).1.1.0)
+    on_found o c u (λ w. cond gone (after_remove (after_merge o w) w) (after_merge o w))
+    (good_either o g u.at gone (each_none (refusals_of o u.at c) u.free).1.1.0)
 good_effect o g (command.Resolve n cell keep) none =
     let c = command.Resolve n cell keep in
     let u = unrefused o c none in
     on_found o c u (λ w. after_resolve o w cell keep) (good_resolve o g n u.at cell keep u.is (each_none (refusals_of o u.at c) u.free).1.0)
-good_effect o g (command.Hold n) none = let c = command.Hold n in let u = unrefused o c none in on_found o c u (λ w. set_kept o w true) (good_hold o g n u.at u.is (each_none (refusals_of o u.at c) u.free).0)
-good_effect o g (command.Release n) none = let c = command.Release n in let u = unrefused o c none in on_found o c u (λ w. set_kept o w false) (good_release o g u.at)
+good_effect o g (command.Hold n) none = let c = command.Hold n in let u = unrefused o c none in on_found o c u (λ w. set_kept o w true)
+    (good_hold o g n u.at u.is (each_none (refusals_of o u.at c) u.free).0)
+good_effect o g (command.Release n) none = let c = command.Release n in let u = unrefused o c none in on_found o c u (λ w. set_kept o w false)
+    (good_release o g u.at)
 
 pub rules_law : RulesLaw
 unfolding step

@@ -16,7 +16,8 @@ run_law o (c ∷ cs) [] left e = absurd e
 run_law o (c ∷ cs) (reply ∷ replies) left e =
     let first : answer reply e.0 ≡ step_or_lost (is_lost reply) o c = e.1 in
     let same : (λ k. lost_in (reply ∷ replies) (k + 1)) ≡ lost_in replies = λ i k. lost_later reply replies k i in
-    ap (λ (a : Answer). let rest = run a.office cs (λ k. lost_in (reply ∷ replies) (k + 1)) in let r : Run = record { replies = a.reply ∷ rest.replies; office = rest.office } in r) (sym first)
+    ap (λ (a : Answer). let rest = run a.office cs (λ k. lost_in (reply ∷ replies) (k + 1)) in
+    let r : Run = record { replies = a.reply ∷ rest.replies; office = rest.office } in r) (sym first)
     ∙ ap (λ lost. let rest = run e.0 cs lost in let r : Run = record { replies = reply ∷ rest.replies; office = rest.office } in r) same
     ∙ ap (λ (rest : Run). let r : Run = record { replies = reply ∷ rest.replies; office = rest.office } in r) (run_law e.0 cs replies left e.2)
 

@@ -39,7 +39,8 @@ find_name_is n (w ∷ ws) = by (find_name_is n ws) (bytes_eq n w.name) refl
     later None = refl
     later (Some k) = refl
 
-    by : find_name n ws ≡ option_map (workspace_at ws) (find ws n) → (b : Bool) → bytes_eq n w.name ≡ b → cond b (Some w) (find_name n ws) ≡ option_map (workspace_at (w ∷ ws)) (find (w ∷ ws) n)
+    by : find_name n ws ≡ option_map (workspace_at ws) (find ws n) → (b : Bool) → bytes_eq n w.name ≡ b → cond b (Some w) (find_name n ws)
+        ≡ option_map (workspace_at (w ∷ ws)) (find (w ∷ ws) n)
     by rest true e = sym (ap (option_map (workspace_at (w ∷ ws))) (position_here (has_name n) w ws e))
     by rest false e = rest ∙ later (find ws n) ∙ sym (ap (option_map (workspace_at (w ∷ ws))) (position_later (has_name n) w ws e))
 
@@ -58,7 +59,8 @@ module _ (schema : List TableDef) (book : List Rule) where
   seen [] sound n = absurd (omega (arith, sound.rooted.filled))
   seen (l ∷ ws) sound n = by (bytes_eq n live_name) refl
     where
-      last : (r : Option ℕ) → bytes_eq n live_name ≡ false → find (l ∷ ws) n ≡ option_map suc r → find_name n ws ≡ option_map (workspace_at ws) r → Seen (office_of schema book (l ∷ ws)) (l ∷ ws) n
+      last : (r : Option ℕ) → bytes_eq n live_name ≡ false → find (l ∷ ws) n ≡ option_map suc r → find_name n ws ≡ option_map (workspace_at ws) r
+          → Seen (office_of schema book (l ∷ ws)) (l ∷ ws) n
       last None e f g = record { live = rw (e, f) refl; found = rw (e, f, g) refl; stands = rw (e, f, g) refl; content = rw (e, f, g) refl }
       last (Some k) e f g = record { live = rw (e, f) refl; found = rw (e, f, g) refl; stands = rw (e, f, g) refl; content = rw (e, f, g) refl }
 
@@ -113,14 +115,17 @@ module _ (schema : List TableDef) (book : List Rule) where
     unfolding has_child same_name
     child_is at lt =
         let n = (workspace_at ws at).name in
-        any_is (λ w. bytes_eq n w.parent) (below_live ws) ∙ ap (nat_lt 0) (by ws n (ap (bytes_eq n) sound.rooted.top ∙ not_empty n at (sound.rooted.own at lt)) ∙ length-filter (λ w. bytes_eq n w.parent) ws)
+        any_is (λ w. bytes_eq n w.parent) (below_live ws) ∙ ap (nat_lt 0) (by ws n (ap (bytes_eq n) sound.rooted.top ∙ not_empty n at (sound.rooted.own at lt))
+        ∙ length-filter (λ w. bytes_eq n w.parent) ws)
       where
-        by : (vs : List Workspace) (n : Name) → bytes_eq n (workspace_at vs 0).parent ≡ false → length (filter (λ w. bytes_eq n w.parent) (below_live vs)) ≡ length (filter (λ w. bytes_eq n w.parent) vs)
+        by : (vs : List Workspace) (n : Name) → bytes_eq n (workspace_at vs 0).parent ≡ false → length (filter (λ w. bytes_eq n w.parent) (below_live vs))
+            ≡ length (filter (λ w. bytes_eq n w.parent) vs)
         by [] n other = refl
         by (l ∷ vs) n other = rw other refl
 
     -- parents stand earlier, so as many steps as there are positions before are enough
-    depth_steps : (most steps at : ℕ) (n : Name) → at ≤ most → at ≤ steps → find ws n ≡ Some at → depth_within most (office_of schema book ws) n ≡ tree.depth_within ws steps at
+    depth_steps : (most steps at : ℕ) (n : Name) → at ≤ most → at ≤ steps → find ws n ≡ Some at → depth_within most (office_of schema book ws) n
+        ≡ tree.depth_within ws steps at
     unfolding depth_within tree.depth_within
     depth_steps zero zero at n lm ls e = refl
     depth_steps zero (suc steps) zero n lm ls e = rw no_parent refl
@@ -130,7 +135,8 @@ module _ (schema : List TableDef) (book : List Rule) where
     depth_steps (suc most) (suc steps) zero n lm ls e = rw ((seen ws sound n).found, e, no_parent) refl
     depth_steps (suc most) (suc steps) (suc k) n lm ls e =
         let u = sound.rooted.under (suc k) (omega arith) (within n (suc k) e) in
-        rw ((seen ws sound n).found, e, u.1) (ap (λ d. d + 1) (depth_steps most steps u.0 (workspace_at ws (suc k)).parent (omega (arith, u.2)) (omega (arith, u.2)) u.1))
+        rw ((seen ws sound n).found, e, u.1) (ap (λ d. d + 1) (depth_steps most steps u.0 (workspace_at ws (suc k)).parent (omega (arith, u.2))
+        (omega (arith, u.2)) u.1))
 
     -- LIVE and those under it
     pub length_is : length ws ≡ suc (length (below_live ws))
@@ -155,4 +161,12 @@ module _ (schema : List TableDef) (book : List Rule) where
 pub name_law : NameLaw
 name_law schema book ws sound n =
     let s = seen schema book ws sound n in
-    record { live = s.live; workspace = s.found; stands = s.stands; content = s.content; kept = kept_is schema book ws sound n; depth = depth_is schema book ws sound n }
+    record {
+      live = s.live;
+      workspace = s.found;
+      stands = s.stands;
+      content = s.content;
+      kept = kept_is schema book ws sound n;
+      depth = depth_is schema book ws
+          sound n;
+    }

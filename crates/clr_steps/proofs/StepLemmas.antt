@@ -40,7 +40,8 @@ module _ (schema : List TableDef) (book : List Rule) (ws : List Workspace) (soun
   o = office_of schema book ws
 
   -- an operation at the position that was found
-  at_found : (r : Option ℕ) (at : ℕ) (f : ℕ → List Workspace) (next : Office) → r ≡ Some at → office_of schema book (f at) ≡ next → office_of schema book (at_position ws r f) ≡ next
+  at_found : (r : Option ℕ) (at : ℕ) (f : ℕ → List Workspace) (next : Office) → r ≡ Some at → office_of schema book (f at) ≡ next
+      → office_of schema book (at_position ws r f) ≡ next
   at_found r at f next e is = ap (λ r. office_of schema book (at_position ws r f)) e ∙ is
 
   -- a command on a workspace under LIVE
@@ -60,7 +61,8 @@ module _ (schema : List TableDef) (book : List Rule) (ws : List Workspace) (soun
   effect_is (command.Apply n edits) e =
       let h = is_there (find ws n) _ _ e in
       at_found (find ws n) h.0 (edit_at ws edits) (effect o (command.Apply n edits)) h.1 (left.apply_is schema book ws sound n edits h.0 h.1)
-  effect_is (command.Remove n) e = on_below n (command.Remove n) (tree.after_remove ws) e (λ k is passes. let u = parent n k is in left.remove_is schema book ws sound n k u.0 is u.1 u.2)
+  effect_is (command.Remove n) e = on_below n (command.Remove n) (tree.after_remove ws) e (λ k is passes. let u = parent n k is in left.remove_is schema book ws
+      sound n k u.0 is u.1 u.2)
   effect_is (command.Mark n s) e = on_below n (command.Mark n s) (λ at. tree.after_mark ws at s) e (λ k is passes. left.mark_is schema book ws sound n s k is)
   effect_is (command.Unmark n s) e = on_below n (command.Unmark n s) (λ at. at_savepoint ws at s (tree.after_unmark ws at)) e (λ k is passes.
       let r = find_mark (workspace_at ws (suc k)).marks s in
@@ -71,11 +73,15 @@ module _ (schema : List TableDef) (book : List Rule) (ws : List Workspace) (soun
       let h = is_there r _ _ passes in
       at_found r h.0 (tree.after_roll_to ws (suc k)) (effect o (command.RollTo n s)) h.1 (left.roll_to_is schema book ws sound n s k h.0 is h.1))
   effect_is (command.RollAll n) e = on_below n (command.RollAll n) (tree.after_roll_all ws) e (λ k is passes. left.roll_all_is schema book ws sound n k is)
-  effect_is (command.Refresh n) e = on_below n (command.Refresh n) (λ at. tree.after_rebase ws at rebase.Refresh) e (λ k is passes. let u = parent n k is in left.refresh_is schema book ws sound n k u.0 is u.1 u.2)
-  effect_is (command.Merge n gone) e = on_below n (command.Merge n gone) (merge_at ws gone) e (λ k is passes. let u = parent n k is in left.merge_is schema book ws sound n gone k u.0 is u.1 u.2)
-  effect_is (command.Resolve n cell keep) e = on_below n (command.Resolve n cell keep) (λ at. tree.after_rebase ws at (rebase.OneRow cell keep)) e (λ k is passes. let u = parent n k is in left.resolve_is schema book ws sound n cell keep k u.0 is u.1)
+  effect_is (command.Refresh n) e = on_below n (command.Refresh n) (λ at. tree.after_rebase ws at rebase.Refresh) e (λ k is passes. let u = parent n k is in
+      left.refresh_is schema book ws sound n k u.0 is u.1 u.2)
+  effect_is (command.Merge n gone) e = on_below n (command.Merge n gone) (merge_at ws gone) e (λ k is passes. let u = parent n k is in left.merge_is schema book
+      ws sound n gone k u.0 is u.1 u.2)
+  effect_is (command.Resolve n cell keep) e = on_below n (command.Resolve n cell keep) (λ at. tree.after_rebase ws at (rebase.OneRow cell keep)) e
+      (λ k is passes. let u = parent n k is in left.resolve_is schema book ws sound n cell keep k u.0 is u.1)
   effect_is (command.Hold n) e = on_below n (command.Hold n) (λ at. tree.set_kept ws at true) e (λ k is passes. left.hold_is schema book ws sound n k is)
-  effect_is (command.Release n) e = on_below n (command.Release n) (λ at. tree.set_kept ws at false) e (λ k is passes. left.release_is schema book ws sound n k is)
+  effect_is (command.Release n) e = on_below n (command.Release n) (λ at. tree.set_kept ws at false) e (λ k is passes. left.release_is schema book ws sound n k
+      is)
 
 pub effect_law : EffectLaw
 effect_law = effect_is
@@ -84,7 +90,8 @@ pub step_law : StepLaw
 unfolding step
 step_law schema book ws sound c = rw (refused_is schema book ws sound c) (by (refusal_at schema book ws c) refl)
   where
-    by : (r : Option Reply) → refusal_at schema book ws c ≡ r → refused_or_done r (office_of schema book ws) (effect (office_of schema book ws) c) ≡ refused_or_done r (office_of schema book ws) (office_of schema book (effect_at ws c))
+    by : (r : Option Reply) → refusal_at schema book ws c ≡ r → refused_or_done r (office_of schema book ws) (effect (office_of schema book ws) c)
+        ≡ refused_or_done r (office_of schema book ws) (office_of schema book (effect_at ws c))
     by None e = ap (refused_or_done None (office_of schema book ws)) (sym (effect_is schema book ws sound c e))
     by (Some reply) e = refl
 
@@ -95,4 +102,5 @@ answer_law schema book ws sound c reply left (refused e l) =
     let is : step o c ≡ answer reply o = step_law schema book ws sound c ∙ ap (λ r. refused_or_done r o (office_of schema book (effect_at ws c))) e in
     let found : is_lost reply ≡ false = sym (ap (λ (a : Answer). is_lost a.reply) is) ∙ memory_law o c in
     rw (found, l) (sym is)
-answer_law schema book ws sound c reply left (done e d l) = rw (d, l) (sym (step_law schema book ws sound c ∙ ap (λ r. refused_or_done r (office_of schema book ws) (office_of schema book (effect_at ws c))) e))
+answer_law schema book ws sound c reply left (done e d l) = rw (d, l) (sym (step_law schema book ws sound c
+    ∙ ap (λ r. refused_or_done r (office_of schema book ws) (office_of schema book (effect_at ws c))) e))

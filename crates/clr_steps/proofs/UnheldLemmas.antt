@@ -25,13 +25,15 @@ none_then None at rest e = (refl, e)
 none_then (Some b) at rest e = absurd (cc)
 
 -- none is found exactly where no position has one
-each_none : (book : List Rule) (at : ℕ) (ws : List Workspace) → unheld_from book at ws ≡ None → (i : ℕ) → i < length ws → need_of book (workspace_at ws i) ≡ None
+each_none : (book : List Rule) (at : ℕ) (ws : List Workspace) → unheld_from book at ws ≡ None → (i : ℕ) → i < length ws → need_of book (workspace_at ws i)
+    ≡ None
 unfolding unheld_from
 each_none book at [] e i lt = absurd (omega arith)
 each_none book at (w ∷ ws) e zero lt = (none_then (need_of book w) at (unheld_from book (suc at) ws) e).0
 each_none book at (w ∷ ws) e (suc i) lt = each_none book (suc at) ws (none_then (need_of book w) at (unheld_from book (suc at) ws) e).1 i (omega arith)
 
-none_of_each : (book : List Rule) (at : ℕ) (ws : List Workspace) → ((i : ℕ) → i < length ws → need_of book (workspace_at ws i) ≡ None) → unheld_from book at ws ≡ None
+none_of_each : (book : List Rule) (at : ℕ) (ws : List Workspace) → ((i : ℕ) → i < length ws → need_of book (workspace_at ws i) ≡ None) → unheld_from book at ws
+    ≡ None
 unfolding unheld_from
 none_of_each book at [] each = refl
 none_of_each book at (w ∷ ws) each = rw (each 0 (omega arith)) (none_of_each book (suc at) ws (λ i lt. each (suc i) (omega arith)))
@@ -59,7 +61,8 @@ module _ (schema : List TableDef) (book : List Rule) (ws : List Workspace) (soun
           let n = (workspace_at ws i).name in
           let there = sound.rooted.own i lt in
           let kept : is_kept o n ≡ true = kept_is schema book ws sound n ∙ ap (kept_at ws) there ∙ e in
-          none_if_holds book (workspace_at ws i).current (subst (λ c. Holds book (row_at c)) ((seen schema book ws sound n).content ∙ ap (content_at ws) there) (h n kept))
+          none_if_holds book (workspace_at ws i).current (subst (λ c. Holds book (row_at c)) ((seen schema book ws sound n).content
+          ∙ ap (content_at ws) there) (h n kept))
 
 pub unheld_law : UnheldLaw
 unheld_law schema book ws sound = (holds schema book ws sound, free schema book ws sound)

@@ -33,7 +33,8 @@ none_listed [] e = refl
 none_listed (c ∷ cs) e = absurd (cc)
 
 -- at each changed cell, the content has the row of the base
-agrees : (above : Content) (w : Workspace) → conflict_with above w ≡ None → (cell : CellId) → is_changed w.base w.current cell ≡ true → row_at above cell ≡ row_at w.base cell
+agrees : (above : Content) (w : Workspace) → conflict_with above w ≡ None → (cell : CellId) → is_changed w.base w.current cell ≡ true → row_at above cell
+    ≡ row_at w.base cell
 agrees above w none cell e =
     untouched_from_none above (own_changes w) (none_listed (conflicts above (own_changes w)) none) cell (change_of w.base w.current cell)
     (get-changes w.base w.current cell ∙ ap (λ b. cond b (Some (change_of w.base w.current cell)) None) e)
@@ -48,7 +49,8 @@ no_cell above w none cell = by (is_changed w.base w.current cell) refl
 none_of_cells : (above : Content) (w : Workspace) → ((cell : CellId) → is_in_conflict_with above w cell ≡ false) → conflict_with above w ≡ None
 none_of_cells above w free = ap (λ cells. option_map in_conflict (least_and_count cells)) (none_from_untouched above (own_changes w) untouched)
   where
-    by : (cell : CellId) (change : Change) (b : Bool) → (b && not (same (row_at above cell) (row_at w.base cell))) ≡ false → cond b (Some (change_of w.base w.current cell)) None ≡ Some change → row_at above cell ≡ change.before
+    by : (cell : CellId) (change : Change) (b : Bool) → (b && not (same (row_at above cell) (row_at w.base cell))) ≡ false
+        → cond b (Some (change_of w.base w.current cell)) None ≡ Some change → row_at above cell ≡ change.before
     by cell change false h e = absurd (cc)
     by cell change true h e =
         let one : change_of w.base w.current cell ≡ change = cc in
@@ -67,9 +69,11 @@ refresh_law above w none cell =
     ap (λ r. cond (not (same (row_at above cell) r)) (Some r) None) (row-merged above w.base w.current cell) ∙ by (is_changed w.base w.current cell) refl
   where
     by : (b : Bool) → is_changed w.base w.current cell ≡ b
-        → (let r = unwrap_or (cond b (Some (row_at w.current cell)) None) (row_at above cell) in cond (not (same (row_at above cell) r)) (Some r) None) ≡ cond b (Some (row_at w.current cell)) None
+        → (let r = unwrap_or (cond b (Some (row_at w.current cell)) None) (row_at above cell) in cond (not (same (row_at above cell) r)) (Some r) None)
+        ≡ cond b (Some (row_at w.current cell)) None
     by false e = rw (same_itself (row_at above cell)) refl
-    by true e = ap (λ r. cond (not (same r (row_at w.current cell))) (Some (row_at w.current cell)) None) (agrees above w none cell e) ∙ ap (λ b. cond b (Some (row_at w.current cell)) None) e
+    by true e = ap (λ r. cond (not (same r (row_at w.current cell))) (Some (row_at w.current cell)) None) (agrees above w none cell e)
+        ∙ ap (λ b. cond b (Some (row_at w.current cell)) None) e
 
 -- one cell ----------------------------------------------------------------------------------------------------------
 

@@ -41,7 +41,7 @@ fn add_hex(text: &mut Vec<u8>, number: u8) -> Result<(), AllocError>
     Ok(())
 }
 
-/// Adds a colour, as `#0072b2`. Fails for want of memory alone.
+/// Adds a colour, as `#0072b2`.
 #[tactic(auto, unfolding(crate::specs::Numbers::colour_text))]
 pub fn add_colour(text: &mut Vec<u8>, colour: Colour) -> Result<(), AllocError>
     ensures { OnOk result (text.new.items ≡ text.old.items ++ colour_text colour) }

@@ -198,7 +198,7 @@ fn add_label(text: &mut Vec<u8>, label: &Label) -> Result<(), AllocError>
     text.extend_from_slice(b"</text>\n")
 }
 
-/// Adds an element. Fails for want of memory alone.
+/// Adds an element.
 pub(crate) fn add_element(text: &mut Vec<u8>, element: &Element) -> Result<(), AllocError>
     ensures { OnOk result (text.new.items ≡ text.old.items ++ element_text element.now) }
 {

@@ -5,7 +5,7 @@ ghost use Rattle.clr_svg.specs.Escapes.{escaped, escaped_byte, is_control};
 
 use std::alloc::AllocError;
 
-/// Whether a byte is a control character other than the end of a line.
+/// Returns whether a byte is a control character other than the end of a line.
 fn is_control(byte: u8) -> bool
     ensures { result ≡ is_control byte }
 {
@@ -33,7 +33,6 @@ fn add_byte(text: &mut Vec<u8>, byte: u8) -> Result<(), AllocError>
 }
 
 /// Adds a text, with references for `<`, `>`, `&` and quotation marks, and a space for each control character but the end of a line.
-/// Fails for want of memory alone.
 #[tactic(auto, unfolding(crate::specs::Escapes::escaped))]
 pub fn add_escaped(text: &mut Vec<u8>, words: &[u8]) -> Result<(), AllocError>
     ensures { OnOk result (text.new.items ≡ text.old.items ++ escaped words.now) }

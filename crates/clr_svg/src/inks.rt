@@ -81,7 +81,7 @@ impl Ink {
     }
 }
 
-/// Adds how an element is filled. Fails for want of memory alone.
+/// Adds how an element is filled.
 pub(crate) fn add_fill(text: &mut Vec<u8>, fill: Option<Colour>) -> Result<(), AllocError>
     ensures { OnOk result (text.new.items ≡ text.old.items ++ fill_text fill) }
 {
@@ -121,7 +121,7 @@ fn add_stroke(text: &mut Vec<u8>, stroke: Option<Stroke>) -> Result<(), AllocErr
     }
 }
 
-/// Adds how an element is filled and drawn. Fails for want of memory alone.
+/// Adds how an element is filled and drawn.
 #[tactic(auto, unfolding(crate::specs::Inks::ink_text))]
 pub(crate) fn add_ink(text: &mut Vec<u8>, ink: &Ink) -> Result<(), AllocError>
     ensures { OnOk result (text.new.items ≡ text.old.items ++ ink_text ink.now) }

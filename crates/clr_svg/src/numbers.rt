@@ -27,7 +27,7 @@ fn add_tenth(text: &mut Vec<u8>, tenth: u64) -> Result<(), AllocError>
     text.extend_from_slice(Buffer::new().format(tenth).as_bytes())
 }
 
-/// Adds a length, as `12.5`. Fails for want of memory alone.
+/// Adds a length, as `12.5`.
 #[tactic(auto, unfolding(crate::specs::Numbers::pixels_text))]
 pub(crate) fn add_pixels(text: &mut Vec<u8>, length: Pixels) -> Result<(), AllocError>
     ensures { OnOk result (text.new.items ≡ text.old.items ++ pixels_text length) }
@@ -38,7 +38,7 @@ pub(crate) fn add_pixels(text: &mut Vec<u8>, length: Pixels) -> Result<(), Alloc
     add_tenth(text, size % 10)
 }
 
-/// Adds two lengths, as `12.5 30`. Fails for want of memory alone.
+/// Adds two lengths, as `12.5 30`.
 #[tactic(auto, unfolding(crate::specs::Numbers::pair_text))]
 pub(crate) fn add_pair(text: &mut Vec<u8>, first: Pixels, second: Pixels) -> Result<(), AllocError>
     ensures { OnOk result (text.new.items ≡ text.old.items ++ pair_text first second) }
@@ -48,7 +48,7 @@ pub(crate) fn add_pair(text: &mut Vec<u8>, first: Pixels, second: Pixels) -> Res
     add_pixels(text, second)
 }
 
-/// Adds an attribute whose value is a fixed word. Fails for want of memory alone.
+/// Adds an attribute whose value is a fixed word.
 #[tactic(auto, unfolding(crate::specs::Numbers::attribute))]
 pub(crate) fn add_word(text: &mut Vec<u8>, name: &str, word: &str) -> Result<(), AllocError>
     ensures { OnOk result (text.new.items ≡ text.old.items ++ attribute name.now word.now) }
@@ -60,7 +60,7 @@ pub(crate) fn add_word(text: &mut Vec<u8>, name: &str, word: &str) -> Result<(),
     text.extend_from_slice(b"\"")
 }
 
-/// Adds an attribute whose value is a length. Fails for want of memory alone.
+/// Adds an attribute whose value is a length.
 #[tactic(auto, unfolding(crate::specs::Numbers::attribute))]
 pub(crate) fn add_length(text: &mut Vec<u8>, name: &str, length: Pixels) -> Result<(), AllocError>
     ensures { OnOk result (text.new.items ≡ text.old.items ++ attribute name.now (pixels_text length)) }
@@ -72,7 +72,7 @@ pub(crate) fn add_length(text: &mut Vec<u8>, name: &str, length: Pixels) -> Resu
     text.extend_from_slice(b"\"")
 }
 
-/// Adds an attribute whose value is two lengths. Fails for want of memory alone.
+/// Adds an attribute whose value is two lengths.
 #[tactic(auto, unfolding(crate::specs::Numbers::attribute))]
 pub(crate) fn add_lengths(
     text: &mut Vec<u8>,
@@ -89,7 +89,7 @@ pub(crate) fn add_lengths(
     text.extend_from_slice(b"\"")
 }
 
-/// Adds an attribute whose value is a colour. Fails for want of memory alone.
+/// Adds an attribute whose value is a colour.
 #[tactic(auto, unfolding(crate::specs::Numbers::attribute))]
 pub(crate) fn add_tint(text: &mut Vec<u8>, name: &str, colour: Colour) -> Result<(), AllocError>
     ensures { OnOk result (text.new.items ≡ text.old.items ++ attribute name.now (colour_text colour)) }

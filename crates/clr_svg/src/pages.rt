@@ -220,7 +220,7 @@ fn add_head(text: &mut Vec<u8>, page: &Page) -> Result<(), AllocError>
     add_description(text, page)
 }
 
-/// Returns the text of a page, which is SVG 1.1. Fails for want of memory alone.
+/// Returns the text of a page, which is SVG 1.1.
 #[tactic(auto, unfolding(crate::specs::Pages::page_text))]
 pub fn write_page(alloc: Global, page: &Page) -> Result<Vec<u8>, AllocError>
     ensures written { IfOk result (λ text. text.items ≡ page_text page.now) }

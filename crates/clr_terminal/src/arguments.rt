@@ -5,7 +5,7 @@ use std::env;
 use std::env::{Env, FillError};
 use std::io::ErrorKind;
 
-/// The words as the parser of the command line takes them. It fails for want of memory alone.
+/// Returns the words as the parser of the command line takes them.
 pub fn texts<'a>(rt: &HostRuntime, words: &'a [String]) -> Result<Vec<&'a str>, AllocError> {
     let mut texts = Vec::new(rt.alloc());
     for word in words {
@@ -14,8 +14,8 @@ pub fn texts<'a>(rt: &HostRuntime, words: &'a [String]) -> Result<Vec<&'a str>, 
     Ok(texts)
 }
 
-/// The words of the command line, with the program's name first. It fails with `OutOfMemory` for want
-/// of memory, and otherwise where one isn't UTF-8.
+/// Returns the words of the command line, with the program's name first. It fails with `OutOfMemory`
+/// for want of memory, and otherwise where one isn't UTF-8.
 pub fn words(rt: &HostRuntime) -> Result<Vec<String>, ErrorKind> {
     match env::args(rt) {
         Ok(words) => words
@@ -25,7 +25,8 @@ pub fn words(rt: &HostRuntime) -> Result<Vec<String>, ErrorKind> {
     }
 }
 
-/// Whether there is a word behind the program's name, which is of no matter where there is none.
+/// Returns whether there is a word behind the program's name, which is of no matter where there is
+/// none.
 pub fn has_words(rt: &HostRuntime) -> bool {
     !matches!(rt.arg(1, &mut [0]), Err(FillError::NotPresent))
 }

@@ -4,7 +4,7 @@ use clr_office::{Port, RunFault, Words, read_input};
 use std::fs::File;
 use std::io::ErrorKind;
 
-/// The bytes of a file.
+/// Returns the bytes of a file.
 fn read_file(rt: &HostRuntime, name: &str) -> Result<Vec<u8>, RunFault> {
     match File::open(rt, name) {
         Ok(file) => read_input(rt.alloc(), &mut Port::new(file)),
@@ -13,9 +13,9 @@ fn read_file(rt: &HostRuntime, name: &str) -> Result<Vec<u8>, RunFault> {
     }
 }
 
-/// The bytes of files, in their order. Fails with `ReadFailed` where a file can't be opened or read,
-/// with `TooLong` where one has more than `MOST_INPUT_BYTES`, and with `OutOfMemory` for want of memory.
-/// A file that can't be read is told before one that is too long.
+/// Returns the bytes of files, in their order. Fails with `ReadFailed` where a file can't be opened or
+/// read, with `TooLong` where one has more than `MOST_INPUT_BYTES`, and with `OutOfMemory` for want of
+/// memory. A file that can't be read is told before one that is too long.
 pub fn read_files(rt: &HostRuntime, files: &[Words]) -> Result<Vec<Vec<u8>>, RunFault> {
     let mut texts = Vec::new(rt.alloc());
     let mut is_too_long = false;
@@ -32,7 +32,7 @@ pub fn read_files(rt: &HostRuntime, files: &[Words]) -> Result<Vec<Vec<u8>>, Run
     Ok(texts)
 }
 
-/// The bytes of the file at a position, no bytes where there is none.
+/// Returns the bytes of the file at a position, no bytes where there is none.
 pub fn text_at(texts: &[Vec<u8>], at: usize) -> &[u8] {
     match texts.get(at) {
         Some(text) => text.as_slice(),

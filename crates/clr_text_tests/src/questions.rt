@@ -1,13 +1,12 @@
 //! Cases as lines: a question, which begins with a word, ` => `, and the answer.
 
-use crate::{command_lines, office_texts, record_faults, scripts};
+use crate::{office_texts, record_faults, scripts};
 use std::alloc::Global;
 use std::process::Abort;
 
 /// What is answered to a word and what stands behind it.
 fn answer(alloc: Global, word: &'static str, rest: &'static str) -> Option<String> {
     match word {
-        "words" => command_lines::answer(alloc, rest),
         "edits" | "script" | "route" => scripts::answer(alloc, word, rest),
         "scriptfault" | "certificatefault" => record_faults::answer(alloc, word, rest),
         _ => office_texts::answer(alloc, word, rest),

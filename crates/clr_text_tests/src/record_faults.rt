@@ -1,8 +1,9 @@
 //! Which record of a script or a certificate has the fault: its number, the fault, how it is read, and its fields.
 
+use crate::networks::schema;
 use crate::questions::check;
+use crate::texts::unfold;
 use clr_cert::CertFault;
-use clr_line_trials::{schema, unfold};
 use clr_record_faults::{Role, find_certificate_fault, find_script_fault};
 use clr_scripts::RecordFault;
 use csv::StringRecord;
@@ -68,8 +69,8 @@ fn certificate_text(alloc: Global, certificate: &str) -> Option<String> {
 /// What is found in a script or in a certificate.
 pub(crate) fn answer(alloc: Global, word: &str, line: &str) -> Option<String> {
     match word {
-        "scriptfault" => script_text(alloc, unfold(alloc, line, '/')?.as_str()),
-        _ => certificate_text(alloc, unfold(alloc, line, '/')?.as_str()),
+        "scriptfault" => script_text(alloc, unfold(alloc, line)?.as_str()),
+        _ => certificate_text(alloc, unfold(alloc, line)?.as_str()),
     }
 }
 

@@ -78,34 +78,11 @@ pub(crate) const SCRIPTS: &str =
     "script \"cre\"ate,W1,LIVE//apply,W1,2/delete,note,4/delete,node,-9/apply,,0/show,W 1 \
 => create [W1] [LIVE]; apply [W1] [] delete 2.4, delete 0.-9; apply [] []; Show/W 1";
 
-/// Records of too few or too many fields.
-pub(crate) const COUNTS: &str = "create,W1
-create,W1,LIVE,
-remove
-remove,W1,W2
-mark,W1
-unmark,W1,s1,
-rollto,W1
-rollall,W1,s1
-refresh
-merge,W1
-merge,W1,drop,now
-resolve,W1,pipe,x
-resolve,W1,main,20,CHILD,
-hold
-hold,K,W1
-release,K,
-show
-show,W1,W2
-changes
-conflicts
-conflicts,W1,W2
-audit
-audit,W1,W2
-workspaces,W1
-dump,W1
-planunder
-independenceunder";
+/// Records of too few or too many fields, parted by semicolons.
+pub(crate) const COUNTS: &str =
+    "create,W1; create,W1,LIVE,; remove; remove,W1,W2; mark,W1; unmark,W1,s1,; rollto,W1; rollall,W1,s1; refresh; merge,W1; \
+merge,W1,drop,now; resolve,W1,pipe,x; resolve,W1,main,20,CHILD,; hold; hold,K,W1; release,K,; show; show,W1,W2; changes; \
+conflicts; conflicts,W1,W2; audit; audit,W1,W2; workspaces,W1; dump,W1; planunder; independenceunder";
 
 /// Which of two faults of a record counts.
 pub(crate) const TURNS: &str = "script Hold,K => 1 BadWord

@@ -1,11 +1,11 @@
 //! Edits and scripts as they are read, or why they aren't.
 
+use crate::networks::{schema, words};
 use crate::questions::{check, is_answer};
 use crate::script_cases::{
     COMMANDS, COUNTS, EDIT_FAULTS, EDITS, REPORTS, SCRIPT_FAULTS, SCRIPTS, TURNS,
 };
-use crate::texts::{coordinates, edits_text, steps_text};
-use clr_line_trials::{schema, unfold, words};
+use crate::texts::{coordinates, edits_text, steps_text, unfold};
 use clr_rows::Names;
 use clr_scripts::{RecordFault, read_edits, read_script};
 use std::alloc::Global;
@@ -48,8 +48,8 @@ fn route_text(alloc: Global, count: &str) -> Option<String> {
 /// What is read of edits, of a script, or of a route.
 pub(crate) fn answer(alloc: Global, word: &str, line: &str) -> Option<String> {
     match word {
-        "edits" => read_edits_text(alloc, unfold(alloc, line, '/')?.as_str()),
-        "script" => read_script_text(alloc, unfold(alloc, line, '/')?.as_str()),
+        "edits" => read_edits_text(alloc, unfold(alloc, line)?.as_str()),
+        "script" => read_script_text(alloc, unfold(alloc, line)?.as_str()),
         _ => route_text(alloc, line),
     }
 }
@@ -81,7 +81,7 @@ fn scripts_of_several_steps(rt: HostRuntime) {
 
 #[test]
 fn counts_of_fields(rt: HostRuntime) {
-    for line in COUNTS.lines() {
+    for line in COUNTS.split("; ") {
         assert!(rt;
             is_answer(rt.alloc(), "script", line, "1 FieldCount"),
             "{line}"

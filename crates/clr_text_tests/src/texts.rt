@@ -6,6 +6,20 @@ use clr_scripts::Step;
 use clr_steps::{Command, Keep};
 use std::alloc::Global;
 
+/// A text with another character in place of one.
+pub(crate) fn exchanged(alloc: Global, text: &str, from: char, to: char) -> Option<String> {
+    let mut other = String::new(alloc);
+    for letter in text.chars() {
+        other.push(if letter == from { to } else { letter }).ok()?;
+    }
+    Some(other)
+}
+
+/// A text with line ends in place of strokes.
+pub(crate) fn unfold(alloc: Global, line: &str) -> Option<String> {
+    exchanged(alloc, line, '/', '\n')
+}
+
 /// So many coordinates, which are 0 and 1 in turn, each behind a comma.
 pub(crate) fn coordinates(alloc: Global, count: &str) -> Option<String> {
     let mut text = String::new(alloc);
@@ -142,11 +156,11 @@ fn command_text(alloc: Global, command: &Command) -> Option<String> {
     format!(in alloc; "{word} [{workspace}] [{other}]{space}{}", rest.as_str()).ok()
 }
 
-/// Names, each behind a character.
-pub(crate) fn names_text(alloc: Global, before: char, names: &[Words]) -> Option<String> {
+/// Names, each behind a stroke.
+fn names_text(alloc: Global, names: &[Words]) -> Option<String> {
     let mut text = String::new(alloc);
     for name in names {
-        text.push(before).ok()?;
+        text.push('/').ok()?;
         text.push_str(name.as_str()).ok()?;
     }
     Some(text)
@@ -156,7 +170,7 @@ fn step_text(alloc: Global, step: &Step) -> Option<String> {
     match step {
         Step::Act(command) => command_text(alloc, command),
         Step::Report(word, names) => {
-            let names = names_text(alloc, '/', names.as_slice())?;
+            let names = names_text(alloc, names.as_slice())?;
             format!(in alloc; "{word:?}{}", names.as_str()).ok()
         }
     }

@@ -11,7 +11,8 @@ use Rattle.clr_steps.proofs.FindLemmas.{same_itself}
 use Rattle.clr_texts.specs.Workspaces.{names_below_live}
 
 -- a name that stands in the list is found
-found_by : (here : Bool) (name : Name) (w : Workspace) (ws : List Workspace) → is_some (find_name name ws) ≡ true → is_some (cond here (Some w) (find_name name ws)) ≡ true
+found_by : (here : Bool) (name : Name) (w : Workspace) (ws : List Workspace) → is_some (find_name name ws) ≡ true
+    → is_some (cond here (Some w) (find_name name ws)) ≡ true
 found_by true name w ws later = refl
 found_by false name w ws later = later
 
@@ -46,4 +47,5 @@ item_first (y ∷ ys) (suc at) x e = item_first ys at x e
 pub names_from : (o : Office) (position : ℕ) (name : Name) → 0 < position → name_at o position ≡ Some name
     → drop position ([] ∷ names_below_live o) ≡ name ∷ drop (position + 1) ([] ∷ names_below_live o)
 names_from o zero name lt e = absurd (omega (arith, lt))
-names_from o (suc at) name lt e = rw (add-one (suc at)) (item_first (names_below_live o) at name (slice_get-map (λ (w : Workspace). w.name) o.workspaces at ∙ e))
+names_from o (suc at) name lt e = rw (add-one (suc at)) (item_first (names_below_live o) at name (slice_get-map (λ (w : Workspace). w.name) o.workspaces at
+    ∙ e))

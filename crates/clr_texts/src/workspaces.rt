@@ -8,7 +8,7 @@ use clr_engine::Office;
 use clr_lines::{add_workspace, count_line};
 use std::alloc::{AllocError, Global};
 
-/// The name of the parent of a workspace under LIVE.
+/// Returns the name of the parent of a workspace under LIVE.
 fn parent_name<'a>(office: &'a Office, name: &str) -> &'a str
     ensures { result.now ≡ unwrap_or (parent_in office.now name.now) [] }
 {

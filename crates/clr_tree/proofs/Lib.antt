@@ -1,17 +1,5 @@
-pub mod BuildLemmas
-pub mod CountLemmas
-pub mod CreateLemmas
-pub mod FaultLemmas
-pub mod LayeredLemmas
-pub mod LeafLemmas
 pub mod LeanLemmas
 pub mod LiveLemmas
 pub mod ModelLemmas
-pub mod NameLemmas
-pub mod OperationLemmas
-pub mod PartLemmas
 pub mod RebaseLemmas
-pub mod RootLemmas
-pub mod SoundLemmas
 pub mod SweepLemmas
-pub mod TreeLemmas

@@ -10,7 +10,7 @@ use Rattle.clr_workspaces.specs.Workspaces.{Workspace, live_workspace, workspace
 use Rattle.clr_layers.specs.declared.stored_marks.StoredMark.{StoredMark}
 use Rattle.clr_layers.proofs.Meaning.{live-wholes}
 use Rattle.clr_contents.proofs.ReadLemmas.{marks-wholes}
-use Rattle.clr_contents.proofs.RootLemmas.{split}
+use Rattle.clr_workspaces.proofs.RootLemmas.{split}
 use Rattle.clr_workspaces.specs.Soundness.{IsSound}
 use Rattle.clr_tree.specs.Trees.{Tree, tree_of}
 use Rattle.clr_tree.proofs.ModelLemmas.{within_tree}

@@ -1,6 +1,5 @@
 -- The model of the tree beside its layers.
 use Rattle.std.proofs.Common.{◌≡◌, ℕ, ◌<◌, List, length, ap, sym, subst, ◌∙◌}
-use Rattle.std.specs.Prelude.{Result, Ok, Err, OnOk, OnErr}
 use Rattle.clr_rows.specs.Contents.{Content}
 use Rattle.clr_workspaces.specs.Workspaces.{Workspace}
 use Rattle.clr_layers.specs.Layers.{Layer, wholes}
@@ -11,10 +10,6 @@ pub within_tree : (live : Content) (ls : List Layer) (t : Tree) (at : ℕ) → t
 within_tree live ls t at is lt = within_layers live ls at (subst (λ (t : Tree). at < length t.list) (sym is) lt)
 
 -- an operation on the layers is one on the tree's list
-pub became : (live next : Content) (ls ms : List Layer) (t : Tree) (op : List Workspace → List Workspace) → tree_of live ls ≡ t → wholes next ms ≡ op (wholes live ls) → (tree_of next ms).list ≡ op t.list
+pub became : (live next : Content) (ls ms : List Layer) (t : Tree) (op : List Workspace → List Workspace) → tree_of live ls ≡ t → wholes next ms
+    ≡ op (wholes live ls) → (tree_of next ms).list ≡ op t.list
 became live next ls ms t op is e = e ∙ ap (λ (t : Tree). op t.list) is
-
--- what follows from either promise of an answer
-pub either : {X E : Type 0} (r : Result X E) (P Q R : Type 0) → (P → R) → (Q → R) → OnOk r P → OnErr r Q → R
-either (Ok x) P Q R f g p q = f p
-either (Err e) P Q R f g p q = g q

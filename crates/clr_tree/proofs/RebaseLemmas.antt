@@ -9,8 +9,9 @@ use Rattle.clr_workspaces.specs.Operations.{after_rebase}
 use Rattle.clr_workspaces.specs.Soundness.{IsSound}
 use Rattle.clr_tree.specs.Trees.{Tree, tree_of}
 use Rattle.clr_workspaces.specs.declared.rebases.Rebase.{Rebase}
-use Rattle.clr_tree.proofs.ModelLemmas.{became, either, within_tree}
-use Rattle.clr_tree.proofs.TreeLemmas.{sound_rebased}
+use Rattle.clr_tree.proofs.ModelLemmas.{became, within_tree}
+use Rattle.clr_layers.proofs.Answered.{either}
+use Rattle.clr_workspaces.proofs.TreeLemmas.{sound_rebased}
 
 module _ {X E : Type 0} (r : Result X E) (live next : Content) (ls ms : List Layer) (t : Tree) (is : tree_of live ls ≡ t) (at : ℕ) (how : Rebase) where
   -- a tree is sound after a rebase, done or not

@@ -39,14 +39,16 @@ module _ (live : Content) (ls : List Layer) (at : ℕ) (r : IsRooted (wholes liv
   abbrev above : Content
   above = content_of_parent ws at
 
-  pub count_swept : length (finite.keys (without_neutral (content_of_parent (wholes live ls) at) (layer_at ls at).base)) + length (finite.keys (without_neutral (workspace_at (wholes live ls) at).base (layer_at ls at).current)) ≡ needed (wholes live ls) at
+  pub count_swept : length (finite.keys (without_neutral (content_of_parent (wholes live ls) at) (layer_at ls at).base)) + length
+      (finite.keys (without_neutral (workspace_at (wholes live ls) at).base (layer_at ls at).current)) ≡ needed (wholes live ls) at
   count_swept =
       let w = workspace_at ws at in
       let base = count-swept above stored.base ∙ ap (change_count above) (sym (base_is live ls at r some lt)) in
       let current = count-swept w.base stored.current ∙ ap (change_count w.base) (sym (current-wholes live ls at some lt)) in
       λ i. base i + current i
 
-  pub count_saved : stored_of_marks (record (layer_at ls at) { marks = swept_marks (workspace_at (wholes live ls) at).base (layer_at ls at).marks }) ≡ needed_of_marks (wholes live ls) at
+  pub count_saved : stored_of_marks (record (layer_at ls at) { marks = swept_marks (workspace_at (wholes live ls) at).base (layer_at ls at).marks })
+      ≡ needed_of_marks (wholes live ls) at
   count_saved =
       let base = (workspace_at ws at).base in
       count-swept_marks base stored.marks ∙ ap (λ (ms : List Mark). map (needed_of_mark base) ms) (sym (marks-wholes live ls at some lt))

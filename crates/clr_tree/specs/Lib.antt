@@ -1,3 +1,1 @@
-pub mod Moves
-pub mod Parts
 pub mod Trees

@@ -23,17 +23,11 @@
 //!   exactly the neutral entries at some cells away.
 #![tactic(auto)]
 
-mod builds;
-mod layered_builds;
-mod operations;
-mod part_checks;
-mod part_reads;
-mod parts;
 mod tree;
 
 pub use clr_change::{ChangeSet, Edit, EditFault, Edits, first_conflict, stage};
 pub use clr_contents::View;
 pub use clr_layers::{LayerView, StoredPart};
+pub use clr_parts::{MarkPart, Part, PartFault};
 pub use clr_workspaces::{Keep, MOST_LEVELS, MOST_SAVEPOINTS, MOST_WORKSPACES, Rebase};
-pub use parts::{MarkPart, Part, PartFault};
 pub use tree::Tree;

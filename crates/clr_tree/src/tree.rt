@@ -9,20 +9,11 @@ ghost use Rattle.clr_workspaces.specs.Marks.{find_mark, is_held, is_saved, mark_
 ghost use Rattle.clr_workspaces.specs.Workspaces.{workspace_at, find, parent_of as position_of_parent, children_of, depth_of, live_workspace};
 ghost use Rattle.clr_workspaces.specs.Operations.{after_create, after_remove, after_write, after_mark, after_unmark};
 ghost use Rattle.clr_workspaces.specs.Operations.{after_roll_to, after_roll_all, after_rebase, own_changes, set_kept};
-ghost use Rattle.clr_tree.specs.Parts.{workspace_of, list_of, spaces_of, first_fault, workspaces_fault, IsRefused};
+ghost use Rattle.clr_parts.specs.Parts.{workspace_of, list_of, spaces_of, first_fault, workspaces_fault, IsRefused};
 ghost use Rattle.clr_workspaces.specs.Soundness.{IsSound};
 ghost use Rattle.clr_workspaces.specs.declared.rebases.Rebase.TheVariants as rebase;
 ghost use Rattle.clr_tree.specs.Trees.{tree_of, stored_at, saved_at, needed, needed_layer, needed_of_marks};
 
-use crate::builds::push_parts;
-use crate::layered_builds::push_layers;
-use crate::operations::{
-    create, live_alone, mark, merge_changes, rebase, refresh_changes, remove, roll_all, roll_to,
-    write_rows,
-};
-use crate::part_checks::judge_marks;
-use crate::part_reads::{live_part, part_at};
-use crate::parts::{Part, PartFault};
 use clr_change::ChangeSet;
 use clr_contents::{
     View, base_row_of, base_rows, changes_of, changes_to_base, changes_to_refreshed,
@@ -30,7 +21,12 @@ use clr_contents::{
 };
 use clr_layers::{
     LayerView, StoredMark, StoredPart, WorkspaceMap, count_saved, find_saved, has_child_after,
+    live_alone,
 };
+use clr_operations::{
+    create, mark, merge_changes, rebase, refresh_changes, remove, roll_all, roll_to, write_rows,
+};
+use clr_parts::{Part, PartFault, judge_marks, live_part, part_at, push_layers, push_parts};
 use clr_rows::{CellId, Row, Sheet};
 use clr_workspaces::{MOST_LEVELS, MOST_SAVEPOINTS, MOST_WORKSPACES, Rebase};
 use std::alloc::{AllocError, Global};

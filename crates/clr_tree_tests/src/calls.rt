@@ -3,7 +3,7 @@ ghost use Rattle.std.specs.Prelude.{◌<◌, length};
 use clr_change::ChangeSet;
 use clr_rows::Sheet;
 use clr_tree::{Part, PartFault, Tree};
-use clr_tree_trials::{
+use clr_tree_test_kit::{
     act_line, changes_text, find_savepoint, layered_parts, part_text, parts_of, rows_text,
     tree_text,
 };

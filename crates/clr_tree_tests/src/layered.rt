@@ -1,7 +1,7 @@
 //! Parts by their differences, with neutral entries, beside deeds that make the same workspaces.
 
 use clr_tree::Tree;
-use clr_tree_trials::{SAME_DEEDS, layered_tree, news_text, tree_after};
+use clr_tree_test_kit::{SAME_DEEDS, layered_tree, news_text, tree_after};
 use std::alloc::Global;
 use std::process::Abort;
 use std::test::Fail;

@@ -1,5 +1,5 @@
-//! Tests of the tree of workspaces: the faults of parts, operations one after another on three
-//! levels, neutral entries, and calls that find no memory.
+//! Tests of the tree of workspaces: the faults of parts, neutral entries, calls that find no memory, and random operations beside
+//! whole copies of all contents.
 #![tactic(auto)]
 
 #[cfg(test)]
@@ -13,8 +13,12 @@ mod layered;
 #[cfg(test)]
 mod live;
 #[cfg(test)]
-mod operations;
-#[cfg(test)]
 mod parts;
+#[cfg(test)]
+mod plain_spaces;
+#[cfg(test)]
+mod plain_trees;
+#[cfg(test)]
+mod random;
 #[cfg(test)]
 mod refusals;

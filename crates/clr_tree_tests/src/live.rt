@@ -3,10 +3,9 @@
 
 ghost use Rattle.std.specs.Prelude.{◌<◌, length};
 
-use crate::cases::THREE_LEVELS;
 use clr_rows::CellId;
 use clr_tree::Tree;
-use clr_tree_trials::{part_text, rows_text, tree_after};
+use clr_tree_test_kit::{THREE_LEVELS, part_text, rows_text, tree_after};
 use std::alloc::{AllocError, Global};
 use std::process::Abort;
 use std::test::Fail;

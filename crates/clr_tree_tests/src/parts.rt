@@ -4,7 +4,7 @@
 use crate::cases::split_case;
 use clr_rows::Sheet;
 use clr_tree::{MarkPart, Part, Tree};
-use clr_tree_trials::{numbered_sheet, parts_of, tree_text, words};
+use clr_tree_test_kit::{numbered_sheet, parts_of, tree_text, words};
 use std::alloc::{AllocError, Global};
 use std::process::Abort;
 use std::test::Fail;

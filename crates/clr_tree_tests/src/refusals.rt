@@ -1,9 +1,9 @@
 use crate::call_cases::{CALLS, CONFLICT, CONFLICT_TEXT};
 use crate::calls::{Answer, call};
-use crate::cases::{THREE_LEVELS, split_case};
-use clr_hoard::Hoard;
+use crate::cases::split_case;
+use clr_call_test_kit::Hoard;
 use clr_tree::Tree;
-use clr_tree_trials::{act_lines, new_lines, tree_after, tree_text};
+use clr_tree_test_kit::{THREE_LEVELS, act_lines, new_lines, tree_after, tree_text};
 use std::alloc::{AllocError, Global};
 use std::process::Abort;
 use std::test::Fail;

@@ -1,15 +1,15 @@
 -- The draft of a text, by its parts and by its workspaces as a whole.
 use Rattle.std.proofs.Common.{◌≡◌, ℕ, List, Option, Some, None, Result, Ok, Err, refl, sym, subst}
 use Rattle.std.specs.Prelude.{IsOk}
-use Rattle.clr_tree.specs.declared.parts.PartFault.{PartFault}
-use Rattle.clr_tree.specs.Parts.{workspaces_fault}
+use Rattle.clr_parts.specs.declared.parts.PartFault.{PartFault}
+use Rattle.clr_parts.specs.Parts.{workspaces_fault}
 use Rattle.clr_steps.specs.Offices.{Office}
 use Rattle.clr_drafts.proofs.Standing.{stands}
 use Rattle.clr_drafts.specs.Drafts.{draft_in, if_standing, whole_office}
-use Rattle.clr_office_text.specs.Fields.{◌>>=◌}
+use Rattle.clr_rule_text.specs.Fields.{◌>>=◌}
 use Rattle.clr_office_text.specs.Offices.{OfficeText, office_in}
-use Rattle.clr_office_text.specs.declared.faults.TextFault.{TextFault}
-use Rattle.clr_office_text.specs.declared.faults.TextFault.TheVariants as fault
+use Rattle.clr_rule_text.specs.declared.faults.TextFault.{TextFault}
+use Rattle.clr_rule_text.specs.declared.faults.TextFault.TheVariants as fault
 use Rattle.clr_explanations.specs.Standing.{IsStandingFault, StandsIfRead}
 
 -- what can't be read as an office text is no draft

@@ -1,6 +1,6 @@
 -- A remark stands within its text.
 use Rattle.std.proofs.Common.{◌≤◌, ℕ, List, length, inl, inr}
-use Rattle.clr_office_text.specs.declared.faults.TextFault.{TextFault}
+use Rattle.clr_rule_text.specs.declared.faults.TextFault.{TextFault}
 use Rattle.clr_fault_lines.specs.declared.remarks.Remark.{Remark}
 use Rattle.clr_why.specs.Whys.{IsOfficeFault, IsRemark}
 

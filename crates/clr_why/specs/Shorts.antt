@@ -3,7 +3,7 @@ use Rattle.std.specs.Prelude.{◌≡◌, ℕ, List}
 use Rattle.clr_rows.specs.declared.tables.TableDef.{TableDef}
 use Rattle.clr_cert.specs.declared.faults.CertFault.{CertFault}
 use Rattle.clr_scripts.specs.declared.faults.RecordFault.{RecordFault}
-use Rattle.clr_office_text.specs.declared.faults.TextFault.{TextFault}
+use Rattle.clr_rule_text.specs.declared.faults.TextFault.{TextFault}
 use Rattle.clr_fault_lines.specs.FaultLines.{short_line}
 use Rattle.clr_fault_lines.specs.declared.remarks.Remark.{Remark}
 use Rattle.clr_why.specs.Whys.{IsCertificateFault, IsOfficeFault, IsScriptFault}

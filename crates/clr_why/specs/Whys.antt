@@ -9,7 +9,7 @@ use Rattle.clr_scripts.specs.declared.faults.RecordFault.{RecordFault}
 use Rattle.clr_steps.specs.Offices.{Office}
 use Rattle.clr_engine.specs.Drafts.{unheld_in}
 use Rattle.clr_drafts.specs.Drafts.{draft_in}
-use Rattle.clr_office_text.specs.declared.faults.TextFault.{TextFault}
+use Rattle.clr_rule_text.specs.declared.faults.TextFault.{TextFault}
 use Rattle.clr_fault_lines.specs.FaultLines.{AreFaultLines}
 use Rattle.clr_fault_lines.specs.declared.remarks.Remark.{Remark}
 use Rattle.clr_explanations.specs.FaultWords.{office_fault_words}

@@ -7,7 +7,7 @@ use clr_lines::unheld_line;
 use clr_rules::Rule;
 use std::alloc::{AllocError, Global};
 
-/// What a rule asks for.
+/// Returns what a rule asks for.
 fn rule_sentence(rule: &Rule) -> &'static str
     ensures { result.now ≡ rule_sentence rule.now }
 {
@@ -23,7 +23,8 @@ fn rule_sentence(rule: &Rule) -> &'static str
     }
 }
 
-/// The line that says what the rule of a number asks for, and none where there is no such rule.
+/// Returns the line that says what the rule of a number asks for, and none where there is no such
+/// rule.
 fn rule_line(alloc: Global, rules: &[Rule], number: usize) -> Result<Vec<u8>, AllocError>
     ensures { IfOk result (λ line. line.items ≡ rule_line (slice_get rules.now number)) }
 {
@@ -37,7 +38,7 @@ fn rule_line(alloc: Global, rules: &[Rule], number: usize) -> Result<Vec<u8>, Al
     }
 }
 
-/// The name of the workspace at a position, and none of LIVE.
+/// Returns the name of the workspace at a position, and none of LIVE.
 fn name_told(draft: &Draft, position: usize) -> Option<&str>
     ensures { option_map (λ name. name.now) result ≡ name_told draft.now position }
 {
@@ -47,7 +48,8 @@ fn name_told(draft: &Draft, position: usize) -> Option<&str>
     }
 }
 
-/// The lines of a need that no row serves: as `clr_office` prints it, and what its rule asks for.
+/// Returns the lines of a need that no row serves: as `clr_office` prints it, and what its rule
+/// asks for.
 pub(crate) fn unheld_lines(
     alloc: Global,
     draft: &Draft,

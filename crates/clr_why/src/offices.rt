@@ -12,7 +12,8 @@ use clr_explanations::{OfficeFault, explain_office, explain_standing, office_fau
 use clr_fault_lines::fault_lines;
 use std::alloc::{AllocError, Global};
 
-/// The fault of the workspaces of a text that can be read, and what is said of it, or none where they stand.
+/// Returns the fault of the workspaces of a text that can be read, and what is said of it, or none where
+/// they stand.
 fn standing_fault(alloc: Global, text: &[u8]) -> Result<Option<OfficeFault>, AllocError>
     requires { IsOk (office_in text.now) }
     ensures none { IfOk result (λ found. IfNone found (IsOk (draft_in text.now))) }
@@ -27,7 +28,7 @@ fn standing_fault(alloc: Global, text: &[u8]) -> Result<Option<OfficeFault>, All
     }
 }
 
-/// The fault of an office text, and what is said of it, or none where it is an office. Fails for want of memory alone.
+/// Returns the fault of an office text, and what is said of it, or none where it is an office.
 pub(crate) fn office_fault(alloc: Global, text: &[u8]) -> Result<Option<OfficeFault>, AllocError>
     ensures none { IfOk result (λ found. IfNone found (IsOk (draft_in text.now))) }
     ensures told { IfOk result (λ found. IfSome found (λ f. IsOfficeFault text.now f.fault f.remark)) }
@@ -38,7 +39,7 @@ pub(crate) fn office_fault(alloc: Global, text: &[u8]) -> Result<Option<OfficeFa
     }
 }
 
-/// The lines of the fault of an office text.
+/// Returns the lines of the fault of an office text.
 #[tactic(auto, using(crate::proofs::RemarkLemmas::is_within))]
 pub(crate) fn office_lines(
     alloc: Global,
@@ -52,7 +53,7 @@ pub(crate) fn office_lines(
     Ok(lines)
 }
 
-/// What is found in a draft.
+/// Returns what is found in a draft.
 fn why_draft(alloc: Global, draft: Draft, text: &[u8]) -> Result<Why, AllocError>
     requires { draft_in text.now ≡ Ok draft }
     ensures { IfOk result (IsOfficeWhy text.now) }
@@ -70,7 +71,7 @@ fn why_draft(alloc: Global, draft: Draft, text: &[u8]) -> Result<Why, AllocError
     }
 }
 
-/// What is found in an office text without a fault.
+/// Returns what is found in an office text without a fault.
 fn why_sound(alloc: Global, text: &[u8]) -> Result<Why, AllocError>
     ensures { IfOk result (IsOfficeWhy text.now) }
 {
@@ -81,7 +82,7 @@ fn why_sound(alloc: Global, text: &[u8]) -> Result<Why, AllocError>
 }
 
 /// Returns what is found in an office text: that it is an office in which the rules hold, the lines of a rule that doesn't hold, or
-/// those of its fault. Fails for want of memory alone.
+/// those of its fault.
 pub fn why_office(alloc: Global, text: &[u8]) -> Result<Why, AllocError>
     ensures why { IfOk result (IsOfficeWhy text.now) }
 {

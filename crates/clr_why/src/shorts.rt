@@ -13,7 +13,7 @@ use clr_record_explanations::{CertificateFault, ScriptFault, explain_certificate
 use clr_rows::Schema;
 use std::alloc::{AllocError, Global};
 
-/// The line of the fault of an office text.
+/// Returns the line of the fault of an office text.
 fn office_line(
     alloc: Global,
     text: &[u8],
@@ -27,7 +27,7 @@ fn office_line(
     Ok(line)
 }
 
-/// The line of the fault of a script.
+/// Returns the line of the fault of a script.
 fn script_line(
     alloc: Global,
     schema: &Schema,
@@ -44,7 +44,7 @@ fn script_line(
     Ok(line)
 }
 
-/// The line of the fault of a certificate.
+/// Returns the line of the fault of a certificate.
 fn certificate_line(
     alloc: Global,
     schema: &Schema,
@@ -62,7 +62,7 @@ fn certificate_line(
 }
 
 /// Returns the name of the file of an office text, the line and the column of its fault, and what is wrong, or none where it is an
-/// office. Fails for want of memory alone.
+/// office.
 pub fn short_office_fault(
     alloc: Global,
     text: &[u8],

@@ -18,7 +18,7 @@ use clr_record_explanations::{
 use clr_rows::Schema;
 use std::alloc::{AllocError, Global};
 
-/// The lines of the fault of a script.
+/// Returns the lines of the fault of a script.
 fn script_lines(
     alloc: Global,
     schema: &Schema,
@@ -34,7 +34,7 @@ fn script_lines(
     Ok(lines)
 }
 
-/// The lines of the fault of a certificate.
+/// Returns the lines of the fault of a certificate.
 fn certificate_lines(
     alloc: Global,
     schema: &Schema,
@@ -55,7 +55,7 @@ fn certificate_lines(
     Ok(lines)
 }
 
-/// What is found in a script over the draft of an office text.
+/// Returns what is found in a script over the draft of an office text.
 fn why_script_over(
     alloc: Global,
     draft: &Draft,
@@ -76,7 +76,7 @@ fn why_script_over(
     }
 }
 
-/// What is found in a certificate over the draft of an office text.
+/// Returns what is found in a certificate over the draft of an office text.
 fn why_certificate_over(
     alloc: Global,
     draft: &Draft,
@@ -97,7 +97,7 @@ fn why_certificate_over(
     }
 }
 
-/// What is found in a script over an office text without a fault.
+/// Returns what is found in a script over an office text without a fault.
 fn why_script_of_draft(alloc: Global, office: &[u8], script: &[u8]) -> Result<Why, AllocError>
     ensures { IfOk result (IsScriptWhy office.now script.now) }
 {
@@ -108,7 +108,7 @@ fn why_script_of_draft(alloc: Global, office: &[u8], script: &[u8]) -> Result<Wh
 }
 
 /// Returns what is found in a script over an office text: that it can be read, the lines of its fault, or before it those of the
-/// fault of the office. Whether the rules hold isn't asked. Fails for want of memory alone.
+/// fault of the office. Whether the rules hold isn't asked.
 pub fn why_script(alloc: Global, office: &[u8], script: &[u8]) -> Result<Why, AllocError>
     ensures why { IfOk result (IsScriptWhy office.now script.now) }
 {
@@ -121,7 +121,7 @@ pub fn why_script(alloc: Global, office: &[u8], script: &[u8]) -> Result<Why, Al
     }
 }
 
-/// What is found in a certificate over an office text without a fault.
+/// Returns what is found in a certificate over an office text without a fault.
 fn why_certificate_of_draft(
     alloc: Global,
     office: &[u8],
@@ -136,7 +136,7 @@ fn why_certificate_of_draft(
 }
 
 /// Returns what is found in a certificate over an office text: that it can be read, the lines of its fault, or before it those of
-/// the fault of the office. Whether the rules hold isn't asked. Fails for want of memory alone.
+/// the fault of the office. Whether the rules hold isn't asked.
 pub fn why_certificate(alloc: Global, office: &[u8], certificate: &[u8]) -> Result<Why, AllocError>
     ensures why { IfOk result (IsCertificateWhy office.now certificate.now) }
 {

@@ -2,8 +2,7 @@
 
 use std::alloc::AllocError;
 
-/// Adds names with commas between them, and `and` before the last, as `A, B and C`. Fails for want of memory
-/// alone.
+/// Adds names with commas between them, and `and` before the last, as `A, B and C`.
 pub fn add_names(text: &mut String, names: &[&str]) -> Result<(), AllocError> {
     for (at, name) in names.iter().enumerate() {
         if at > 0 && at + 1 == names.len() {

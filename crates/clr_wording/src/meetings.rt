@@ -23,14 +23,14 @@ pub enum Meeting {
     NoParts,
 }
 
-/// Whether a place has coordinates in range.
+/// Returns whether a place has coordinates in range.
 fn is_in_range(p: Place) -> bool
     ensures { result ≡ true → InRange p }
 {
     p.x.unsigned_abs() <= GREATEST_COORDINATE && p.y.unsigned_abs() <= GREATEST_COORDINATE
 }
 
-/// Whether the ends of a part differ and have coordinates in range.
+/// Returns whether the ends of a part differ and have coordinates in range.
 fn is_part(part: (Place, Place)) -> bool
     ensures first { result ≡ true → InRange part.0 }
     ensures second { result ≡ true → InRange part.1 }
@@ -40,28 +40,28 @@ fn is_part(part: (Place, Place)) -> bool
     is_in_range(a) && is_in_range(b) && !a.same(&b)
 }
 
-/// Whether a place lies on a part, its ends counted in. It doesn't where a coordinate is out of range
-/// or the ends are one place.
+/// Returns whether a place lies on a part, its ends counted in. It doesn't where a coordinate is out
+/// of range or the ends are one place.
 fn is_on(p: Place, part: (Place, Place)) -> bool
     ensures { result ≡ true → LiesOn p part.0 part.1 }
 {
     is_part(part) && is_in_range(p) && lies_on(p, part.0, part.1)
 }
 
-/// The way from one coordinate to another.
+/// Returns the way from one coordinate to another.
 fn way(from: i64, to: i64) -> Option<i128> {
     i128::from(to).checked_sub(i128::from(from))
 }
 
-/// The cross product of the way from a to b and the way from c to d.
+/// Returns the cross product of the way from a to b and the way from c to d.
 fn cross_product(a: Place, b: Place, c: Place, d: Place) -> Option<i128> {
     let rising = way(a.x, b.x)?.checked_mul(way(c.y, d.y)?)?;
     let falling = way(a.y, b.y)?.checked_mul(way(c.x, d.x)?)?;
     rising.checked_sub(falling)
 }
 
-/// The coordinate that lies on the way from one to another after this share of it, where it is a
-/// whole number.
+/// Returns the coordinate that lies on the way from one to another after this share of it, where it
+/// is a whole number.
 fn coordinate_at(from: i64, to: i64, numerator: i128, denominator: i128) -> Option<i64> {
     let shift = way(from, to)?.checked_mul(numerator)?;
     if shift.checked_rem(denominator)? != 0 {
@@ -71,7 +71,7 @@ fn coordinate_at(from: i64, to: i64, numerator: i128, denominator: i128) -> Opti
     i64::try_from(coordinate).ok()
 }
 
-/// The place where the lines through two parts cross, where it has whole coordinates.
+/// Returns the place where the lines through two parts cross, where it has whole coordinates.
 fn crossing_of_lines(first: (Place, Place), second: (Place, Place)) -> Option<Place> {
     let (a, b) = first;
     let (c, d) = second;
@@ -83,7 +83,8 @@ fn crossing_of_lines(first: (Place, Place), second: (Place, Place)) -> Option<Pl
     })
 }
 
-/// The place of whole millimetres at which two parts meet, where there is one and they don't overlap.
+/// Returns the place of whole millimetres at which two parts meet, where there is one and they don't
+/// overlap.
 fn common_place(first: (Place, Place), second: (Place, Place)) -> Option<Place>
     ensures { IfSome result (λ p. LiesOn p first.0 first.1 × LiesOn p second.0 second.1) }
 {

@@ -59,7 +59,7 @@ fn add_shape(text: &mut String, shape: &Shape) -> Result<(), AllocError> {
 
 /// Returns a row in words: its values, each behind the name of its column, and where it is, as
 /// `code 'D', from (30.000, 0.000) to (30.000, 10.000)`. Of a table that the schema hasn't only the
-/// shape is told. Fails for want of memory alone.
+/// shape is told.
 pub fn row_words(
     alloc: Global,
     schema: &Schema,

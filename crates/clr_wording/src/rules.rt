@@ -18,7 +18,7 @@ pub fn rule_title(rule: &Rule) -> &'static str {
     }
 }
 
-/// The name of a column of a side's table; of one that isn't there it is empty.
+/// Returns the name of a column of a side's table; of one that isn't there it is empty.
 fn column_name<'a>(schema: &'a Schema, side: &Side, column: Col) -> &'a str {
     let Col::At(at) = column else {
         return "KEY";
@@ -65,8 +65,7 @@ fn add_side(text: &mut String, schema: &Schema, side: &Side) -> Result<(), Alloc
     add_filter(text, schema, side)
 }
 
-/// Returns the table of a side and what its rows have in common, as `valve with kind 'gate'`. Fails for want
-/// of memory alone.
+/// Returns the table of a side and what its rows have in common, as `valve with kind 'gate'`.
 pub fn side_words(alloc: Global, schema: &Schema, side: &Side) -> Result<String, AllocError> {
     let mut text = String::new(alloc);
     add_side(&mut text, schema, side)?;
@@ -93,8 +92,7 @@ fn add_field(
     }
 }
 
-/// Returns what a row has in columns, each behind its name, as `code 'D' and class 2`. Fails for want of
-/// memory alone.
+/// Returns what a row has in columns, each behind its name, as `code 'D' and class 2`.
 pub fn field_words(
     alloc: Global,
     schema: &Schema,
@@ -119,7 +117,7 @@ fn add_one(text: &mut String, schema: &Schema, side: &Side) -> Result<(), AllocE
     add_side(text, schema, side)
 }
 
-/// Whether two sides are of one table, and neither has a filter.
+/// Returns whether two sides are of one table, and neither has a filter.
 fn are_one_table(a: &Side, b: &Side) -> bool {
     a.table == b.table && a.filter.as_slice().is_empty() && b.filter.as_slice().is_empty()
 }
@@ -135,7 +133,7 @@ fn add_two(text: &mut String, schema: &Schema, a: &Side, b: &Side) -> Result<(),
     add_one(text, schema, b)
 }
 
-/// Returns a rule as a sentence of its own. Fails for want of memory alone.
+/// Returns a rule as a sentence of its own.
 pub fn rule_sentence(alloc: Global, schema: &Schema, rule: &Rule) -> Result<String, AllocError> {
     let mut text = String::new(alloc);
     match rule {
@@ -189,7 +187,7 @@ pub fn rule_sentence(alloc: Global, schema: &Schema, rule: &Rule) -> Result<Stri
     Ok(text)
 }
 
-/// The word for an end.
+/// Returns the word for an end.
 fn tip_word(tip: Tip) -> &'static str {
     match tip {
         Tip::First => "first",

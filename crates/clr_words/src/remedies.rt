@@ -31,7 +31,8 @@ pub(crate) struct Remedy {
     pub(crate) action: Action,
 }
 
-/// The edit that sets a cell back to the row that a member took over, where the member changes it.
+/// Returns the edit that sets a cell back to the row that a member took over, where the member
+/// changes it.
 fn undoing_edit(
     members: &Members<'_>,
     member: usize,
@@ -46,7 +47,7 @@ fn undoing_edit(
     }
 }
 
-/// The greater of a key and that of a cell of a table.
+/// Returns the greater of a key and that of a cell of a table.
 fn greater_key(found: i64, cell: CellId, table: u16) -> i64 {
     if cell.table == table && cell.key > found {
         cell.key
@@ -55,7 +56,7 @@ fn greater_key(found: i64, cell: CellId, table: u16) -> i64 {
     }
 }
 
-/// The greatest key of a table in a content, or another one that is greater.
+/// Returns the greatest key of a table in a content, or another one that is greater.
 fn greatest_standing(least: i64, rows: &Sheet, table: u16) -> i64 {
     let mut greatest = least;
     for (cell, _) in rows.iter() {
@@ -64,7 +65,8 @@ fn greatest_standing(least: i64, rows: &Sheet, table: u16) -> i64 {
     greatest
 }
 
-/// The greatest key of a table among the cells of a change set, or another one that is greater.
+/// Returns the greatest key of a table among the cells of a change set, or another one that is
+/// greater.
 fn greatest_changed(least: i64, set: &ChangeSet, table: u16) -> i64 {
     let mut greatest = least;
     for (cell, _) in set.iter() {
@@ -73,7 +75,7 @@ fn greatest_changed(least: i64, set: &ChangeSet, table: u16) -> i64 {
     greatest
 }
 
-/// The value that a filter asks for in a column, or an empty one of its kind.
+/// Returns the value that a filter asks for in a column, or an empty one of its kind.
 fn value_of(
     alloc: Global,
     filter: &Filter,
@@ -91,7 +93,7 @@ fn value_of(
     }
 }
 
-/// A row of a side at a place: values that the side asks for, and else empty ones.
+/// Returns a row of a side at a place: values that the side asks for, and else empty ones.
 fn serving_row(
     alloc: Global,
     table: &TableDef,
@@ -147,7 +149,8 @@ fn add_keeping(
     Ok(())
 }
 
-/// A key of a table that is free in the root and in all members, or none where the greatest is taken.
+/// Returns a key of a table that is free in the root and in all members, or none where the greatest
+/// is taken.
 fn free_key(setting: Setting<'_>, table: u16) -> Result<Option<i64>, AllocError> {
     let mut greatest = match setting.office.rows(setting.members.root)? {
         Some(rows) => greatest_standing(0, &rows, table),
@@ -314,7 +317,7 @@ fn action_words(setting: Setting<'_>, action: &Action) -> Result<Words, AllocErr
 }
 
 /// Returns what may clear a set of members that is blocked in this order for this cause, to be tried
-/// one by one. Fails for want of memory alone.
+/// one by one.
 fn remedies_for(
     setting: Setting<'_>,
     order: &[usize],
@@ -328,8 +331,7 @@ fn remedies_for(
     Ok(told)
 }
 
-/// Returns what may clear members of a root that this plan says are blocked, to be tried one by one; nothing of any other plan. Fails for
-/// want of memory alone.
+/// Returns what may clear members of a root that this plan says are blocked, to be tried one by one; nothing of any other plan.
 pub(crate) fn plan_remedies(
     alloc: Global,
     office: &Office,

@@ -72,7 +72,7 @@ fn add_entries(
     Ok(())
 }
 
-/// The words with which a plan begins.
+/// Returns the words with which a plan begins.
 fn verdict_words(plan: &Plan) -> &'static str {
     match plan {
         Plan::Cleared(_) => "CLEARED. ",
@@ -83,7 +83,7 @@ fn verdict_words(plan: &Plan) -> &'static str {
 }
 
 /// Returns a plan of members of a root in sentences: what it answers, and then the cause, or what each member changes and what
-/// serves each need. Fails for want of memory alone.
+/// serves each need.
 pub(crate) fn plan_sentences(
     alloc: Global,
     office: &Office,

@@ -7,7 +7,7 @@ ghost use Rattle.clr_words.specs.WorkOrders.{answer_text, line_text, trial_text,
 use crate::trials::Trial;
 use std::alloc::AllocError;
 
-/// What a line ends with.
+/// Returns what a line ends with.
 fn answer_word(is_cleared: bool) -> &'static str
     ensures { result.now ≡ answer_text is_cleared }
 {
@@ -48,8 +48,7 @@ fn add_lines(text: &mut Vec<u8>, trials: &[Trial], is_cleared: bool) -> Result<(
     Ok(())
 }
 
-/// Adds the lines of trials, those first that are cleared; nothing where nothing was tried. Fails for want of
-/// memory alone.
+/// Adds the lines of trials, those first that are cleared; nothing where nothing was tried.
 pub(crate) fn add_trials(text: &mut Vec<u8>, trials: &[Trial]) -> Result<(), AllocError>
     ensures { OnOk result (text.new.items ≡ text.old.items ++ trials_text trials.now) }
 {

@@ -26,8 +26,8 @@ pub struct Trial {
     pub is_cleared: bool,
 }
 
-/// Whether members are cleared, as `plan` answers. Fails for want of memory alone, also where the plan
-/// found none.
+/// Returns whether members are cleared, as `plan` answers. Fails for want of memory alone, also where
+/// the plan found none.
 fn are_cleared(
     alloc: Global,
     office: &Office,
@@ -44,15 +44,14 @@ fn are_cleared(
     }
 }
 
-/// A text of these words. Fails for want of memory alone.
+/// Returns a text of these words.
 fn words_of(alloc: Global, text: &str) -> Result<Words, AllocError>
     ensures { IfOk result (λ words. words ≡ text.now) }
 {
     Ok(Words::new(String::from_str(alloc, text)?))
 }
 
-/// Performs a command, and answers whether it was done; where it wasn't, nothing changes. Fails for want
-/// of memory alone.
+/// Performs a command, and answers whether it was done; where it wasn't, nothing changes.
 fn is_done(office: &mut Office, command: &Command) -> Result<bool, AllocError>
     ensures { IfOk result (λ done. IsDone office.old command.now done office.new) }
 {
@@ -164,7 +163,7 @@ fn try_edit(
     Ok(told)
 }
 
-/// The names but the one at a position.
+/// Returns the names but the one at a position.
 fn names_without<'a>(
     alloc: Global,
     names: &[&'a str],

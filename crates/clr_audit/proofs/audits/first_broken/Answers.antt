@@ -15,7 +15,8 @@ use Rattle.clr_audit.proofs.audits.first_broken.Goals as goal
 
 pub add_of_rule_until_least-requires-clause-fit : goal.add_of_rule_until_least-requires-clause-fit
 add_of_rule_until_least-requires-clause-fit c =
-    subst (λ (rows : List Held). FitTogether c.args.book.now rows) (sym (ap (map held_of) c.as_slice.ensures.value ∙ c.in_ok-rows.ensures)) (rows_fit c.args.book.now c.args.sheet.now c.requires)
+    subst (λ (rows : List Held). FitTogether c.args.book.now rows) (sym (ap (map held_of) c.as_slice.ensures.value ∙ c.in_ok-rows.ensures))
+    (rows_fit c.args.book.now c.args.sheet.now c.requires)
 
 pub add_of_rule_until_least-requires-clause-in_order : goal.add_of_rule_until_least-requires-clause-in_order
 add_of_rule_until_least-requires-clause-in_order c =
@@ -23,9 +24,13 @@ add_of_rule_until_least-requires-clause-in_order c =
 
 pub loop-rule-preserved : goal.loop-rule-preserved
 loop-rule-preserved c =
-    gains_more c.args.book.now (map held_of c.in_ok-rows.rows.items) (λ b h. b.rule < c.loop-rule.rule) (IsOfRule c.loop-rule.rule) (λ b h. b.rule < c.loop-rule.rule + 1)
+    gains_more c.args.book.now (map held_of c.in_ok-rows.rows.items) (λ b h. b.rule < c.loop-rule.rule) (IsOfRule c.loop-rule.rule)
+    (λ b h. b.rule < c.loop-rule.rule + 1)
     [] c.loop-rule.list.items c.add_of_rule_until_least.new.list.items c.loop-rule.invariant
-    (subst (λ (rows : List Held). Gains c.args.book.now rows (IsOfRule c.loop-rule.rule) c.loop-rule.list.items c.add_of_rule_until_least.new.list.items) (ap (map held_of) c.as_slice.ensures.value) (subst (λ (o : Option Broken). MatchOption o (Gains c.args.book.now (map held_of c.as_slice.result.now) (IsOfRule c.loop-rule.rule) c.loop-rule.list.items c.add_of_rule_until_least.new.list.items)
+    (subst (λ (rows : List Held). Gains c.args.book.now rows (IsOfRule c.loop-rule.rule) c.loop-rule.list.items c.add_of_rule_until_least.new.list.items)
+    (ap (map held_of) c.as_slice.ensures.value)
+    (subst (λ (o : Option Broken). MatchOption o (Gains c.args.book.now (map held_of c.as_slice.result.now) (IsOfRule c.loop-rule.rule)
+    c.loop-rule.list.items c.add_of_rule_until_least.new.list.items)
     (IsLeastAmong c.args.book.now (map held_of c.as_slice.result.now) c.loop-rule.rule c.loop-rule.list.items)) c.in_default.is c.in_ok-need.ensures))
     (λ b h w. elim (cases_lt b.rule c.loop-rule.rule) [
       | inl l ↦ inl l
@@ -34,8 +39,12 @@ loop-rule-preserved c =
 
 pub returns-in-Some : goal.returns-in-Some
 returns-in-Some c =
-    first_is c.args.book.now c.args.sheet.now (map held_of c.in_ok-rows.rows.items) c.loop-rule.rule c.loop-rule.list.items c.in-Some.need c.in_ok-rows.ensures c.loop-rule.invariant
-    (subst (λ (rows : List Held). IsLeastAmong c.args.book.now rows c.loop-rule.rule c.loop-rule.list.items c.in-Some.need) (ap (map held_of) c.as_slice.ensures.value) (subst (λ (o : Option Broken). MatchOption o (Gains c.args.book.now (map held_of c.as_slice.result.now) (IsOfRule c.loop-rule.rule) c.loop-rule.list.items c.add_of_rule_until_least.new.list.items)
+    first_is c.args.book.now c.args.sheet.now (map held_of c.in_ok-rows.rows.items) c.loop-rule.rule c.loop-rule.list.items c.in-Some.need c.in_ok-rows.ensures
+    c.loop-rule.invariant
+    (subst (λ (rows : List Held). IsLeastAmong c.args.book.now rows c.loop-rule.rule c.loop-rule.list.items c.in-Some.need)
+    (ap (map held_of) c.as_slice.ensures.value)
+    (subst (λ (o : Option Broken). MatchOption o (Gains c.args.book.now (map held_of c.as_slice.result.now) (IsOfRule c.loop-rule.rule)
+    c.loop-rule.list.items c.add_of_rule_until_least.new.list.items)
     (IsLeastAmong c.args.book.now (map held_of c.as_slice.result.now) c.loop-rule.rule c.loop-rule.list.items)) c.in-Some.is c.in_ok-need.ensures))
 
 pub put_in_order-requires : goal.put_in_order-requires
@@ -45,5 +54,7 @@ put_in_order-requires c = broken_exact
 pub returns : goal.returns
 unfolding broken_cmp
 returns c = c.copied.ensures ∙ c.first.ensures.value ∙ ap (λ (xs : List Broken). slice_get xs 0) (c.as_slice-2.ensures.value
-    ∙ audit_is c.args.book.now c.args.sheet.now (map held_of c.in_ok-rows.rows.items) c.loop-rule.list.items c.put_in_order.new.list.items c.loop-rule.rule c.in_ok-rows.ensures
-    (omega (arith, c.loop-rule-test.false, c.loop-rule.auto.rule-end, c.len-rule-end.ensures.value)) c.loop-rule.invariant c.put_in_order.ensures.ascending c.put_in_order.ensures.same)
+    ∙ audit_is c.args.book.now c.args.sheet.now (map held_of c.in_ok-rows.rows.items) c.loop-rule.list.items c.put_in_order.new.list.items c.loop-rule.rule
+    c.in_ok-rows.ensures
+    (omega (arith, c.loop-rule-test.false, c.loop-rule.auto.rule-end, c.len-rule-end.ensures.value)) c.loop-rule.invariant c.put_in_order.ensures.ascending
+    c.put_in_order.ensures.same)

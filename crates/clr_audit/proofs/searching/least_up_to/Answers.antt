@@ -11,5 +11,6 @@ put_in_order-requires c = broken_exact
 
 pub returns-in-Some-clause-least : goal.returns-in-Some-clause-least
 unfolding broken_cmp
-returns-in-Some-clause-least c = least_listed c.args.list.now.items c.put_in_order.new.list.items c.in-Some.need.now c.put_in_order.ensures.ascending c.put_in_order.ensures.same
+returns-in-Some-clause-least c = least_listed c.args.list.now.items c.put_in_order.new.list.items c.in-Some.need.now c.put_in_order.ensures.ascending
+    c.put_in_order.ensures.same
     (sym (c.in-Some.ensures.value ∙ ap (λ (xs : List Broken). slice_get xs 0) c.as_slice.ensures.value))

@@ -9,7 +9,8 @@ use Rattle.clr_cert.specs.Texts.{IsWellFormed}
 use Rattle.clr_cert.proofs.NamedCertificates.{named_of}
 use Rattle.clr_cert.proofs.reading.read_certificate.Goals as goal
 
-given_named : (tables : List TableDef) (rows : List (List (List ℕ))) (answer : Result Certificate (ℕ × CertFault)) → GivesAt answer (certificate_of tables rows) → IfOk answer (IsWellFormed tables)
+given_named : (tables : List TableDef) (rows : List (List (List ℕ))) (answer : Result Certificate (ℕ × CertFault)) → GivesAt answer (certificate_of tables rows)
+    → IfOk answer (IsWellFormed tables)
 given_named tables rows (Ok c) e = named_of tables rows c e
 given_named tables rows (Err f) e = tt
 

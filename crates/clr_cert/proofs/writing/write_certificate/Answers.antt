@@ -11,7 +11,8 @@ returns-in-Ok-clause-written c =
     let members = c.in_ok-add_members.ensures.written in
     let entries = c.in_ok-add_entries.ensures.written in
     let made = c.from_writer-writer.ensures in
-    c.in-Ok.ensures.ok ∙ rw (entries, members, root, made.wtr, made.empty, c.new-2.ensures.items, c.as_str.ensures, c.as_slice.ensures, c.as_slice-2.ensures) (sym (text_whole c.args.schema.now c.args.certificate.now))
+    c.in-Ok.ensures.ok ∙ rw (entries, members, root, made.wtr, made.empty, c.new-2.ensures.items, c.as_str.ensures, c.as_slice.ensures, c.as_slice-2.ensures)
+    (sym (text_whole c.args.schema.now c.args.certificate.now))
 
 pub returns-in-Ok-clause-read_back : goal.returns-in-Ok-clause-read_back
 returns-in-Ok-clause-read_back c =

@@ -19,4 +19,5 @@ returns-in-Ok-Some c s parts =
 pub returns : goal.returns
 returns c s parts =
     let entries = entries_in c.args.entries.now in
-    subst (IsAnswer c.args.office.now s entries) (sym c.verdict_of.ensures) (scene_answers c.args.office.now s entries parts.free c.in-Err.fault (c.in-Err.ensures.shared s parts))
+    subst (IsAnswer c.args.office.now s entries) (sym c.verdict_of.ensures) (scene_answers c.args.office.now s entries parts.free c.in-Err.fault
+    (c.in-Err.ensures.shared s parts))

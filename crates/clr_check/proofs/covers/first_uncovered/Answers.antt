@@ -19,7 +19,8 @@ is_covered-requires-clause-possible g c =
     let needs = c.in_ok-needs.needs.items in
     let read = c.deref-need-items.result.now in
     let k = c.loop-need.need-index in
-    touched_possible (setting_in g.V.RowView.content c.args.scene.now) (get_or read k no_need) needs c.in_ok-needs.ensures (read_of read needs k no_need c.deref-need-items.ensures.value c.loop-need-test.true)
+    touched_possible (setting_in g.V.RowView.content c.args.scene.now) (get_or read k no_need) needs c.in_ok-needs.ensures
+    (read_of read needs k no_need c.deref-need-items.ensures.value c.loop-need-test.true)
 
 pub loop-need-preserved : goal.loop-need-preserved
 loop-need-preserved g c =
@@ -34,7 +35,8 @@ loop-need-preserved g c =
       found = found;
       same = subst (λ (list : List Entry). (e : Entry) → Contains list e ↔ Contains entries e) (sym c.as_slice.ensures.value) c.in_ok-sorted.ensures.same;
       those = c.entries_of.ensures;
-      tells = subst (λ (told : Bool). (a : Lived ℕ) (b : Option (Lived ℕ)) → IsPossible s n a b → IsTold told (HasCover s n a b found)) c.if-not-branch.false c.in_ok-is_covered.ensures;
+      tells = subst (λ (told : Bool). (a : Lived ℕ) (b : Option (Lived ℕ)) → IsPossible s n a b → IsTold told (HasCover s n a b found)) c.if-not-branch.false
+          c.in_ok-is_covered.ensures;
     } in
     one_before s (entries_in entries) read k no_need c.loop-need-test.true (need_covered s entries n judged) c.loop-need.invariant
 
@@ -52,12 +54,15 @@ returns-then-not-branch g c =
       found = found;
       same = subst (λ (list : List Entry). (e : Entry) → Contains list e ↔ Contains entries e) (sym c.as_slice.ensures.value) c.in_ok-sorted.ensures.same;
       those = c.entries_of.ensures;
-      tells = subst (λ (told : Bool). (a : Lived ℕ) (b : Option (Lived ℕ)) → IsPossible s n a b → IsTold told (HasCover s n a b found)) c.if-not-branch.true c.in_ok-is_covered.ensures;
+      tells = subst (λ (told : Bool). (a : Lived ℕ) (b : Option (Lived ℕ)) → IsPossible s n a b → IsTold told (HasCover s n a b found)) c.if-not-branch.true
+          c.in_ok-is_covered.ensures;
     } in
     let possible = touched_possible s n needs c.in_ok-needs.ensures (read_of read needs k no_need c.deref-need-items.ensures.value c.loop-need-test.true) in
-    first_after s (entries_in entries) needs read k no_need c.in_ok-needs.ensures c.deref-need-items.ensures.value c.loop-need-test.true c.loop-need.invariant (need_uncovered s entries n judged possible)
+    first_after s (entries_in entries) needs read k no_need c.in_ok-needs.ensures c.deref-need-items.ensures.value c.loop-need-test.true c.loop-need.invariant
+    (need_uncovered s entries n judged possible)
 
 pub returns : goal.returns
 returns g c =
-    all_before (setting_in g.V.RowView.content c.args.scene.now) (entries_in c.args.entries.now) c.in_ok-needs.needs.items c.deref-need-items.result.now c.loop-need.need-index c.in_ok-needs.ensures c.deref-need-items.ensures.value
+    all_before (setting_in g.V.RowView.content c.args.scene.now) (entries_in c.args.entries.now) c.in_ok-needs.needs.items c.deref-need-items.result.now
+    c.loop-need.need-index c.in_ok-needs.ensures c.deref-need-items.ensures.value
     c.loop-need-test.false c.loop-need.invariant

@@ -9,4 +9,5 @@ use Rattle.clr_check.proofs.covers.is_among.Goals as goal
 pub returns : goal.returns
 returns c =
     subst (λ told. IsTold told (Contains c.args.versions.now c.args.id)) (sym c.is_ok.ensures.value)
-    (found_or_not version_cmp version_total version_exact c.args.versions.now c.args.id c.binary_search.result c.requires c.binary_search.ensures.bound c.binary_search.ensures.position)
+    (found_or_not version_cmp version_total version_exact c.args.versions.now c.args.id c.binary_search.result c.requires c.binary_search.ensures.bound
+    c.binary_search.ensures.position)

@@ -7,4 +7,5 @@ use Rattle.clr_check.proofs.covers.is_covered.Given as goal
 
 -- none of the entries so far covers
 abbrev pub invariant-loop-entry : goal.invariant-loop-entry
-invariant-loop-entry g l = (a : Lived ℕ) (b : Option (Lived ℕ)) → IsPossible (setting_in g.V.RowView.content l.scene) l.need a b → NoneCovers (setting_in g.V.RowView.content l.scene) l.need a b (take l.entry-index l.entries)
+invariant-loop-entry g l = (a : Lived ℕ) (b : Option (Lived ℕ)) → IsPossible (setting_in g.V.RowView.content l.scene) l.need a b
+    → NoneCovers (setting_in g.V.RowView.content l.scene) l.need a b (take l.entry-index l.entries)

@@ -13,9 +13,11 @@ overflow_sub-to c =
     let low = c.partition_point-from.result in
     let high = c.partition_point-to.result in
     let before : IsPartitionPoint (λ k. is_before n k ≡ true) (λ k. is_before n k ≡ false) entries low =
-    IsPartitionPoint-from_clause (is_before n) entries low c.partition_point-from.ensures.partitioned (parted_before need_total entries c.requires n) (λ a r f' k. search rules) in
+    IsPartitionPoint-from_clause (is_before n) entries low c.partition_point-from.ensures.partitioned (parted_before need_total entries c.requires n)
+    (λ a r f' k. search rules) in
     let after : IsPartitionPoint (λ k. is_up_to n k ≡ true) (λ k. is_up_to n k ≡ false) entries high =
-    IsPartitionPoint-from_clause (is_up_to n) entries high c.partition_point-to.ensures.partitioned (parted_up_to need_total entries c.requires n) (λ a r f' k. search rules) in
+    IsPartitionPoint-from_clause (is_up_to n) entries high c.partition_point-to.ensures.partitioned (parted_up_to need_total entries c.requires n)
+    (λ a r f' k. search rules) in
     in_turn need_total entries c.requires n need_exact low high before after c.partition_point-from.ensures.bound no_entry
 
 pub returns : goal.returns
@@ -25,9 +27,11 @@ returns c =
     let low = c.partition_point-from.result in
     let high = c.partition_point-to.result in
     let before : IsPartitionPoint (λ k. is_before n k ≡ true) (λ k. is_before n k ≡ false) entries low =
-    IsPartitionPoint-from_clause (is_before n) entries low c.partition_point-from.ensures.partitioned (parted_before need_total entries c.requires n) (λ a r f' k. search rules) in
+    IsPartitionPoint-from_clause (is_before n) entries low c.partition_point-from.ensures.partitioned (parted_before need_total entries c.requires n)
+    (λ a r f' k. search rules) in
     let after : IsPartitionPoint (λ k. is_up_to n k ≡ true) (λ k. is_up_to n k ≡ false) entries high =
-    IsPartitionPoint-from_clause (is_up_to n) entries high c.partition_point-to.ensures.partitioned (parted_up_to need_total entries c.requires n) (λ a r f' k. search rules) in
+    IsPartitionPoint-from_clause (is_up_to n) entries high c.partition_point-to.ensures.partitioned (parted_up_to need_total entries c.requires n)
+    (λ a r f' k. search rules) in
     let within = c.partition_point-to.ensures.bound in
     let le = in_turn need_total entries c.requires n need_exact low high before after c.partition_point-from.ensures.bound no_entry in
     let whole : c.split_at-2.result.0.now ≡ take (high - low) (drop low entries) = c.split_at-2.ensures.front ∙ ap (take (high - low)) c.split_at.ensures.back in

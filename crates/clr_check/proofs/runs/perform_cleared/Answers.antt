@@ -22,5 +22,6 @@ returns-clause-run c =
     let s = site_of certificate in
     let entries = entries_in certificate.entries in
     let clear = c.in-Clear.ensures.answer in
-    cleared_run o s entries c.args.commands.now c.perform_quiet.result.replies.items c.perform_quiet.new.office c.perform_quiet.result.stopped (clear_verdict o s entries verdict.Clear clear refl)
+    cleared_run o s entries c.args.commands.now c.perform_quiet.result.replies.items c.perform_quiet.new.office c.perform_quiet.result.stopped
+    (clear_verdict o s entries verdict.Clear clear refl)
     (clear_holds o s entries clear c.in-Clear.ensures.admitted) c.perform_quiet.ensures

@@ -24,8 +24,10 @@ loop-command-preserved c =
     let performed : take at commands ++ c.command-item.result ∷ [] ≡ take (at + 1) commands = ap (λ command. take at commands ++ command ∷ []) c.command-item.is ∙ sym (take_more commands at c.command-item.result c.loop-command-test.true) in
     let pushed : c.push.new.self.items ≡ all = c.push.ensures.items ∙ ap (λ (made : Bool). cond made all c.loop-command.replies.items) (ap is_ok c.unwrap.ensures) in
     record {
-      answers = subst (λ (replies : List Reply). AreAnswers first (take (at + 1) commands) replies left) (sym pushed) (subst (λ (cs : List Command). AreAnswers first cs all left) performed more.0);
-      quiet = subst (λ (replies : List Reply). AreQuiet first site (take (at + 1) commands) (lost_in replies)) (sym pushed) (subst (λ (cs : List Command). AreQuiet first site cs (lost_in all)) performed more.1);
+      answers = subst (λ (replies : List Reply). AreAnswers first (take (at + 1) commands) replies left) (sym pushed)
+          (subst (λ (cs : List Command). AreAnswers first cs all left) performed more.0);
+      quiet = subst (λ (replies : List Reply). AreQuiet first site (take (at + 1) commands) (lost_in replies)) (sym pushed)
+          (subst (λ (cs : List Command). AreQuiet first site cs (lost_in all)) performed more.1);
       count = grind (arith, common_steps);
       room = grind (arith, common_steps);
     }

@@ -8,7 +8,8 @@ use Rattle.clr_clashes.proofs.ListedLaws.{all_kept, none_kept_yet, one_noted}
 use Rattle.clr_clashes.proofs.listing.clashes.Goals as goal
 
 pub loop-need-init : goal.loop-need-init
-loop-need-init g c = none_kept_yet (setting_of (model_of g.V.RowView.content c.args.scene.now)) c.in_ok-needs.needs.items c.deref-need-items.result.now c.in_ok-needs.ensures c.deref-need-items.ensures.value
+loop-need-init g c = none_kept_yet (setting_of (model_of g.V.RowView.content c.args.scene.now)) c.in_ok-needs.needs.items c.deref-need-items.result.now
+    c.in_ok-needs.ensures c.deref-need-items.ensures.value
     (map clash_of c.new-list.result.items) (ap (map clash_of) c.new-list.ensures.items)
 
 pub note_need-requires-clause-possible : goal.note_need-requires-clause-possible
@@ -16,12 +17,16 @@ note_need-requires-clause-possible g c =
     let needs = c.in_ok-needs.needs.items in
     let read = c.deref-need-items.result.now in
     let k = c.loop-need.need-index in
-    touched_possible (setting_of (model_of g.V.RowView.content c.args.scene.now)) (get_or read k unread) needs c.in_ok-needs.ensures (read_of read needs k unread c.deref-need-items.ensures.value c.loop-need-test.true)
+    touched_possible (setting_of (model_of g.V.RowView.content c.args.scene.now)) (get_or read k unread) needs c.in_ok-needs.ensures
+    (read_of read needs k unread c.deref-need-items.ensures.value c.loop-need-test.true)
 
 pub loop-need-preserved : goal.loop-need-preserved
-loop-need-preserved g c = one_noted (setting_of (model_of g.V.RowView.content c.args.scene.now)) c.in_ok-needs.needs.items c.deref-need-items.result.now c.in_ok-needs.ensures c.deref-need-items.ensures.value
-    c.loop-need.need-index unread c.loop-need-test.true (map clash_of c.loop-need.list.items) (map clash_of c.note_need.new.clashes.items) c.loop-need.invariant c.in_ok-note_need.ensures
+loop-need-preserved g c = one_noted (setting_of (model_of g.V.RowView.content c.args.scene.now)) c.in_ok-needs.needs.items c.deref-need-items.result.now
+    c.in_ok-needs.ensures c.deref-need-items.ensures.value
+    c.loop-need.need-index unread c.loop-need-test.true (map clash_of c.loop-need.list.items) (map clash_of c.note_need.new.clashes.items) c.loop-need.invariant
+    c.in_ok-note_need.ensures
 
 pub returns : goal.returns
-returns g c = all_kept (setting_of (model_of g.V.RowView.content c.args.scene.now)) c.in_ok-needs.needs.items c.deref-need-items.result.now c.in_ok-needs.ensures c.deref-need-items.ensures.value
+returns g c = all_kept (setting_of (model_of g.V.RowView.content c.args.scene.now)) c.in_ok-needs.needs.items c.deref-need-items.result.now
+    c.in_ok-needs.ensures c.deref-need-items.ensures.value
     c.loop-need.need-index (map clash_of c.loop-need.list.items) c.loop-need-test.false c.loop-need.invariant

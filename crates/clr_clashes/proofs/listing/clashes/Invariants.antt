@@ -6,4 +6,5 @@ use Rattle.clr_clashes.proofs.listing.clashes.Given as goal
 
 -- those that hold no other, of the needs so far
 abbrev pub invariant-loop-need : goal.invariant-loop-need
-invariant-loop-need g l = AreKept (setting_of (model_of g.V.RowView.content l.scene)) (λ n. Contains (take l.need-index l.need-items) n) (map clash_of l.list.items)
+invariant-loop-need g l = AreKept (setting_of (model_of g.V.RowView.content l.scene)) (λ n. Contains (take l.need-index l.need-items) n)
+    (map clash_of l.list.items)

@@ -15,7 +15,8 @@ simple : is_simple program ≡ true
 unfolding clap_on_literals
 simple = refl
 
-pair_is : {Z : Type 0} (o : Option (Box SubCommand Z)) (n : Text) (r : List Row) → Some n ≡ option_map (λ b. (out-SubCommand (box_value b)).name.now) o → Some r ≡ option_map (λ p. p.1) (subcommand_rows o) → subcommand_rows o ≡ Some (n, r)
+pair_is : {Z : Type 0} (o : Option (Box SubCommand Z)) (n : Text) (r : List Row) → Some n ≡ option_map (λ b. (out-SubCommand (box_value b)).name.now) o → Some r
+    ≡ option_map (λ p. p.1) (subcommand_rows o) → subcommand_rows o ≡ Some (n, r)
 pair_is None n r e h = absurd cc
 pair_is (Some b) n r e h = cc
 

@@ -6,9 +6,9 @@ use Rattle.clr_command_line.proofs.values.value.Goals as goal
 pub returns-in_ok-from_str-in-Some : goal.returns-in_ok-from_str-in-Some
 returns-in_ok-from_str-in-Some c =
     let e = c.in-Some.ensures ∙ first_value-rows (found_of c.args.matches.now) c.args.id.now in
-    c.new.ensures ∙ c.in_ok-from_str-in-Some.ensures.ok ∙ ap (λ o. unwrap_or o []) e
+    c.in_ok-from_str-in-Some.ensures ∙ ap (λ o. unwrap_or o []) e
 
 pub returns-in-None : goal.returns-in-None
 returns-in-None c =
     let e = c.in-None.ensures ∙ first_value-rows (found_of c.args.matches.now) c.args.id.now in
-    c.new-in-None-2.ensures ∙ c.new-in-None.ensures.bytes ∙ ap (λ o. unwrap_or o []) e
+    c.new-in-None.ensures ∙ c.new.ensures.bytes ∙ ap (λ o. unwrap_or o []) e

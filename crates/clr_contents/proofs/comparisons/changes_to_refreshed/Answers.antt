@@ -26,5 +26,6 @@ returns c =
     let after = c.new-after.ensures ∙ (λ i. taken_over (c.new-parent.ensures i) c.args.own.now) in
     c.in_ok-set.ensures ∙ (λ i. set_at (c.new-before.ensures i) (after i) no_changes (cells i))
     ∙ all_set w.current (taken_over above c.args.own.now) (finite.keys l.base)
-    (λ q e. own_row w.base w.current above q (sym (none_base c.args.live.now c.args.map.now c.args.at c.requires.child c.requires.within c.args.above c.requires.above earlier q (no_entry l.base q e)))
+    (λ q e. own_row w.base w.current above q (sym (none_base c.args.live.now c.args.map.now c.args.at c.requires.child c.requires.within c.args.above
+    c.requires.above earlier q (no_entry l.base q e)))
     ∙ ap (λ (own : Changes). row_at (taken_over above own) q) (sym c.requires.own))

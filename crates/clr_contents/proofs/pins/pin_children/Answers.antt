@@ -24,10 +24,12 @@ loop-k-preserved c =
           (e.pinned (subst (λ n. IsUnder n (layer_at new k)) (sym (i.extends.each c.args.at).name) (subst (λ n. IsUnder name (layer_at new n)) same under))))
           (λ (other : j ≢ k).
           let more = e.extends.each j in
-          entries_keep (layer_at old j).base (layer_at new j).base _ more.base (i.pinned j some (omega arith) (subst (λ n. IsUnder name (record (layer_at old j) { parent = n })) more.parent under)))
+          entries_keep (layer_at old j).base (layer_at new j).base _ more.base
+          (i.pinned j some (omega arith) (subst (λ n. IsUnder name (record (layer_at old j) { parent = n })) more.parent under)))
           (cases_eq j k);
     }
 
 pub returns-in_err-pin_child-clause-elsewhere : goal.returns-in_err-pin_child-clause-elsewhere
 returns-in_err-pin_child-clause-elsewhere c =
-    but_children_both c.args.at c.args.cells.now c.args.map.now c.loop-k.map c.pin_child.new.map c.loop-k.invariant.extends c.loop-k.invariant.elsewhere c.pin_child.ensures.elsewhere
+    but_children_both c.args.at c.args.cells.now c.args.map.now c.loop-k.map c.pin_child.new.map c.loop-k.invariant.extends c.loop-k.invariant.elsewhere
+    c.pin_child.ensures.elsewhere

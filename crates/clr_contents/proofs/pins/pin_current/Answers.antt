@@ -8,13 +8,17 @@ use Rattle.clr_contents.proofs.pins.pin_current.Goals as goal
 pub returns-clause-seen : goal.returns-clause-seen
 returns-clause-seen c =
     ap (wholes c.args.live.now) c.in_ok-put_current.ensures.ok
-    ∙ current_pinned c.args.live.now c.args.map.now c.args.at c.requires.rooted c.requires.child c.requires.within c.args.cell c.in_ok-row.row (c.in_ok-row.ensures ∙ c.row_of.ensures)
+    ∙ current_pinned c.args.live.now c.args.map.now c.args.at c.requires.rooted c.requires.child c.requires.within c.args.cell c.in_ok-row.row
+    (c.in_ok-row.ensures ∙ c.row_of.ensures)
 
 pub returns-clause-extends : goal.returns-clause-extends
-returns-clause-extends c = subst (Extends c.args.map.now) (sym c.in_ok-put_current.ensures.ok) (extends_current c.args.map.now c.args.at c.args.cell c.in_ok-row.row c.requires.within)
+returns-clause-extends c = subst (Extends c.args.map.now) (sym c.in_ok-put_current.ensures.ok) (extends_current c.args.map.now c.args.at c.args.cell
+    c.in_ok-row.row c.requires.within)
 
 pub returns-clause-pinned : goal.returns-clause-pinned
-returns-clause-pinned c = subst (λ (ls : List Layer). HasEntry (layer_at ls c.args.at).current c.args.cell) (sym c.in_ok-put_current.ensures.ok) (pinned_current c.args.map.now c.args.at c.args.cell c.in_ok-row.row c.requires.within)
+returns-clause-pinned c = subst (λ (ls : List Layer). HasEntry (layer_at ls c.args.at).current c.args.cell) (sym c.in_ok-put_current.ensures.ok)
+    (pinned_current c.args.map.now c.args.at c.args.cell c.in_ok-row.row c.requires.within)
 
 pub returns-clause-elsewhere : goal.returns-clause-elsewhere
-returns-clause-elsewhere c = subst (StayOwnBut c.args.at (c.args.cell ∷ []) c.args.map.now) (sym c.in_ok-put_current.ensures.ok) (but_current c.args.map.now c.args.at c.args.cell c.in_ok-row.row c.requires.within)
+returns-clause-elsewhere c = subst (StayOwnBut c.args.at (c.args.cell ∷ []) c.args.map.now) (sym c.in_ok-put_current.ensures.ok)
+    (but_current c.args.map.now c.args.at c.args.cell c.in_ok-row.row c.requires.within)

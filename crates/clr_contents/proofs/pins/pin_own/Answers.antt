@@ -13,7 +13,8 @@ loop-cell-preserved c =
     record {
       seen = e.seen ∙ i.seen;
       extends = extends_both _ old new i.extends e.extends;
-      elsewhere = λ k q apart. own_both q (layer_at c.args.map.now k) (layer_at old k) (layer_at new k) (i.elsewhere k q apart) (e.elsewhere k q (λ same. apart_at c.args.cells.now c.loop-cell.cell-index _ q (omega arith) (apart same)));
+      elsewhere = λ k q apart. own_both q (layer_at c.args.map.now k) (layer_at old k) (layer_at new k) (i.elsewhere k q apart)
+          (e.elsewhere k q (λ same. apart_at c.args.cells.now c.loop-cell.cell-index _ q (omega arith) (apart same)));
       pinned = entries_next (layer_at new c.args.at).current _ _ _ (omega arith)
           (entries_keep (layer_at old c.args.at).current (layer_at new c.args.at).current _ (e.extends.each c.args.at).current i.pinned) e.pinned;
     }

@@ -7,7 +7,8 @@ use Rattle.clr_contents.proofs.pins.pin_saved.Goals as goal
 pub returns-clause-seen : goal.returns-clause-seen
 returns-clause-seen c =
     ap (wholes c.args.live.now) c.pin_saved.ensures.others
-    ∙ saved_pinned c.args.live.now c.args.map.now c.args.at c.requires.rooted c.requires.child c.requires.within c.args.cell c.in_ok-row.row _ (c.in_ok-row.ensures ∙ c.base_row_of.ensures)
+    ∙ saved_pinned c.args.live.now c.args.map.now c.args.at c.requires.rooted c.requires.child c.requires.within c.args.cell c.in_ok-row.row _
+    (c.in_ok-row.ensures ∙ c.base_row_of.ensures)
     (λ b is. c.pin_saved.ensures.seen b (is ∙ sym c.as_ref.ensures.value))
 
 pub returns-clause-extends : goal.returns-clause-extends
@@ -15,4 +16,5 @@ returns-clause-extends c = subst (Extends c.args.map.now) (sym c.pin_saved.ensur
 
 pub returns-clause-elsewhere : goal.returns-clause-elsewhere
 returns-clause-elsewhere c =
-    subst (StayOwnBut c.args.at (c.args.cell ∷ []) c.args.map.now) (sym c.pin_saved.ensures.others) (but_marks c.args.map.now c.args.at (c.args.cell ∷ []) _ c.requires.within c.pin_saved.ensures.elsewhere)
+    subst (StayOwnBut c.args.at (c.args.cell ∷ []) c.args.map.now) (sym c.pin_saved.ensures.others) (but_marks c.args.map.now c.args.at (c.args.cell
+    ∷ []) _ c.requires.within c.pin_saved.ensures.elsewhere)

@@ -13,4 +13,5 @@ returns-in-Some c =
 pub returns : goal.returns
 returns c =
     let none = ap (λ (d : Differences). finite.get d c.args.cell) (sym c.base.ensures) ∙ sym c.get.ensures ∙ ap option_copied c.in_default.is in
-    c.row_of.ensures ∙ none_base c.args.live.now c.args.map.now c.args.at c.requires.child c.requires.within _ c.parent_of.ensures.found c.parent_of.ensures.earlier c.args.cell none
+    c.row_of.ensures ∙ none_base c.args.live.now c.args.map.now c.args.at c.requires.child c.requires.within _ c.parent_of.ensures.found
+    c.parent_of.ensures.earlier c.args.cell none

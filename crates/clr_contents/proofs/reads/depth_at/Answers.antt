@@ -1,7 +1,7 @@
 use Rattle.std.proofs.Common.{◌≡◌, ◌∙◌, ap, arith}
 use Rattle.clr_layers.specs.Layers.{wholes}
 use Rattle.clr_workspaces.specs.Workspaces.{depth_of}
-use Rattle.clr_contents.proofs.DepthLemmas.{depth_step, depth_zero}
+use Rattle.clr_workspaces.proofs.DepthLemmas.{depth_step, depth_zero}
 use Rattle.clr_contents.proofs.ReadLemmas.{within_wholes}
 use Rattle.clr_contents.proofs.reads.depth_at.Goals as goal
 

@@ -10,7 +10,8 @@ unwrap-requires c =
     ap is_some (c.find.ensures.found ∙ ap (find_layer c.args.map.now) c.parent_name.ensures ∙ q.1)
 
 pub returns-clause-found : goal.returns-clause-found
-returns-clause-found c = parent_here c.args.live.now c.args.map.now c.args.at ∙ ap (find_layer c.args.map.now) (sym c.parent_name.ensures) ∙ sym c.find.ensures.found ∙ c.unwrap.ensures
+returns-clause-found c = parent_here c.args.live.now c.args.map.now c.args.at ∙ ap (find_layer c.args.map.now) (sym c.parent_name.ensures)
+    ∙ sym c.find.ensures.found ∙ c.unwrap.ensures
 
 pub returns-clause-earlier : goal.returns-clause-earlier
 returns-clause-earlier c =

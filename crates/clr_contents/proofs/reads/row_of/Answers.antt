@@ -12,13 +12,15 @@ use Rattle.clr_contents.proofs.reads.row_of.Goals as goal
 pub returns-in-Some : goal.returns-in-Some
 returns-in-Some c =
     let entry = ap (λ (d : Differences). finite.get d c.args.cell) (sym c.current.ensures) ∙ sym c.get.ensures ∙ ap option_copied c.in-Some.is in
-    c.as_ref.ensures.value ∙ found_current c.args.live.now c.args.map.now c.loop-at.at (omega arith) c.loop-at.invariant.within c.args.cell _ entry ∙ c.loop-at.invariant.same
+    c.as_ref.ensures.value ∙ found_current c.args.live.now c.args.map.now c.loop-at.at (omega arith) c.loop-at.invariant.within c.args.cell _ entry
+    ∙ c.loop-at.invariant.same
 
 pub returns-in-Some-get : goal.returns-in-Some-get
 returns-in-Some-get c =
     let none = ap (λ (d : Differences). finite.get d c.args.cell) (sym c.current.ensures) ∙ sym c.get.ensures ∙ ap option_copied c.in_default.is in
     let entry = ap (λ (d : Differences). finite.get d c.args.cell) (sym c.base.ensures) ∙ sym c.get-in-loop-at.ensures ∙ ap option_copied c.in-Some-get.is in
-    c.as_ref-in-Some-get.ensures.value ∙ found_base c.args.live.now c.args.map.now c.loop-at.at c.args.cell _ c.requires.rooted (omega arith) c.loop-at.invariant.within entry
+    c.as_ref-in-Some-get.ensures.value ∙ found_base c.args.live.now c.args.map.now c.loop-at.at c.args.cell _ c.requires.rooted (omega arith)
+    c.loop-at.invariant.within entry
     ∙ none_current c.args.live.now c.args.map.now c.loop-at.at (omega arith) c.loop-at.invariant.within c.args.cell none ∙ c.loop-at.invariant.same
 
 pub loop-at-preserved : goal.loop-at-preserved
@@ -27,7 +29,8 @@ loop-at-preserved c =
     let none_below = ap (λ (d : Differences). finite.get d c.args.cell) (sym c.base.ensures) ∙ sym c.get-in-loop-at.ensures ∙ ap option_copied c.in_default-get.is in
     record {
       within = let up = c.parent_of-at.ensures.earlier in let here = c.loop-at.invariant.within in omega arith;
-      same = none_base c.args.live.now c.args.map.now c.loop-at.at (omega arith) c.loop-at.invariant.within _ c.parent_of-at.ensures.found c.parent_of-at.ensures.earlier c.args.cell none_below
+      same = none_base c.args.live.now c.args.map.now c.loop-at.at (omega arith) c.loop-at.invariant.within _ c.parent_of-at.ensures.found
+          c.parent_of-at.ensures.earlier c.args.cell none_below
           ∙ none_current c.args.live.now c.args.map.now c.loop-at.at (omega arith) c.loop-at.invariant.within c.args.cell none ∙ c.loop-at.invariant.same;
     }
 

@@ -29,8 +29,10 @@ loop-at-preserved c =
       seen = e.seen ∙ i.seen;
       long = ap (λ (ms : List Layer). length ms) e.others ∙ length-set old at _ ∙ i.long;
       lean = λ j some lt. ⊎_elim
-          (λ (same : j ≡ at). subst (λ n. IsLeanOver (wholes live ls) n (layer_at new n)) (sym same) (subst (λ (ws : List Workspace). IsLeanOver ws at (layer_at new at)) i.seen e.lean))
-          (λ (n : j ≢ at). subst (IsLeanOver (wholes live ls) j) (sym (ap (λ (ns : List Layer). layer_at ns j) e.others ∙ get_or-set_other old at j _ no_layer n)) (i.lean j some (omega (arith, n, lt))))
+          (λ (same : j ≡ at). subst (λ n. IsLeanOver (wholes live ls) n (layer_at new n)) (sym same)
+          (subst (λ (ws : List Workspace). IsLeanOver ws at (layer_at new at)) i.seen e.lean))
+          (λ (n : j ≢ at). subst (IsLeanOver (wholes live ls) j) (sym (ap (λ (ns : List Layer). layer_at ns j) e.others
+          ∙ get_or-set_other old at j _ no_layer n)) (i.lean j some (omega (arith, n, lt))))
           (cases_eq j at);
     }
 

@@ -38,7 +38,8 @@ loop-one-preserved c =
           (λ (same : j ≡ k).
           let here : IsLeanBeside (wholes live ls) at cells k (layer_at ls k) = subst (λ n. IsLeanBeside (wholes live ls) at cells n (layer_at ls n)) same beside in
           let was : IsLeanBeside (wholes live old) at cells k (layer_at old k) = subst (λ (ws : List Workspace). IsLeanBeside ws at cells k (layer_at old k)) (sym i.seen) (subst (IsLeanBeside (wholes live ls) at cells k) (sym (i.later k (omega arith))) here) in
-          subst (λ n. IsLeanOver (wholes live ls) n (layer_at new n)) (sym same) (subst (λ (ws : List Workspace). IsLeanOver ws k (layer_at new k)) i.seen (e.lean was)))
+          subst (λ n. IsLeanOver (wholes live ls) n (layer_at new n)) (sym same) (subst (λ (ws : List Workspace). IsLeanOver ws k (layer_at new k)) i.seen
+          (e.lean was)))
           (λ (n : j ≢ k). subst (IsLeanOver (wholes live ls) j) (sym (other j n)) (i.lean j some (omega (arith, n, lt)) beside))
           (cases_eq j k);
       later = λ j le. other j (omega (arith, le)) ∙ i.later j (omega (arith, le));
@@ -49,4 +50,5 @@ returns-clause-lean c = λ but j some lt.
     let i = c.loop-one.invariant in
     let long = i.long in
     let all = c.len-one-end.ensures in
-    subst (λ (ws : List Workspace). IsLeanOver ws j (layer_at c.loop-one.map j)) (sym i.seen) (i.lean j some (omega (arith, long, all, lt)) (but j some (omega (arith, long, lt))))
+    subst (λ (ws : List Workspace). IsLeanOver ws j (layer_at c.loop-one.map j)) (sym i.seen) (i.lean j some (omega (arith, long, all, lt))
+    (but j some (omega (arith, long, lt))))

@@ -8,6 +8,7 @@ abbrev pub invariant-loop-one : goal.invariant-loop-one
 invariant-loop-one l = record {
   seen : wholes l.live l.map ≡ wholes l.live l.fn.map;
   long : length l.map ≡ length l.fn.map;
-  lean : (j : ℕ) → 0 < j → j < l.one → IsLeanBeside (wholes l.live l.fn.map) l.at l.cells j (layer_at l.fn.map j) → IsLeanOver (wholes l.live l.fn.map) j (layer_at l.map j);
+  lean : (j : ℕ) → 0 < j → j < l.one → IsLeanBeside (wholes l.live l.fn.map) l.at l.cells j (layer_at l.fn.map j)
+      → IsLeanOver (wholes l.live l.fn.map) j (layer_at l.map j);
   later : (j : ℕ) → l.one ≤ j → layer_at l.map j ≡ layer_at l.fn.map j;
 }

@@ -12,7 +12,8 @@ new-requires-clause-rooted c =
     let live = c.args.live.now in
     let ls = c.args.map.now in
     let out : Layer = record (layer_at ls c.args.at) { base = c.new-none.result } in
-    subst (λ (ms : List Layer). IsRooted (wholes live ms)) (sym c.replace_base-base.ensures.new) (rooted_still ls c.args.at out refl refl live c.requires.rooted)
+    subst (λ (ms : List Layer). IsRooted (wholes live ms)) (sym c.replace_base-base.ensures.new)
+    (rooted_still ls c.args.at out refl refl live c.requires.rooted)
 
 pub returns : goal.returns
 returns c =
@@ -24,7 +25,8 @@ returns c =
     let above = content_of_parent (wholes live ls) at in
     let seen : c.new.result ≡ above =
     c.new.ensures ∙ ap (λ (ms : List Layer). (workspace_at (wholes live ms) c.parent_of-above.result).current) c.replace_base-base.ensures.new
-    ∙ parent_stays live ls at c.requires.rooted c.requires.child c.requires.within c.new-none.result c.parent_of-above.result c.parent_of-above.ensures.found c.parent_of-above.ensures.earlier in
+    ∙ parent_stays live ls at c.requires.rooted c.requires.child c.requires.within c.new-none.result c.parent_of-above.result c.parent_of-above.ensures.found
+    c.parent_of-above.ensures.earlier in
     let is : c.sweep.new.self ≡ without_neutral above stored.base = c.sweep.ensures ∙ (λ i. without_neutral (seen i) (c.replace_base-base.ensures.before i)) in
     c.replace_base-none.ensures.new
     ∙ ap (λ (ms : List Layer). layer_changed ms at (λ l. record l { base = c.sweep.new.self })) c.replace_base-base.ensures.new

@@ -11,7 +11,8 @@ new-requires-clause-rooted c =
     let live = c.args.live.now in
     let ls = c.args.map.now in
     let out : Layer = record (layer_at ls c.args.at) { current = c.new-none.result } in
-    subst (λ (ms : List Layer). IsRooted (wholes live ms)) (sym c.replace_current-current.ensures.new) (rooted_still ls c.args.at out refl refl live c.requires.rooted)
+    subst (λ (ms : List Layer). IsRooted (wholes live ms)) (sym c.replace_current-current.ensures.new)
+    (rooted_still ls c.args.at out refl refl live c.requires.rooted)
 
 pub returns : goal.returns
 returns c =

@@ -12,7 +12,8 @@ new-requires-clause-rooted c =
     let live = c.args.live.now in
     let ls = c.args.map.now in
     let out : Layer = record (layer_at ls c.args.at) { marks = c.new-none.result.items } in
-    subst (λ (ms : List Layer). IsRooted (wholes live ms)) (sym c.replace_marks-marks.ensures.new) (rooted_still ls c.args.at out refl refl live c.requires.rooted)
+    subst (λ (ms : List Layer). IsRooted (wholes live ms)) (sym c.replace_marks-marks.ensures.new)
+    (rooted_still ls c.args.at out refl refl live c.requires.rooted)
 
 pub returns : goal.returns
 returns c =

@@ -21,4 +21,5 @@ returns n c =
     let current = c.in_ok-rows-2.ensures ∙ ap (λ (d : Differences). finite.entries d) c.current.ensures in
     let first = c.in_ok-put_all.ensures.ok ∙ (λ i. over (c.in_ok-sheet.ensures i) (base i)) in
     c.in_ok-put_all-2.ensures.ok ∙ (λ i. over (first i) (current i))
-    ∙ current_parts c.args.live.now c.args.map.now c.args.at (omega arith) c.requires.within c.parent_of-above.result c.parent_of-above.ensures.found c.parent_of-above.ensures.earlier
+    ∙ current_parts c.args.live.now c.args.map.now c.args.at (omega arith) c.requires.within c.parent_of-above.result c.parent_of-above.ensures.found
+    c.parent_of-above.ensures.earlier

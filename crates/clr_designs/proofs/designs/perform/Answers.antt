@@ -6,4 +6,5 @@ returns-in-Done-clause-performed c = is_done c.args.office.now c.args.command.no
 
 pub returns-in_default-clause-performed : goal.returns-in_default-clause-performed
 returns-in_default-clause-performed c =
-    is_refused c.args.office.now c.args.command.now c.perform.new.self c.perform.result c.in_default.not-Done c.in_default.not-OutOfMemory c.perform.ensures.answer
+    is_refused c.args.office.now c.args.command.now c.perform.new.self c.perform.result c.in_default.not-Done c.in_default.not-OutOfMemory
+    c.perform.ensures.answer

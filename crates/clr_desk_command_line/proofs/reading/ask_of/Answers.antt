@@ -21,7 +21,8 @@ pair_is None n r e h = absurd cc
 pair_is (Some b) n r e h = cc
 
 pub returns-in-Err-clause-takes : goal.returns-in-Err-clause-takes
-returns-in-Err-clause-takes c = λ t readable. c.of.ensures (c.in-Err.ensures.passes (ap (λ a. takes a (map (λ s. s.now) c.args.words.now)) c.in_ok-command.ensures ∙ t))
+returns-in-Err-clause-takes c = λ t readable. c.of.ensures
+    (c.in-Err.ensures.passes (ap (λ a. takes a (map (λ s. s.now) c.args.words.now)) c.in_ok-command.ensures ∙ t))
 
 pub returns-in-Some-2-clause-asks : goal.returns-in-Some-2-clause-asks
 returns-in-Some-2-clause-asks c =

@@ -9,4 +9,5 @@ returns-in_ok-office_print-in-Ok c = of_office c.in-Ok.office c.in-Ok.ensures.me
 
 pub returns-in-Err : goal.returns-in-Err
 returns-in-Err c =
-    office_fault (IsOfficePrint c.args.options c.args.layers.now) (draft_in c.args.office.now) c.in-Err.answer c.notes_of.result c.in-Err.ensures.answer c.notes_of.ensures
+    office_fault (IsOfficePrint c.args.options c.args.layers.now) (draft_in c.args.office.now) c.in-Err.answer c.notes_of.result c.in-Err.ensures.answer
+    c.notes_of.ensures

@@ -20,4 +20,5 @@ returns-in-Some c =
     let left = c.make_design.new.office in
     let made = subst (λ (refused : Option Reply). IsDesignMade o c.args.name.now c.args.content.now refused left) c.in-Some.is c.in_ok-make_design.ensures.made in
     let schema = c.schema.ensures.value ∙ ap (λ (next : Office). next.schema) made.1 in
-    IfOk-weaker c.print_of_refusal.result _ _ (λ p is. of_refusal c.in-Some.reply made.0 (is ∙ ap (λ tables. refusal_print tables c.in-Some.reply) schema)) c.print_of_refusal.ensures
+    IfOk-weaker c.print_of_refusal.result _ _ (λ p is. of_refusal c.in-Some.reply made.0 (is ∙ ap (λ tables. refusal_print tables c.in-Some.reply) schema))
+    c.print_of_refusal.ensures

@@ -20,4 +20,5 @@ returns-in-Some c =
     let left = c.replace_live.new.office in
     let replaced = subst (λ (refused : Option Reply). IsLiveReplaced o c.args.content.now refused left) c.in-Some.is c.in_ok-replace_live.ensures.replaced in
     let schema = c.schema.ensures.value ∙ ap (λ (next : Office). next.schema) replaced.3 in
-    IfOk-weaker c.print_of_refusal.result _ _ (λ p is. of_broken replaced.0 replaced.1 (is ∙ (λ i. refusal_print (schema i) (replaced.2 i)))) c.print_of_refusal.ensures
+    IfOk-weaker c.print_of_refusal.result _ _ (λ p is. of_broken replaced.0 replaced.1 (is ∙ (λ i. refusal_print (schema i) (replaced.2 i))))
+    c.print_of_refusal.ensures

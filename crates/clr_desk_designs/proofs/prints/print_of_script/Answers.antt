@@ -32,6 +32,7 @@ returns c =
     let live_fits = subst (λ (next : Office). FitsSchema next.schema next.live) made.2 c.live.ensures.admitted.fit.rows.live in
     let text = c.in_ok-text.text.items in
     let script =
-    script_is o name content c.schema-2.result.now c.as_slice.result.now text schema edits c.in_ok-text.ensures.written c.in_ok-text.ensures.read_back live_fits c.requires
+    script_is o name content c.schema-2.result.now c.as_slice.result.now text schema edits c.in_ok-text.ensures.written c.in_ok-text.ensures.read_back live_fits
+    c.requires
     (subst (AreDone o name content) made.2 made.1) in
     of_script text made.0 script c.of_text.ensures

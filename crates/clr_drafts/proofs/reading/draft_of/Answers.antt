@@ -19,5 +19,9 @@ pub draft_of_layers-requires : goal.draft_of_layers-requires
 draft_of_layers-requires c =
     record {
       book = c.requires.book;
-      rows = record { live = c.requires.live; workspaces = all_fit c.args.read.schema c.args.read.live (map stored_layer c.args.read.workspaces.items) c.requires.live c.requires.layers };
+      rows = record {
+        live = c.requires.live;
+        workspaces = all_fit c.args.read.schema c.args.read.live (map stored_layer c.args.read.workspaces.items)
+            c.requires.live c.requires.layers;
+      };
     }

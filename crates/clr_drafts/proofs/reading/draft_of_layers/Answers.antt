@@ -1,9 +1,9 @@
 use Rattle.std.proofs.Common.{Ok, ◌∷◌, List, subst, sym, ap, ◌∙◌}
 use Rattle.clr_workspaces.specs.Workspaces.{Workspace, live_workspace}
-use Rattle.clr_tree.specs.Parts.{spaces_of}
+use Rattle.clr_parts.specs.Parts.{spaces_of}
 use Rattle.clr_steps.specs.Offices.{office_of}
-use Rattle.clr_engine.specs.Drafts.{IsFitting}
-use Rattle.clr_office_text.specs.Fields.{Fails}
+use Rattle.clr_kept_finders.specs.Fitting.{IsFitting}
+use Rattle.clr_rule_text.specs.Fields.{Fails}
 use Rattle.clr_drafts.specs.Drafts.{if_standing}
 use Rattle.clr_drafts.proofs.Standing.{refused, stands}
 use Rattle.clr_drafts.proofs.reading.draft_of_layers.Goals as goal

@@ -7,12 +7,12 @@ use Rattle.clr_workspaces.specs.Workspaces.{workspace_at}
 use Rattle.clr_steps.specs.Laws.{refused}
 use Rattle.clr_steps.specs.declared.commands.Reply.TheVariants.{RuleBroken}
 use Rattle.clr_workspaces.specs.Operations.{after_write, with_current}
-use Rattle.clr_engine.specs.Trees.{FitBoth}
+use Rattle.clr_kept_finders.specs.Fitting.{FitBoth}
 use Rattle.clr_engine.proofs.Answered.{edits_break, ends}
-use Rattle.clr_engine.proofs.Contents.{reached}
-use Rattle.clr_engine.proofs.Fits.{fit_edited}
-use Rattle.clr_engine.proofs.Kept.{other_content}
-use Rattle.clr_engine.proofs.Prepared.{finished, where_none, within_mid}
+use Rattle.clr_kept_finders.proofs.Contents.{reached}
+use Rattle.clr_kept_finders.proofs.Fits.{fit_edited}
+use Rattle.clr_kept_finders.proofs.Kept.{other_content}
+use Rattle.clr_kept_finders.proofs.Prepared.{finished, where_none, within_mid}
 use Rattle.clr_engine.proofs.commands.apply.Goals as goal
 
 pub prepare-requires-clause-fit : goal.prepare-requires-clause-fit
@@ -32,9 +32,11 @@ returns-in-Ok-None-clause-performed c =
     let changed = c.in-Ok.ensures.changes ∙ ap (λ (m : Content). changes m (after_edits m edits)) c.view.ensures in
     let passed = sym (ap (λ (m : Content). first_bad_edit c.args.schema.now m 1 edits) c.view.ensures) ∙ c.in-Ok.ensures.passed in
     ends _ ws _ c.write_all-done.new.self.list c.write_all-done.result c.finish.result
-    (edits_break _ w.kept w.kept c.args.judge.now (after_edits w.current edits) _ c.in-Ok-None.field-0 passed refl (reached w.current (after_edits w.current edits) c.in-Ok.changed changed) c.in-Ok-None.ensures.judged
+    (edits_break _ w.kept w.kept c.args.judge.now (after_edits w.current edits) _ c.in-Ok-None.field-0 passed refl
+    (reached w.current (after_edits w.current edits) c.in-Ok.changed changed) c.in-Ok-None.ensures.judged
     ∙ ap (option_map RuleBroken) c.in-Ok-None.field-0-is)
-    (on_ok c.write_all-done.result _ _ (λ is. is ∙ ap (after_write ws c.args.at) changed) c.write_all-done.ensures.ok) c.write_all-done.ensures.err c.finish.ensures.ok c.finish.ensures.err
+    (on_ok c.write_all-done.result _ _ (λ is. is ∙ ap (after_write ws c.args.at) changed) c.write_all-done.ensures.ok) c.write_all-done.ensures.err
+    c.finish.ensures.ok c.finish.ensures.err
 
 pub returns-in-Ok-Some-clause-performed : goal.returns-in-Ok-Some-clause-performed
 returns-in-Ok-Some-clause-performed c =
@@ -44,14 +46,19 @@ returns-in-Ok-Some-clause-performed c =
     let changed = c.in-Ok.ensures.changes ∙ ap (λ (m : Content). changes m (after_edits m edits)) c.view.ensures in
     let passed = sym (ap (λ (m : Content). first_bad_edit c.args.schema.now m 1 edits) c.view.ensures) ∙ c.in-Ok.ensures.passed in
     refused
-    (edits_break _ w.kept w.kept c.args.judge.now (after_edits w.current edits) _ c.in-Ok-Some.field-0 passed refl (reached w.current (after_edits w.current edits) c.in-Ok.changed changed) c.in-Ok-Some.ensures.judged
+    (edits_break _ w.kept w.kept c.args.judge.now (after_edits w.current edits) _ c.in-Ok-Some.field-0 passed refl
+    (reached w.current (after_edits w.current edits) c.in-Ok.changed changed) c.in-Ok-Some.ensures.judged
     ∙ ap (option_map RuleBroken) c.in-Ok-Some.field-0-is) refl
 
 pub finish-requires : goal.finish-requires
-finish-requires c = within_mid c.args.judge.now c.args.tree.now.list c.args.at _ c.prepare.new.finders (where_none (c.prepare.new.finders ≡ c.args.finders.now) c.in-Ok-None.field-0 c.in-Ok-None.field-0-is c.in-Ok-None.ensures.prepared) c.args.at c.requires.within
+finish-requires c = within_mid c.args.judge.now c.args.tree.now.list c.args.at _ c.prepare.new.finders (where_none (c.prepare.new.finders
+    ≡ c.args.finders.now) c.in-Ok-None.field-0 c.in-Ok-None.field-0-is c.in-Ok-None.ensures.prepared) c.args.at c.requires.within
 
 pub returns-in-Ok-None-clause-finders : goal.returns-in-Ok-None-clause-finders
 returns-in-Ok-None-clause-finders c =
     let ws = c.args.tree.now.list in
-    finished c.args.judge.now ws c.args.at _ c.prepare.new.finders (where_none (c.prepare.new.finders ≡ c.args.finders.now) c.in-Ok-None.field-0 c.in-Ok-None.field-0-is c.in-Ok-None.ensures.prepared) c.finish.new.finders _ c.write_all-done.new.self.list (other_content ws c.args.at (λ w. with_current (taken_over w.current c.in-Ok.changed) w) (taken_over (workspace_at ws c.args.at).current c.in-Ok.changed) refl refl)
+    finished c.args.judge.now ws c.args.at _ c.prepare.new.finders (where_none (c.prepare.new.finders ≡ c.args.finders.now) c.in-Ok-None.field-0
+    c.in-Ok-None.field-0-is c.in-Ok-None.ensures.prepared) c.finish.new.finders _ c.write_all-done.new.self.list
+    (other_content ws c.args.at (λ w. with_current (taken_over w.current c.in-Ok.changed) w)
+    (taken_over (workspace_at ws c.args.at).current c.in-Ok.changed) refl refl)
     c.write_all-done.result c.write_all-done.ensures.ok c.write_all-done.ensures.err c.finish.ensures.settled c.finish.ensures.forgotten

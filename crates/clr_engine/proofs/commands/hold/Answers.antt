@@ -1,4 +1,4 @@
-use Rattle.clr_engine.proofs.Fits.{fit_current}
+use Rattle.clr_kept_finders.proofs.Fits.{fit_current}
 use Rattle.clr_engine.proofs.commands.hold.Goals as goal
 
 pub first_broken_if_kept-requires-clause-fit : goal.first_broken_if_kept-requires-clause-fit

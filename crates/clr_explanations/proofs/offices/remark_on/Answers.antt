@@ -5,7 +5,8 @@ use Rattle.clr_explanations.proofs.offices.remark_on.Goals as goal
 
 pub returns-in_ok-remark-in-Ok-clause-told : goal.returns-in_ok-remark-in-Ok-clause-told
 returns-in_ok-remark-in-Ok-clause-told c =
-    told_in c.args.text.now (view c.in-Ok.json) c.args.found.fault c.args.found.spot _ (value_is c.args.text.now (view c.in-Ok.json) c.in-Ok.ensures.ok.0 c.in-Ok.ensures.ok.1)
+    told_in c.args.text.now (view c.in-Ok.json) c.args.found.fault c.args.found.spot _ (value_is c.args.text.now (view c.in-Ok.json) c.in-Ok.ensures.ok.0
+    c.in-Ok.ensures.ok.1)
     c.in_ok-remark-in-Ok.ensures.told
 
 pub returns-in_ok-bare-in-Err-clause-place : goal.returns-in_ok-bare-in-Err-clause-place

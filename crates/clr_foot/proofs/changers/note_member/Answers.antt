@@ -39,4 +39,5 @@ returns c =
     let sets = sets_of c.args.sets.now in
     let found = get cell_cmp c.loop-cell.changers in
     let ended = rest_all deref_pair c.loop-cell.cell-iterator c.next.new.self c.next.result c.in-None.is c.next.ensures.steps in
-    all_noted sets c.args.position found (subst (λ (es : List (CellId × Change)). IsNoting sets c.args.position found (cells_of es)) ended c.loop-cell.invariant)
+    all_noted sets c.args.position found (subst (λ (es : List (CellId × Change)). IsNoting sets c.args.position found (cells_of es)) ended
+    c.loop-cell.invariant)

@@ -27,7 +27,9 @@ pub returns-clause-ok : goal.returns-clause-ok
 returns-clause-ok c =
     let old = c.args.cells.now.items in
     let ended = rest_all deref_pair c.loop-cell.cell-iterator c.next.new.self c.next.result c.in-None.is c.next.ensures.steps in
-    all_read old (finite.keys c.args.set.now) _ (subst (λ (es : List (CellId × Change)). AreReadTo old (finite.keys c.args.set.now) c.loop-cell.cells.items es) ended c.loop-cell.invariant)
+    all_read old (finite.keys c.args.set.now) _ (subst (λ (es : List (CellId × Change)). AreReadTo old (finite.keys c.args.set.now) c.loop-cell.cells.items es)
+    ended c.loop-cell.invariant)
 
 pub returns-in_err-push-clause-err : goal.returns-in_err-push-clause-err
-returns-in_err-push-clause-err c = on_err _ (some_read c.args.cells.now.items (finite.keys c.args.set.now) _ _ c.loop-cell.cell-iterator c.in_err-push.ensures.items c.loop-cell.invariant)
+returns-in_err-push-clause-err c = on_err _ (some_read c.args.cells.now.items (finite.keys c.args.set.now) _ _ c.loop-cell.cell-iterator
+    c.in_err-push.ensures.items c.loop-cell.invariant)

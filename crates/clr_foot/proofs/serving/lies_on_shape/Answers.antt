@@ -7,4 +7,5 @@ pub returns-in-None : goal.returns-in-None
 returns-in-None c told number = ap (λ p. is_on_part p (part_of c.args.shape.now number)) (sym c.point_in.ensures.value ∙ c.in-None.is)
 
 pub returns-in-Some : goal.returns-in-Some
-returns-in-Some c told number = ap (λ p. is_on_part p (part_of c.args.shape.now number)) (sym c.point_in.ensures.value ∙ c.in-Some.is) ∙ c.is_on_shape.ensures told number
+returns-in-Some c told number = ap (λ p. is_on_part p (part_of c.args.shape.now number)) (sym c.point_in.ensures.value ∙ c.in-Some.is)
+    ∙ c.is_on_shape.ensures told number

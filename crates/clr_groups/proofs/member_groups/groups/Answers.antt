@@ -15,7 +15,8 @@ use Rattle.clr_groups.proofs.member_groups.groups.Goals as goal
 abbrev lists : Vec (Vec ℕ Global) Global → List (List ℕ)
 lists groups = map (λ (g : Vec ℕ Global). g.items) groups.items
 
-grouped : {E : Type 0} (rules : List Rule) (root : Content) (sets : List Changes) (labels : List ℕ) → AreLabels (setting rules root sets) (length sets) labels → (r : Result (Vec (Vec ℕ Global) Global) E)
+grouped : {E : Type 0} (rules : List Rule) (root : Content) (sets : List Changes) (labels : List ℕ) → AreLabels (setting rules root sets) (length sets) labels
+    → (r : Result (Vec (Vec ℕ Global) Global) E)
     → IfOk r (λ groups. AreGroupsBy labels (lists groups))
     → IfOk r (λ groups. AreGroups (setting rules root sets) (lists groups))
 grouped rules root sets labels are (Ok groups) by = are_groups rules root sets labels (lists groups) are by

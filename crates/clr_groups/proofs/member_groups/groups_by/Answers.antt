@@ -19,9 +19,12 @@ something v e = some_element v.items (λ none. false≢true (sym e ∙ (Decides-
 
 pub loop-label-preserved : goal.loop-label-preserved
 loop-label-preserved c = elim c.if-not-is_empty.branch [
-  | then-not-is_empty+in_ok-push w ↦ one_group c.args.labels.now c.loop-label.label (lists c.loop-label.groups) c.in_ok-group.group.items c.loop-label.invariant c.in_ok-group.ensures (lists c.if-not-is_empty.groups)
-      (ap lists w.groups-is ∙ ap (map (λ (g : Vec ℕ Global). g.items)) w.in_ok-push.ensures.items ∙ map-append (λ (g : Vec ℕ Global). g.items) c.loop-label.groups.items (c.in_ok-group.group ∷ []))
+  | then-not-is_empty+in_ok-push w ↦ one_group c.args.labels.now c.loop-label.label (lists c.loop-label.groups) c.in_ok-group.group.items c.loop-label.invariant
+      c.in_ok-group.ensures (lists c.if-not-is_empty.groups)
+      (ap lists w.groups-is ∙ ap (map (λ (g : Vec ℕ Global). g.items)) w.in_ok-push.ensures.items
+      ∙ map-append (λ (g : Vec ℕ Global). g.items) c.loop-label.groups.items (c.in_ok-group.group ∷ []))
       (something c.in_ok-group.group (sym w.if-not-is_empty.ensures))
   | else-not-is_empty w ↦ subst (λ (v : Vec (Vec ℕ Global) Global). AreGroupsTo c.args.labels.now (c.loop-label.label + 1) (lists v)) (sym w.groups-is)
-      (no_group c.args.labels.now c.loop-label.label (lists c.loop-label.groups) c.in_ok-group.group.items c.loop-label.invariant c.in_ok-group.ensures (nothing c.in_ok-group.group (sym w.if-not-is_empty.ensures)))
+      (no_group c.args.labels.now c.loop-label.label (lists c.loop-label.groups) c.in_ok-group.group.items c.loop-label.invariant c.in_ok-group.ensures
+      (nothing c.in_ok-group.group (sym w.if-not-is_empty.ensures)))
 ]

@@ -8,4 +8,5 @@ use Rattle.clr_independence.proofs.member_needs.is_among.Goals as goal
 pub returns : goal.returns
 returns c =
     subst (λ answer. IsTold answer (Contains c.args.needs.now c.args.need)) (sym c.is_ok.ensures.value)
-    (found_or_not need_cmp need_total need_exact c.args.needs.now c.args.need c.binary_search.result c.requires c.binary_search.ensures.bound c.binary_search.ensures.position)
+    (found_or_not need_cmp need_total need_exact c.args.needs.now c.args.need c.binary_search.result c.requires c.binary_search.ensures.bound
+    c.binary_search.ensures.position)

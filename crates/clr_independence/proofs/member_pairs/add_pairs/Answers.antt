@@ -25,8 +25,10 @@ loop-second-preserved c =
     let other_at = there_at needs_in c.args.lists.now c.loop-second.second c.index-lists-second.result c.loop-second-test.true c.index-lists-second.is in
     let answer = subst (λ ns. IsTold c.share_one-independent.result (ShareOne ns c.index-lists-second.result.items)) c.as_slice-needs.ensures.value
     (subst (λ ns. IsTold c.share_one-independent.result (ShareOne c.as_slice-needs.result.now ns)) c.as_slice.ensures.value c.share_one-independent.ensures) in
-    one_pair_with (map needs_in c.args.lists.now) c.args.first c.loop-second.second c.index-lists-first.result.items c.index-lists-second.result.items c.share_one-independent.result
-    c.args.pairs.now.items c.loop-second.pairs.items c.push.new.self.items c.loop-second.auto.second at other_at answer c.in_ok-push.ensures.items c.loop-second.invariant
+    one_pair_with (map needs_in c.args.lists.now) c.args.first c.loop-second.second c.index-lists-first.result.items c.index-lists-second.result.items
+    c.share_one-independent.result
+    c.args.pairs.now.items c.loop-second.pairs.items c.push.new.self.items c.loop-second.auto.second at other_at answer c.in_ok-push.ensures.items
+    c.loop-second.invariant
 
 pub returns : goal.returns
 returns c =
@@ -34,4 +36,5 @@ returns c =
     let past = c.loop-second-test.false in
     let within = c.loop-second.auto.second-end (let less = c.requires.first in omega (arith, less)) in
     let ended : c.loop-second.second ≡ length (map needs_in c.args.lists.now) = omega (arith, count, past, within) in
-    all_pairs_with (map needs_in c.args.lists.now) c.args.first c.loop-second.second c.args.pairs.now.items c.loop-second.pairs.items ended c.loop-second.invariant
+    all_pairs_with (map needs_in c.args.lists.now) c.args.first c.loop-second.second c.args.pairs.now.items c.loop-second.pairs.items ended
+    c.loop-second.invariant

@@ -9,7 +9,8 @@ use Rattle.clr_layer_changes.specs.Changes.{edit_of, edits_between}
 use Rattle.clr_layer_changes.proofs.EditLemmas.{edits_lead}
 use Rattle.clr_layer_changes.proofs.changes.edits_between.Goals as goal
 
-pushed : (so_far : List Edit) (e : CellId × Change) (edit : Edit) (left all : List (CellId × Change)) → all ≡ e ∷ left → edit ≡ edit_of e → (so_far ++ edit ∷ []) ++ map edit_of left ≡ so_far ++ map edit_of all
+pushed : (so_far : List Edit) (e : CellId × Change) (edit : Edit) (left all : List (CellId × Change)) → all ≡ e ∷ left → edit ≡ edit_of e
+    → (so_far ++ edit ∷ []) ++ map edit_of left ≡ so_far ++ map edit_of all
 pushed so_far e edit left all rest same =
     append_assoc so_far (edit ∷ []) _ ∙ (λ i. so_far ++ (same i ∷ map edit_of left)) ∙ ap (λ (es : List (CellId × Change)). so_far ++ map edit_of es) (sym rest)
 
@@ -18,7 +19,8 @@ loop-cell-preserved c =
     let left = c.next.new.self in
     let rest = rest_more deref_pair c.loop-cell.cell-iterator left c.next.result (c.in-Some.cell, c.in-Some.change) c.in-Some.is c.next.ensures.steps in
     ap (λ (edits : List Edit). edits ++ map edit_of left) c.in_ok-push.ensures.items
-    ∙ pushed c.loop-cell.edits.items (c.in-Some.cell.now, c.in-Some.change.now) c.in_ok-edit_of.field-0 left c.loop-cell.cell-iterator rest c.in_ok-edit_of.ensures
+    ∙ pushed c.loop-cell.edits.items (c.in-Some.cell.now, c.in-Some.change.now) c.in_ok-edit_of.field-0 left c.loop-cell.cell-iterator rest
+    c.in_ok-edit_of.ensures
     ∙ c.loop-cell.invariant
 
 pub returns-clause-leads : goal.returns-clause-leads

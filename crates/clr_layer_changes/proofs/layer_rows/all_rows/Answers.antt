@@ -36,5 +36,6 @@ returns-then-not-branch c =
 pub returns : goal.returns
 returns c =
     let live = c.args.live.now in
-    sym (ends (with_given live c.args.table c.args.first) 2 c.loop-i.i c.loop-i.rows c.args.layer.now (all_rows live c.args.table c.args.first c.args.own c.args.layer.now) c.loop-i-test.false
+    sym (ends (with_given live c.args.table c.args.first) 2 c.loop-i.i c.loop-i.rows c.args.layer.now (all_rows live c.args.table c.args.first c.args.own
+    c.args.layer.now) c.loop-i-test.false
     c.loop-i.invariant.left)

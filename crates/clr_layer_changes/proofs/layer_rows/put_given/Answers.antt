@@ -26,6 +26,7 @@ returns c = λ first passed.
     rw is (
       λ number. given_key live table first number rows row key (sym c.is_some.ensures ∙ c.if-is_some.false)
           (least_behind (is_free live rows table) first c.args.next.now passed ∙ sym c.in-Some.ensures.value),
-      one_passed (is_free live (finite.insert rows (cell_of table key) row.row) table) first key (stay_passed live rows table (cell_of table key) row.row first key up_to)
+      one_passed (is_free live (finite.insert rows (cell_of table key) row.row) table) first key (stay_passed live rows table (cell_of table key) row.row first
+          key up_to)
           (is_taken live rows table key row.row),
     )

@@ -26,7 +26,8 @@ loop-i-preserved c =
     let layer = c.index-layers-i.result in
     let same : c.loop-i.i ≡ 0 + c.loop-i.i = omega arith in
     let made : f c.loop-i.i c.loop-i.content layer ≡ Ok c.put_layer.new.content = ap (at_layer c.loop-i.i) (rw c.in_default.is at c.in_ok-put.ensures) in
-    goes_on f 0 c.loop-i.i c.loop-i.content c.put_layer.new.content layer layers (wanted c.args.schema.now c.args.live.now c.args.options layers) c.loop-i-test.true c.index-layers-i.is
+    goes_on f 0 c.loop-i.i c.loop-i.content c.put_layer.new.content layer layers (wanted c.args.schema.now c.args.live.now c.args.options layers)
+    c.loop-i-test.true c.index-layers-i.is
     (subst (λ n. f n c.loop-i.content layer ≡ Ok c.put_layer.new.content) same made) c.loop-i.invariant
 
 pub returns-in-Err : goal.returns-in-Err

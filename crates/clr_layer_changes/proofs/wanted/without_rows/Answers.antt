@@ -8,7 +8,8 @@ use Rattle.clr_rows.specs.Sheets.{with_none}
 use Rattle.clr_layer_changes.specs.Wanted.{is_in}
 use Rattle.clr_layer_changes.proofs.wanted.without_rows.Goals as goal
 
-passed : (table : ℕ) (e : CellId × Row) (left all : List (CellId × Row)) → all ≡ e ∷ left → (e.0.table ≡ table → ⊥) → filter (is_in table) left ≡ filter (is_in table) all
+passed : (table : ℕ) (e : CellId × Row) (left all : List (CellId × Row)) → all ≡ e ∷ left → (e.0.table ≡ table → ⊥) → filter (is_in table) left
+    ≡ filter (is_in table) all
 passed table e left all rest other = by (is_in table e) refl
   where
     by : (b : Bool) → is_in table e ≡ b → filter (is_in table) left ≡ filter (is_in table) all

@@ -17,19 +17,23 @@ abbrev row_at_record : List TableDef → ℕ → Bool → Fields → ℕ → Row
 row_at_record tables table rounded at n line = at_record n (row_of tables table rounded at (fields_of line))
 
 pub loop-i-init : goal.loop-i-init
-loop-i-init c = rw c.new-list.ensures.items (begins (λ n fields. at_record n (row_of c.args.schema.now c.args.table c.args.rounded (seen c.args.headings.now) fields)) fields_of 2 c.args.records.now)
+loop-i-init c = rw c.new-list.ensures.items
+    (begins (λ n fields. at_record n (row_of c.args.schema.now c.args.table c.args.rounded (seen c.args.headings.now) fields)) fields_of 2 c.args.records.now)
 
 pub returns-in-Err : goal.returns-in-Err
 returns-in-Err c =
     let fault = numbered_fault (2 + c.loop-i.i) c.in-Err.fault in
-    rw c.numbered_fault.ensures (stops_at (row_at_record c.args.schema.now c.args.table c.args.rounded (seen c.args.headings.now)) fault.0 fault.1 c.loop-i.list.items 2 c.args.records.now c.loop-i.i _ _ c.loop-i-test.true c.index-records-i.is
+    rw c.numbered_fault.ensures (stops_at (row_at_record c.args.schema.now c.args.table c.args.rounded (seen c.args.headings.now)) fault.0 fault.1
+    c.loop-i.list.items 2 c.args.records.now c.loop-i.i _ _ c.loop-i-test.true c.index-records-i.is
     (numbered_so c.in-Err.fault (2 + c.loop-i.i) _ c.in-Err.ensures) c.loop-i.invariant)
 
 pub loop-i-preserved : goal.loop-i-preserved
 loop-i-preserved c =
     let pushed : is_ok c.push.result ≡ true = search rules in
     let items = rw pushed at c.push.ensures.items in
-    rw items (one_more (row_at_record c.args.schema.now c.args.table c.args.rounded (seen c.args.headings.now)) c.loop-i.list.items 2 c.args.records.now c.loop-i.i _ c.in-Ok.row _ c.loop-i-test.true c.index-records-i.is (rw c.in-Ok.ensures refl) c.loop-i.invariant)
+    rw items (one_more (row_at_record c.args.schema.now c.args.table c.args.rounded (seen c.args.headings.now)) c.loop-i.list.items 2 c.args.records.now
+    c.loop-i.i _ c.in-Ok.row _ c.loop-i-test.true c.index-records-i.is (rw c.in-Ok.ensures refl) c.loop-i.invariant)
 
 pub returns : goal.returns
-returns c = whole (row_at_record c.args.schema.now c.args.table c.args.rounded (seen c.args.headings.now)) c.loop-i.list.items 2 c.args.records.now c.loop-i.i _ c.loop-i-test.false c.loop-i.invariant
+returns c = whole (row_at_record c.args.schema.now c.args.table c.args.rounded (seen c.args.headings.now)) c.loop-i.list.items 2 c.args.records.now c.loop-i.i _
+    c.loop-i-test.false c.loop-i.invariant

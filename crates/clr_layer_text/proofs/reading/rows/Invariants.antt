@@ -9,5 +9,6 @@ use Rattle.clr_layer_text.proofs.reading.rows.Given as goal
 -- the rows so far, with those of the records that are left, are all the rows
 abbrev pub invariant-loop-i : goal.invariant-loop-i
 invariant-loop-i l =
-    with_front l.list.items (in_turn (λ n line. at_record n (row_of l.schema l.table l.rounded (seen l.headings) (fields_of line))) (2 + l.i) (drop l.i l.records))
+    with_front l.list.items (in_turn (λ n line. at_record n (row_of l.schema l.table l.rounded (seen l.headings) (fields_of line))) (2 + l.i)
+    (drop l.i l.records))
     ≡ rows_from l.schema l.table l.rounded (seen l.headings) 2 (map fields_of l.records)

@@ -18,13 +18,16 @@ value_in row n column = value_of column.kind (field_of (fields_of row) column.at
 pub returns-in_err-value : goal.returns-in_err-value
 returns-in_err-value c =
     let e = err_from_is_err_and c.from_residual.result c.from_residual.ensures.1 in
-    rw (e.1, e.2) (stops (value_in c.args.fields.now) c.in_err-value.field-0.0 c.loop-column.list.items 0 c.args.columns.now c.loop-column.column-index _ _ c.loop-column-test.true
+    rw (e.1, e.2) (stops (value_in c.args.fields.now) c.in_err-value.field-0.0 c.loop-column.list.items 0 c.args.columns.now c.loop-column.column-index _ _
+    c.loop-column-test.true
     (itself c.args.columns.now c.loop-column.column-index _ c.loop-column-test.true) (rw c.field.ensures at c.in_err-value.ensures) c.loop-column.invariant)
 
 pub loop-column-preserved : goal.loop-column-preserved
 loop-column-preserved c =
-    rw c.in_ok-push.ensures.items (one_more (value_in c.args.fields.now) c.loop-column.list.items 0 c.args.columns.now c.loop-column.column-index _ _ _ c.loop-column-test.true
+    rw c.in_ok-push.ensures.items (one_more (value_in c.args.fields.now) c.loop-column.list.items 0 c.args.columns.now c.loop-column.column-index _ _ _
+    c.loop-column-test.true
     (itself c.args.columns.now c.loop-column.column-index _ c.loop-column-test.true) (rw c.field.ensures at c.in_ok-value.ensures) c.loop-column.invariant)
 
 pub returns : goal.returns
-returns c = rw c.new.ensures (whole (value_in c.args.fields.now) c.loop-column.list.items 0 c.args.columns.now c.loop-column.column-index _ c.loop-column-test.false c.loop-column.invariant)
+returns c = rw c.new.ensures (whole (value_in c.args.fields.now) c.loop-column.list.items 0 c.args.columns.now c.loop-column.column-index _
+    c.loop-column-test.false c.loop-column.invariant)

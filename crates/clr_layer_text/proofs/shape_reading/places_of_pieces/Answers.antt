@@ -18,13 +18,16 @@ loop-piece-init c = rw c.new-places.ensures.items (begins (λ n. place_of c.args
 pub returns-in_err-one : goal.returns-in_err-one
 returns-in_err-one c =
     let e = err_from_is_err_and c.from_residual.result c.from_residual.ensures.1 in
-    rw (e.1, e.2) (stops (place_in c.args.rounded) c.in_err-one.field-0.0 c.loop-piece.places.items 0 c.args.pieces.now c.loop-piece.piece-index _ _ c.loop-piece-test.true
+    rw (e.1, e.2) (stops (place_in c.args.rounded) c.in_err-one.field-0.0 c.loop-piece.places.items 0 c.args.pieces.now c.loop-piece.piece-index _ _
+    c.loop-piece-test.true
     (itself c.args.pieces.now c.loop-piece.piece-index _ c.loop-piece-test.true) c.in_err-one.ensures c.loop-piece.invariant)
 
 pub loop-piece-preserved : goal.loop-piece-preserved
 loop-piece-preserved c =
-    rw c.in_ok-push.ensures.items (one_more (place_in c.args.rounded) c.loop-piece.places.items 0 c.args.pieces.now c.loop-piece.piece-index _ _ _ c.loop-piece-test.true
+    rw c.in_ok-push.ensures.items (one_more (place_in c.args.rounded) c.loop-piece.places.items 0 c.args.pieces.now c.loop-piece.piece-index _ _ _
+    c.loop-piece-test.true
     (itself c.args.pieces.now c.loop-piece.piece-index _ c.loop-piece-test.true) c.in_ok-one.ensures c.loop-piece.invariant)
 
 pub returns : goal.returns
-returns c = whole (place_in c.args.rounded) c.loop-piece.places.items 0 c.args.pieces.now c.loop-piece.piece-index _ c.loop-piece-test.false c.loop-piece.invariant
+returns c = whole (place_in c.args.rounded) c.loop-piece.places.items 0 c.args.pieces.now c.loop-piece.piece-index _ c.loop-piece-test.false
+    c.loop-piece.invariant

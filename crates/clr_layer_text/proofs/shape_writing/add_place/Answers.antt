@@ -7,7 +7,8 @@ use Rattle.clr_layer_text.specs.Pieces.{space}
 use Rattle.clr_layer_text.specs.Wkt.{place_text}
 use Rattle.clr_layer_text.proofs.shape_writing.add_place.Goals as goal
 
-joined : (p : Place) (old between now : List ℕ) (x y : ℤ) → x ≡ p.x → y ≡ p.y → between ≡ old ++ metres_text x → now ≡ between ++ space ∷ metres_text y → now ≡ old ++ place_text p
+joined : (p : Place) (old between now : List ℕ) (x y : ℤ) → x ≡ p.x → y ≡ p.y → between ≡ old ++ metres_text x → now ≡ between ++ space ∷ metres_text y → now
+    ≡ old ++ place_text p
 joined p old between now x y is_x is_y first second =
     rw (← is_x, ← is_y) (second ∙ rw first (append_assoc old (metres_text x) (space ∷ metres_text y)))
 

@@ -1,12 +1,14 @@
 use Rattle.clr_layer_text.specs.Layers.{value_text}
 use Rattle.clr_layer_text.specs.ReadBack.{IsText}
-use Rattle.clr_layer_text.proofs.Turns.{each_more, seen_more}
+use Rattle.clr_records.proofs.Turns.{each_more, seen_more}
 use Rattle.clr_layer_text.proofs.writing.add_values.Goals as goal
 
 pub loop-value-preserved : goal.loop-value-preserved
 loop-value-preserved c =
     record {
-      added = seen_more value_text c.args.values.now c.loop-value.value-index _ _ _ _ c.loop-value-test.true c.value-item.is c.loop-value.invariant.added c.in_ok-add_value.ensures.added;
+      added = seen_more value_text c.args.values.now c.loop-value.value-index _ _ _ _ c.loop-value-test.true c.value-item.is c.loop-value.invariant.added
+          c.in_ok-add_value.ensures.added;
       whole = c.in_ok-add_value.ensures.whole;
-      texts = each_more IsText c.args.values.now c.loop-value.value-index _ c.loop-value-test.true c.value-item.is c.in_ok-add_value.ensures.text c.loop-value.invariant.texts;
+      texts = each_more IsText c.args.values.now c.loop-value.value-index _ c.loop-value-test.true c.value-item.is c.in_ok-add_value.ensures.text
+          c.loop-value.invariant.texts;
     }

@@ -8,4 +8,5 @@ use Rattle.clr_layers.proofs.stored_marks.move_last.Goals as goal
 pub returns-clause-ok : goal.returns-clause-ok
 returns-clause-ok c =
     c.push_reserved.ensures.items ∙ ap (λ (ms : List StoredMark). ms ++ Child c.args.child ∷ [])
-    (filter_same _ (λ m. not (is_stored_mark_of c.args.child m)) _ (λ x b g call. search rules) _ _ c.retain.ensures.filtered ∙ ap (stored_without_mark_of c.args.child) c.in_ok-reserve.ensures.items)
+    (filter_same _ (λ m. not (is_stored_mark_of c.args.child m)) _ (λ x b g call. search rules) _ _ c.retain.ensures.filtered
+    ∙ ap (stored_without_mark_of c.args.child) c.in_ok-reserve.ensures.items)

@@ -6,18 +6,22 @@ use Rattle.clr_layers.specs.Layers.{whole_mark, MarkPins, EachMarkPins, AreOwnOv
 use Rattle.clr_layers.proofs.MarkLemmas.{own_set}
 use Rattle.clr_layers.proofs.stored_marks.pin_each.Goals as goal
 
-next : (cell : CellId) (ms : List StoredMark) (i : ℕ) (m : StoredMark) → EachMarkPins (take i ms) cell → MarkPins cell m → EachMarkPins (take (suc i) (slice_set ms i m)) cell
+next : (cell : CellId) (ms : List StoredMark) (i : ℕ) (m : StoredMark) → EachMarkPins (take i ms) cell → MarkPins cell m
+    → EachMarkPins (take (suc i) (slice_set ms i m)) cell
 next cell [] i m pinned one = tt
 next cell (x ∷ ms) zero m pinned one = (one, tt)
 next cell (x ∷ ms) (suc i) m pinned one = (pinned.0, next cell ms i m pinned.1 one)
 
 -- one more mark has an entry
-one_more : (cell : CellId) (ms : List StoredMark) (i : ℕ) (m : StoredMark) → EachMarkPins (take i ms) cell → MarkPins cell m → EachMarkPins (take (i + 1) (slice_set ms i m)) cell
-one_more cell ms i m pinned one = let same : suc i ≡ i + 1 = omega arith in subst (λ j. EachMarkPins (take j (slice_set ms i m)) cell) same (next cell ms i m pinned one)
+one_more : (cell : CellId) (ms : List StoredMark) (i : ℕ) (m : StoredMark) → EachMarkPins (take i ms) cell → MarkPins cell m
+    → EachMarkPins (take (i + 1) (slice_set ms i m)) cell
+one_more cell ms i m pinned one = let same : suc i ≡ i + 1 = omega arith in subst (λ j. EachMarkPins (take j (slice_set ms i m)) cell) same
+    (next cell ms i m pinned one)
 
 pub returns-in_err-pin-clause-seen : goal.returns-in_err-pin-clause-seen
 returns-in_err-pin-clause-seen c = λ base is.
-    map-set_same (whole_mark base) c.loop-i.marks.items c.loop-i.i c.pin.new.mark c.index_mut.result.now (c.pin.ensures.seen base is ∙ ap (whole_mark base) c.index_mut.ensures.value) ∙ c.loop-i.invariant.seen base is
+    map-set_same (whole_mark base) c.loop-i.marks.items c.loop-i.i c.pin.new.mark c.index_mut.result.now (c.pin.ensures.seen base is
+    ∙ ap (whole_mark base) c.index_mut.ensures.value) ∙ c.loop-i.invariant.seen base is
 
 pub returns-in_err-pin-clause-others : goal.returns-in_err-pin-clause-others
 returns-in_err-pin-clause-others c = λ q apart base own.
@@ -28,7 +32,8 @@ returns-in_err-pin-clause-others c = λ q apart base own.
 pub loop-i-preserved : goal.loop-i-preserved
 loop-i-preserved c = record {
   seen = λ base is.
-      map-set_same (whole_mark base) c.loop-i.marks.items c.loop-i.i c.pin.new.mark c.index_mut.result.now (c.pin.ensures.seen base is ∙ ap (whole_mark base) c.index_mut.ensures.value) ∙ c.loop-i.invariant.seen base is;
+      map-set_same (whole_mark base) c.loop-i.marks.items c.loop-i.i c.pin.new.mark c.index_mut.result.now (c.pin.ensures.seen base is
+      ∙ ap (whole_mark base) c.index_mut.ensures.value) ∙ c.loop-i.invariant.seen base is;
   others = λ q apart base own.
       own_set base q c.loop-i.marks.items c.loop-i.i c.pin.new.mark c.index_mut.result.now
       (λ was. c.pin.ensures.others q apart base (subst (λ (m : StoredMark). AreOwnOver base q (m ∷ [])) (sym c.index_mut.ensures.value) was))

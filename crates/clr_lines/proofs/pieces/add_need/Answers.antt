@@ -24,7 +24,8 @@ returns-in_err-extend_from_slice-3-clause-begun c =
     let digits : c.as_bytes.result.now ≡ decimal need.rule = search rules in
     let front = codes "rule " ++ decimal need.rule in
     let is : c.extend_from_slice-3.new.self.items ≡ c.args.line.now.items ++ front =
-    rw (c.in_err-extend_from_slice-3.ensures.items, c.in_ok-extend_from_slice-2.ensures.items, c.in_ok-extend_from_slice.ensures.items, digits) (simp append_assoc) in
+    rw (c.in_err-extend_from_slice-3.ensures.items, c.in_ok-extend_from_slice-2.ensures.items, c.in_ok-extend_from_slice.ensures.items, digits)
+    (simp append_assoc) in
     some_begun _ _ _ front (codes " " ++ subject ++ second) is (four_pieces front (codes " ") subject second)
 
 pub returns-in_err-add_subject-clause-begun : goal.returns-in_err-add_subject-clause-begun
@@ -37,5 +38,6 @@ returns-in_err-add_subject-clause-begun c =
     let front = codes "rule " ++ decimal need.rule ++ codes " " in
     let mid = c.extend_from_slice-3.new.self.items in
     let is : mid ≡ old ++ front =
-    rw (c.in_ok-extend_from_slice-3.ensures.items, c.in_ok-extend_from_slice-2.ensures.items, c.in_ok-extend_from_slice.ensures.items, digits) (simp append_assoc) in
+    rw (c.in_ok-extend_from_slice-3.ensures.items, c.in_ok-extend_from_slice-2.ensures.items, c.in_ok-extend_from_slice.ensures.items, digits)
+    (simp append_assoc) in
     begun_before old (front ++ subject) second _ (begun_behind old front subject mid _ is c.in_err-add_subject.ensures.begun)

@@ -5,9 +5,11 @@ use Rattle.clr_rows.proofs.BeginningLaws.{begun_before, begun_behind, last_begun
 use Rattle.clr_lines.proofs.report_lines.add_workspace.Goals as goal
 
 -- where the last piece was added
-last_added : {A E : Type 0} (result : Result A E) (old more mid new front last : List ℕ) → new ≡ (if is_ok result then mid ++ last else mid) → mid ≡ old ++ front → more ≡ front ++ last
+last_added : {A E : Type 0} (result : Result A E) (old more mid new front last : List ℕ) → new ≡ (if is_ok result then mid ++ last else mid) → mid ≡ old
+    ++ front → more ≡ front ++ last
     → OnOk result (new ≡ old ++ more)
-last_added (Ok x) old more mid new front last is before parts = is ∙ ap (λ xs. xs ++ last) before ∙ append_assoc old front last ∙ ap (λ xs. old ++ xs) (sym parts)
+last_added (Ok x) old more mid new front last is before parts = is ∙ ap (λ xs. xs ++ last) before ∙ append_assoc old front last
+    ∙ ap (λ xs. old ++ xs) (sym parts)
 last_added (Err e) old more mid new front last is before parts = tt
 
 pub returns-in_err-add_names-clause-begun : goal.returns-in_err-add_names-clause-begun
@@ -16,7 +18,8 @@ returns-in_err-add_names-clause-begun c =
     let names = names_text c.args.name.now c.args.parent.now in
     let counts = counts_text c.args.changes c.args.conflicts in
     let kept = kept_text c.args.is_kept in
-    begun_before old (names ++ counts ++ kept) (codes "\n") _ (begun_before old (names ++ counts) kept _ (begun_before old names counts _ c.in_err-add_names.ensures.begun))
+    begun_before old (names ++ counts ++ kept) (codes "\n") _ (begun_before old (names
+    ++ counts) kept _ (begun_before old names counts _ c.in_err-add_names.ensures.begun))
 
 pub returns-in_err-add_counts-clause-begun : goal.returns-in_err-add_counts-clause-begun
 returns-in_err-add_counts-clause-begun c =
@@ -33,7 +36,8 @@ returns-in_err-extend_from_slice-clause-begun c =
     let counts = counts_text c.args.changes c.args.conflicts in
     let front = names ++ counts in
     let is : c.extend_from_slice.new.self.items ≡ c.args.lines.now.items ++ front =
-    rw (c.in_err-extend_from_slice.ensures.items, c.in_ok-add_counts.ensures.ok, c.in_ok-add_names.ensures.ok) (append_assoc c.args.lines.now.items names counts) in
+    rw (c.in_err-extend_from_slice.ensures.items, c.in_ok-add_counts.ensures.ok, c.in_ok-add_names.ensures.ok)
+    (append_assoc c.args.lines.now.items names counts) in
     some_begun _ _ _ front (kept_text c.args.is_kept ++ codes "\n") is (append_assoc front (kept_text c.args.is_kept) (codes "\n"))
 
 pub returns-clause-ok : goal.returns-clause-ok

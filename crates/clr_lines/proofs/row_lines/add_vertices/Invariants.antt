@@ -6,4 +6,5 @@ use Rattle.clr_lines.proofs.row_lines.add_vertices.Given as goal
 
 -- the vertices so far are added, each coordinate a whole field
 abbrev pub invariant-loop-vertex : goal.invariant-loop-vertex
-invariant-loop-vertex l = (partial_of l.fields ≡ []) × (fields_of l.fields ≡ fields_of l.initial.fields ++ flat_map place_fields (take l.vertex-index l.vertices))
+invariant-loop-vertex l = (partial_of l.fields ≡ []) × (fields_of l.fields ≡ fields_of l.initial.fields
+    ++ flat_map place_fields (take l.vertex-index l.vertices))

@@ -11,5 +11,14 @@ loop-cell-init c =
     let named = c.new.ensures in
     record {
       between = record { ended = made.fields; clean = made.wrote; setup = made.cfg ∙ rw (flexible, named) refl };
-      lines = rw (made.wtr, made.empty, append-nil c.extend_from_slice.new.self.items, start, c.in_ok-extend_from_slice.ensures.items, c.in_ok-add_count.ensures.ok, c.in_ok-lines.ensures.items, c.len.ensures) refl;
+      lines = rw (
+        made.wtr,
+        made.empty,
+        append-nil c.extend_from_slice.new.self.items,
+        start,
+        c.in_ok-extend_from_slice.ensures.items,
+        c.in_ok-add_count.ensures.ok,
+        c.in_ok-lines.ensures.items,
+        c.len.ensures,
+      ) refl;
     }

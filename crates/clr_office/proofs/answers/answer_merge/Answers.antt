@@ -8,10 +8,12 @@ use Rattle.clr_office.proofs.answers.answer_merge.Goals as goal
 
 pub returns-in_ok-merge_members-in-Ok : goal.returns-in_ok-merge_members-in-Ok
 returns-in_ok-merge_members-in-Ok c =
-    case_made (λ (o : Office) (cert : Certificate) (all : Outcome). IsMergeOutcome o cert c.args.names.now all) (case_of c.args.office.now c.args.certificate.now)
+    case_made (λ (o : Office) (cert : Certificate) (all : Outcome). IsMergeOutcome o cert c.args.names.now all)
+    (case_of c.args.office.now c.args.certificate.now)
     c.in-Ok.office c.merge_members.new.office c.in-Ok.certificate c.in_ok-merge_members-in-Ok.field-0 c.in-Ok.ensures.case c.in_ok-merge_members-in-Ok.ensures
 
 pub returns-in-Err : goal.returns-in-Err
 returns-in-Err c =
-    fault_made (λ (o : Office) (cert : Certificate) (all : Outcome). IsMergeOutcome o cert c.args.names.now all) (case_of c.args.office.now c.args.certificate.now)
+    fault_made (λ (o : Office) (cert : Certificate) (all : Outcome). IsMergeOutcome o cert c.args.names.now all)
+    (case_of c.args.office.now c.args.certificate.now)
     c.in-Err.fault c.in-Err.ensures.fault c.fault_output.result c.fault_output.ensures

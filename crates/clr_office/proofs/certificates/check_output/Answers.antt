@@ -17,4 +17,5 @@ returns-in_ok-verdict_output-in-Ok c =
 
 pub returns-in-Err : goal.returns-in-Err
 returns-in-Err c =
-    fault_made IsVerdictOutcome (case_of c.args.office.now c.args.certificate.now) c.in-Err.fault c.in-Err.ensures.fault c.fault_output.result c.fault_output.ensures
+    fault_made IsVerdictOutcome (case_of c.args.office.now c.args.certificate.now) c.in-Err.fault c.in-Err.ensures.fault c.fault_output.result
+    c.fault_output.ensures

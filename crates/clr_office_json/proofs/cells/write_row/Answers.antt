@@ -16,6 +16,8 @@ returns c =
     after c.number.new.self c.key-2.new.self _ _ _ c.in_ok-key-2.ensures.ok (
     after c.key-2.new.self c.write_shape.new.text _ _ _ c.in_ok-write_shape.ensures (
     after c.write_shape.new.text c.key-3.new.self _ _ _ c.in_ok-key-3.ensures.ok (
-    after c.key-3.new.self c.string.new.self _ _ _ (c.in_ok-string.ensures.ok ∙ ap (λ x. c.key-3.new.self ++ tokens_of (string x)) c.name_of_table.ensures.value) (
+    after c.key-3.new.self c.string.new.self _ _ _ (c.in_ok-string.ensures.ok
+    ∙ ap (λ x. c.key-3.new.self ++ tokens_of (string x)) c.name_of_table.ensures.value) (
     after c.string.new.self c.key-4.new.self _ _ _ c.in_ok-key-4.ensures.ok (
-    after c.key-4.new.self c.write_values.new.text _ _ _ (c.in_ok-write_values.ensures ∙ ap (λ x. c.key-4.new.self ++ tokens_of (list_data value_data x)) c.as_slice.ensures) e))))))))) c.end_object.ensures.ok
+    after c.key-4.new.self c.write_values.new.text _ _ _ (c.in_ok-write_values.ensures
+    ∙ ap (λ x. c.key-4.new.self ++ tokens_of (list_data value_data x)) c.as_slice.ensures) e))))))))) c.end_object.ensures.ok

@@ -6,4 +6,5 @@ use Rattle.clr_office_json.proofs.rules.write_columns.Given as goal
 
 -- what is written, with the columns that are left, is all
 abbrev pub invariant-loop-column : goal.invariant-loop-column
-invariant-loop-column l = l.text ++ list_tokens string (map (name_of_column l.schema l.side.table) (drop l.column-index l.columns)) ≡ l.fn.text ++ tokens_of (names_data (named_columns l.schema l.side l.columns))
+invariant-loop-column l = l.text ++ list_tokens string (map (name_of_column l.schema l.side.table) (drop l.column-index l.columns)) ≡ l.fn.text
+    ++ tokens_of (names_data (named_columns l.schema l.side l.columns))

@@ -16,4 +16,5 @@ returns c =
     after c.write_side.new.text c.key-3.new.self _ _ _ c.in_ok-key-3.ensures.ok (
     after c.key-3.new.self c.write_side-2.new.text _ _ _ c.in_ok-write_side-2.ensures (
     after c.write_side-2.new.text c.key-4.new.self _ _ _ c.in_ok-key-4.ensures.ok (
-    after c.key-4.new.self c.string-2.new.self _ _ _ (c.in_ok-string-2.ensures.ok ∙ ap (λ x. c.key-4.new.self ++ tokens_of (string x)) c.tip_text.ensures) e))))))))) c.end_object.ensures.ok
+    after c.key-4.new.self c.string-2.new.self _ _ _ (c.in_ok-string-2.ensures.ok ∙ ap (λ x. c.key-4.new.self ++ tokens_of (string x)) c.tip_text.ensures)
+    e))))))))) c.end_object.ensures.ok

@@ -6,4 +6,5 @@ use Rattle.clr_office_json.proofs.rules.write_filter.Given as goal
 
 -- what is written, with the literals that are left, is all
 abbrev pub invariant-loop-column : goal.invariant-loop-column
-invariant-loop-column l = l.text ++ list_tokens literal_data (map (named_literal l.schema l.table) (drop l.column-index l.filter)) ≡ l.fn.text ++ tokens_of (list_data literal_data (map (named_literal l.schema l.table) l.filter))
+invariant-loop-column l = l.text ++ list_tokens literal_data (map (named_literal l.schema l.table) (drop l.column-index l.filter)) ≡ l.fn.text
+    ++ tokens_of (list_data literal_data (map (named_literal l.schema l.table) l.filter))

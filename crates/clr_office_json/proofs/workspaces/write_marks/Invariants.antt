@@ -5,4 +5,5 @@ use Rattle.clr_office_json.proofs.workspaces.write_marks.Given as goal
 
 -- what is written, with the marks that are left, is all
 abbrev pub invariant-loop-mark : goal.invariant-loop-mark
-invariant-loop-mark l = l.text ++ list_tokens named_mark_data (map (named_mark l.schema) (drop l.mark-index l.marks)) ≡ l.fn.text ++ tokens_of (marks_data l.schema l.marks)
+invariant-loop-mark l = l.text ++ list_tokens named_mark_data (map (named_mark l.schema) (drop l.mark-index l.marks)) ≡ l.fn.text
+    ++ tokens_of (marks_data l.schema l.marks)

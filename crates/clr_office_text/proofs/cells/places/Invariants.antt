@@ -1,12 +1,13 @@
 use Rattle.std.proofs.Common.{◌≡◌, length}
-use Rattle.serde_json.specs.View.{items_view}
+use Rattle.clr_rule_text.specs.Seen.{items_seen}
 use Rattle.clr_office_text.specs.Cells.{places_of}
-use Rattle.clr_office_text.proofs.EachItem.{with_front}
+use Rattle.clr_rule_text.proofs.EachItem.{with_front}
 use Rattle.clr_office_text.proofs.cells.places.Given as goal
 
 -- the places so far, with those of the numbers that are left, are all the places
 abbrev pub invariant-loop-rest : goal.invariant-loop-rest
-invariant-loop-rest l = with_front l.places.items (places_of (items_view l.rest)) ≡ places_of (items_view l.numbers)
+invariant-loop-rest g l = with_front l.places.items (places_of (items_seen g.J.JsonValue.stands_for l.rest))
+    ≡ places_of (items_seen g.J.JsonValue.stands_for l.numbers)
 
 abbrev pub decreases-loop-rest : goal.decreases-loop-rest
-decreases-loop-rest l = length l.rest
+decreases-loop-rest g l = length l.rest

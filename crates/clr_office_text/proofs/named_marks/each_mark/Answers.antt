@@ -2,19 +2,21 @@ use Rattle.std.proofs.Common.{◌≡◌, [], arith}
 use Rattle.std.proofs.lemmas.List.{nil_from_length}
 use Rattle.std.proofs.lemmas.Result.{err_from_is_err_and}
 use Rattle.std.specs.Vec.Iter.{into_iter_items}
-use Rattle.clr_office_text.specs.Fields.{each_in}
+use Rattle.clr_rule_text.specs.Fields.{each_in}
 use Rattle.clr_office_text.specs.Workspaces.{mark_over}
-use Rattle.clr_office_text.proofs.EachIn.{goes_on, ends, is_done}
+use Rattle.clr_rule_text.proofs.EachIn.{goes_on, ends, is_done}
 use Rattle.clr_office_text.proofs.named_marks.each_mark.Goals as goal
 
 pub returns-in_err-one : goal.returns-in_err-one
 returns-in_err-one c =
     let p = err_from_is_err_and c.from_residual.result c.from_residual.ensures.1 in
-    rw (p.1, p.2) (ends (mark_over c.args.schema.now) c.in_err-one.field-0.0 c.loop-item.marks.items c.in-Some.item (into_iter_items c.next.new.self) (each_in (mark_over c.args.schema.now) c.args.named.items) c.in_err-one.ensures (rw c.in-Some.ensures.steps.0 at c.loop-item.invariant))
+    rw (p.1, p.2) (ends (mark_over c.args.schema.now) c.in_err-one.field-0.0 c.loop-item.marks.items c.in-Some.item (into_iter_items c.next.new.self)
+    (each_in (mark_over c.args.schema.now) c.args.named.items) c.in_err-one.ensures (rw c.in-Some.ensures.steps.0 at c.loop-item.invariant))
 
 pub loop-item-preserved : goal.loop-item-preserved
 loop-item-preserved c =
-    rw c.in_ok-push.ensures.items (goes_on (mark_over c.args.schema.now) c.loop-item.marks.items c.in-Some.item (into_iter_items c.next.new.self) c.in_ok-one.one (each_in (mark_over c.args.schema.now) c.args.named.items) c.in_ok-one.ensures (rw c.in-Some.ensures.steps.0 at c.loop-item.invariant))
+    rw c.in_ok-push.ensures.items (goes_on (mark_over c.args.schema.now) c.loop-item.marks.items c.in-Some.item (into_iter_items c.next.new.self)
+    c.in_ok-one.one (each_in (mark_over c.args.schema.now) c.args.named.items) c.in_ok-one.ensures (rw c.in-Some.ensures.steps.0 at c.loop-item.invariant))
 
 pub returns : goal.returns
 returns c =

@@ -1,10 +1,11 @@
 use Rattle.std.proofs.Common.{◌≡◌, drop}
-use Rattle.serde_json.specs.View.{items_view}
-use Rattle.clr_office_text.specs.Fields.{each}
+use Rattle.clr_rule_text.specs.Seen.{items_seen}
+use Rattle.clr_rule_text.specs.Fields.{each}
 use Rattle.clr_office_text.specs.Tables.{table_of}
-use Rattle.clr_office_text.proofs.EachItem.{with_front}
+use Rattle.clr_rule_text.proofs.EachItem.{with_front}
 use Rattle.clr_office_text.proofs.tables.each_table.Given as goal
 
 -- those read so far, and then the others, are what is meant
 abbrev pub invariant-loop-item : goal.invariant-loop-item
-invariant-loop-item l = with_front l.tables.items (each (table_of l.format) (items_view (drop l.item-index l.items))) ≡ each (table_of l.format) (items_view l.items)
+invariant-loop-item g l = with_front l.tables.items (each (table_of l.format) (items_seen g.J.JsonValue.stands_for (drop l.item-index l.items)))
+    ≡ each (table_of l.format) (items_seen g.J.JsonValue.stands_for l.items)

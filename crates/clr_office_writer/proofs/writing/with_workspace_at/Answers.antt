@@ -12,7 +12,8 @@ pub returns-in-Some : goal.returns-in-Some
 returns-in-Some c =
     let o = c.args.office.now in
     one_written o c.args.text c.args.position c.in-Some.layer c.with_workspace.result (sym c.in-Some.is ∙ c.layer.ensures)
-    (subst (λ tables. IfOk c.with_workspace.result (λ longer. longer ≡ c.args.text ++ tokens_of (layer_data tables c.in-Some.layer))) c.schema.ensures.value c.with_workspace.ensures)
+    (subst (λ tables. IfOk c.with_workspace.result (λ longer. longer ≡ c.args.text ++ tokens_of (layer_data tables c.in-Some.layer))) c.schema.ensures.value
+    c.with_workspace.ensures)
 
 pub returns-in-None : goal.returns-in-None
 returns-in-None c = λ w e. absurd (none-some _ (sym c.in-None.is ∙ c.layer.ensures ∙ ap (option_map (layer_in c.args.office.now)) e))

@@ -14,4 +14,5 @@ pub returns-clause-again : goal.returns-clause-again
 returns-clause-again c =
     let o = c.args.office.now in
     let schema : schema_fault o.schema ≡ None = subst (λ tables. schema_fault tables ≡ None) c.schema.ensures.value c.tables-sound.ensures.sound in
-    drafted_again o _ c.into_bytes.ensures.utf8 (c.into_bytes.ensures.again ∙ c.in_ok-text.ensures) schema c.schema.ensures.admitted.fit c.len-standing.ensures.sound
+    drafted_again o _ c.into_bytes.ensures.utf8 (c.into_bytes.ensures.again ∙ c.in_ok-text.ensures) schema c.schema.ensures.admitted.fit
+    c.len-standing.ensures.sound

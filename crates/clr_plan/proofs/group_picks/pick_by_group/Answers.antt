@@ -24,7 +24,8 @@ group_needs-requires g c =
     }
 
 pub loop-touched-init : goal.loop-touched-init
-loop-touched-init g c = no_entries (setting_of (model_of g.V.RowView.content c.args.scene.now)) (map need_in c.deref-touched-items.result.now) c.in_ok-list.list.items c.in_ok-list.ensures.items
+loop-touched-init g c = no_entries (setting_of (model_of g.V.RowView.content c.args.scene.now)) (map need_in c.deref-touched-items.result.now)
+    c.in_ok-list.list.items c.in_ok-list.ensures.items
 
 pub index-requires : goal.index-requires
 index-requires g c =
@@ -86,7 +87,8 @@ returns-in-None g c =
     let named = get_or-map need_in read k unread in
     let none = picked_at model groups models read are k less (model_of g.V.RowView.content part) at None (subst (Picks (setting_of (model_of g.V.RowView.content part)) x.need) c.in-None.is c.in_ok-pick.ensures) in
     subst (IsFirstUnpicked s) named
-    (first_unpicked s (map need_in read) k (need_in unread) (subst (λ n. k < n) (sym (length-map read need_in)) less) c.loop-touched.list.items (all_touched model groups models read are) c.loop-touched.invariant
+    (first_unpicked s (map need_in read) k (need_in unread) (subst (λ n. k < n) (sym (length-map read need_in)) less) c.loop-touched.list.items
+    (all_touched model groups models read are) c.loop-touched.invariant
     (subst (λ n. Picks s n None) (sym named) none))
 
 pub loop-touched-preserved : goal.loop-touched-preserved
@@ -106,7 +108,8 @@ loop-touched-preserved g c =
     let named = get_or-map need_in read k unread in
     let two = Some (c.in-Some.one, c.in-Some.two) in
     let picks = picked_at model groups models read are k less (model_of g.V.RowView.content part) at two (subst (Picks (setting_of (model_of g.V.RowView.content part)) x.need) c.in-Some.is c.in_ok-pick.ensures) in
-    one_entry s (map need_in read) k (need_in unread) (subst (λ n. k < n) (sym (length-map read need_in)) less) c.loop-touched.list.items c.push.new.self.items (record { need = x.need; one = c.in-Some.one; two = c.in-Some.two })
+    one_entry s (map need_in read) k (need_in unread) (subst (λ n. k < n) (sym (length-map read need_in)) less) c.loop-touched.list.items c.push.new.self.items
+    (record { need = x.need; one = c.in-Some.one; two = c.in-Some.two })
     c.in_ok-push-in-Some.ensures.items (sym named) (subst (λ n. Picks s n two) (sym named) picks) c.loop-touched.invariant
 
 pub returns : goal.returns
@@ -120,4 +123,5 @@ returns g c =
     let k = c.loop-touched.touched-index in
     let s = setting_of model in
     subst (λ list. ArePicked s (entries_in list)) (sym c.new.ensures)
-    (all_entries s (map need_in read) k c.loop-touched.list.items (past_mapped need_in read k c.loop-touched-test.false) (all_touched model groups models read are) c.loop-touched.invariant)
+    (all_entries s (map need_in read) k c.loop-touched.list.items (past_mapped need_in read k c.loop-touched-test.false)
+    (all_touched model groups models read are) c.loop-touched.invariant)

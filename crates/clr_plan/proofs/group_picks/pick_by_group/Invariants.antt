@@ -6,4 +6,5 @@ use Rattle.clr_plan.proofs.group_picks.pick_by_group.Given as goal
 
 -- the entries of the needs so far
 abbrev pub invariant-loop-touched : goal.invariant-loop-touched
-invariant-loop-touched g l = AreEntriesOf (setting_of (model_of g.V.RowView.content l.scene)) (take l.touched-index (map (λ (x : GroupNeed). x.need) l.touched-items)) l.list.items
+invariant-loop-touched g l = AreEntriesOf (setting_of (model_of g.V.RowView.content l.scene))
+    (take l.touched-index (map (λ (x : GroupNeed). x.need) l.touched-items)) l.list.items

@@ -19,27 +19,32 @@ part-requires-clause-few g c =
     let model = model_of g.V.RowView.content c.args.scene.now in
     let there = mapped_contains positions c.args.groups.now c.loop-group.group-index c.group-item.result c.loop-group-test.true c.group-item.is in
     subst (λ xs. length xs ≤ 255) (sym c.as_slice.ensures.value)
-    (group_few g.F.RowFinder.settled model c.requires.apart (map positions c.args.groups.now) c.requires.groups c.group-item.result.items there c.len-few.ensures.few)
+    (group_few g.F.RowFinder.settled model c.requires.apart (map positions c.args.groups.now) c.requires.groups c.group-item.result.items there
+    c.len-few.ensures.few)
 
 pub part-requires-clause-within : goal.part-requires-clause-within
 part-requires-clause-within g c =
     let model = model_of g.V.RowView.content c.args.scene.now in
     let there = mapped_contains positions c.args.groups.now c.loop-group.group-index c.group-item.result c.loop-group-test.true c.group-item.is in
-    λ k h. group_within g.F.RowFinder.settled model c.requires.apart (map positions c.args.groups.now) c.requires.groups c.group-item.result.items there k (subst (λ xs. Contains xs k) c.as_slice.ensures.value h)
+    λ k h. group_within g.F.RowFinder.settled model c.requires.apart (map positions c.args.groups.now) c.requires.groups c.group-item.result.items there k
+    (subst (λ xs. Contains xs k) c.as_slice.ensures.value h)
 
 pub part-requires-clause-fit : goal.part-requires-clause-fit
 part-requires-clause-fit g c =
     let model = model_of g.V.RowView.content c.args.scene.now in
     let there = mapped_contains positions c.args.groups.now c.loop-group.group-index c.group-item.result c.loop-group-test.true c.group-item.is in
     subst (λ xs. FitsSetting (setting_of (model_at model xs))) (sym c.as_slice.ensures.value)
-    (group_fits g.F.RowFinder.settled model c.requires.apart (map positions c.args.groups.now) c.requires.groups c.group-item.result.items there c.requires.ready.fit)
+    (group_fits g.F.RowFinder.settled model c.requires.apart (map positions c.args.groups.now) c.requires.groups c.group-item.result.items there
+    c.requires.ready.fit)
 
 pub loop-group-preserved : goal.loop-group-preserved
 loop-group-preserved g c =
     let model = model_of g.V.RowView.content c.args.scene.now in
     let made = c.in_ok-part.ensures ∙ ap (model_at model) (c.as_slice.ensures.value ∙ ap positions c.group-item.is) in
-    one_scene (model_of g.V.RowView.content) model positions c.args.groups.now c.loop-group.group-index c.group-item.result c.loop-group.parts.items c.push.new.self.items c.in_ok-part.field-0 c.loop-group-test.true
+    one_scene (model_of g.V.RowView.content) model positions c.args.groups.now c.loop-group.group-index c.group-item.result c.loop-group.parts.items
+    c.push.new.self.items c.in_ok-part.field-0 c.loop-group-test.true
     c.in_ok-push.ensures.items made c.loop-group.invariant
 
 pub returns : goal.returns
-returns g c = c.loop-group.invariant ∙ ap (λ xs. models_at (model_of g.V.RowView.content c.args.scene.now) (map positions xs)) (take_all c.loop-group.group-index c.args.groups.now c.loop-group-test.false)
+returns g c = c.loop-group.invariant ∙ ap (λ xs. models_at (model_of g.V.RowView.content c.args.scene.now) (map positions xs))
+    (take_all c.loop-group.group-index c.args.groups.now c.loop-group-test.false)

@@ -7,4 +7,5 @@ use Rattle.clr_plan_features.proofs.changes.add_changes.Given as goal
 -- the features of the members so far are added
 abbrev pub invariant-loop-at : goal.invariant-loop-at
 invariant-loop-at l =
-    l.text.items ≡ l.initial.text.items ++ flat_map next_text (flat_map (member_features l.schema l.causes) (take l.at (zip (map (λ name. name.now) l.names) l.sets)))
+    l.text.items ≡ l.initial.text.items
+    ++ flat_map next_text (flat_map (member_features l.schema l.causes) (take l.at (zip (map (λ name. name.now) l.names) l.sets)))

@@ -15,10 +15,13 @@ loop-at-preserved c =
     let property : c.in_ok-value_property.field-0 ≡ column_property (column, value) =
     c.in_ok-value_property.ensures
     ∙ ap (λ name. value_property (codes "v_" ++ name) value) (c.as_str.ensures ∙ ap (λ p. p.0) (sym c.index-columns-at.is)) in
-    c.in_ok-push.ensures.items ∙ ap (λ l. l ++ c.in_ok-value_property.field-0 ∷ []) c.loop-at.invariant ∙ ap (λ p. c.args.list.now.items ++ map column_property (take at (zip columns values)) ++ p ∷ []) property
-    ∙ append_assoc c.args.list.now.items (map column_property (take at (zip columns values))) (column_property (column, value) ∷ []) ∙ ap (λ l. c.args.list.now.items ++ l) (sym more)
+    c.in_ok-push.ensures.items ∙ ap (λ l. l ++ c.in_ok-value_property.field-0 ∷ []) c.loop-at.invariant
+    ∙ ap (λ p. c.args.list.now.items ++ map column_property (take at (zip columns values)) ++ p ∷ []) property
+    ∙ append_assoc c.args.list.now.items (map column_property (take at (zip columns values))) (column_property (column, value) ∷ [])
+    ∙ ap (λ l. c.args.list.now.items ++ l) (sym more)
 
 pub returns : goal.returns
 returns c =
     c.loop-at.invariant
-    ∙ ap (λ l. c.args.list.now.items ++ map column_property l) (all_pairs c.args.columns.now c.args.values.now c.loop-at.at (omega (arith, c.min-count.ensures)))
+    ∙ ap (λ l. c.args.list.now.items ++ map column_property l) (all_pairs c.args.columns.now c.args.values.now c.loop-at.at
+    (omega (arith, c.min-count.ensures)))

@@ -9,5 +9,6 @@ use Rattle.clr_plan_features.proofs.standing.add_standing.Given as goal
 -- with the features of the rows that are left, all are added
 abbrev pub invariant-loop-cell : goal.invariant-loop-cell
 invariant-loop-cell l =
-    l.text.items ++ flat_map next_text (map (λ e. row_feature l.schema l.causes l.root Stands e.0 e.1) (filter (λ e. not (is_changed_by l.sets e.0)) l.cell-iterator))
+    l.text.items ++ flat_map next_text (map (λ e. row_feature l.schema l.causes l.root Stands e.0 e.1)
+    (filter (λ e. not (is_changed_by l.sets e.0)) l.cell-iterator))
     ≡ l.initial.text.items ++ flat_map next_text (standing_features l.schema l.causes l.root l.sets l.rows)

@@ -6,4 +6,5 @@ use Rattle.clr_plan_lines.proofs.lines.order_line.Given as goal
 
 -- the count, and the names so far
 abbrev pub invariant-loop-at : goal.invariant-loop-at
-invariant-loop-at l = l.line.items ≡ codes "blocked " ++ decimal (length l.order) ++ flat_map (order_name (map (λ name. name.now) l.members)) (take l.at-index l.order)
+invariant-loop-at l = l.line.items ≡ codes "blocked " ++ decimal (length l.order)
+    ++ flat_map (order_name (map (λ name. name.now) l.members)) (take l.at-index l.order)

@@ -6,7 +6,8 @@ use Rattle.clr_prints.proofs.name_hints.names_of_workspaces.Goals as goal
 
 pub loop-at-preserved : goal.loop-at-preserved
 loop-at-preserved c = elim c.match-name_at.branch [
-  | in-Some+in_ok-push w ↦ rw (w.names-is, w.in_ok-push.ensures.items) (one_more (λ name. IsNamed c.args.office.now name.now) c.loop-at.names.items w.in-Some.name
+  | in-Some+in_ok-push w ↦ rw (w.names-is, w.in_ok-push.ensures.items) (one_more (λ name. IsNamed c.args.office.now name.now) c.loop-at.names.items
+      w.in-Some.name
       c.loop-at.invariant (c.loop-at.at, sym c.name_at.ensures ∙ ap (option_map (λ name. name.now)) w.in-Some.is))
   | in_default w ↦ rw w.names-is c.loop-at.invariant
 ]

@@ -40,4 +40,10 @@ pub returns : goal.returns
 returns c =
     let inv = c.loop-row.invariant in
     let s = rw c.in-None.is at ((c.next.ensures.steps inv.2 inv.0).0 inv.1) in
-    all_read default_config _ _ (c.loop-row.row-iterator.rdr.state, inv.4, inv.6, rows-end (λ (s : Bor (List ℕ)). Some s.now) c.loop-row.row-iterator.rdr c.next.new.self.rdr [] default_config inv.4 inv.3 inv.5 s)
+    all_read default_config _ _ (
+      c.loop-row.row-iterator.rdr.state,
+      inv.4,
+      inv.6,
+      rows-end (λ (s : Bor (List ℕ)). Some s.now) c.loop-row.row-iterator.rdr
+          c.next.new.self.rdr [] default_config inv.4 inv.3 inv.5 s,
+    )

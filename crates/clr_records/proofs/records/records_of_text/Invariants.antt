@@ -7,6 +7,7 @@ use Rattle.clr_records.proofs.records.records_of_text.Given as goal
 
 -- the rows so far take the text to what the reader has left
 abbrev pub invariant-loop-row : goal.invariant-loop-row
-invariant-loop-row l = (l.row-iterator.rdr.trim ≡ trim.None) × Ready l.row-iterator.rdr × (0 < l.row-iterator.left) × (l.row-iterator.rdr.config ≡ default_config)
+invariant-loop-row l = (l.row-iterator.rdr.trim ≡ trim.None) × Ready l.row-iterator.rdr × (0 < l.row-iterator.left)
+    × (l.row-iterator.rdr.config ≡ default_config)
     × (y : List ℕ) × (source_of (λ s. Some s.now) l.row-iterator.rdr ≡ Some y)
     × Reached default_config st.StartRecord (strip_bom l.fn.text) (map fields_of l.rows.items) l.row-iterator.rdr.state y

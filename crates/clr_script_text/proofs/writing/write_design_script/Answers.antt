@@ -17,4 +17,12 @@ returns-in-Ok-clause-read_back c =
     let rooted : IsUtf8 c.args.root.now = search rules in
     let written : c.in-Ok.text.items ≡ design_script tables c.args.name.now c.args.root.now edits = grind (arith, common_steps) in
     let texts : All HasTexts edits = c.in_ok-add_edits.ensures.texts in
-    λ fit. rw written (script_again tables c.args.name.now c.args.root.now edits (record { sound = c.tables-sound.ensures.sound; named = named; rooted = rooted; fit = fit; texts = texts; few = few }))
+    λ fit. rw written (script_again tables c.args.name.now c.args.root.now edits (record {
+      sound = c.tables-sound.ensures.sound;
+      named = named;
+      rooted =
+          rooted;
+      fit = fit;
+      texts = texts;
+      few = few;
+    }))

@@ -21,14 +21,17 @@ loop-i-init c = rw c.new-list.ensures.items (begins (λ n fields. at_record n (e
 pub returns-in-Err : goal.returns-in-Err
 returns-in-Err c =
     let fault = numbered_fault (c.args.first + c.loop-i.i) c.in-Err.fault in
-    rw c.with_number-in-Err.ensures (stops_at (edit_at_record c.args.schema.now) fault.0 fault.1 c.loop-i.list.items c.args.first c.args.records.now c.loop-i.i _ _ c.loop-i-test.true c.index-records-i.is
+    rw c.with_number-in-Err.ensures (stops_at (edit_at_record c.args.schema.now) fault.0 fault.1 c.loop-i.list.items c.args.first c.args.records.now c.loop-i.i
+    _ _ c.loop-i-test.true c.index-records-i.is
     (numbered_so c.in-Err.fault (c.args.first + c.loop-i.i) _ c.in-Err.ensures) c.loop-i.invariant)
 
 pub loop-i-preserved : goal.loop-i-preserved
 loop-i-preserved c =
     let pushed : is_ok c.push.result ≡ true = search rules in
     let items = rw pushed at c.push.ensures.items in
-    rw items (one_more (edit_at_record c.args.schema.now) c.loop-i.list.items c.args.first c.args.records.now c.loop-i.i _ c.in-Ok.edit _ c.loop-i-test.true c.index-records-i.is (rw c.in-Ok.ensures refl) c.loop-i.invariant)
+    rw items (one_more (edit_at_record c.args.schema.now) c.loop-i.list.items c.args.first c.args.records.now c.loop-i.i _ c.in-Ok.edit _ c.loop-i-test.true
+    c.index-records-i.is (rw c.in-Ok.ensures refl) c.loop-i.invariant)
 
 pub returns : goal.returns
-returns c = rw c.new.ensures (whole (edit_at_record c.args.schema.now) c.loop-i.list.items c.args.first c.args.records.now c.loop-i.i _ c.loop-i-test.false c.loop-i.invariant)
+returns c = rw c.new.ensures (whole (edit_at_record c.args.schema.now) c.loop-i.list.items c.args.first c.args.records.now c.loop-i.i _ c.loop-i-test.false
+    c.loop-i.invariant)

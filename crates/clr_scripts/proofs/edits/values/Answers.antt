@@ -17,10 +17,12 @@ value_in row i column = value_of column.1 (field_of (fields_of row) i)
 pub returns-in_err-value : goal.returns-in_err-value
 returns-in_err-value c =
     let e = err_from_is_err_and c.from_residual.result c.from_residual.ensures.1 in
-    rw (e.1, e.2) (stops (value_in c.args.fields.now) c.in_err-value.field-0.0 c.loop-i.list.items 3 c.args.columns.now c.loop-i.i _ _ c.loop-i-test.true c.index-columns-i.is (rw c.field.ensures at c.in_err-value.ensures) c.loop-i.invariant)
+    rw (e.1, e.2) (stops (value_in c.args.fields.now) c.in_err-value.field-0.0 c.loop-i.list.items 3 c.args.columns.now c.loop-i.i _ _ c.loop-i-test.true
+    c.index-columns-i.is (rw c.field.ensures at c.in_err-value.ensures) c.loop-i.invariant)
 
 pub loop-i-preserved : goal.loop-i-preserved
-loop-i-preserved c = rw c.in_ok-push.ensures.items (one_more (value_in c.args.fields.now) c.loop-i.list.items 3 c.args.columns.now c.loop-i.i _ _ _ c.loop-i-test.true c.index-columns-i.is (rw c.field.ensures at c.in_ok-value.ensures) c.loop-i.invariant)
+loop-i-preserved c = rw c.in_ok-push.ensures.items (one_more (value_in c.args.fields.now) c.loop-i.list.items 3 c.args.columns.now c.loop-i.i _ _ _
+    c.loop-i-test.true c.index-columns-i.is (rw c.field.ensures at c.in_ok-value.ensures) c.loop-i.invariant)
 
 pub returns : goal.returns
 returns c = rw c.new.ensures (whole (value_in c.args.fields.now) c.loop-i.list.items 3 c.args.columns.now c.loop-i.i _ c.loop-i-test.false c.loop-i.invariant)

@@ -8,12 +8,14 @@ pub returns-in_err-place : goal.returns-in_err-place
 returns-in_err-place c =
     let e = err_from_is_err_and c.from_residual.result c.from_residual.ensures.1 in
     let two : c.loop-list.at + 1 < length (fields_of c.args.fields.now) = omega (arith, c.loop-list-test.true, c.saturating_sub.ensures, c.len.ensures) in
-    rw (e.1, e.2) (stops c.in_err-place.field-0.0 c.loop-list.list.items (fields_of c.args.fields.now) c.loop-list.at _ two (sym c.in_err-place.ensures) c.loop-list.invariant)
+    rw (e.1, e.2) (stops c.in_err-place.field-0.0 c.loop-list.list.items (fields_of c.args.fields.now) c.loop-list.at _ two (sym c.in_err-place.ensures)
+    c.loop-list.invariant)
 
 pub loop-list-preserved : goal.loop-list-preserved
 loop-list-preserved c =
     let two : c.loop-list.at + 1 < length (fields_of c.args.fields.now) = omega (arith, c.loop-list-test.true, c.saturating_sub.ensures, c.len.ensures) in
-    rw c.in_ok-push.ensures.items (goes_on c.loop-list.list.items (fields_of c.args.fields.now) c.loop-list.at c.in_ok-place.field-0 _ two (sym c.in_ok-place.ensures) c.loop-list.invariant)
+    rw c.in_ok-push.ensures.items (goes_on c.loop-list.list.items (fields_of c.args.fields.now) c.loop-list.at c.in_ok-place.field-0 _ two
+    (sym c.in_ok-place.ensures) c.loop-list.invariant)
 
 pub returns-then-at-len : goal.returns-then-at-len
 returns-then-at-len c =

@@ -16,7 +16,8 @@ loop-at-preserved c =
     let name : field_of fields at ≡ c.in_ok-words.field-0 = cc in
     let next = begins fields at (omega (arith, c.len-at-end.ensures)) in
     rw c.in_ok-push.ensures.items (append_assoc c.loop-at.list.items (c.in_ok-words.field-0 ∷ []) (drop (at + 1) fields)
-    ∙ ap (λ (n : List ℕ). c.loop-at.list.items ++ n ∷ drop (at + 1) fields) (sym name) ∙ ap (λ (ns : List (List ℕ)). c.loop-at.list.items ++ ns) (sym next) ∙ c.loop-at.invariant)
+    ∙ ap (λ (n : List ℕ). c.loop-at.list.items ++ n ∷ drop (at + 1) fields) (sym name) ∙ ap (λ (ns : List (List ℕ)). c.loop-at.list.items ++ ns) (sym next)
+    ∙ c.loop-at.invariant)
 
 pub returns : goal.returns
 returns c =

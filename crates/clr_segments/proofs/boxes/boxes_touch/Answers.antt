@@ -10,8 +10,10 @@ returns-then-ranges_touch c =
     let on_x = c.ranges_touch.result in
     let on_y = c.ranges_touch-then-ranges_touch.result in
     touch_on_both b d (second_decides on_x on_y c.if-ranges_touch.true
-    (holds_of_words (λ (l h l' h' : ℤ). IsTrue on_x ↔ RangesTouch l h l' h') b.least.x b.most.x d.least.x d.most.x (search rules) (search rules) (search rules) (search rules) c.ranges_touch.ensures)
-    (holds_of_words (λ (l h l' h' : ℤ). IsTrue on_y ↔ RangesTouch l h l' h') b.least.y b.most.y d.least.y d.most.y (search rules) (search rules) (search rules) (search rules) c.ranges_touch-then-ranges_touch.ensures))
+    (holds_of_words (λ (l h l' h' : ℤ). IsTrue on_x ↔ RangesTouch l h l' h') b.least.x b.most.x d.least.x d.most.x (search rules) (search rules) (search rules)
+    (search rules) c.ranges_touch.ensures)
+    (holds_of_words (λ (l h l' h' : ℤ). IsTrue on_y ↔ RangesTouch l h l' h') b.least.y b.most.y d.least.y d.most.y (search rules) (search rules) (search rules)
+    (search rules) c.ranges_touch-then-ranges_touch.ensures))
 
 pub returns-else-ranges_touch : goal.returns-else-ranges_touch
 returns-else-ranges_touch c =
@@ -19,4 +21,5 @@ returns-else-ranges_touch c =
     let d = c.args.c in
     let on_x = c.ranges_touch.result in
     touch_on_both b d (first_decides on_x c.if-ranges_touch.false
-    (holds_of_words (λ (l h l' h' : ℤ). IsTrue on_x ↔ RangesTouch l h l' h') b.least.x b.most.x d.least.x d.most.x (search rules) (search rules) (search rules) (search rules) c.ranges_touch.ensures))
+    (holds_of_words (λ (l h l' h' : ℤ). IsTrue on_x ↔ RangesTouch l h l' h') b.least.x b.most.x d.least.x d.most.x (search rules) (search rules) (search rules)
+    (search rules) c.ranges_touch.ensures))

@@ -40,7 +40,8 @@ returns-then-a-b c =
     let m = c.meet_on_axis in
     let ranges : RangesMeet m.result a.x b.x c.args.c.x c.args.d.x =
     holds_of_words (λ (p q r u : ℤ). RangesMeet m.result p q r u) a.x b.x c.args.c.x c.args.d.x
-    (coordinate_fits a.x r.a_in.in_x) (coordinate_fits b.x r.b_in.in_x) (coordinate_fits c.args.c.x r.c_in.in_x) (coordinate_fits c.args.d.x r.d_in.in_x) m.ensures in
+    (coordinate_fits a.x r.a_in.in_x) (coordinate_fits b.x r.b_in.in_x) (coordinate_fits c.args.c.x r.c_in.in_x) (coordinate_fits c.args.d.x r.d_in.in_x)
+    m.ensures in
     meet_by_x m.result a b c.args.c c.args.d line (λ e. c.if-a-b.true (ap (of_z w64) e)) ranges
 
 pub returns-else-a-b : goal.returns-else-a-b
@@ -53,5 +54,6 @@ returns-else-a-b c =
     let m = c.meet_on_axis-else-a-b in
     let ranges : RangesMeet m.result a.y b.y c.args.c.y c.args.d.y =
     holds_of_words (λ (p q r u : ℤ). RangesMeet m.result p q r u) a.y b.y c.args.c.y c.args.d.y
-    (coordinate_fits a.y r.a_in.in_y) (coordinate_fits b.y r.b_in.in_y) (coordinate_fits c.args.c.y r.c_in.in_y) (coordinate_fits c.args.d.y r.d_in.in_y) m.ensures in
+    (coordinate_fits a.y r.a_in.in_y) (coordinate_fits b.y r.b_in.in_y) (coordinate_fits c.args.c.y r.c_in.in_y) (coordinate_fits c.args.d.y r.d_in.in_y)
+    m.ensures in
     meet_by_y m.result a b c.args.c c.args.d line (r.first_ends same_x) ranges

@@ -11,7 +11,8 @@ returns-then-at-vertices c =
     let at = c.args.at in
     let next : suc at ≡ at + 1 = omega arith in
     let origin : Place = record { x = pos 0; y = pos 0 } in
-    sym (part_between vertices at _ _ (slice_get-get_or vertices at origin (omega arith)) (ap (slice_get vertices) next ∙ slice_get-get_or vertices (at + 1) origin c.if-at-vertices.true))
+    sym (part_between vertices at _ _ (slice_get-get_or vertices at origin (omega arith)) (ap (slice_get vertices) next
+    ∙ slice_get-get_or vertices (at + 1) origin c.if-at-vertices.true))
 
 pub returns-else-at-vertices : goal.returns-else-at-vertices
 returns-else-at-vertices c = sym (no_part c.args.vertices.now c.args.at (slice_get_past c.args.vertices.now (suc c.args.at) (omega arith)))

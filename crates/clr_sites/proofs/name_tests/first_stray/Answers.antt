@@ -7,7 +7,8 @@ use Rattle.clr_sites.proofs.name_tests.first_stray.Goals as goal
 pub returns-then-not-is_child : goal.returns-then-not-is_child
 returns-then-not-is_child g c =
     let names = g.N.NameList.names c.args.members.now in
-    first_passes (λ name. not (is_child c.args.office.now (site c.args.root.now names) name)) names c.loop-position.position c.name_at.result.now c.name_at.ensures
+    first_passes (λ name. not (is_child c.args.office.now (site c.args.root.now names) name)) names c.loop-position.position c.name_at.result.now
+    c.name_at.ensures
     (ap not (sym (c.is_child.ensures names) ∙ c.if-not-is_child.true)) c.loop-position.invariant
 
 pub loop-position-preserved : goal.loop-position-preserved
@@ -19,4 +20,5 @@ loop-position-preserved g c =
 pub returns : goal.returns
 returns g c =
     let names = g.N.NameList.names c.args.members.now in
-    none_passes (λ name. not (is_child c.args.office.now (site c.args.root.now names) name)) names c.loop-position.position (omega arith) c.loop-position.invariant
+    none_passes (λ name. not (is_child c.args.office.now (site c.args.root.now names) name)) names c.loop-position.position (omega arith)
+    c.loop-position.invariant

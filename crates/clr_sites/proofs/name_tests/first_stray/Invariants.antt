@@ -6,4 +6,5 @@ use Rattle.clr_sites.proofs.name_tests.first_stray.Given as goal
 
 -- each name so far is that of a child of the root
 abbrev pub invariant-loop-position : goal.invariant-loop-position
-invariant-loop-position g l = NonePasses (λ name. not (is_child l.office (site l.root (g.N.NameList.names l.members)) name)) (g.N.NameList.names l.members) l.position
+invariant-loop-position g l = NonePasses (λ name. not (is_child l.office (site l.root (g.N.NameList.names l.members)) name)) (g.N.NameList.names l.members)
+    l.position

@@ -7,7 +7,8 @@ returns-then-eq c members = root_is_none c.args.office.now c.args.root.now c.arg
 
 pub returns-in-Some : goal.returns-in-Some
 returns-in-Some c members =
-    child_by_parent c.args.office.now c.args.root.now c.args.name.now members c.in-Some.parent.now c.eq-in-Some.result (sym c.eq.ensures ∙ c.if-eq.false) c.in-Some.ensures c.eq-in-Some.ensures
+    child_by_parent c.args.office.now c.args.root.now c.args.name.now members c.in-Some.parent.now c.eq-in-Some.result (sym c.eq.ensures
+    ∙ c.if-eq.false) c.in-Some.ensures c.eq-in-Some.ensures
 
 pub returns-in-None : goal.returns-in-None
 returns-in-None c members = none_without_parent c.args.office.now c.args.root.now c.args.name.now members (sym c.eq.ensures ∙ c.if-eq.false) c.in-None.ensures

@@ -4,4 +4,5 @@ use Rattle.clr_sites.proofs.NameLemmas.{not_kept, unshown}
 use Rattle.clr_sites.proofs.name_tests.is_kept.Goals as goal
 
 pub returns-in-None-clause-value : goal.returns-in-None-clause-value
-returns-in-None-clause-value c = sym (not_kept c.args.office.now c.args.root.now (unshown c.args.office.now c.args.root.now (is_kept c.args.office.now c.args.root.now) c.in-None.ensures.value))
+returns-in-None-clause-value c = sym (not_kept c.args.office.now c.args.root.now (unshown c.args.office.now c.args.root.now
+    (is_kept c.args.office.now c.args.root.now) c.in-None.ensures.value))

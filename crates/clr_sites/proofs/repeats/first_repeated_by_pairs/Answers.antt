@@ -6,7 +6,8 @@ pub loop-position-init : goal.loop-position-init
 loop-position-init g c = λ k less. absurd (omega (arith, less))
 
 pub returns-then-stands_earlier : goal.returns-then-stands_earlier
-returns-then-stands_earlier g c = first_is (g.N.NameList.names c.args.names.now) c.loop-position.position (omega arith) c.loop-position.invariant (sym c.stands_earlier.ensures ∙ c.if-stands_earlier.true)
+returns-then-stands_earlier g c = first_is (g.N.NameList.names c.args.names.now) c.loop-position.position (omega arith) c.loop-position.invariant
+    (sym c.stands_earlier.ensures ∙ c.if-stands_earlier.true)
 
 pub loop-position-preserved : goal.loop-position-preserved
 loop-position-preserved g c = below_more _ _ c.loop-position.invariant (sym c.stands_earlier.ensures ∙ c.if-stands_earlier.false)

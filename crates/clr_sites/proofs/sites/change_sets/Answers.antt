@@ -5,4 +5,5 @@ use Rattle.clr_sites.proofs.sites.change_sets.Goals as goal
 
 pub loop-member-preserved : goal.loop-member-preserved
 loop-member-preserved g c =
-    c.in_ok-push.ensures.items ∙ (λ i. c.loop-member.invariant i ++ c.in_ok-changes.ensures i ∷ []) ∙ sym (map_more (changes_in c.args.office.now) (g.N.NameList.names c.args.members.now) c.loop-member.member c.name_at.result.now c.name_at.ensures)
+    c.in_ok-push.ensures.items ∙ (λ i. c.loop-member.invariant i ++ c.in_ok-changes.ensures i ∷ [])
+    ∙ sym (map_more (changes_in c.args.office.now) (g.N.NameList.names c.args.members.now) c.loop-member.member c.name_at.result.now c.name_at.ensures)

@@ -8,7 +8,8 @@ loop-member-init g c = later_at_first c.args.office.now (g.N.NameList.names c.ar
 
 pub returns-in-Some : goal.returns-in-Some
 returns-in-Some g c =
-    conflict_found c.args.office.now (g.N.NameList.names c.args.members.now) c.loop-member.member c.name_at.result.now (c.in-Some.cell, c.in-Some.count) c.name_at.ensures
+    conflict_found c.args.office.now (g.N.NameList.names c.args.members.now) c.loop-member.member c.name_at.result.now (c.in-Some.cell, c.in-Some.count)
+    c.name_at.ensures
     (c.in-Some.ensures ∙ ap least_and_count (cells_are c.args.office.now c.name_at.result.now _ c.in_ok-cells.ensures)) c.loop-member.invariant
 
 pub loop-member-preserved : goal.loop-member-preserved

@@ -17,7 +17,10 @@ invariant_of-result g c =
     let o = c.args.office.now in
     let names = g.N.NameList.names c.args.members.now in
     let few = few_members o (site c.args.root.now names) c.requires c.len-sound.ensures.sound in
-    record { few = subst (λ sets. length sets ≤ MOST_MEMBERS) (sym c.in_ok-sets.ensures) (let long = length-map names (changes_in o) in omega (arith, few, long)) }
+    record {
+      few = subst (λ sets. length sets ≤ MOST_MEMBERS) (sym c.in_ok-sets.ensures) (let long = length-map names (changes_in o) in
+          omega (arith, few, long));
+    }
 
 pub returns : goal.returns
 unfolding root_content

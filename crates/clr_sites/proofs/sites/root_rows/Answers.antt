@@ -9,7 +9,8 @@ pub unwrap-rows-requires : goal.unwrap-rows-requires
 unwrap-rows-requires c =
     let o = c.args.office.now in
     let name = c.args.root.now in
-    rows_there o name c.unwrap-position.result c.view.result (position_is o name c.find.result c.unwrap-position.result c.find.ensures.found c.unwrap-position.ensures) c.view.ensures
+    rows_there o name c.unwrap-position.result c.view.result (position_is o name c.find.result c.unwrap-position.result c.find.ensures.found
+    c.unwrap-position.ensures) c.view.ensures
 
 pub unwrap-finder-requires : goal.unwrap-finder-requires
 unwrap-finder-requires c =

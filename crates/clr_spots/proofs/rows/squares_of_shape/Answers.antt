@@ -9,11 +9,13 @@ use Rattle.clr_spots.proofs.rows.squares_of_shape.Goals as goal
 pub returns-in-At-clause-list : goal.returns-in-At-clause-list
 returns-in-At-clause-list c =
     let one : squares_of c.box_between.result ≡ squares_of_all (boxes_in c.args.shape.now) =
-    ap squares_of c.box_between.ensures.value ∙ one_box (box_between c.in-At.point c.in-At.point) ∙ ap (λ (s : Shape). squares_of_all (boxes_in s)) (sym c.in-At.is) in
+    ap squares_of c.box_between.ensures.value ∙ one_box (box_between c.in-At.point c.in-At.point)
+    ∙ ap (λ (s : Shape). squares_of_all (boxes_in s)) (sym c.in-At.is) in
     subst (λ (xs : List Spot). IfOk c.spots_of_box.result (λ spots. spots.list ≡ unless_many xs)) one c.spots_of_box.ensures.list
 
 pub returns-in-At-clause-wide : goal.returns-in-At-clause-wide
 returns-in-At-clause-wide c =
     let one : squares_of c.box_between.result ≡ squares_of_all (boxes_in c.args.shape.now) =
-    ap squares_of c.box_between.ensures.value ∙ one_box (box_between c.in-At.point c.in-At.point) ∙ ap (λ (s : Shape). squares_of_all (boxes_in s)) (sym c.in-At.is) in
+    ap squares_of c.box_between.ensures.value ∙ one_box (box_between c.in-At.point c.in-At.point)
+    ∙ ap (λ (s : Shape). squares_of_all (boxes_in s)) (sym c.in-At.is) in
     subst (λ (xs : List Spot). IfOk c.spots_of_box.result (λ spots. spots.wide ≡ are_many xs)) one c.spots_of_box.ensures.wide

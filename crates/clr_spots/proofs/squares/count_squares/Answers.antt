@@ -10,5 +10,6 @@ returns c =
     let least = c.requires.least in
     let most = c.requires.most in
     ap₂ (λ (m n : ℕ). m * n) c.span.ensures.value c.span-2.ensures.value
-    ∙ four_words (λ (p q r u : ℤ). span p q * span r u) b.least.x b.most.x b.least.y b.most.y (difference_fits _ least.in_x) (difference_fits _ most.in_x) (difference_fits _ least.in_y) (difference_fits _ most.in_y)
+    ∙ four_words (λ (p q r u : ℤ). span p q * span r u) b.least.x b.most.x b.least.y b.most.y (difference_fits _ least.in_x) (difference_fits _ most.in_x)
+    (difference_fits _ least.in_y) (difference_fits _ most.in_y)
     ∙ sym (count_of_squares b)

@@ -23,5 +23,6 @@ loop-position-preserved c =
     let named : name_at o position ≡ Some name = sym (rw there at is) in
     let next = names_from o position name (omega (arith, c.loop-position.auto.position)) named in
     let lines = c.loop-position.lines.items in
-    rw c.in_ok-add_workspace_line.ensures (append_assoc lines (workspace_line o name) (flat_map (workspace_line o) (drop (position + 1) ([] ∷ names_below_live o)))
+    rw c.in_ok-add_workspace_line.ensures (append_assoc lines (workspace_line o name) (flat_map (workspace_line o) (drop (position + 1) ([]
+    ∷ names_below_live o)))
     ∙ ap (λ (names : List (List ℕ)). lines ++ flat_map (workspace_line o) names) (sym next) ∙ c.loop-position.invariant)

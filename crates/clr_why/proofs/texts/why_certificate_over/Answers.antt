@@ -9,7 +9,12 @@ pub returns-in_ok-lines-in-Some : goal.returns-in_ok-lines-in-Some
 returns-in_ok-lines-in-Some c =
     let text = c.args.certificate.now in
     let lines = c.in_ok-lines-in-Some.lines in
-    inr (c.args.draft.now, c.requires, subst (λ tables. AreCertificateLines tables text lines.items) c.schema-schema.ensures.value c.in_ok-lines-in-Some.ensures)
+    inr (
+      c.args.draft.now,
+      c.requires,
+      subst (λ tables. AreCertificateLines tables text lines.items) c.schema-schema.ensures.value
+          c.in_ok-lines-in-Some.ensures,
+    )
 
 pub returns-in-None : goal.returns-in-None
 returns-in-None c =

@@ -11,13 +11,16 @@ use Rattle.clr_audit.proofs.searching.Search.add_of_part.Goals as goal
 
 pub subject_spots-requires-clause-fit : goal.subject_spots-requires-clause-fit
 subject_spots-requires-clause-fit c = fit_first c.args.self.now.book.now (held_of c.args.first) (map held_of c.args.self.now.rows.now)
-    (fit_again c.args.self.now.book.now (held_of c.args.first) (map held_of c.args.self.now.rows.now) c.requires.fit (among (held_of c.args.first) (map held_of c.args.self.now.rows.now) c.requires.one))
+    (fit_again c.args.self.now.book.now (held_of c.args.first) (map held_of c.args.self.now.rows.now) c.requires.fit
+    (among (held_of c.args.first) (map held_of c.args.self.now.rows.now) c.requires.one))
 
 pub servers_of_part-requires-clause-fit : goal.servers_of_part-requires-clause-fit
-servers_of_part-requires-clause-fit c = fit_again c.args.self.now.book.now (held_of c.args.first) (map held_of c.args.self.now.rows.now) c.requires.fit (among (held_of c.args.first) (map held_of c.args.self.now.rows.now) c.requires.one)
+servers_of_part-requires-clause-fit c = fit_again c.args.self.now.book.now (held_of c.args.first) (map held_of c.args.self.now.rows.now) c.requires.fit
+    (among (held_of c.args.first) (map held_of c.args.self.now.rows.now) c.requires.one)
 
 pub add_beside_all-requires-clause-fit : goal.add_beside_all-requires-clause-fit
-add_beside_all-requires-clause-fit c = fit_again c.args.self.now.book.now (held_of c.args.first) (map held_of c.args.self.now.rows.now) c.requires.fit (among (held_of c.args.first) (map held_of c.args.self.now.rows.now) c.requires.one)
+add_beside_all-requires-clause-fit c = fit_again c.args.self.now.book.now (held_of c.args.first) (map held_of c.args.self.now.rows.now) c.requires.fit
+    (among (held_of c.args.first) (map held_of c.args.self.now.rows.now) c.requires.one)
 
 pub returns-clause-ok : goal.returns-clause-ok
 returns-clause-ok c =
@@ -29,7 +32,8 @@ returns-clause-ok c =
     (among e c.put_in_order.new.list.items ((c.put_in_order.ensures.same e).1 (contained e c.add_partners.new.list.items (subst (Among e) (sym found) h)))) in
     let ready : IsReady search spots c.args.part (held_of c.args.first) = record { fit = c.requires.fit; filed = c.requires.filed; list = c.in_ok-spots.ensures.list; wide = c.in_ok-spots.ensures.wide } in
     let alike = subst (FindAll search c.args.part (held_of c.args.first)) (sym (c.as_slice.ensures.value ∙ c.in_ok-servers.ensures)) (part_alike search spots c.args.part (held_of c.args.first) ready) in
-    part_gains search spots c.as_slice.result.now c.args.part (held_of c.args.first) c.args.roles c.as_slice-2.result.now c.args.list.now.items c.add_beside_all.new.list.items ready alike c.requires.one c.requires.roles all c.in_ok-add_beside_all.ensures.ok
+    part_gains search spots c.as_slice.result.now c.args.part (held_of c.args.first) c.args.roles c.as_slice-2.result.now c.args.list.now.items
+    c.add_beside_all.new.list.items ready alike c.requires.one c.requires.roles all c.in_ok-add_beside_all.ensures.ok
 
 pub returns-in_err-spots-clause-err : goal.returns-in_err-spots-clause-err
 returns-in_err-spots-clause-err c = on_err _ (gains_no_more c.args.self.now.book.now (map held_of c.args.self.now.rows.now) _ _ refl)
@@ -46,4 +50,5 @@ returns-in_err-add_beside_all-clause-err c =
     let spots = c.in_ok-spots.spots in
     let ready : IsReady search spots c.args.part (held_of c.args.first) = record { fit = c.requires.fit; filed = c.requires.filed; list = c.in_ok-spots.ensures.list; wide = c.in_ok-spots.ensures.wide } in
     let alike = subst (FindAll search c.args.part (held_of c.args.first)) (sym (c.as_slice.ensures.value ∙ c.in_ok-servers.ensures)) (part_alike search spots c.args.part (held_of c.args.first) ready) in
-    on_err _ (part_some search c.as_slice.result.now c.args.part (held_of c.args.first) c.as_slice-2.result.now c.args.list.now.items c.add_beside_all.new.list.items alike c.requires.one c.in_err-add_beside_all.ensures.err)
+    on_err _ (part_some search c.as_slice.result.now c.args.part (held_of c.args.first) c.as_slice-2.result.now c.args.list.now.items
+    c.add_beside_all.new.list.items alike c.requires.one c.in_err-add_beside_all.ensures.err)

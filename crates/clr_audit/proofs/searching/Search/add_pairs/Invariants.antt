@@ -5,4 +5,5 @@ use Rattle.clr_audit.proofs.searching.Search.add_pairs.Given as goal
 
 -- the broken needs of the parts so far were added
 abbrev pub invariant-loop-part : goal.invariant-loop-part
-invariant-loop-part l = Gains l.self.book.now (map held_of l.self.rows.now) (λ b h. (k : ℕ) × (k < l.part) × IsOfPart l.self.rule (held_of l.first) (k + 1) b h) l.fn.list.items l.list.items
+invariant-loop-part l = Gains l.self.book.now (map held_of l.self.rows.now) (λ b h. (k : ℕ) × (k < l.part) × IsOfPart l.self.rule (held_of l.first) (k + 1) b h)
+    l.fn.list.items l.list.items

@@ -9,4 +9,5 @@ use Rattle.clr_audit.proofs.searching.Search.serves_at_spots.Given as goal
 -- none of the entries of the spots so far serves
 abbrev pub invariant-loop-spot : goal.invariant-loop-spot
 invariant-loop-spot l =
-    list_any (serves_at l.self.book.now l.ask (map held_of l.self.rows.now) (held_of l.first) (option_map held_of l.second)) (flat_map (entries_at l.self.index.now.servers.by_spot) (take l.spot-index l.spots)) ≡ false
+    list_any (serves_at l.self.book.now l.ask (map held_of l.self.rows.now) (held_of l.first) (option_map held_of l.second))
+    (flat_map (entries_at l.self.index.now.servers.by_spot) (take l.spot-index l.spots)) ≡ false

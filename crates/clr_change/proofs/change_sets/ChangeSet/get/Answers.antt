@@ -6,4 +6,5 @@ use Rattle.clr_rows.proofs.Entries.{get_sorted}
 use Rattle.clr_change.proofs.change_sets.ChangeSet.get.Goals as goal
 
 pub returns-clause-change : goal.returns-clause-change
-returns-clause-change c = c.get.ensures.value ∙ sym (get_sorted cell_cmp c.self.inside.changes.entries c.args.cell c.self.invariant.ascending) ∙ ap (λ (m : Changes). finite.get m c.args.cell) c.self.view_is
+returns-clause-change c = c.get.ensures.value ∙ sym (get_sorted cell_cmp c.self.inside.changes.entries c.args.cell c.self.invariant.ascending)
+    ∙ ap (λ (m : Changes). finite.get m c.args.cell) c.self.view_is

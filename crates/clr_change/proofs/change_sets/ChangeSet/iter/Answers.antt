@@ -7,7 +7,8 @@ use Rattle.clr_rows.specs.Contents.{Changes}
 use Rattle.clr_change.proofs.change_sets.ChangeSet.iter.Goals as goal
 
 pub returns-clause-rest : goal.returns-clause-rest
-returns-clause-rest c = c.iter.ensures.rest ∙ sym (finite.entries-from_sorted cell_cmp _ c.self.invariant.ascending) ∙ ap (λ (m : Changes). finite.entries m) c.self.view_is
+returns-clause-rest c = c.iter.ensures.rest ∙ sym (finite.entries-from_sorted cell_cmp _ c.self.invariant.ascending)
+    ∙ ap (λ (m : Changes). finite.entries m) c.self.view_is
 
 pub returns-clause-small : goal.returns-clause-small
 returns-clause-small c =

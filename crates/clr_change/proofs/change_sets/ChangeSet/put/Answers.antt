@@ -22,5 +22,6 @@ invariant_of-self-2 c =
 
 pub returns-clause-ok : goal.returns-clause-ok
 returns-clause-ok c =
-    one_put cell_cmp_total cell_cmp_exact c.self.inside.changes.entries c.insert.new.self.entries c.args.cell c.args.change c.self.invariant.ascending (sorted_from_ordered cell_cmp _ c.in_ok-insert.ensures.ordered) c.in_ok-insert.ensures.updates.0
+    one_put cell_cmp_total cell_cmp_exact c.self.inside.changes.entries c.insert.new.self.entries c.args.cell c.args.change c.self.invariant.ascending
+    (sorted_from_ordered cell_cmp _ c.in_ok-insert.ensures.ordered) c.in_ok-insert.ensures.updates.0
     ∙ ap (λ (m : Changes). finite.insert m c.args.cell c.args.change) c.self.view_is

@@ -9,7 +9,8 @@ use Rattle.clr_change.proofs.change_sets.ChangeSet.rows_after.Goals as goal
 abbrev Rows : Type 0
 Rows = List (CellId × Option Row)
 
-pushed : (so_far : Rows) (cell : CellId) (change : Change) (row : Option Row) (left all : List (CellId × Change)) → all ≡ (cell, change) ∷ left → row ≡ change.after
+pushed : (so_far : Rows) (cell : CellId) (change : Change) (row : Option Row) (left all : List (CellId × Change)) → all ≡ (cell, change) ∷ left → row
+    ≡ change.after
     → (so_far ++ (cell, row) ∷ []) ++ map (λ e. (e.0, e.1.after)) left ≡ so_far ++ map (λ e. (e.0, e.1.after)) all
 pushed so_far cell change row left all rest same =
     append_assoc so_far ((cell, row) ∷ []) _
@@ -21,5 +22,6 @@ loop-cell-preserved c =
     let left = c.next.new.self in
     let rest = rest_more deref_pair c.loop-cell.cell-iterator left c.next.result (c.in-Some.cell, c.in-Some.change) c.in-Some.is c.next.ensures.steps in
     ap (λ (rows : Rows). rows ++ map (λ e. (e.0, e.1.after)) left) c.in_ok-push.ensures.items
-    ∙ pushed c.loop-cell.rows.items c.in-Some.cell.now c.in-Some.change.now c.in_ok-row.row left c.loop-cell.cell-iterator rest (c.in_ok-row.ensures ∙ c.as_ref.ensures.value)
+    ∙ pushed c.loop-cell.rows.items c.in-Some.cell.now c.in-Some.change.now c.in_ok-row.row left c.loop-cell.cell-iterator rest (c.in_ok-row.ensures
+    ∙ c.as_ref.ensures.value)
     ∙ c.loop-cell.invariant

@@ -22,5 +22,6 @@ invariant_of-self c =
 
 pub returns : goal.returns
 returns c =
-    one_taken cell_cmp_total cell_cmp_exact c.self.inside.changes.entries c.remove.new.self.entries c.args.cell c.self.invariant.ascending (sorted_from_ordered cell_cmp _ c.remove.ensures.ordered) c.remove.ensures.updates.0
+    one_taken cell_cmp_total cell_cmp_exact c.self.inside.changes.entries c.remove.new.self.entries c.args.cell c.self.invariant.ascending
+    (sorted_from_ordered cell_cmp _ c.remove.ensures.ordered) c.remove.ensures.updates.0
     ∙ ap (λ (m : Changes). finite.remove m c.args.cell) c.self.view_is

@@ -15,7 +15,8 @@ pushed so_far cell row left all rest = append_assoc so_far (cell ∷ []) _ ∙ a
 pub loop-cell-init : goal.loop-cell-init
 loop-cell-init c =
     ap (λ (cells : List CellId). cells ++ cells_in c.into_iter-cell-iterator.result) c.new-cells.ensures.items
-    ∙ ap cells_in (c.into_iter-cell-iterator.ensures.into_iter_gives ∙ c.iter-cell-items.ensures.rest ∙ sym (finite.entries-from_sorted cell_cmp _ c.self.invariant))
+    ∙ ap cells_in (c.into_iter-cell-iterator.ensures.into_iter_gives ∙ c.iter-cell-items.ensures.rest
+    ∙ sym (finite.entries-from_sorted cell_cmp _ c.self.invariant))
     ∙ ap (λ (d : Differences). finite.keys d) c.self.view_is
 
 pub loop-cell-preserved : goal.loop-cell-preserved

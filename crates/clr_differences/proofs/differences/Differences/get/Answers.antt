@@ -6,4 +6,5 @@ use Rattle.clr_differences.specs.Differences.{Differences}
 use Rattle.clr_differences.proofs.differences.Differences.get.Goals as goal
 
 pub returns : goal.returns
-returns c = c.get.ensures.value ∙ sym (get_sorted cell_cmp c.self.inside.rows.entries c.args.cell c.self.invariant) ∙ ap (λ (d : Differences). finite.get d c.args.cell) c.self.view_is
+returns c = c.get.ensures.value ∙ sym (get_sorted cell_cmp c.self.inside.rows.entries c.args.cell c.self.invariant)
+    ∙ ap (λ (d : Differences). finite.get d c.args.cell) c.self.view_is

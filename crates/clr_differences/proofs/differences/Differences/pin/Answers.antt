@@ -10,7 +10,9 @@ returns-clause-seen c = λ below is.
     ap (seen_over below) c.in_ok-put.ensures.ok ∙ neutral_new below c.args.self.now c.args.cell c.in_ok-row.row none (c.in_ok-row.ensures ∙ sym is)
 
 pub returns-clause-pinned : goal.returns-clause-pinned
-returns-clause-pinned c = subst (λ (d : Differences). HasEntry d c.args.cell) (sym c.in_ok-put.ensures.ok) (entry_made c.args.self.now c.args.cell c.in_ok-row.row)
+returns-clause-pinned c = subst (λ (d : Differences). HasEntry d c.args.cell) (sym c.in_ok-put.ensures.ok)
+    (entry_made c.args.self.now c.args.cell c.in_ok-row.row)
 
 pub returns-clause-others : goal.returns-clause-others
-returns-clause-others c = λ q apart. ap (λ (d : Differences). finite.get d q) c.in_ok-put.ensures.ok ∙ put_elsewhere c.args.self.now c.args.cell c.in_ok-row.row q apart
+returns-clause-others c = λ q apart. ap (λ (d : Differences). finite.get d q) c.in_ok-put.ensures.ok
+    ∙ put_elsewhere c.args.self.now c.args.cell c.in_ok-row.row q apart

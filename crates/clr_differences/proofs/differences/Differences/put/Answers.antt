@@ -17,5 +17,6 @@ invariant_of-self-2 c = sorted_from_ordered cell_cmp c.insert.new.self.entries c
 
 pub returns-clause-ok : goal.returns-clause-ok
 returns-clause-ok c =
-    one_put cell_cmp_total cell_cmp_exact c.self.inside.rows.entries c.insert.new.self.entries c.args.cell c.args.row c.self.invariant (sorted_from_ordered cell_cmp _ c.in_ok-insert.ensures.ordered) c.in_ok-insert.ensures.updates.0
+    one_put cell_cmp_total cell_cmp_exact c.self.inside.rows.entries c.insert.new.self.entries c.args.cell c.args.row c.self.invariant
+    (sorted_from_ordered cell_cmp _ c.in_ok-insert.ensures.ordered) c.in_ok-insert.ensures.updates.0
     ∙ ap (λ (d : Differences). finite.insert d c.args.cell c.args.row) c.self.view_is

@@ -15,7 +15,8 @@ pushed so_far cell old row left all rest same =
 
 pub loop-cell-init : goal.loop-cell-init
 loop-cell-init c =
-    ap (λ (rows : Rows). rows ++ c.into_iter-cell-iterator.result) c.new-rows.ensures.items ∙ c.into_iter-cell-iterator.ensures.into_iter_gives ∙ c.iter-cell-items.ensures.rest
+    ap (λ (rows : Rows). rows ++ c.into_iter-cell-iterator.result) c.new-rows.ensures.items ∙ c.into_iter-cell-iterator.ensures.into_iter_gives
+    ∙ c.iter-cell-items.ensures.rest
     ∙ sym (finite.entries-from_sorted cell_cmp _ c.self.invariant) ∙ ap (λ (d : Differences). finite.entries d) c.self.view_is
 
 pub loop-cell-preserved : goal.loop-cell-preserved
@@ -23,5 +24,6 @@ loop-cell-preserved c =
     let left = c.next.new.self in
     let rest = rest_more deref_pair c.loop-cell.cell-iterator left c.next.result (c.in-Some.cell, c.in-Some.row) c.in-Some.is c.next.ensures.steps in
     ap (λ (rows : Rows). rows ++ left) c.in_ok-push.ensures.items
-    ∙ pushed c.loop-cell.rows.items c.in-Some.cell.now c.in-Some.row.now c.in_ok-row.row left c.loop-cell.cell-iterator rest (c.in_ok-row.ensures ∙ c.as_ref.ensures.value)
+    ∙ pushed c.loop-cell.rows.items c.in-Some.cell.now c.in-Some.row.now c.in_ok-row.row left c.loop-cell.cell-iterator rest (c.in_ok-row.ensures
+    ∙ c.as_ref.ensures.value)
     ∙ c.loop-cell.invariant

@@ -10,4 +10,5 @@ loop-cell-init g c = refl
 pub loop-cell-preserved : goal.loop-cell-preserved
 loop-cell-preserved g c =
     let lt = c.loop-cell-test.true in
-    swept_at-next (g.V.RowView.content c.args.below.now) c.args.cells.now c.loop-cell.cell-index _ c.args.self.now c.loop-cell.self c.sweep_cell.new.self (omega (arith, lt)) c.loop-cell.invariant c.sweep_cell.ensures
+    swept_at-next (g.V.RowView.content c.args.below.now) c.args.cells.now c.loop-cell.cell-index _ c.args.self.now c.loop-cell.self c.sweep_cell.new.self
+    (omega (arith, lt)) c.loop-cell.invariant c.sweep_cell.ensures

@@ -11,5 +11,6 @@ invariant_of-self c = sorted_from_ordered cell_cmp c.remove.new.self.entries c.r
 
 pub returns : goal.returns
 returns c =
-    one_taken cell_cmp_total cell_cmp_exact c.self.inside.rows.entries c.remove.new.self.entries c.args.cell c.self.invariant (sorted_from_ordered cell_cmp _ c.remove.ensures.ordered) c.remove.ensures.updates.0
+    one_taken cell_cmp_total cell_cmp_exact c.self.inside.rows.entries c.remove.new.self.entries c.args.cell c.self.invariant
+    (sorted_from_ordered cell_cmp _ c.remove.ensures.ordered) c.remove.ensures.updates.0
     ∙ ap (λ (d : Differences). finite.remove d c.args.cell) c.self.view_is

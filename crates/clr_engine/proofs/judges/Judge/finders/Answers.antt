@@ -1,7 +1,7 @@
 use Rattle.std.proofs.Common.{◌<◌, ◌≡◌, length, sym, subst, arith, take}
-use Rattle.clr_engine.specs.Finders.{AreFinders, kept_contents}
-use Rattle.clr_engine.proofs.Fits.{fit_current}
-use Rattle.clr_engine.proofs.Served.{all_found, one_found}
+use Rattle.clr_kept_finders.specs.Finders.{AreFinders, kept_contents}
+use Rattle.clr_kept_finders.proofs.Fits.{fit_current}
+use Rattle.clr_kept_finders.proofs.Served.{all_found, one_found}
 use Rattle.clr_engine.proofs.judges.Judge.finders.Goals as goal
 
 pub loop-at-init : goal.loop-at-init
@@ -13,7 +13,8 @@ finder_at-requires-clause-fit c = fit_current c.args.self.now c.args.tree.now.li
 pub loop-at-preserved : goal.loop-at-preserved
 loop-at-preserved c =
     let lt : c.loop-at.at < length c.args.tree.now.list = subst (λ n. c.loop-at.at < n) c.len-at-end.ensures.count c.loop-at-test.true in
-    one_found c.args.self.now c.args.tree.now.list c.loop-at.at c.loop-at.finders c.push.new.self c.in_ok-finder_at.field-0 lt c.loop-at.invariant c.in_ok-finder_at.ensures c.in_ok-push.ensures.ok
+    one_found c.args.self.now c.args.tree.now.list c.loop-at.at c.loop-at.finders c.push.new.self c.in_ok-finder_at.field-0 lt c.loop-at.invariant
+    c.in_ok-finder_at.ensures c.in_ok-push.ensures.ok
 
 pub returns : goal.returns
 returns c =

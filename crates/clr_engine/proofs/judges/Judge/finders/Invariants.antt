@@ -1,5 +1,5 @@
 use Rattle.std.proofs.Common.{take}
-use Rattle.clr_engine.specs.Finders.{AreFinders, kept_contents}
+use Rattle.clr_kept_finders.specs.Finders.{AreFinders, kept_contents}
 use Rattle.clr_engine.proofs.judges.Judge.finders.Given as goal
 
 abbrev pub invariant-loop-at : goal.invariant-loop-at

@@ -22,10 +22,12 @@ first_broken-requires-clause-ready c =
     let current = (workspace_at c.args.tree.now.list c.args.at).current in
     subst (λ (m : SceneModel Rows). IsReady {F = Rows} (λ f. f.settled) m) (sym c.in-Ok.ensures.model)
     (ready c.args.self.now _ current _ c.args.changed.now _ c.requires.fit c.self.view_is c.view-root.ensures
-    (one_set c.new-sets.result.items c.push.new.self.items c.args.changed c.new-sets.ensures.items c.in_ok-push.ensures.items) c.args.finder.now c.requires.finder)
+    (one_set c.new-sets.result.items c.push.new.self.items c.args.changed c.new-sets.ensures.items c.in_ok-push.ensures.items) c.args.finder.now
+    c.requires.finder)
 
 pub returns-in-Ok : goal.returns-in-Ok
 returns-in-Ok c =
     let current = (workspace_at c.args.tree.now.list c.args.at).current in
     listed c.args.self.now _ current _ c.args.changed.now _ c.requires.fit c.self.view_is c.view-root.ensures
-    (one_set c.new-sets.result.items c.push.new.self.items c.args.changed c.new-sets.ensures.items c.in_ok-push.ensures.items) _ c.args.finder.now c.in-Ok.ensures.model c.first_broken.result c.first_broken.ensures
+    (one_set c.new-sets.result.items c.push.new.self.items c.args.changed c.new-sets.ensures.items c.in_ok-push.ensures.items) _ c.args.finder.now
+    c.in-Ok.ensures.model c.first_broken.result c.first_broken.ensures

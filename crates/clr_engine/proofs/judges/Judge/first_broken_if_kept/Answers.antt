@@ -1,6 +1,6 @@
 use Rattle.std.proofs.Common.{refl}
 use Rattle.clr_workspaces.specs.Workspaces.{workspace_at}
-use Rattle.clr_engine.proofs.Contents.{judged}
+use Rattle.clr_kept_finders.proofs.Contents.{judged}
 use Rattle.clr_engine.proofs.judges.Judge.first_broken_if_kept.Goals as goal
 
 pub returns : goal.returns

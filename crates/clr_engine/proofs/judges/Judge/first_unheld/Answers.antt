@@ -1,7 +1,7 @@
 use Rattle.std.proofs.Common.{◌<◌, ◌≤◌, length, Some, None, ap, sym, subst, ◌∙◌}
 use Rattle.clr_workspaces.specs.Workspaces.{workspace_at}
 use Rattle.clr_steps.specs.Refusals.{broken_where}
-use Rattle.clr_engine.proofs.Fits.{fit_current}
+use Rattle.clr_kept_finders.proofs.Fits.{fit_current}
 use Rattle.clr_engine.proofs.Unheld.{need_is, none_past, unheld_here}
 use Rattle.clr_engine.proofs.judges.Judge.first_unheld.Goals as goal
 
@@ -30,4 +30,5 @@ loop-at-preserved c =
 
 pub returns-clause-first : goal.returns-clause-first
 returns-clause-first c =
-    sym (c.loop-at.invariant ∙ none_past c.args.self.now c.args.tree.now.list c.loop-at.at (subst (λ n. n ≤ c.loop-at.at) c.len-at-end.ensures.count c.loop-at-test.false))
+    sym (c.loop-at.invariant ∙ none_past c.args.self.now c.args.tree.now.list c.loop-at.at (subst (λ n. n ≤ c.loop-at.at) c.len-at-end.ensures.count
+    c.loop-at-test.false))

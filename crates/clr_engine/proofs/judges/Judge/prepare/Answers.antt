@@ -4,10 +4,10 @@ use Rattle.clr_workspaces.specs.Workspaces.{workspace_at}
 use Rattle.clr_rows.specs.Contents.{taken_over}
 use Rattle.clr_steps.specs.declared.commands.Reply.TheVariants.{RuleBroken}
 use Rattle.clr_steps.specs.Refusals.{broken_where}
-use Rattle.clr_engine.specs.Finders.{FitAfter, HasNoted, IsChangedAt}
-use Rattle.clr_engine.proofs.Fits.{next_fits}
-use Rattle.clr_engine.proofs.Indexes.{fit_after}
-use Rattle.clr_engine.proofs.Prepared.{free, not_kept, one_is, prepared, within}
+use Rattle.clr_kept_finders.specs.Finders.{FitAfter, HasNoted, IsChangedAt}
+use Rattle.clr_kept_finders.proofs.Fits.{next_fits}
+use Rattle.clr_kept_finders.proofs.Indexes.{fit_after}
+use Rattle.clr_kept_finders.proofs.Prepared.{free, not_kept, one_is, prepared, within}
 use Rattle.clr_engine.proofs.Scenes.{served_at, unserved}
 use Rattle.clr_engine.proofs.judges.Judge.prepare.Goals as goal
 
@@ -44,7 +44,8 @@ pub note-requires-clause-fit : goal.note-requires-clause-fit
 note-requires-clause-fit c =
     let current = (workspace_at c.args.tree.now.list c.args.at).current in
     let next = taken_over current c.args.changed.now in
-    subst (λ book. FitAfter book c.args.changed.now) (sym c.self.view_is) (fit_after c.args.self.now current c.args.changed.now (next_fits c.args.self.now current next c.requires.fit))
+    subst (λ book. FitAfter book c.args.changed.now) (sym c.self.view_is) (fit_after c.args.self.now current c.args.changed.now
+    (next_fits c.args.self.now current next c.requires.fit))
 
 pub note-requires-clause-free : goal.note-requires-clause-free
 note-requires-clause-free c = free c.args.self.now c.args.tree.now.list c.args.finders.now c.requires.served.are c.args.at
@@ -59,4 +60,5 @@ returns-in-Some-2-clause-judged c =
     let w = workspace_at c.args.tree.now.list c.args.at in
     let one = one_is c.args.self.now c.args.tree.now.list c.args.finders.now c.requires.served.are c.args.at in
     let flag = (served_at c.args.self.now w _ c.in-Some.finder.now one (sym c.get.ensures ∙ ap (λ f. option_copied f) c.in-Some.is)).kept in
-    ap (option_map RuleBroken) (sym c.in-Some-2.is ∙ c.in_ok-need.ensures) ∙ sym (ap (λ kept. broken_where kept c.args.self.now (taken_over w.current c.args.changed.now)) flag)
+    ap (option_map RuleBroken) (sym c.in-Some-2.is ∙ c.in_ok-need.ensures)
+    ∙ sym (ap (λ kept. broken_where kept c.args.self.now (taken_over w.current c.args.changed.now)) flag)

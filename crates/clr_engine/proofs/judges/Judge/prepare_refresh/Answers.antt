@@ -5,11 +5,11 @@ use Rattle.clr_rows.specs.Contents.{Content, taken_over}
 use Rattle.clr_workspaces.specs.Workspaces.{workspace_at}
 use Rattle.clr_steps.specs.Refusals.{broken_where}
 use Rattle.clr_steps.specs.declared.commands.Reply.TheVariants.{RuleBroken}
-use Rattle.clr_engine.specs.Finders.{IsPrepared}
-use Rattle.clr_engine.specs.Trees.{FitBoth}
-use Rattle.clr_engine.proofs.Contents.{reached}
-use Rattle.clr_engine.proofs.Fits.{fit_taken}
-use Rattle.clr_engine.proofs.Prepared.{not_kept}
+use Rattle.clr_kept_finders.specs.Finders.{IsPrepared}
+use Rattle.clr_kept_finders.specs.Fitting.{FitBoth}
+use Rattle.clr_kept_finders.proofs.Contents.{reached}
+use Rattle.clr_kept_finders.proofs.Fits.{fit_taken}
+use Rattle.clr_kept_finders.proofs.Prepared.{not_kept}
 use Rattle.clr_engine.proofs.judges.Judge.prepare_refresh.Goals as goal
 
 pub returns-then-not-kept-clause-prepared : goal.returns-then-not-kept-clause-prepared
@@ -20,18 +20,23 @@ pub prepare-requires-clause-fit : goal.prepare-requires-clause-fit
 prepare-requires-clause-fit c =
     let ws = c.args.tree.now.list in
     let w = workspace_at ws c.args.at in
-    subst (FitBoth c.args.self.now w.current) (sym (reached w.current (taken_over (workspace_at ws c.args.above).current c.args.own.now) c.in_ok-changed.changed c.in_ok-changed.ensures)) (fit_taken c.args.self.now ws c.requires.served.fit c.args.at c.requires.child c.args.at c.args.above c.args.own.now c.requires.own)
+    subst (FitBoth c.args.self.now w.current) (sym (reached w.current (taken_over (workspace_at ws c.args.above).current c.args.own.now) c.in_ok-changed.changed
+    c.in_ok-changed.ensures)) (fit_taken c.args.self.now ws c.requires.served.fit c.args.at c.requires.child c.args.at c.args.above c.args.own.now
+    c.requires.own)
 
 pub returns-clause-judged : goal.returns-clause-judged
 returns-clause-judged c =
     let ws = c.args.tree.now.list in
     let w = workspace_at ws c.args.at in
     subst (λ (m : Content). IfOk c.prepare.result (λ need. option_map RuleBroken need ≡ broken_where w.kept c.args.self.now m))
-    (reached w.current (taken_over (workspace_at ws c.args.above).current c.args.own.now) c.in_ok-changed.changed c.in_ok-changed.ensures) c.prepare.ensures.judged
+    (reached w.current (taken_over (workspace_at ws c.args.above).current c.args.own.now) c.in_ok-changed.changed c.in_ok-changed.ensures)
+    c.prepare.ensures.judged
 
 pub returns-clause-prepared : goal.returns-clause-prepared
 returns-clause-prepared c =
     let ws = c.args.tree.now.list in
     let w = workspace_at ws c.args.at in
-    subst (λ (m : Content). IfOk c.prepare.result (λ need. MatchOption need (IsPrepared c.args.self.now ws c.args.at m c.prepare.new.finders) (λ _. c.prepare.new.finders ≡ c.args.finders.now)))
-    (reached w.current (taken_over (workspace_at ws c.args.above).current c.args.own.now) c.in_ok-changed.changed c.in_ok-changed.ensures) c.prepare.ensures.prepared
+    subst (λ (m : Content). IfOk c.prepare.result (λ need. MatchOption need (IsPrepared c.args.self.now ws c.args.at m c.prepare.new.finders)
+    (λ _. c.prepare.new.finders ≡ c.args.finders.now)))
+    (reached w.current (taken_over (workspace_at ws c.args.above).current c.args.own.now) c.in_ok-changed.changed c.in_ok-changed.ensures)
+    c.prepare.ensures.prepared

@@ -6,10 +6,10 @@ use Rattle.clr_change.specs.ChangeSets.{set_change}
 use Rattle.clr_workspaces.specs.Workspaces.{workspace_at}
 use Rattle.clr_steps.specs.Refusals.{broken_where}
 use Rattle.clr_steps.specs.declared.commands.Reply.TheVariants.{RuleBroken}
-use Rattle.clr_engine.specs.Finders.{IsPrepared}
-use Rattle.clr_engine.specs.Trees.{FitBoth}
-use Rattle.clr_engine.proofs.Contents.{set_one}
-use Rattle.clr_engine.proofs.Prepared.{not_kept}
+use Rattle.clr_kept_finders.specs.Finders.{IsPrepared}
+use Rattle.clr_kept_finders.specs.Fitting.{FitBoth}
+use Rattle.clr_kept_finders.proofs.Contents.{set_one}
+use Rattle.clr_kept_finders.proofs.Prepared.{not_kept}
 use Rattle.clr_engine.proofs.judges.Judge.prepare_row.Goals as goal
 
 pub returns-then-not-kept-clause-prepared : goal.returns-then-not-kept-clause-prepared
@@ -32,4 +32,5 @@ pub returns-clause-prepared : goal.returns-clause-prepared
 returns-clause-prepared c =
     let w = workspace_at c.args.tree.now.list c.args.at in
     let is = set_one w.current c.args.cell (option_copied c.args.row) c.set.new.self (c.in_ok-set.ensures.ok ∙ (λ i. set_change (c.new-changed.ensures i) c.args.cell (c.read.ensures i) (option_copied c.args.row))) in
-    subst (λ (m : Content). IfOk c.prepare.result (λ need. MatchOption need (IsPrepared c.args.self.now c.args.tree.now.list c.args.at m c.prepare.new.finders) (λ _. c.prepare.new.finders ≡ c.args.finders.now))) is c.prepare.ensures.prepared
+    subst (λ (m : Content). IfOk c.prepare.result (λ need. MatchOption need (IsPrepared c.args.self.now c.args.tree.now.list c.args.at m c.prepare.new.finders)
+    (λ _. c.prepare.new.finders ≡ c.args.finders.now))) is c.prepare.ensures.prepared

@@ -1,10 +1,10 @@
 use Rattle.std.proofs.Common.{◌∙◌, sym, subst}
 use Rattle.clr_rules.specs.Books.{FitsContent}
 use Rattle.clr_workspaces.specs.Workspaces.{workspace_at}
-use Rattle.clr_engine.specs.Finders.{IsFinderOf}
-use Rattle.clr_engine.proofs.Fits.{fit_current}
-use Rattle.clr_engine.proofs.Prepared.{within}
-use Rattle.clr_engine.proofs.Served.{after_holding}
+use Rattle.clr_kept_finders.specs.Finders.{IsFinderOf}
+use Rattle.clr_kept_finders.proofs.Fits.{fit_current}
+use Rattle.clr_kept_finders.proofs.Prepared.{within}
+use Rattle.clr_kept_finders.proofs.Served.{after_holding}
 use Rattle.clr_engine.proofs.judges.Judge.serve.Goals as goal
 
 pub finder_of-requires : goal.finder_of-requires

@@ -9,7 +9,8 @@ returns-in-Some-eq0 c =
     let ws = c.self.inside.tree.list in
     let seen = seen_in c.self.inside.schema c.self.inside.judge ws o c.find.ensures.sound c.self.view_is c.args.ws.now in
     let e = sym c.find.ensures.found ∙ c.in-Some-eq0.is ∙ ap Some c.in-Some-eq0.field-0-test in
-    shown o ws c.args.ws.now seen 0 c.new.result (changes_in o c.args.ws.now) e (c.new.ensures ∙ no_changes_is o ws c.args.ws.now seen (live_is o ws c.args.ws.now seen e))
+    shown o ws c.args.ws.now seen 0 c.new.result (changes_in o c.args.ws.now) e (c.new.ensures
+    ∙ no_changes_is o ws c.args.ws.now seen (live_is o ws c.args.ws.now seen e))
 
 pub returns-in_ok-changes-in-Some : goal.returns-in_ok-changes-in-Some
 returns-in_ok-changes-in-Some c =

@@ -19,7 +19,8 @@ returns-in_default-parent c =
     let ws = c.self.inside.tree.list in
     let seen = seen_in c.self.inside.schema c.self.inside.judge ws o c.find.ensures.sound c.self.view_is c.args.ws.now in
     let e = sym c.find.ensures.found ∙ c.in-Some.is ∙ ap Some (zero_of c.in-Some.at c.parent.result c.in_default-parent.is c.parent.ensures.child.1) in
-    shown o ws c.args.ws.now seen 0 c.new.result.items (conflicts_in o c.args.ws.now) e (c.new.ensures.items ∙ no_conflicts_is o ws c.args.ws.now seen (live_is o ws c.args.ws.now seen e))
+    shown o ws c.args.ws.now seen 0 c.new.result.items (conflicts_in o c.args.ws.now) e (c.new.ensures.items
+    ∙ no_conflicts_is o ws c.args.ws.now seen (live_is o ws c.args.ws.now seen e))
 
 pub returns : goal.returns
 returns c =

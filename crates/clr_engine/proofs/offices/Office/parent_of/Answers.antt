@@ -9,7 +9,8 @@ returns-in-Some-parent c =
     let ws = c.self.inside.tree.list in
     let seen = seen_in c.self.inside.schema c.self.inside.judge ws o c.find.ensures.sound c.self.view_is c.args.ws.now in
     let e = sym c.find.ensures.found ∙ c.in-Some.is in
-    parent_is o ws c.args.ws.now seen c.in-Some.at c.in-Some-parent.above c.name_at.result.now (c.parent.ensures.child.0 (subst (λ (r : Option ℕ). IsSome r) (sym c.in-Some-parent.is) refl)) e (sym c.in-Some-parent.ensures.found) c.name_at.ensures
+    parent_is o ws c.args.ws.now seen c.in-Some.at c.in-Some-parent.above c.name_at.result.now
+    (c.parent.ensures.child.0 (subst (λ (r : Option ℕ). IsSome r) (sym c.in-Some-parent.is) refl)) e (sym c.in-Some-parent.ensures.found) c.name_at.ensures
 
 pub returns-in-None-parent : goal.returns-in-None-parent
 returns-in-None-parent c =

@@ -3,8 +3,8 @@ use Rattle.clr_workspaces.specs.Workspaces.{Workspace}
 use Rattle.clr_steps.specs.Offices.{Office, office_of}
 use Rattle.clr_steps.specs.Steps.{IsAnswer}
 use Rattle.clr_steps.proofs.StepLemmas.{answer_law}
-use Rattle.clr_engine.specs.Drafts.{IsAdmitted}
-use Rattle.clr_engine.specs.Finders.{AreFinders, kept_contents}
+use Rattle.clr_kept_finders.specs.Fitting.{IsAdmitted}
+use Rattle.clr_kept_finders.specs.Finders.{AreFinders, kept_contents}
 use Rattle.clr_engine.proofs.Steps.{fits_after, holds_after}
 use Rattle.clr_engine.proofs.offices.Office.perform.Goals as goal
 
@@ -14,7 +14,8 @@ invariant_of-self c =
     let o = office_of inside.schema inside.judge inside.tree.list in
     let left = office_of inside.schema inside.judge c.perform-reply.new.tree.list in
     let answered =
-    answer_law inside.schema inside.judge inside.tree.list c.perform-reply.ensures.sound c.args.command.now c.perform-reply.result c.perform-reply.new.tree.list c.perform-reply.ensures.performed in
+    answer_law inside.schema inside.judge inside.tree.list c.perform-reply.ensures.sound c.args.command.now c.perform-reply.result c.perform-reply.new.tree.list
+    c.perform-reply.ensures.performed in
     let admitted : IsAdmitted left = record {
       fit = fits_after o c.args.command.now c.perform-reply.result left c.self.invariant.0.fit answered;
       holds = holds_after o c.args.command.now c.perform-reply.result left c.self.invariant.0.holds answered;
@@ -29,6 +30,8 @@ pub returns-clause-answer : goal.returns-clause-answer
 returns-clause-answer c =
     let inside = c.self.inside in
     let answered =
-    answer_law inside.schema inside.judge inside.tree.list c.perform-reply.ensures.sound c.args.command.now c.perform-reply.result c.perform-reply.new.tree.list c.perform-reply.ensures.performed in
+    answer_law inside.schema inside.judge inside.tree.list c.perform-reply.ensures.sound c.args.command.now c.perform-reply.result c.perform-reply.new.tree.list
+    c.perform-reply.ensures.performed in
     subst (λ (o : Office). IsAnswer o c.args.command.now c.perform-reply.result (office_of inside.schema inside.judge c.sweep.new.self.list)) c.self.view_is
-    (subst (λ (ws : List Workspace). IsAnswer (office_of inside.schema inside.judge inside.tree.list) c.args.command.now c.perform-reply.result (office_of inside.schema inside.judge ws)) (sym c.sweep.ensures.contents) answered)
+    (subst (λ (ws : List Workspace). IsAnswer (office_of inside.schema inside.judge inside.tree.list) c.args.command.now c.perform-reply.result
+    (office_of inside.schema inside.judge ws)) (sym c.sweep.ensures.contents) answered)

@@ -30,4 +30,5 @@ returns-clause-run c =
     let commands = c.args.commands.now in
     let all : at ≡ length commands = omega (arith, c.loop-command-test.false, c.loop-command.auto.command-index-end) in
     run_law c.args.self.now commands c.loop-command.replies.items c.loop-command.self
-    (subst (λ (cs : List Command). AreAnswers c.args.self.now cs c.loop-command.replies.items c.loop-command.self) (ap (λ n. take n commands) all ∙ take-length commands) c.loop-command.invariant.answers)
+    (subst (λ (cs : List Command). AreAnswers c.args.self.now cs c.loop-command.replies.items c.loop-command.self) (ap (λ n. take n commands) all
+    ∙ take-length commands) c.loop-command.invariant.answers)

@@ -9,7 +9,8 @@ returns-in_ok-rows-in-Some c =
     let ws = c.self.inside.tree.list in
     let seen = seen_in c.self.inside.schema c.self.inside.judge ws o c.find.ensures.sound c.self.view_is c.args.ws.now in
     let e = sym c.find.ensures.found ∙ c.in-Some.is in
-    shown o ws c.args.ws.now seen c.in-Some.at c.in_ok-rows-in-Some.field-0 (content_of o c.args.ws.now) e (c.in_ok-rows-in-Some.ensures ∙ content_is o ws c.args.ws.now seen c.in-Some.at e)
+    shown o ws c.args.ws.now seen c.in-Some.at c.in_ok-rows-in-Some.field-0 (content_of o c.args.ws.now) e (c.in_ok-rows-in-Some.ensures
+    ∙ content_is o ws c.args.ws.now seen c.in-Some.at e)
 
 pub returns-in-None : goal.returns-in-None
 returns-in-None c =

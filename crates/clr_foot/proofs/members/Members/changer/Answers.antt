@@ -6,7 +6,8 @@ use Rattle.clr_foot.proofs.members.Members.changer.Goals as goal
 
 pub returns-clause-first : goal.returns-clause-first
 returns-clause-first c =
-    first_of (sets_of c.args.self.now.sets.items) c.args.cell (Some c.in_ok-changers.changers.now) (c.in_ok-changers.ensures.value ∙ c.args.self.now.changed_by c.args.cell)
+    first_of (sets_of c.args.self.now.sets.items) c.args.cell (Some c.in_ok-changers.changers.now) (c.in_ok-changers.ensures.value
+    ∙ c.args.self.now.changed_by c.args.cell)
 
 pub returns-clause-position : goal.returns-clause-position
 returns-clause-position c =

@@ -6,4 +6,5 @@ use Rattle.clr_foot.proofs.members.Members.file_new_rows.Given as goal
 
 -- the rows of the cells so far are filed
 abbrev pub invariant-loop-cell : goal.invariant-loop-cell
-invariant-loop-cell g l = (g.F.RowFinder.pending l.finder ≡ finite.empty) × AreFiledAt l.book (sets_of l.self.sets.items) (take l.cell-index l.cell-items) (g.F.RowFinder.settled l.finder)
+invariant-loop-cell g l = (g.F.RowFinder.pending l.finder ≡ finite.empty) × AreFiledAt l.book (sets_of l.self.sets.items) (take l.cell-index l.cell-items)
+    (g.F.RowFinder.settled l.finder)

@@ -8,7 +8,8 @@ pub returns-in_err-changers : goal.returns-in_err-changers
 returns-in_err-changers c =
     let sets = sets_of c.args.self.now.sets.items in
     let none = c.in_err-changers.ensures.value ∙ c.args.self.now.changed_by c.args.cell in
-    subst (λ r. AreTwoOf sets c.args.cell r) (sym c.from_residual.ensures) (none_is_apart sets c.args.cell (length sets) (changer_below sets c.args.cell) (are_changers sets c.args.cell None none))
+    subst (λ r. AreTwoOf sets c.args.cell r) (sym c.from_residual.ensures) (none_is_apart sets c.args.cell (length sets) (changer_below sets c.args.cell)
+    (are_changers sets c.args.cell None none))
 
 pub returns-in_err-second : goal.returns-in_err-second
 returns-in_err-second c =

@@ -17,7 +17,8 @@ loop-cell-preserved c =
     let is : IsReadAt sets cells read k = record { same = c.deref-cell-items.ensures.value; within = c.loop-cell-test.true } in
     elim c.match-first_two.branch [
       | in-Some w ↦ subst (IsLeastBelow sets cells (k + 1)) (ap Some (sym w.lesser.ensures) ∙ sym w.least-is)
-          (shared_step sets cells read k _ c.first_two.result w.in-Some.first w.in-Some.second c.loop-cell.least is c.first_two.ensures w.in-Some.is c.loop-cell.invariant)
+          (shared_step sets cells read k _ c.first_two.result w.in-Some.first w.in-Some.second c.loop-cell.least is c.first_two.ensures w.in-Some.is
+          c.loop-cell.invariant)
       | in_default w ↦ subst (IsLeastBelow sets cells (k + 1)) (sym w.least-is)
           (apart_step sets cells read k _ c.first_two.result c.loop-cell.least is c.first_two.ensures w.in_default.is c.loop-cell.invariant)
     ]

@@ -18,5 +18,6 @@ invariant_of-result c =
       all = c.in_ok-cells.ensures ∙ ap (λ (rs : List (Bor Changes)). changed_cells (sets_of rs)) c.as_slice.ensures.value;
       changed_by = λ q. changers_exact (sets_of refs) q (get cell_cmp changers q)
           (subst (λ n. AreChangersAt (sets_of refs) n q (get cell_cmp changers q)) (sym (length-map refs (λ s. s.now)))
-          (subst (λ (rs : List (Bor Changes)). AreChangersAt (sets_of rs) (length rs) q (get cell_cmp changers q)) c.as_slice-2.ensures.value (c.in_ok-changers.ensures q)));
+          (subst (λ (rs : List (Bor Changes)). AreChangersAt (sets_of rs) (length rs) q (get cell_cmp changers q)) c.as_slice-2.ensures.value
+          (c.in_ok-changers.ensures q)));
     }

@@ -29,7 +29,8 @@ returns-else-serves_if_any-clause-ok g c =
     let serves = c.serves_if_any.ensures ∙ ap (λ a. serves_too rules a s None c.args.server) c.plain-ask.ensures in
     elim c.else-serves_if_any.branch [
       | else-serves_if_any-via-then-serves_if_any+else-calls_one w ↦ none_alone rules c.args.rule c.args.server s c.args.needs.now.items
-          (asked_without_call (serves_too rules ask s None c.args.server) _ _ (w.calls_one.ensures ∙ ap (λ h. calls rules ask h None) w.as_held.ensures) w.if-calls_one.false)
+          (asked_without_call (serves_too rules ask s None c.args.server) _ _ (w.calls_one.ensures ∙ ap (λ h. calls rules ask h None) w.as_held.ensures)
+          w.if-calls_one.false)
       | else-serves_if_any-via-else-serves_if_any w ↦ none_alone rules c.args.rule c.args.server s c.args.needs.now.items
           (asked_without_server _ _ _ serves w.if-serves_if_any.false)
     ]

@@ -10,7 +10,8 @@ add_pairs-requires-clause-others g c = subst (AreAt (setting_in g.V.RowView.cont
 
 pub returns-then-not-may_be_paired : goal.returns-then-not-may_be_paired
 returns-then-not-may_be_paired g c =
-    alone_beside_old (setting_in g.V.RowView.content c.args.self.now) c.args.rule c.args.version c.may_be_paired.result _ _ c.requires.at c.may_be_paired.ensures c.if-not-may_be_paired.true c.in_ok-add_alone.ensures.ok
+    alone_beside_old (setting_in g.V.RowView.content c.args.self.now) c.args.rule c.args.version c.may_be_paired.result _ _ c.requires.at
+    c.may_be_paired.ensures c.if-not-may_be_paired.true c.in_ok-add_alone.ensures.ok
 
 pub returns : goal.returns
 returns g c =

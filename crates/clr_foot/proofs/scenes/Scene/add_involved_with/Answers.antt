@@ -7,7 +7,8 @@ pub loop-rule-init : goal.loop-rule-init
 loop-rule-init g c = no_rule_involved (setting_in g.V.RowView.content c.args.self.now) c.args.position c.args.version.id c.args.needs.now.items
 
 pub loop-rule-preserved : goal.loop-rule-preserved
-loop-rule-preserved g c = one_rule_involved (setting_in g.V.RowView.content c.args.self.now) c.args.position c.loop-rule.rule c.args.version.id _ _ _ c.loop-rule.invariant c.in_ok-add_involved_by.ensures
+loop-rule-preserved g c = one_rule_involved (setting_in g.V.RowView.content c.args.self.now) c.args.position c.loop-rule.rule c.args.version.id _ _ _
+    c.loop-rule.invariant c.in_ok-add_involved_by.ensures
 
 pub returns : goal.returns
 returns g c =

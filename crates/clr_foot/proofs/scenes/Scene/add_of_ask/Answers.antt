@@ -9,7 +9,8 @@ use Rattle.clr_foot.proofs.scenes.Scene.add_of_ask.Goals.{else-serves_if_any-via
 
 pub calls_two-requires-clause-fit : goal.calls_two-requires-clause-fit
 calls_two-requires-clause-fit g c =
-    fit_two (setting_in g.V.RowView.content c.args.self.now) c.requires.fit c.args.first c.args.second _ _ c.requires.first c.requires.second c.as_held.ensures c.as_held-then-serves_if_any.ensures
+    fit_two (setting_in g.V.RowView.content c.args.self.now) c.requires.fit c.args.first c.args.second _ _ c.requires.first c.requires.second c.as_held.ensures
+    c.as_held-then-serves_if_any.ensures
 
 pub returns-in_ok-push-clause-ok : goal.returns-in_ok-push-clause-ok
 returns-in_ok-push-clause-ok g c =

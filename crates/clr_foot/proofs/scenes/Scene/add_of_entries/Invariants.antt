@@ -7,4 +7,5 @@ use Rattle.clr_foot.proofs.scenes.Scene.add_of_entries.Given as goal
 -- the needs of the entries so far were added
 abbrev pub invariant-loop-entry : goal.invariant-loop-entry
 invariant-loop-entry g l =
-    Gains (IsNeedAmong l.self.book.now l.rule None l.one l.fresh) (OfSome (IsNeedOfEntry l.self.book.now l.rule l.fresh l.one l.part) (take l.entry-index l.entries)) l.fn.needs.items l.needs.items
+    Gains (IsNeedAmong l.self.book.now l.rule None l.one l.fresh) (OfSome (IsNeedOfEntry l.self.book.now l.rule l.fresh l.one l.part)
+    (take l.entry-index l.entries)) l.fn.needs.items l.needs.items

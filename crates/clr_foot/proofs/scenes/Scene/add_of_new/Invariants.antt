@@ -10,5 +10,6 @@ abbrev pub invariant-loop-part : goal.invariant-loop-part
 invariant-loop-part g l = record {
   before : AreFiledBefore l.self.book.now l.rule l.fresh l.position l.filed;
   parts : ArePartsFiled l.self.book.now l.rule l.filed l.position l.one l.part;
-  needs : Gains (IsNeedAmong l.self.book.now l.rule None l.one l.fresh) (IsNeedWithPartTo l.self.book.now l.rule l.fresh l.position l.one l.part) l.fn.needs.items l.needs.items;
+  needs : Gains (IsNeedAmong l.self.book.now l.rule None l.one l.fresh) (IsNeedWithPartTo l.self.book.now l.rule l.fresh l.position l.one l.part)
+      l.fn.needs.items l.needs.items;
 }

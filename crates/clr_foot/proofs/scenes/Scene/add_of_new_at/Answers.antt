@@ -2,7 +2,8 @@ use Rattle.clr_foot.proofs.NewPairLaws.{at_position, got_in, none_at, past_filed
 use Rattle.clr_foot.proofs.scenes.Scene.add_of_new_at.Goals as goal
 
 pub returns-in-None-clause-filed : goal.returns-in-None-clause-filed
-returns-in-None-clause-filed g c = past_filed c.args.self.now.book.now c.args.rule c.args.fresh.now c.args.position c.args.filed.now c.in-None.ensures c.requires.before
+returns-in-None-clause-filed g c = past_filed c.args.self.now.book.now c.args.rule c.args.fresh.now c.args.position c.args.filed.now c.in-None.ensures
+    c.requires.before
 
 pub returns-in-None-clause-needs : goal.returns-in-None-clause-needs
 returns-in-None-clause-needs g c = none_at c.args.self.now.book.now c.args.rule c.args.fresh.now c.args.position c.args.needs.now.items c.in-None.ensures
@@ -11,4 +12,5 @@ pub add_of_new-requires-clause-one : goal.add_of_new-requires-clause-one
 add_of_new-requires-clause-one g c = c.requires.fresh c.in-Some.one (got_in c.args.fresh.now c.args.position c.in-Some.one c.in-Some.ensures)
 
 pub returns-in_ok-add_of_new-in-Some-clause-needs : goal.returns-in_ok-add_of_new-in-Some-clause-needs
-returns-in_ok-add_of_new-in-Some-clause-needs g c = at_position c.args.self.now.book.now c.args.rule c.args.fresh.now c.args.position c.in-Some.one _ _ c.in-Some.ensures c.in_ok-add_of_new-in-Some.ensures.needs
+returns-in_ok-add_of_new-in-Some-clause-needs g c = at_position c.args.self.now.book.now c.args.rule c.args.fresh.now c.args.position c.in-Some.one _ _
+    c.in-Some.ensures c.in_ok-add_of_new-in-Some.ensures.needs

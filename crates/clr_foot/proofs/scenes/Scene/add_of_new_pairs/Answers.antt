@@ -13,8 +13,10 @@ add_of_new_at-requires-clause-before g c = c.loop-position.invariant.filed
 pub loop-position-preserved : goal.loop-position-preserved
 loop-position-preserved g c = record {
   filed = c.in_ok-add_of_new_at.ensures.filed;
-  needs = one_position_more c.args.self.now.book.now c.args.rule c.args.fresh.now c.loop-position.position _ _ _ c.loop-position.invariant.needs c.in_ok-add_of_new_at.ensures.needs;
+  needs = one_position_more c.args.self.now.book.now c.args.rule c.args.fresh.now c.loop-position.position _ _ _ c.loop-position.invariant.needs
+      c.in_ok-add_of_new_at.ensures.needs;
 }
 
 pub returns : goal.returns
-returns g c = all_positions c.args.self.now.book.now c.args.rule c.args.fresh.now c.loop-position.position _ _ c.loop-position-test.false c.loop-position.invariant.needs
+returns g c = all_positions c.args.self.now.book.now c.args.rule c.args.fresh.now c.loop-position.position _ _ c.loop-position-test.false
+    c.loop-position.invariant.needs

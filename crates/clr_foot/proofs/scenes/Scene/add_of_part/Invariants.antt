@@ -6,5 +6,6 @@ use Rattle.clr_foot.proofs.scenes.Scene.add_of_part.Given as goal
 
 -- the needs with the other parts so far were added
 abbrev pub invariant-loop-other : goal.invariant-loop-other
-invariant-loop-other g l = Gains (IsNeedOf l.self.book.now l.rule l.server l.first (Some l.second)) (IsUpTo l.self.book.now l.rule l.server l.first l.second l.part l.other)
+invariant-loop-other g l = Gains (IsNeedOf l.self.book.now l.rule l.server l.first (Some l.second)) (IsUpTo l.self.book.now l.rule l.server l.first l.second
+    l.part l.other)
     l.fn.needs.items l.needs.items

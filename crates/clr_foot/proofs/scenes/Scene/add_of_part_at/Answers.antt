@@ -33,7 +33,9 @@ returns-clause-needs g c =
     let read : c.as_slice.result.now ≡ beside = c.as_slice.ensures.value ∙ c.in_ok-add_near.ensures.ok ∙ ap (λ (es : List FiledPart). es ++ beside) c.new-beside.ensures.items in
     let among = IsNeedAmong rules c.args.rule None c.args.one c.args.fresh.now in
     let of_entry = IsNeedOfEntry rules c.args.rule c.args.fresh.now c.args.one c.args.part in
-    gains_as among (OfSome of_entry c.as_slice.result.now) among (IsNeedWithPart rules c.args.rule c.args.fresh.now c.args.position c.args.one c.args.part) _ _ (λ n w. w)
+    gains_as among (OfSome of_entry c.as_slice.result.now) among (IsNeedWithPart rules c.args.rule c.args.fresh.now c.args.position c.args.one c.args.part) _ _
+    (λ n w. w)
     (λ n w. subst (λ es. OfSome of_entry es n) (sym read)
-    (part_found s c.requires.fit c.args.rule c.args.fresh.now c.args.position c.args.filed.now c.requires.before c.args.one c.args.part spots.list spots.wide n list wide w))
+    (part_found s c.requires.fit c.args.rule c.args.fresh.now c.args.position c.args.filed.now c.requires.before c.args.one c.args.part spots.list spots.wide n
+    list wide w))
     c.in_ok-add_of_entries.ensures

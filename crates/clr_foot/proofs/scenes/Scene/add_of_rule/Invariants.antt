@@ -8,4 +8,5 @@ use Rattle.clr_foot.proofs.scenes.Scene.add_of_rule.Given as goal
 -- the needs at the cells so far were added
 abbrev pub invariant-loop-cell : goal.invariant-loop-cell
 invariant-loop-cell g l =
-    Gains (IsTouched (setting_in g.V.RowView.content l.self)) (IsNeedAtCells (setting_in g.V.RowView.content l.self) l.rule (take l.cell-index l.cell-items)) l.fn.needs.items l.needs.items
+    Gains (IsTouched (setting_in g.V.RowView.content l.self)) (IsNeedAtCells (setting_in g.V.RowView.content l.self) l.rule (take l.cell-index l.cell-items))
+    l.fn.needs.items l.needs.items

@@ -19,13 +19,15 @@ loop-other-preserved g c =
     elim c.if-serves_if_any.branch [
       | then-serves_if_any+in_ok-push w ↦ one_server_more rules c.args.ask c.args.first c.args.second others k r _ _ _ c.loop-other-test.true c.other-item.is
           (sym c.serves_if_any.ensures ∙ w.if-serves_if_any.true) (ap (λ v. v.items) w.names-is ∙ w.in_ok-push.ensures.items) c.loop-other.invariant
-      | else-serves_if_any w ↦ subst (λ v. Gains (IsServerAmong rules c.args.ask c.args.first c.args.second others) (IsServerAmong rules c.args.ask c.args.first c.args.second (take (k + 1) others)) c.args.names.now.items v.items)
+      | else-serves_if_any w ↦ subst (λ v. Gains (IsServerAmong rules c.args.ask c.args.first c.args.second others)
+          (IsServerAmong rules c.args.ask c.args.first c.args.second (take (k + 1) others)) c.args.names.now.items v.items)
           (sym w.names-is) (not_one_server rules c.args.ask c.args.first c.args.second others k r _ _ c.loop-other-test.true c.other-item.is
           (sym c.serves_if_any.ensures ∙ w.if-serves_if_any.false) c.loop-other.invariant)
     ]
 
 pub returns-clause-ok : goal.returns-clause-ok
-returns-clause-ok g c = all_servers c.args.self.now.book.now c.args.ask c.args.first c.args.second c.args.others.now c.loop-other.other-index _ _ c.loop-other-test.false c.loop-other.invariant
+returns-clause-ok g c = all_servers c.args.self.now.book.now c.args.ask c.args.first c.args.second c.args.others.now c.loop-other.other-index _ _
+    c.loop-other-test.false c.loop-other.invariant
 
 pub returns-in_err-push-clause-err : goal.returns-in_err-push-clause-err
 returns-in_err-push-clause-err g c = on_err _ (then_none _ _ _ _ _ c.in_err-push.ensures.items c.loop-other.invariant)

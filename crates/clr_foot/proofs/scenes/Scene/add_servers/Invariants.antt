@@ -5,5 +5,6 @@ use Rattle.clr_foot.proofs.scenes.Scene.add_servers.Given as goal
 
 -- the servers among the others so far were added
 abbrev pub invariant-loop-other : goal.invariant-loop-other
-invariant-loop-other g l = Gains (IsServerAmong l.self.book.now l.ask l.first l.second l.others) (IsServerAmong l.self.book.now l.ask l.first l.second (take l.other-index l.others))
+invariant-loop-other g l = Gains (IsServerAmong l.self.book.now l.ask l.first l.second l.others) (IsServerAmong l.self.book.now l.ask l.first l.second
+    (take l.other-index l.others))
     l.fn.names.items l.names.items

@@ -12,7 +12,8 @@ add_pairs-requires-clause-others g c = subst (AreAt (setting_in g.V.RowView.cont
 
 pub returns-then-not-may_be_paired-clause-ok : goal.returns-then-not-may_be_paired-clause-ok
 returns-then-not-may_be_paired-clause-ok g c =
-    alone_gains (setting_in g.V.RowView.content c.args.self.now) c.args.rule c.args.version c.may_be_paired.result _ _ c.requires.at c.may_be_paired.ensures c.if-not-may_be_paired.true c.in_ok-add_alone.ensures.ok
+    alone_gains (setting_in g.V.RowView.content c.args.self.now) c.args.rule c.args.version c.may_be_paired.result _ _ c.requires.at c.may_be_paired.ensures
+    c.if-not-may_be_paired.true c.in_ok-add_alone.ensures.ok
 
 pub returns-clause-ok : goal.returns-clause-ok
 returns-clause-ok g c =

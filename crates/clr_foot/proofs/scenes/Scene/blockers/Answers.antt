@@ -14,7 +14,8 @@ loop-position-init g c =
     subst (AreBlockersTo s c.args.need.now 0) (sym c.new-list.ensures.items) (none_blocks_yet s c.args.need.now)
 
 pub is_blocker-requires-clause-servers : goal.is_blocker-requires-clause-servers
-is_blocker-requires-clause-servers g c = subst (AreServers (setting_in g.V.RowView.content c.args.self.now) c.args.need.now) (sym c.as_slice.ensures.value) c.in_ok-servers.ensures
+is_blocker-requires-clause-servers g c = subst (AreServers (setting_in g.V.RowView.content c.args.self.now) c.args.need.now) (sym c.as_slice.ensures.value)
+    c.in_ok-servers.ensures
 
 pub loop-position-preserved : goal.loop-position-preserved
 loop-position-preserved g c =
@@ -31,5 +32,6 @@ loop-position-preserved g c =
 pub returns : goal.returns
 returns g c =
     let scene = c.args.self.now in
-    all_block scene.book.now (g.V.RowView.content scene.root.now) (sets_of scene.members.sets.items) c.args.need.now c.loop-position.position c.loop-position.list.items
+    all_block scene.book.now (g.V.RowView.content scene.root.now) (sets_of scene.members.sets.items) c.args.need.now c.loop-position.position
+    c.loop-position.list.items
     (subst (λ n. n ≤ c.loop-position.position) (sym (length-map scene.members.sets.items (λ s. s.now))) (omega arith)) c.loop-position.invariant

@@ -11,24 +11,29 @@ is_lost-requires-clause-possible g c =
     let needs = c.in_ok-needs.needs.items in
     let read = c.deref-need-items.result.now in
     let k = c.loop-need.need-index in
-    touched_possible (setting_in g.V.RowView.content c.args.self.now) (get_or read k unread) needs c.in_ok-needs.ensures (read_of read needs k unread c.deref-need-items.ensures.value c.loop-need-test.true)
+    touched_possible (setting_in g.V.RowView.content c.args.self.now) (get_or read k unread) needs c.in_ok-needs.ensures
+    (read_of read needs k unread c.deref-need-items.ensures.value c.loop-need-test.true)
 
 pub loop-need-preserved : goal.loop-need-preserved
 loop-need-preserved g c =
     let read = c.deref-need-items.result.now in
     let k = c.loop-need.need-index in
-    kept_more (setting_in g.V.RowView.content c.args.self.now) read k (get_or read k unread) unread c.in_ok-is_lost.field-0 c.loop-need-test.true refl c.loop-need.invariant c.in_ok-is_lost.ensures c.if-branch.false
+    kept_more (setting_in g.V.RowView.content c.args.self.now) read k (get_or read k unread) unread c.in_ok-is_lost.field-0 c.loop-need-test.true refl
+    c.loop-need.invariant c.in_ok-is_lost.ensures c.if-branch.false
 
 pub returns-then-branch : goal.returns-then-branch
 returns-then-branch g c =
     let scene = c.args.self.now in
     let read = c.deref-need-items.result.now in
     let k = c.loop-need.need-index in
-    first_is_least scene.book.now (g.V.RowView.content scene.root.now) (sets_of scene.members.sets.items) c.requires.one c.requires.holds c.in_ok-needs.needs.items read k (get_or read k unread) unread
-    c.in_ok-is_lost.field-0 c.broken_of.result c.in_ok-needs.ensures c.deref-need-items.ensures.value c.loop-need-test.true refl c.loop-need.invariant c.in_ok-is_lost.ensures c.if-branch.true c.broken_of.ensures
+    first_is_least scene.book.now (g.V.RowView.content scene.root.now) (sets_of scene.members.sets.items) c.requires.one c.requires.holds
+    c.in_ok-needs.needs.items read k (get_or read k unread) unread
+    c.in_ok-is_lost.field-0 c.broken_of.result c.in_ok-needs.ensures c.deref-need-items.ensures.value c.loop-need-test.true refl c.loop-need.invariant
+    c.in_ok-is_lost.ensures c.if-branch.true c.broken_of.ensures
 
 pub returns : goal.returns
 returns g c =
     let scene = c.args.self.now in
-    none_is_lost scene.book.now (g.V.RowView.content scene.root.now) (sets_of scene.members.sets.items) c.requires.one c.requires.holds c.in_ok-needs.needs.items c.deref-need-items.result.now c.loop-need.need-index
+    none_is_lost scene.book.now (g.V.RowView.content scene.root.now) (sets_of scene.members.sets.items) c.requires.one c.requires.holds
+    c.in_ok-needs.needs.items c.deref-need-items.result.now c.loop-need.need-index
     c.in_ok-needs.ensures c.deref-need-items.ensures.value c.loop-need-test.false c.loop-need.invariant

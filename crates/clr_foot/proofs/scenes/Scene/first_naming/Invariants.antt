@@ -7,4 +7,5 @@ use Rattle.clr_foot.proofs.scenes.Scene.first_naming.Given as goal
 
 -- the life of none of the versions so far names the member
 abbrev pub invariant-loop-id : goal.invariant-loop-id
-invariant-loop-id g l = (v : VersionId) → Contains (take l.id-index l.ids) v → names_at l.position (version (setting_in g.V.RowView.content l.self) v) ≡ true → ⊥
+invariant-loop-id g l = (v : VersionId) → Contains (take l.id-index l.ids) v → names_at l.position (version (setting_in g.V.RowView.content l.self) v) ≡ true
+    → ⊥

@@ -6,7 +6,8 @@ use Rattle.clr_foot.proofs.scenes.Scene.first_pair.Goals as goal
 
 pub loop-position-preserved : goal.loop-position-preserved
 loop-position-preserved g c =
-    below_more (λ x. HasPair (setting_in g.V.RowView.content c.args.self.now) c.args.ids.now x → ⊥) c.loop-position.position c.loop-position.invariant c.in_default.ensures
+    below_more (λ x. HasPair (setting_in g.V.RowView.content c.args.self.now) c.args.ids.now x → ⊥) c.loop-position.position c.loop-position.invariant
+    c.in_default.ensures
 
 pub returns : goal.returns
 returns g c = λ x less. c.loop-position.invariant x (omega arith)

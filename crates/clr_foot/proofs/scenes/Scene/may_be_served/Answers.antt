@@ -18,4 +18,5 @@ lies_on_shape-requires-clause-shape g c =
 
 pub returns-in-Crossing : goal.returns-in-Crossing
 returns-in-Crossing g c told =
-    never_at_crossing c.args.self.now.book.now c.args.rule _ _ _ (row_of c.args.server) (row_of c.args.subject) (c.rule.ensures ∙ ap Some c.in-Crossing.is) (c.lies_on_shape.ensures told)
+    never_at_crossing c.args.self.now.book.now c.args.rule _ _ _ (row_of c.args.server) (row_of c.args.subject) (c.rule.ensures
+    ∙ ap Some c.in-Crossing.is) (c.lies_on_shape.ensures told)

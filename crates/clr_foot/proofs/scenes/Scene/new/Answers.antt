@@ -6,5 +6,6 @@ use Rattle.clr_foot.proofs.scenes.Scene.new.Goals as goal
 
 pub file_new_rows-requires : goal.file_new_rows-requires
 file_new_rows-requires g c = record {
-  fit = subst (λ refs. FitNewRows c.args.book.now (sets_of refs)) (sym c.in_ok-members.ensures) (fit_new_rows c.args.book.now (g.V.RowView.content c.args.root.now) (sets_of c.args.sets.items) c.requires.fit);
+  fit = subst (λ refs. FitNewRows c.args.book.now (sets_of refs)) (sym c.in_ok-members.ensures)
+      (fit_new_rows c.args.book.now (g.V.RowView.content c.args.root.now) (sets_of c.args.sets.items) c.requires.fit);
 }

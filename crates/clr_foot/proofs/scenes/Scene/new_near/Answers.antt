@@ -16,4 +16,5 @@ returns g c =
     let rules = scene.book.now in
     let settled = g.F.RowFinder.settled scene.new_rows in
     let cells = c.as_slice.ensures.value ∙ c.in_ok-cells.ensures ∙ ap (λ h. found_cells c.args.servers settled c.args.rule (rule_spots rules c.args.rule h)) c.as_held.ensures in
-    new_found rules (g.V.RowView.content scene.root.now) (sets_of scene.members.sets.items) c.args.servers c.args.rule (row_of c.args.version) c.requires.number settled _ _ scene.filed cells c.in_ok-list.ensures
+    new_found rules (g.V.RowView.content scene.root.now) (sets_of scene.members.sets.items) c.args.servers c.args.rule (row_of c.args.version) c.requires.number
+    settled _ _ scene.filed cells c.in_ok-list.ensures

@@ -8,12 +8,14 @@ use Rattle.clr_needs.proofs.PickLaws.{picks_alone, picks_none, picks_two}
 use Rattle.clr_foot.proofs.scenes.Scene.pick_of.Goals as goal
 
 pub returns-in-Some : goal.returns-in-Some
-returns-in-Some g c = picks_alone (setting_in g.V.RowView.content c.args.self.now) c.args.need.now c.args.servers.now c.requires.servers c.in-Some.witness c.in-Some.ensures
+returns-in-Some g c = picks_alone (setting_in g.V.RowView.content c.args.self.now) c.args.need.now c.args.servers.now c.requires.servers c.in-Some.witness
+    c.in-Some.ensures
 
 pub returns-in_ok-taken-in-None : goal.returns-in_ok-taken-in-None
 returns-in_ok-taken-in-None g c =
     let scene = c.args.self.now in
-    picks_two (setting_in g.V.RowView.content scene) c.args.need.now c.args.servers.now c.requires.servers (length scene.members.sets.items) c.in_ok-taken-in-None.taken c.in_ok-taken-in-None.brought c.in-None.ensures
+    picks_two (setting_in g.V.RowView.content scene) c.args.need.now c.args.servers.now c.requires.servers (length scene.members.sets.items)
+    c.in_ok-taken-in-None.taken c.in_ok-taken-in-None.brought c.in-None.ensures
     c.in_ok-taken-in-None.ensures
 
 pub returns-in_err-taken-in-None : goal.returns-in_err-taken-in-None
@@ -21,5 +23,6 @@ returns-in_err-taken-in-None g c =
     let scene = c.args.self.now in
     let s = setting_in g.V.RowView.content scene in
     let members = length-map scene.members.sets.items (λ t. t.now) in
-    subst (Picks s c.args.need.now) (sym c.from_residual.ensures) (picks_none scene.book.now (g.V.RowView.content scene.root.now) (sets_of scene.members.sets.items) c.args.need.now c.args.servers.now c.requires.servers c.in-None.ensures
+    subst (Picks s c.args.need.now) (sym c.from_residual.ensures) (picks_none scene.book.now (g.V.RowView.content scene.root.now)
+    (sets_of scene.members.sets.items) c.args.need.now c.args.servers.now c.requires.servers c.in-None.ensures
     (subst (λ (count : ℕ). (x : ℕ) → x < count → HasPair s c.args.servers.now x → ⊥) (sym members) c.in_err-taken-in-None.ensures))

@@ -9,7 +9,8 @@ use Rattle.clr_foot.proofs.scenes.Scene.served_near.Goals.{else-may_be_served, t
 
 pub loop-version-init : goal.loop-version-init
 loop-version-init g c =
-    none_kept (setting_in g.V.RowView.content c.args.self.now) c.args.rule (row_of c.args.server) c.deref-version-items.result.now c.new-list.result.items c.new-list.ensures.items
+    none_kept (setting_in g.V.RowView.content c.args.self.now) c.args.rule (row_of c.args.server) c.deref-version-items.result.now c.new-list.result.items
+    c.new-list.ensures.items
 
 pub may_be_served-requires-clause-subject : goal.may_be_served-requires-clause-subject
 may_be_served-requires-clause-subject g c =
@@ -25,9 +26,11 @@ loop-version-preserved g c =
     let k = c.loop-version.version-index in
     let v = c.version-item.result in
     elim c.if-may_be_served.branch [
-      | then-may_be_served+in_ok-push w ↦ one_kept s c.args.rule r near k v _ _ c.loop-version-test.true c.version-item.is (ap (λ l. l.items) w.list-is ∙ w.in_ok-push.ensures.items) c.loop-version.invariant
+      | then-may_be_served+in_ok-push w ↦ one_kept s c.args.rule r near k v _ _ c.loop-version-test.true c.version-item.is (ap (λ l. l.items) w.list-is
+          ∙ w.in_ok-push.ensures.items) c.loop-version.invariant
       | else-may_be_served w ↦ subst (λ l. AreKept s c.args.rule r near (k + 1) l.items) (sym w.list-is)
-          (one_left s c.args.rule r near k v _ c.loop-version-test.true c.version-item.is (c.may_be_served.ensures w.if-may_be_served.false) c.loop-version.invariant)
+          (one_left s c.args.rule r near k v _ c.loop-version-test.true c.version-item.is (c.may_be_served.ensures w.if-may_be_served.false)
+          c.loop-version.invariant)
     ]
 
 pub returns : goal.returns

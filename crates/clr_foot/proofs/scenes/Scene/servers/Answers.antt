@@ -15,15 +15,18 @@ returns-in-None g c = absurd (possible_there (setting_in g.V.RowView.content c.a
 
 pub servers_of-requires-clause-number : goal.servers_of-requires-clause-number
 servers_of-requires-clause-number g c =
-    subst (λ ask. ask.rule < length c.args.self.now.book.now) (sym c.ask.ensures) (possible_number (setting_in g.V.RowView.content c.args.self.now) c.args.need.now c.requires.possible)
+    subst (λ ask. ask.rule < length c.args.self.now.book.now) (sym c.ask.ensures) (possible_number (setting_in g.V.RowView.content c.args.self.now)
+    c.args.need.now c.requires.possible)
 
 pub servers_of-requires-clause-second : goal.servers_of-requires-clause-second
-servers_of-requires-clause-second g c = at_too (setting_in g.V.RowView.content c.args.self.now) c.args.need.now.second c.version_if_any-second.result c.version_if_any-second.ensures
+servers_of-requires-clause-second g c = at_too (setting_in g.V.RowView.content c.args.self.now) c.args.need.now.second c.version_if_any-second.result
+    c.version_if_any-second.ensures
 
 pub servers_of-requires-clause-called : goal.servers_of-requires-clause-called
 servers_of-requires-clause-called g c =
     ap (λ ask. calls c.args.self.now.book.now ask (row_of c.in-Some.first) (option_map row_of c.version_if_any-second.result)) c.ask.ensures
-    ∙ subjects_call (setting_in g.V.RowView.content c.args.self.now) c.args.need.now c.in-Some.first c.version_if_any-second.result c.in-Some.ensures c.version_if_any-second.ensures c.requires.possible
+    ∙ subjects_call (setting_in g.V.RowView.content c.args.self.now) c.args.need.now c.in-Some.first c.version_if_any-second.result c.in-Some.ensures
+    c.version_if_any-second.ensures c.requires.possible
 
 pub returns-in_ok-servers-in-Some : goal.returns-in_ok-servers-in-Some
 returns-in_ok-servers-in-Some g c =

@@ -19,7 +19,8 @@ returns g c =
     let near = IsNear true s.rules c.args.ask.rule (row_of c.args.first) in
     let found = λ (v : VersionId). servers_exactly s c.args.ask c.args.first c.args.second _ _ _ _ _ v c.requires.called
     (subst (Finds s false near) (sym c.as_slice.ensures.value) c.in_ok-old.ensures)
-    (subst (Finds s true near) (sym c.as_slice-2.ensures.value) c.in_ok-new.ensures) c.new-names.ensures.items c.in_ok-add_servers.ensures.ok c.in_ok-add_servers-2.ensures.ok in
+    (subst (Finds s true near) (sym c.as_slice-2.ensures.value) c.in_ok-new.ensures) c.new-names.ensures.items c.in_ok-add_servers.ensures.ok
+    c.in_ok-add_servers-2.ensures.ok in
     record {
       ascending = c.put_in_order.ensures.ascending;
       exactly = λ v. (λ h. (found v).0 ((c.put_in_order.ensures.same v).0 h), λ w. (c.put_in_order.ensures.same v).1 ((found v).1 w));

@@ -14,12 +14,14 @@ loop-rule-init g c =
     let scene = c.args.self.now in
     let root = g.V.RowView.content scene.root.now in
     let sets = sets_of scene.members.sets.items in
-    subst (Gains (IsTouched (setting_in g.V.RowView.content scene)) (IsTouchedBelow scene.book.now root sets 0) []) (sym c.new-needs.ensures.items) (no_rule_yet scene.book.now root sets [])
+    subst (Gains (IsTouched (setting_in g.V.RowView.content scene)) (IsTouchedBelow scene.book.now root sets 0) []) (sym c.new-needs.ensures.items)
+    (no_rule_yet scene.book.now root sets [])
 
 pub loop-rule-preserved : goal.loop-rule-preserved
 loop-rule-preserved g c =
     let scene = c.args.self.now in
-    one_rule_more scene.book.now (g.V.RowView.content scene.root.now) (sets_of scene.members.sets.items) c.loop-rule.rule [] _ _ c.loop-rule.invariant c.in_ok-add_of_rule.ensures
+    one_rule_more scene.book.now (g.V.RowView.content scene.root.now) (sets_of scene.members.sets.items) c.loop-rule.rule [] _ _ c.loop-rule.invariant
+    c.in_ok-add_of_rule.ensures
 
 pub put_in_order-requires : goal.put_in_order-requires
 put_in_order-requires g c = need_exact

@@ -9,4 +9,5 @@ use Rattle.clr_foot.proofs.scenes.Scene.touched_needs.Given as goal
 -- the needs of the rules so far were added
 abbrev pub invariant-loop-rule : goal.invariant-loop-rule
 invariant-loop-rule g l =
-    Gains (IsTouched (setting_in g.V.RowView.content l.self)) (IsTouchedBelow l.self.book.now (g.V.RowView.content l.self.root.now) (sets_of l.self.members.sets.items) l.rule) [] l.needs.items
+    Gains (IsTouched (setting_in g.V.RowView.content l.self)) (IsTouchedBelow l.self.book.now (g.V.RowView.content l.self.root.now)
+    (sets_of l.self.members.sets.items) l.rule) [] l.needs.items

@@ -15,10 +15,12 @@ loop-cell-preserved g c =
     let cells = c.args.cells.now in
     let k = c.loop-cell.cell-index in
     elim c.match-version.branch [
-      | in-Some+in_ok-push w ↦ one_found s c.args.fresh cells k _ w.in-Some.version _ _ c.loop-cell-test.true w.in-Some.ensures (ap (λ v. v.items) w.list-is ∙ w.in_ok-push.ensures.items) c.loop-cell.invariant
+      | in-Some+in_ok-push w ↦ one_found s c.args.fresh cells k _ w.in-Some.version _ _ c.loop-cell-test.true w.in-Some.ensures (ap (λ v. v.items) w.list-is
+          ∙ w.in_ok-push.ensures.items) c.loop-cell.invariant
       | in_default w ↦ subst (λ v. FindsTo s c.args.fresh cells (k + 1) v.items) (sym w.list-is)
           (not_found s c.args.fresh cells k _ c.loop-cell.list.items c.loop-cell-test.true w.in_default.ensures c.loop-cell.invariant)
     ]
 
 pub returns : goal.returns
-returns g c = all_found (setting_in g.V.RowView.content c.args.self.now) c.args.fresh c.args.cells.now c.loop-cell.cell-index c.loop-cell.list.items c.loop-cell-test.false c.loop-cell.invariant
+returns g c = all_found (setting_in g.V.RowView.content c.args.self.now) c.args.fresh c.args.cells.now c.loop-cell.cell-index c.loop-cell.list.items
+    c.loop-cell-test.false c.loop-cell.invariant

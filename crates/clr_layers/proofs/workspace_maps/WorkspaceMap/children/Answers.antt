@@ -6,4 +6,5 @@ use Rattle.clr_layers.proofs.EntryLemmas.{children_here}
 use Rattle.clr_layers.proofs.workspace_maps.WorkspaceMap.children.Goals as goal
 
 pub returns : goal.returns
-returns c = c.count_children.ensures ∙ children_here c.args.name.now c.self.inside.map.entries ∙ ap (λ (ls : List Layer). count_by (λ l. bytes_eq c.args.name.now l.parent) ls) c.self.view_is
+returns c = c.count_children.ensures ∙ children_here c.args.name.now c.self.inside.map.entries
+    ∙ ap (λ (ls : List Layer). count_by (λ l. bytes_eq c.args.name.now l.parent) ls) c.self.view_is

@@ -5,4 +5,5 @@ use Rattle.clr_layers.proofs.workspace_maps.WorkspaceMap.count_entries.Goals as 
 
 pub returns : goal.returns
 returns c =
-    (λ i. c.len.ensures.count i + c.len-2.ensures.count i) ∙ sym (ap stored_in (value_at c.self.inside.map.entries c.args.at _ [] c.index-layer.ensures)) ∙ ap (λ (ls : List Layer). stored_in (layer_at ls c.args.at)) c.self.view_is
+    (λ i. c.len.ensures.count i + c.len-2.ensures.count i) ∙ sym (ap stored_in (value_at c.self.inside.map.entries c.args.at _ [] c.index-layer.ensures))
+    ∙ ap (λ (ls : List Layer). stored_in (layer_at ls c.args.at)) c.self.view_is

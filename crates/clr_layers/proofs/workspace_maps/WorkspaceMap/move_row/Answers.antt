@@ -7,4 +7,9 @@ use Rattle.clr_layers.proofs.workspace_maps.WorkspaceMap.move_row.Goals as goal
 pub returns : goal.returns
 returns c =
     let k = c.pair_mut-layer.result.0.now in let v = c.pair_mut-layer.result.1.now in let l = layer_of (k, v) in
-    changed c.self.inside.map.entries c.args.self.now c.args.at k v _ (λ (l : Layer). record l { base = finite.remove l.base c.args.cell; current = finite.insert l.current c.args.cell c.args.row }) c.self.view_is c.pair_mut-layer.ensures.value (λ i. record l { base = c.take.ensures i; current = c.set.ensures i })
+    changed c.self.inside.map.entries c.args.self.now c.args.at k v _ (λ (l : Layer). record l {
+      base = finite.remove l.base c.args.cell;
+      current =
+          finite.insert l.current c.args.cell c.args.row;
+    }) c.self.view_is c.pair_mut-layer.ensures.value
+    (λ i. record l { base = c.take.ensures i; current = c.set.ensures i })

@@ -7,4 +7,5 @@ use Rattle.clr_layers.proofs.workspace_maps.WorkspaceMap.push.Goals as goal
 pub returns-clause-ok : goal.returns-clause-ok
 returns-clause-ok c =
     let absent = ap (λ ls. find_layer ls (string_bytes c.args.name)) c.self.view_is ∙ c.requires in
-    ap layers_of c.in_ok-insert.ensures.entries ∙ insert_last c.args.name c.args.layer c.self.inside.map.entries absent ∙ ap (λ ls. ls ++ layer_of (c.args.name, c.args.layer) ∷ []) c.self.view_is
+    ap layers_of c.in_ok-insert.ensures.entries ∙ insert_last c.args.name c.args.layer c.self.inside.map.entries absent
+    ∙ ap (λ ls. ls ++ layer_of (c.args.name, c.args.layer) ∷ []) c.self.view_is

@@ -8,9 +8,12 @@ use Rattle.clr_layers.proofs.workspace_maps.WorkspaceMap.put_current.Goals as go
 pub returns-clause-ok : goal.returns-clause-ok
 returns-clause-ok c =
     let k = c.pair_mut-layer.result.0.now in let v = c.pair_mut-layer.result.1.now in let l = layer_of (k, v) in
-    on_ok c.put.result _ _ (λ is. changed c.self.inside.map.entries c.args.self.now c.args.at k v _ (λ (l : Layer). record l { current = finite.insert l.current c.args.cell c.args.row }) c.self.view_is c.pair_mut-layer.ensures.value (λ i. record l { current = is i })) c.put.ensures.ok
+    on_ok c.put.result _ _ (λ is. changed c.self.inside.map.entries c.args.self.now c.args.at k v _
+    (λ (l : Layer). record l { current = finite.insert l.current c.args.cell c.args.row }) c.self.view_is c.pair_mut-layer.ensures.value
+    (λ i. record l { current = is i })) c.put.ensures.ok
 
 pub returns-clause-err : goal.returns-clause-err
 returns-clause-err c =
     let k = c.pair_mut-layer.result.0.now in let v = c.pair_mut-layer.result.1.now in let l = layer_of (k, v) in
-    on_err c.put.result _ _ (λ is. stays c.self.inside.map.entries c.args.self.now c.args.at k v _ c.self.view_is c.pair_mut-layer.ensures.value (λ i. record l { current = is i })) c.put.ensures.err
+    on_err c.put.result _ _ (λ is. stays c.self.inside.map.entries c.args.self.now c.args.at k v _ c.self.view_is c.pair_mut-layer.ensures.value
+    (λ i. record l { current = is i })) c.put.ensures.err

@@ -6,4 +6,5 @@ use Rattle.clr_layers.proofs.workspace_maps.WorkspaceMap.replace_current.Goals a
 pub returns-clause-new : goal.returns-clause-new
 returns-clause-new c =
     let k = c.pair_mut-layer.result.0.now in let v = c.pair_mut-layer.result.1.now in let l = layer_of (k, v) in
-    changed c.self.inside.map.entries c.args.self.now c.args.at k v _ (λ (l : Layer). record l { current = c.args.current }) c.self.view_is c.pair_mut-layer.ensures.value (λ i. record l { current = c.replace.ensures.after i })
+    changed c.self.inside.map.entries c.args.self.now c.args.at k v _ (λ (l : Layer). record l { current = c.args.current }) c.self.view_is
+    c.pair_mut-layer.ensures.value (λ i. record l { current = c.replace.ensures.after i })

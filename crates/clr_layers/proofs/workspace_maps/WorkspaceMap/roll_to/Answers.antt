@@ -7,4 +7,6 @@ use Rattle.clr_layers.proofs.workspace_maps.WorkspaceMap.roll_to.Goals as goal
 pub returns : goal.returns
 returns c =
     let k = c.pair_mut-layer.result.0.now in let v = c.pair_mut-layer.result.1.now in let l = layer_of (k, v) in
-    changed c.self.inside.map.entries c.args.self.now c.args.at k v _ (λ (l : Layer). record l { current = c.args.current; marks = take (suc c.args.mark) l.marks }) c.self.view_is c.pair_mut-layer.ensures.value (λ i. record l { current = c.args.current; marks = c.cut_after.ensures i })
+    changed c.self.inside.map.entries c.args.self.now c.args.at k v _
+    (λ (l : Layer). record l { current = c.args.current; marks = take (suc c.args.mark) l.marks }) c.self.view_is c.pair_mut-layer.ensures.value
+    (λ i. record l { current = c.args.current; marks = c.cut_after.ensures i })

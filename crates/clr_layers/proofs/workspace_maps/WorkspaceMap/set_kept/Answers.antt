@@ -7,4 +7,5 @@ use Rattle.clr_layers.proofs.workspace_maps.WorkspaceMap.set_kept.Goals as goal
 pub returns : goal.returns
 returns c =
     let k = c.pair_mut-layer.result.0.now in let v = c.pair_mut-layer.result.1.now in let l = layer_of (k, v) in
-    changed c.self.inside.map.entries c.args.self.now c.args.at k v _ (λ (l : Layer). record l { kept = c.args.kept }) c.self.view_is c.pair_mut-layer.ensures.value refl
+    changed c.self.inside.map.entries c.args.self.now c.args.at k v _ (λ (l : Layer). record l { kept = c.args.kept }) c.self.view_is
+    c.pair_mut-layer.ensures.value refl

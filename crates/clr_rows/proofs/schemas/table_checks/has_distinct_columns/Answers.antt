@@ -7,4 +7,5 @@ pub returns-then-has_column : goal.returns-then-has_column
 returns-then-has_column c = let e = distinct_from (λ x. x.0) c.as_slice-columns.result.now c.loop-i.i c.index-columns-i.result (omega arith) c.index-columns-i.is in grind (arith, common_steps, e)
 
 pub loop-i-preserved : goal.loop-i-preserved
-loop-i-preserved c = let e = distinct_from (λ x. x.0) c.as_slice-columns.result.now c.loop-i.i c.index-columns-i.result (omega arith) c.index-columns-i.is in grind (arith, common_steps, e)
+loop-i-preserved c = let e = distinct_from (λ x. x.0) c.as_slice-columns.result.now c.loop-i.i c.index-columns-i.result (omega arith) c.index-columns-i.is in
+    grind (arith, common_steps, e)

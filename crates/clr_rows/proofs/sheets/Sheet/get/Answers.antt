@@ -5,4 +5,5 @@ use Rattle.clr_rows.proofs.Entries.{get_sorted}
 use Rattle.clr_rows.proofs.sheets.Sheet.get.Goals as goal
 
 pub returns : goal.returns
-returns c = c.get.ensures.value ∙ sym (get_sorted cell_cmp c.self.inside.rows.entries c.args.cell c.self.invariant.ascending) ∙ ap (λ m. row_at m c.args.cell) c.self.view_is
+returns c = c.get.ensures.value ∙ sym (get_sorted cell_cmp c.self.inside.rows.entries c.args.cell c.self.invariant.ascending)
+    ∙ ap (λ m. row_at m c.args.cell) c.self.view_is

@@ -5,4 +5,5 @@ use Rattle.clr_rows.specs.Contents.{Content}
 use Rattle.clr_rows.proofs.sheets.Sheet.into_entries.Goals as goal
 
 pub returns-clause-rest : goal.returns-clause-rest
-returns-clause-rest c = c.into_iter.ensures.into_iter_gives.0 ∙ sym (finite.entries-from_sorted cell_cmp _ c.self.invariant.ascending) ∙ ap (λ (m : Content). finite.entries m) c.self.view_is
+returns-clause-rest c = c.into_iter.ensures.into_iter_gives.0 ∙ sym (finite.entries-from_sorted cell_cmp _ c.self.invariant.ascending)
+    ∙ ap (λ (m : Content). finite.entries m) c.self.view_is

@@ -5,4 +5,5 @@ use Rattle.clr_rows.specs.Contents.{Content}
 use Rattle.clr_rows.proofs.sheets.Sheet.iter.Goals as goal
 
 pub returns-clause-rest : goal.returns-clause-rest
-returns-clause-rest c = c.iter.ensures.rest ∙ sym (finite.entries-from_sorted cell_cmp _ c.self.invariant.ascending) ∙ ap (λ (m : Content). finite.entries m) c.self.view_is
+returns-clause-rest c = c.iter.ensures.rest ∙ sym (finite.entries-from_sorted cell_cmp _ c.self.invariant.ascending)
+    ∙ ap (λ (m : Content). finite.entries m) c.self.view_is

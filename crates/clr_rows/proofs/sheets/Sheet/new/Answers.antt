@@ -7,7 +7,10 @@ use Rattle.clr_rows.proofs.FitLemmas.{none_keeps}
 use Rattle.clr_rows.proofs.sheets.Sheet.new.Goals as goal
 
 none_sound : IsSound []
-none_sound = record { ascending = tt; within = subst AreWithin (sym (from_no_entries cell_cmp_total cell_cmp_exact)) (none_keeps (λ c r. is_within c r ≡ true)) }
+none_sound = record {
+  ascending = tt;
+  within = subst AreWithin (sym (from_no_entries cell_cmp_total cell_cmp_exact)) (none_keeps (λ c r. is_within c r ≡ true));
+}
 
 pub invariant_of-result : goal.invariant_of-result
 invariant_of-result c = subst IsSound (sym c.new.ensures.empty) none_sound

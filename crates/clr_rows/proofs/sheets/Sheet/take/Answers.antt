@@ -17,9 +17,11 @@ invariant_of-self c =
     record { ascending = ascending; within = subst AreWithin (sym taken) (take_keeps (λ c r. is_within c r ≡ true) _ c.args.cell c.self.invariant.within) }
 
 pub returns-clause-before : goal.returns-clause-before
-returns-clause-before c = c.remove.ensures.value ∙ sym (get_sorted cell_cmp c.self.inside.rows.entries c.args.cell c.self.invariant.ascending) ∙ ap (λ m. row_at m c.args.cell) c.self.view_is
+returns-clause-before c = c.remove.ensures.value ∙ sym (get_sorted cell_cmp c.self.inside.rows.entries c.args.cell c.self.invariant.ascending)
+    ∙ ap (λ m. row_at m c.args.cell) c.self.view_is
 
 pub returns-clause-removed : goal.returns-clause-removed
 returns-clause-removed c =
-    one_taken cell_cmp_total cell_cmp_exact c.self.inside.rows.entries c.remove.new.self.entries c.args.cell c.self.invariant.ascending (sorted_from_ordered cell_cmp _ c.remove.ensures.ordered) c.remove.ensures.updates.0
+    one_taken cell_cmp_total cell_cmp_exact c.self.inside.rows.entries c.remove.new.self.entries c.args.cell c.self.invariant.ascending
+    (sorted_from_ordered cell_cmp _ c.remove.ensures.ordered) c.remove.ensures.updates.0
     ∙ ap (λ (m : Content). finite.remove m c.args.cell) c.self.view_is

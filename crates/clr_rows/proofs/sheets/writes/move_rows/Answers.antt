@@ -14,14 +14,16 @@ loop-cell-init c =
     let all = c.into_iter-cell-iterator.ensures.into_iter_gives ∙ c.into_entries-cell-items.ensures.rest in
     record {
       so_far = ap (λ (es : List (CellId × Row)). over c.args.sheet.now (with_rows es)) all;
-      present = λ cell there. c.requires cell (ap is_some (finite.get-entries c.args.rows cell) ∙ sym (ap (λ (es : List (CellId × Row)). is_some (finite.find cell_cmp cell es)) all) ∙ there);
+      present = λ cell there. c.requires cell (ap is_some (finite.get-entries c.args.rows cell)
+          ∙ sym (ap (λ (es : List (CellId × Row)). is_some (finite.find cell_cmp cell es)) all) ∙ there);
     }
 
 pub replace-requires : goal.replace-requires
 replace-requires c =
     let e : CellId × Row = (c.in-Some.cell, c.in-Some.row) in
     let rest = rest_more (λ (p : CellId × Row). p) c.loop-cell.cell-iterator c.next.new.self c.next.result e c.in-Some.is c.next.ensures.steps in
-    c.loop-cell.invariant.present c.in-Some.cell (ap (λ (es : List (CellId × Row)). is_some (finite.find cell_cmp c.in-Some.cell es)) rest ∙ first_found e c.next.new.self)
+    c.loop-cell.invariant.present c.in-Some.cell (ap (λ (es : List (CellId × Row)). is_some (finite.find cell_cmp c.in-Some.cell es)) rest
+    ∙ first_found e c.next.new.self)
 
 pub loop-cell-preserved : goal.loop-cell-preserved
 loop-cell-preserved c =
@@ -34,7 +36,8 @@ loop-cell-preserved c =
           ∙ ap (λ (es : List (CellId × Row)). over c.loop-cell.sheet (with_rows es)) (sym rest) ∙ c.loop-cell.invariant.so_far;
       present = λ cell there.
           ap (λ (m : Content). is_some (row_at m cell)) c.replace.ensures
-          ∙ put_leaves c.loop-cell.sheet e.0 cell e.1 (c.loop-cell.invariant.present cell (ap (λ (es : List (CellId × Row)). is_some (finite.find cell_cmp cell es)) rest ∙ later_found cell e left there));
+          ∙ put_leaves c.loop-cell.sheet e.0 cell e.1
+          (c.loop-cell.invariant.present cell (ap (λ (es : List (CellId × Row)). is_some (finite.find cell_cmp cell es)) rest ∙ later_found cell e left there));
     }
 
 pub returns : goal.returns

@@ -21,10 +21,12 @@ returns-in_err-make_room-clause-err c =
 
 pub returns-clause-cleared : goal.returns-clause-cleared
 returns-clause-cleared c =
-    c.in_ok-cleared.ensures ∙ ap (missing c.in_ok-last.last) (c.as_slice-2.ensures.value ∙ c.in_ok-named.ensures ∙ ap (λ (cells : List (CellId × Option Row)). named_cells cells) c.as_slice.ensures.value)
+    c.in_ok-cleared.ensures ∙ ap (missing c.in_ok-last.last) (c.as_slice-2.ensures.value ∙ c.in_ok-named.ensures
+    ∙ ap (λ (cells : List (CellId × Option Row)). named_cells cells) c.as_slice.ensures.value)
 
 pub returns-clause-room : goal.returns-clause-room
 returns-clause-room c =
     c.in_ok-make_room.ensures.ok
     ∙ ap (λ (cells : List CellId). over c.args.sheet.now (with_placeholders cells)) (c.as_slice-4.ensures.value ∙ c.in_ok-fresh.ensures)
-    ∙ ap (λ (cells : List CellId). over c.args.sheet.now (with_placeholders (missing c.args.sheet.now cells))) (c.as_slice-3.ensures.value ∙ c.in_ok-named.ensures ∙ ap (λ (cells : List (CellId × Option Row)). named_cells cells) c.as_slice.ensures.value)
+    ∙ ap (λ (cells : List CellId). over c.args.sheet.now (with_placeholders (missing c.args.sheet.now cells))) (c.as_slice-3.ensures.value
+    ∙ c.in_ok-named.ensures ∙ ap (λ (cells : List (CellId × Option Row)). named_cells cells) c.as_slice.ensures.value)

@@ -7,7 +7,8 @@ use Rattle.clr_rules.specs.declared.rules.Rule.{Rule}
 use Rattle.clr_rules.proofs.books.rule_checks.check_rules.Goals as goal
 
 -- the fault of the rule of a number, or the first later one
-fault_from : (tables : List TableDef) (rules : List Rule) (number : ℕ) (rule : Rule) → number < length rules → rule ≡ get_or rules number rule → first_fault tables number (drop number rules) ≡ fault_or_later number (rule_fault tables rule) (first_fault tables (number + 1) (drop (number + 1) rules))
+fault_from : (tables : List TableDef) (rules : List Rule) (number : ℕ) (rule : Rule) → number < length rules → rule ≡ get_or rules number rule
+    → first_fault tables number (drop number rules) ≡ fault_or_later number (rule_fault tables rule) (first_fault tables (number + 1) (drop (number + 1) rules))
 unfolding first_fault
 fault_from tables rules number rule h is = rw (drop-cons rules number rule h, ← is, add-one) refl
 

@@ -19,7 +19,8 @@ loop-spot-preserved c =
       by_spot = search rules;
       wide = search rules;
       all = search rules;
-      so_far = subst (λ (m : Filed). IsFiledTo old xs e m.by_spot left) (sym c.in_ok-file_at.ensures.ok) (filed_next old xs e c.loop-spot.self.by_spot c.in-Some.spot left before);
+      so_far = subst (λ (m : Filed). IsFiledTo old xs e m.by_spot left) (sym c.in_ok-file_at.ensures.ok)
+          (filed_next old xs e c.loop-spot.self.by_spot c.in-Some.spot left before);
     }
 
 pub returns-in_err-file_at-clause-err : goal.returns-in_err-file_at-clause-err

@@ -41,4 +41,5 @@ returns-clause-ok c =
 pub returns-in_err-push_at-clause-err : goal.returns-in_err-push_at-clause-err
 returns-in_err-push_at-clause-err c =
     on_err _ (with_spots c.args.self.now _ c.args.self.now.by_spot _ c.self.view_is
-    (same_entries spot_cmp_total spot_cmp_exact c.self.inside.by_spot.entries c.push_at.new.by_spot.entries c.in_err-push_at.ensures.err ∙ ap (λ (m : Filed). m.by_spot) c.self.view_is))
+    (same_entries spot_cmp_total spot_cmp_exact c.self.inside.by_spot.entries c.push_at.new.by_spot.entries c.in_err-push_at.ensures.err
+    ∙ ap (λ (m : Filed). m.by_spot) c.self.view_is))

@@ -3,7 +3,7 @@ use Rattle.clr_layers.specs.Layers.{wholes}
 use Rattle.clr_workspaces.specs.Workspaces.{workspace_at, children_of}
 use Rattle.clr_layers.proofs.Meaning.{name-wholes}
 use Rattle.clr_tree.specs.Trees.{Tree}
-use Rattle.clr_tree.proofs.LeafLemmas.{children-wholes}
+use Rattle.clr_operations.proofs.LeafLemmas.{children-wholes}
 use Rattle.clr_tree.proofs.ModelLemmas.{within_tree}
 use Rattle.clr_tree.proofs.tree.Tree.children.Goals as goal
 

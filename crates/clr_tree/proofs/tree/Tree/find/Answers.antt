@@ -6,7 +6,8 @@ use Rattle.clr_tree.specs.Trees.{Tree}
 use Rattle.clr_tree.proofs.tree.Tree.find.Goals as goal
 
 pub returns-clause-found : goal.returns-clause-found
-returns-clause-found c = c.find.ensures.found ∙ sym (find-wholes c.self.inside.live c.self.inside.map c.args.name.now) ∙ ap (λ (t : Tree). find t.list c.args.name.now) c.self.view_is
+returns-clause-found c = c.find.ensures.found ∙ sym (find-wholes c.self.inside.live c.self.inside.map c.args.name.now)
+    ∙ ap (λ (t : Tree). find t.list c.args.name.now) c.self.view_is
 
 pub returns-clause-within : goal.returns-clause-within
 returns-clause-within c =

@@ -10,4 +10,6 @@ is_kept-requires c = within_tree c.self.inside.live c.self.inside.map c.args.sel
 
 pub returns-else-at-eq0 : goal.returns-else-at-eq0
 returns-else-at-eq0 c =
-    c.is_kept.ensures ∙ sym (kept-wholes c.self.inside.live c.self.inside.map c.args.at (omega arith) (within_tree c.self.inside.live c.self.inside.map c.args.self.now c.args.at c.self.view_is c.requires)) ∙ ap (λ (t : Tree). (workspace_at t.list c.args.at).kept) c.self.view_is
+    c.is_kept.ensures ∙ sym (kept-wholes c.self.inside.live c.self.inside.map c.args.at (omega arith)
+    (within_tree c.self.inside.live c.self.inside.map c.args.self.now c.args.at c.self.view_is c.requires))
+    ∙ ap (λ (t : Tree). (workspace_at t.list c.args.at).kept) c.self.view_is

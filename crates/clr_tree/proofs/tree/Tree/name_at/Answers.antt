@@ -9,4 +9,5 @@ pub name_at-requires : goal.name_at-requires
 name_at-requires c = within_tree c.self.inside.live c.self.inside.map c.args.self.now c.args.at c.self.view_is c.requires
 
 pub returns : goal.returns
-returns c = c.name_at.ensures ∙ sym (name-wholes c.self.inside.live c.self.inside.map c.args.at) ∙ ap (λ (t : Tree). (workspace_at t.list c.args.at).name) c.self.view_is
+returns c = c.name_at.ensures ∙ sym (name-wholes c.self.inside.live c.self.inside.map c.args.at)
+    ∙ ap (λ (t : Tree). (workspace_at t.list c.args.at).name) c.self.view_is

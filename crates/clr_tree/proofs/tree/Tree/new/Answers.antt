@@ -2,7 +2,8 @@ use Rattle.std.proofs.Common.{ap, sym, subst, ◌∙◌}
 use Rattle.clr_layers.specs.Layers.{wholes}
 use Rattle.clr_workspaces.specs.Soundness.{IsSound}
 use Rattle.clr_tree.specs.Trees.{Tree}
-use Rattle.clr_tree.proofs.TreeLemmas.{root_made, root_sound}
+use Rattle.clr_layers.proofs.Meaning.{root_made}
+use Rattle.clr_workspaces.proofs.TreeLemmas.{root_sound}
 use Rattle.clr_tree.proofs.tree.Tree.new.Goals as goal
 
 pub of_map-requires : goal.of_map-requires

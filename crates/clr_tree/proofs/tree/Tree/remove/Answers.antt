@@ -2,8 +2,8 @@ use Rattle.std.proofs.Common.{◌≡◌, ap, sym, subst}
 use Rattle.clr_tree.specs.Trees.{Tree}
 use Rattle.clr_workspaces.specs.Workspaces.{workspace_at, children_of}
 use Rattle.clr_workspaces.specs.Operations.{after_remove, after_remove_under, at_position}
-use Rattle.clr_tree.proofs.LeafLemmas.{no_child_whole}
-use Rattle.clr_tree.proofs.TreeLemmas.{sound_removed}
+use Rattle.clr_operations.proofs.LeafLemmas.{no_child_whole}
+use Rattle.clr_workspaces.proofs.TreeLemmas.{sound_removed}
 use Rattle.clr_layers.specs.Layers.{wholes}
 use Rattle.clr_workspaces.specs.Soundness.{IsSound}
 use Rattle.clr_contents.proofs.ReadLemmas.{within_wholes}
@@ -27,7 +27,8 @@ invariant_of-self c =
     let s = c.self.invariant.0 in
     let q = s.rooted.under at c.requires.child lt in
     let leaf = subst (λ (t : Tree). children_of t.list (workspace_at t.list at).name ≡ 0) (sym c.self.view_is) c.requires.leaf in (
-      subst IsSound (sym (c.remove.ensures.removed)) (subst IsSound (ap (λ o. at_position ws o (after_remove_under ws at)) (sym q.1)) (sound_removed ws at q.0 s c.requires.child lt (no_child_whole live ls at leaf) q.1 q.2)),
+      subst IsSound (sym (c.remove.ensures.removed)) (subst IsSound (ap (λ o. at_position ws o (after_remove_under ws at)) (sym q.1))
+          (sound_removed ws at q.0 s c.requires.child lt (no_child_whole live ls at leaf) q.1 q.2)),
       λ flag. c.remove.ensures.lean (c.self.invariant.1 flag),
     )
 

@@ -14,4 +14,5 @@ pub saved_rows-requires-clause-within : goal.saved_rows-requires-clause-within
 saved_rows-requires-clause-within c = within_tree c.self.inside.live c.self.inside.map c.args.self.now c.args.at c.self.view_is c.requires.within
 
 pub saved_rows-requires-clause-saved : goal.saved_rows-requires-clause-saved
-saved_rows-requires-clause-saved c = subst (λ (t : Tree). is_saved (mark_at (workspace_at t.list c.args.at).marks c.args.mark) ≡ true) (sym c.self.view_is) c.requires.saved
+saved_rows-requires-clause-saved c = subst (λ (t : Tree). is_saved (mark_at (workspace_at t.list c.args.at).marks c.args.mark)
+    ≡ true) (sym c.self.view_is) c.requires.saved

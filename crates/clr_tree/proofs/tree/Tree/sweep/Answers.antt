@@ -12,21 +12,24 @@ returns-then-self-clause-layers c =
     let live = c.self.inside.live in
     let ls = c.self.inside.map in
     subst (λ (t : Tree). (at : ℕ) → 0 < at → at < length t.list → layer_at t.layers at ≡ needed_layer t.list at) c.self.view_is
-    (λ at some lt. let in_ls = within_layers live ls at lt in lean_layer live ls at c.self.invariant.0.rooted some in_ls (c.self.invariant.1 c.if-self.true at some in_ls))
+    (λ at some lt. let in_ls = within_layers live ls at lt in lean_layer live ls at c.self.invariant.0.rooted some in_ls
+    (c.self.invariant.1 c.if-self.true at some in_ls))
 
 pub returns-then-self-clause-counts : goal.returns-then-self-clause-counts
 returns-then-self-clause-counts c =
     let live = c.self.inside.live in
     let ls = c.self.inside.map in
     subst (λ (t : Tree). (at : ℕ) → 0 < at → at < length t.list → stored_at t.stored at ≡ needed t.list at) c.self.view_is
-    (λ at some lt. let in_ls = within_layers live ls at lt in told_at stored_in 0 ls at in_ls ∙ lean_count live ls at c.self.invariant.0.rooted some in_ls (c.self.invariant.1 c.if-self.true at some in_ls))
+    (λ at some lt. let in_ls = within_layers live ls at lt in told_at stored_in 0 ls at in_ls
+    ∙ lean_count live ls at c.self.invariant.0.rooted some in_ls (c.self.invariant.1 c.if-self.true at some in_ls))
 
 pub returns-then-self-clause-saved : goal.returns-then-self-clause-saved
 returns-then-self-clause-saved c =
     let live = c.self.inside.live in
     let ls = c.self.inside.map in
     subst (λ (t : Tree). (at : ℕ) → 0 < at → at < length t.list → saved_at t.saved at ≡ needed_of_marks t.list at) c.self.view_is
-    (λ at some lt. let in_ls = within_layers live ls at lt in told_at stored_of_marks [] ls at in_ls ∙ lean_saved live ls at c.self.invariant.0.rooted some in_ls (c.self.invariant.1 c.if-self.true at some in_ls))
+    (λ at some lt. let in_ls = within_layers live ls at lt in told_at stored_of_marks [] ls at in_ls
+    ∙ lean_saved live ls at c.self.invariant.0.rooted some in_ls (c.self.invariant.1 c.if-self.true at some in_ls))
 
 pub returns-clause-layers : goal.returns-clause-layers
 returns-clause-layers c = λ at some lt.

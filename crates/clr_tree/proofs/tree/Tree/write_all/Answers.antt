@@ -1,12 +1,13 @@
 use Rattle.std.proofs.Common.{ap, sym, subst, ◌∙◌}
 use Rattle.clr_differences.specs.Differences.{Rows}
-use Rattle.clr_tree.specs.Moves.{put_into}
+use Rattle.clr_operations.specs.Moves.{put_into}
 use Rattle.clr_workspaces.specs.Operations.{after_write}
-use Rattle.clr_tree.proofs.TreeLemmas.{sound_current}
+use Rattle.clr_workspaces.proofs.TreeLemmas.{sound_current}
 use Rattle.clr_layers.specs.Layers.{wholes}
 use Rattle.clr_workspaces.specs.Soundness.{IsSound}
 use Rattle.clr_contents.proofs.ReadLemmas.{within_wholes}
-use Rattle.clr_tree.proofs.ModelLemmas.{within_tree, became, either}
+use Rattle.clr_tree.proofs.ModelLemmas.{within_tree, became}
+use Rattle.clr_layers.proofs.Answered.{either}
 use Rattle.clr_layers.proofs.Answered.{on_ok, on_err}
 use Rattle.clr_tree.proofs.tree.Tree.write_all.Goals as goal
 
@@ -22,7 +23,8 @@ invariant_of-self c =
     let in_ls = within_tree c.self.inside.live c.self.inside.map c.args.self.now c.args.at c.self.view_is c.requires in
     let lt = within_wholes live ls at in_ls in
     let s = c.self.invariant.0 in (
-      either c.write_rows.result _ _ _ (λ is. subst IsSound (sym (is ∙ ap (λ (rs : Rows). put_into ws at rs) c.in_ok-rows.ensures)) (sound_current ws at s lt _)) (λ is. subst IsSound (sym is) s) c.write_rows.ensures.ok c.write_rows.ensures.err,
+      either c.write_rows.result _ _ _ (λ is. subst IsSound (sym (is ∙ ap (λ (rs : Rows). put_into ws at rs) c.in_ok-rows.ensures))
+          (sound_current ws at s lt _)) (λ is. subst IsSound (sym is) s) c.write_rows.ensures.ok c.write_rows.ensures.err,
       λ flag. c.write_rows.ensures.lean (c.self.invariant.1 flag),
     )
 
@@ -35,7 +37,10 @@ returns-clause-ok c =
     let in_ls = within_tree c.self.inside.live c.self.inside.map c.args.self.now c.args.at c.self.view_is c.requires in
     let lt = within_wholes live ls at in_ls in
     let s = c.self.invariant.0 in
-    on_ok c.write_rows.result _ _ (λ is. became live c.write_rows.new.live ls c.write_rows.new.map c.args.self.now (λ ws. after_write ws c.args.at c.args.changed.now) c.self.view_is (is ∙ ap (λ (rs : Rows). put_into ws at rs) c.in_ok-rows.ensures)) c.write_rows.ensures.ok
+    on_ok c.write_rows.result _ _ (λ is. became live c.write_rows.new.live ls c.write_rows.new.map c.args.self.now
+    (λ ws. after_write ws c.args.at c.args.changed.now) c.self.view_is (is ∙ ap (λ (rs : Rows). put_into ws at rs) c.in_ok-rows.ensures))
+    c.write_rows.ensures.ok
 
 pub returns-clause-err : goal.returns-clause-err
-returns-clause-err c = on_err c.write_rows.result _ _ (λ is. became c.self.inside.live c.write_rows.new.live c.self.inside.map c.write_rows.new.map c.args.self.now (λ ws. ws) c.self.view_is is) c.write_rows.ensures.err
+returns-clause-err c = on_err c.write_rows.result _ _ (λ is. became c.self.inside.live c.write_rows.new.live c.self.inside.map c.write_rows.new.map
+    c.args.self.now (λ ws. ws) c.self.view_is is) c.write_rows.ensures.err

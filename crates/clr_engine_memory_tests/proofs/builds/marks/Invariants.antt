@@ -1,6 +1,0 @@
-use Rattle.std.specs.List.{AllByRecursion}
-use Rattle.clr_engine_memory_tests.specs.Parts.{SavesNoRows}
-use Rattle.clr_engine_memory_tests.proofs.builds.marks.Given as goal
-
-abbrev pub invariant-loop-name : goal.invariant-loop-name
-invariant-loop-name l = AllByRecursion SavesNoRows l.marks.items

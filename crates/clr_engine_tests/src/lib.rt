@@ -1,0 +1,13 @@
+//! Tests of drafts, and of an office's commands while memory is wanting, by their public calls.
+#![tactic(auto)]
+
+#[cfg(test)]
+mod admissions;
+#[cfg(test)]
+mod builds;
+#[cfg(test)]
+mod scarce_admissions;
+#[cfg(test)]
+mod scarce_commands;
+#[cfg(test)]
+mod scarce_runs;

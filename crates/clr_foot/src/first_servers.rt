@@ -1,0 +1,168 @@
+//! The first of the versions that serve a need and are looked for, found cell by cell.
+
+ghost use Rattle.std.specs.Prelude.{◌≡◌, ◌<◌, true, length, option_map, IfOk, IfSome};
+ghost use Rattle.clr_rules.specs.Calls.{calls};
+ghost use Rattle.clr_finders.specs.NextCells.{IsNextOf};
+ghost use Rattle.clr_finders.specs.Sharing.{rule_spots};
+ghost use Rattle.clr_needs.specs.Needs.{IsPossibleNeed, ask_of};
+ghost use Rattle.clr_needs.specs.Picks.{IsLeastVersion};
+ghost use Rattle.clr_needs.specs.Witnesses.{lasts_at};
+ghost use Rattle.clr_foot.specs.FirstServers.{IsFirstAt, IsFoundCell, IsServerSought, IsServingSought, IsToldServer, is_sought};
+ghost use Rattle.clr_foot.specs.Scenes.{IsReady, model_of, setting_in, setting_of};
+ghost use Rattle.clr_foot.specs.Versions.{FitsSetting, IsAt, IsAtToo, row_of};
+
+use crate::blockers::are_same;
+use crate::scenes::Scene;
+use crate::versions::Version;
+use clr_finders::{RowFinder, RuleSpots, lesser_cell};
+use clr_needs::{Life, Need, VersionId};
+use clr_rows::{CellId, RowView};
+use std::alloc::AllocError;
+
+/// How many cells are looked at one by one before a search ends. Where so many have no version that
+/// is looked for, listing all that serve takes no longer than to go on.
+const MOST_TRIED: usize = 256;
+
+/// Which of the versions that serve a need are looked for: those that stand after the merge of the
+/// one member, or those that live always or as long as a subject.
+#[derive(Clone, Copy, Debug)]
+pub enum Sought {
+    Living,
+    Lasting,
+}
+
+impl<V: RowView, F: RowFinder> Scene<'_, V, F> {
+    /// Whether the version of a name lives always, or as long as a subject of a possible need.
+    pub(crate) fn is_lasting(&self, need: &Need, id: VersionId) -> bool
+        ensures { result ≡ lasts_at (setting_in V.content self.now) need.now id }
+    {
+        match self.version(id) {
+            None => false,
+            Some(version) => {
+                are_same(version.life, Life::Always) || self.has_subject_with(need, version.life)
+            }
+        }
+    }
+
+    /// Whether the version of a name is looked for.
+    fn is_sought(&self, sought: Sought, need: &Need, id: VersionId) -> bool
+        ensures { result ≡ is_sought sought (setting_in V.content self.now) need.now id }
+    {
+        match sought {
+            Sought::Living => self.is_living_at(id),
+            Sought::Lasting => self.is_lasting(need, id),
+        }
+    }
+
+    /// Whether there is a version of a name that serves and is looked for.
+    fn is_server_sought(
+        &self,
+        sought: Sought,
+        need: &Need,
+        first: Version,
+        second: Option<Version>,
+        id: VersionId,
+    ) -> bool
+        requires number { need.now.rule < length self.now.book.now }
+        requires fit { FitsSetting (setting_in V.content self.now) }
+        requires first { IsAt (setting_in V.content self.now) first }
+        requires second { IsAtToo (setting_in V.content self.now) second }
+        ensures { IsToldServer sought (setting_in V.content self.now) need.now first.entry second.entry id result }
+    {
+        match self.version(id) {
+            None => false,
+            Some(version) => {
+                if !self.serves_if_any(need.ask(), first, second, Some(version)) {
+                    return false;
+                }
+                self.is_sought(sought, need, id)
+            }
+        }
+    }
+
+    /// The old version of a cell or else its new one, as far as it serves and is looked for.
+    fn sought_at(
+        &self,
+        sought: Sought,
+        need: &Need,
+        first: Version,
+        second: Option<Version>,
+        cell: CellId,
+    ) -> Option<VersionId>
+        requires number { need.now.rule < length self.now.book.now }
+        requires fit { FitsSetting (setting_in V.content self.now) }
+        requires first { IsAt (setting_in V.content self.now) first }
+        requires second { IsAtToo (setting_in V.content self.now) second }
+        ensures { IsFirstAt sought (setting_in V.content self.now) need.now first.entry second.entry cell result }
+    {
+        let old = VersionId { cell, fresh: false };
+        if self.is_server_sought(sought, need, first, second, old) {
+            return Some(old);
+        }
+        let new = VersionId { cell, fresh: true };
+        if self.is_server_sought(sought, need, first, second, new) {
+            return Some(new);
+        }
+        None
+    }
+
+    /// A cell behind a given one, or any where none is given, which is past no cell there of an old or
+    /// new row that is found and may serve.
+    fn next_cell(&self, rule: u16, spots: &RuleSpots, after: Option<CellId>) -> Option<CellId>
+        ensures { IsNextOf (IsFoundCell (F.settled self.now.finder.now) (F.settled self.now.new_rows) rule spots.now) after result }
+    {
+        let old = self.finder.next_server(rule, spots, after);
+        let new = self.new_rows.next_server(rule, spots, after);
+        lesser_cell(old, new)
+    }
+
+    /// The least version that serves and is looked for, where it stands at one of the first cells.
+    fn first_sought(
+        &self,
+        sought: Sought,
+        need: &Need,
+        first: Version,
+        second: Option<Version>,
+        spots: &RuleSpots,
+    ) -> Option<VersionId>
+        requires number { need.now.rule < length self.now.book.now }
+        requires ready { IsReady F.settled (model_of V.content self.now) }
+        requires first { IsAt (setting_in V.content self.now) first }
+        requires second { IsAtToo (setting_in V.content self.now) second }
+        requires called { calls self.now.book.now (ask_of need.now) (row_of first) (option_map row_of second) ≡ true }
+        requires spots { spots.now ≡ rule_spots self.now.book.now need.now.rule (row_of first) }
+        ensures { IfSome result (IsLeastVersion (IsServerSought sought (setting_in V.content self.now) need.now first.entry second.entry)) }
+    {
+        let mut after = None;
+        for _tried in 0..MOST_TRIED {
+            let cell = self.next_cell(need.rule, spots, after)?;
+            if let Some(id) = self.sought_at(sought, need, first, second, cell) {
+                return Some(id);
+            }
+            after = Some(cell);
+        }
+        None
+    }
+
+    /// Returns the least version that serves a possible need and is looked for, where it stands at one
+    /// of the first cells that are looked at one by one. None says nothing.
+    pub(crate) fn early_server(
+        &self,
+        need: &Need,
+        sought: Sought,
+    ) -> Result<Option<VersionId>, AllocError>
+        requires ready { IsReady F.settled (model_of V.content self.now) }
+        requires possible { IsPossibleNeed (setting_of (model_of V.content self.now)) need.now }
+        ensures { IfOk result (λ found. IfSome found (IsLeastVersion (IsServingSought sought (setting_of (model_of V.content self.now)) need.now))) }
+    {
+        match self.version(need.first) {
+            None => Ok(None),
+            Some(first) => {
+                let second = self.version_if_any(need.second);
+                let spots = RuleSpots::new(self.alloc, self.book, need.rule, first.as_held())?;
+                let found = self.first_sought(sought, need, first, second, &spots);
+                Ok(found)
+            }
+        }
+    }
+}

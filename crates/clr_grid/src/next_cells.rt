@@ -1,0 +1,47 @@
+//! The next cell behind a given one.
+
+ghost use Rattle.std.specs.Prelude.{◌≡◌, true, option_to_list};
+ghost use Rattle.clr_finders.specs.NextCells.{IsNextOf};
+ghost use Rattle.clr_grid.specs.CellSets.{is_one_of};
+ghost use Rattle.clr_grid.specs.NextCells.{bound_behind};
+
+use clr_rows::CellId;
+use std::collections::BTreeSet;
+use std::ops::Bound;
+
+/// Where the cells behind a given one begin.
+pub(crate) fn bound_behind(after: Option<CellId>) -> Bound<CellId>
+    ensures { result ≡ bound_behind after }
+{
+    match after {
+        Some(cell) => Bound::Excluded(cell),
+        None => Bound::Unbounded,
+    }
+}
+
+/// The first key of a tree behind a given cell, if there is one.
+pub(crate) fn next_key(cells: &BTreeSet<CellId>, after: Option<CellId>) -> Option<CellId>
+    ensures { IsNextOf (λ q. is_one_of cells.now.keys q ≡ true) after result }
+{
+    match cells.range((bound_behind(after), Bound::Unbounded)).next() {
+        Some(cell) => Some(*cell),
+        None => None,
+    }
+}
+
+/// A cell, if there is one, and it stands behind the given one.
+pub(crate) fn next_one(cell: Option<CellId>, after: Option<CellId>) -> Option<CellId>
+    ensures { IsNextOf (λ q. is_one_of (option_to_list cell) q ≡ true) after result }
+{
+    let cell = cell?;
+    match after {
+        None => Some(cell),
+        Some(before) => {
+            if before.cmp(&cell).is_lt() {
+                Some(cell)
+            } else {
+                None
+            }
+        }
+    }
+}

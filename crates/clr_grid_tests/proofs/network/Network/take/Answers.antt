@@ -1,7 +1,0 @@
-use Rattle.std.proofs.Common.{◌∙◌, ap}
-use Rattle.std.specs.FinMap as finite
-use Rattle.clr_rows.specs.Cells.{cell_cmp}
-use Rattle.clr_grid_tests.proofs.network.Network.take.Goals as goal
-
-pub note-requires-clause-free : goal.note-requires-clause-free
-note-requires-clause-free g c = ap (λ pending. finite.get pending c.args.cell) c.requires ∙ finite.get-empty cell_cmp c.args.cell

@@ -1,0 +1,33 @@
+//! Certificates of texts, and lines of verdicts on them.
+
+use clr_cert::{Certificate, read_certificate};
+use clr_check::Verdict;
+use clr_rows::Schema;
+use clr_verdict_lines::verdict_line;
+use std::alloc::Global;
+
+/// The certificate of a text.
+pub fn certificate_of(alloc: Global, schema: &Schema, text: &str) -> Option<Certificate> {
+    read_certificate(alloc, schema, text.as_bytes()).ok()
+}
+
+/// The names of the members of a certificate.
+fn names_of(alloc: Global, certificate: &Certificate) -> Option<Vec<&str>> {
+    let mut names = Vec::new(alloc);
+    for name in certificate.members.as_slice() {
+        names.push(name.as_str()).ok()?;
+    }
+    Some(names)
+}
+
+/// The line of a verdict on the root and members of a certificate.
+pub fn line_of(
+    alloc: Global,
+    schema: &Schema,
+    certificate: &Certificate,
+    verdict: &Verdict,
+) -> Option<Vec<u8>> {
+    let names = names_of(alloc, certificate)?;
+    let root = certificate.root.as_str();
+    verdict_line(alloc, schema, names.as_slice(), root, verdict).ok()
+}

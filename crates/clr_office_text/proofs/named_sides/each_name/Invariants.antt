@@ -1,9 +1,0 @@
-use Rattle.std.proofs.Common.{◌≡◌, drop}
-use Rattle.serde_json.specs.View.{items_view}
-use Rattle.clr_office_text.specs.Fields.{each, words_of}
-use Rattle.clr_office_text.proofs.EachItem.{with_front}
-use Rattle.clr_office_text.proofs.named_sides.each_name.Given as goal
-
--- those read so far, and then the others, are what is meant
-abbrev pub invariant-loop-item : goal.invariant-loop-item
-invariant-loop-item l = with_front l.names.items (each words_of (items_view (drop l.item-index l.items))) ≡ each words_of (items_view l.items)

@@ -1,0 +1,4 @@
+pub mod CreateLemmas
+pub mod LeafLemmas
+pub mod LeanLemmas
+pub mod OperationLemmas

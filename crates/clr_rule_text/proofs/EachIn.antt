@@ -1,0 +1,45 @@
+-- Reading a list element by element: those read before, and then the others.
+use Rattle.std.proofs.Common.{◌≡◌, ℕ, ◌+◌, ◌≤◌, ◌<◌, List, [], ◌∷◌, ◌++◌, length, get_or, drop, Result, Ok, refl, sym, ap, ◌∙◌, add-one}
+use Rattle.std.proofs.Math.Seq.{drop-cons}
+use Rattle.std.proofs.lemmas.List.{append-nil, drop_all}
+use Rattle.clr_rule_text.specs.declared.faults.TextFault.{TextFault}
+use Rattle.clr_rule_text.specs.Fields.{◌>>=◌, Fails, each_in}
+use Rattle.clr_rule_text.proofs.EachItem.{fails_with, one_more, with_front}
+
+-- the first of what is left is read
+pub begins : {X A : Type 0} (f : X → Result A TextFault) (front : List A) (x : X) (xs : List X)
+    → with_front front (each_in f (x ∷ xs)) ≡ f x >>= λ y. with_front (front ++ y ∷ []) (each_in f xs)
+unfolding each_in
+begins f front x xs = one_more front (f x) (each_in f xs)
+
+pub goes_on : {X A : Type 0} (f : X → Result A TextFault) (front : List A) (x : X) (xs : List X) (y : A) (whole : Result (List A) TextFault) → f x ≡ Ok y
+    → with_front front (each_in f (x ∷ xs)) ≡ whole → with_front (front ++ y ∷ []) (each_in f xs) ≡ whole
+goes_on f front x xs y whole was so_far = sym (begins f front x xs ∙ rw was refl) ∙ so_far
+
+pub ends : {X A : Type 0} (f : X → Result A TextFault) (e : TextFault) (front : List A) (x : X) (xs : List X) (whole : Result (List A) TextFault)
+    → Fails e (f x)
+    → with_front front (each_in f (x ∷ xs)) ≡ whole → Fails e whole
+ends f e front x xs whole failed so_far = fails_with e (f x) _ whole failed (sym (begins f front x xs) ∙ so_far)
+
+pub is_done : {X A : Type 0} (f : X → Result A TextFault) (front : List A) (whole : Result (List A) TextFault) → with_front front (each_in f []) ≡ whole → whole
+    ≡ Ok front
+unfolding each_in
+is_done f front whole so_far = sym so_far ∙ ap (λ ys. Ok ys) (append-nil front)
+
+-- the same, of what is left from a position on
+from_position : {X : Type 0} (xs : List X) (i : ℕ) (x : X) → i < length xs → x ≡ get_or xs i x → drop i xs ≡ x ∷ drop (i + 1) xs
+from_position xs i x lt is = rw (add-one i, drop-cons xs i x) (rw (← is) refl)
+
+pub goes_on_at : {X A : Type 0} (f : X → Result A TextFault) (front : List A) (xs : List X) (i : ℕ) (x : X) (y : A) (whole : Result (List A) TextFault)
+    → i < length xs → x ≡ get_or xs i x → f x ≡ Ok y
+    → with_front front (each_in f (drop i xs)) ≡ whole → with_front (front ++ y ∷ []) (each_in f (drop (i + 1) xs)) ≡ whole
+goes_on_at f front xs i x y whole lt is was so_far = goes_on f front x (drop (i + 1) xs) y whole was (rw (from_position xs i x lt is) at so_far)
+
+pub ends_at : {X A : Type 0} (f : X → Result A TextFault) (e : TextFault) (front : List A) (xs : List X) (i : ℕ) (x : X) (whole : Result (List A) TextFault)
+    → i < length xs → x ≡ get_or xs i x → Fails e (f x)
+    → with_front front (each_in f (drop i xs)) ≡ whole → Fails e whole
+ends_at f e front xs i x whole lt is failed so_far = ends f e front x (drop (i + 1) xs) whole failed (rw (from_position xs i x lt is) at so_far)
+
+pub is_done_at : {X A : Type 0} (f : X → Result A TextFault) (front : List A) (xs : List X) (i : ℕ) (whole : Result (List A) TextFault) → length xs ≤ i
+    → with_front front (each_in f (drop i xs)) ≡ whole → whole ≡ Ok front
+is_done_at f front xs i whole le so_far = is_done f front whole (rw (drop_all i xs le) at so_far)

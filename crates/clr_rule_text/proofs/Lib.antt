@@ -1,0 +1,3 @@
+pub mod EachIn
+pub mod EachItem
+pub mod JsonSeen

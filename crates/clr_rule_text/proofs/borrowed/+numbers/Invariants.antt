@@ -1,0 +1,12 @@
+use Rattle.std.proofs.Common.{◌≡◌, drop}
+use Rattle.json.specs.Value.{items_view, members_view}
+use Rattle.clr_rule_text.specs.Seen.{items_have_numbers, members_have_numbers}
+use Rattle.clr_rule_text.proofs.borrowed.+numbers.Given as goal
+
+-- the others decide
+abbrev pub invariant-items_have_numbers-loop-item : goal.invariant-items_have_numbers-loop-item
+invariant-items_have_numbers-loop-item l = items_have_numbers (items_view (drop l.item-index l.item-items)) ≡ items_have_numbers (items_view l.item-items)
+
+abbrev pub invariant-members_have_numbers-loop-member : goal.invariant-members_have_numbers-loop-member
+invariant-members_have_numbers-loop-member l = members_have_numbers (members_view (drop l.member-index l.member-items))
+    ≡ members_have_numbers (members_view l.member-items)

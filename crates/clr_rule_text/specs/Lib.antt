@@ -1,0 +1,4 @@
+pub mod Fields
+pub mod Rules
+pub mod Seen
+pub mod Values

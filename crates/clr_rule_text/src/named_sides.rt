@@ -1,0 +1,150 @@
+//! Sides of rules with names of tables and columns, as they are written.
+
+ghost use Rattle.std.specs.Prelude.{◌≡◌};
+ghost use Rattle.clr_rule_text.specs.Fields.{Gives, each, words_of};
+ghost use Rattle.clr_rule_text.specs.Seen.{items_seen};
+ghost use Rattle.clr_rule_text.specs.Rules.{filter_of, literal_of, literal_pair, names_at, side_at, side_of};
+
+use crate::faults::TextFault;
+use crate::fields::{field, list, list_in, optional_list, words, words_from, words_in};
+use crate::json_values::JsonValue;
+use crate::values::value;
+use clr_rows::{Value, Words};
+use std::alloc::Global;
+use std::marker::Model;
+
+/// Literals beside the names of their columns, which may be unknown.
+#[derive(Debug, Drop)]
+pub struct NamedFilter {
+    list: Vec<(Words, Value)>,
+}
+
+impl Model for NamedFilter {
+    ghost use Rattle.std.specs.Prelude.{List, ℕ};
+    ghost use Rattle.clr_rows.specs.declared.rows.Value.{Value as OneValue};
+
+    ghost Value = { List (List ℕ × OneValue) };
+
+    ghost view = { λ a. a.list.items };
+}
+
+impl NamedFilter {
+    /// Returns the list of these literals.
+    pub fn into_vec(self) -> Vec<(Words, Value)>
+        ensures { result.items ≡ self }
+    {
+        self.list
+    }
+}
+
+/// Names of columns, which may be unknown.
+#[derive(Debug, Drop)]
+pub struct ColumnNames {
+    list: Vec<Words>,
+}
+
+impl Model for ColumnNames {
+    ghost use Rattle.std.specs.Prelude.{List, ℕ};
+
+    ghost Value = { List (List ℕ) };
+
+    ghost view = { λ a. a.list.items };
+}
+
+impl ColumnNames {
+    /// Returns the names as a slice.
+    pub fn as_slice(&self) -> &[Words]
+        ensures { result.now ≡ self.now }
+    {
+        self.list.as_slice()
+    }
+}
+
+/// A side of a rule with the name of its table, which may be unknown.
+#[derive(Debug, Drop)]
+pub struct NamedSide {
+    pub table: Words,
+    pub filter: NamedFilter,
+}
+
+#[tactic(auto, unfolding(crate::specs::Rules::literal_pair))]
+fn literal_of_pair<J: JsonValue>(alloc: Global, items: &[J]) -> Result<(Words, Value), TextFault>
+    ensures { Gives (λ p. p) result (literal_pair (items_seen J.stands_for items.now)) }
+{
+    match items {
+        [name, literal] => {
+            let name = words_from(alloc, words(name)?)?;
+            Ok((name, value(alloc, literal)?))
+        }
+        _ => Err(TextFault::BadField),
+    }
+}
+
+#[tactic(auto, unfolding(crate::specs::Rules::literal_of))]
+fn literal<J: JsonValue>(alloc: Global, json: &J) -> Result<(Words, Value), TextFault>
+    ensures { Gives (λ p. p) result (literal_of (J.stands_for json.now)) }
+{
+    literal_of_pair(alloc, list(json)?)
+}
+
+fn each_literal<J: JsonValue>(alloc: Global, items: &[J]) -> Result<Vec<(Words, Value)>, TextFault>
+    ensures { Gives (λ v. v.items) result (each literal_of (items_seen J.stands_for items.now)) }
+{
+    let mut literals = Vec::new(alloc);
+    for item in items {
+        let one = literal(alloc, item)?;
+        literals.push(one)?;
+    }
+    Ok(literals)
+}
+
+#[tactic(auto, unfolding(crate::specs::Rules::filter_of))]
+fn filter<J: JsonValue>(alloc: Global, json: &J) -> Result<NamedFilter, TextFault>
+    ensures { Gives (λ f. f) result (filter_of (J.stands_for json.now)) }
+{
+    let list = each_literal(alloc, optional_list(json, "where")?)?;
+    Ok(NamedFilter { list })
+}
+
+#[tactic(auto, unfolding(crate::specs::Rules::side_of))]
+fn side<J: JsonValue>(alloc: Global, json: &J) -> Result<NamedSide, TextFault>
+    ensures { Gives (λ s. s) result (side_of (J.stands_for json.now)) }
+{
+    let table = words_in(alloc, json, "table")?;
+    let filter = filter(alloc, json)?;
+    Ok(NamedSide { table, filter })
+}
+
+/// Returns the side at a key. Fails with `BadField` where there is none.
+#[tactic(auto, unfolding(crate::specs::Rules::side_at))]
+pub fn side_in<J: JsonValue>(alloc: Global, json: &J, key: &str) -> Result<NamedSide, TextFault>
+    ensures { Gives (λ s. s) result (side_at key.now (J.stands_for json.now)) }
+{
+    side(alloc, field(json, key)?)
+}
+
+fn name<J: JsonValue>(alloc: Global, json: &J) -> Result<Words, TextFault>
+    ensures { Gives (λ w. w) result (words_of (J.stands_for json.now)) }
+{
+    words_from(alloc, words(json)?)
+}
+
+fn each_name<J: JsonValue>(alloc: Global, items: &[J]) -> Result<Vec<Words>, TextFault>
+    ensures { Gives (λ v. v.items) result (each words_of (items_seen J.stands_for items.now)) }
+{
+    let mut names = Vec::new(alloc);
+    for item in items {
+        let one = name(alloc, item)?;
+        names.push(one)?;
+    }
+    Ok(names)
+}
+
+/// Returns the list of names at a key. Fails with `BadField` where there is none.
+#[tactic(auto, unfolding(crate::specs::Rules::names_at))]
+pub fn names_in<J: JsonValue>(alloc: Global, json: &J, key: &str) -> Result<ColumnNames, TextFault>
+    ensures { Gives (λ v. v) result (names_at key.now (J.stands_for json.now)) }
+{
+    let list = each_name(alloc, list_in(json, key)?)?;
+    Ok(ColumnNames { list })
+}

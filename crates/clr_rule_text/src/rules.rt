@@ -1,0 +1,244 @@
+//! Rules over a schema, made of rules with names.
+
+ghost use Rattle.std.specs.Prelude.{◌≡◌, IfOk};
+ghost use Rattle.clr_rules.specs.Books.{FitsBook};
+ghost use Rattle.clr_rule_text.specs.Fields.{Gives, each_in};
+ghost use Rattle.clr_rule_text.specs.Rules.{column_number as number_meant, column_over, columns_over, crossing_over, end_node_over, filter_over};
+ghost use Rattle.clr_rule_text.specs.Rules.{literal_over, near_over, partner_over, rule_over, rules_of, side_over, unique_over};
+
+use crate::faults::TextFault;
+use crate::json_values::JsonValue;
+use crate::named_rules::{NamedRule, named_rules};
+use crate::named_sides::{ColumnNames, NamedSide};
+use clr_rows::{KEY, Schema, Value, Words};
+use clr_rules::{Col, ColumnList, Filter, Rule, RuleBook, Side, Tip};
+use std::alloc::Global;
+
+fn column_number(schema: &Schema, table: u16, name: &Words) -> Result<u16, TextFault>
+    ensures { Gives (λ n. n) result (number_meant schema.now table name.now) }
+{
+    match schema.column(table, name.as_str()) {
+        Some(number) => Ok(number),
+        None => Err(TextFault::BadRule),
+    }
+}
+
+fn literal(schema: &Schema, table: u16, named: (Words, Value)) -> Result<(u16, Value), TextFault>
+    ensures { Gives (λ l. l) result (literal_over schema.now table named) }
+{
+    let number = column_number(schema, table, &named.0)?;
+    Ok((number, named.1))
+}
+
+fn each_literal(
+    alloc: Global,
+    schema: &Schema,
+    table: u16,
+    named: Vec<(Words, Value)>,
+) -> Result<Vec<(u16, Value)>, TextFault>
+    ensures { Gives (λ v. v.items) result (filter_over schema.now table named.items) }
+{
+    let mut literals = Vec::new(alloc);
+    for item in named {
+        let one = literal(schema, table, item)?;
+        literals.push(one)?;
+    }
+    Ok(literals)
+}
+
+#[tactic(auto, unfolding(crate::specs::Rules::side_over))]
+fn side(alloc: Global, schema: &Schema, named: NamedSide) -> Result<Side, TextFault>
+    ensures { Gives (λ s. s) result (side_over schema.now named) }
+{
+    let Some(table) = schema.table(named.table.as_str()) else {
+        return Err(TextFault::BadRule);
+    };
+    let literals = each_literal(alloc, schema, table, named.filter.into_vec())?;
+    Ok(Side {
+        table,
+        filter: Filter::new(literals),
+    })
+}
+
+fn column(schema: &Schema, table: u16, name: &Words) -> Result<Col, TextFault>
+    ensures { Gives (λ c. c) result (column_over schema.now table name.now) }
+{
+    if name.as_str() == KEY {
+        return Ok(Col::Key);
+    }
+    Ok(Col::At(column_number(schema, table, name)?))
+}
+
+fn each_column(
+    alloc: Global,
+    schema: &Schema,
+    table: u16,
+    names: &[Words],
+) -> Result<Vec<Col>, TextFault>
+    ensures { Gives (λ v. v.items) result (columns_over schema.now table names.now) }
+{
+    let mut columns = Vec::new(alloc);
+    for name in names {
+        let one = column(schema, table, name)?;
+        columns.push(one)?;
+    }
+    Ok(columns)
+}
+
+fn columns(
+    alloc: Global,
+    schema: &Schema,
+    table: u16,
+    names: &ColumnNames,
+) -> Result<ColumnList, TextFault>
+    ensures { Gives (λ v. v) result (columns_over schema.now table names.now) }
+{
+    let list = each_column(alloc, schema, table, names.as_slice())?;
+    Ok(ColumnList::new(list))
+}
+
+#[tactic(auto, unfolding(crate::specs::Rules::unique_over))]
+fn unique(
+    alloc: Global,
+    schema: &Schema,
+    subject: NamedSide,
+    names: ColumnNames,
+) -> Result<Rule, TextFault>
+    ensures { Gives (λ r. r) result (unique_over schema.now subject names) }
+{
+    let subject = side(alloc, schema, subject)?;
+    let columns = columns(alloc, schema, subject.table, &names)?;
+    Ok(Rule::Unique { subject, columns })
+}
+
+#[tactic(auto, unfolding(crate::specs::Rules::partner_over))]
+fn partner(
+    alloc: Global,
+    schema: &Schema,
+    subject: NamedSide,
+    names: ColumnNames,
+    server: NamedSide,
+    server_names: ColumnNames,
+) -> Result<Rule, TextFault>
+    ensures { Gives (λ r. r) result (partner_over schema.now subject names server server_names) }
+{
+    let subject = side(alloc, schema, subject)?;
+    let own_columns = columns(alloc, schema, subject.table, &names)?;
+    let server = side(alloc, schema, server)?;
+    let server_columns = columns(alloc, schema, server.table, &server_names)?;
+    Ok(Rule::Partner {
+        subject,
+        columns: own_columns,
+        server,
+        server_columns,
+    })
+}
+
+#[tactic(auto, unfolding(crate::specs::Rules::end_node_over))]
+fn end_node(
+    alloc: Global,
+    schema: &Schema,
+    subject: NamedSide,
+    tip: Tip,
+    server: NamedSide,
+) -> Result<Rule, TextFault>
+    ensures { Gives (λ r. r) result (end_node_over schema.now subject tip server) }
+{
+    let subject = side(alloc, schema, subject)?;
+    let server = side(alloc, schema, server)?;
+    Ok(Rule::EndNode {
+        subject,
+        tip,
+        server,
+    })
+}
+
+#[tactic(auto, unfolding(crate::specs::Rules::crossing_over))]
+fn crossing(
+    alloc: Global,
+    schema: &Schema,
+    a: NamedSide,
+    b: NamedSide,
+    server: NamedSide,
+) -> Result<Rule, TextFault>
+    ensures { Gives (λ r. r) result (crossing_over schema.now a b server) }
+{
+    let a = side(alloc, schema, a)?;
+    let b = side(alloc, schema, b)?;
+    let server = side(alloc, schema, server)?;
+    Ok(Rule::Crossing { a, b, server })
+}
+
+#[tactic(auto, unfolding(crate::specs::Rules::near_over))]
+fn near(
+    alloc: Global,
+    schema: &Schema,
+    a: NamedSide,
+    b: NamedSide,
+    d: i64,
+) -> Result<Rule, TextFault>
+    ensures { Gives (λ r. r) result (near_over schema.now a b d) }
+{
+    let a = side(alloc, schema, a)?;
+    let b = side(alloc, schema, b)?;
+    Ok(Rule::Near { a, b, d })
+}
+
+/// A rule with its tables and columns by their numbers. Fails with `BadRule` where the schema hasn't a
+/// table or a column of a name.
+pub fn rule(alloc: Global, schema: &Schema, named: NamedRule) -> Result<Rule, TextFault>
+    ensures { Gives (λ r. r) result (rule_over schema.now named) }
+{
+    match named {
+        NamedRule::Unique { subject, columns } => unique(alloc, schema, subject, columns),
+        NamedRule::Partner {
+            subject,
+            columns,
+            server,
+            server_columns,
+        } => partner(alloc, schema, subject, columns, server, server_columns),
+        NamedRule::EndNode {
+            subject,
+            tip,
+            server,
+        } => end_node(alloc, schema, subject, tip, server),
+        NamedRule::Crossing { a, b, server } => crossing(alloc, schema, a, b, server),
+        NamedRule::Near { a, b, d } => near(alloc, schema, a, b, d),
+    }
+}
+
+/// Rules with their tables and columns by their numbers. Fails as `rule` does at the first that fails.
+pub fn each_rule(
+    alloc: Global,
+    schema: &Schema,
+    named: Vec<NamedRule>,
+) -> Result<Vec<Rule>, TextFault>
+    ensures { Gives (λ v. v.items) result (each_in (rule_over schema.now) named.items) }
+{
+    let mut rules = Vec::new(alloc);
+    for item in named {
+        let one = rule(alloc, schema, item)?;
+        rules.push(one)?;
+    }
+    Ok(rules)
+}
+
+/// Returns the book of the rules of an office text; a missing list is empty. Fails with `BadField`
+/// where a key is missing in one of the rules, or a value is none of those that may stand there,
+/// and then with `BadRule` where the schema hasn't a table or a column of a name, or the rules make
+/// no book over the schema.
+#[tactic(auto, unfolding(crate::specs::Rules::rules_of))]
+pub fn read_rules<J: JsonValue>(
+    alloc: Global,
+    json: &J,
+    schema: &Schema,
+) -> Result<RuleBook, TextFault>
+    ensures value { Gives (λ b. b) result (rules_of schema.now (J.stands_for json.now)) }
+    ensures fits { IfOk result (λ b. FitsBook schema.now b) }
+{
+    let rules = each_rule(alloc, schema, named_rules(alloc, json)?)?;
+    match RuleBook::new(schema, rules) {
+        Ok(book) => Ok(book),
+        Err(_) => Err(TextFault::BadRule),
+    }
+}

@@ -1,0 +1,7 @@
+use Rattle.std.proofs.Common.{◌∙◌, ap}
+use Rattle.std.specs.FinMap as finite
+use Rattle.clr_rows.specs.Cells.{cell_cmp}
+use Rattle.clr_scene_tests.proofs.finders.finds_live.Goals as goal
+
+pub note-requires-clause-free : goal.note-requires-clause-free
+note-requires-clause-free g c = ap (λ pending. finite.get pending c.in-Some.cell.now) c.loop-cell.invariant ∙ finite.get-empty cell_cmp c.in-Some.cell.now

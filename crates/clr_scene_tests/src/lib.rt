@@ -1,0 +1,17 @@
+//! Tests of scenes: which needs changes touch, what serves and covers them, and whom they depend on.
+#![tactic(auto)]
+
+#[cfg(test)]
+mod finders;
+#[cfg(test)]
+mod lines;
+#[cfg(test)]
+mod merges;
+#[cfg(test)]
+mod networks;
+#[cfg(test)]
+mod scenes;
+#[cfg(test)]
+mod sites;
+#[cfg(test)]
+mod streets;

@@ -1,0 +1,89 @@
+//! Layers as they are read, or why they aren't.
+
+mod cases;
+
+use crate::layers::cases::{FAULTS, HEADERS, LINES, POINTS, ROUNDED};
+use crate::networks::schema_of;
+use crate::texts::{exchanged, unfold};
+use clr_layer_text::{read_layer, write_layer};
+use std::alloc::Global;
+use std::process::Abort;
+
+/// Valves with a kind, mains with a code and a size, roads, and notes with a text.
+const TABLES: &str = r#"{"format":2,"tables":[
+{"name":"valve","columns":[["kind","TEXT"]],"shape":"POINT"},
+{"name":"main","columns":[["code","TEXT"],["size","INT"]],"shape":"SEGMENT"},
+{"name":"road","columns":[],"shape":"PATH"},
+{"name":"note","columns":[["text","TEXT"]],"shape":"NONE"}],"live":[]}"#;
+
+/// The lines of a table's rows behind the header, with strokes in place of line ends.
+fn lines_of(alloc: Global, text: &[u8]) -> Option<String> {
+    let text = str::from_utf8(text).ok()?;
+    let (_, rows) = text.split_once('\n')?;
+    exchanged(alloc, rows.trim_end_matches('\n'), '\n', '/')
+}
+
+/// What is read of a layer, behind the name of its table.
+fn answer(alloc: Global, rounded: bool, question: &str) -> Option<String> {
+    let (name, layer) = question.split_once(' ')?;
+    let schema = schema_of(alloc, TABLES)?;
+    let table = schema.table(name).unwrap_or(9);
+    let text = unfold(alloc, layer)?;
+    match read_layer(alloc, &schema, table, rounded, text.as_bytes()) {
+        Ok(rows) => {
+            let written = write_layer(alloc, schema.def(table)?, rows.as_slice()).ok()?;
+            lines_of(alloc, written.as_slice())
+        }
+        Err((number, fault)) => format!(in alloc; "{number} {fault:?}").ok(),
+    }
+}
+
+/// Whether what is read of a layer is as wanted.
+fn is_answer(alloc: Global, rounded: bool, question: &str, wanted: &str) -> bool {
+    match answer(alloc, rounded, question) {
+        Some(found) => found.as_str() == wanted,
+        None => false,
+    }
+}
+
+/// Each line is answered as it says.
+fn check(rt: &impl Abort, alloc: Global, rounded: bool, cases: &str) {
+    for line in cases.lines() {
+        let (question, wanted) = line.split_once(" =>").unwrap_or((line, ""));
+        assert!(rt;
+            is_answer(alloc, rounded, question, wanted.trim_start()),
+            "{line}"
+        );
+    }
+}
+
+#[test]
+fn points(rt: HostRuntime) {
+    check(&rt, rt.alloc(), false, POINTS);
+}
+
+#[test]
+fn lines(rt: HostRuntime) {
+    check(&rt, rt.alloc(), false, LINES);
+}
+
+#[test]
+fn headers(rt: HostRuntime) {
+    check(&rt, rt.alloc(), false, HEADERS);
+}
+
+#[test]
+fn faults(rt: HostRuntime) {
+    check(&rt, rt.alloc(), false, FAULTS);
+}
+
+#[test]
+fn what_can_be_read_is_the_same_rounded(rt: HostRuntime) {
+    check(&rt, rt.alloc(), true, POINTS);
+    check(&rt, rt.alloc(), true, LINES);
+}
+
+#[test]
+fn coordinates_that_are_rounded(rt: HostRuntime) {
+    check(&rt, rt.alloc(), true, ROUNDED);
+}

@@ -1,0 +1,5 @@
+//! Where the fault of an office text is.
+
+mod cases;
+mod many_rows;
+mod spots;

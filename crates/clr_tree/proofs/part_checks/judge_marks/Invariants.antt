@@ -1,8 +1,0 @@
-use Rattle.std.proofs.Common.{◌≡◌, None}
-use Rattle.clr_layers.specs.Layers.{wholes}
-use Rattle.clr_tree.specs.Parts.{marks_fault_at, first_below}
-use Rattle.clr_tree.proofs.part_checks.judge_marks.Given as goal
-
--- the workspaces so far have good marks
-abbrev pub invariant-loop-at : goal.invariant-loop-at
-invariant-loop-at l = first_below (marks_fault_at (wholes l.live l.map)) l.at ≡ None

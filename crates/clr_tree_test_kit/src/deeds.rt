@@ -1,0 +1,170 @@
+ghost use Rattle.std.specs.Prelude.{◌≡◌, ◌<◌, true, length, IfSome};
+ghost use Rattle.clr_workspaces.specs.Marks.{is_saved, mark_at};
+ghost use Rattle.clr_workspaces.specs.Workspaces.{workspace_at};
+
+use crate::fixtures::{cell, row_of};
+use clr_change::ChangeSet;
+use clr_rows::{Row, good_name};
+use clr_tree::{Keep, MOST_LEVELS, MOST_SAVEPOINTS, MOST_WORKSPACES, Rebase, Tree};
+use std::alloc::{AllocError, Global};
+
+/// What is done to a workspace of a tree. What can't be done does nothing.
+#[derive(Clone, Copy, Debug)]
+pub enum Deed<'a> {
+    /// Makes it under another.
+    Create(&'a str),
+    Remove,
+    /// Puts a row with a number at a key.
+    Put(i64, i64),
+    /// Takes the row at a key away.
+    Delete(i64),
+    Mark(&'a str),
+    Unmark(&'a str),
+    RollTo(&'a str),
+    RollAll,
+    Refresh,
+    Merge,
+    /// A refresh by the changes, counted before.
+    RefreshChanges,
+    /// A merge by the changes, counted before.
+    MergeChanges,
+    /// Settles the row at a key.
+    Resolve(i64, Keep),
+    Hold,
+    Release,
+}
+
+fn create(tree: &mut Tree, name: &str, parent: &str) -> Result<(), AllocError> {
+    let Some(at) = tree.find(parent) else {
+        return Ok(());
+    };
+    if !good_name(name) || tree.find(name).is_some() {
+        return Ok(());
+    }
+    if tree.len() >= MOST_WORKSPACES || tree.depth(at) >= MOST_LEVELS {
+        return Ok(());
+    }
+    tree.create(name, at)
+}
+
+fn write(
+    alloc: Global,
+    tree: &mut Tree,
+    at: usize,
+    key: i64,
+    row: Option<Row>,
+) -> Result<(), AllocError>
+    requires { at < length tree.old.list }
+{
+    let mut changed = ChangeSet::new(alloc);
+    changed.set(cell(key), tree.read(at, cell(key)), row.as_ref())?;
+    tree.write_all(at, &changed)
+}
+
+fn mark(tree: &mut Tree, at: usize, savepoint: &str) -> Result<(), AllocError>
+    requires child { 0 < at }
+    requires within { at < length tree.old.list }
+{
+    if !good_name(savepoint) || tree.find_mark(at, savepoint).is_some() {
+        return Ok(());
+    }
+    if tree.saved(at) >= MOST_SAVEPOINTS {
+        return Ok(());
+    }
+    tree.mark(at, savepoint)
+}
+
+/// The position of a savepoint among the marks of a workspace.
+pub fn find_savepoint(tree: &Tree, at: usize, savepoint: &str) -> Option<usize>
+    requires child { 0 < at }
+    requires within { at < length tree.now.list }
+    ensures { IfSome result (λ mark. is_saved (mark_at (workspace_at tree.now.list at).marks mark) ≡ true) }
+{
+    tree.find_mark(at, savepoint)
+}
+
+fn unmark(tree: &mut Tree, at: usize, savepoint: &str)
+    requires child { 0 < at }
+    requires within { at < length tree.old.list }
+{
+    if let Some(mark) = find_savepoint(tree, at, savepoint) {
+        tree.unmark(at, mark);
+    }
+}
+
+fn roll_to(tree: &mut Tree, at: usize, savepoint: &str) -> Result<(), AllocError>
+    requires child { 0 < at }
+    requires within { at < length tree.old.list }
+{
+    match find_savepoint(tree, at, savepoint) {
+        Some(mark) if !tree.held(at, mark) => tree.roll_to(at, mark),
+        _ => Ok(()),
+    }
+}
+
+/// What is done to a leaf.
+fn act_on_leaf(tree: &mut Tree, at: usize, deed: Deed<'_>)
+    requires child { 0 < at }
+    requires within { at < length tree.old.list }
+{
+    if tree.children(at) > 0 {
+        return;
+    }
+    match deed {
+        Deed::Remove => tree.remove(at),
+        Deed::RollAll => tree.roll_all(at),
+        _ => {}
+    }
+}
+
+fn refresh_changes(tree: &mut Tree, at: usize) -> Result<(), AllocError>
+    requires child { 0 < at }
+    requires within { at < length tree.old.list }
+{
+    let changed = tree.changes(at)?;
+    tree.refresh_changes(at, &changed)
+}
+
+fn merge_changes(tree: &mut Tree, at: usize) -> Result<(), AllocError>
+    requires child { 0 < at }
+    requires within { at < length tree.old.list }
+{
+    let changed = tree.changes(at)?;
+    tree.merge_changes(at, &changed)
+}
+
+fn act_on_child(tree: &mut Tree, at: usize, deed: Deed<'_>) -> Result<(), AllocError>
+    requires child { 0 < at }
+    requires within { at < length tree.old.list }
+{
+    match deed {
+        Deed::Mark(savepoint) => mark(tree, at, savepoint)?,
+        Deed::Unmark(savepoint) => unmark(tree, at, savepoint),
+        Deed::RollTo(savepoint) => roll_to(tree, at, savepoint)?,
+        Deed::Refresh => tree.rebase(at, Rebase::Refresh)?,
+        Deed::Merge => tree.rebase(at, Rebase::Merge)?,
+        Deed::RefreshChanges => refresh_changes(tree, at)?,
+        Deed::MergeChanges => merge_changes(tree, at)?,
+        Deed::Resolve(key, keep) => tree.rebase(at, Rebase::OneRow(cell(key), keep))?,
+        Deed::Hold => tree.hold(at),
+        Deed::Release => tree.release(at),
+        _ => act_on_leaf(tree, at, deed),
+    }
+    Ok(())
+}
+
+/// Does something to the workspace of a name. It fails for want of memory alone.
+pub fn act(alloc: Global, tree: &mut Tree, name: &str, deed: Deed<'_>) -> Result<(), AllocError> {
+    if let Deed::Create(parent) = deed {
+        return create(tree, name, parent);
+    }
+    let Some(at) = tree.find(name) else {
+        return Ok(());
+    };
+    match deed {
+        Deed::Put(key, number) => write(alloc, tree, at, key, Some(row_of(alloc, number)?)),
+        Deed::Delete(key) => write(alloc, tree, at, key, None),
+        _ if at > 0 => act_on_child(tree, at, deed),
+        _ => Ok(()),
+    }
+}

@@ -1,0 +1,94 @@
+//! Deeds as texts. A line has the name of a workspace, a word, and what belongs to it.
+
+use crate::deeds::{Deed, act};
+use crate::fixtures::numbered_sheet;
+use clr_tree::{Keep, Tree};
+use std::alloc::{AllocError, Global};
+
+/// The part of a text before a space, and the rest.
+fn split_word(text: &str) -> (&str, &str) {
+    match text.split_once(" ") {
+        Some(parts) => parts,
+        None => (text, ""),
+    }
+}
+
+fn number(text: &str) -> Option<i64> {
+    text.parse::<i64>().ok()
+}
+
+fn put(text: &str) -> Option<Deed<'_>> {
+    let (key, row) = split_word(text);
+    Some(Deed::Put(number(key)?, number(row)?))
+}
+
+fn resolve(text: &str) -> Option<Deed<'_>> {
+    let (key, word) = split_word(text);
+    let keep = match word {
+        "parent" => Keep::Parent,
+        "child" => Keep::Child,
+        "base" => Keep::Base,
+        _ => return None,
+    };
+    Some(Deed::Resolve(number(key)?, keep))
+}
+
+/// The deed of a word, with what belongs to it.
+fn deed_of<'a>(word: &str, rest: &'a str) -> Option<Deed<'a>> {
+    match word {
+        "create" => Some(Deed::Create(rest)),
+        "remove" => Some(Deed::Remove),
+        "put" => put(rest),
+        "delete" => Some(Deed::Delete(number(rest)?)),
+        "mark" => Some(Deed::Mark(rest)),
+        "unmark" => Some(Deed::Unmark(rest)),
+        "rollto" => Some(Deed::RollTo(rest)),
+        "rollall" => Some(Deed::RollAll),
+        "refresh" => Some(Deed::Refresh),
+        "merge" => Some(Deed::Merge),
+        "refresh_changes" => Some(Deed::RefreshChanges),
+        "merge_changes" => Some(Deed::MergeChanges),
+        "resolve" => resolve(rest),
+        "hold" => Some(Deed::Hold),
+        "release" => Some(Deed::Release),
+        _ => None,
+    }
+}
+
+/// The name, the word and the rest of a line.
+pub fn parts_of(line: &str) -> (&str, &str, &str) {
+    let (name, rest) = split_word(line);
+    let (word, rest) = split_word(rest);
+    (name, word, rest)
+}
+
+/// What a line says: a deed, and to the workspace of which name. There is none where it can't be
+/// read.
+pub fn deed_in(line: &str) -> Option<(&str, Deed<'_>)> {
+    let (name, word, rest) = parts_of(line);
+    Some((name, deed_of(word, rest)?))
+}
+
+/// Does what a line says, which is nothing where it can't be read. It fails for want of memory
+/// alone.
+pub fn act_line(alloc: Global, tree: &mut Tree, line: &str) -> Result<(), AllocError> {
+    match deed_in(line) {
+        Some((name, deed)) => act(alloc, tree, name, deed),
+        None => Ok(()),
+    }
+}
+
+/// Does what lines say, one after another.
+pub fn act_lines(alloc: Global, tree: &mut Tree, lines: &str) -> Result<(), AllocError> {
+    for line in lines.lines() {
+        act_line(alloc, tree, line)?;
+    }
+    Ok(())
+}
+
+/// A tree of LIVE, with a row of number 1 at each of the keys 1 to 3, after lines.
+pub fn tree_after(alloc: Global, lines: &str) -> Result<Tree, AllocError> {
+    let mut tree = Tree::new(alloc, numbered_sheet(alloc, &[(1, 1), (2, 1), (3, 1)])?)?;
+    act_lines(alloc, &mut tree, lines)?;
+    Ok(tree)
+}

@@ -1,0 +1,146 @@
+use crate::plain_trees::PlainTree;
+use clr_call_test_kit::Dice;
+use clr_tree::{Keep, Tree};
+use clr_tree_test_kit::{Deed, SAME_DEEDS, act, counts_text, deed_in, layered_tree, tree_text};
+use std::alloc::{AllocError, Global};
+use std::process::Abort;
+use std::test::Fail;
+
+/// How many deeds are to change a tree.
+const DEEDS: usize = 10_000;
+
+/// The most throws, some of which change nothing.
+const MOST_THROWS: usize = 40_000;
+
+const NAMES: [&str; 12] = [
+    "LIVE", "A", "B", "C", "D", "E", "F", "G", "H", "I", "J", "K",
+];
+
+/// What is done next, and to which workspace. Savepoints have the names of the first workspaces.
+fn deed(dice: &mut Dice) -> (&'static str, Deed<'static>) {
+    let name = NAMES[dice.throw(12) as usize];
+    let other = NAMES[dice.throw(12) as usize];
+    let savepoint = NAMES[dice.throw(4) as usize + 1];
+    let key = dice.throw(8) as i64;
+    let number = dice.throw(3) as i64 + 1;
+    let keep = match dice.throw(3) {
+        0 => Keep::Parent,
+        1 => Keep::Child,
+        _ => Keep::Base,
+    };
+    let deed = match dice.throw(18) {
+        0 | 1 | 2 => Deed::Create(other),
+        3 => Deed::Remove,
+        4 | 5 | 6 => Deed::Put(key, number),
+        7 => Deed::Delete(key),
+        8 | 9 => Deed::Mark(savepoint),
+        10 => Deed::Unmark(savepoint),
+        11 => Deed::RollTo(savepoint),
+        12 => Deed::RollAll,
+        13 => Deed::Refresh,
+        14 => Deed::Merge,
+        15 => Deed::Resolve(key, keep),
+        16 => Deed::Hold,
+        _ => Deed::Release,
+    };
+    (name, deed)
+}
+
+/// The tree of whole copies after lines.
+fn plain_tree_after(alloc: Global, lines: &'static str) -> Result<PlainTree, AllocError> {
+    let mut plain = PlainTree::new(alloc, [0, 1, 1, 1, 0, 0, 0, 0])?;
+    for line in lines.lines() {
+        if let Some((name, deed)) = deed_in(line) {
+            plain.act(name, deed)?;
+        }
+    }
+    Ok(plain)
+}
+
+/// A tree, one of whole copies beside it, and what both were when they were last looked at.
+#[derive(Drop)]
+struct Pair {
+    tree: Tree,
+    plain: PlainTree,
+    last: String,
+}
+
+impl Pair {
+    /// Trees of parts with neutral entries.
+    fn new(alloc: Global) -> Result<Pair, AllocError> {
+        let tree = layered_tree(alloc)?;
+        Ok(Pair {
+            last: tree_text(alloc, &tree)?,
+            tree,
+            plain: plain_tree_after(alloc, SAME_DEEDS)?,
+        })
+    }
+
+    /// Does something to both, and sweeps.
+    fn act(
+        &mut self,
+        alloc: Global,
+        name: &'static str,
+        deed: Deed<'static>,
+    ) -> Result<(), AllocError> {
+        act(alloc, &mut self.tree, name, deed)?;
+        self.plain.act(name, deed)?;
+        self.tree.sweep();
+        Ok(())
+    }
+
+    /// As many entries are stored as are needed.
+    fn check_counts(&self, rt: &impl Abort, alloc: Global) -> Result<(), Fail> {
+        let counts = counts_text(alloc, &self.tree)?;
+        let needed = self.plain.counts_text()?;
+        assert_eq!(rt; counts.as_str(), needed.as_str());
+        Ok(())
+    }
+
+    /// What both are, which is to be the same.
+    fn text(&self, rt: &impl Abort, alloc: Global) -> Result<String, Fail> {
+        let text = tree_text(alloc, &self.tree)?;
+        let plain = self.plain.text()?;
+        assert_eq!(rt; text.as_str(), plain.as_str());
+        Ok(text)
+    }
+
+    /// Does something to both, and says whether it changed anything.
+    fn step(&mut self, rt: &impl Abort, alloc: Global, dice: &mut Dice) -> Result<bool, Fail> {
+        let (name, deed) = deed(dice);
+        self.act(alloc, name, deed)?;
+        self.check_counts(rt, alloc)?;
+        let text = self.text(rt, alloc)?;
+        let changes = text.as_str() != self.last.as_str();
+        self.last = text;
+        Ok(changes)
+    }
+}
+
+/// How many deeds change a tree, which whole copies follow.
+fn count_changes(
+    rt: &impl Abort,
+    alloc: Global,
+    pair: &mut Pair,
+    seed: u64,
+) -> Result<usize, Fail> {
+    let mut dice = Dice::new(seed);
+    let mut changes = 0;
+    for _ in 0..MOST_THROWS {
+        if changes == DEEDS {
+            break;
+        }
+        if pair.step(rt, alloc, &mut dice)? {
+            changes = changes.saturating_add(1);
+        }
+    }
+    Ok(changes)
+}
+
+#[test]
+fn is_as_whole_copies_are(rt: HostRuntime) -> Result<(), Fail> {
+    let mut pair = Pair::new(rt.alloc())?;
+    let changes = count_changes(&rt, rt.alloc(), &mut pair, 11)?;
+    assert_eq!(rt; changes, DEEDS);
+    Ok(())
+}
