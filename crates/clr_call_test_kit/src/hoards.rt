@@ -32,8 +32,9 @@ const CUSHION_SIZE: usize = 1 << 16;
 /// The most blocks that make up a budget.
 const MOST_PIECES: usize = 64;
 
-/// How much of the stack is used once before, in words of 8 bytes: where all address space is taken, the stack can't grow any more.
-const STACK_WORDS: usize = 131_072;
+/// How much of the stack is used once before, in words of 8 bytes, which is half of what Linux allows by itself: where all address
+/// space is taken, the stack can't grow any more.
+const STACK_WORDS: usize = 524_288;
 
 /// All address space of the process, but for what a test leaves free. What is held is never
 /// written.
@@ -47,6 +48,8 @@ pub struct Hoard {
 }
 
 /// Writes to each page of as much of the stack as calls may use later, from a place on that depends on a number. Returns a word of it.
+/// It has to have a frame of its own: inlined, its words would stay in the caller's frame, and later calls would use the stack below them.
+#[inline(never)]
 fn use_stack(number: usize) -> usize {
     let mut words = [0usize; STACK_WORDS];
     for at in (0..STACK_WORDS).step_by(512) {

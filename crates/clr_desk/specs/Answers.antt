@@ -7,8 +7,8 @@ use Rattle.clr_check_texts.specs.Cases.{case_of}
 use Rattle.clr_drafts.specs.Drafts.{draft_in}
 use Rattle.clr_layer_changes.specs.declared.options.GivenLayer.{GivenLayer}
 use Rattle.clr_office.specs.Answers.{is_too_long}
-use Rattle.clr_office.specs.declared.faults.RunFault.{RunFault}
-use Rattle.clr_office.specs.declared.faults.RunFault.TheVariants as run_fault
+use Rattle.clr_reports.specs.declared.faults.RunFault.{RunFault}
+use Rattle.clr_reports.specs.declared.faults.RunFault.TheVariants as run_fault
 use Rattle.clr_desk_command_line.specs.declared.asks.Ask.{Ask}
 use Rattle.clr_desk_command_line.specs.declared.asks.Ask.TheVariants as ask
 use Rattle.clr_desk.specs.Certificates.{IsCertificatePrint}

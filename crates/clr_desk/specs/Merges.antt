@@ -12,7 +12,7 @@ use Rattle.clr_sites.specs.Certificates.{entries_in, site_of}
 use Rattle.clr_lines.specs.Replies.{reply_text}
 use Rattle.clr_verdict_lines.specs.Verdicts.{verdict_text}
 use Rattle.clr_office.specs.Clearances.{AreMerged, is_clear, is_without_memory, stop_text}
-use Rattle.clr_office.specs.Outcomes.{dump_text, is_refused}
+use Rattle.clr_reports.specs.Outcomes.{dump_text, is_refused}
 use Rattle.clr_prints.specs.NameHints.{IsHinted}
 use Rattle.clr_prints.specs.Printing.{Printed, print_of}
 

@@ -3,7 +3,7 @@
 ghost use Rattle.std.specs.Prelude.{◌≡◌, ◌≢◌, [], false, IfErr, IfOk};
 ghost use Rattle.std.specs.List.{list_any};
 ghost use Rattle.std.specs.Io.KnownBytes.{Appends};
-ghost use Rattle.clr_office.specs.declared.faults.RunFault.TheVariants as run_fault;
+ghost use Rattle.clr_reports.specs.declared.faults.RunFault.TheVariants as run_fault;
 ghost use Rattle.clr_desk.specs.Answers.{IsAnswer, IsAnswerTo, IsAnswerWithin, is_too_long_layer};
 ghost use Rattle.clr_prints.specs.Printing.{IsMade};
 

@@ -19,7 +19,7 @@ use Rattle.clr_layer_changes.specs.declared.options.LayerOptions.{LayerOptions}
 use Rattle.clr_script_text.specs.Scripts.{design_script, design_steps}
 use Rattle.clr_designs.specs.Designs.{AreDone, design_refusal, with_design, with_live}
 use Rattle.clr_drafts.specs.Drafts.{draft_in}
-use Rattle.clr_office.specs.Outcomes.{dump_text}
+use Rattle.clr_reports.specs.Outcomes.{dump_text}
 use Rattle.clr_prints.specs.Printing.{Printed, print_of}
 use Rattle.clr_desk_designs.specs.Faults.{fault_line}
 

@@ -1,7 +1,7 @@
 -- What is made in a system of coordinates, or in none.
 use Rattle.std.proofs.Common.{Result, Ok, Err}
-use Rattle.clr_office.specs.declared.faults.RunFault.{RunFault}
-use Rattle.clr_office.specs.declared.faults.RunFault.TheVariants as run_fault
+use Rattle.clr_reports.specs.declared.faults.RunFault.{RunFault}
+use Rattle.clr_reports.specs.declared.faults.RunFault.TheVariants as run_fault
 use Rattle.clr_prints.specs.Printing.{IsMade, IsTextFault, Printed, printed}
 use Rattle.clr_prints.specs.declared.prints.Print.{Print}
 

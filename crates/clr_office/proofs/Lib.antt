@@ -1,7 +1,6 @@
 pub mod CaseTexts
 pub mod OneOutcome
 pub mod OneSession
-pub mod Outcomes
 pub mod Prints
 pub mod ReplyLines
 pub mod ScriptOutcomes

@@ -17,11 +17,13 @@ use Rattle.clr_scripts.specs.Scripts.{script_in_text}
 use Rattle.clr_office.specs.Answers.{IsAnswerIf, IsAnswerWithin, IsPlanPrint, is_too_long}
 use Rattle.clr_office.specs.Clearances.{IsMergeOutcome, IsPrintOfCase, IsVerdictOutcome}
 use Rattle.clr_office.specs.OneSession.{FoundMemory, OneAnswerLaw, OneSessionLaw}
-use Rattle.clr_office.specs.Outcomes.{Outcome}
-use Rattle.clr_office.specs.Printing.{ArePrinted, IsPrintIn, IsPrintOf, IsPrintWhereHeld, IsScriptPrint, Printed, print_of, status_of}
+use Rattle.clr_reports.specs.Outcomes.{Outcome}
+use Rattle.clr_office.specs.Scripts.{ArePrinted, IsScriptPrint}
+use Rattle.clr_reports.specs.Printing.{IsPrintIn, IsPrintOf, IsPrintWhereHeld, Printed, print_of, status_of}
 use Rattle.clr_devices.specs.Separator.{around_separator}
 use Rattle.clr_office.specs.Session.{IsSessionOf}
-use Rattle.clr_office.proofs.OneOutcome.{IsOne, one_check, one_merge, one_planned, one_script}
+use Rattle.clr_office.proofs.OneOutcome.{one_check, one_merge, one_planned, one_script}
+use Rattle.clr_reports.proofs.OneOutcome.{IsOne}
 
 -- two prints in which memory was found are one
 abbrev IsOnePrint : (Printed → Type 0) → Type 0

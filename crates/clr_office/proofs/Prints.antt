@@ -3,10 +3,10 @@ use Rattle.std.proofs.Common.{◌≡◌, None, Result, Ok, Err, sym, subst}
 use Rattle.clr_steps.specs.Offices.{Office}
 use Rattle.clr_engine.specs.Drafts.{unheld_in}
 use Rattle.clr_rule_text.specs.declared.faults.TextFault.{TextFault}
-use Rattle.clr_office.specs.declared.faults.RunFault.{RunFault}
-use Rattle.clr_office.specs.declared.faults.RunFault.TheVariants as run_fault
-use Rattle.clr_office.specs.declared.outputs.Output.{Output}
-use Rattle.clr_office.specs.Printing.{IsMade, IsPrintIn, IsPrintWhereHeld, IsTextFault, Printed}
+use Rattle.clr_reports.specs.declared.faults.RunFault.{RunFault}
+use Rattle.clr_reports.specs.declared.faults.RunFault.TheVariants as run_fault
+use Rattle.clr_reports.specs.declared.outputs.Output.{Output}
+use Rattle.clr_reports.specs.Printing.{IsMade, IsPrintIn, IsPrintWhereHeld, IsTextFault, Printed}
 
 module _ (P Q : Printed → Type 0) (leads : (print : Printed) → P print → Q print) where
   weaker_fault : (e : RunFault) → IsTextFault P e → IsTextFault Q e

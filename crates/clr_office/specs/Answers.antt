@@ -13,11 +13,12 @@ use Rattle.clr_rule_text.specs.declared.faults.TextFault.{TextFault}
 use Rattle.clr_command_line.specs.declared.asks.Ask.{Ask}
 use Rattle.clr_command_line.specs.declared.asks.Ask.TheVariants as ask
 use Rattle.clr_office.specs.Outcomes.{IsPlanOutcome}
-use Rattle.clr_office.specs.Printing.{Printed, print_of, IsPrintIn, IsPrintOf, IsScriptPrint, IsTextFault}
+use Rattle.clr_office.specs.Scripts.{IsScriptPrint}
+use Rattle.clr_reports.specs.Printing.{Printed, print_of, IsPrintIn, IsPrintOf, IsTextFault}
 use Rattle.clr_office.specs.Clearances.{IsCheckPrint, IsMergePrint}
-use Rattle.clr_office.specs.declared.faults.RunFault.{RunFault}
-use Rattle.clr_office.specs.declared.faults.RunFault.TheVariants as run_fault
-use Rattle.clr_office.specs.declared.reading.TheConstants.{MOST_INPUT_BYTES}
+use Rattle.clr_reports.specs.declared.faults.RunFault.{RunFault}
+use Rattle.clr_reports.specs.declared.faults.RunFault.TheVariants as run_fault
+use Rattle.clr_reports.specs.declared.reading.TheConstants.{MOST_INPUT_BYTES}
 
 -- the needs of LIVE that no row serves, and whether there are any, also where a rule doesn't hold
 abbrev pub audit_print : Office → Printed

@@ -1,7 +1,6 @@
 pub mod Answers
 pub mod Clearances
-pub mod Input
 pub mod OneSession
 pub mod Outcomes
-pub mod Printing
+pub mod Scripts
 pub mod Session

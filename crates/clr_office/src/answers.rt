@@ -5,16 +5,12 @@ ghost use Rattle.clr_sites.specs.SiteNames.{site};
 ghost use Rattle.clr_command_line.specs.declared.asks.Ask.TheVariants as ask;
 ghost use Rattle.clr_drafts.specs.Drafts.{draft_in};
 ghost use Rattle.clr_office.specs.Answers.{IsAnswer, IsAnswerTo, IsAnswerWithin, IsPlanPrint, audit_of, audit_print};
-ghost use Rattle.clr_office.specs.Printing.{IsMade, IsPrintIn, print_of};
-ghost use Rattle.clr_office.specs.declared.faults.RunFault.TheVariants as run_fault;
+ghost use Rattle.clr_reports.specs.Printing.{IsMade, IsPrintIn, print_of};
+ghost use Rattle.clr_reports.specs.declared.faults.RunFault.TheVariants as run_fault;
 
 use crate::certificates::{check_output, fault_output};
-use crate::faults::RunFault;
 use crate::merges::merge_members;
-use crate::offices::{draft_of, open_office};
-use crate::outputs::Output;
 use crate::plans::plan_members;
-use crate::reading::MOST_INPUT_BYTES;
 use crate::run_script::run_text;
 use clr_audit::audit;
 use clr_check_texts::read_case;
@@ -22,6 +18,7 @@ use clr_command_line::Ask;
 use clr_devices::Sink;
 use clr_engine::Draft;
 use clr_lines::audit_lines;
+use clr_reports::{MOST_INPUT_BYTES, Output, RunFault, draft_of, open_office};
 use clr_rows::{LIVE, Words};
 use std::alloc::{AllocError, Global};
 

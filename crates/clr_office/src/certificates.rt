@@ -3,15 +3,12 @@ ghost use Rattle.std.specs.Prelude.{◌≡◌, not, IfOk};
 ghost use Rattle.clr_check_texts.specs.Cases.{case_of};
 ghost use Rattle.clr_verdict_lines.specs.Verdicts.{verdict_text};
 ghost use Rattle.clr_office.specs.Clearances.{IsCheckPrint, fault_print, is_clear as is_clear_verdict, is_without_memory as is_lost_verdict};
-ghost use Rattle.clr_office.specs.Printing.{IsMade};
+ghost use Rattle.clr_reports.specs.Printing.{IsMade};
 
-use crate::faults::RunFault;
-use crate::offices::unheld_output;
-use crate::outputs::Output;
-use crate::plans::texts;
 use clr_cert::Certificate;
 use clr_check::Verdict;
 use clr_check_texts::{CaseFault, judge_texts};
+use clr_reports::{Output, RunFault, texts, unheld_output};
 use clr_rows::Schema;
 use clr_verdict_lines::verdict_line;
 use std::alloc::{AllocError, Global};

@@ -44,16 +44,9 @@
 
 mod answers;
 mod certificates;
-mod faults;
-mod independences;
 mod laws;
 mod merges;
-mod offices;
-mod outputs;
 mod plans;
-mod reading;
-mod replies;
-mod reports;
 mod run;
 mod run_script;
 
@@ -64,17 +57,15 @@ pub use clr_check_texts::{Checked, check_texts};
 pub use clr_clearance::Verdict;
 pub use clr_command_line::{Ask, AskFault, ask_of};
 pub use clr_devices::{DeviceFault, Page, Port, Sink, Source, Text};
+pub use clr_drafts::TextFault;
 pub use clr_needs::{Need, VersionId};
 pub use clr_plan::Plan;
+pub use clr_reports::{
+    MOST_INPUT_BYTES, Output, RunFault, dump_text, open_office, read_input, texts,
+};
 pub use clr_rows::{CellId, Names, Words};
 pub use clr_rules::Broken;
-pub use clr_texts::{RecordFault, TextFault};
-pub use faults::RunFault;
+pub use clr_scripts::RecordFault;
 pub use laws::inputs_have_one_session;
 pub use merges::{merge_commands, replies_output, stop_output};
-pub use offices::open_office;
-pub use outputs::Output;
-pub use plans::texts;
-pub use reading::{MOST_INPUT_BYTES, read_input};
-pub use reports::dump_text;
 pub use run::run_office;

@@ -1,26 +1,16 @@
 //! Plans of members, which are given by their names.
-ghost use Rattle.std.specs.Prelude.{◌≡◌, map, IfOk};
+ghost use Rattle.std.specs.Prelude.{◌≡◌, IfOk};
 ghost use Rattle.clr_sites.specs.SiteNames.{site};
 ghost use Rattle.clr_plan.specs.Promises.{is_cleared as is_cleared_plan, is_out_of_memory as is_lost_plan};
-ghost use Rattle.clr_office.specs.Outcomes.{IsPlanOutcome, outcome_of};
+ghost use Rattle.clr_office.specs.Outcomes.{IsPlanOutcome};
+ghost use Rattle.clr_reports.specs.Outcomes.{outcome_of};
 
-use crate::outputs::Output;
 use clr_engine::Office;
 use clr_plan::{Plan, plan};
 use clr_plan_lines::plan_lines;
+use clr_reports::Output;
 use clr_rows::Words;
 use std::alloc::{AllocError, Global};
-
-/// Returns the texts of names.
-pub fn texts<'a>(alloc: Global, names: &'a [Words]) -> Result<Vec<&'a str>, AllocError>
-    ensures { IfOk result (λ texts. map (λ text. text.now) texts.items ≡ names.entry.now) }
-{
-    let mut texts = Vec::with_capacity(alloc, names.len())?;
-    for name in names {
-        texts.push(name.as_str())?;
-    }
-    Ok(texts)
-}
 
 fn is_cleared(plan: &Plan) -> bool
     ensures { result ≡ is_cleared_plan plan.now }

@@ -2,12 +2,11 @@
 
 ghost use Rattle.std.specs.Prelude.{◌≡◌, ◌≢◌, false, IfErr};
 ghost use Rattle.clr_office.specs.Session.{Answers};
-ghost use Rattle.clr_office.specs.declared.faults.RunFault.TheVariants as run_fault;
+ghost use Rattle.clr_reports.specs.declared.faults.RunFault.TheVariants as run_fault;
 
 use crate::answers::answer_run;
-use crate::faults::RunFault;
-use crate::reading::read_input;
 use clr_devices::{Sink, Source, split_at_separator};
+use clr_reports::{RunFault, read_input};
 use std::alloc::Global;
 
 /// Reads an office text, a separator line and a script to the end of the reader, writes the lines

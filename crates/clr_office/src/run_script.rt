@@ -1,16 +1,14 @@
 //! The steps of a script, performed one after another, and the lines that they print.
 ghost use Rattle.std.specs.Prelude.{◌≡◌, drop, Ok, IfOk, IfErr};
 ghost use Rattle.clr_scripts.specs.Scripts.{script_in_text};
-ghost use Rattle.clr_office.specs.Outcomes.{IsCommandOutcome, IsOutcome, IsScriptOutcome, first_name as first_of_names, outcome_of};
-ghost use Rattle.clr_office.specs.Printing.{IsMade, IsScriptFault, IsScriptPrint};
+ghost use Rattle.clr_office.specs.Outcomes.{IsCommandOutcome, IsOutcome, IsScriptOutcome, first_name as first_of_names};
+ghost use Rattle.clr_reports.specs.Outcomes.{outcome_of};
+ghost use Rattle.clr_office.specs.Scripts.{IsScriptFault, IsScriptPrint};
+ghost use Rattle.clr_reports.specs.Printing.{IsMade};
 
-use crate::faults::RunFault;
-use crate::independences::members_independence;
-use crate::outputs::Output;
 use crate::plans::plan_members;
-use crate::replies::reply_output;
-use crate::reports::{audit_rows, changes, conflicts, dump, show, workspaces};
 use clr_engine::Office;
+use clr_reports::{Output, RunFault, audit_output, changes_output, conflicts_output, dump_output, independence_output, reply_output, rows_output, workspaces_output};
 use clr_rows::{LIVE, Names, Schema, Words};
 use clr_scripts::{RecordFault, Step, Word, read_script};
 use clr_steps::Command;
@@ -48,21 +46,21 @@ fn run_step(alloc: Global, office: &mut Office, step: &Step) -> Result<Output, A
 {
     match step {
         Step::Act(command) => perform(alloc, office, command),
-        Step::Report(Word::Show, names) => show(alloc, office, first_name(names)),
-        Step::Report(Word::Changes, names) => changes(alloc, office, first_name(names)),
-        Step::Report(Word::Conflicts, names) => conflicts(alloc, office, first_name(names)),
-        Step::Report(Word::Audit, names) => audit_rows(alloc, office, first_name(names)),
-        Step::Report(Word::Workspaces, _) => workspaces(alloc, office),
-        Step::Report(Word::Dump, _) => dump(alloc, office),
+        Step::Report(Word::Show, names) => rows_output(alloc, office, first_name(names)),
+        Step::Report(Word::Changes, names) => changes_output(alloc, office, first_name(names)),
+        Step::Report(Word::Conflicts, names) => conflicts_output(alloc, office, first_name(names)),
+        Step::Report(Word::Audit, names) => audit_output(alloc, office, first_name(names)),
+        Step::Report(Word::Workspaces, _) => workspaces_output(alloc, office),
+        Step::Report(Word::Dump, _) => dump_output(alloc, office),
         Step::Report(Word::Plan, names) => plan_members(alloc, office, LIVE, names.as_slice()),
         Step::Report(Word::PlanUnder, names) => {
             plan_members(alloc, office, first_name(names), later_names(names))
         }
         Step::Report(Word::Independence, names) => {
-            members_independence(alloc, office, LIVE, names.as_slice())
+            independence_output(alloc, office, LIVE, names.as_slice())
         }
         Step::Report(Word::IndependenceUnder, names) => {
-            members_independence(alloc, office, first_name(names), later_names(names))
+            independence_output(alloc, office, first_name(names), later_names(names))
         }
     }
 }

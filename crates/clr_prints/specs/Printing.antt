@@ -7,11 +7,11 @@ use Rattle.clr_check_texts.specs.Cases.{Case}
 use Rattle.clr_check_texts.specs.declared.cases.CaseFault.{CaseFault}
 use Rattle.clr_rule_text.specs.declared.faults.TextFault.{TextFault}
 use Rattle.clr_office.specs.Clearances.{fault_print}
-use Rattle.clr_office.specs.Printing.{IsNoPrint, status_of}
-use Rattle.clr_office.specs.Printing.{IsPrintIn as IsLinesIn, Printed as Lines}
-use Rattle.clr_office.specs.declared.faults.RunFault.{RunFault}
-use Rattle.clr_office.specs.declared.faults.RunFault.TheVariants as run_fault
-use Rattle.clr_office.specs.declared.outputs.Output.{Output}
+use Rattle.clr_reports.specs.Printing.{IsNoPrint, status_of}
+use Rattle.clr_reports.specs.Printing.{IsPrintIn as IsLinesIn, Printed as Lines}
+use Rattle.clr_reports.specs.declared.faults.RunFault.{RunFault}
+use Rattle.clr_reports.specs.declared.faults.RunFault.TheVariants as run_fault
+use Rattle.clr_reports.specs.declared.outputs.Output.{Output}
 use Rattle.clr_prints.specs.declared.prints.Ending.{Ending}
 use Rattle.clr_prints.specs.declared.prints.Ending.TheVariants as ending
 use Rattle.clr_prints.specs.declared.prints.Print.{Print}

@@ -1,6 +1,6 @@
 //! What is printed, and how it ends.
 ghost use Rattle.std.specs.Prelude.{◌≡◌, [], false, IfOk};
-ghost use Rattle.clr_office.specs.Printing.{status_of};
+ghost use Rattle.clr_reports.specs.Printing.{status_of};
 ghost use Rattle.clr_prints.specs.NameHints.{with_lines};
 ghost use Rattle.clr_prints.specs.Printing.{AreNoted, is_lost, print_of, printed, status_by, unless_lost};
 

@@ -1,17 +1,14 @@
 //! All texts: office texts, edits and scripts read and written, and the lines of what an office is
 //! asked for.
 //!
-//! - `workspaces_lines` gives exactly the bytes, memory aside. All else is handed on from the
-//!   crates below: office texts read and written, edits, scripts, and lines.
+//! Each call is that of a crate below, and its contract stands there.
 #![tactic(auto)]
-
-mod workspaces;
 
 pub use clr_drafts::{TextFault, read_office};
 pub use clr_independence::independence_lines;
 pub use clr_lines::{audit_lines, changes_lines, conflicts_lines, reply_line, rows_lines};
 pub use clr_office_writer::write_office;
 pub use clr_plan_lines::plan_lines;
+pub use clr_reports::workspaces_lines;
 pub use clr_scripts::{RecordFault, Step, Word, read_edits, read_script};
 pub use clr_verdict_lines::verdict_line;
-pub use workspaces::workspaces_lines;

@@ -2,7 +2,7 @@ use Rattle.std.proofs.Common.{Ok, refl}
 use Rattle.clr_sites.specs.SiteNames.{site}
 use Rattle.clr_drafts.specs.Drafts.{draft_in}
 use Rattle.clr_office.specs.Answers.{IsPlanPrint}
-use Rattle.clr_office.specs.Outcomes.{outcome_of}
+use Rattle.clr_reports.specs.Outcomes.{outcome_of}
 use Rattle.clr_office.proofs.Prints.{held_made}
 use Rattle.clr_office.proofs.answers.answer_plan.Goals as goal
 

@@ -1,0 +1,3 @@
+pub mod OneOutcome
+pub mod Outcomes
+pub mod WorkspaceLines

@@ -1,0 +1,4 @@
+pub mod Input
+pub mod Outcomes
+pub mod Printing
+pub mod Workspaces

@@ -1,0 +1,48 @@
+//! Which members are independent, where they are given by their names.
+ghost use Rattle.std.specs.Prelude.{◌≡◌, not, IfOk};
+ghost use Rattle.std.specs.List.{list_any};
+ghost use Rattle.clr_sites.specs.SiteNames.{site};
+ghost use Rattle.clr_reports.specs.Outcomes.{IsIndependenceOutcome, has_dependence, outcome_of};
+
+use crate::outputs::Output;
+use crate::name_texts::texts;
+use clr_engine::Office;
+use clr_independence::{Independence, Pair, independence_of, lines_of_independence};
+use clr_rows::Words;
+use std::alloc::{AllocError, Global};
+
+/// Returns whether some pair is dependent.
+fn has_dependent_pair(pairs: &[Pair]) -> bool
+    ensures { result ≡ list_any (λ p. not p.independent) pairs.now }
+{
+    pairs.iter().any(|pair| !pair.independent)
+}
+
+/// Returns whether some pair is dependent, or the members are unfit.
+fn has_dependence(said: &Independence) -> bool
+    ensures { result ≡ has_dependence said.now }
+{
+    match said {
+        Independence::Unfit(_) => true,
+        Independence::Pairs(pairs) => has_dependent_pair(pairs.as_slice()),
+    }
+}
+
+/// Returns the lines of the independence of members of a root.
+pub fn independence_output(
+    alloc: Global,
+    office: &Office,
+    root: &str,
+    names: &[Words],
+) -> Result<Output, AllocError>
+    ensures { IfOk result (λ o. IsIndependenceOutcome office.now (site root.now names.now) (outcome_of o office.now)) }
+{
+    let members = texts(alloc, names)?;
+    let said = independence_of(alloc, office, root, members.as_slice())?;
+    let lines = lines_of_independence(alloc, office.schema(), members.as_slice(), root, &said)?;
+    Ok(Output {
+        lines,
+        refused: has_dependence(&said),
+        lost: false,
+    })
+}
