@@ -1,6 +1,6 @@
 //! Faults on standard error.
 
-use clr_office::RunFault;
+use clr_reports::RunFault;
 
 /// The exit status for a bad command line.
 pub const BAD_WORDS: u8 = 2;

@@ -1,6 +1,8 @@
 //! The bytes of files.
 
-use clr_office::{Port, RunFault, Words, read_input};
+use clr_devices::Port;
+use clr_reports::{RunFault, read_input};
+use clr_rows::Words;
 use std::fs::File;
 use std::io::ErrorKind;
 
