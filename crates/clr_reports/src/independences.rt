@@ -4,8 +4,8 @@ ghost use Rattle.std.specs.List.{list_any};
 ghost use Rattle.clr_sites.specs.SiteNames.{site};
 ghost use Rattle.clr_reports.specs.Outcomes.{IsIndependenceOutcome, has_dependence, outcome_of};
 
-use crate::outputs::Output;
 use crate::name_texts::texts;
+use crate::outputs::Output;
 use clr_engine::Office;
 use clr_independence::{Independence, Pair, independence_of, lines_of_independence};
 use clr_rows::Words;

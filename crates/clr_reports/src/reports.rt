@@ -57,11 +57,7 @@ pub fn changes_output(alloc: Global, office: &Office, name: &str) -> Result<Outp
 
 /// Returns the lines of the cells of a workspace that are in conflict with its parent.
 #[tactic(auto, unfolding(crate::specs::Outcomes::conflicts_outcome))]
-pub fn conflicts_output(
-    alloc: Global,
-    office: &Office,
-    name: &str,
-) -> Result<Output, AllocError>
+pub fn conflicts_output(alloc: Global, office: &Office, name: &str) -> Result<Output, AllocError>
     ensures { IfOk result (λ o. outcome_of o office.now ≡ conflicts_outcome office.now name.now) }
 {
     let schema = office.schema();
