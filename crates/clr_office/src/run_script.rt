@@ -8,7 +8,10 @@ ghost use Rattle.clr_reports.specs.Printing.{IsMade};
 
 use crate::plans::plan_members;
 use clr_engine::Office;
-use clr_reports::{Output, RunFault, audit_output, changes_output, conflicts_output, dump_output, independence_output, reply_output, rows_output, workspaces_output};
+use clr_reports::{
+    Output, RunFault, audit_output, changes_output, conflicts_output, dump_output,
+    independence_output, reply_output, rows_output, workspaces_output,
+};
 use clr_rows::{LIVE, Names, Schema, Words};
 use clr_scripts::{RecordFault, Step, Word, read_script};
 use clr_steps::Command;
