@@ -17,7 +17,7 @@ use_program "$program"
 
 # How many seconds pass at most between two lines while the program is proved.
 patience=${CLR_OFFICE_PATIENCE-60}
-# The folder in which it is proved, and the process that does so.
+# The folder in which it is proved, once in `first` and once in `beside`, and the process that does so.
 room= proving=
 
 clean_up() {
@@ -28,19 +28,49 @@ clean_up() {
 
 time_since() { printf '%d:%02d min' $(((SECONDS - $1) / 60)) $(((SECONDS - $1) % 60)); }
 
-# The program's crates alone, without their edits, in a folder apart: below the repository a second crates.txt would be in the way of
-# the toolchain's gate.
-copy_sources() {
-    local crate part
-    mkdir -p "$room/.git" "$room/crates" || return 1
-    grep -E "^($(IFS='|' && echo "${crates[*]}")):" "$top/crates.txt" >"$room/crates.txt" || return 1
-    if [ -f "$top/HANDLES" ]; then cp "$top/HANDLES" "$room" || return 1; fi
-    for crate in "${crates[@]}"; do
-        mkdir "$room/crates/$crate" || return 1
+# Copies crates, without their edits, to a folder, with what they stand on there already. It is apart: below the repository a second
+# crates.txt would be in the way of the toolchain's gate.
+copy_crates() {
+    local to=$1 crate part
+    shift
+    mkdir -p "$to/.git" "$to/crates" || return 1
+    grep -E "^($(IFS='|' && echo "$*")):" "$top/crates.txt" >"$to/crates.txt" || return 1
+    if [ -f "$top/HANDLES" ]; then cp "$top/HANDLES" "$to" || return 1; fi
+    for crate; do
+        if [ -d "$to/crates/$crate" ]; then continue; fi
+        mkdir "$to/crates/$crate" || return 1
         for part in src specs proofs stdin stdout args status data; do
-            if [ -e "$top/crates/$crate/$part" ]; then cp -R "$top/crates/$crate/$part" "$room/crates/$crate" || return 1; fi
+            if [ -e "$top/crates/$crate/$part" ]; then cp -R "$top/crates/$crate/$part" "$to/crates/$crate" || return 1; fi
         done
     done
+}
+
+# The crates that a crate stands on, and then itself.
+crates_up_to() {
+    local -A added=()
+    local crates=()
+    add_crate "$1"
+    echo "${crates[@]}"
+}
+
+# Has `rt ci` prove in a folder, until it is interrupted.
+prove_in() {
+    (cd "$1" && exec rt ci 2>&1 </dev/null) &
+    wait $!
+}
+
+# Proves the awaited crates first, so that no other crate takes their turn, and then all. Beside that all crates are proved with what
+# the processors have left: what one run has proved the other takes.
+prove() {
+    local crate
+    trap 'kill $(jobs -p) 2>/dev/null' EXIT
+    trap 'exit 143' TERM
+    (cd "$room/beside" && exec nice -n 19 rt ci 2>&1 </dev/null) &
+    for crate in "${awaited[@]}"; do
+        if [ -z "${uses[$crate]+known}" ]; then continue; fi
+        copy_crates "$room/first" $(crates_up_to "$crate") && prove_in "$room/first" || return 1
+    done
+    copy_crates "$room/first" "${crates[@]}" && prove_in "$room/first"
 }
 
 # Reads what `rt ci` prints, and says a line for each crate that is done, and for each minute in which none is. It fails after a line
@@ -68,7 +98,8 @@ follow() {
         elif [ $? -gt 128 ]; then
             at_work=
             for crate in "${crates[@]}"; do
-                if [ -d "$room/crates/$crate/out/rlib" ] && [ -z "${done[$crate]+known}" ]; then at_work+=", $crate"; fi
+                if [ -n "${done[$crate]+known}" ]; then continue; fi
+                if [ -d "$room/first/crates/$crate/out/rlib" ] || [ -d "$room/beside/crates/$crate/out/rlib" ]; then at_work+=", $crate"; fi
             done
             say "${#done[@]} of ${#crates[@]} crates proved after $(time_since "$start")${at_work:+, at work on ${at_work#, }}"
         else
@@ -81,7 +112,7 @@ follow() {
     return 1
 }
 
-# Proves the crates side by side by `rt ci`, which makes the program of them. It keeps on this machine what it has proved, so that after an
+# Proves the crates by `rt ci`, which makes the program of them. It keeps on this machine what it has proved, so that after an
 # interrupt the next start goes on where this one was.
 build() {
     local digest before made
@@ -89,13 +120,13 @@ build() {
     say "proving the program once, ${#crates[@]} crates: $takes; after an interrupt the next start goes on where this one was"
     room=$(mktemp -d "${TMPDIR:-/tmp}/$program.XXXXXX") || refuse "there is no room for a folder in which the program can be built"
     digest=$(digest_of_sources) before=$(listing)
-    copy_sources || refuse "the sources can't be copied into $room"
-    exec 8< <(cd "$room" && exec rt ci 2>&1 </dev/null 9>&-)
+    copy_crates "$room/beside" "${crates[@]}" || refuse "the sources can't be copied into $room"
+    exec 8< <(prove 9>&-)
     proving=$!
     follow <&8 || exit 2
     exec 8<&-
     [ "$(listing)" = "$before" ] || refuse "the sources were changed while they were proved; start again"
-    made=$(made_in "$room")
+    made=$(made_in "$room/first")
     [ -s "$made" ] || refuse "the program is proved, and there is none in $made"
     write_program "$made" "$digest" "$before" || refuse "the program can't be written into bin/out"
 }

@@ -25,6 +25,9 @@ add_crate() {
     crates+=("$1")
 }
 
+# The crates that most others wait for: what each of them stands on is proved, and then itself, before all that is left.
+awaited=(clr_rows clr_engine clr_plan_lines)
+
 # Sets `program` to a name, `crates` to the crates that it stands on, each behind those that it uses, and then its own, and `sources` to
 # all its sources.
 use_program() {
