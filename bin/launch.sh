@@ -63,7 +63,7 @@ prove_in() {
 # the processors have left: what one run has proved the other takes.
 prove() {
     local crate
-    trap 'kill $(jobs -p) 2>/dev/null' EXIT
+    trap 'trap "" TERM; kill $(jobs -p) 2>/dev/null' EXIT
     trap 'exit 143' TERM
     (cd "$room/beside" && exec nice -n 19 rt ci 2>&1 </dev/null) &
     for crate in "${awaited[@]}"; do
