@@ -53,6 +53,15 @@ crates_up_to() {
     echo "${crates[@]}"
 }
 
+# Ends what was started in the background. A signal that comes before a job has begun is lost, so each is sent until none is left.
+end_jobs() {
+    trap '' TERM
+    while [ -n "$(jobs -pr)" ]; do
+        kill $(jobs -pr) 2>/dev/null
+        sleep 0.1
+    done
+}
+
 # Has `rt ci` prove in a folder, until it is interrupted.
 prove_in() {
     (cd "$1" && exec rt ci 2>&1 </dev/null) &
@@ -63,7 +72,7 @@ prove_in() {
 # the processors have left: what one run has proved the other takes.
 prove() {
     local crate
-    trap 'trap "" TERM; kill $(jobs -p) 2>/dev/null' EXIT
+    trap end_jobs EXIT
     trap 'exit 143' TERM
     (cd "$room/beside" && exec nice -n 19 rt ci 2>&1 </dev/null) &
     for crate in "${awaited[@]}"; do
