@@ -3,6 +3,7 @@
 ghost use Rattle.std.specs.Prelude.{◌≡◌, ◌<◌, ◌++◌, ◌∷◌, [], length, map, IfOk, OnErr, OnOk};
 ghost use Rattle.clr_rows.specs.Held.{held_of};
 ghost use Rattle.clr_rules.specs.Books.{FitTogether};
+ghost use Rattle.clr_rules.specs.Roles.{roles_under};
 ghost use Rattle.clr_rows.specs.Beginnings.{IsBegun};
 ghost use Rattle.clr_audit.specs.RoleFiling.{no_rows_filed, with_subject, with_pairs, with_server, filed_rows, partners};
 
@@ -50,20 +51,21 @@ impl RoleIndex {
         }
     }
 
-    /// Files each part of a row that may be one of two subjects.
+    /// Files each part of a row of these roles that may be one of two subjects.
     fn file_parts(
         &mut self,
         alloc: Global,
         book: &RuleBook,
         rule: u16,
+        roles: Roles,
         position: usize,
         held: Held,
     ) -> Result<(), AllocError>
         requires number { rule < length book.now }
         requires fit { FitTogether book.now (held_of held ∷ []) }
+        requires roles { roles ≡ roles_under book.now rule (held_of held) }
         ensures { OnOk result (self.new ≡ with_pairs book.now rule self.old position (held_of held.entry)) }
     {
-        let roles = book.roles_of(rule, held);
         if !(roles.first || roles.second) {
             return Ok(());
         }
@@ -78,20 +80,22 @@ impl RoleIndex {
         Ok(())
     }
 
-    /// Files a row that may be a server.
+    /// Files a row of these roles that may be a server.
     fn file_server(
         &mut self,
         alloc: Global,
         book: &RuleBook,
         rule: u16,
+        roles: Roles,
         position: usize,
         held: Held,
     ) -> Result<(), AllocError>
         requires number { rule < length book.now }
         requires fit { FitTogether book.now (held_of held ∷ []) }
+        requires roles { roles ≡ roles_under book.now rule (held_of held) }
         ensures { OnOk result (self.new ≡ with_server book.now rule self.old position (held_of held.entry)) }
     {
-        if book.roles_of(rule, held).server {
+        if roles.server {
             let spots = server_spots(alloc, book, rule, held)?;
             self.servers
                 .file(alloc, FiledPart { position, part: 1 }, spots)?;
@@ -113,8 +117,9 @@ impl RoleIndex {
         let mut index = RoleIndex::new(alloc);
         for position in 0..rows.len() {
             let held = rows[position];
-            index.file_server(alloc, book, rule, position, held)?;
-            index.file_parts(alloc, book, rule, position, held)?;
+            let roles = book.roles_of(rule, held);
+            index.file_server(alloc, book, rule, roles, position, held)?;
+            index.file_parts(alloc, book, rule, roles, position, held)?;
         }
         Ok(index)
     }

@@ -15,6 +15,11 @@ pub on_err : {T E P : Type 0} (r : Result T E) → P → OnErr r P
 on_err (Ok x) p = tt
 on_err (Err e) p = p
 
+-- what follows from what holds after an error, holds after it
+pub on_err_from : {T E P Q : Type 0} (r : Result T E) → (P → Q) → OnErr r P → OnErr r Q
+on_err_from (Ok x) f p = tt
+on_err_from (Err e) f p = f p
+
 module _ {X : Type 0} where
   -- one element was added, if there is to be one
   pub one_begun : (b : Bool) (old : List X) (x : X) (new : List X) → new ≡ cond b (old ++ x ∷ []) old → IsBegun old (cond b (x ∷ []) []) new

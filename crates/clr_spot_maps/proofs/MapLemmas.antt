@@ -1,45 +1,47 @@
--- Entries by spot, as the entries of a tree make them.
+-- Entries by spot, as the entries of a table make them.
 use Rattle.std.proofs.Common.{◌≡◌, ℕ, Bool, true, false, cond, List, [], ◌∷◌, ◌++◌, Option, Some, append_assoc, length, take, unwrap_or, refl, ap, sym, ◌∙◌}
 use Rattle.std.proofs.Math.Seq.{take-append_seam}
-use Rattle.std.specs.Cmp.{Equal-is, IsTotalOrder, eq_by_cmp_equiv}
-use Rattle.std.specs.BTreeMap.{is_at}
+use Rattle.std.proofs.lemmas.List.{nil_from_length}
 use Rattle.std.specs.Map.{lookup}
 use Rattle.std.specs.FinMap as finite
-use Rattle.std.specs.FinMap.{IsAntisymmetric}
 use Rattle.std.specs.Ordering.{eq_by_cmp}
-use Rattle.std.specs.declared.cmp.Ordering.{Ordering}
 use Rattle.clr_rows.proofs.Entries.{find_row}
 use Rattle.clr_spots.specs.declared.spots.Spot.{Spot}
-use Rattle.clr_spots.specs.SpotOrder.{spot_cmp}
-use Rattle.clr_spots.specs.SpotOrderLaws.{spot_cmp_total, spot_cmp_exact}
+use Rattle.clr_spots.specs.SpotOrder.{same_spot, spot_cmp}
+use Rattle.clr_spots.specs.SpotOrderLaws.{same_spot_equiv, same_spot_is, spot_cmp_exact, spot_cmp_total, spots_tie}
 use Rattle.clr_spot_maps.specs.declared.spot_maps.FiledPart.{FiledPart}
-use Rattle.clr_spot_maps.specs.Filing.{EntriesBySpot, filed_at, filed_at_all}
+use Rattle.clr_spot_maps.specs.Filing.{EntriesBySpot, entries_at, filed_at, filed_at_all}
 
-module _ {K X : Type 0} {R : K → K → Ordering} (o : IsTotalOrder R) (exact : IsAntisymmetric R) where
-  -- what the map that a tree's entries make has at a key
-  pub get_entry : (es : List (K × X)) (q : K) → finite.get (finite.from_entries {R = R} es) q ≡ lookup (is_at (R q)) es
-  get_entry es q = finite.get-from_entries o es q ∙ find_row R es q
+module _ {X : Type 0} where
+  -- what the map that a table's entries make has at a spot
+  pub get_entry : (es : List (Spot × X)) (q : Spot) → finite.get (finite.from_entries {R = spot_cmp} es) q ≡ lookup (same_spot q) es
+  get_entry es q = finite.get-from_entries spot_cmp_total es q ∙ find_row spot_cmp es q ∙ λ i. lookup (λ x. sym (spots_tie q x) i) es
 
-  -- entries that differ at one key make maps that differ there
-  pub one_entry : (es fs : List (K × X)) (k : K) (x : X) → ((q : K) → lookup (is_at (R q)) fs ≡ cond (is_at (R k) q) (Some x) (lookup (is_at (R q)) es))
-      → finite.from_entries {R = R} fs ≡ finite.insert (finite.from_entries es) k x
-  one_entry es fs k x h = finite.same_map o exact _ _ (λ q.
-      get_entry fs q ∙ h q ∙ ap (λ b. cond b (Some x) (lookup (is_at (R q)) es)) ((eq_by_cmp_equiv o).symm k q)
-      ∙ sym (finite.get-insert o (finite.from_entries es) k x q ∙ ap (cond (eq_by_cmp R q k) (Some x)) (get_entry es q)))
+  -- entries that differ at one spot make maps that differ there
+  pub one_entry : (es fs : List (Spot × X)) (k : Spot) (x : X) → ((q : Spot) → lookup (same_spot q) fs ≡ cond (same_spot k q) (Some x) (lookup (same_spot q) es))
+      → finite.from_entries {R = spot_cmp} fs ≡ finite.insert (finite.from_entries es) k x
+  one_entry es fs k x h = finite.same_map spot_cmp_total spot_cmp_exact _ _ (λ q.
+      get_entry fs q ∙ h q ∙ ap (λ b. cond b (Some x) (lookup (same_spot q) es)) (same_spot_equiv.symm k q ∙ spots_tie q k)
+      ∙ sym (finite.get-insert spot_cmp_total (finite.from_entries es) k x q ∙ ap (cond (eq_by_cmp spot_cmp q k) (Some x)) (get_entry es q)))
 
   -- entries with the same values make one map
-  pub same_entries : (es fs : List (K × X)) → ((q : K) → lookup (is_at (R q)) fs ≡ lookup (is_at (R q)) es) → finite.from_entries {R = R} fs
+  pub same_entries : (es fs : List (Spot × X)) → ((q : Spot) → lookup (same_spot q) fs ≡ lookup (same_spot q) es) → finite.from_entries {R = spot_cmp} fs
       ≡ finite.from_entries es
-  same_entries es fs h = finite.same_map o exact _ _ (λ q. get_entry fs q ∙ h q ∙ sym (get_entry es q))
+  same_entries es fs h = finite.same_map spot_cmp_total spot_cmp_exact _ _ (λ q. get_entry fs q ∙ h q ∙ sym (get_entry es q))
+
+-- a table without entries has none at a spot
+pub none_at : (es : List (Spot × List FiledPart)) (x : Spot) → length es ≡ 0 → [] ≡ entries_at (finite.from_entries es) x
+none_at es x none = sym (ap (λ fs. entries_at (finite.from_entries fs) x) (nil_from_length es none)
+    ∙ ap (λ o. unwrap_or o []) (finite.get-empty spot_cmp x))
 
 -- a list that is written back as it was
-pub same_written : (f g : Spot → Option (List FiledPart)) (s : Spot) (w m : List FiledPart) → ((x : Spot) → g x ≡ cond (is_at (spot_cmp s) x) (Some w) (f x))
+pub same_written : (f g : Spot → Option (List FiledPart)) (s : Spot) (w m : List FiledPart) → ((x : Spot) → g x ≡ cond (same_spot s x) (Some w) (f x))
     → w ≡ m → Some m ≡ f s
     → (x : Spot) → g x ≡ f x
-same_written f g s w m is same here x = is x ∙ go (is_at (spot_cmp s) x) refl
+same_written f g s w m is same here x = is x ∙ go (same_spot s x) refl
   where
-    go : (b : Bool) → is_at (spot_cmp s) x ≡ b → cond b (Some w) (f x) ≡ f x
-    go true tie = ap Some same ∙ here ∙ ap f (spot_cmp_exact s x ((Equal-is (spot_cmp s x)).0 tie))
+    go : (b : Bool) → same_spot s x ≡ b → cond b (Some w) (f x) ≡ f x
+    go true tie = ap Some same ∙ here ∙ ap f (same_spot_is s x tie)
     go false tie = refl
 
 -- spot after spot ------------------------------------------------------------------------------------
@@ -74,5 +76,5 @@ filed_some m xs e n left (done, is, whole) = (
 )
 
 pub filed_more : (es : List (Spot × List FiledPart)) (x : Spot) (e : FiledPart)
-    → finite.insert (finite.from_entries es) x (unwrap_or (lookup (is_at (spot_cmp x)) es) [] ++ e ∷ []) ≡ filed_at (finite.from_entries es) x e
-filed_more es x e = ap (λ o. finite.insert (finite.from_entries es) x (unwrap_or o [] ++ e ∷ [])) (sym (get_entry spot_cmp_total spot_cmp_exact es x))
+    → finite.insert (finite.from_entries es) x (unwrap_or (lookup (same_spot x) es) [] ++ e ∷ []) ≡ filed_at (finite.from_entries es) x e
+filed_more es x e = ap (λ o. finite.insert (finite.from_entries es) x (unwrap_or o [] ++ e ∷ [])) (sym (get_entry es x))

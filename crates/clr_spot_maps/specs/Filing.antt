@@ -1,13 +1,12 @@
 -- Entries of rows, filed by their spots.
 use Rattle.std.specs.Prelude.{◌≡◌, ℕ, Bool, List, [], ◌∷◌, ◌++◌, Option, Some, true, Contains, take, unwrap_or, refl, if◌then◌else◌}
-use Rattle.std.specs.BTreeMap.{is_at}
 use Rattle.std.specs.Coded.{Coded, code_by, coded×, coded_list, coded_ℕ}
 use Rattle.std.specs.FinMap as finite
 use Rattle.std.specs.List.{flat_map}
 use Rattle.clr_rows.specs.Beginnings.{IsBegun}
 use Rattle.clr_spots.specs.declared.spots.Spot.{Spot}
 use Rattle.clr_spots.specs.contracts.spots.Spot as spot_type
-use Rattle.clr_spots.specs.SpotOrder.{spot_cmp}
+use Rattle.clr_spots.specs.SpotOrder.{same_spot, spot_cmp}
 use Rattle.clr_spots.specs.Spots.{are_many, unless_many}
 use Rattle.clr_spot_maps.specs.declared.spot_maps.FiledPart.{FiledPart}
 
@@ -64,7 +63,7 @@ pub record IsPartlyFiled (m : Filed) (e : FiledPart) (xs : List Spot) (many : Bo
 
 -- one more entry at a spot, and the others as before
 abbrev pub HasMore : Spot → FiledPart → (Spot → Option (List FiledPart)) → (Spot → Option (List FiledPart)) → Type 0
-HasMore x e before after = (y : Spot) → after y ≡ (if is_at (spot_cmp x) y then Some (unwrap_or (before x) [] ++ e ∷ []) else before y)
+HasMore x e before after = (y : Spot) → after y ≡ (if same_spot x y then Some (unwrap_or (before x) [] ++ e ∷ []) else before y)
 
 -- the entry of a row of these spots is filed
 pub record IsFiled (m : Filed) (e : FiledPart) (xs : List Spot) : Type 0 where

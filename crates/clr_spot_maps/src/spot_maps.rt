@@ -1,15 +1,16 @@
 //! Rows by their spots.
 
-ghost use Rattle.std.specs.Prelude.{◌≡◌, ◌++◌, ◌∷◌, [], IsSome, OnErr, OnOk};
-ghost use Rattle.std.specs.BTreeMap.{get};
-ghost use Rattle.clr_spots.specs.SpotOrder.{spot_cmp};
+ghost use Rattle.std.specs.Prelude.{◌≡◌, ◌++◌, ◌∷◌, [], IfOk, OnErr, OnOk};
+ghost use Rattle.std.specs.HashMap.{get};
+ghost use Rattle.clr_spots.specs.SpotOrder.{same_spot};
 ghost use Rattle.clr_spots.specs.declared.spots.Spot.{Spot as OneSpot};
 ghost use Rattle.clr_rows.specs.Beginnings.{IsBegun};
 ghost use Rattle.clr_spot_maps.specs.Filing.{no_entries, entries_at, filed_at, filed_entry, near, HasMore, IsPartlyFiled};
 
 use clr_spots::{Spot, Spots};
 use std::alloc::{AllocError, Global};
-use std::collections::BTreeMap;
+use std::collections::HashMap;
+use std::collections::hash_map::Entry;
 use std::marker::Model;
 
 /// A row by its position in a list, and a part of it.
@@ -35,12 +36,12 @@ impl Model for EntryList {
 }
 
 impl EntryList {
-    fn new(alloc: Global) -> EntryList
-        ensures { result ≡ [] }
+    fn of_one(alloc: Global, entry: FiledPart) -> Result<EntryList, AllocError>
+        ensures { IfOk result (λ entries. entries ≡ entry ∷ []) }
     {
-        EntryList {
-            list: Vec::new(alloc),
-        }
+        let mut list = Vec::with_capacity(alloc, 1)?;
+        list.push(entry)?;
+        Ok(EntryList { list })
     }
 
     fn push(&mut self, entry: FiledPart) -> Result<(), AllocError>
@@ -58,26 +59,35 @@ impl EntryList {
     }
 }
 
-/// Files an entry at a spot that has entries.
-fn push_at(
-    by_spot: &mut BTreeMap<Spot, EntryList>,
-    spot: &Spot,
+/// Files an entry at a spot, behind those that the spot has.
+fn put_at(
+    by_spot: &mut HashMap<Spot, EntryList>,
+    alloc: Global,
+    spot: Spot,
     entry: FiledPart,
 ) -> Result<(), AllocError>
-    requires { IsSome (get spot_cmp by_spot.old spot.now) }
-    ensures ok { OnOk result (HasMore spot.now entry (get spot_cmp by_spot.old) (get spot_cmp by_spot.new)) }
-    ensures err { OnErr result ((x : OneSpot) → get spot_cmp by_spot.new x ≡ get spot_cmp by_spot.old x) }
+    ensures ok { OnOk result (HasMore spot entry (get same_spot by_spot.old) (get same_spot by_spot.new)) }
+    ensures err { OnErr result ((x : OneSpot) → get same_spot by_spot.new x ≡ get same_spot by_spot.old x) }
 {
-    if let Some(entries) = by_spot.get_mut(spot) {
-        entries.push(entry)?;
+    match by_spot.entry(spot)? {
+        Entry::Occupied(place) => place.into_mut().push(entry),
+        Entry::Vacant(place) => match EntryList::of_one(alloc, entry) {
+            Ok(entries) => {
+                place.insert(entries);
+                Ok(())
+            }
+            Err(error) => {
+                let _spot = place.into_key();
+                Err(error)
+            }
+        },
     }
-    Ok(())
 }
 
 /// Entries by the spots of their rows in one role, those of wide rows, and all.
 #[derive(Drop)]
 pub struct SpotMap {
-    by_spot: BTreeMap<Spot, EntryList>,
+    by_spot: HashMap<Spot, EntryList>,
     wide: Vec<FiledPart>,
     all: Vec<FiledPart>,
 }
@@ -99,7 +109,7 @@ impl SpotMap {
         ensures { result ≡ no_entries }
     {
         SpotMap {
-            by_spot: BTreeMap::new(alloc),
+            by_spot: HashMap::new(alloc),
             wide: Vec::new(alloc),
             all: Vec::new(alloc),
         }
@@ -109,13 +119,7 @@ impl SpotMap {
         ensures ok { OnOk result (self.new ≡ record self.old { by_spot = filed_at self.old.by_spot spot entry }) }
         ensures err { OnErr result (self.new ≡ self.old) }
     {
-        if self.by_spot.contains_key(&spot) {
-            push_at(&mut self.by_spot, &spot, entry)?;
-            return Ok(());
-        }
-        let mut entries = EntryList::new(alloc);
-        entries.push(entry)?;
-        self.by_spot.insert(spot, entries)?;
+        put_at(&mut self.by_spot, alloc, spot, entry)?;
         Ok(())
     }
 
@@ -139,6 +143,9 @@ impl SpotMap {
     pub fn entries_at(&self, spot: &Spot) -> &[FiledPart]
         ensures { result.now ≡ entries_at self.now.by_spot spot.now }
     {
+        if self.by_spot.is_empty() {
+            return &[];
+        }
         match self.by_spot.get(spot) {
             Some(entries) => entries.as_slice(),
             None => &[],

@@ -8,6 +8,7 @@
 #![tactic(auto)]
 
 mod boxes;
+mod hashes;
 mod laws;
 mod limits;
 mod order;

@@ -40,9 +40,13 @@ impl PartialEq for Spot {
 
     ghost laws = { partial_equiv_from_equiv same_spot_equiv };
 
-    #[tactic(auto, using(crate::specs::SpotOrderLaws::spots_tie))]
+    #[tactic(auto, unfolding(crate::specs::SpotOrder::same_spot))]
     fn eq(&self, other: &Spot) -> bool {
-        self.cmp(other) == Ordering::Equal
+        match (self, other) {
+            (Spot::Square(i, j), Spot::Square(k, l)) => i == k && j == l,
+            (Spot::Square(_, _), Spot::Values(_)) | (Spot::Values(_), Spot::Square(_, _)) => false,
+            (Spot::Values(a), Spot::Values(b)) => a.same(b),
+        }
     }
 }
 

@@ -28,7 +28,7 @@ fn field(held: Held, column: Col) -> Result<Option<Value>, AllocError>
 fn values_of(alloc: Global, held: Held, columns: &[Col]) -> Result<Vec<Value>, AllocError>
     ensures { IfOk result (λ list. list.items ≡ filter_map (field (held_of held.entry)) columns.now) }
 {
-    let mut list = Vec::new(alloc);
+    let mut list = Vec::with_capacity(alloc, columns.len())?;
     for column in columns {
         if let Some(value) = field(held, *column)? {
             list.push(value)?;
