@@ -1,5 +1,5 @@
 -- The next cell behind a given one: in a tree, and among all that are looked at for a row.
-use Rattle.std.proofs.Common.{◌≡◌, ◌∙◌, ◌⊎◌, inl, inr, ◌+◌, ◌<◌, ℕ, true, false, ◌&&◌, List, [], ◌∷◌, length, get_or, take, Option, Some, None, is_some, refl, sym, ap, subst}
+use Rattle.std.proofs.Common.{◌≡◌, ◌∙◌, ◌⊎◌, inl, inr, ◌+◌, ◌<◌, ℕ, true, false, nat_eq, ◌&&◌, List, [], ◌∷◌, length, get_or, take, Option, Some, None, is_some, refl, sym, ap, subst}
 use Rattle.std.specs.Prelude.{slice_get}
 use Rattle.std.proofs.lemmas.Bool.{false≢true, or_cases, or_left, or_right, true≢false}
 use Rattle.std.specs.BTreeMap.{BTreeMap, get}
@@ -7,9 +7,10 @@ use Rattle.std.specs.BTreeMap.Range.{IsFromStart, IsRangeOf}
 use Rattle.std.specs.BTreeSet.{BTreeSet, IsKeyRangeOf}
 use Rattle.std.specs.Cmp.{Equal-is, tied_itself}
 use Rattle.std.specs.FinMap as finite
+use Rattle.std.specs.HashMap as hash
 use Rattle.std.specs.FinSet as set
 use Rattle.std.specs.List.{list_any}
-use Rattle.std.specs.Ordering.{eq_by_cmp, is_gt, is_lt, nat_cmp}
+use Rattle.std.specs.Ordering.{eq_by_cmp, is_gt, is_lt}
 use Rattle.std.specs.Range.Bound.{IsForward}
 use Rattle.std.specs.declared.ops.Bound.{Bound}
 use Rattle.std.specs.declared.ops.Bound.TheVariants.{Included, Excluded, Unbounded}
@@ -106,23 +107,23 @@ one_before p before fails = record {
 
 module _ (i : SideIndex) (after : Option CellId) (xs : List Spot) where
   abbrev pub HasCellAtSome : List Spot → CellId → Type 0
-  HasCellAtSome ys q = list_any (λ x. has_cell (get nat_cmp i.by_spot (number_of x)) q) ys ≡ true
+  HasCellAtSome ys q = list_any (λ x. has_cell (hash.get nat_eq i.by_spot (number_of x)) q) ys ≡ true
 
   pub spot_next : (k : ℕ) (x : Spot) (number : ℕ) (before here next : Option CellId) → k < length xs → x ≡ get_or xs k x → number ≡ number_of x → next
       ≡ lesser_cell before here
       → IsNextOf (HasCellAtSome (take k xs)) after before
-      → IsNextOf (λ q. has_cell (get nat_cmp i.by_spot number) q ≡ true) after here
+      → IsNextOf (λ q. has_cell (hash.get nat_eq i.by_spot number) q ≡ true) after here
       → IsNextOf (HasCellAtSome (take (k + 1) xs)) after next
   spot_next k x number before here next less read told is f g =
-      next_of_two after (HasCellAtSome (take k xs)) (λ q. has_cell (get nat_cmp i.by_spot number) q ≡ true) (HasCellAtSome (take (k + 1) xs)) before here next
+      next_of_two after (HasCellAtSome (take k xs)) (λ q. has_cell (hash.get nat_eq i.by_spot number) q ≡ true) (HasCellAtSome (take (k + 1) xs)) before here next
       is split f g
     where
-      split : (q : CellId) → HasCellAtSome (take (k + 1) xs) q → HasCellAtSome (take k xs) q ⊎ (has_cell (get nat_cmp i.by_spot number) q ≡ true)
-      split q e = elim (or_cases (list_any (λ y. has_cell (get nat_cmp i.by_spot (number_of y)) q) (take k xs))
-          (has_cell (get nat_cmp i.by_spot (number_of x)) q)
-          (sym (any_more (λ y. has_cell (get nat_cmp i.by_spot (number_of y)) q) xs k x less read) ∙ e)) [
+      split : (q : CellId) → HasCellAtSome (take (k + 1) xs) q → HasCellAtSome (take k xs) q ⊎ (has_cell (hash.get nat_eq i.by_spot number) q ≡ true)
+      split q e = elim (or_cases (list_any (λ y. has_cell (hash.get nat_eq i.by_spot (number_of y)) q) (take k xs))
+          (has_cell (hash.get nat_eq i.by_spot (number_of x)) q)
+          (sym (any_more (λ y. has_cell (hash.get nat_eq i.by_spot (number_of y)) q) xs k x less read) ∙ e)) [
             | inl old ↦ inl old
-            | inr new ↦ inr (ap (λ n. has_cell (get nat_cmp i.by_spot n) q) told ∙ new)
+            | inr new ↦ inr (ap (λ n. has_cell (hash.get nat_eq i.by_spot n) q) told ∙ new)
           ]
 
 -- ---- where cells are found for a row: among all rows, among the wide ones, at its spots
@@ -135,14 +136,14 @@ module _ (i : SideIndex) (x : RuleSpots) (ys : List Spot) (same : ys ≡ x.spots
   AmongWide q = (x.has_role && set.contains i.wide q) ≡ true
 
   abbrev AtSpots : CellId → Type 0
-  AtSpots q = list_any (λ y. has_cell (get nat_cmp i.by_spot (number_of y)) q) ys ≡ true
+  AtSpots q = list_any (λ y. has_cell (hash.get nat_eq i.by_spot (number_of y)) q) ys ≡ true
 
-  some_at : (number : ℕ) (q : CellId) → has_cell (get nat_cmp i.by_spot number) q ≡ true → (zs : List Spot) → list_any (has_number number) zs ≡ true
-      → list_any (λ z. has_cell (get nat_cmp i.by_spot (number_of z)) q) zs ≡ true
+  some_at : (number : ℕ) (q : CellId) → has_cell (hash.get nat_eq i.by_spot number) q ≡ true → (zs : List Spot) → list_any (has_number number) zs ≡ true
+      → list_any (λ z. has_cell (hash.get nat_eq i.by_spot (number_of z)) q) zs ≡ true
   some_at number q e [] h = absurd (false≢true h)
   some_at number q e (z ∷ zs) h = elim (or_cases (has_number number z) (list_any (has_number number) zs) h) [
-    | inl here ↦ or_left _ _ (subst (λ n. has_cell (get nat_cmp i.by_spot n) q ≡ true) (tied_number number (number_of z) here) e)
-    | inr later ↦ or_right (has_cell (get nat_cmp i.by_spot (number_of z)) q) _ (some_at number q e zs later)
+    | inl here ↦ or_left _ _ (subst (λ n. has_cell (hash.get nat_eq i.by_spot n) q ≡ true) (tied_number number (number_of z) here) e)
+    | inr later ↦ or_right (has_cell (hash.get nat_eq i.by_spot (number_of z)) q) _ (some_at number q e zs later)
   ]
 
   split : (q : CellId) → IsFoundFor i x q → (AmongAll q ⊎ AmongWide q) ⊎ AtSpots q

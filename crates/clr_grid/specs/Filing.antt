@@ -1,10 +1,11 @@
 -- Cells filed by the numbers of the spots of their rows under each rule, so that rows with a common spot are found.
-use Rattle.std.specs.Prelude.{◌≡◌, ◌⊎◌, ℕ, Bool, true, false, not, List, ◌&&◌, Option, Some, None, slice_get, ⊤, if◌then◌else◌}
-use Rattle.std.specs.BTreeMap.{BTreeMap, get}
+use Rattle.std.specs.Prelude.{◌≡◌, ◌⊎◌, ℕ, nat_eq, Bool, true, false, not, ◌&&◌, if◌then◌else◌, List, Option, Some, None, slice_get, ⊤}
+use Rattle.std.specs.HashMap.{HashMap, get}
 use Rattle.std.specs.FinSet as set
 use Rattle.std.specs.List.{list_any}
+use Rattle.std.specs.declared.hash.BuildHasherDefault.{BuildHasherDefault}
+use Rattle.std.specs.declared.hash.FoldHasher.{FoldHasher}
 use Rattle.clr_rows.specs.declared.cells.CellId.{CellId}
-use Rattle.std.specs.Ordering.{nat_cmp}
 use Rattle.clr_grid.specs.CellSets.{Cells, is_one, is_one_of}
 use Rattle.clr_finders.specs.declared.row_spots.RuleSpots.{RuleSpots}
 use Rattle.clr_grid.specs.declared.side_index.SideIndex.{SideIndex}
@@ -48,14 +49,22 @@ abbrev pub keeps_number : Option RuleSpots → ℕ → Bool
 keeps_number None n = false
 keeps_number (Some y) n = list_any (has_number n) y.spots.list
 
+-- cells by numbers
+abbrev pub ByNumber : Type 0
+ByNumber = HashMap ℕ Cells (BuildHasherDefault FoldHasher)
+
 abbrev pub has_cell : Option Cells → CellId → Bool
 has_cell None q = false
 has_cell (Some cells) q = set.contains cells q
 
+abbrev pub without_cell : Option Cells → CellId → Option Cells
+without_cell None cell = None
+without_cell (Some cells) cell = Some (set.remove cells cell)
+
 abbrev pub is_filed : SideIndex → Key → CellId → Bool
 is_filed index All q = set.contains index.all q
 is_filed index Wide q = set.contains index.wide q
-is_filed index (At n) q = has_cell (get nat_cmp index.by_spot n) q
+is_filed index (At n) q = has_cell (get nat_eq index.by_spot n) q
 
 -- what is filed for another cell, or for a row that the cell keeps
 abbrev pub stays : CellId → Option RuleSpots → Key → CellId → Bool
@@ -120,8 +129,8 @@ AreOfRows rows indexes = (number : ℕ) (serves : Bool) (k : Key) (q : CellId) �
     → HasRowFor rows q number serves k
 
 -- each number that is kept holds a cell
-abbrev pub HoldCells : BTreeMap ℕ Cells → Type 0
-HoldCells by_spot = (n : ℕ) → get nat_cmp by_spot n ≡ Some set.empty → ⊥
+abbrev pub HoldCells : ByNumber → Type 0
+HoldCells by_spot = (n : ℕ) → get nat_eq by_spot n ≡ Some set.empty → ⊥
 
 abbrev pub AllHoldCells : List RuleIndex → Type 0
 AllHoldCells indexes = (number : ℕ) (index : RuleIndex) (serves : Bool) → slice_get indexes number ≡ Some index

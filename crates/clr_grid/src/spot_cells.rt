@@ -53,12 +53,12 @@ fn without(first: Option<CellId>, cell: CellId) -> Option<CellId>
 }
 
 impl SpotCells {
-    /// No cells.
-    pub(crate) fn new(alloc: Global) -> SpotCells
-        ensures { result ≡ set.empty }
+    /// One cell alone.
+    pub(crate) fn one(alloc: Global, cell: CellId) -> SpotCells
+        ensures { result ≡ set.insert set.empty cell }
     {
         SpotCells {
-            first: None,
+            first: Some(cell),
             others: BTreeSet::new(alloc),
         }
     }
