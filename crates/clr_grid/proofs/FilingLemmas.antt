@@ -16,7 +16,7 @@ use Rattle.clr_spots.specs.declared.spots.Spot.{Spot}
 use Rattle.clr_rows.proofs.ChangeLemmas.{tied_self}
 use Rattle.clr_grid.proofs.SetLemmas.{or_group, or_none}
 use Rattle.clr_grid.specs.CellSets.{Cells, is_one}
-use Rattle.clr_grid.specs.Filing.{Key, All, Wide, At, has_cell, has_key, has_key_of, without_cell, keeps_number, is_filed, is_looked_at, keeps_role, keeps_wide, stays}
+use Rattle.clr_grid.specs.Filing.{Key, Wide, At, has_cell, has_key, has_key_of, without_cell, keeps_number, is_filed, is_looked_at, keeps_wide, stays}
 use Rattle.clr_grid.specs.SpotNumbers.{has_number, number_of}
 use Rattle.clr_finders.specs.declared.row_spots.RuleSpots.{RuleSpots}
 use Rattle.clr_grid.specs.declared.side_index.SideIndex.{SideIndex}
@@ -263,24 +263,17 @@ taken_more f g h cell kept s hasnt taken before x q p e = taken x q (apart (is_o
     apart false e = refl
 
 -- ---- an index
-pub kept_by : (i j : SideIndex) → ((q : CellId) → set.contains i.all q ≡ true → set.contains j.all q ≡ true) → ((q : CellId) → set.contains i.wide q ≡ true → set.contains j.wide q ≡ true)
+pub kept_by : (i j : SideIndex) → ((q : CellId) → set.contains i.wide q ≡ true → set.contains j.wide q ≡ true)
     → ((x : ℕ) (q : CellId) → is_filed i (At x) q ≡ true → is_filed j (At x) q ≡ true) → (k : Key) (q : CellId) → is_filed i k q ≡ true → is_filed j k q ≡ true
-kept_by i j all wide spots All q e = all q e
-kept_by i j all wide spots Wide q e = wide q e
-kept_by i j all wide spots (At x) q e = spots x q e
+kept_by i j wide spots Wide q e = wide q e
+kept_by i j wide spots (At x) q e = spots x q e
 
 pub only_by : (i j : SideIndex) (x : RuleSpots) (cell : CellId)
-    → ((q : CellId) → set.contains j.all q ≡ true → (set.contains i.all q ≡ true) ⊎ ((q ≡ cell) × (x.has_role ≡ true)))
     → ((q : CellId) → set.contains j.wide q ≡ true → (set.contains i.wide q ≡ true) ⊎ ((q ≡ cell) × (x.spots.wide ≡ true)))
     → ((y : ℕ) (q : CellId) → is_filed j (At y) q ≡ true → (is_filed i (At y) q ≡ true) ⊎ ((q ≡ cell) × (list_any (has_number y) x.spots.list ≡ true)))
     → (k : Key) (q : CellId) → is_filed j k q ≡ true → (is_filed i k q ≡ true) ⊎ ((q ≡ cell) × (has_key x k ≡ true))
-only_by i j x cell all wide spots All q e = all q e
-only_by i j x cell all wide spots Wide q e = wide q e
-only_by i j x cell all wide spots (At y) q e = spots y q e
-
-keeps_all : (kept : Option RuleSpots) → keeps_role kept ≡ has_key_of kept All
-keeps_all None = refl
-keeps_all (Some y) = refl
+only_by i j x cell wide spots Wide q e = wide q e
+only_by i j x cell wide spots (At y) q e = spots y q e
 
 keeps_all_wide : (kept : Option RuleSpots) → keeps_wide kept ≡ has_key_of kept Wide
 keeps_all_wide None = refl
@@ -295,59 +288,47 @@ kept_if true cell m gone e = refl
 kept_if false cell m gone e = absurd (false≢true (sym (gone refl) ∙ e))
 
 pub gone_by : (j : SideIndex) (x : RuleSpots) (cell : CellId) (kept : Option RuleSpots)
-    → (not (keeps_role kept) ≡ true → set.contains j.all cell ≡ false)
     → (not (keeps_wide kept) ≡ true → set.contains j.wide cell ≡ false)
     → ((y : ℕ) → list_any (has_number y) x.spots.list ≡ true → is_filed j (At y) cell ≡ true → keeps_number kept y ≡ true)
     → (k : Key) → has_key x k ≡ true → is_filed j k cell ≡ true → has_key_of kept k ≡ true
-gone_by j x cell kept all wide spots All key e = sym (keeps_all kept) ∙ kept_if (keeps_role kept) cell j.all all e
-gone_by j x cell kept all wide spots Wide key e = sym (keeps_all_wide kept) ∙ kept_if (keeps_wide kept) cell j.wide wide e
-gone_by j x cell kept all wide spots (At y) key e = sym (keeps_spot kept y) ∙ spots y key e
+gone_by j x cell kept wide spots Wide key e = sym (keeps_all_wide kept) ∙ kept_if (keeps_wide kept) cell j.wide wide e
+gone_by j x cell kept wide spots (At y) key e = sym (keeps_spot kept y) ∙ spots y key e
 
 -- an index without cells
-pub none_in : (i : SideIndex) → ((q : CellId) → set.contains i.all q ≡ false) → ((q : CellId) → set.contains i.wide q ≡ false) → ((x : ℕ) → get nat_eq i.by_spot x ≡ None)
+pub none_in : (i : SideIndex) → ((q : CellId) → set.contains i.wide q ≡ false) → ((x : ℕ) → get nat_eq i.by_spot x ≡ None)
     → (k : Key) (q : CellId) → is_filed i k q ≡ false
-none_in i all wide spots All q = all q
-none_in i all wide spots Wide q = wide q
-none_in i all wide spots (At x) q = ap (λ o. has_cell o q) (spots x)
+none_in i wide spots Wide q = wide q
+none_in i wide spots (At x) q = ap (λ o. has_cell o q) (spots x)
 
-pub filed_by : (i : SideIndex) (x : RuleSpots) (cell : CellId) → (x.has_role ≡ true → set.contains i.all cell ≡ true) → (x.spots.wide ≡ true → set.contains i.wide cell ≡ true)
+pub filed_by : (i : SideIndex) (x : RuleSpots) (cell : CellId) → (x.spots.wide ≡ true → set.contains i.wide cell ≡ true)
     → ((y : ℕ) → list_any (has_number y) x.spots.list ≡ true → is_filed i (At y) cell ≡ true) → (k : Key) → has_key x k ≡ true → is_filed i k cell ≡ true
-filed_by i x cell all wide spots All e = all e
-filed_by i x cell all wide spots Wide e = wide e
-filed_by i x cell all wide spots (At y) e = spots y e
+filed_by i x cell wide spots Wide e = wide e
+filed_by i x cell wide spots (At y) e = spots y e
 
 pub stays_by : (i j : SideIndex) (cell : CellId) (kept : Option RuleSpots)
-    → ((q : CellId) → (is_one cell q && not (keeps_role kept)) ≡ false → set.contains i.all q ≡ true → set.contains j.all q ≡ true)
     → ((q : CellId) → (is_one cell q && not (keeps_wide kept)) ≡ false → set.contains i.wide q ≡ true → set.contains j.wide q ≡ true)
     → ((x : ℕ) (q : CellId) → (is_one cell q && not (keeps_number kept x)) ≡ false → is_filed i (At x) q ≡ true → is_filed j (At x) q ≡ true)
     → (k : Key) (q : CellId) → stays cell kept k q ≡ true → is_filed i k q ≡ true → is_filed j k q ≡ true
-stays_by i j cell kept all wide spots All q s e = all q (not-true _ s) e
-stays_by i j cell kept all wide spots Wide q s e = wide q (not-true _ s) e
-stays_by i j cell kept all wide spots (At x) q s e = spots x q (not-true _ s) e
+stays_by i j cell kept wide spots Wide q s e = wide q (not-true _ s) e
+stays_by i j cell kept wide spots (At x) q s e = spots x q (not-true _ s) e
 
 -- the cells that are looked at, added one part after another
-pub near_by : (i : SideIndex) (x : RuleSpots) (m m' m'' n : Cells) (list : List Spot) → ((q : CellId) → set.contains m' q ≡ (set.contains m q || (x.spots.wide && set.contains i.all q)))
-    → ((q : CellId) → set.contains m'' q ≡ (set.contains m' q || (x.has_role && set.contains i.wide q)))
-    → ((q : CellId) → set.contains n q ≡ (set.contains m'' q || list_any (λ y. has_cell (get nat_eq i.by_spot (number_of y)) q) list))
-    → list ≡ x.spots.list
-    → (k : Key) (q : CellId) → is_looked_at x k ≡ true → is_filed i k q ≡ true → set.contains n q ≡ true
-near_by i x m m' m'' n list all wide spots same All q l e =
-    spots q ∙ or_left _ _ (wide q ∙ or_left _ _ (all q ∙ or_right (set.contains m q) _ (λ j. l j && e j)))
-near_by i x m m' m'' n list all wide spots same Wide q l e = spots q ∙ or_left _ _ (wide q ∙ or_right (set.contains m' q) _ (λ j. l j && e j))
-near_by i x m m' m'' n list all wide spots same (At y) q l e = spots q ∙ or_right (set.contains m'' q) _ (some_at list (ap (list_any (has_number y)) same ∙ l))
-  where
-    some_at : (ys : List Spot) → list_any (has_number y) ys ≡ true → list_any (λ z. has_cell (get nat_eq i.by_spot (number_of z)) q) ys ≡ true
-    some_at [] h = absurd (false≢true h)
-    some_at (z ∷ ys) h = elim (or_cases (has_number y z) (list_any (has_number y) ys) h) [
-      | inl here ↦ or_left _ _ (subst (λ w. has_cell (get nat_eq i.by_spot w) q ≡ true) (tied_number y (number_of z) here) e)
-      | inr later ↦ or_right (has_cell (get nat_eq i.by_spot (number_of z)) q) _ (some_at ys later)
-    ]
+module _ (i : SideIndex) (x : RuleSpots) (m m' n : Cells) (list : List Spot) (wide : (q : CellId) → set.contains m' q
+    ≡ (set.contains m q || (x.has_role && set.contains i.wide q)))
+    (spots : (q : CellId) → set.contains n q ≡ (set.contains m' q || list_any (λ y. has_cell (get nat_eq i.by_spot (number_of y)) q) list)) where
+  pub near_by : list ≡ x.spots.list → (k : Key) (q : CellId) → is_looked_at x k ≡ true → is_filed i k q ≡ true → set.contains n q ≡ true
+  near_by same Wide q l e = spots q ∙ or_left _ _ (wide q ∙ or_right (set.contains m q) _ (λ j. l j && e j))
+  near_by same (At y) q l e = spots q ∙ or_right (set.contains m' q) _ (some_at list (ap (list_any (has_number y)) same ∙ l))
+    where
+      some_at : (ys : List Spot) → list_any (has_number y) ys ≡ true → list_any (λ z. has_cell (get nat_eq i.by_spot (number_of z)) q) ys ≡ true
+      some_at [] h = absurd (false≢true h)
+      some_at (z ∷ ys) h = elim (or_cases (has_number y z) (list_any (has_number y) ys) h) [
+        | inl here ↦ or_left _ _ (subst (λ w. has_cell (get nat_eq i.by_spot w) q ≡ true) (tied_number y (number_of z) here) e)
+        | inr later ↦ or_right (has_cell (get nat_eq i.by_spot (number_of z)) q) _ (some_at ys later)
+      ]
 
-pub near_keeps : (i : SideIndex) (x : RuleSpots) (m m' m'' n : Cells) (list : List Spot) → ((q : CellId) → set.contains m' q ≡ (set.contains m q || (x.spots.wide && set.contains i.all q)))
-    → ((q : CellId) → set.contains m'' q ≡ (set.contains m' q || (x.has_role && set.contains i.wide q)))
-    → ((q : CellId) → set.contains n q ≡ (set.contains m'' q || list_any (λ y. has_cell (get nat_eq i.by_spot (number_of y)) q) list))
-    → (q : CellId) → set.contains m q ≡ true → set.contains n q ≡ true
-near_keeps i x m m' m'' n list all wide spots q e = spots q ∙ or_left _ _ (wide q ∙ or_left _ _ (all q ∙ or_left _ _ e))
+  pub near_keeps : (q : CellId) → set.contains m q ≡ true → set.contains n q ≡ true
+  near_keeps q e = spots q ∙ or_left _ _ (wide q ∙ or_left _ _ e)
 
 -- the cells of one more spot
 pub added_more : (p : Spot → Bool) (xs : List Spot) (k : ℕ) (x : Spot) (a b c : Bool) → k < length xs → x ≡ get_or xs k x → b ≡ (a || list_any p (take k xs)) → c ≡ (b || p x) → c ≡ (a || list_any p (take (k + 1) xs))

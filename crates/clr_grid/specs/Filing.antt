@@ -13,15 +13,13 @@ use Rattle.clr_grid.specs.declared.rule_index.RuleIndex.{RuleIndex}
 use Rattle.clr_grid.specs.RowMaps.{Rows, IsRowAt}
 use Rattle.clr_grid.specs.SpotNumbers.{has_number}
 
--- where a cell is filed: among all rows with a role, among the wide ones, at the number of a spot
+-- where a cell is filed: among the wide rows, at the number of a spot
 pub data Key : Type 0 where
-  All : Key
   Wide : Key
   At : ℕ → Key
 
 -- the row is to be filed there
 abbrev pub has_key : RuleSpots → Key → Bool
-has_key x All = x.has_role
 has_key x Wide = x.spots.wide
 has_key x (At n) = list_any (has_number n) x.spots.list
 
@@ -30,17 +28,12 @@ abbrev pub has_key_of : Option RuleSpots → Key → Bool
 has_key_of None k = false
 has_key_of (Some y) k = has_key y k
 
--- the cells there are found for the row
+-- the cells there are found for the row, if it isn't wide
 abbrev pub is_looked_at : RuleSpots → Key → Bool
-is_looked_at x All = x.spots.wide
 is_looked_at x Wide = x.has_role
 is_looked_at x (At n) = list_any (has_number n) x.spots.list
 
 -- what a row that stays has
-abbrev pub keeps_role : Option RuleSpots → Bool
-keeps_role None = false
-keeps_role (Some y) = y.has_role
-
 abbrev pub keeps_wide : Option RuleSpots → Bool
 keeps_wide None = false
 keeps_wide (Some y) = y.spots.wide
@@ -62,13 +55,11 @@ without_cell None cell = None
 without_cell (Some cells) cell = Some (set.remove cells cell)
 
 abbrev pub is_filed : SideIndex → Key → CellId → Bool
-is_filed index All q = set.contains index.all q
 is_filed index Wide q = set.contains index.wide q
 is_filed index (At n) q = has_cell (get nat_eq index.by_spot n) q
 
 -- what is filed for another cell, or for a row that the cell keeps
 abbrev pub stays : CellId → Option RuleSpots → Key → CellId → Bool
-stays cell kept All q = not (is_one cell q && not (keeps_role kept))
 stays cell kept Wide q = not (is_one cell q && not (keeps_wide kept))
 stays cell kept (At n) q = not (is_one cell q && not (keeps_number kept n))
 

@@ -11,7 +11,7 @@ ghost use Rattle.clr_finders.specs.NextCells.{IsNextOf};
 ghost use Rattle.clr_grid.specs.CellSets.{is_one};
 ghost use Rattle.clr_grid.specs.Gains.{GainsCells, IsFoundFor};
 ghost use Rattle.clr_grid.specs.Filing.{HoldCells, Key, has_cell, has_key, has_key_of, is_filed, is_looked_at};
-ghost use Rattle.clr_grid.specs.Filing.{keeps_number, keeps_role, keeps_wide, stays, without_cell};
+ghost use Rattle.clr_grid.specs.Filing.{keeps_number, keeps_wide, stays, without_cell};
 ghost use Rattle.clr_grid.specs.SpotNumbers.{has_number, number_of};
 
 use crate::cell_sets::CellSet;
@@ -24,12 +24,11 @@ use std::alloc::{AllocError, Global};
 use std::collections::HashMap;
 use std::collections::hash_map::Entry;
 
-/// The cells of some rows under a rule: of all, of the wide ones, and by the numbers of their spots.
+/// The cells of some rows under a rule: of the wide ones, and by the numbers of their spots.
 #[derive(Drop)]
 pub(crate) struct SideIndex {
     by_spot: HashMap<u64, SpotCells>,
     wide: CellSet,
-    all: CellSet,
 }
 
 /// Files a cell at a number.
@@ -104,16 +103,6 @@ fn take_at(by_spot: &mut HashMap<u64, SpotCells>, number: u64, cell: CellId)
     }
 }
 
-/// Whether a row that stays has a role.
-fn keeps_role(kept: Option<&RuleSpots>) -> bool
-    ensures { result ≡ keeps_role (option_copied kept.entry) }
-{
-    match kept {
-        Some(kept) => kept.has_role,
-        None => false,
-    }
-}
-
 /// Whether a row that stays is wide.
 fn keeps_wide(kept: Option<&RuleSpots>) -> bool
     ensures { result ≡ keeps_wide (option_copied kept.entry) }
@@ -165,7 +154,6 @@ impl SideIndex {
         SideIndex {
             by_spot: HashMap::new(alloc),
             wide: CellSet::new(alloc),
-            all: CellSet::new(alloc),
         }
     }
 
@@ -182,7 +170,6 @@ impl SideIndex {
         ensures lean { HoldCells self.old.by_spot → HoldCells self.new.by_spot }
         ensures filed { OnOk result ((k : Key) → has_key spots.now k ≡ true → is_filed self.new k cell ≡ true) }
     {
-        self.all.add_if(spots.has_role, cell)?;
         self.wide.add_if(spots.spots.wide, cell)?;
         file_at_each(&mut self.by_spot, alloc, spots.spots.list.as_slice(), cell)?;
         Ok(())
@@ -196,7 +183,6 @@ impl SideIndex {
         ensures gone { (k : Key) → has_key spots.now k ≡ true → is_filed self.new k cell ≡ true → has_key_of (option_copied kept.entry) k ≡ true }
         ensures lean { HoldCells self.old.by_spot → HoldCells self.new.by_spot }
     {
-        self.all.remove_if(!keeps_role(kept), cell);
         self.wide.remove_if(!keeps_wide(kept), cell);
         take_at_each(&mut self.by_spot, spots.spots.list.as_slice(), kept, cell);
     }
@@ -225,15 +211,14 @@ impl SideIndex {
         Ok(())
     }
 
-    /// Adds the cells that are looked at for a row. If memory runs out, the set keeps its own
-    /// cells, and besides them it has only some of these.
+    /// Adds the cells that are looked at for a row that isn't wide. If memory runs out, the set keeps
+    /// its own cells, and besides them it has only some of these.
     pub(crate) fn add_near(&self, spots: &RuleSpots, cells: &mut CellSet) -> Result<(), AllocError>
         ensures kept { OnOk result ((q : Cell) → set.contains cells.old q ≡ true → set.contains cells.new q ≡ true) }
         ensures near { OnOk result ((k : Key) (q : Cell) → is_looked_at spots.now k ≡ true → is_filed self.now k q ≡ true
             → set.contains cells.new q ≡ true) }
         ensures err { OnErr result (GainsCells (IsFoundFor self.now spots.now) cells.old cells.new) }
     {
-        cells.add_all(spots.spots.wide, &self.all)?;
         cells.add_all(spots.has_role, &self.wide)?;
         self.add_cells_at_each(spots.spots.list.as_slice(), cells)?;
         Ok(())
@@ -260,13 +245,12 @@ impl SideIndex {
         next
     }
 
-    /// The first of the cells that are looked at for a row behind a given one, if there is one.
+    /// The first cell behind a given one that is looked at for a row that isn't wide, if any.
     pub(crate) fn next_near(&self, spots: &RuleSpots, after: Option<CellId>) -> Option<CellId>
         ensures { IsNextOf (IsFoundFor self.now spots.now) after result }
     {
-        let among_all = self.all.next_if(spots.spots.wide, after);
         let among_wide = self.wide.next_if(spots.has_role, after);
         let at_spots = self.next_at_each(spots.spots.list.as_slice(), after);
-        lesser_cell(lesser_cell(among_all, among_wide), at_spots)
+        lesser_cell(among_wide, at_spots)
     }
 }

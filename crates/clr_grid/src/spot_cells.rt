@@ -41,14 +41,8 @@ fn without(first: Option<CellId>, cell: CellId) -> Option<CellId>
     ensures { (q : Cell) → is_one_of (option_to_list result) q ≡ (not (eq_by_cmp cell_cmp q cell) && is_one_of (option_to_list first) q) }
 {
     match first {
-        Some(first) => {
-            if first.cmp(&cell).is_eq() {
-                None
-            } else {
-                Some(first)
-            }
-        }
-        None => None,
+        Some(first) if first.cmp(&cell).is_eq() => None,
+        other => other,
     }
 }
 

@@ -12,8 +12,7 @@ none : (by_spot : ByNumber) → by_spot.entries ≡ [] → (x : ℕ) → get nat
 none by_spot is x = ap (lookup (nat_eq x)) is
 
 pub returns-clause-none : goal.returns-clause-none
-returns-clause-none c = none_in (record { by_spot = c.new.result; wide = c.new-2.result; all = c.new-3.result })
-    (λ q. ap (λ (m : Cells). set.contains m q) c.new-3.ensures ∙ set.contains-empty cell_cmp q)
+returns-clause-none c = none_in (record { by_spot = c.new.result; wide = c.new-2.result })
     (λ q. ap (λ (m : Cells). set.contains m q) c.new-2.ensures ∙ set.contains-empty cell_cmp q)
     (none c.new.result c.new.ensures.empty)
 
