@@ -1,15 +1,14 @@
 -- Cells filed at the numbers of spots: what stays when one is added or taken away.
-use Rattle.std.proofs.Common.{◌≡◌, ◌⊎◌, inl, inr, ◌+◌, ◌<◌, ℕ, zero, suc, arith, Bool, true, false, cond, not, ◌&&◌, ◌||◌, List, [], ◌∷◌, ◌++◌, take, get_or, length, Option, Some, None, is_some, unwrap_or, refl, ap, sym, subst, ◌∙◌}
+use Rattle.std.proofs.Common.{◌≡◌, ◌⊎◌, inl, inr, ◌+◌, ◌<◌, ℕ, zero, suc, arith, Bool, true, false, nat_eq, cond, not, ◌&&◌, ◌||◌, List, [], ◌∷◌, ◌++◌, take, get_or, length, Option, Some, None, unwrap_or, refl, ap, sym, subst, ◌∙◌}
 use Rattle.std.specs.Prelude.{Result, Ok, Err, OnErr}
-use Rattle.std.proofs.lemmas.Bool.{false≢true, true≢false, or_left, or_right, or_cases, and_parts, cases_Bool, not-true, not-false}
+use Rattle.std.proofs.lemmas.Bool.{false≢true, true≢false, or_left, or_right, or_cases, and_parts, cases_Bool, eqb-true, not-true, not-false}
 use Rattle.std.proofs.lemmas.List.{take_more}
 use Rattle.std.proofs.lemmas.List.Folds.{list_any-append}
-use Rattle.std.specs.BTreeMap.{get, is_at}
-use Rattle.std.specs.Cmp.{eq_by_cmp_equiv, Equal-is, nat_cmp_total, tied_itself}
-use Rattle.std.proofs.lemmas.Map.Lookups.{exact_unsigned}
+use Rattle.std.specs.Cmp.{eq_by_cmp_equiv, Equal-is, nat_eq_equiv}
 use Rattle.std.specs.FinSet as set
+use Rattle.std.specs.HashMap.{get}
 use Rattle.std.specs.List.{list_any}
-use Rattle.std.specs.Ordering.{eq_by_cmp, nat_cmp}
+use Rattle.std.specs.Ordering.{eq_by_cmp}
 use Rattle.clr_rows.specs.declared.cells.CellId.{CellId}
 use Rattle.clr_rows.specs.Cells.{cell_cmp}
 use Rattle.clr_rows.proofs.CellOrder.{cell_cmp_total, cell_cmp_exact}
@@ -17,7 +16,7 @@ use Rattle.clr_spots.specs.declared.spots.Spot.{Spot}
 use Rattle.clr_rows.proofs.ChangeLemmas.{tied_self}
 use Rattle.clr_grid.proofs.SetLemmas.{or_group, or_none}
 use Rattle.clr_grid.specs.CellSets.{Cells, is_one}
-use Rattle.clr_grid.specs.Filing.{Key, All, Wide, At, has_cell, has_key, has_key_of, keeps_number, is_filed, is_looked_at, keeps_role, keeps_wide, stays}
+use Rattle.clr_grid.specs.Filing.{Key, Wide, At, has_cell, has_key, has_key_of, without_cell, keeps_number, is_filed, is_looked_at, keeps_wide, stays}
 use Rattle.clr_grid.specs.SpotNumbers.{has_number, number_of}
 use Rattle.clr_finders.specs.declared.row_spots.RuleSpots.{RuleSpots}
 use Rattle.clr_grid.specs.declared.side_index.SideIndex.{SideIndex}
@@ -60,115 +59,147 @@ AtNumbers = ℕ → Option Cells
 abbrev pub Keeps : AtNumbers → AtNumbers → Type 0
 Keeps f g = (x : ℕ) (q : CellId) → has_cell (f x) q ≡ true → has_cell (g x) q ≡ true
 
-pub tied_number : (s x : ℕ) → is_at (nat_cmp s) x ≡ true → s ≡ x
-tied_number s x e = exact_unsigned s x ((Equal-is (nat_cmp s x)).0 e)
+-- each number that is kept holds a cell
+abbrev pub Hold : AtNumbers → Type 0
+Hold f = (x : ℕ) → f x ≡ Some set.empty → ⊥
 
-pub number_itself : (x : ℕ) → is_at (nat_cmp x) x ≡ true
-number_itself x = (Equal-is (nat_cmp x x)).1 (tied_itself nat_cmp_total x)
+pub tied_number : (s x : ℕ) → nat_eq s x ≡ true → s ≡ x
+tied_number s x e = eqb-true s x e
 
-pub cells_or_none : (o : Option Cells) (q : CellId) → has_cell o q ≡ true → set.contains (unwrap_or o set.empty) q ≡ true
+pub number_itself : (x : ℕ) → nat_eq x x ≡ true
+number_itself x = nat_eq_equiv.refl x
+
+cells_or_none : (o : Option Cells) (q : CellId) → has_cell o q ≡ true → set.contains (unwrap_or o set.empty) q ≡ true
 cells_or_none None q e = absurd (false≢true e)
 cells_or_none (Some m) q e = e
 
-pub added_keeps : (f g : AtNumbers) (s : ℕ) (m : Cells) (cell : CellId) → ((x : ℕ) → g x ≡ cond (is_at (nat_cmp s) x) (Some (set.insert m cell)) (f x)) → ((q : CellId) → has_cell (f s) q ≡ true → set.contains m q ≡ true) → Keeps f g
-added_keeps f g s m cell is had x q e = ap (λ o. has_cell o q) (is x) ∙ go (is_at (nat_cmp s) x) refl
-  where
-    go : (b : Bool) → is_at (nat_cmp s) x ≡ b → has_cell (cond b (Some (set.insert m cell)) (f x)) q ≡ true
-    go true t = insert_keeps m cell q (had q (subst (λ y. has_cell (f y) q ≡ true) (sym (tied_number s x t)) e))
-    go false t = e
-
-pub none_or_cells : (o : Option Cells) (q : CellId) → set.contains (unwrap_or o set.empty) q ≡ true → has_cell o q ≡ true
+none_or_cells : (o : Option Cells) (q : CellId) → set.contains (unwrap_or o set.empty) q ≡ true → has_cell o q ≡ true
 none_or_cells None q e = absurd (false≢true (sym (set.contains-empty cell_cmp q) ∙ e))
 none_or_cells (Some m) q e = e
 
--- nothing more is filed than a cell at a spot
-pub added_only : (f g : AtNumbers) (s : ℕ) (m : Cells) (cell : CellId) → ((x : ℕ) → g x ≡ cond (is_at (nat_cmp s) x) (Some (set.insert m cell)) (f x)) → ((q : CellId) → set.contains m q ≡ true → has_cell (f s) q ≡ true)
-    → (x : ℕ) (q : CellId) → has_cell (g x) q ≡ true → (has_cell (f x) q ≡ true) ⊎ ((q ≡ cell) × (x ≡ s))
-added_only f g s m cell is had x q e = go (is_at (nat_cmp s) x) refl (sym (ap (λ o. has_cell o q) (is x)) ∙ e)
-  where
-    go : (b : Bool) → is_at (nat_cmp s) x ≡ b → has_cell (cond b (Some (set.insert m cell)) (f x)) q ≡ true → (has_cell (f x) q ≡ true) ⊎ ((q ≡ cell) × (x ≡ s))
-    go true t h = elim (insert_only m cell q h) [
-      | inl old ↦ inl (subst (λ y. has_cell (f y) q ≡ true) (tied_number s x t) (had q old))
-      | inr one ↦ inr (one, sym (tied_number s x t))
-    ]
-    go false t h = inl h
+-- a cell is added to those at a number
+abbrev pub IsPut : AtNumbers → AtNumbers → ℕ → CellId → Type 0
+IsPut f g s cell = (x : ℕ) → g x ≡ cond (nat_eq s x) (Some (set.insert (unwrap_or (f s) set.empty) cell)) (f x)
 
-pub added_has : (f g : AtNumbers) (s : ℕ) (m : Cells) (cell : CellId) → ((x : ℕ) → g x ≡ cond (is_at (nat_cmp s) x) (Some (set.insert m cell)) (f x)) → has_cell (g s) cell ≡ true
-added_has f g s m cell is = ap (λ o. has_cell o cell) (is s ∙ ap (λ b. cond b (Some (set.insert m cell)) (f s)) (number_itself s)) ∙ insert_has m cell
+pub put_again : (f g : AtNumbers) (s : ℕ) (cell : CellId) (m w : Cells) → unwrap_or (f s) set.empty ≡ m → w ≡ set.insert m cell
+    → ((x : ℕ) → g x ≡ cond (nat_eq s x) (Some w) (f x)) → IsPut f g s cell
+put_again f g s cell m w was is there x = there x ∙ ap (λ n. cond (nat_eq s x) (Some n) (f x)) (is ∙ ap (λ o. set.insert o cell) (sym was))
+
+module _ (f g : AtNumbers) (s : ℕ) (cell : CellId) (is : IsPut f g s cell) where
+  pub put_keeps : Keeps f g
+  put_keeps x q e = ap (λ o. has_cell o q) (is x) ∙ go (nat_eq s x) refl
+    where
+      go : (b : Bool) → nat_eq s x ≡ b → has_cell (cond b (Some (set.insert (unwrap_or (f s) set.empty) cell)) (f x)) q ≡ true
+      go true t = insert_keeps (unwrap_or (f s) set.empty) cell q (cells_or_none (f s) q (subst (λ y. has_cell (f y) q ≡ true) (sym (tied_number s x t)) e))
+      go false t = e
+
+  -- nothing more is filed than the cell at the number
+  pub put_only : (x : ℕ) (q : CellId) → has_cell (g x) q ≡ true → (has_cell (f x) q ≡ true) ⊎ ((q ≡ cell) × (x ≡ s))
+  put_only x q e = go (nat_eq s x) refl (sym (ap (λ o. has_cell o q) (is x)) ∙ e)
+    where
+      go : (b : Bool) → nat_eq s x ≡ b → has_cell (cond b (Some (set.insert (unwrap_or (f s) set.empty) cell)) (f x)) q ≡ true
+          → (has_cell (f x) q ≡ true) ⊎ ((q ≡ cell) × (x ≡ s))
+      go true t h = elim (insert_only (unwrap_or (f s) set.empty) cell q h) [
+        | inl old ↦ inl (subst (λ y. has_cell (f y) q ≡ true) (tied_number s x t) (none_or_cells (f s) q old))
+        | inr one ↦ inr (one, sym (tied_number s x t))
+      ]
+      go false t h = inl h
+
+  pub put_has : has_cell (g s) cell ≡ true
+  put_has =
+      ap (λ o. has_cell o cell) (is s ∙ ap (λ b. cond b (Some (set.insert (unwrap_or (f s) set.empty) cell)) (f s)) (number_itself s))
+      ∙ insert_has (unwrap_or (f s) set.empty) cell
+
+  pub put_hold : Hold f → Hold g
+  put_hold hold x e = go (nat_eq s x) (sym (is x) ∙ e)
+    where
+      go : (b : Bool) → cond b (Some (set.insert (unwrap_or (f s) set.empty) cell)) (f x) ≡ Some set.empty → ⊥
+      go true h = let none : set.insert (unwrap_or (f s) set.empty) cell ≡ set.empty = cc in
+          true≢false (sym (insert_has (unwrap_or (f s) set.empty) cell) ∙ ap (λ n. set.contains n cell) none ∙ set.contains-empty cell_cmp cell)
+      go false h = hold x h
 
 -- what is filed for other cells, or at other spots, stays
 abbrev pub KeepsOthers : AtNumbers → AtNumbers → ℕ → CellId → Type 0
-KeepsOthers f g s cell = (x : ℕ) (q : CellId) → (is_one cell q && is_at (nat_cmp s) x) ≡ false → has_cell (f x) q ≡ true → has_cell (g x) q ≡ true
+KeepsOthers f g s cell = (x : ℕ) (q : CellId) → (is_one cell q && nat_eq s x) ≡ false → has_cell (f x) q ≡ true → has_cell (g x) q ≡ true
 
-pub removed_keeps : (f g : AtNumbers) (s : ℕ) (cell : CellId) → ((x : ℕ) → g x ≡ cond (is_at (nat_cmp s) x) (Some (set.remove (unwrap_or (f s) set.empty) cell)) (f x)) → KeepsOthers f g s cell
-removed_keeps f g s cell is x q p e = ap (λ o. has_cell o q) (is x) ∙ go (is_at (nat_cmp s) x) refl
+-- a cell is taken away from those at a number
+abbrev pub IsTaken : AtNumbers → AtNumbers → ℕ → CellId → Type 0
+IsTaken f g s cell = (x : ℕ) → g x ≡ cond (nat_eq s x) (without_cell (f s) cell) (f x)
+
+without_keeps : (o : Option Cells) (cell q : CellId) → is_one cell q ≡ false → has_cell o q ≡ true → has_cell (without_cell o cell) q ≡ true
+without_keeps None cell q apart e = e
+without_keeps (Some m) cell q apart e = remove_keeps m cell q apart e
+
+without_fewer : (o : Option Cells) (cell q : CellId) → has_cell (without_cell o cell) q ≡ true → has_cell o q ≡ true
+without_fewer None cell q e = e
+without_fewer (Some m) cell q e = remove_fewer m cell q e
+
+without_gone : (o : Option Cells) (cell : CellId) → has_cell (without_cell o cell) cell ≡ false
+without_gone None cell = refl
+without_gone (Some m) cell = remove_gone m cell
+
+-- where there is none, nothing changes
+pub none_taken : (f : AtNumbers) (s : ℕ) (cell : CellId) → f s ≡ None → IsTaken f f s cell
+none_taken f s cell none x = go (nat_eq s x) refl
   where
-    go : (b : Bool) → is_at (nat_cmp s) x ≡ b → has_cell (cond b (Some (set.remove (unwrap_or (f s) set.empty) cell)) (f x)) q ≡ true
-    go true t =
-        let same : s ≡ x = tied_number s x t in
-        remove_keeps (unwrap_or (f s) set.empty) cell q (is_not_one cell q (is_at (nat_cmp s) x) p t)
-        (cells_or_none (f s) q (subst (λ y. has_cell (f y) q ≡ true) (sym same) e))
-    go false t = e
+    go : (b : Bool) → nat_eq s x ≡ b → f x ≡ cond b (without_cell (f s) cell) (f x)
+    go true t = ap f (sym (tied_number s x t)) ∙ none ∙ ap (λ o. without_cell o cell) (sym none)
+    go false t = refl
 
--- nothing more is filed, and the cell is gone from the spot
-pub removed_fewer : (f g : AtNumbers) (s : ℕ) (cell : CellId) → ((x : ℕ) → g x ≡ cond (is_at (nat_cmp s) x) (Some (set.remove (unwrap_or (f s) set.empty) cell)) (f x)) → Keeps g f
-removed_fewer f g s cell is x q e = go (is_at (nat_cmp s) x) refl (sym (ap (λ o. has_cell o q) (is x)) ∙ e)
-  where
-    go : (b : Bool) → is_at (nat_cmp s) x ≡ b → has_cell (cond b (Some (set.remove (unwrap_or (f s) set.empty) cell)) (f x)) q ≡ true → has_cell (f x) q ≡ true
-    go true t h = subst (λ y. has_cell (f y) q ≡ true) (tied_number s x t) (none_or_cells (f s) q (remove_fewer (unwrap_or (f s) set.empty) cell q h))
-    go false t h = h
+pub some_taken : (f g : AtNumbers) (s : ℕ) (cell : CellId) (m w : Cells) → f s ≡ Some m → w ≡ set.remove m cell
+    → ((x : ℕ) → g x ≡ cond (nat_eq s x) (Some w) (f x)) → IsTaken f g s cell
+some_taken f g s cell m w at is there x = there x ∙ ap (λ o. cond (nat_eq s x) o (f x)) (ap Some is ∙ sym (ap (λ o. without_cell o cell) at))
 
-pub removed_gone : (f g : AtNumbers) (s : ℕ) (cell : CellId) → ((x : ℕ) → g x ≡ cond (is_at (nat_cmp s) x) (Some (set.remove (unwrap_or (f s) set.empty) cell)) (f x)) → has_cell (g s) cell ≡ false
-removed_gone f g s cell is =
-    ap (λ o. has_cell o cell) (is s ∙ ap (λ b. cond b (Some (set.remove (unwrap_or (f s) set.empty) cell)) (f s)) (number_itself s)) ∙ remove_gone (unwrap_or (f s) set.empty) cell
+module _ (f g : AtNumbers) (s : ℕ) (cell : CellId) (is : IsTaken f g s cell) where
+  pub removed_keeps : KeepsOthers f g s cell
+  removed_keeps x q p e = ap (λ o. has_cell o q) (is x) ∙ go (nat_eq s x) refl
+    where
+      go : (b : Bool) → nat_eq s x ≡ b → has_cell (cond b (without_cell (f s) cell) (f x)) q ≡ true
+      go true t = without_keeps (f s) cell q (is_not_one cell q (nat_eq s x) p t) (subst (λ y. has_cell (f y) q ≡ true) (sym (tied_number s x t)) e)
+      go false t = e
 
-pub emptied_fewer : (f g : AtNumbers) (s : ℕ) → ((x : ℕ) → g x ≡ cond (is_at (nat_cmp s) x) None (f x)) → Keeps g f
-emptied_fewer f g s is x q e = go (is_at (nat_cmp s) x) (sym (ap (λ o. has_cell o q) (is x)) ∙ e)
+  -- nothing more is filed, and the cell is gone from the number
+  pub removed_fewer : Keeps g f
+  removed_fewer x q e = go (nat_eq s x) refl (sym (ap (λ o. has_cell o q) (is x)) ∙ e)
+    where
+      go : (b : Bool) → nat_eq s x ≡ b → has_cell (cond b (without_cell (f s) cell) (f x)) q ≡ true → has_cell (f x) q ≡ true
+      go true t h = subst (λ y. has_cell (f y) q ≡ true) (tied_number s x t) (without_fewer (f s) cell q h)
+      go false t h = h
+
+  pub removed_gone : has_cell (g s) cell ≡ false
+  removed_gone = ap (λ o. has_cell o cell) (is s ∙ ap (λ b. cond b (without_cell (f s) cell) (f s)) (number_itself s)) ∙ without_gone (f s) cell
+
+pub emptied_fewer : (f g : AtNumbers) (s : ℕ) → ((x : ℕ) → g x ≡ cond (nat_eq s x) None (f x)) → Keeps g f
+emptied_fewer f g s is x q e = go (nat_eq s x) (sym (ap (λ o. has_cell o q) (is x)) ∙ e)
   where
     go : (b : Bool) → has_cell (cond b None (f x)) q ≡ true → has_cell (f x) q ≡ true
     go true h = absurd (false≢true h)
     go false h = h
 
-pub emptied_gone : (f g : AtNumbers) (s : ℕ) (cell : CellId) → ((x : ℕ) → g x ≡ cond (is_at (nat_cmp s) x) None (f x)) → has_cell (g s) cell ≡ false
+pub emptied_gone : (f g : AtNumbers) (s : ℕ) (cell : CellId) → ((x : ℕ) → g x ≡ cond (nat_eq s x) None (f x)) → has_cell (g s) cell ≡ false
 emptied_gone f g s cell is = ap (λ o. has_cell o cell) (is s ∙ ap (λ b. cond b None (f s)) (number_itself s))
 
-pub none_there : (o : Option Cells) (cell : CellId) → is_some o ≡ false → has_cell o cell ≡ false
-none_there None cell e = refl
-none_there (Some m) cell e = absurd (true≢false e)
-
-pub emptied_keeps : (f g : AtNumbers) (s : ℕ) → f s ≡ Some set.empty → ((x : ℕ) → g x ≡ cond (is_at (nat_cmp s) x) None (f x)) → Keeps f g
-emptied_keeps f g s empty is x q e = ap (λ o. has_cell o q) (is x) ∙ go (is_at (nat_cmp s) x) refl
+pub emptied_keeps : (f g : AtNumbers) (s : ℕ) → f s ≡ Some set.empty → ((x : ℕ) → g x ≡ cond (nat_eq s x) None (f x)) → Keeps f g
+emptied_keeps f g s empty is x q e = ap (λ o. has_cell o q) (is x) ∙ go (nat_eq s x) refl
   where
-    go : (b : Bool) → is_at (nat_cmp s) x ≡ b → has_cell (cond b None (f x)) q ≡ true
+    go : (b : Bool) → nat_eq s x ≡ b → has_cell (cond b None (f x)) q ≡ true
     go true t = absurd (false≢true (sym (set.contains-empty cell_cmp q) ∙ sym (ap (λ o. has_cell o q) (ap f (sym (tied_number s x t)) ∙ empty)) ∙ e))
     go false t = e
-
--- each spot that is kept holds a cell
-abbrev pub Hold : AtNumbers → Type 0
-Hold f = (x : ℕ) → f x ≡ Some set.empty → ⊥
 
 pub same_hold : (f g : AtNumbers) → ((x : ℕ) → g x ≡ f x) → Hold f → Hold g
 same_hold f g is hold x e = hold x (sym (is x) ∙ e)
 
-pub added_hold : (f g : AtNumbers) (s : ℕ) (m : Cells) (cell : CellId) → ((x : ℕ) → g x ≡ cond (is_at (nat_cmp s) x) (Some (set.insert m cell)) (f x)) → Hold f → Hold g
-added_hold f g s m cell is hold x e = go (is_at (nat_cmp s) x) (sym (is x) ∙ e)
+pub removed_hold : (f g : AtNumbers) (s : ℕ) (w : Option Cells) → ((x : ℕ) → g x ≡ cond (nat_eq s x) w (f x)) → (g s ≡ Some set.empty → ⊥) → Hold f → Hold g
+removed_hold f g s w is some hold x e = go (nat_eq s x) refl (sym (is x) ∙ e)
   where
-    go : (b : Bool) → cond b (Some (set.insert m cell)) (f x) ≡ Some set.empty → ⊥
-    go true h = let none : set.insert m cell ≡ set.empty = cc in
-        true≢false (sym (insert_has m cell) ∙ ap (λ n. set.contains n cell) none ∙ set.contains-empty cell_cmp cell)
-    go false h = hold x h
-
-pub removed_hold : (f g : AtNumbers) (s : ℕ) (w : Option Cells) → ((x : ℕ) → g x ≡ cond (is_at (nat_cmp s) x) w (f x)) → (g s ≡ Some set.empty → ⊥) → Hold f → Hold g
-removed_hold f g s w is some hold x e = go (is_at (nat_cmp s) x) refl (sym (is x) ∙ e)
-  where
-    go : (b : Bool) → is_at (nat_cmp s) x ≡ b → cond b w (f x) ≡ Some set.empty → ⊥
+    go : (b : Bool) → nat_eq s x ≡ b → cond b w (f x) ≡ Some set.empty → ⊥
     go true t h = some (subst (λ y. g y ≡ Some set.empty) (sym (tied_number s x t)) e)
     go false t h = hold x h
 
-pub emptied_hold : (f g h : AtNumbers) (s : ℕ) (w : Option Cells) → ((x : ℕ) → g x ≡ cond (is_at (nat_cmp s) x) w (f x)) → ((x : ℕ) → h x ≡ cond (is_at (nat_cmp s) x) None (g x)) → Hold f → Hold h
-emptied_hold f g h s w is then hold x e = go (is_at (nat_cmp s) x) refl (sym (then x) ∙ e)
+pub emptied_hold : (f g h : AtNumbers) (s : ℕ) (w : Option Cells) → ((x : ℕ) → g x ≡ cond (nat_eq s x) w (f x)) → ((x : ℕ) → h x ≡ cond (nat_eq s x) None (g x)) → Hold f → Hold h
+emptied_hold f g h s w is then hold x e = go (nat_eq s x) refl (sym (then x) ∙ e)
   where
-    go : (b : Bool) → is_at (nat_cmp s) x ≡ b → cond b None (g x) ≡ Some set.empty → ⊥
+    go : (b : Bool) → nat_eq s x ≡ b → cond b None (g x) ≡ Some set.empty → ⊥
     go true t i = absurd (cc)
     go false t i = hold x (sym (is x ∙ ap (λ b. cond b w (f x)) t) ∙ i)
 
@@ -221,35 +252,28 @@ pub taken_more : (f g h : AtNumbers) (cell : CellId) (kept : Option RuleSpots) (
     → (x : ℕ) (q : CellId) → (is_one cell q && not (keeps_number kept x)) ≡ false → has_cell (f x) q ≡ true → has_cell (h x) q ≡ true
 taken_more f g h cell kept s hasnt taken before x q p e = taken x q (apart (is_one cell q) p) (before x q p e)
   where
-    other : keeps_number kept x ≡ true → is_at (nat_cmp s) x ≡ false
-    other has = elim (cases_Bool (is_at (nat_cmp s) x)) [
+    other : keeps_number kept x ≡ true → nat_eq s x ≡ false
+    other has = elim (cases_Bool (nat_eq s x)) [
       | inl same ↦ absurd (false≢true (sym hasnt ∙ ap (keeps_number kept) (tied_number s x same) ∙ has))
       | inr differ ↦ differ
     ]
 
-    apart : (b : Bool) → (b && not (keeps_number kept x)) ≡ false → (b && is_at (nat_cmp s) x) ≡ false
+    apart : (b : Bool) → (b && not (keeps_number kept x)) ≡ false → (b && nat_eq s x) ≡ false
     apart true e = other (not-false (keeps_number kept x) e)
     apart false e = refl
 
 -- ---- an index
-pub kept_by : (i j : SideIndex) → ((q : CellId) → set.contains i.all q ≡ true → set.contains j.all q ≡ true) → ((q : CellId) → set.contains i.wide q ≡ true → set.contains j.wide q ≡ true)
+pub kept_by : (i j : SideIndex) → ((q : CellId) → set.contains i.wide q ≡ true → set.contains j.wide q ≡ true)
     → ((x : ℕ) (q : CellId) → is_filed i (At x) q ≡ true → is_filed j (At x) q ≡ true) → (k : Key) (q : CellId) → is_filed i k q ≡ true → is_filed j k q ≡ true
-kept_by i j all wide spots All q e = all q e
-kept_by i j all wide spots Wide q e = wide q e
-kept_by i j all wide spots (At x) q e = spots x q e
+kept_by i j wide spots Wide q e = wide q e
+kept_by i j wide spots (At x) q e = spots x q e
 
 pub only_by : (i j : SideIndex) (x : RuleSpots) (cell : CellId)
-    → ((q : CellId) → set.contains j.all q ≡ true → (set.contains i.all q ≡ true) ⊎ ((q ≡ cell) × (x.has_role ≡ true)))
     → ((q : CellId) → set.contains j.wide q ≡ true → (set.contains i.wide q ≡ true) ⊎ ((q ≡ cell) × (x.spots.wide ≡ true)))
     → ((y : ℕ) (q : CellId) → is_filed j (At y) q ≡ true → (is_filed i (At y) q ≡ true) ⊎ ((q ≡ cell) × (list_any (has_number y) x.spots.list ≡ true)))
     → (k : Key) (q : CellId) → is_filed j k q ≡ true → (is_filed i k q ≡ true) ⊎ ((q ≡ cell) × (has_key x k ≡ true))
-only_by i j x cell all wide spots All q e = all q e
-only_by i j x cell all wide spots Wide q e = wide q e
-only_by i j x cell all wide spots (At y) q e = spots y q e
-
-keeps_all : (kept : Option RuleSpots) → keeps_role kept ≡ has_key_of kept All
-keeps_all None = refl
-keeps_all (Some y) = refl
+only_by i j x cell wide spots Wide q e = wide q e
+only_by i j x cell wide spots (At y) q e = spots y q e
 
 keeps_all_wide : (kept : Option RuleSpots) → keeps_wide kept ≡ has_key_of kept Wide
 keeps_all_wide None = refl
@@ -264,63 +288,47 @@ kept_if true cell m gone e = refl
 kept_if false cell m gone e = absurd (false≢true (sym (gone refl) ∙ e))
 
 pub gone_by : (j : SideIndex) (x : RuleSpots) (cell : CellId) (kept : Option RuleSpots)
-    → (not (keeps_role kept) ≡ true → set.contains j.all cell ≡ false)
     → (not (keeps_wide kept) ≡ true → set.contains j.wide cell ≡ false)
     → ((y : ℕ) → list_any (has_number y) x.spots.list ≡ true → is_filed j (At y) cell ≡ true → keeps_number kept y ≡ true)
     → (k : Key) → has_key x k ≡ true → is_filed j k cell ≡ true → has_key_of kept k ≡ true
-gone_by j x cell kept all wide spots All key e = sym (keeps_all kept) ∙ kept_if (keeps_role kept) cell j.all all e
-gone_by j x cell kept all wide spots Wide key e = sym (keeps_all_wide kept) ∙ kept_if (keeps_wide kept) cell j.wide wide e
-gone_by j x cell kept all wide spots (At y) key e = sym (keeps_spot kept y) ∙ spots y key e
+gone_by j x cell kept wide spots Wide key e = sym (keeps_all_wide kept) ∙ kept_if (keeps_wide kept) cell j.wide wide e
+gone_by j x cell kept wide spots (At y) key e = sym (keeps_spot kept y) ∙ spots y key e
 
 -- an index without cells
-pub none_in : (i : SideIndex) → ((q : CellId) → set.contains i.all q ≡ false) → ((q : CellId) → set.contains i.wide q ≡ false) → ((x : ℕ) → get nat_cmp i.by_spot x ≡ None)
+pub none_in : (i : SideIndex) → ((q : CellId) → set.contains i.wide q ≡ false) → ((x : ℕ) → get nat_eq i.by_spot x ≡ None)
     → (k : Key) (q : CellId) → is_filed i k q ≡ false
-none_in i all wide spots All q = all q
-none_in i all wide spots Wide q = wide q
-none_in i all wide spots (At x) q = ap (λ o. has_cell o q) (spots x)
+none_in i wide spots Wide q = wide q
+none_in i wide spots (At x) q = ap (λ o. has_cell o q) (spots x)
 
-pub none_has : {A : Type 0} (o : Option Cells) (q : CellId) → is_some o ≡ false → has_cell o q ≡ true → A
-none_has None q e h = absurd (false≢true h)
-none_has (Some m) q e h = absurd (true≢false e)
-
-pub filed_by : (i : SideIndex) (x : RuleSpots) (cell : CellId) → (x.has_role ≡ true → set.contains i.all cell ≡ true) → (x.spots.wide ≡ true → set.contains i.wide cell ≡ true)
+pub filed_by : (i : SideIndex) (x : RuleSpots) (cell : CellId) → (x.spots.wide ≡ true → set.contains i.wide cell ≡ true)
     → ((y : ℕ) → list_any (has_number y) x.spots.list ≡ true → is_filed i (At y) cell ≡ true) → (k : Key) → has_key x k ≡ true → is_filed i k cell ≡ true
-filed_by i x cell all wide spots All e = all e
-filed_by i x cell all wide spots Wide e = wide e
-filed_by i x cell all wide spots (At y) e = spots y e
+filed_by i x cell wide spots Wide e = wide e
+filed_by i x cell wide spots (At y) e = spots y e
 
 pub stays_by : (i j : SideIndex) (cell : CellId) (kept : Option RuleSpots)
-    → ((q : CellId) → (is_one cell q && not (keeps_role kept)) ≡ false → set.contains i.all q ≡ true → set.contains j.all q ≡ true)
     → ((q : CellId) → (is_one cell q && not (keeps_wide kept)) ≡ false → set.contains i.wide q ≡ true → set.contains j.wide q ≡ true)
     → ((x : ℕ) (q : CellId) → (is_one cell q && not (keeps_number kept x)) ≡ false → is_filed i (At x) q ≡ true → is_filed j (At x) q ≡ true)
     → (k : Key) (q : CellId) → stays cell kept k q ≡ true → is_filed i k q ≡ true → is_filed j k q ≡ true
-stays_by i j cell kept all wide spots All q s e = all q (not-true _ s) e
-stays_by i j cell kept all wide spots Wide q s e = wide q (not-true _ s) e
-stays_by i j cell kept all wide spots (At x) q s e = spots x q (not-true _ s) e
+stays_by i j cell kept wide spots Wide q s e = wide q (not-true _ s) e
+stays_by i j cell kept wide spots (At x) q s e = spots x q (not-true _ s) e
 
 -- the cells that are looked at, added one part after another
-pub near_by : (i : SideIndex) (x : RuleSpots) (m m' m'' n : Cells) (list : List Spot) → ((q : CellId) → set.contains m' q ≡ (set.contains m q || (x.spots.wide && set.contains i.all q)))
-    → ((q : CellId) → set.contains m'' q ≡ (set.contains m' q || (x.has_role && set.contains i.wide q)))
-    → ((q : CellId) → set.contains n q ≡ (set.contains m'' q || list_any (λ y. has_cell (get nat_cmp i.by_spot (number_of y)) q) list))
-    → list ≡ x.spots.list
-    → (k : Key) (q : CellId) → is_looked_at x k ≡ true → is_filed i k q ≡ true → set.contains n q ≡ true
-near_by i x m m' m'' n list all wide spots same All q l e =
-    spots q ∙ or_left _ _ (wide q ∙ or_left _ _ (all q ∙ or_right (set.contains m q) _ (λ j. l j && e j)))
-near_by i x m m' m'' n list all wide spots same Wide q l e = spots q ∙ or_left _ _ (wide q ∙ or_right (set.contains m' q) _ (λ j. l j && e j))
-near_by i x m m' m'' n list all wide spots same (At y) q l e = spots q ∙ or_right (set.contains m'' q) _ (some_at list (ap (list_any (has_number y)) same ∙ l))
-  where
-    some_at : (ys : List Spot) → list_any (has_number y) ys ≡ true → list_any (λ z. has_cell (get nat_cmp i.by_spot (number_of z)) q) ys ≡ true
-    some_at [] h = absurd (false≢true h)
-    some_at (z ∷ ys) h = elim (or_cases (has_number y z) (list_any (has_number y) ys) h) [
-      | inl here ↦ or_left _ _ (subst (λ w. has_cell (get nat_cmp i.by_spot w) q ≡ true) (tied_number y (number_of z) here) e)
-      | inr later ↦ or_right (has_cell (get nat_cmp i.by_spot (number_of z)) q) _ (some_at ys later)
-    ]
+module _ (i : SideIndex) (x : RuleSpots) (m m' n : Cells) (list : List Spot) (wide : (q : CellId) → set.contains m' q
+    ≡ (set.contains m q || (x.has_role && set.contains i.wide q)))
+    (spots : (q : CellId) → set.contains n q ≡ (set.contains m' q || list_any (λ y. has_cell (get nat_eq i.by_spot (number_of y)) q) list)) where
+  pub near_by : list ≡ x.spots.list → (k : Key) (q : CellId) → is_looked_at x k ≡ true → is_filed i k q ≡ true → set.contains n q ≡ true
+  near_by same Wide q l e = spots q ∙ or_left _ _ (wide q ∙ or_right (set.contains m q) _ (λ j. l j && e j))
+  near_by same (At y) q l e = spots q ∙ or_right (set.contains m' q) _ (some_at list (ap (list_any (has_number y)) same ∙ l))
+    where
+      some_at : (ys : List Spot) → list_any (has_number y) ys ≡ true → list_any (λ z. has_cell (get nat_eq i.by_spot (number_of z)) q) ys ≡ true
+      some_at [] h = absurd (false≢true h)
+      some_at (z ∷ ys) h = elim (or_cases (has_number y z) (list_any (has_number y) ys) h) [
+        | inl here ↦ or_left _ _ (subst (λ w. has_cell (get nat_eq i.by_spot w) q ≡ true) (tied_number y (number_of z) here) e)
+        | inr later ↦ or_right (has_cell (get nat_eq i.by_spot (number_of z)) q) _ (some_at ys later)
+      ]
 
-pub near_keeps : (i : SideIndex) (x : RuleSpots) (m m' m'' n : Cells) (list : List Spot) → ((q : CellId) → set.contains m' q ≡ (set.contains m q || (x.spots.wide && set.contains i.all q)))
-    → ((q : CellId) → set.contains m'' q ≡ (set.contains m' q || (x.has_role && set.contains i.wide q)))
-    → ((q : CellId) → set.contains n q ≡ (set.contains m'' q || list_any (λ y. has_cell (get nat_cmp i.by_spot (number_of y)) q) list))
-    → (q : CellId) → set.contains m q ≡ true → set.contains n q ≡ true
-near_keeps i x m m' m'' n list all wide spots q e = spots q ∙ or_left _ _ (wide q ∙ or_left _ _ (all q ∙ or_left _ _ e))
+  pub near_keeps : (q : CellId) → set.contains m q ≡ true → set.contains n q ≡ true
+  near_keeps q e = spots q ∙ or_left _ _ (wide q ∙ or_left _ _ e)
 
 -- the cells of one more spot
 pub added_more : (p : Spot → Bool) (xs : List Spot) (k : ℕ) (x : Spot) (a b c : Bool) → k < length xs → x ≡ get_or xs k x → b ≡ (a || list_any p (take k xs)) → c ≡ (b || p x) → c ≡ (a || list_any p (take (k + 1) xs))
@@ -328,10 +336,10 @@ added_more p xs k x a b c less is before now =
     now ∙ ap (λ e. e || p x) before ∙ or_group a (list_any p (take k xs)) (p x) ∙ ap (λ e. a || e) (sym (any_more p xs k x less is))
 
 -- cells that are written back as they were
-pub same_written : (f g : AtNumbers) (s : ℕ) (w m : Cells) → ((x : ℕ) → g x ≡ cond (is_at (nat_cmp s) x) (Some w) (f x)) → w ≡ m → Some m ≡ f s → (x : ℕ) → g x ≡ f x
-same_written f g s w m is same here x = is x ∙ go (is_at (nat_cmp s) x) refl
+pub same_written : (f g : AtNumbers) (s : ℕ) (w m : Cells) → ((x : ℕ) → g x ≡ cond (nat_eq s x) (Some w) (f x)) → w ≡ m → Some m ≡ f s → (x : ℕ) → g x ≡ f x
+same_written f g s w m is same here x = is x ∙ go (nat_eq s x) refl
   where
-    go : (b : Bool) → is_at (nat_cmp s) x ≡ b → cond b (Some w) (f x) ≡ f x
+    go : (b : Bool) → nat_eq s x ≡ b → cond b (Some w) (f x) ≡ f x
     go true t = ap Some same ∙ here ∙ ap f (tied_number s x t)
     go false t = refl
 

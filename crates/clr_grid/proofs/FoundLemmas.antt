@@ -1,5 +1,5 @@
 -- What is found: the cells of some that pass, where each that passes is among them.
-use Rattle.std.proofs.Common.{◌≡◌, ◌+◌, ◌<◌, ℕ, Bool, true, cond, List, [], ◌∷◌, ◌++◌, map, filter, length, take, get_or, Option, Some, None, refl, sym, ap, ◌∙◌}
+use Rattle.std.proofs.Common.{◌≡◌, ◌+◌, ◌<◌, ℕ, Bool, true, cond, List, [], ◌∷◌, ◌++◌, is_some, map, filter, length, take, get_or, Option, Some, None, refl, sym, ap, ◌∙◌}
 use Rattle.std.proofs.lemmas.Bool.{false≢true}
 use Rattle.std.proofs.lemmas.List.{take_more}
 use Rattle.std.proofs.lemmas.List.Elements.{filter-append}
@@ -22,6 +22,10 @@ kept_more p xs k b old new d less test push all =
     ∙ sym (filter-append p (take k xs) (get_or xs k d ∷ [])) ∙ ap (filter p) (sym (take_more xs k d less))
 
 -- ---- cells
+pub met_there : (servers : Bool) (x : RuleSpots) (number : ℕ) (o : Option (List RuleSpots)) → is_met_at servers x number o ≡ true → is_some o ≡ true
+met_there servers x number None e = absurd (false≢true e)
+met_there servers x number (Some ys) e = refl
+
 pub found_is : (servers : Bool) (settled : Settled) (number : ℕ) (x : RuleSpots) (cells : List CellId) → IsStrictlySortedBy cell_cmp cells
     → ((q : CellId) → is_met_at servers x number (finite.get settled q) ≡ true → is_one_of cells q ≡ true)
     → filter (λ q. is_met_at servers x number (finite.get settled q)) cells ≡ found_cells servers settled number x

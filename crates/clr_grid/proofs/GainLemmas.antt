@@ -1,12 +1,12 @@
 -- Sets that gain cells until there is no memory.
-use Rattle.std.proofs.Common.{◌≡◌, ◌⊎◌, ◌∙◌, ◌<◌, ◌+◌, inl, inr, ℕ, Bool, true, ◌&&◌, ◌||◌, List, [], ◌∷◌, ◌++◌, append_assoc, ap, drop, get_or, length, refl, sym, take}
+use Rattle.std.proofs.Common.{◌≡◌, ◌⊎◌, ◌∙◌, ◌<◌, ◌+◌, inl, inr, ℕ, Bool, true, nat_eq, ◌&&◌, ◌||◌, List, [], ◌∷◌, ◌++◌, append_assoc, ap, drop, get_or, length, refl, sym, take}
 use Rattle.std.proofs.lemmas.Bool.{and_parts, or_cases, or_left, or_right}
 use Rattle.std.proofs.lemmas.List.{take-append-drop}
 use Rattle.std.proofs.lemmas.List.Folds.{list_any-append}
-use Rattle.std.specs.BTreeMap.{get}
+use Rattle.std.specs.HashMap.{get}
 use Rattle.std.specs.FinSet as set
 use Rattle.std.specs.List.{list_any}
-use Rattle.std.specs.Ordering.{eq_by_cmp, nat_cmp}
+use Rattle.std.specs.Ordering.{eq_by_cmp}
 use Rattle.clr_rows.specs.declared.cells.CellId.{CellId}
 use Rattle.clr_rows.specs.Cells.{cell_cmp}
 use Rattle.clr_rules.proofs.Elements.{any_by, some_of}
@@ -14,7 +14,7 @@ use Rattle.clr_spots.specs.declared.spots.Spot.{Spot}
 use Rattle.clr_finders.specs.declared.row_spots.RuleSpots.{RuleSpots}
 use Rattle.clr_grid.specs.declared.side_index.SideIndex.{SideIndex}
 use Rattle.clr_grid.specs.CellSets.{Cells, is_one_of, with_cells}
-use Rattle.clr_grid.specs.Filing.{All, At, Wide, has_cell}
+use Rattle.clr_grid.specs.Filing.{At, Wide, has_cell}
 use Rattle.clr_grid.specs.Gains.{GainsCells, IsFoundFor}
 use Rattle.clr_grid.proofs.FilingLemmas.{any_more, number_itself}
 use Rattle.clr_grid.proofs.SetLemmas.{has_with_cells, or_group}
@@ -91,32 +91,23 @@ module _ (p : CellId → Spot → Bool) (xs : List Spot) where
       of_more : (q : CellId) (j : ℕ) → list_any (p q) (take j xs) ≡ true → list_any (p q) xs ≡ true
       of_more q j e = ap (list_any (p q)) (sym (take-append-drop j xs)) ∙ list_any-append (p q) (take j xs) (drop j xs) ∙ or_left (list_any (p q) (take j xs)) (list_any (p q) (drop j xs)) e
 
--- ---- the cells that are found for a row: among all rows, among the wide ones, at its spots
+-- ---- the cells that are found for a row: among the wide rows, at its spots
 
 module _ (i : SideIndex) (x : RuleSpots) where
-  found_all : (q : CellId) → (x.spots.wide && set.contains i.all q) ≡ true → IsFoundFor i x q
-  found_all q e = let parts = and_parts x.spots.wide (set.contains i.all q) e in (All, parts.0, parts.1)
-
   found_wide : (q : CellId) → (x.has_role && set.contains i.wide q) ≡ true → IsFoundFor i x q
   found_wide q e = let parts = and_parts x.has_role (set.contains i.wide q) e in (Wide, parts.0, parts.1)
 
-  found_at : (ys : List Spot) → ys ≡ x.spots.list → (q : CellId) → list_any (λ y. has_cell (get nat_cmp i.by_spot (number_of y)) q) ys ≡ true → IsFoundFor i x q
+  found_at : (ys : List Spot) → ys ≡ x.spots.list → (q : CellId) → list_any (λ y. has_cell (get nat_eq i.by_spot (number_of y)) q) ys ≡ true → IsFoundFor i x q
   found_at ys same q e =
-      let (y, among, has) = some_of (λ y. has_cell (get nat_cmp i.by_spot (number_of y)) q) ys e in
+      let (y, among, has) = some_of (λ y. has_cell (get nat_eq i.by_spot (number_of y)) q) ys e in
       (At (number_of y), ap (list_any (has_number (number_of y))) (sym same) ∙ any_by (has_number (number_of y)) y ys among (number_itself (number_of y)), has)
 
-  pub all_gain : (m n : Cells) → GainsCells (λ q. (x.spots.wide && set.contains i.all q) ≡ true) m n → GainsCells (IsFoundFor i x) m n
-  all_gain m n g = gains_as (IsFoundFor i x) (λ q. (x.spots.wide && set.contains i.all q) ≡ true) m n found_all g
+  pub wide_gain : (m n : Cells) → GainsCells (λ q. (x.has_role && set.contains i.wide q) ≡ true) m n → GainsCells (IsFoundFor i x) m n
+  wide_gain m n g = gains_as (IsFoundFor i x) (λ q. (x.has_role && set.contains i.wide q) ≡ true) m n found_wide g
 
-  pub wide_gain : (m n o : Cells) → ((q : CellId) → set.contains n q ≡ (set.contains m q || (x.spots.wide && set.contains i.all q)))
-      → GainsCells (λ q. (x.has_role && set.contains i.wide q) ≡ true) n o → GainsCells (IsFoundFor i x) m o
-  wide_gain m n o before here = gains_then (IsFoundFor i x) m n o (all_gain m n (gains_exact (λ q. x.spots.wide && set.contains i.all q) m n before))
-      (gains_as (IsFoundFor i x) (λ q. (x.has_role && set.contains i.wide q) ≡ true) n o found_wide here)
-
-  pub spot_gain : (m n o r : Cells) (ys : List Spot) → ys ≡ x.spots.list
-      → ((q : CellId) → set.contains n q ≡ (set.contains m q || (x.spots.wide && set.contains i.all q)))
-      → ((q : CellId) → set.contains o q ≡ (set.contains n q || (x.has_role && set.contains i.wide q)))
-      → GainsCells (λ q. list_any (λ y. has_cell (get nat_cmp i.by_spot (number_of y)) q) ys ≡ true) o r → GainsCells (IsFoundFor i x) m r
-  spot_gain m n o r ys same first second here = gains_then (IsFoundFor i x) m o r
-      (wide_gain m n o first (gains_exact (λ q. x.has_role && set.contains i.wide q) n o second))
-      (gains_as (IsFoundFor i x) (λ q. list_any (λ y. has_cell (get nat_cmp i.by_spot (number_of y)) q) ys ≡ true) o r (found_at ys same) here)
+  pub spot_gain : (m n o : Cells) (ys : List Spot) → ys ≡ x.spots.list
+      → ((q : CellId) → set.contains n q ≡ (set.contains m q || (x.has_role && set.contains i.wide q)))
+      → GainsCells (λ q. list_any (λ y. has_cell (get nat_eq i.by_spot (number_of y)) q) ys ≡ true) n o → GainsCells (IsFoundFor i x) m o
+  spot_gain m n o ys same before here = gains_then (IsFoundFor i x) m n o
+      (wide_gain m n (gains_exact (λ q. x.has_role && set.contains i.wide q) m n before))
+      (gains_as (IsFoundFor i x) (λ q. list_any (λ y. has_cell (get nat_eq i.by_spot (number_of y)) q) ys ≡ true) n o (found_at ys same) here)

@@ -16,7 +16,7 @@ use Rattle.clr_spots.specs.declared.spots.Spot.{Spot}
 use Rattle.clr_spots.specs.Spots.{have_common_spot}
 use Rattle.clr_rules.proofs.Elements.{some_of, any_by}
 use Rattle.clr_grid.specs.CellSets.{is_one, is_one_of}
-use Rattle.clr_grid.specs.Filing.{Key, All, Wide, At, has_key, is_filed, is_filed_under, is_looked_at, side_of, keeps_number, keeps_role, keeps_wide, same_side, of_side, spots_at, stays, IsFiled, IsFiledToo, AreFiled, AreOfRows, AreGone, GainNone, GainOnly, HasRowFor, HoldCells, AllHoldCells, StayFiled, StayFiledBut, AreNear, has_key_of, has_key_under}
+use Rattle.clr_grid.specs.Filing.{Key, Wide, At, has_key, is_filed, is_filed_under, is_looked_at, side_of, keeps_number, keeps_wide, same_side, of_side, spots_at, stays, IsFiled, IsFiledToo, AreFiled, AreOfRows, AreGone, GainNone, GainOnly, HasRowFor, HoldCells, AllHoldCells, StayFiled, StayFiledBut, AreNear, has_key_of, has_key_under}
 use Rattle.clr_grid.specs.RowMaps.{Rows, RowOrNone, IsRowAt, no_rows, with_pending, with_row, with_settled, without_pending}
 use Rattle.clr_finders.specs.Sharing.{are_meeting, is_met, is_met_at}
 use Rattle.clr_finders.specs.declared.row_spots.RuleSpots.{RuleSpots}
@@ -127,7 +127,6 @@ itself true = refl
 itself false = refl
 
 stays_apart : (cell q : CellId) (kept : Option RuleSpots) (k : Key) → is_one cell q ≡ false → stays cell kept k q ≡ true
-stays_apart cell q kept All e = λ i. not (e i && not (keeps_role kept))
 stays_apart cell q kept Wide e = λ i. not (e i && not (keeps_wide kept))
 stays_apart cell q kept (At x) e = λ i. not (e i && not (keeps_number kept x))
 
@@ -136,7 +135,6 @@ nand true c e = λ i. not (not (e i))
 nand false c e = refl
 
 stays_kept : (cell q : CellId) (y : RuleSpots) (k : Key) → has_key y k ≡ true → stays cell (Some y) k q ≡ true
-stays_kept cell q y All e = nand (is_one cell q) y.has_role e
 stays_kept cell q y Wide e = nand (is_one cell q) y.spots.wide e
 stays_kept cell q y (At x) e = nand (is_one cell q) (list_any (has_number x) y.spots.list) e
 
@@ -203,17 +201,17 @@ number_listed z ys e =
     let (w, among, same) = some_of (same_spot z) ys e in
     any_by (has_number (number_of z)) w ys among (subst (λ v. has_number (number_of z) v ≡ true) (same_spot_is z w same) (number_itself (number_of z)))
 
--- ---- what is met is near
+-- ---- what is met by a row that isn't wide is near
 -- each cell of which P holds where it is looked at
 abbrev pub HoldsNear : (CellId → Type 0) → List RuleIndex → Bool → ℕ → RuleSpots → Type 0
 HoldsNear P indexes servers number x = (serves : Bool) (k : Key) (q : CellId) → (servers ≡ true → serves ≡ true) → is_looked_at x k ≡ true
     → is_filed_under indexes number serves k q ≡ true → P q
 
 pub met_holds : (P : CellId → Type 0) (rows : Rows) (indexes : List RuleIndex) (servers : Bool) (x : RuleSpots) (number : ℕ) → AreFiled rows indexes
-    → HoldsNear P indexes servers number x
+    → x.spots.wide ≡ false → HoldsNear P indexes servers number x
     → (q : CellId) → is_met_at servers x number (finite.get rows.settled q) ≡ true → P q
 unfolding are_meeting
-met_holds P rows indexes servers x number filed near q met = row (finite.get rows.settled q) refl met
+met_holds P rows indexes servers x number filed narrow near q met = row (finite.get rows.settled q) refl met
   where
     sides : (y : RuleSpots) → (not servers || y.may_serve) ≡ true → servers ≡ true → y.may_serve ≡ true
     sides y e s = sym (λ i. not (s i) || y.may_serve) ∙ e
@@ -225,7 +223,7 @@ met_holds P rows indexes servers x number filed near q met = row (finite.get row
         let p = and_parts x.has_role _ e in
         let r = and_parts y.has_role _ p.1 in
         elim (or_cases (x.spots.wide || y.spots.wide) (have_common_spot x.spots.list y.spots.list) r.1) [
-          | inl wide ↦ (elim (or_cases x.spots.wide y.spots.wide wide) [ inl one ↦ found All one r.0 | inr other ↦ found Wide p.0 other ])
+          | inl wide ↦ (elim (or_cases x.spots.wide y.spots.wide wide) [ inl one ↦ absurd (false≢true (sym narrow ∙ one)) | inr other ↦ found Wide p.0 other ])
           | inr common ↦ (let (z, among, has) = some_of (λ z. list_any (same_spot z) y.spots.list) x.spots.list common in
               found (At (number_of z)) (any_by (has_number (number_of z)) z x.spots.list among (number_itself (number_of z)))
               (number_listed z y.spots.list has))
@@ -240,9 +238,9 @@ met_holds P rows indexes servers x number filed near q met = row (finite.get row
     row (Some ys) at e = one ys (slice_get ys number) at refl e
 
 pub met_near : (rows : Rows) (indexes : List RuleIndex) (servers : Bool) (x : RuleSpots) (number : ℕ) (cells : List CellId) → AreFiled rows indexes
-    → AreNear indexes servers number x cells
+    → x.spots.wide ≡ false → AreNear indexes servers number x cells
     → (q : CellId) → is_met_at servers x number (finite.get rows.settled q) ≡ true → is_one_of cells q ≡ true
-met_near rows indexes servers x number cells filed near = met_holds (λ q. is_one_of cells q ≡ true) rows indexes servers x number filed near
+met_near rows indexes servers x number cells filed narrow near = met_holds (λ q. is_one_of cells q ≡ true) rows indexes servers x number filed narrow near
 
 -- ---- the rows of a finder
 pub none_filed : (rows : Rows) (xs : List RuleIndex) → rows ≡ no_rows → AreFiled rows xs

@@ -1,10 +1,11 @@
 -- Cells filed by the numbers of the spots of their rows under each rule, so that rows with a common spot are found.
-use Rattle.std.specs.Prelude.{◌≡◌, ◌⊎◌, ℕ, Bool, true, false, not, List, ◌&&◌, Option, Some, None, slice_get, ⊤, if◌then◌else◌}
-use Rattle.std.specs.BTreeMap.{BTreeMap, get}
+use Rattle.std.specs.Prelude.{◌≡◌, ◌⊎◌, ℕ, nat_eq, Bool, true, false, not, ◌&&◌, if◌then◌else◌, List, Option, Some, None, slice_get, ⊤}
+use Rattle.std.specs.HashMap.{HashMap, get}
 use Rattle.std.specs.FinSet as set
 use Rattle.std.specs.List.{list_any}
+use Rattle.std.specs.declared.hash.BuildHasherDefault.{BuildHasherDefault}
+use Rattle.std.specs.declared.hash.FoldHasher.{FoldHasher}
 use Rattle.clr_rows.specs.declared.cells.CellId.{CellId}
-use Rattle.std.specs.Ordering.{nat_cmp}
 use Rattle.clr_grid.specs.CellSets.{Cells, is_one, is_one_of}
 use Rattle.clr_finders.specs.declared.row_spots.RuleSpots.{RuleSpots}
 use Rattle.clr_grid.specs.declared.side_index.SideIndex.{SideIndex}
@@ -12,15 +13,13 @@ use Rattle.clr_grid.specs.declared.rule_index.RuleIndex.{RuleIndex}
 use Rattle.clr_grid.specs.RowMaps.{Rows, IsRowAt}
 use Rattle.clr_grid.specs.SpotNumbers.{has_number}
 
--- where a cell is filed: among all rows with a role, among the wide ones, at the number of a spot
+-- where a cell is filed: among the wide rows, at the number of a spot
 pub data Key : Type 0 where
-  All : Key
   Wide : Key
   At : ℕ → Key
 
 -- the row is to be filed there
 abbrev pub has_key : RuleSpots → Key → Bool
-has_key x All = x.has_role
 has_key x Wide = x.spots.wide
 has_key x (At n) = list_any (has_number n) x.spots.list
 
@@ -29,17 +28,12 @@ abbrev pub has_key_of : Option RuleSpots → Key → Bool
 has_key_of None k = false
 has_key_of (Some y) k = has_key y k
 
--- the cells there are found for the row
+-- the cells there are found for the row, if it isn't wide
 abbrev pub is_looked_at : RuleSpots → Key → Bool
-is_looked_at x All = x.spots.wide
 is_looked_at x Wide = x.has_role
 is_looked_at x (At n) = list_any (has_number n) x.spots.list
 
 -- what a row that stays has
-abbrev pub keeps_role : Option RuleSpots → Bool
-keeps_role None = false
-keeps_role (Some y) = y.has_role
-
 abbrev pub keeps_wide : Option RuleSpots → Bool
 keeps_wide None = false
 keeps_wide (Some y) = y.spots.wide
@@ -48,18 +42,24 @@ abbrev pub keeps_number : Option RuleSpots → ℕ → Bool
 keeps_number None n = false
 keeps_number (Some y) n = list_any (has_number n) y.spots.list
 
+-- cells by numbers
+abbrev pub ByNumber : Type 0
+ByNumber = HashMap ℕ Cells (BuildHasherDefault FoldHasher)
+
 abbrev pub has_cell : Option Cells → CellId → Bool
 has_cell None q = false
 has_cell (Some cells) q = set.contains cells q
 
+abbrev pub without_cell : Option Cells → CellId → Option Cells
+without_cell None cell = None
+without_cell (Some cells) cell = Some (set.remove cells cell)
+
 abbrev pub is_filed : SideIndex → Key → CellId → Bool
-is_filed index All q = set.contains index.all q
 is_filed index Wide q = set.contains index.wide q
-is_filed index (At n) q = has_cell (get nat_cmp index.by_spot n) q
+is_filed index (At n) q = has_cell (get nat_eq index.by_spot n) q
 
 -- what is filed for another cell, or for a row that the cell keeps
 abbrev pub stays : CellId → Option RuleSpots → Key → CellId → Bool
-stays cell kept All q = not (is_one cell q && not (keeps_role kept))
 stays cell kept Wide q = not (is_one cell q && not (keeps_wide kept))
 stays cell kept (At n) q = not (is_one cell q && not (keeps_number kept n))
 
@@ -120,8 +120,8 @@ AreOfRows rows indexes = (number : ℕ) (serves : Bool) (k : Key) (q : CellId) �
     → HasRowFor rows q number serves k
 
 -- each number that is kept holds a cell
-abbrev pub HoldCells : BTreeMap ℕ Cells → Type 0
-HoldCells by_spot = (n : ℕ) → get nat_cmp by_spot n ≡ Some set.empty → ⊥
+abbrev pub HoldCells : ByNumber → Type 0
+HoldCells by_spot = (n : ℕ) → get nat_eq by_spot n ≡ Some set.empty → ⊥
 
 abbrev pub AllHoldCells : List RuleIndex → Type 0
 AllHoldCells indexes = (number : ℕ) (index : RuleIndex) (serves : Bool) → slice_get indexes number ≡ Some index

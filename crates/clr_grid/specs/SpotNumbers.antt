@@ -1,8 +1,7 @@
 -- Numbers by which cells are filed: one spot has one number, which another spot seldom has.
-use Rattle.std.specs.Prelude.{ℕ, ◌+◌, ◌*◌, ◌^◌, ◌%◌, Bool}
+use Rattle.std.specs.Prelude.{ℕ, ◌+◌, ◌*◌, ◌^◌, ◌%◌, Bool, nat_eq}
 use Rattle.std.specs.Int.{cast_unsigned, w64}
 use Rattle.std.specs.List.{fold}
-use Rattle.std.specs.Ordering.{eq_by_cmp, nat_cmp}
 use Rattle.clr_rows.specs.declared.rows.Value.{Value}
 use Rattle.clr_rows.specs.declared.rows.Value.TheVariants.{Int, Words}
 use Rattle.clr_spots.specs.declared.spots.Spot.{Spot}
@@ -23,4 +22,4 @@ number_of (Values values) = fold mix_value 1 values
 
 -- the spot has that number
 abbrev pub has_number : ℕ → Spot → Bool
-has_number number x = eq_by_cmp nat_cmp number (number_of x)
+has_number number x = nat_eq number (number_of x)

@@ -112,15 +112,6 @@ impl CellSet {
         Ok(())
     }
 
-    /// Adds the cells of another set.
-    fn add_each(&mut self, other: &CellSet) -> Result<(), AllocError>
-        ensures ok { OnOk result ((q : Cell) → set.contains self.new q ≡ (set.contains self.old q || set.contains other.now q)) }
-        ensures err { OnErr result (GainsCells (λ q. set.contains other.now q ≡ true) self.old self.new) }
-    {
-        self.add_keys(&other.cells)?;
-        Ok(())
-    }
-
     /// Adds the cells of another set, where a test says so. If memory runs out, the set keeps its
     /// own cells, and besides them it has only cells of the other set.
     pub(crate) fn add_all(&mut self, test: bool, other: &CellSet) -> Result<(), AllocError>
@@ -128,7 +119,7 @@ impl CellSet {
         ensures err { OnErr result (GainsCells (λ q. (test && set.contains other.now q) ≡ true) self.old self.new) }
     {
         if test {
-            self.add_each(other)?;
+            self.add_keys(&other.cells)?;
         }
         Ok(())
     }

@@ -4,7 +4,7 @@
 //!   `clr_finders`; its types and laws are handed on. `ListFinder` goes over all rows, `SpotIndex`
 //!   keeps them by rule, side and the number of each spot: the rows that are settled or noted, and
 //!   nothing else. So what it keeps goes by the rows that there are, and not by how many have come
-//!   and gone.
+//!   and gone; only the room of a table stays as large as it once was.
 //! - `new` makes either without rows. `SpotIndex::with_row` adds a row, so that a finder is made of
 //!   all rows of a content.
 #![tactic(auto)]

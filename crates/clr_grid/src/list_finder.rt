@@ -54,9 +54,7 @@ impl ListFinder {
         ensures { IfOk result (λ cells. cells.items ≡ found_cells servers self.now.settled rule (rule_spots book.now rule (held_of held.entry))) }
     {
         let spots = RuleSpots::new(self.alloc, book, rule, held)?;
-        let cells = self.rows.cells(self.alloc)?;
-        self.rows
-            .find_among(self.alloc, servers, rule, &spots, cells.as_slice())
+        self.rows.find_all(self.alloc, servers, rule, &spots)
     }
 }
 

@@ -35,13 +35,7 @@ pub(crate) fn next_one(cell: Option<CellId>, after: Option<CellId>) -> Option<Ce
 {
     let cell = cell?;
     match after {
-        None => Some(cell),
-        Some(before) => {
-            if before.cmp(&cell).is_lt() {
-                Some(cell)
-            } else {
-                None
-            }
-        }
+        Some(before) if !before.cmp(&cell).is_lt() => None,
+        _ => Some(cell),
     }
 }

@@ -206,18 +206,6 @@ impl RowMap {
         }
     }
 
-    /// The cells that have a row, and some more, ascending.
-    pub(crate) fn cells(&self, alloc: Global) -> Result<Vec<CellId>, AllocError>
-        ensures all { IfOk result (λ cells. (q : Cell) → is_some (finite.get self.now.settled q) ≡ true → is_one_of cells.items q ≡ true) }
-        ensures rising { IfOk result (λ cells. IsStrictlySortedBy cell_cmp cells.items) }
-    {
-        let mut cells = Vec::new(alloc);
-        for cell in self.settled.keys() {
-            cells.push(*cell)?;
-        }
-        Ok(cells)
-    }
-
     /// The first cell behind a given one that has a row, or one before it.
     pub(crate) fn next_cell(&self, after: Option<CellId>) -> Option<CellId>
         ensures { IsNextOf (λ q. is_some (finite.get self.now.settled q) ≡ true) after result }
@@ -230,6 +218,25 @@ impl RowMap {
             Some((cell, _)) => Some(*cell),
             None => None,
         }
+    }
+
+    /// The cells whose rows are found under a rule, servers alone or all.
+    pub(crate) fn find_all(
+        &self,
+        alloc: Global,
+        servers: bool,
+        rule: u16,
+        spots: &RuleSpots,
+    ) -> Result<Vec<CellId>, AllocError>
+        ensures { IfOk result (λ list. list.items ≡ found_cells servers self.now.settled rule spots.now) }
+    {
+        let mut list = Vec::new(alloc);
+        for cell in self.settled.keys() {
+            if self.is_found(servers, rule, spots, *cell) {
+                list.push(*cell)?;
+            }
+        }
+        Ok(list)
     }
 
     /// The cells whose rows are found under a rule, servers alone or all, where they are among some

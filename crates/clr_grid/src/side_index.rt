@@ -1,16 +1,17 @@
 //! The cells of the rows of one side of a rule, filed by the numbers of their spots.
 
-ghost use Rattle.std.specs.Prelude.{◌≡◌, ◌⊎◌, ◌||◌, ◌&&◌, ℕ, not, true, false, IfOk, OnOk, OnErr, Some, None, IsSome, is_some, unwrap_or, if◌then◌else◌};
-ghost use Rattle.std.specs.BTreeMap.{get, is_at};
+ghost use Rattle.std.specs.Prelude.{◌≡◌, ◌⊎◌, ◌||◌, ◌&&◌, ℕ, nat_eq, not, true, false, if◌then◌else◌};
+ghost use Rattle.std.specs.Prelude.{IfOk, OnOk, OnErr, Some, None, unwrap_or};
 ghost use Rattle.std.specs.FinSet as set;
+ghost use Rattle.std.specs.HashMap.{get};
 ghost use Rattle.std.specs.List.{list_any};
 ghost use Rattle.std.specs.Option.{option_copied};
-ghost use Rattle.std.specs.Ordering.{nat_cmp};
 ghost use Rattle.clr_rows.specs.declared.cells.CellId.{CellId as Cell};
 ghost use Rattle.clr_finders.specs.NextCells.{IsNextOf};
 ghost use Rattle.clr_grid.specs.CellSets.{is_one};
 ghost use Rattle.clr_grid.specs.Gains.{GainsCells, IsFoundFor};
-ghost use Rattle.clr_grid.specs.Filing.{HoldCells, Key, has_cell, has_key, has_key_of, is_filed, is_looked_at, keeps_number, keeps_role, keeps_wide, stays};
+ghost use Rattle.clr_grid.specs.Filing.{HoldCells, Key, has_cell, has_key, has_key_of, is_filed, is_looked_at};
+ghost use Rattle.clr_grid.specs.Filing.{keeps_number, keeps_wide, stays, without_cell};
 ghost use Rattle.clr_grid.specs.SpotNumbers.{has_number, number_of};
 
 use crate::cell_sets::CellSet;
@@ -20,69 +21,52 @@ use clr_finders::{RuleSpots, lesser_cell};
 use clr_rows::CellId;
 use clr_spots::Spot;
 use std::alloc::{AllocError, Global};
-use std::collections::BTreeMap;
+use std::collections::HashMap;
+use std::collections::hash_map::Entry;
 
-/// The cells of some rows under a rule: of all, of the wide ones, and by the numbers of their spots.
+/// The cells of some rows under a rule: of the wide ones, and by the numbers of their spots.
 #[derive(Drop)]
 pub(crate) struct SideIndex {
-    by_spot: BTreeMap<u64, SpotCells>,
+    by_spot: HashMap<u64, SpotCells>,
     wide: CellSet,
-    all: CellSet,
-}
-
-/// Adds a cell at a number that has cells.
-fn add_at(
-    by_spot: &mut BTreeMap<u64, SpotCells>,
-    number: u64,
-    cell: CellId,
-) -> Result<(), AllocError>
-    requires { IsSome (get nat_cmp by_spot.old number) }
-    ensures ok { OnOk result ((n : ℕ) → get nat_cmp by_spot.new n
-        ≡ (if is_at (nat_cmp number) n then Some (set.insert (unwrap_or (get nat_cmp by_spot.old number) set.empty) cell)
-        else get nat_cmp by_spot.old n)) }
-    ensures err { OnErr result ((n : ℕ) → get nat_cmp by_spot.new n ≡ get nat_cmp by_spot.old n) }
-{
-    if let Some(cells) = by_spot.get_mut(&number) {
-        cells.add(cell)?;
-    }
-    Ok(())
 }
 
 /// Files a cell at a number.
 fn file_at(
-    by_spot: &mut BTreeMap<u64, SpotCells>,
+    by_spot: &mut HashMap<u64, SpotCells>,
     alloc: Global,
     number: u64,
     cell: CellId,
 ) -> Result<(), AllocError>
-    ensures kept { (n : ℕ) (q : Cell) → has_cell (get nat_cmp by_spot.old n) q ≡ true → has_cell (get nat_cmp by_spot.new n) q ≡ true }
-    ensures only { (n : ℕ) (q : Cell) → has_cell (get nat_cmp by_spot.new n) q ≡ true
-        → (has_cell (get nat_cmp by_spot.old n) q ≡ true) ⊎ ((q ≡ cell) × (n ≡ number)) }
-    ensures lean { HoldCells by_spot.old → HoldCells by_spot.new }
-    ensures filed { OnOk result (has_cell (get nat_cmp by_spot.new number) cell ≡ true) }
+    ensures ok { OnOk result ((n : ℕ) → get nat_eq by_spot.new n
+        ≡ (if nat_eq number n then Some (set.insert (unwrap_or (get nat_eq by_spot.old number) set.empty) cell)
+        else get nat_eq by_spot.old n)) }
+    ensures err { OnErr result ((n : ℕ) → get nat_eq by_spot.new n ≡ get nat_eq by_spot.old n) }
 {
-    if by_spot.contains_key(&number) {
-        add_at(by_spot, number, cell)?;
-        return Ok(());
+    match by_spot.entry(number)? {
+        Entry::Occupied(entry) => {
+            entry.into_mut().add(cell)?;
+            Ok(())
+        }
+        Entry::Vacant(entry) => {
+            entry.insert(SpotCells::one(alloc, cell));
+            Ok(())
+        }
     }
-    let mut cells = SpotCells::new(alloc);
-    cells.add(cell)?;
-    by_spot.insert(number, cells)?;
-    Ok(())
 }
 
 /// Files a cell at the numbers of some spots.
 fn file_at_each(
-    by_spot: &mut BTreeMap<u64, SpotCells>,
+    by_spot: &mut HashMap<u64, SpotCells>,
     alloc: Global,
     spots: &[Spot],
     cell: CellId,
 ) -> Result<(), AllocError>
-    ensures kept { (n : ℕ) (q : Cell) → has_cell (get nat_cmp by_spot.old n) q ≡ true → has_cell (get nat_cmp by_spot.new n) q ≡ true }
-    ensures only { (n : ℕ) (q : Cell) → has_cell (get nat_cmp by_spot.new n) q ≡ true
-        → (has_cell (get nat_cmp by_spot.old n) q ≡ true) ⊎ ((q ≡ cell) × (list_any (has_number n) spots.now ≡ true)) }
+    ensures kept { (n : ℕ) (q : Cell) → has_cell (get nat_eq by_spot.old n) q ≡ true → has_cell (get nat_eq by_spot.new n) q ≡ true }
+    ensures only { (n : ℕ) (q : Cell) → has_cell (get nat_eq by_spot.new n) q ≡ true
+        → (has_cell (get nat_eq by_spot.old n) q ≡ true) ⊎ ((q ≡ cell) × (list_any (has_number n) spots.now ≡ true)) }
     ensures lean { HoldCells by_spot.old → HoldCells by_spot.new }
-    ensures filed { OnOk result ((n : ℕ) → list_any (has_number n) spots.now ≡ true → has_cell (get nat_cmp by_spot.new n) cell ≡ true) }
+    ensures filed { OnOk result ((n : ℕ) → list_any (has_number n) spots.now ≡ true → has_cell (get nat_eq by_spot.new n) cell ≡ true) }
 {
     for spot in spots {
         file_at(by_spot, alloc, number_of(spot), cell)?;
@@ -90,53 +74,32 @@ fn file_at_each(
     Ok(())
 }
 
-/// Takes a cell away from a number that has cells.
-fn remove_at(by_spot: &mut BTreeMap<u64, SpotCells>, number: u64, cell: CellId)
-    requires { IsSome (get nat_cmp by_spot.old number) }
-    ensures { (n : ℕ) → get nat_cmp by_spot.new n
-        ≡ (if is_at (nat_cmp number) n
-        then Some (set.remove (unwrap_or (get nat_cmp by_spot.old number) set.empty) cell)
-        else get nat_cmp by_spot.old n) }
+/// Takes a cell away from a number, and answers whether it has had cells and has none left.
+fn remove_at(by_spot: &mut HashMap<u64, SpotCells>, number: u64, cell: CellId) -> bool
+    ensures cells { (n : ℕ) → get nat_eq by_spot.new n
+        ≡ (if nat_eq number n then without_cell (get nat_eq by_spot.old number) cell else get nat_eq by_spot.old n) }
+    ensures none { result ≡ true → get nat_eq by_spot.new number ≡ Some set.empty }
+    ensures some { result ≡ false → get nat_eq by_spot.new number ≡ Some set.empty → ⊥ }
 {
-    if let Some(cells) = by_spot.get_mut(&number) {
-        cells.remove(cell);
-    }
-}
-
-/// Whether no cell is left at a number that has had some.
-fn is_left_empty(by_spot: &BTreeMap<u64, SpotCells>, number: u64) -> bool
-    ensures none { result ≡ true → get nat_cmp by_spot.now number ≡ Some set.empty }
-    ensures some { result ≡ false → get nat_cmp by_spot.now number ≡ Some set.empty → ⊥ }
-{
-    match by_spot.get(&number) {
-        Some(cells) => cells.is_empty(),
+    match by_spot.get_mut(&number) {
+        Some(cells) => {
+            cells.remove(cell);
+            cells.is_empty()
+        }
         None => false,
     }
 }
 
 /// Takes a cell away from a number, and the number where no cell is left.
-fn take_at(by_spot: &mut BTreeMap<u64, SpotCells>, number: u64, cell: CellId)
-    ensures kept { (n : ℕ) (q : Cell) → (is_one cell q && is_at (nat_cmp number) n) ≡ false → has_cell (get nat_cmp by_spot.old n) q ≡ true
-        → has_cell (get nat_cmp by_spot.new n) q ≡ true }
-    ensures fewer { (n : ℕ) (q : Cell) → has_cell (get nat_cmp by_spot.new n) q ≡ true → has_cell (get nat_cmp by_spot.old n) q ≡ true }
-    ensures gone { has_cell (get nat_cmp by_spot.new number) cell ≡ false }
+fn take_at(by_spot: &mut HashMap<u64, SpotCells>, number: u64, cell: CellId)
+    ensures kept { (n : ℕ) (q : Cell) → (is_one cell q && nat_eq number n) ≡ false → has_cell (get nat_eq by_spot.old n) q ≡ true
+        → has_cell (get nat_eq by_spot.new n) q ≡ true }
+    ensures fewer { (n : ℕ) (q : Cell) → has_cell (get nat_eq by_spot.new n) q ≡ true → has_cell (get nat_eq by_spot.old n) q ≡ true }
+    ensures gone { has_cell (get nat_eq by_spot.new number) cell ≡ false }
     ensures lean { HoldCells by_spot.old → HoldCells by_spot.new }
 {
-    if by_spot.contains_key(&number) {
-        remove_at(by_spot, number, cell);
-        if is_left_empty(by_spot, number) {
-            by_spot.remove(&number);
-        }
-    }
-}
-
-/// Whether a row that stays has a role.
-fn keeps_role(kept: Option<&RuleSpots>) -> bool
-    ensures { result ≡ keeps_role (option_copied kept.entry) }
-{
-    match kept {
-        Some(kept) => kept.has_role,
-        None => false,
+    if remove_at(by_spot, number, cell) {
+        by_spot.remove(&number);
     }
 }
 
@@ -162,15 +125,15 @@ fn keeps_number(kept: Option<&RuleSpots>, number: u64) -> bool
 
 /// Takes a cell away from the numbers of some spots, but for those that a row has that stays.
 fn take_at_each(
-    by_spot: &mut BTreeMap<u64, SpotCells>,
+    by_spot: &mut HashMap<u64, SpotCells>,
     spots: &[Spot],
     kept: Option<&RuleSpots>,
     cell: CellId,
 )
     ensures kept { (n : ℕ) (q : Cell) → (is_one cell q && not (keeps_number (option_copied kept.entry) n)) ≡ false
-        → has_cell (get nat_cmp by_spot.old n) q ≡ true → has_cell (get nat_cmp by_spot.new n) q ≡ true }
-    ensures fewer { (n : ℕ) (q : Cell) → has_cell (get nat_cmp by_spot.new n) q ≡ true → has_cell (get nat_cmp by_spot.old n) q ≡ true }
-    ensures gone { (n : ℕ) → list_any (has_number n) spots.now ≡ true → has_cell (get nat_cmp by_spot.new n) cell ≡ true
+        → has_cell (get nat_eq by_spot.old n) q ≡ true → has_cell (get nat_eq by_spot.new n) q ≡ true }
+    ensures fewer { (n : ℕ) (q : Cell) → has_cell (get nat_eq by_spot.new n) q ≡ true → has_cell (get nat_eq by_spot.old n) q ≡ true }
+    ensures gone { (n : ℕ) → list_any (has_number n) spots.now ≡ true → has_cell (get nat_eq by_spot.new n) cell ≡ true
         → keeps_number (option_copied kept.entry) n ≡ true }
     ensures lean { HoldCells by_spot.old → HoldCells by_spot.new }
 {
@@ -189,9 +152,8 @@ impl SideIndex {
         ensures lean { HoldCells result.by_spot }
     {
         SideIndex {
-            by_spot: BTreeMap::new(alloc),
+            by_spot: HashMap::new(alloc),
             wide: CellSet::new(alloc),
-            all: CellSet::new(alloc),
         }
     }
 
@@ -203,11 +165,11 @@ impl SideIndex {
         spots: &RuleSpots,
     ) -> Result<(), AllocError>
         ensures kept { (k : Key) (q : Cell) → is_filed self.old k q ≡ true → is_filed self.new k q ≡ true }
-        ensures only { (k : Key) (q : Cell) → is_filed self.new k q ≡ true → (is_filed self.old k q ≡ true) ⊎ ((q ≡ cell) × (has_key spots.now k ≡ true)) }
+        ensures only { (k : Key) (q : Cell) → is_filed self.new k q ≡ true
+            → (is_filed self.old k q ≡ true) ⊎ ((q ≡ cell) × (has_key spots.now k ≡ true)) }
         ensures lean { HoldCells self.old.by_spot → HoldCells self.new.by_spot }
         ensures filed { OnOk result ((k : Key) → has_key spots.now k ≡ true → is_filed self.new k cell ≡ true) }
     {
-        self.all.add_if(spots.has_role, cell)?;
         self.wide.add_if(spots.spots.wide, cell)?;
         file_at_each(&mut self.by_spot, alloc, spots.spots.list.as_slice(), cell)?;
         Ok(())
@@ -215,20 +177,20 @@ impl SideIndex {
 
     /// Takes the cell of a row away, but for what a row keeps that stays.
     pub(crate) fn unfile(&mut self, cell: CellId, spots: &RuleSpots, kept: Option<&RuleSpots>)
-        ensures kept { (k : Key) (q : Cell) → stays cell (option_copied kept.entry) k q ≡ true → is_filed self.old k q ≡ true → is_filed self.new k q ≡ true }
+        ensures kept { (k : Key) (q : Cell) → stays cell (option_copied kept.entry) k q ≡ true → is_filed self.old k q ≡ true
+            → is_filed self.new k q ≡ true }
         ensures fewer { (k : Key) (q : Cell) → is_filed self.new k q ≡ true → is_filed self.old k q ≡ true }
         ensures gone { (k : Key) → has_key spots.now k ≡ true → is_filed self.new k cell ≡ true → has_key_of (option_copied kept.entry) k ≡ true }
         ensures lean { HoldCells self.old.by_spot → HoldCells self.new.by_spot }
     {
-        self.all.remove_if(!keeps_role(kept), cell);
         self.wide.remove_if(!keeps_wide(kept), cell);
         take_at_each(&mut self.by_spot, spots.spots.list.as_slice(), kept, cell);
     }
 
     /// Adds the cells at a number.
     fn add_cells_at(&self, number: u64, cells: &mut CellSet) -> Result<(), AllocError>
-        ensures ok { OnOk result ((q : Cell) → set.contains cells.new q ≡ (set.contains cells.old q || has_cell (get nat_cmp self.now.by_spot number) q)) }
-        ensures err { OnErr result (GainsCells (λ q. has_cell (get nat_cmp self.now.by_spot number) q ≡ true) cells.old cells.new) }
+        ensures ok { OnOk result ((q : Cell) → set.contains cells.new q ≡ (set.contains cells.old q || has_cell (get nat_eq self.now.by_spot number) q)) }
+        ensures err { OnErr result (GainsCells (λ q. has_cell (get nat_eq self.now.by_spot number) q ≡ true) cells.old cells.new) }
     {
         match self.by_spot.get(&number) {
             Some(more) => more.add_to(cells),
@@ -239,8 +201,8 @@ impl SideIndex {
     /// Adds the cells at the numbers of some spots.
     fn add_cells_at_each(&self, spots: &[Spot], cells: &mut CellSet) -> Result<(), AllocError>
         ensures ok { OnOk result ((q : Cell) → set.contains cells.new q
-            ≡ (set.contains cells.old q || list_any (λ x. has_cell (get nat_cmp self.now.by_spot (number_of x)) q) spots.now)) }
-        ensures err { OnErr result (GainsCells (λ q. list_any (λ x. has_cell (get nat_cmp self.now.by_spot (number_of x)) q) spots.now ≡ true)
+            ≡ (set.contains cells.old q || list_any (λ x. has_cell (get nat_eq self.now.by_spot (number_of x)) q) spots.now)) }
+        ensures err { OnErr result (GainsCells (λ q. list_any (λ x. has_cell (get nat_eq self.now.by_spot (number_of x)) q) spots.now ≡ true)
             cells.old cells.new) }
     {
         for spot in spots {
@@ -249,14 +211,14 @@ impl SideIndex {
         Ok(())
     }
 
-    /// Adds the cells that are looked at for a row. If memory runs out, the set keeps its own
-    /// cells, and besides them it has only some of these.
+    /// Adds the cells that are looked at for a row that isn't wide. If memory runs out, the set keeps
+    /// its own cells, and besides them it has only some of these.
     pub(crate) fn add_near(&self, spots: &RuleSpots, cells: &mut CellSet) -> Result<(), AllocError>
         ensures kept { OnOk result ((q : Cell) → set.contains cells.old q ≡ true → set.contains cells.new q ≡ true) }
-        ensures near { OnOk result ((k : Key) (q : Cell) → is_looked_at spots.now k ≡ true → is_filed self.now k q ≡ true → set.contains cells.new q ≡ true) }
+        ensures near { OnOk result ((k : Key) (q : Cell) → is_looked_at spots.now k ≡ true → is_filed self.now k q ≡ true
+            → set.contains cells.new q ≡ true) }
         ensures err { OnErr result (GainsCells (IsFoundFor self.now spots.now) cells.old cells.new) }
     {
-        cells.add_all(spots.spots.wide, &self.all)?;
         cells.add_all(spots.has_role, &self.wide)?;
         self.add_cells_at_each(spots.spots.list.as_slice(), cells)?;
         Ok(())
@@ -264,7 +226,7 @@ impl SideIndex {
 
     /// The first cell at a number behind a given one, if there is one.
     fn next_at(&self, number: u64, after: Option<CellId>) -> Option<CellId>
-        ensures { IsNextOf (λ q. has_cell (get nat_cmp self.now.by_spot number) q ≡ true) after result }
+        ensures { IsNextOf (λ q. has_cell (get nat_eq self.now.by_spot number) q ≡ true) after result }
     {
         match self.by_spot.get(&number) {
             Some(cells) => cells.next(after),
@@ -274,7 +236,7 @@ impl SideIndex {
 
     /// The first cell at the numbers of some spots behind a given one, if there is one.
     fn next_at_each(&self, spots: &[Spot], after: Option<CellId>) -> Option<CellId>
-        ensures { IsNextOf (λ q. list_any (λ x. has_cell (get nat_cmp self.now.by_spot (number_of x)) q) spots.now ≡ true) after result }
+        ensures { IsNextOf (λ q. list_any (λ x. has_cell (get nat_eq self.now.by_spot (number_of x)) q) spots.now ≡ true) after result }
     {
         let mut next = None;
         for spot in spots {
@@ -283,13 +245,12 @@ impl SideIndex {
         next
     }
 
-    /// The first of the cells that are looked at for a row behind a given one, if there is one.
+    /// The first cell behind a given one that is looked at for a row that isn't wide, if any.
     pub(crate) fn next_near(&self, spots: &RuleSpots, after: Option<CellId>) -> Option<CellId>
         ensures { IsNextOf (IsFoundFor self.now spots.now) after result }
     {
-        let among_all = self.all.next_if(spots.spots.wide, after);
         let among_wide = self.wide.next_if(spots.has_role, after);
         let at_spots = self.next_at_each(spots.spots.list.as_slice(), after);
-        lesser_cell(lesser_cell(among_all, among_wide), at_spots)
+        lesser_cell(among_wide, at_spots)
     }
 }

@@ -41,24 +41,18 @@ fn without(first: Option<CellId>, cell: CellId) -> Option<CellId>
     ensures { (q : Cell) → is_one_of (option_to_list result) q ≡ (not (eq_by_cmp cell_cmp q cell) && is_one_of (option_to_list first) q) }
 {
     match first {
-        Some(first) => {
-            if first.cmp(&cell).is_eq() {
-                None
-            } else {
-                Some(first)
-            }
-        }
-        None => None,
+        Some(first) if first.cmp(&cell).is_eq() => None,
+        other => other,
     }
 }
 
 impl SpotCells {
-    /// No cells.
-    pub(crate) fn new(alloc: Global) -> SpotCells
-        ensures { result ≡ set.empty }
+    /// One cell alone.
+    pub(crate) fn one(alloc: Global, cell: CellId) -> SpotCells
+        ensures { result ≡ set.insert set.empty cell }
     {
         SpotCells {
-            first: None,
+            first: Some(cell),
             others: BTreeSet::new(alloc),
         }
     }

@@ -16,7 +16,7 @@ use std::alloc::{AllocError, Global};
 use std::marker::Model;
 
 /// A finder that looks only at the spots of the given row: it keeps the cells of its rows by rule
-/// and spot, and those of wide rows apart.
+/// and spot, and those of wide rows apart. For a wide row it looks at all rows.
 #[derive(Drop)]
 pub struct SpotIndex {
     alloc: Global,
@@ -82,6 +82,9 @@ impl SpotIndex {
         ensures { IfOk result (λ cells. cells.items ≡ found_cells servers self.now.settled rule (rule_spots book.now rule (held_of held.entry))) }
     {
         let spots = RuleSpots::new(self.alloc, book, rule, held)?;
+        if spots.spots.wide {
+            return self.rows.find_all(self.alloc, servers, rule, &spots);
+        }
         let cells = cells_near(self.rules.as_slice(), self.alloc, servers, rule, &spots)?;
         self.rows
             .find_among(self.alloc, servers, rule, &spots, cells.as_slice())
@@ -157,6 +160,9 @@ impl RowFinder for SpotIndex {
     }
 
     fn next_server(&self, rule: u16, spots: &RuleSpots, after: Option<CellId>) -> Option<CellId> {
+        if spots.spots.wide {
+            return self.rows.next_cell(after);
+        }
         next_server_near(self.rules.as_slice(), rule, spots, after)
     }
 

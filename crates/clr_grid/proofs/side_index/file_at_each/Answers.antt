@@ -1,11 +1,11 @@
-use Rattle.std.proofs.Common.{inl, ◌∙◌, ap}
+use Rattle.std.proofs.Common.{nat_eq, inl, ◌∙◌, ap, sym}
 use Rattle.std.proofs.lemmas.Bool.{false≢true}
 use Rattle.std.proofs.lemmas.List.{take_all}
-use Rattle.std.specs.BTreeMap.{get}
+use Rattle.std.specs.HashMap.{get}
 use Rattle.std.specs.List.{list_any}
-use Rattle.std.specs.Ordering.{nat_cmp}
+use Rattle.clr_grid.specs.Filing.{has_cell}
 use Rattle.clr_grid.specs.SpotNumbers.{has_number}
-use Rattle.clr_grid.proofs.FilingLemmas.{AtNumbers, filed_more, gained_more}
+use Rattle.clr_grid.proofs.FilingLemmas.{AtNumbers, filed_more, gained_more, put_has, put_hold, put_keeps, put_only, same_hold}
 use Rattle.clr_grid.proofs.side_index.file_at_each.Goals as goal
 
 pub loop-spot-init : goal.loop-spot-init
@@ -13,25 +13,28 @@ loop-spot-init c = record { kept = λ x q e. e; only = λ x q e. inl e; lean = �
 
 pub loop-spot-preserved : goal.loop-spot-preserved
 loop-spot-preserved c =
-    let f : AtNumbers = get nat_cmp c.loop-spot.by_spot in
-    let g : AtNumbers = get nat_cmp c.file_at.new.by_spot in record {
-      kept = λ x q e. c.in_ok-file_at.ensures.kept x q (c.loop-spot.invariant.kept x q e);
-      only = gained_more (get nat_cmp c.args.by_spot.now) f g c.args.cell c.args.spots.now c.loop-spot.spot-index c.spot-item.result c.number_of.result c.loop-spot-test.true c.spot-item.is c.number_of.ensures
-          c.in_ok-file_at.ensures.only c.loop-spot.invariant.only;
-      lean = λ h. c.in_ok-file_at.ensures.lean (c.loop-spot.invariant.lean h);
-      filed = filed_more f g c.args.cell c.args.spots.now c.loop-spot.spot-index c.spot-item.result c.number_of.result c.loop-spot-test.true c.spot-item.is c.number_of.ensures c.in_ok-file_at.ensures.kept c.in_ok-file_at.ensures.filed c.loop-spot.invariant.filed;
+    let f : AtNumbers = get nat_eq c.loop-spot.by_spot in
+    let g : AtNumbers = get nat_eq c.file_at.new.by_spot in
+    let n = c.number_of.result in
+    let put = c.in_ok-file_at.ensures.ok in
+    let before = c.loop-spot.invariant in record {
+      kept = λ x q e. put_keeps f g n c.args.cell put x q (before.kept x q e);
+      only = gained_more (get nat_eq c.args.by_spot.now) f g c.args.cell c.args.spots.now c.loop-spot.spot-index c.spot-item.result n c.loop-spot-test.true
+          c.spot-item.is c.number_of.ensures (put_only f g n c.args.cell put) before.only;
+      lean = λ h. put_hold f g n c.args.cell put (before.lean h);
+      filed = filed_more f g c.args.cell c.args.spots.now c.loop-spot.spot-index c.spot-item.result n c.loop-spot-test.true c.spot-item.is c.number_of.ensures
+          (put_keeps f g n c.args.cell put) (put_has f g n c.args.cell put) before.filed;
     }
 
 pub returns-in_err-file_at-clause-kept : goal.returns-in_err-file_at-clause-kept
-returns-in_err-file_at-clause-kept c x q e = c.in_err-file_at.ensures.kept x q (c.loop-spot.invariant.kept x q e)
+returns-in_err-file_at-clause-kept c x q e = ap (λ o. has_cell o q) (c.in_err-file_at.ensures.err x) ∙ c.loop-spot.invariant.kept x q e
 
 pub returns-in_err-file_at-clause-only : goal.returns-in_err-file_at-clause-only
-returns-in_err-file_at-clause-only c =
-    gained_more (get nat_cmp c.args.by_spot.now) (get nat_cmp c.loop-spot.by_spot) (get nat_cmp c.file_at.new.by_spot) c.args.cell c.args.spots.now c.loop-spot.spot-index c.spot-item.result c.number_of.result c.loop-spot-test.true c.spot-item.is c.number_of.ensures
-    c.in_err-file_at.ensures.only c.loop-spot.invariant.only
+returns-in_err-file_at-clause-only c x q e = c.loop-spot.invariant.only x q (sym (ap (λ o. has_cell o q) (c.in_err-file_at.ensures.err x)) ∙ e)
 
 pub returns-in_err-file_at-clause-lean : goal.returns-in_err-file_at-clause-lean
-returns-in_err-file_at-clause-lean c h = c.in_err-file_at.ensures.lean (c.loop-spot.invariant.lean h)
+returns-in_err-file_at-clause-lean c h =
+    same_hold (get nat_eq c.loop-spot.by_spot) (get nat_eq c.file_at.new.by_spot) c.in_err-file_at.ensures.err (c.loop-spot.invariant.lean h)
 
 pub returns-clause-lean : goal.returns-clause-lean
 returns-clause-lean c = c.loop-spot.invariant.lean

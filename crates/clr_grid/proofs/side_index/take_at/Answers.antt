@@ -1,46 +1,45 @@
-use Rattle.std.proofs.Common.{◌∙◌, sym}
-use Rattle.std.specs.BTreeMap.{get}
-use Rattle.std.specs.Ordering.{nat_cmp}
-use Rattle.clr_grid.proofs.FilingLemmas.{AtNumbers, removed_keeps, removed_fewer, removed_gone, emptied_keeps, emptied_fewer, emptied_gone, emptied_hold, removed_hold, none_there}
+use Rattle.std.proofs.Common.{nat_eq}
+use Rattle.std.specs.HashMap.{get}
+use Rattle.clr_grid.proofs.FilingLemmas.{AtNumbers, emptied_fewer, emptied_gone, emptied_hold, emptied_keeps, removed_fewer, removed_gone, removed_hold, removed_keeps}
 use Rattle.clr_grid.proofs.side_index.take_at.Goals as goal
 
-pub returns-then-is_left_empty-clause-kept : goal.returns-then-is_left_empty-clause-kept
-returns-then-is_left_empty-clause-kept c x q apart e =
-    let f : AtNumbers = get nat_cmp c.args.by_spot.now in
-    let g : AtNumbers = get nat_cmp c.remove_at.new.by_spot in
-    let h : AtNumbers = get nat_cmp c.remove.new.self in
-    emptied_keeps g h c.args.number (c.is_left_empty.ensures.none c.if-is_left_empty.true) c.remove.ensures.updates.0 x q (removed_keeps f g c.args.number c.args.cell c.remove_at.ensures x q apart e)
+pub returns-then-remove_at-clause-kept : goal.returns-then-remove_at-clause-kept
+returns-then-remove_at-clause-kept c x q apart e =
+    let f : AtNumbers = get nat_eq c.args.by_spot.now in
+    let g : AtNumbers = get nat_eq c.remove_at.new.by_spot in
+    let h : AtNumbers = get nat_eq c.remove.new.self in
+    emptied_keeps g h c.args.number (c.remove_at.ensures.none c.if-remove_at.true) c.remove.ensures.updates.0 x q
+    (removed_keeps f g c.args.number c.args.cell c.remove_at.ensures.cells x q apart e)
 
-pub returns-then-is_left_empty-clause-fewer : goal.returns-then-is_left_empty-clause-fewer
-returns-then-is_left_empty-clause-fewer c x q e =
-    let f : AtNumbers = get nat_cmp c.args.by_spot.now in
-    let g : AtNumbers = get nat_cmp c.remove_at.new.by_spot in
-    let h : AtNumbers = get nat_cmp c.remove.new.self in
-    removed_fewer f g c.args.number c.args.cell c.remove_at.ensures x q (emptied_fewer g h c.args.number c.remove.ensures.updates.0 x q e)
+pub returns-then-remove_at-clause-fewer : goal.returns-then-remove_at-clause-fewer
+returns-then-remove_at-clause-fewer c x q e =
+    let f : AtNumbers = get nat_eq c.args.by_spot.now in
+    let g : AtNumbers = get nat_eq c.remove_at.new.by_spot in
+    let h : AtNumbers = get nat_eq c.remove.new.self in
+    removed_fewer f g c.args.number c.args.cell c.remove_at.ensures.cells x q (emptied_fewer g h c.args.number c.remove.ensures.updates.0 x q e)
 
-pub returns-then-is_left_empty-clause-gone : goal.returns-then-is_left_empty-clause-gone
-returns-then-is_left_empty-clause-gone c =
-    emptied_gone (get nat_cmp c.remove_at.new.by_spot) (get nat_cmp c.remove.new.self) c.args.number c.args.cell c.remove.ensures.updates.0
+pub returns-then-remove_at-clause-gone : goal.returns-then-remove_at-clause-gone
+returns-then-remove_at-clause-gone c =
+    emptied_gone (get nat_eq c.remove_at.new.by_spot) (get nat_eq c.remove.new.self) c.args.number c.args.cell c.remove.ensures.updates.0
 
-pub returns-else-is_left_empty-clause-kept : goal.returns-else-is_left_empty-clause-kept
-returns-else-is_left_empty-clause-kept c =
-    removed_keeps (get nat_cmp c.args.by_spot.now) (get nat_cmp c.remove_at.new.by_spot) c.args.number c.args.cell c.remove_at.ensures
+pub returns-then-remove_at-clause-lean : goal.returns-then-remove_at-clause-lean
+returns-then-remove_at-clause-lean c =
+    emptied_hold (get nat_eq c.args.by_spot.now) (get nat_eq c.remove_at.new.by_spot) (get nat_eq c.remove.new.self) c.args.number _ c.remove_at.ensures.cells
+    c.remove.ensures.updates.0
 
-pub returns-else-is_left_empty-clause-fewer : goal.returns-else-is_left_empty-clause-fewer
-returns-else-is_left_empty-clause-fewer c =
-    removed_fewer (get nat_cmp c.args.by_spot.now) (get nat_cmp c.remove_at.new.by_spot) c.args.number c.args.cell c.remove_at.ensures
+pub returns-else-remove_at-clause-kept : goal.returns-else-remove_at-clause-kept
+returns-else-remove_at-clause-kept c =
+    removed_keeps (get nat_eq c.args.by_spot.now) (get nat_eq c.remove_at.new.by_spot) c.args.number c.args.cell c.remove_at.ensures.cells
 
-pub returns-else-is_left_empty-clause-gone : goal.returns-else-is_left_empty-clause-gone
-returns-else-is_left_empty-clause-gone c =
-    removed_gone (get nat_cmp c.args.by_spot.now) (get nat_cmp c.remove_at.new.by_spot) c.args.number c.args.cell c.remove_at.ensures
+pub returns-else-remove_at-clause-fewer : goal.returns-else-remove_at-clause-fewer
+returns-else-remove_at-clause-fewer c =
+    removed_fewer (get nat_eq c.args.by_spot.now) (get nat_eq c.remove_at.new.by_spot) c.args.number c.args.cell c.remove_at.ensures.cells
 
-pub returns-else-contains_key-clause-gone : goal.returns-else-contains_key-clause-gone
-returns-else-contains_key-clause-gone c = none_there (get nat_cmp c.args.by_spot.now c.args.number) c.args.cell (sym c.contains_key.ensures ∙ c.if-contains_key.false)
+pub returns-else-remove_at-clause-gone : goal.returns-else-remove_at-clause-gone
+returns-else-remove_at-clause-gone c =
+    removed_gone (get nat_eq c.args.by_spot.now) (get nat_eq c.remove_at.new.by_spot) c.args.number c.args.cell c.remove_at.ensures.cells
 
-pub returns-then-is_left_empty-clause-lean : goal.returns-then-is_left_empty-clause-lean
-returns-then-is_left_empty-clause-lean c =
-    emptied_hold (get nat_cmp c.args.by_spot.now) (get nat_cmp c.remove_at.new.by_spot) (get nat_cmp c.remove.new.self) c.args.number _ c.remove_at.ensures c.remove.ensures.updates.0
-
-pub returns-else-is_left_empty-clause-lean : goal.returns-else-is_left_empty-clause-lean
-returns-else-is_left_empty-clause-lean c =
-    removed_hold (get nat_cmp c.args.by_spot.now) (get nat_cmp c.remove_at.new.by_spot) c.args.number _ c.remove_at.ensures (c.is_left_empty.ensures.some c.if-is_left_empty.false)
+pub returns-else-remove_at-clause-lean : goal.returns-else-remove_at-clause-lean
+returns-else-remove_at-clause-lean c =
+    removed_hold (get nat_eq c.args.by_spot.now) (get nat_eq c.remove_at.new.by_spot) c.args.number _ c.remove_at.ensures.cells
+    (c.remove_at.ensures.some c.if-remove_at.false)
