@@ -3,7 +3,7 @@ use Rattle.std.proofs.Common.{◌≡◌, ◌<◌, ◌≤◌, ◌+◌, ℕ, List,
 use Rattle.std.proofs.lemmas.List.Elements.{Contains-append_left, Contains-append_right, Contains-append_cases}
 use Rattle.clr_rules.proofs.Elements.{contained}
 use Rattle.clr_needs.proofs.Reading.{alone, all_taken, none_taken, one_more}
-use Rattle.clr_foot.specs.Gains.{Gains, GainsSome, OfSome}
+use Rattle.clr_foot.specs.Gains.{Gains, GainsSome, IsReached, OfSome, Reaches}
 
 module _ {X : Type 0} where
   module _ (allowed wanted : X → Type 0) where
@@ -89,5 +89,48 @@ module _ {X Y : Type 0} (allowed : X → Type 0) (P : Y → X → Type 0) (ys : 
           by (inl before) = inl (w.0, before, w.2)
           by (inr last) = inr (subst (λ y. P y x) last w.2)
 
+  -- the one that is read there
+  pub of_one_read : (k : ℕ) (y : Y) (old middle new : List X) → k < length ys → y ≡ get_or ys k y → Gains allowed (OfSome P (take k ys)) old middle
+      → Gains allowed (P y) middle new
+      → Gains allowed (OfSome P (take (k + 1) ys)) old new
+  of_one_read k y old middle new less is g h = of_one_more k y old middle new less g (subst (λ z. Gains allowed (P z) middle new) is h)
+
   pub of_all : (k : ℕ) (old new : List X) → length ys ≤ k → Gains allowed (OfSome P (take k ys)) old new → Gains allowed (OfSome P ys) old new
   of_all k old new past g = gains_as allowed (OfSome P (take k ys)) allowed (OfSome P ys) old new (λ x a. a) (λ x w. (w.0, all_taken ys k w.0 past w.1, w.2)) g
+
+-- ---- what may stand behind a listed element that passes it
+
+module _ {X : Type 0} (passes : X → X → Type 0) where
+  pub gains_reach : (allowed wanted : X → Type 0) (old new : List X) → Gains allowed wanted old new → Reaches passes allowed wanted old new
+  gains_reach allowed wanted old new g = record { kept = g.kept; only = g.only; every = λ x w. inl (g.every x w) }
+
+  pub reaches_as : (allowed wanted more less : X → Type 0) (old new : List X) → ((x : X) → allowed x → more x) → ((x : X) → less x → wanted x)
+      → Reaches passes allowed wanted old new → Reaches passes more less old new
+  reaches_as allowed wanted more less old new may want g = record { kept = g.kept; only = λ x h. by x (g.only x h); every = λ x w. g.every x (want x w) }
+    where
+      by : (x : X) → Contains old x ⊎ allowed x → Contains old x ⊎ more x
+      by x (inl h) = inl h
+      by x (inr a) = inr (may x a)
+
+  -- one call after another
+  pub reaches_both : (allowed first second wanted : X → Type 0) (old middle new : List X) → ((x : X) → wanted x → first x ⊎ second x)
+      → Reaches passes allowed first old middle
+      → Reaches passes allowed second middle new
+      → Reaches passes allowed wanted old new
+  reaches_both allowed first second wanted old middle new one g h = record {
+    kept = λ x k. h.kept x (g.kept x k);
+    only = λ x k. either x (h.only x k);
+    every = λ x w. by x (one x w);
+  }
+    where
+      either : (x : X) → Contains middle x ⊎ allowed x → Contains old x ⊎ allowed x
+      either x (inl k) = g.only x k
+      either x (inr a) = inr a
+
+      later : (x : X) → IsReached passes middle x → IsReached passes new x
+      later x (inl k) = inl (h.kept x k)
+      later x (inr (y, k, p)) = inr (y, h.kept y k, p)
+
+      by : (x : X) → first x ⊎ second x → IsReached passes new x
+      by x (inl w) = later x (g.every x w)
+      by x (inr w) = h.every x w

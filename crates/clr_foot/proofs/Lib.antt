@@ -4,6 +4,7 @@ pub mod ChangerSteps
 pub mod FirstServerLaws
 pub mod Gaining
 pub mod InvolvedLaws
+pub mod LeastLost
 pub mod NewPairLaws
 pub mod NewRows
 pub mod PartSteps

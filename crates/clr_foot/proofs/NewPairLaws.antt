@@ -1,9 +1,17 @@
 -- Which needs of two new versions are found among the parts that were filed before.
-use Rattle.std.proofs.Common.{◌≡◌, ◌∙◌, ◌<◌, ◌≤◌, ◌+◌, ◌-◌, ℕ, zero, suc, Bool, true, false, List, [], ◌∷◌, ◌⊎◌, inl, inr, Some, None, Contains, get_or, length, slice_get, refl, sym, ap, subst, arith}
-use Rattle.std.proofs.lemmas.Bool.{cases_lt, false≢true}
+use Rattle.std.proofs.Common.{◌≡◌, ◌∙◌, ◌<◌, ◌≤◌, ◌+◌, ◌-◌, ◌==◌, ℕ, zero, suc, Bool, true, false, ◌&&◌, List, [], ◌∷◌, ◌⊎◌, inl, inr, Option, Some, None, Contains, get_or, length, slice_get, refl, sym, ap, subst, arith}
+use Rattle.std.specs.Prelude.{IfSome}
+use Rattle.std.specs.Cmp.{tied_itself}
+use Rattle.std.specs.Option.{option_cmp}
+use Rattle.std.specs.Ordering.{bool_cmp, is_gt, nat_cmp, ordering_reverse, ordering_then}
+use Rattle.std.proofs.lemmas.Bool.{and_parts, cases_lt, false≢true}
+use Rattle.std.proofs.lemmas.Bool.Decides.{Decides-eqb}
+use Rattle.std.proofs.lemmas.Cmp.{nat_cmp_total}
 use Rattle.std.proofs.lemmas.List.Elements.{All-nil}
 use Rattle.std.proofs.lemmas.Option.{slice_get_read}
+use Rattle.std.specs.declared.cmp.Ordering.{Ordering}
 use Rattle.std.specs.declared.cmp.Ordering.TheVariants.{Less, Equal, Greater}
+use Rattle.clr_rows.specs.declared.cells.CellId.{CellId}
 use Rattle.clr_rows.specs.Cells.{cell_cmp}
 use Rattle.clr_rows.specs.Held.{Held}
 use Rattle.clr_rows.proofs.CellOrder.{cell_cmp_total}
@@ -21,15 +29,17 @@ use Rattle.clr_spot_maps.specs.declared.spot_maps.FiledPart.{FiledPart}
 use Rattle.clr_spot_maps.specs.Filing.{Filed, IsFiled, near}
 use Rattle.clr_spot_maps.proofs.Filed.{entry_filed, entry_stays, found_near}
 use Rattle.clr_needs.specs.declared.needs.Need.{Need}
-use Rattle.clr_needs.specs.Needs.{ask_of}
+use Rattle.clr_needs.specs.Needs.{ask_of, is_fresh}
+use Rattle.clr_needs.specs.Orders.{need_cmp, version_cmp}
 use Rattle.clr_needs.specs.Settings.{Setting}
 use Rattle.clr_foot.specs.declared.versions.Version.{Version}
 use Rattle.clr_foot.specs.Candidates.{IsNeedAmong, IsNeedOf, IsNeedOfAsk, IsNeedOfPair, are_opposed, may_be_paired}
-use Rattle.clr_foot.specs.Gains.{Gains, OfSome}
+use Rattle.clr_foot.specs.Gains.{Gains, IsReached, OfSome, Reaches}
 use Rattle.clr_foot.specs.NewPairs.{AreFiledBefore, ArePartsFiled, IsNeedAtPosition, IsNeedOfEntry, IsNeedOfItsPart, IsNeedOfParts, IsNeedOfTwo, IsNeedWithBefore, IsNeedWithPart, entry_at, with_part}
+use Rattle.clr_foot.specs.NewPairs.{HasBar, Passes, UpTo, is_past, is_unserved_under}
 use Rattle.clr_foot.specs.Versions.{FitsSetting, row_and_life, row_of}
 use Rattle.clr_foot.proofs.CandidateLaws.{first_counted, first_within, one_cell, opposed_pair, ordered_pair, pair_back, second_counted, second_within, they_call, turned_less, turned_told}
-use Rattle.clr_foot.proofs.Gaining.{gains_as, gains_both, gains_none}
+use Rattle.clr_foot.proofs.Gaining.{gains_as, gains_both, gains_none, reaches_as, reaches_both}
 use Rattle.clr_foot.proofs.SharingLaws.{both_paired}
 
 -- ---- positions
@@ -44,6 +54,51 @@ got_in xs k x e = contained x xs (among_got xs k x e)
 
 got_by : {X : Type 0} → (xs : List X) (k : ℕ) (x : X) → k < length xs → get_or xs k x ≡ x → slice_get xs k ≡ Some x
 got_by xs k x less e = slice_get_read xs (length xs) k x refl less (sym e)
+
+-- ---- needs whose first subject isn't past a cell
+
+module _ (last : Option CellId) where
+  pub gains_up_to : (allowed wanted : Need → Type 0) (old new : List Need) → Gains allowed wanted old new → Gains allowed (UpTo last wanted) old new
+  gains_up_to allowed wanted old new g = gains_as allowed wanted allowed (UpTo last wanted) old new (λ n a. a) (λ n w. w.0) g
+
+  up_to_either : (P Q : Need → Type 0) (n : Need) → P n ⊎ Q n → is_past last n.first.cell ≡ false → UpTo last P n ⊎ UpTo last Q n
+  up_to_either P Q n (inl p) e = inl (p, e)
+  up_to_either P Q n (inr q) e = inr (q, e)
+
+-- what is told of the last need of a list
+pub bar_told : (rules : List Rule) (sparing : Bool) (number : ℕ) (list : List Need) (k : ℕ) (n : Need) (unserved told : Bool) → sparing ≡ true
+    → unserved ≡ is_unserved_under rules number
+    → unserved ≡ true
+    → slice_get list k ≡ Some n
+    → told ≡ (is_fresh n.second && (n.first.fresh && (n.rule == number)))
+    → told ≡ true
+    → HasBar rules sparing number list n.first.cell
+bar_told rules sparing number list k n unserved told spared is holds at tells two =
+    let parts = and_parts (is_fresh n.second) (n.first.fresh && (n.rule == number)) (sym tells ∙ two) in
+    let rest = and_parts n.first.fresh (n.rule == number) parts.1 in
+    let its : n.rule ≡ number = (Decides-eqb n.rule number).0 rest.1 in (
+      n,
+      got_in list k n at,
+      record { spared = spared; unserved = ap (is_unserved_under rules) its ∙ sym is ∙ holds; first = rest.0; second = parts.0 },
+      its,
+      refl,
+    )
+
+gt_is : (o : Ordering) → is_gt o ≡ true → o ≡ Greater
+gt_is Less e = cc
+gt_is Equal e = cc
+gt_is Greater e = refl
+
+-- of two needs of one rule that one is less whose first subject has the lesser cell
+less_by_cell : (m n : Need) → n.rule ≡ m.rule → is_gt (cell_cmp n.first.cell m.first.cell) ≡ true → need_cmp m n ≡ Less
+less_by_cell m n rule past = λ i. ordering_then (tie i) (ordering_then (ordering_then (less i) (bool_cmp m.first.fresh n.first.fresh)) (ordering_then (option_cmp version_cmp m.second n.second)
+    (ordering_then (nat_cmp m.first_part n.first_part) (nat_cmp m.second_part n.second_part))))
+  where
+    tie : nat_cmp m.rule n.rule ≡ Equal
+    tie = ap (nat_cmp m.rule) rule ∙ tied_itself nat_cmp_total m.rule
+
+    less : cell_cmp m.first.cell n.first.cell ≡ Less
+    less = cell_cmp_total.antisymm m.first.cell n.first.cell ∙ ap ordering_reverse (gt_is (cell_cmp n.first.cell m.first.cell) past)
 
 -- ---- a part of each of two versions
 
@@ -115,6 +170,21 @@ module _ (rules : List Rule) (number : ℕ) where
         by : (n : Need) (u : Version) → slice_get fresh e.position ≡ Some u → IsNeedOfParts rules number s p u e.part n
             → IsNeedOfParts rules number s p t e.part n
         by n u there w = let same : u ≡ t = let both : Some u ≡ Some t = sym there ∙ at in cc in subst (λ v. IsNeedOfParts rules number s p v e.part n) same w
+
+    -- both cells are past the last one that counts
+    pub entry_past : (last : Option CellId) (e : FiledPart) (t : Version) (needs : List Need) → slice_get fresh e.position ≡ Some t
+        → (is_past last s.id.cell && is_past last t.id.cell) ≡ true
+        → Gains (IsNeedAmong rules number None s fresh) (UpTo last (IsNeedOfEntry rules number fresh s p e)) needs needs
+    entry_past last e t needs at past =
+        gains_none (IsNeedAmong rules number None s fresh) (UpTo last (IsNeedOfEntry rules number fresh s p e)) needs
+        (λ n w. none n w.0.0 (let both : Some w.0.0 ≡ Some t = sym w.0.1 ∙ at in cc) w.0.2 w.1)
+      where
+        two : (is_past last s.id.cell ≡ true) × (is_past last t.id.cell ≡ true)
+        two = and_parts (is_past last s.id.cell) (is_past last t.id.cell) past
+
+        none : (n : Need) (u : Version) → u ≡ t → IsNeedOfParts rules number s p u e.part n → is_past last n.first.cell ≡ false → ⊥
+        none n u same (inl w) within = false≢true (sym within ∙ ap (λ v. is_past last v.cell) w.0.need.first ∙ two.0)
+        none n u same (inr w) within = false≢true (sym within ∙ ap (λ v. is_past last v.cell) w.0.need.first ∙ ap (λ x. is_past last x.id.cell) same ∙ two.1)
 
 -- the needs with a part are those of entries that are near its spots
 module _ (c : Setting ℕ) (fits : FitsSetting c) (number : ℕ) (fresh : List Version) (k : ℕ) (m : Filed) (before : AreFiledBefore c.rules number fresh k m)
@@ -243,10 +313,12 @@ module _ (rules : List Rule) (number : ℕ) (fresh : List Version) where
     pub no_part_yet : (needs : List Need) → Gains Beside (IsNeedWithPartTo 0) needs needs
     no_part_yet needs = gains_none Beside (IsNeedWithPartTo 0) needs (λ n w. let less = w.1 in omega (arith, less))
 
-    pub one_part_more : (p : ℕ) (old middle new : List Need) → Gains Beside (IsNeedWithPartTo p) old middle
-        → Gains Beside (IsNeedWithPart rules number fresh k s (p + 1)) middle new → Gains Beside (IsNeedWithPartTo (p + 1)) old new
-    one_part_more p old middle new g h = gains_both Beside (IsNeedWithPartTo p) (IsNeedWithPart rules number fresh k s (p + 1)) (IsNeedWithPartTo (p + 1)) old
-        middle new split g h
+    pub one_part_more : (last : Option CellId) (p : ℕ) (old middle new : List Need) → Gains Beside (UpTo last (IsNeedWithPartTo p)) old middle
+        → Gains Beside (UpTo last (IsNeedWithPart rules number fresh k s (p + 1))) middle new → Gains Beside (UpTo last (IsNeedWithPartTo (p + 1))) old new
+    one_part_more last p old middle new g h =
+        gains_both Beside (UpTo last (IsNeedWithPartTo p)) (UpTo last (IsNeedWithPart rules number fresh k s (p + 1))) (UpTo last (IsNeedWithPartTo (p + 1))) old
+        middle new
+        (λ n w. up_to_either last (IsNeedWithPartTo p) (IsNeedWithPart rules number fresh k s (p + 1)) n (split n w.0) w.1) g h
       where
         split : (n : Need) → IsNeedWithPartTo (p + 1) n → IsNeedWithPartTo p n ⊎ IsNeedWithPart rules number fresh k s (p + 1) n
         split n (q, less, w) = elim (cases_lt q p) [
@@ -265,10 +337,11 @@ module _ (rules : List Rule) (number : ℕ) (fresh : List Version) where
         let high = second_within rules number None t s n w.need in
         (n.second_part - 1, omega (arith, low, high, is, past), (i, t, less, at, inr (w, omega (arith, low))))
 
-    pub all_parts : (count part : ℕ) (old new : List Need) → count ≡ part_count rules number (row_of s) → count ≤ part
-        → Gains Beside (IsNeedWithPartTo part) old new → Gains Beside (IsNeedWithBefore rules number fresh k s) old new
-    all_parts count part old new is past g = gains_as Beside (IsNeedWithPartTo part) Beside (IsNeedWithBefore rules number fresh k s) old new (λ n w. w)
-        (its_part count part is past) g
+    pub all_parts : (last : Option CellId) (count part : ℕ) (old new : List Need) → count ≡ part_count rules number (row_of s) → count ≤ part
+        → Gains Beside (UpTo last (IsNeedWithPartTo part)) old new → Gains Beside (UpTo last (IsNeedWithBefore rules number fresh k s)) old new
+    all_parts last count part old new is past g = gains_as Beside (UpTo last (IsNeedWithPartTo part)) Beside (UpTo last (IsNeedWithBefore rules number fresh k s))
+        old new (λ n w. w)
+        (λ n w. (its_part count part is past n w.0, w.1)) g
 
     pub unpaired_needs : (told : Bool) (needs : List Need) → told ≡ may_be_paired rules number (row_of s) → told ≡ false
         → Gains Beside (IsNeedWithBefore rules number fresh k s) needs needs
@@ -285,10 +358,11 @@ module _ (rules : List Rule) (number : ℕ) (fresh : List Version) where
 
     -- ---- at a position
 
-    pub at_position : (old new : List Need) → slice_get fresh k ≡ Some s → Gains Beside (IsNeedWithBefore rules number fresh k s) old new
-        → Gains (IsNeedOfTwo rules number fresh) (IsNeedAtPosition rules number fresh k) old new
-    at_position old new at g = gains_as Beside (IsNeedWithBefore rules number fresh k s) (IsNeedOfTwo rules number fresh)
-        (IsNeedAtPosition rules number fresh k) old new two its g
+    pub at_position : (last : Option CellId) (old new : List Need) → slice_get fresh k ≡ Some s
+        → Gains Beside (UpTo last (IsNeedWithBefore rules number fresh k s)) old new
+        → Gains (IsNeedOfTwo rules number fresh) (UpTo last (IsNeedAtPosition rules number fresh k)) old new
+    at_position last old new at g = gains_as Beside (UpTo last (IsNeedWithBefore rules number fresh k s)) (IsNeedOfTwo rules number fresh)
+        (UpTo last (IsNeedAtPosition rules number fresh k)) old new two (λ n w. (its n w.0, w.1)) g
       where
         two : (n : Need) → Beside n → IsNeedOfTwo rules number fresh n
         two n (t, h, inl w) = (s, t, got_in fresh k s at, h, w)
@@ -315,16 +389,34 @@ module _ (rules : List Rule) (number : ℕ) (fresh : List Version) where
   pub no_position_yet : (needs : List Need) → Gains Two (IsNeedBefore 0) needs needs
   no_position_yet needs = gains_none Two (IsNeedBefore 0) needs (λ n w. let less = w.1 in omega (arith, less))
 
-  pub one_position_more : (m : ℕ) (old middle new : List Need) → Gains Two (IsNeedBefore m) old middle
-      → Gains Two (IsNeedAtPosition rules number fresh m) middle new → Gains Two (IsNeedBefore (m + 1)) old new
-  one_position_more m old middle new g h = gains_both Two (IsNeedBefore m) (IsNeedAtPosition rules number fresh m) (IsNeedBefore (m + 1)) old middle new split g
-      h
+  -- what isn't added stands behind a need of the list
+  its_rule : (m : ℕ) (n : Need) → IsNeedAtPosition rules number fresh m n → n.rule ≡ number
+  its_rule m n (s, at, (i, t, less, got, inl w)) = w.need.rule
+  its_rule m n (s, at, (i, t, less, got, inr w)) = w.need.rule
+
+  passed : (last : Option CellId) (sparing : Bool) (needs : List Need) → IfSome last (HasBar rules sparing number needs) → (n : Need) → n.rule ≡ number
+      → is_past last n.first.cell ≡ true → (m : Need) × Contains needs m × Passes rules sparing m n
+  passed None sparing needs bar n rule e = absurd (false≢true e)
+  passed (Some q) sparing needs (m, listed, bar, its, cell) n rule e =
+      (m, listed, (bar, less_by_cell m n (rule ∙ sym its) (ap (λ r. is_gt (cell_cmp n.first.cell r)) cell ∙ e)))
+
+  pub one_position_more : (last : Option CellId) (sparing : Bool) (m : ℕ) (old middle new : List Need)
+      → IfSome last (HasBar rules sparing number middle)
+      → Reaches (Passes rules sparing) Two (IsNeedBefore m) old middle
+      → Gains Two (UpTo last (IsNeedAtPosition rules number fresh m)) middle new → Reaches (Passes rules sparing) Two (IsNeedBefore (m + 1)) old new
+  one_position_more last sparing m old middle new bar g h =
+      reaches_both (Passes rules sparing) Two (IsNeedBefore m) (IsNeedAtPosition rules number fresh m) (IsNeedBefore (m + 1)) old middle new split g
+      (record { kept = h.kept; only = h.only; every = λ n w. by n w (is_past last n.first.cell) refl })
     where
       split : (n : Need) → IsNeedBefore (m + 1) n → IsNeedBefore m n ⊎ IsNeedAtPosition rules number fresh m n
       split n (k, less, w) = elim (cases_lt k m) [
         | inl earlier ↦ inl (k, earlier, w)
         | inr late ↦ (let here : k ≡ m = omega (arith, less, late) in inr (subst (λ j. IsNeedAtPosition rules number fresh j n) here w))
       ]
+
+      by : (n : Need) → IsNeedAtPosition rules number fresh m n → (b : Bool) → is_past last n.first.cell ≡ b → IsReached (Passes rules sparing) new n
+      by n w false e = inl (h.every n (w, e))
+      by n w true e = let (j, listed, passes) = passed last sparing middle bar n (its_rule m n w) e in inr (j, h.kept j listed, passes)
 
   two_before : (m : ℕ) → length fresh ≤ m → (n : Need) → Two n → IsNeedBefore m n
   two_before m past n (s, t, (i, below, is), (j, under, is_too), w) = by
@@ -349,5 +441,6 @@ module _ (rules : List Rule) (number : ℕ) (fresh : List Version) where
         ]
       ]
 
-  pub all_positions : (m : ℕ) (old new : List Need) → length fresh ≤ m → Gains Two (IsNeedBefore m) old new → Gains Two Two old new
-  all_positions m old new past g = gains_as Two (IsNeedBefore m) Two Two old new (λ n w. w) (two_before m past) g
+  pub all_positions : (sparing : Bool) (m : ℕ) (old new : List Need) → length fresh ≤ m → Reaches (Passes rules sparing) Two (IsNeedBefore m) old new
+      → Reaches (Passes rules sparing) Two Two old new
+  all_positions sparing m old new past g = reaches_as (Passes rules sparing) Two (IsNeedBefore m) Two Two old new (λ n w. w) (two_before m past) g

@@ -2,6 +2,7 @@
 use Rattle.std.proofs.Common.{◌≡◌, ◌∙◌, ◌<◌, ℕ, Bool, true, false, List, [], ◌⊎◌, inl, inr, Option, Some, None, Contains, length, refl, sym, ap, subst}
 use Rattle.std.specs.Prelude.{◌↔◌}
 use Rattle.std.specs.Option.{option_map}
+use Rattle.std.proofs.lemmas.Bool.{false≢true}
 use Rattle.clr_rules.specs.declared.needs.Ask.{Ask}
 use Rattle.clr_rules.specs.Calls.{calls, serves}
 use Rattle.clr_rules.proofs.AskLemmas.{rule_there}
@@ -112,6 +113,29 @@ module _ (c : Setting ℕ) where
           (λ i. serves c.rules (ask_of n) (rows.0 i) (rows.1 i) (held_row v l))
               ∙ serve.it_serves,
         )
+
+    -- what is told of one version
+    pub serving_told : (v : VersionId) (r : Version) → IsNamed c v r → (ask : Ask) → ask ≡ ask_of n → (told : Bool)
+        → told ≡ serves c.rules ask (row_of s) (option_map row_of t) (row_of r)
+        → IsPossibleNeed c n
+        → (told ≡ true) ↔ IsServing c n v
+    serving_told v r is_named ask asks told is possible = (there, back)
+      where
+        same : (l : Lived ℕ) → version c v ≡ Some l
+            → serves c.rules ask (row_of s) (option_map row_of t) (row_of r) ≡ serves c.rules (ask_of n) (row_of s) (option_map row_of t) (held_row v l)
+        same l at = λ i. serves c.rules (asks i) (row_of s) (option_map row_of t) (first_row v r l is_named at i)
+
+        at : version c v ≡ Some (row_and_life r)
+        at = ap (version c) (sym is_named.0) ∙ is_named.1
+
+        there : told ≡ true → IsServing c n v
+        there e = (serving_same v possible).0 (row_and_life r, at, sym (same (row_and_life r) at) ∙ sym is ∙ e)
+
+        back : IsServing c n v → told ≡ true
+        back w = let (l, there, serve) = (serving_same v possible).1 w in is ∙ same l there ∙ serve
+
+  pub none_serving : (n : Need) (v : VersionId) → version c v ≡ None → (false ≡ true) ↔ IsServing c n v
+  none_serving n v none = (λ e. absurd (false≢true e), λ (a, b, l, p, serve). (let clash : None ≡ Some l = sym none ∙ serve.is in cc))
 
   pub possible_number : (n : Need) → IsPossibleNeed c n → n.rule < length c.rules
   possible_number n (a, b, p) = rule_there c.rules (ask_of n) (held_row n.first a) (held_too n.second b) p.they_call

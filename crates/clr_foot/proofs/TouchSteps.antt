@@ -1,9 +1,10 @@
 -- The touched needs, added by version, by cell and by rule.
-use Rattle.std.proofs.Common.{◌≡◌, ◌∙◌, ◌<◌, ◌≤◌, ◌+◌, ℕ, zero, suc, Bool, true, false, ◌||◌, List, [], ◌∷◌, ◌⊎◌, inl, inr, Option, Some, None, Contains, get_or, is_some, length, take, refl, sym, ap, subst, arith}
+use Rattle.std.proofs.Common.{◌≡◌, ◌∙◌, ◌<◌, ◌≤◌, ◌+◌, ℕ, zero, suc, Bool, true, false, ◌||◌, List, [], ◌∷◌, ◌⊎◌, inl, inr, Option, Some, None, Contains, is_some, length, refl, sym, ap, subst, arith}
 use Rattle.std.specs.Prelude.{◌↔◌, ◌&&◌, ⊤, if◌then◌else◌}
 use Rattle.std.specs.FinMap as finite
 use Rattle.std.specs.List.{flat_map}
-use Rattle.std.proofs.lemmas.Bool.{cases_Bool, cases_lt, false≢true, or_left, or_right}
+use Rattle.std.specs.List.Sorted.{IsStrictlySortedBy}
+use Rattle.std.proofs.lemmas.Bool.{cases_Bool, cases_lt, false≢true, or_left, or_right, true≢false}
 use Rattle.clr_rows.specs.declared.cells.CellId.{CellId}
 use Rattle.clr_rows.specs.Contents.{Changes, Content}
 use Rattle.clr_rules.specs.declared.rules.Rule.{Rule}
@@ -16,17 +17,18 @@ use Rattle.clr_needs.specs.declared.needs.Need.{Need}
 use Rattle.clr_needs.specs.declared.needs.VersionId.{VersionId}
 use Rattle.clr_foot.specs.declared.versions.Version.{Version}
 use Rattle.clr_foot.specs.Candidates.{IsNeedAmong, IsNeedAt, IsNeedBesideOld, IsNeedOf, IsNeedServedBy, IsNeedWith, may_be_paired}
-use Rattle.clr_foot.specs.Gains.{Gains, GainsSome}
+use Rattle.clr_foot.specs.Gains.{Gains, GainsSome, IsReached, OfSome, Reaches}
+use Rattle.clr_needs.specs.Broken.{is_living}
 use Rattle.clr_needs.specs.Members.{ChangesCell, changed_cells, setting}
-use Rattle.clr_needs.specs.Needs.{IsBeside, IsBesideToo, IsChanged, IsTouched, IsTouchedBy, ask_of, held_too, is_fresh}
-use Rattle.clr_needs.specs.Settings.{Setting, Lived, changer, held_row, new_version, old_life, old_version, version}
+use Rattle.clr_needs.specs.Needs.{AreTouchedNeeds, IsBeside, IsBesideToo, IsChanged, IsTouched, IsTouchedBy, ask_of, held_too, is_fresh}
+use Rattle.clr_needs.specs.Orders.{need_cmp}
+use Rattle.clr_needs.specs.Settings.{Setting, Lifetime, Always, With, Without, Lived, changer, held_row, new_version, old_life, old_version, version}
 use Rattle.clr_foot.specs.Serving.{MayBeServed}
-use Rattle.clr_foot.specs.NewPairs.{IsNeedOfTwo}
-use Rattle.clr_foot.specs.Touches.{IsInCells, IsNear, IsNeedAtCells, IsNeedServedAmong, IsTouchedOf}
+use Rattle.clr_foot.specs.NewPairs.{IsNeedOfTwo, Passes}
+use Rattle.clr_foot.specs.Touches.{IsInCells, IsNear, IsNeedOfChanged, IsNeedOfNew, IsNeedServedAmong, IsTouchedOf, ListsTouched}
 use Rattle.clr_foot.specs.Versions.{Finds, FindsAll, FitsSetting, HasVersion, IsAt, row_and_life, row_of, version_of}
 use Rattle.clr_foot.proofs.ChangerSteps.{changed_key}
-use Rattle.clr_needs.proofs.Reading.{all_taken, none_taken, one_more}
-use Rattle.clr_foot.proofs.Gaining.{gains_as, gains_both, gains_none, some_as, then_none, then_some}
+use Rattle.clr_foot.proofs.Gaining.{gains_as, gains_both, gains_none, gains_reach, reaches_as, reaches_both, some_as, then_none, then_some}
 use Rattle.clr_needs.proofs.Lives.{new_is, old_is}
 use Rattle.clr_needs.proofs.Merges.{IsChanger, changer_is}
 use Rattle.clr_foot.proofs.NewRows.{brought_is_listed}
@@ -255,81 +257,44 @@ module _ (c : Setting ℕ) (number : ℕ) where
   served_touched : (v : VersionId) → ((l : Lived ℕ) → version c v ≡ Some l → IsChanged l.life) → (n : Need) → IsNeedServedBy c number v n → IsTouched c n
   served_touched v changed n (rule, a, b, l, p, serve) = (a, b, p, inr (v, l, serve, changed l serve.is))
 
-  -- ---- a cell's new version and its old one
+  -- ---- each of some new versions, and each of some changed ones
 
-  pub no_new : (q : CellId) (needs : List Need) → version c (version_of true q) ≡ None
-      → Gains (IsTouched c) (IsNeedBesideOld c number (version_of true q)) needs needs
-  no_new q needs none = gains_none (IsTouched c) (IsNeedBesideOld c number (version_of true q)) needs (λ n w. by n w.0)
+  pub new_gained : (v : Version) (old new : List Need) → v.id.fresh ≡ true → Gains (IsNeedWith c number v.id) (IsNeedBesideOld c number v.id) old new
+      → Gains (IsTouched c) (IsNeedOfNew c number v) old new
+  new_gained v old new fresh g =
+      gains_as (IsNeedWith c number v.id) (IsNeedBesideOld c number v.id) (IsTouched c) (IsNeedOfNew c number v) old new (with_touched v.id fresh) (λ n w. w) g
+
+  gone_is_changed : (l : Lifetime ℕ) → is_living l ≡ false → IsChanged l
+  gone_is_changed Always e = absurd (true≢false e)
+  gone_is_changed (With n) e = absurd (true≢false e)
+  gone_is_changed (Without n) e = tt
+
+  pub changed_gained : (v : Version) (old new : List Need) → IsAt c v → is_living (row_and_life v).life ≡ false
+      → Gains (IsNeedServedBy c number v.id) (IsNeedServedBy c number v.id) old new
+      → Gains (IsTouched c) (IsNeedOfChanged c number v) old new
+  changed_gained v old new at gone g =
+      gains_as (IsNeedServedBy c number v.id) (IsNeedServedBy c number v.id) (IsTouched c) (IsNeedOfChanged c number v) old new
+      (served_touched v.id (λ l is. ap_changed l (same l is))) (λ n w. w.1) g
     where
-      clash : (l : Lived ℕ) → version c (version_of true q) ≡ Some l → ⊥
-      clash l is = let e : None ≡ Some l = sym none ∙ is in cc
+      same : (l : Lived ℕ) → version c v.id ≡ Some l → row_and_life v ≡ l
+      same l is = let both : Some (row_and_life v) ≡ Some l = sym at ∙ is in cc
 
-      by : (n : Need) → IsNeedWith c number (version_of true q) n → ⊥
-      by n (rule, inl e, a, b, p) = clash a (ap (version c) (sym e) ∙ p.first_is)
-      by n (rule, inr e, a, b, p) = beside n.second b refl p.second_is
-        where
-          beside : (w : Option VersionId) (b : Option (Lived ℕ)) → n.second ≡ w → IsBesideToo c n.first a w b → ⊥
-          beside None None is h = let f : None ≡ Some (version_of true q) = sym is ∙ e in cc
-          beside None (Some b) is h = h
-          beside (Some w) None is h = h
-          beside (Some w) (Some b) is h = let same : w ≡ version_of true q = let f : Some w ≡ Some (version_of true q) = sym is ∙ e in cc in
-              clash b (ap (version c) (sym same) ∙ h.is)
+      ap_changed : (l : Lived ℕ) → row_and_life v ≡ l → IsChanged l.life
+      ap_changed l e = subst (λ (m : Lived ℕ). IsChanged m.life) e (gone_is_changed (row_and_life v).life gone)
 
-  pub no_old : (q : CellId) (needs : List Need) → version c (version_of false q) ≡ None
-      → Gains (IsTouched c) (IsNeedServedBy c number (version_of false q)) needs needs
-  no_old q needs none = gains_none (IsTouched c) (IsNeedServedBy c number (version_of false q)) needs by
+  pub living_gained : (v : Version) (needs : List Need) → is_living (row_and_life v).life ≡ true → Gains (IsTouched c) (IsNeedOfChanged c number v) needs needs
+  living_gained v needs living = gains_none (IsTouched c) (IsNeedOfChanged c number v) needs (λ n w. true≢false (sym living ∙ w.0))
+
+  -- the subject of a need is there
+  subject_there : (v : VersionId) (n : Need) → IsNeedWith c number v n → (l : Lived ℕ) × (version c v ≡ Some l)
+  subject_there v n (rule, inl e, a, b, p) = (a, ap (version c) (sym e) ∙ p.first_is)
+  subject_there v n (rule, inr e, a, b, p) = by n.second b e p.second_is
     where
-      by : (n : Need) → IsNeedServedBy c number (version_of false q) n → ⊥
-      by n (rule, a, b, l, p, serve) = let clash : None ≡ Some l = sym none ∙ serve.is in cc
-
-  -- whatever list stands for the last one
-  pub new_added : (q : CellId) (id : VersionId) (old new last : List Need) → id ≡ version_of true q → last ≡ new
-      → Gains (IsNeedWith c number id) (IsNeedBesideOld c number id) old new
-      → Gains (IsTouched c) (IsNeedBesideOld c number (version_of true q)) old last
-  new_added q id old new last same is g = subst (Gains (IsTouched c) (IsNeedBesideOld c number (version_of true q)) old) (sym is)
-      (gains_as (IsNeedWith c number (version_of true q)) (IsNeedBesideOld c number (version_of true q)) (IsTouched c)
-      (IsNeedBesideOld c number (version_of true q)) old new
-      (with_touched (version_of true q) refl) (λ n w. w)
-      (subst (λ v. Gains (IsNeedWith c number v) (IsNeedBesideOld c number v) old new) same g))
-
-  pub none_added : (q : CellId) (old last : List Need) → version c (version_of true q) ≡ None → last ≡ old
-      → Gains (IsTouched c) (IsNeedBesideOld c number (version_of true q)) old last
-  none_added q old last none is = subst (Gains (IsTouched c) (IsNeedBesideOld c number (version_of true q)) old) (sym is) (no_new q old none)
-
-  pub changed_added : (q : CellId) (id : VersionId) (old new : List Need) → id ≡ version_of false q → ((l : Lived ℕ) → version c (version_of false q) ≡ Some l
-      → IsChanged l.life)
-      → Gains (IsNeedServedBy c number id) (IsNeedServedBy c number id) old new
-      → Gains (IsTouched c) (IsNeedServedBy c number (version_of false q)) old new
-  changed_added q id old new same changed g =
-      gains_as (IsNeedServedBy c number (version_of false q)) (IsNeedServedBy c number (version_of false q)) (IsTouched c)
-      (IsNeedServedBy c number (version_of false q)) old new
-      (served_touched (version_of false q) changed) (λ n w. w) (subst (λ v. Gains (IsNeedServedBy c number v) (IsNeedServedBy c number v) old new) same g)
-
-  pub cell_gains : (q : CellId) (old middle new : List Need) → Gains (IsTouched c) (IsNeedBesideOld c number (version_of true q)) old middle
-      → Gains (IsTouched c) (IsNeedServedBy c number (version_of false q)) middle new
-      → Gains (IsTouched c) (IsNeedAt c number q) old new
-  cell_gains q old middle new g h = gains_both (IsTouched c) (IsNeedBesideOld c number (version_of true q)) (IsNeedServedBy c number (version_of false q))
-      (IsNeedAt c number q) old middle new (λ n w. w) g h
-
-  -- ---- the cells of a rule
-
-  pub no_cell_yet : (cells : List CellId) (needs : List Need) → Gains (IsTouched c) (IsNeedAtCells c number (take 0 cells)) needs needs
-  no_cell_yet cells needs = gains_none (IsTouched c) (IsNeedAtCells c number (take 0 cells)) needs (λ n w. none_taken cells w.0 w.1)
-
-  pub one_cell_more : (cells : List CellId) (k : ℕ) (d : CellId) (old middle new : List Need) → k < length cells
-      → Gains (IsTouched c) (IsNeedAtCells c number (take k cells)) old middle
-      → Gains (IsTouched c) (IsNeedAt c number (get_or cells k d)) middle new
-      → Gains (IsTouched c) (IsNeedAtCells c number (take (k + 1) cells)) old new
-  one_cell_more cells k d old middle new less g h =
-      gains_both (IsTouched c) (IsNeedAtCells c number (take k cells)) (IsNeedAt c number (get_or cells k d)) (IsNeedAtCells c number (take (k + 1) cells)) old
-      middle new split g h
-    where
-      split : (n : Need) → IsNeedAtCells c number (take (k + 1) cells) n → IsNeedAtCells c number (take k cells) n ⊎ IsNeedAt c number (get_or cells k d) n
-      split n w = by (one_more cells k d w.0 less w.1)
-        where
-          by : Contains (take k cells) w.0 ⊎ (w.0 ≡ get_or cells k d) → IsNeedAtCells c number (take k cells) n ⊎ IsNeedAt c number (get_or cells k d) n
-          by (inl before) = inl (w.0, before, w.2)
-          by (inr last) = inr (subst (λ q. IsNeedAt c number q n) last w.2)
+      by : (w : Option VersionId) (b : Option (Lived ℕ)) → w ≡ Some v → IsBesideToo c n.first a w b → (l : Lived ℕ) × (version c v ≡ Some l)
+      by None None e h = absurd (let f : None ≡ Some v = e in cc)
+      by None (Some b) e h = absurd h
+      by (Some w) None e h = absurd h
+      by (Some w) (Some b) e h = (b, ap (version c) (let f : Some w ≡ Some v = e in let same : w ≡ v = cc in sym same) ∙ h.is)
 
 -- the touched needs of one rule, and of the rules below a number
 module _ (rules : List Rule) (root : Content) (sets : List Changes) where
@@ -344,20 +309,57 @@ module _ (rules : List Rule) (root : Content) (sets : List Changes) where
     inl (or_left n.first.fresh (is_fresh n.second) (ap (λ (x : VersionId). x.fresh) w.need.first ∙ found.alike u h)),
   )
 
-  pub rule_gains : (number : ℕ) (cells : List CellId) (k : ℕ) (fresh : List Version) (old middle new : List Need) → cells ≡ changed_cells sets
-      → length cells ≤ k
+  abbrev IsPlacedAmong : ℕ → List Version → List Version → Need → Type 0
+  IsPlacedAmong number fresh old n = OfSome (IsNeedOfNew s number) fresh n ⊎ OfSome (IsNeedOfChanged s number) old n
+
+  changed_is_gone : (l : Lifetime ℕ) → IsChanged l → is_living l ≡ false
+  changed_is_gone Always h = absurd h
+  changed_is_gone (With n) h = absurd h
+  changed_is_gone (Without n) h = refl
+
+  pub rule_gains : (sparing : Bool) (number : ℕ) (fresh old : List Version) (first second third last : List Need)
       → Finds s true (IsInCells (changed_cells sets)) fresh
-      → Gains (IsTouched s) (IsNeedAtCells s number (take k cells)) old middle
-      → Gains (IsNeedOfTwo rules number fresh) (IsNeedOfTwo rules number fresh) middle new
-      → Gains (IsTouched s) (IsTouchedOf s number) old new
-  rule_gains number cells k fresh old middle new all past found g h =
-      gains_both (IsTouched s) (IsNeedAtCells s number (take k cells)) (IsNeedOfTwo rules number fresh) (IsTouchedOf s number) old middle new find g
-      (gains_as (IsNeedOfTwo rules number fresh) (IsNeedOfTwo rules number fresh) (IsTouched s) (IsNeedOfTwo rules number fresh) middle new
-      (two_touched number fresh (IsInCells (changed_cells sets)) found) (λ n w. w) h)
+      → Finds s false (IsInCells (changed_cells sets)) old
+      → Gains (IsTouched s) (OfSome (IsNeedOfNew s number) fresh) first second
+      → Gains (IsTouched s) (OfSome (IsNeedOfChanged s number) old) second third
+      → Reaches (Passes rules sparing) (IsNeedOfTwo rules number fresh) (IsNeedOfTwo rules number fresh) third last
+      → Reaches (Passes rules sparing) (IsTouched s) (IsTouchedOf s number) first last
+  rule_gains sparing number fresh old first second third last found found_old g h pairs =
+      reaches_both (Passes rules sparing) (IsTouched s) (IsPlacedAmong number fresh old) (IsNeedOfTwo rules number fresh) (IsTouchedOf s number) first third
+      last find
+      (gains_reach (Passes rules sparing) (IsTouched s) (IsPlacedAmong number fresh old) first third
+      (gains_both (IsTouched s) (OfSome (IsNeedOfNew s number) fresh) (OfSome (IsNeedOfChanged s number) old) (IsPlacedAmong number fresh old) first second
+      third (λ n w. w) g h))
+      (reaches_as (Passes rules sparing) (IsNeedOfTwo rules number fresh) (IsNeedOfTwo rules number fresh) (IsTouched s) (IsNeedOfTwo rules number fresh) third
+      last (two_touched number fresh (IsInCells (changed_cells sets)) found) (λ n w. w) pairs)
     where
-      find : (n : Need) → IsTouchedOf s number n → IsNeedAtCells s number (take k cells) n ⊎ IsNeedOfTwo rules number fresh n
+      beside : (q : CellId) (n : Need) → Contains (changed_cells sets) q → IsNeedBesideOld s number (version_of true q) n
+          → OfSome (IsNeedOfNew s number) fresh n
+      beside q n h w =
+          let (l, is) = subject_there s number (version_of true q) n w.0 in
+          let (v, k, same) = found.every q l is h in
+          (v, k, subst (λ u. IsNeedBesideOld s number u n) (sym same) w)
+
+      served : (q : CellId) (n : Need) → Contains (changed_cells sets) q → IsNeedServedBy s number (version_of false q) n
+          → OfSome (IsNeedOfChanged s number) old n
+      served q n h (rule, a, b, l, p, serve) =
+          let (v, k, same) = found_old.every q l serve.is h in
+          let lived : row_and_life v ≡ l = let both : Some (row_and_life v) ≡ Some l = sym (found_old.are v k) ∙ ap (version s) same ∙ serve.is in cc in (
+            v,
+            k,
+            (
+              ap (λ (m : Lived ℕ). is_living m.life) lived ∙ changed_is_gone l.life (listed_is_changed rules root sets q l h serve.is),
+              subst (λ u. IsNeedServedBy s number u n) (sym same) (rule, a, b, l, p, serve),
+            ),
+          )
+
+      at : (q : CellId) (n : Need) → Contains (changed_cells sets) q → IsNeedAt s number q n → IsPlacedAmong number fresh old n
+      at q n h (inl w) = inl (beside q n h w)
+      at q n h (inr w) = inr (served q n h w)
+
+      find : (n : Need) → IsTouchedOf s number n → IsPlacedAmong number fresh old n ⊎ IsNeedOfTwo rules number fresh n
       find n (touched, rule) = elim (touched_at rules root sets fresh found n touched) [
-        | inl at ↦ inl (at.0, all_taken cells k at.0 past (subst (λ qs. Contains qs at.0) (sym all) at.1), subst (λ j. IsNeedAt s j at.0 n) rule at.2)
+        | inl place ↦ inl (at place.0 n place.1 (subst (λ j. IsNeedAt s j place.0 n) rule place.2))
         | inr two ↦ inr (subst (λ j. IsNeedOfTwo rules j fresh n) rule two)
       ]
 
@@ -365,29 +367,50 @@ module _ (rules : List Rule) (root : Content) (sets : List Changes) where
     pub touched : IsTouched s n
     pub below : n.rule < number
 
-  pub no_rule_yet : (needs : List Need) → Gains (IsTouched s) (IsTouchedBelow 0) needs needs
-  no_rule_yet needs = gains_none (IsTouched s) (IsTouchedBelow 0) needs (λ n w. let less = w.below in omega (arith, less))
+  module _ (sparing : Bool) where
+    pub no_rule_yet : (needs : List Need) → Reaches (Passes rules sparing) (IsTouched s) (IsTouchedBelow 0) needs needs
+    no_rule_yet needs = gains_reach (Passes rules sparing) (IsTouched s) (IsTouchedBelow 0) needs needs
+        (gains_none (IsTouched s) (IsTouchedBelow 0) needs (λ n w. let less = w.below in omega (arith, less)))
 
-  pub one_rule_more : (number : ℕ) (old middle new : List Need) → Gains (IsTouched s) (IsTouchedBelow number) old middle
-      → Gains (IsTouched s) (IsTouchedOf s number) middle new
-      → Gains (IsTouched s) (IsTouchedBelow (number + 1)) old new
-  one_rule_more number old middle new g h = gains_both (IsTouched s) (IsTouchedBelow number) (IsTouchedOf s number) (IsTouchedBelow (number + 1)) old middle new
-      split g h
+    pub one_rule_more : (number : ℕ) (old middle new : List Need) → Reaches (Passes rules sparing) (IsTouched s) (IsTouchedBelow number) old middle
+        → Reaches (Passes rules sparing) (IsTouched s) (IsTouchedOf s number) middle new
+        → Reaches (Passes rules sparing) (IsTouched s) (IsTouchedBelow (number + 1)) old new
+    one_rule_more number old middle new g h =
+        reaches_both (Passes rules sparing) (IsTouched s) (IsTouchedBelow number) (IsTouchedOf s number) (IsTouchedBelow (number + 1)) old middle new split g h
+      where
+        split : (n : Need) → IsTouchedBelow (number + 1) n → IsTouchedBelow number n ⊎ IsTouchedOf s number n
+        split n w = elim (cases_lt n.rule number) [
+          | inl less ↦ inl (record { touched = w.touched; below = less })
+          | inr last ↦ inr (w.touched, (let less = w.below in omega (arith, less, last)))
+        ]
+
+    -- all that are added to an empty list, in order
+    pub all_touched : (number : ℕ) (empty new sorted : List Need) → length rules ≤ number → empty ≡ []
+        → Reaches (Passes rules sparing) (IsTouched s) (IsTouchedBelow number) empty new
+        → IsStrictlySortedBy need_cmp sorted
+        → ((n : Need) → Contains sorted n ↔ Contains new n)
+        → ListsTouched s sparing sorted
+    all_touched number empty new sorted past none g ascending same = record {
+      ascending = ascending;
+      only = λ n h. only n (g.only n ((same n).0 h));
+      every = λ n t. every n (g.every n (record { touched = t; below = below n t }));
+    }
+      where
+        only : (n : Need) → Contains empty n ⊎ IsTouched s n → IsTouched s n
+        only n (inl h) = absurd (among n [] (subst (λ ns. Contains ns n) none h))
+        only n (inr t) = t
+
+        every : (n : Need) → IsReached (Passes rules sparing) new n → IsReached (Passes rules sparing) sorted n
+        every n (inl h) = inl ((same n).1 h)
+        every n (inr (m, h, passes)) = inr (m, (same m).1 h, passes)
+
+        below : (n : Need) → IsTouched s n → n.rule < number
+        below n (a, b, p, touched) = let less = rule_there rules (ask_of n) (held_row n.first a) (held_too n.second b) p.they_call in omega (arith, less, past)
+
+  -- where none is left out, they are all
+  pub none_spared : (needs : List Need) → ListsTouched s false needs → AreTouchedNeeds s needs
+  none_spared needs listed = record { ascending = listed.ascending; exactly = λ n. (listed.only n, λ t. by n (listed.every n t)) }
     where
-      split : (n : Need) → IsTouchedBelow (number + 1) n → IsTouchedBelow number n ⊎ IsTouchedOf s number n
-      split n w = elim (cases_lt n.rule number) [
-        | inl less ↦ inl (record { touched = w.touched; below = less })
-        | inr last ↦ inr (w.touched, (let less = w.below in omega (arith, less, last)))
-      ]
-
-  -- all of them, added to an empty list
-  pub all_touched : (number : ℕ) (empty new : List Need) → length rules ≤ number → empty ≡ [] → Gains (IsTouched s) (IsTouchedBelow number) empty new
-      → (n : Need) → Contains new n ↔ IsTouched s n
-  all_touched number empty new past none g n = (λ h. only (g.only n h), λ t. g.every n (record { touched = t; below = below t }))
-    where
-      only : Contains empty n ⊎ IsTouched s n → IsTouched s n
-      only (inl h) = absurd (among n [] (subst (λ ns. Contains ns n) none h))
-      only (inr t) = t
-
-      below : IsTouched s n → n.rule < number
-      below (a, b, p, touched) = let less = rule_there rules (ask_of n) (held_row n.first a) (held_too n.second b) p.they_call in omega (arith, less, past)
+      by : (n : Need) → IsReached (Passes rules false) needs n → Contains needs n
+      by n (inl h) = h
+      by n (inr (m, h, (bar, less))) = absurd (false≢true bar.spared)

@@ -1,13 +1,20 @@
 -- Needs of two new versions: of parts, of entries that are filed, and of versions by their positions in a list.
-use Rattle.std.specs.Prelude.{◌≡◌, ◌<◌, ◌≤◌, ℕ, true, ◌⊎◌, List, None, Some, Contains, slice_get}
+use Rattle.std.specs.Prelude.{◌≡◌, ◌<◌, ◌≤◌, ℕ, Bool, true, false, ◌⊎◌, List, Option, None, Some, Contains, slice_get}
+use Rattle.std.specs.Ordering.{is_gt}
+use Rattle.std.specs.declared.cmp.Ordering.TheVariants.{Less}
+use Rattle.clr_rows.specs.declared.cells.CellId.{CellId}
+use Rattle.clr_rows.specs.Cells.{cell_cmp}
 use Rattle.clr_rows.specs.Held.{Held}
 use Rattle.clr_rules.specs.declared.rules.Rule.{Rule}
+use Rattle.clr_rules.specs.declared.rules.Rule.TheVariants.{Unique, Near}
 use Rattle.clr_rules.specs.Calls.{part_count}
 use Rattle.clr_spots.specs.RoleSpots.{subject_spots_under}
 use Rattle.clr_spots.specs.Spots.{are_many, unless_many}
 use Rattle.clr_spot_maps.specs.declared.spot_maps.FiledPart.{FiledPart}
 use Rattle.clr_spot_maps.specs.Filing.{Filed, IsFiled, filed_entry}
 use Rattle.clr_needs.specs.declared.needs.Need.{Need}
+use Rattle.clr_needs.specs.Needs.{is_fresh}
+use Rattle.clr_needs.specs.Orders.{need_cmp}
 use Rattle.clr_foot.specs.declared.versions.Version.{Version}
 use Rattle.clr_foot.specs.Candidates.{IsNeedBetween, IsNeedOfPair, may_be_paired}
 use Rattle.clr_foot.specs.Versions.{row_of}
@@ -61,3 +68,42 @@ ArePartsFiled rules number m position s most =
 abbrev pub AreFiledBefore : List Rule → ℕ → List Version → ℕ → Filed → Type 0
 AreFiledBefore rules number fresh k m = (i : ℕ) (s : Version) → i < k → slice_get fresh i ≡ Some s → may_be_paired rules number (row_of s) ≡ true
     → ArePartsFiled rules number m i s (part_count rules number (row_of s))
+
+-- needs that are left out --------------------------------------------------------------------
+
+-- no row serves under the rule
+abbrev pub is_unserved : Rule → Bool
+is_unserved (Unique subject columns) = true
+is_unserved (Near a b d) = true
+is_unserved _ = false
+
+abbrev pub is_unserved_by : Option Rule → Bool
+is_unserved_by None = false
+is_unserved_by (Some rule) = is_unserved rule
+
+unfoldable pub is_unserved_under : List Rule → ℕ → Bool
+is_unserved_under rules number = is_unserved_by (slice_get rules number)
+
+-- a cell stands behind the last one that counts, where there is such a one
+abbrev pub is_past : Option CellId → CellId → Bool
+is_past None q = false
+is_past (Some last) q = is_gt (cell_cmp q last)
+
+-- the first subject isn't past it
+abbrev pub UpTo : Option CellId → (Need → Type 0) → Need → Type 0
+UpTo last P n = P n × (is_past last n.first.cell ≡ false)
+
+-- two new versions make the need, which no row serves, in a list that may leave out what is behind it
+pub record IsBar (rules : List Rule) (sparing : Bool) (n : Need) : Type 0 where
+  pub spared : sparing ≡ true
+  pub unserved : is_unserved_under rules n.rule ≡ true
+  pub first : n.first.fresh ≡ true
+  pub second : is_fresh n.second ≡ true
+
+-- one of some needs is such a one of a rule, with its first subject at this cell
+abbrev pub HasBar : List Rule → Bool → ℕ → List Need → CellId → Type 0
+HasBar rules sparing number needs q = (n : Need) × Contains needs n × IsBar rules sparing n × (n.rule ≡ number) × (n.first.cell ≡ q)
+
+-- such a one stands before another need
+abbrev pub Passes : List Rule → Bool → Need → Need → Type 0
+Passes rules sparing m n = IsBar rules sparing m × (need_cmp m n ≡ Less)

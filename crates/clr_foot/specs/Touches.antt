@@ -1,5 +1,6 @@
 -- Versions near one another, and the needs that they make.
-use Rattle.std.specs.Prelude.{◌≡◌, ℕ, Bool, true, not, ◌&&◌, ◌||◌, ◌⊎◌, List, Option, Some, None, Contains}
+use Rattle.std.specs.Prelude.{◌≡◌, ℕ, Bool, true, false, not, ◌&&◌, ◌||◌, ◌⊎◌, List, Option, Some, None, Contains}
+use Rattle.std.specs.List.Sorted.{IsStrictlySortedBy}
 use Rattle.std.specs.Option.{option_map}
 use Rattle.clr_rows.specs.declared.cells.CellId.{CellId}
 use Rattle.clr_rows.specs.Held.{Held}
@@ -11,10 +12,14 @@ use Rattle.clr_finders.specs.Sharing.{may_serve_under}
 use Rattle.clr_needs.specs.declared.needs.Need.{Need}
 use Rattle.clr_needs.specs.declared.needs.VersionId.{VersionId}
 use Rattle.clr_foot.specs.declared.versions.Version.{Version}
-use Rattle.clr_foot.specs.Candidates.{IsNeedAmong, IsNeedAt, IsNeedOf}
+use Rattle.clr_foot.specs.Candidates.{IsNeedAmong, IsNeedBesideOld, IsNeedOf, IsNeedServedBy}
+use Rattle.clr_foot.specs.Gains.{IsReached}
+use Rattle.clr_foot.specs.NewPairs.{Passes}
+use Rattle.clr_needs.specs.Broken.{is_living}
 use Rattle.clr_needs.specs.Needs.{IsTouched}
+use Rattle.clr_needs.specs.Orders.{need_cmp}
 use Rattle.clr_needs.specs.Settings.{Setting, Lived, held_row, version}
-use Rattle.clr_foot.specs.Versions.{row_of}
+use Rattle.clr_foot.specs.Versions.{row_and_life, row_of}
 
 abbrev pub IsInCells : List CellId → Held → Type 0
 IsInCells cells s = Contains cells s.0
@@ -28,9 +33,13 @@ abbrev pub IsNeedServedAmong : List Rule → ℕ → Version → List Version �
 IsNeedServedAmong rules number r firsts near n =
     (s : Version) × Contains firsts s × (IsNeedOf rules number (Some r) s None n ⊎ IsNeedAmong rules number (Some r) s near n)
 
--- a need of one of some cells
-abbrev pub IsNeedAtCells : Setting ℕ → ℕ → List CellId → Need → Type 0
-IsNeedAtCells c number cells n = (q : CellId) × Contains cells q × IsNeedAt c number q n
+-- a need with a new version, beside no other new one
+abbrev pub IsNeedOfNew : Setting ℕ → ℕ → Version → Need → Type 0
+IsNeedOfNew c number v n = IsNeedBesideOld c number v.id n
+
+-- a need that a version serves which a member changes
+abbrev pub IsNeedOfChanged : Setting ℕ → ℕ → Version → Need → Type 0
+IsNeedOfChanged c number v n = (is_living (row_and_life v).life ≡ false) × IsNeedServedBy c number v.id n
 
 -- a touched need of one rule
 abbrev pub IsTouchedOf : Setting ℕ → ℕ → Need → Type 0
@@ -39,3 +48,9 @@ IsTouchedOf c number n = IsTouched c n × (n.rule ≡ number)
 -- a version that serves what is asked of two others
 abbrev pub IsServerOf : Setting ℕ → Ask → Version → Option Version → VersionId → Type 0
 IsServerOf c ask s t v = (l : Lived ℕ) × (version c v ≡ Some l) × (serves c.rules ask (row_of s) (option_map row_of t) (held_row v l) ≡ true)
+
+-- touched needs, ascending: all of them, but for those that a listed one passes
+pub record ListsTouched (c : Setting ℕ) (sparing : Bool) (needs : List Need) : Type 0 where
+  pub ascending : IsStrictlySortedBy need_cmp needs
+  pub only : (n : Need) → Contains needs n → IsTouched c n
+  pub every : (n : Need) → IsTouched c n → IsReached (Passes c.rules sparing) needs n

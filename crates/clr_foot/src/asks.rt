@@ -3,6 +3,7 @@
 ghost use Rattle.std.specs.Prelude.{◌≡◌, ◌<◌, length};
 ghost use Rattle.clr_finders.specs.Sharing.{may_serve_under};
 ghost use Rattle.clr_foot.specs.Candidates.{is_of_two, is_of_two_under, may_be_paired};
+ghost use Rattle.clr_foot.specs.NewPairs.{is_unserved, is_unserved_under};
 ghost use Rattle.clr_foot.specs.Versions.{row_of};
 
 use crate::scenes::Scene;
@@ -21,7 +22,26 @@ fn is_of_two(rule: &Rule) -> bool
     }
 }
 
+/// Whether no row serves under a rule.
+fn is_unserved(rule: &Rule) -> bool
+    ensures { result ≡ is_unserved rule.now }
+{
+    match rule {
+        Rule::Unique { .. } | Rule::Near { .. } => true,
+        Rule::Partner { .. } | Rule::EndNode { .. } | Rule::Crossing { .. } => false,
+    }
+}
+
 impl<V: RowView, F: RowFinder> Scene<'_, V, F> {
+    /// Whether no row serves under the rule of a number.
+    #[tactic(auto, unfolding(crate::specs::NewPairs::is_unserved_under))]
+    pub(crate) fn is_unserved(&self, rule: u16) -> bool
+        requires { rule < length self.now.book.now }
+        ensures { result ≡ is_unserved_under self.now.book.now rule }
+    {
+        is_unserved(self.book.rule(rule))
+    }
+
     /// Whether the rule of a number is asked of two rows.
     #[tactic(auto, unfolding(crate::specs::Candidates::is_of_two_under))]
     pub(crate) fn is_of_two(&self, rule: u16) -> bool

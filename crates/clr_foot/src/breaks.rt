@@ -19,7 +19,7 @@ use clr_rules::Broken;
 use std::alloc::AllocError;
 
 /// Whether the one member doesn't take a version of this life away.
-fn is_living(life: Life) -> bool
+pub(crate) fn is_living(life: Life) -> bool
     ensures { result ≡ is_living (lifetime life) }
 {
     match life {
@@ -100,7 +100,7 @@ impl<V: RowView, F: RowFinder> Scene<'_, V, F> {
         requires holds { Holds (model_of V.content self.now).rules (row_at (model_of V.content self.now).root) }
         ensures { IfOk result (IsFirstBroken (model_of V.content self.now).rules (view_after_merge (setting_of (model_of V.content self.now)))) }
     {
-        let needs = self.touched_needs()?;
+        let needs = self.list_touched(true)?;
         for need in &needs {
             if self.is_lost(need)? {
                 return Ok(Some(broken_of(need)));

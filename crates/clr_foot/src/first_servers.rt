@@ -12,6 +12,7 @@ ghost use Rattle.clr_foot.specs.Scenes.{IsReady, model_of, setting_in, setting_o
 ghost use Rattle.clr_foot.specs.Versions.{FitsSetting, IsAt, IsAtToo, row_of};
 
 use crate::blockers::are_same;
+use crate::breaks::is_living;
 use crate::scenes::Scene;
 use crate::versions::Version;
 use clr_finders::{RowFinder, RuleSpots, lesser_cell};
@@ -32,25 +33,32 @@ pub enum Sought {
 }
 
 impl<V: RowView, F: RowFinder> Scene<'_, V, F> {
+    /// Whether a version lives always, or as long as a subject of a possible need.
+    fn lasts(&self, need: &Need, version: Version) -> bool
+        requires { IsAt (setting_in V.content self.now) version }
+        ensures { result ≡ lasts_at (setting_in V.content self.now) need.now version.entry.id }
+    {
+        are_same(version.life, Life::Always) || self.has_subject_with(need, version.life)
+    }
+
     /// Whether the version of a name lives always, or as long as a subject of a possible need.
     pub(crate) fn is_lasting(&self, need: &Need, id: VersionId) -> bool
         ensures { result ≡ lasts_at (setting_in V.content self.now) need.now id }
     {
         match self.version(id) {
             None => false,
-            Some(version) => {
-                are_same(version.life, Life::Always) || self.has_subject_with(need, version.life)
-            }
+            Some(version) => self.lasts(need, version),
         }
     }
 
-    /// Whether the version of a name is looked for.
-    fn is_sought(&self, sought: Sought, need: &Need, id: VersionId) -> bool
-        ensures { result ≡ is_sought sought (setting_in V.content self.now) need.now id }
+    /// Whether a version is looked for.
+    fn is_sought(&self, sought: Sought, need: &Need, version: Version) -> bool
+        requires { IsAt (setting_in V.content self.now) version }
+        ensures { result ≡ is_sought sought (setting_in V.content self.now) need.now version.entry.id }
     {
         match sought {
-            Sought::Living => self.is_living_at(id),
-            Sought::Lasting => self.is_lasting(need, id),
+            Sought::Living => is_living(version.life),
+            Sought::Lasting => self.lasts(need, version),
         }
     }
 
@@ -75,7 +83,7 @@ impl<V: RowView, F: RowFinder> Scene<'_, V, F> {
                 if !self.serves_if_any(need.ask(), first, second, Some(version)) {
                     return false;
                 }
-                self.is_sought(sought, need, id)
+                self.is_sought(sought, need, version)
             }
         }
     }

@@ -13,8 +13,9 @@
 //!   one.
 //! - `touched_needs`: all needs that the changes touch, and only those, ascending, each once.
 //!   `servers`: just the versions that serve a possible need, ascending. Neither copies a row or
-//!   goes over the root: rows are found by a finder. `blockers`: just the members that bring a
-//!   subject of a possible need or take a version away that serves it.
+//!   goes over the root: rows are found by a finder. `is_server`: whether one version serves it.
+//!   `blockers`: just the members that bring a subject of a possible need or take a version away
+//!   that serves it.
 //! - `pick`, of a possible need: the least version that covers it alone; else, of the first member
 //!   that takes a serving version away and brings another, the least that goes and the least that
 //!   comes; none exactly where nothing covers the need. The servers are looked at cell by cell, and
@@ -27,6 +28,7 @@
 //!   memory aside. `len`: how many members there are, at most `MOST_MEMBERS`.
 //! - `first_broken`, for one member over rows where every rule holds: none exactly where every rule
 //!   holds after its changes, and else the least need that they break.
+//!   Under a rule by which no row serves, needs that stand behind one of two new rows are left out.
 //!   By `first_broken_is_listed_first` that is what an audit of the changed content lists first.
 #![tactic(auto)]
 

@@ -1,12 +1,14 @@
 //! The needs of two new versions. Parts of new rows are filed by their spots, one after another, and
-//! each is held against those that were filed before it and share a spot with it.
+//! each is held against those that were filed before it and share a spot with it. Where a need of
+//! two of them breaks and only the least such need is sought, those behind it are left out.
 
-ghost use Rattle.std.specs.Prelude.{◌≡◌, ◌<◌, ◌+◌, length, slice_get, MatchOption, None, Some, OnOk};
+ghost use Rattle.std.specs.Prelude.{◌≡◌, ◌<◌, ◌+◌, ◌-◌, ◌&&◌, ◌==◌, length, slice_get, IfSome, MatchOption, None, Some, OnOk};
 ghost use Rattle.clr_foot.specs.Candidates.{IsNeedAmong, IsNeedOfPair};
-ghost use Rattle.clr_foot.specs.Gains.{Gains, OfSome};
+ghost use Rattle.clr_foot.specs.Gains.{Gains, OfSome, Reaches};
 ghost use Rattle.clr_foot.specs.NewPairs.{AreFiledBefore, IsNeedAtPosition, IsNeedOfEntry, IsNeedOfParts, IsNeedOfTwo};
-ghost use Rattle.clr_foot.specs.NewPairs.{IsNeedWithBefore, IsNeedWithPart, with_part};
+ghost use Rattle.clr_foot.specs.NewPairs.{HasBar, IsNeedWithBefore, IsNeedWithPart, Passes, UpTo, is_past, with_part};
 ghost use Rattle.clr_foot.specs.Scenes.{setting_in};
+ghost use Rattle.clr_needs.specs.Needs.{is_fresh};
 ghost use Rattle.clr_foot.specs.Versions.{AreAt, FitsSetting, IsAt, row_of};
 
 use crate::candidates::are_opposed;
@@ -14,7 +16,7 @@ use crate::scenes::Scene;
 use crate::versions::Version;
 use clr_finders::RowFinder;
 use clr_needs::Need;
-use clr_rows::RowView;
+use clr_rows::{CellId, RowView};
 use clr_rules::Ask;
 use clr_spot_maps::{FiledPart, SpotMap};
 use clr_spots::subject_spots;
@@ -26,6 +28,33 @@ fn version_at<'a>(versions: &[Version<'a>], position: usize) -> Option<Version<'
     ensures { MatchOption result (slice_get versions.now position ≡ None) (λ v. slice_get versions.now position ≡ Some v) }
 {
     versions.get(position).copied()
+}
+
+/// The last of some needs, if there is one.
+fn last_need(needs: &[Need]) -> Option<Need>
+    ensures { IfSome result (λ n. slice_get needs.now (length needs.now - 1) ≡ Some n) }
+{
+    needs.last().copied()
+}
+
+/// Whether a need is that of two new versions under a rule.
+fn is_of_two_new(rule: u16, need: &Need) -> bool
+    ensures { result ≡ (is_fresh need.now.second && (need.now.first.fresh && (need.now.rule == rule))) }
+{
+    match need.second {
+        None => false,
+        Some(second) => second.fresh && (need.first.fresh && need.rule == rule),
+    }
+}
+
+/// Whether two cells stand behind the last one that counts, where there is such a one.
+fn are_past(last: Option<CellId>, one: CellId, other: CellId) -> bool
+    ensures { result ≡ (is_past last one && is_past last other) }
+{
+    match last {
+        None => false,
+        Some(last) => one.cmp(&last).is_gt() && other.cmp(&last).is_gt(),
+    }
 }
 
 impl<V: RowView, F: RowFinder> Scene<'_, V, F> {
@@ -71,13 +100,15 @@ impl<V: RowView, F: RowFinder> Scene<'_, V, F> {
         Ok(())
     }
 
-    /// Adds the need of a part of a version and the part of an entry.
+    /// Adds the need of a part of a version and the part of an entry, unless its first subject is past
+    /// the last cell that counts.
     fn add_of_entry(
         &self,
         rule: u16,
         fresh: &[Version],
         one: Version,
         part: u16,
+        last: Option<CellId>,
         entry: FiledPart,
         needs: &mut Vec<Need>,
     ) -> Result<(), AllocError>
@@ -86,11 +117,14 @@ impl<V: RowView, F: RowFinder> Scene<'_, V, F> {
         requires fresh { AreAt (setting_in V.content self.now) fresh.now }
         requires one { IsAt (setting_in V.content self.now) one }
         ensures { OnOk result (Gains (IsNeedAmong self.now.book.now rule None one.entry fresh.now)
-            (IsNeedOfEntry self.now.book.now rule fresh.now one.entry part entry) needs.old.items needs.new.items) }
+            (UpTo last (IsNeedOfEntry self.now.book.now rule fresh.now one.entry part entry)) needs.old.items needs.new.items) }
     {
         match version_at(fresh, entry.position) {
             None => Ok(()),
             Some(other) => {
+                if are_past(last, one.id.cell, other.id.cell) {
+                    return Ok(());
+                }
                 self.add_of_parts(rule, one, part, other, entry.part, needs)?;
                 Ok(())
             }
@@ -104,6 +138,7 @@ impl<V: RowView, F: RowFinder> Scene<'_, V, F> {
         fresh: &[Version],
         one: Version,
         part: u16,
+        last: Option<CellId>,
         entries: &[FiledPart],
         needs: &mut Vec<Need>,
     ) -> Result<(), AllocError>
@@ -112,10 +147,10 @@ impl<V: RowView, F: RowFinder> Scene<'_, V, F> {
         requires fresh { AreAt (setting_in V.content self.now) fresh.now }
         requires one { IsAt (setting_in V.content self.now) one }
         ensures { OnOk result (Gains (IsNeedAmong self.now.book.now rule None one.entry fresh.now)
-            (OfSome (IsNeedOfEntry self.now.book.now rule fresh.now one.entry part) entries.now) needs.old.items needs.new.items) }
+            (OfSome (λ e. UpTo last (IsNeedOfEntry self.now.book.now rule fresh.now one.entry part e)) entries.now) needs.old.items needs.new.items) }
     {
         for entry in entries {
-            self.add_of_entry(rule, fresh, one, part, *entry, needs)?;
+            self.add_of_entry(rule, fresh, one, part, last, *entry, needs)?;
         }
         Ok(())
     }
@@ -129,6 +164,7 @@ impl<V: RowView, F: RowFinder> Scene<'_, V, F> {
         position: usize,
         one: Version,
         part: u16,
+        last: Option<CellId>,
         filed: &mut SpotMap,
         needs: &mut Vec<Need>,
     ) -> Result<(), AllocError>
@@ -139,12 +175,12 @@ impl<V: RowView, F: RowFinder> Scene<'_, V, F> {
         requires before { AreFiledBefore self.now.book.now rule fresh.now position filed.old }
         ensures filed { OnOk result (filed.new ≡ with_part self.now.book.now rule filed.old position part (row_of one.entry)) }
         ensures needs { OnOk result (Gains (IsNeedAmong self.now.book.now rule None one.entry fresh.now)
-            (IsNeedWithPart self.now.book.now rule fresh.now position one.entry part) needs.old.items needs.new.items) }
+            (UpTo last (IsNeedWithPart self.now.book.now rule fresh.now position one.entry part)) needs.old.items needs.new.items) }
     {
         let spots = subject_spots(self.alloc, self.book, rule, part, one.as_held())?;
         let mut beside = Vec::new(self.alloc);
         filed.add_near(&spots, &mut beside)?;
-        self.add_of_entries(rule, fresh, one, part, beside.as_slice(), needs)?;
+        self.add_of_entries(rule, fresh, one, part, last, beside.as_slice(), needs)?;
         filed.file(self.alloc, FiledPart { position, part }, spots)?;
         Ok(())
     }
@@ -156,6 +192,7 @@ impl<V: RowView, F: RowFinder> Scene<'_, V, F> {
         fresh: &[Version],
         position: usize,
         one: Version,
+        last: Option<CellId>,
         filed: &mut SpotMap,
         needs: &mut Vec<Need>,
     ) -> Result<(), AllocError>
@@ -167,13 +204,13 @@ impl<V: RowView, F: RowFinder> Scene<'_, V, F> {
         requires before { AreFiledBefore self.now.book.now rule fresh.now position filed.old }
         ensures filed { OnOk result (AreFiledBefore self.now.book.now rule fresh.now (position + 1) filed.new) }
         ensures needs { OnOk result (Gains (IsNeedAmong self.now.book.now rule None one.entry fresh.now)
-            (IsNeedWithBefore self.now.book.now rule fresh.now position one.entry) needs.old.items needs.new.items) }
+            (UpTo last (IsNeedWithBefore self.now.book.now rule fresh.now position one.entry)) needs.old.items needs.new.items) }
     {
         if !self.may_be_paired(rule, one) {
             return Ok(());
         }
         for part in 0..self.book.part_count(rule, one.as_held()) {
-            self.add_of_part_at(rule, fresh, position, one, part + 1, filed, needs)?;
+            self.add_of_part_at(rule, fresh, position, one, part + 1, last, filed, needs)?;
         }
         Ok(())
     }
@@ -185,6 +222,7 @@ impl<V: RowView, F: RowFinder> Scene<'_, V, F> {
         rule: u16,
         fresh: &[Version],
         position: usize,
+        last: Option<CellId>,
         filed: &mut SpotMap,
         needs: &mut Vec<Need>,
     ) -> Result<(), AllocError>
@@ -194,33 +232,56 @@ impl<V: RowView, F: RowFinder> Scene<'_, V, F> {
         requires before { AreFiledBefore self.now.book.now rule fresh.now position filed.old }
         ensures filed { OnOk result (AreFiledBefore self.now.book.now rule fresh.now (position + 1) filed.new) }
         ensures needs { OnOk result (Gains (IsNeedOfTwo self.now.book.now rule fresh.now)
-            (IsNeedAtPosition self.now.book.now rule fresh.now position) needs.old.items needs.new.items) }
+            (UpTo last (IsNeedAtPosition self.now.book.now rule fresh.now position)) needs.old.items needs.new.items) }
     {
         match version_at(fresh, position) {
             None => Ok(()),
             Some(one) => {
-                self.add_of_new(rule, fresh, position, one, filed, needs)?;
+                self.add_of_new(rule, fresh, position, one, last, filed, needs)?;
                 Ok(())
             }
         }
     }
 
-    /// Adds the needs of two of some versions. It fails for want of memory alone.
+    /// The cell of the first subject of the last of some needs, where needs behind it may be left
+    /// out: it is of this rule, under which no row serves, and of two new versions.
+    fn last_that_counts(&self, rule: u16, sparing: bool, needs: &[Need]) -> Option<CellId>
+        requires number { rule < length self.now.book.now }
+        ensures { IfSome result (HasBar self.now.book.now sparing rule needs.now) }
+    {
+        if !sparing {
+            return None;
+        }
+        if !self.is_unserved(rule) {
+            return None;
+        }
+        let need = last_need(needs)?;
+        if is_of_two_new(rule, &need) {
+            return Some(need.first.cell);
+        }
+        None
+    }
+
+    /// Adds the needs of two of some versions. If it is sparing, it may leave needs out that stand
+    /// behind one of two new versions in the list, under a rule by which no row serves. It fails for
+    /// want of memory alone.
     pub(crate) fn add_of_new_pairs(
         &self,
         rule: u16,
+        sparing: bool,
         fresh: &[Version],
         needs: &mut Vec<Need>,
     ) -> Result<(), AllocError>
         requires number { rule < length self.now.book.now }
         requires fit { FitsSetting (setting_in V.content self.now) }
         requires fresh { AreAt (setting_in V.content self.now) fresh.now }
-        ensures { OnOk result (Gains (IsNeedOfTwo self.now.book.now rule fresh.now)
+        ensures { OnOk result (Reaches (Passes self.now.book.now sparing) (IsNeedOfTwo self.now.book.now rule fresh.now)
             (IsNeedOfTwo self.now.book.now rule fresh.now) needs.old.items needs.new.items) }
     {
         let mut filed = SpotMap::new(self.alloc);
         for position in 0..fresh.len() {
-            self.add_of_new_at(rule, fresh, position, &mut filed, needs)?;
+            let last = self.last_that_counts(rule, sparing, needs.as_slice());
+            self.add_of_new_at(rule, fresh, position, last, &mut filed, needs)?;
         }
         Ok(())
     }

@@ -1,8 +1,8 @@
-//! The versions that serve a need.
+//! The versions that serve a need, and whether one does.
 
-ghost use Rattle.std.specs.Prelude.{◌≡◌, ◌<◌, true, length, option_map, IfOk};
+ghost use Rattle.std.specs.Prelude.{◌≡◌, ◌<◌, ◌↔◌, true, length, option_map, IfOk};
 ghost use Rattle.clr_rules.specs.Calls.{calls};
-ghost use Rattle.clr_needs.specs.Needs.{AreServers, IsPossibleNeed, Lists};
+ghost use Rattle.clr_needs.specs.Needs.{AreServers, IsPossibleNeed, IsServing, Lists};
 ghost use Rattle.clr_needs.specs.Orders.{version_cmp};
 ghost use Rattle.clr_foot.specs.Scenes.{IsReady, model_of, setting_in, setting_of};
 ghost use Rattle.clr_foot.specs.Touches.{IsServerOf};
@@ -63,6 +63,24 @@ impl<V: RowView, F: RowFinder> Scene<'_, V, F> {
                 let second = self.version_if_any(need.second);
                 let servers = self.servers_of(need.ask(), first, second)?;
                 Ok(servers)
+            }
+        }
+    }
+
+    /// Returns whether the version of a name serves a possible need.
+    pub fn is_server(&self, need: &Need, id: VersionId) -> bool
+        requires ready { IsReady F.settled (model_of V.content self.now) }
+        requires possible { IsPossibleNeed (setting_of (model_of V.content self.now)) need.now }
+        ensures { (result ≡ true) ↔ IsServing (setting_of (model_of V.content self.now)) need.now id }
+    {
+        match self.version(need.first) {
+            None => false,
+            Some(first) => {
+                let second = self.version_if_any(need.second);
+                match self.version(id) {
+                    None => false,
+                    Some(server) => self.serves_if_any(need.ask(), first, second, Some(server)),
+                }
             }
         }
     }

@@ -1,17 +1,19 @@
 //! The needs that changes touch: each new version is held against the versions that share with it,
 //! and each changed one is tried as a server of versions that share with it.
 
-ghost use Rattle.std.specs.Prelude.{◌≡◌, ◌<◌, ◌∷◌, [], false, true, length, Contains, IfOk, OnErr, OnOk};
+ghost use Rattle.std.specs.Prelude.{◌≡◌, ◌<◌, ◌∷◌, [], false, true, length, IfOk, OnErr, OnOk};
 ghost use Rattle.clr_finders.specs.Sharing.{found_cells, rule_spots};
 ghost use Rattle.clr_rows.specs.Held.{held_of};
 ghost use Rattle.clr_rules.specs.Books.{FitTogether};
-ghost use Rattle.clr_foot.specs.Candidates.{IsNeedAt, IsNeedBesideOld, IsNeedServedBy, IsNeedWith};
-ghost use Rattle.clr_foot.specs.Gains.{Gains, GainsSome};
+ghost use Rattle.clr_foot.specs.Candidates.{IsNeedBesideOld, IsNeedServedBy, IsNeedWith};
+ghost use Rattle.clr_foot.specs.Gains.{Gains, GainsSome, OfSome, Reaches};
+ghost use Rattle.clr_foot.specs.NewPairs.{Passes};
 ghost use Rattle.clr_needs.specs.Needs.{AreTouchedNeeds, IsTouched};
 ghost use Rattle.clr_foot.specs.Scenes.{IsReady, model_of, setting_in, setting_of};
-ghost use Rattle.clr_foot.specs.Touches.{IsInCells, IsNear, IsNeedServedAmong, IsTouchedOf};
+ghost use Rattle.clr_foot.specs.Touches.{IsInCells, IsNear, IsNeedOfChanged, IsNeedOfNew, IsNeedServedAmong, IsTouchedOf, ListsTouched};
 ghost use Rattle.clr_foot.specs.Versions.{AreAt, Finds, FindsAll, FitsSetting, IsAt, row_of};
 
+use crate::breaks::is_living;
 use crate::scenes::Scene;
 use crate::versions::Version;
 use clr_finders::RowFinder;
@@ -203,26 +205,8 @@ impl<V: RowView, F: RowFinder> Scene<'_, V, F> {
         Ok(())
     }
 
-    /// Adds the touched needs of a rule with the new version of a changed cell, but for those of two
-    /// new ones, and those that its old version serves.
-    fn add_of_cell(&self, rule: u16, cell: CellId, needs: &mut Vec<Need>) -> Result<(), AllocError>
-        requires number { rule < length self.now.book.now }
-        requires ready { IsReady F.settled (model_of V.content self.now) }
-        requires changed { Contains self.now.members.cells.items cell }
-        ensures { OnOk result (Gains (IsTouched (setting_in V.content self.now)) (IsNeedAt (setting_in V.content self.now) rule cell)
-            needs.old.items needs.new.items) }
-    {
-        if let Some(new) = self.version(VersionId { cell, fresh: true }) {
-            self.add_beside_old(rule, new, needs)?;
-        }
-        if let Some(old) = self.version(VersionId { cell, fresh: false }) {
-            self.add_served_by(rule, old, needs)?;
-        }
-        Ok(())
-    }
-
-    /// Adds the touched needs of a rule, where the new versions are given.
-    fn add_of_rule(
+    /// Adds the touched needs of a rule with each of some new versions, but for those of two new ones.
+    fn add_of_new_versions(
         &self,
         rule: u16,
         fresh: &[Version],
@@ -231,14 +215,97 @@ impl<V: RowView, F: RowFinder> Scene<'_, V, F> {
         requires number { rule < length self.now.book.now }
         requires ready { IsReady F.settled (model_of V.content self.now) }
         requires fresh { Finds (setting_in V.content self.now) true (IsInCells self.now.members.cells.items) fresh.now }
-        ensures { OnOk result (Gains (IsTouched (setting_in V.content self.now)) (IsTouchedOf (setting_in V.content self.now) rule)
+        ensures { OnOk result (Gains (IsTouched (setting_in V.content self.now)) (OfSome (IsNeedOfNew (setting_in V.content self.now) rule) fresh.now)
             needs.old.items needs.new.items) }
     {
-        for cell in &self.members.cells {
-            self.add_of_cell(rule, *cell, needs)?;
+        for version in fresh {
+            self.add_beside_old(rule, *version, needs)?;
         }
-        self.add_of_new_pairs(rule, fresh, needs)?;
         Ok(())
+    }
+
+    /// Adds the needs of a rule that an old version serves, if a member changes it.
+    fn add_if_changed(
+        &self,
+        rule: u16,
+        version: Version,
+        needs: &mut Vec<Need>,
+    ) -> Result<(), AllocError>
+        requires number { rule < length self.now.book.now }
+        requires ready { IsReady F.settled (model_of V.content self.now) }
+        requires at { IsAt (setting_in V.content self.now) version }
+        ensures { OnOk result (Gains (IsTouched (setting_in V.content self.now)) (IsNeedOfChanged (setting_in V.content self.now) rule version.entry)
+            needs.old.items needs.new.items) }
+    {
+        if is_living(version.life) {
+            return Ok(());
+        }
+        self.add_served_by(rule, version, needs)?;
+        Ok(())
+    }
+
+    /// Adds the needs of a rule that those of some old versions serve which a member changes.
+    fn add_of_changed(
+        &self,
+        rule: u16,
+        old: &[Version],
+        needs: &mut Vec<Need>,
+    ) -> Result<(), AllocError>
+        requires number { rule < length self.now.book.now }
+        requires ready { IsReady F.settled (model_of V.content self.now) }
+        requires old { AreAt (setting_in V.content self.now) old.now }
+        ensures { OnOk result (Gains (IsTouched (setting_in V.content self.now)) (OfSome (IsNeedOfChanged (setting_in V.content self.now) rule) old.now)
+            needs.old.items needs.new.items) }
+    {
+        for version in old {
+            self.add_if_changed(rule, *version, needs)?;
+        }
+        Ok(())
+    }
+
+    /// Adds the touched needs of a rule, where the new versions and the old ones of the changed cells
+    /// are given. If it is sparing, needs may be left out that stand behind one which no row serves.
+    fn add_of_rule(
+        &self,
+        rule: u16,
+        sparing: bool,
+        fresh: &[Version],
+        old: &[Version],
+        needs: &mut Vec<Need>,
+    ) -> Result<(), AllocError>
+        requires number { rule < length self.now.book.now }
+        requires ready { IsReady F.settled (model_of V.content self.now) }
+        requires fresh { Finds (setting_in V.content self.now) true (IsInCells self.now.members.cells.items) fresh.now }
+        requires old { Finds (setting_in V.content self.now) false (IsInCells self.now.members.cells.items) old.now }
+        ensures { OnOk result (Reaches (Passes self.now.book.now sparing) (IsTouched (setting_in V.content self.now))
+            (IsTouchedOf (setting_in V.content self.now) rule) needs.old.items needs.new.items) }
+    {
+        self.add_of_new_versions(rule, fresh, needs)?;
+        self.add_of_changed(rule, old, needs)?;
+        self.add_of_new_pairs(rule, sparing, fresh, needs)?;
+        Ok(())
+    }
+
+    /// The touched needs, ascending, each once. If it is sparing, needs may be left out that stand
+    /// behind one which no row serves.
+    pub(crate) fn list_touched(&self, sparing: bool) -> Result<Vec<Need>, AllocError>
+        requires ready { IsReady F.settled (model_of V.content self.now) }
+        ensures { IfOk result (λ needs. ListsTouched (setting_in V.content self.now) sparing needs.items) }
+    {
+        let fresh = self.versions_at(true, self.members.cells.as_slice())?;
+        let old = self.versions_at(false, self.members.cells.as_slice())?;
+        let mut needs = Vec::new(self.alloc);
+        for rule in 0..self.book.len() {
+            self.add_of_rule(
+                rule as u16,
+                sparing,
+                fresh.as_slice(),
+                old.as_slice(),
+                &mut needs,
+            )?;
+        }
+        put_in_order(&mut needs);
+        Ok(needs)
     }
 
     /// Returns the touched needs: possible ones with a new subject, and those of old subjects that
@@ -247,12 +314,7 @@ impl<V: RowView, F: RowFinder> Scene<'_, V, F> {
         requires ready { IsReady F.settled (model_of V.content self.now) }
         ensures { IfOk result (λ needs. AreTouchedNeeds (setting_of (model_of V.content self.now)) needs.items) }
     {
-        let fresh = self.versions_at(true, self.members.cells.as_slice())?;
-        let mut needs = Vec::new(self.alloc);
-        for rule in 0..self.book.len() {
-            self.add_of_rule(rule as u16, fresh.as_slice(), &mut needs)?;
-        }
-        put_in_order(&mut needs);
+        let needs = self.list_touched(false)?;
         Ok(needs)
     }
 }

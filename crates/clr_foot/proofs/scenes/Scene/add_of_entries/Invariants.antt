@@ -1,11 +1,11 @@
 use Rattle.std.proofs.Common.{None, take}
 use Rattle.clr_foot.specs.Candidates.{IsNeedAmong}
 use Rattle.clr_foot.specs.Gains.{Gains, OfSome}
-use Rattle.clr_foot.specs.NewPairs.{IsNeedOfEntry}
+use Rattle.clr_foot.specs.NewPairs.{IsNeedOfEntry, UpTo}
 use Rattle.clr_foot.proofs.scenes.Scene.add_of_entries.Given as goal
 
 -- the needs of the entries so far were added
 abbrev pub invariant-loop-entry : goal.invariant-loop-entry
 invariant-loop-entry g l =
-    Gains (IsNeedAmong l.self.book.now l.rule None l.one l.fresh) (OfSome (IsNeedOfEntry l.self.book.now l.rule l.fresh l.one l.part)
+    Gains (IsNeedAmong l.self.book.now l.rule None l.one l.fresh) (OfSome (λ e. UpTo l.last (IsNeedOfEntry l.self.book.now l.rule l.fresh l.one l.part e))
     (take l.entry-index l.entries)) l.fn.needs.items l.needs.items

@@ -1,8 +1,10 @@
-use Rattle.std.proofs.Common.{◌∙◌, ap}
+use Rattle.std.proofs.Common.{◌∙◌, None, ap}
 use Rattle.clr_rules.specs.Calls.{part_count}
+use Rattle.clr_foot.specs.Candidates.{IsNeedAmong}
+use Rattle.clr_foot.specs.NewPairs.{IsNeedWithBefore}
 use Rattle.clr_foot.specs.Scenes.{setting_in}
 use Rattle.clr_foot.specs.Versions.{row_of}
-use Rattle.clr_foot.proofs.NewPairLaws.{all_parts, before_stays, no_part_filed, no_part_yet, one_part_filed, one_part_more, unpaired_filed, unpaired_needs, version_filed}
+use Rattle.clr_foot.proofs.NewPairLaws.{IsNeedWithPartTo, all_parts, before_stays, gains_up_to, no_part_filed, no_part_yet, one_part_filed, one_part_more, unpaired_filed, unpaired_needs, version_filed}
 use Rattle.clr_foot.proofs.VersionFits.{fit_one}
 use Rattle.clr_foot.proofs.scenes.Scene.add_of_new.Goals as goal
 
@@ -13,8 +15,11 @@ returns-then-not-may_be_paired-clause-filed g c =
 
 pub returns-then-not-may_be_paired-clause-needs : goal.returns-then-not-may_be_paired-clause-needs
 returns-then-not-may_be_paired-clause-needs g c =
-    unpaired_needs c.args.self.now.book.now c.args.rule c.args.fresh.now c.args.position c.args.one c.may_be_paired.result c.args.needs.now.items
-    c.may_be_paired.ensures c.if-not-may_be_paired.true
+    let rules = c.args.self.now.book.now in
+    gains_up_to c.args.last (IsNeedAmong rules c.args.rule None c.args.one c.args.fresh.now)
+    (IsNeedWithBefore rules c.args.rule c.args.fresh.now c.args.position c.args.one) c.args.needs.now.items c.args.needs.now.items
+    (unpaired_needs rules c.args.rule c.args.fresh.now c.args.position c.args.one c.may_be_paired.result c.args.needs.now.items c.may_be_paired.ensures
+    c.if-not-may_be_paired.true)
 
 pub part_count-part-end-requires-clause-fit : goal.part_count-part-end-requires-clause-fit
 part_count-part-end-requires-clause-fit g c = fit_one (setting_in g.V.RowView.content c.args.self.now) c.requires.fit c.args.one _ c.requires.one
@@ -27,7 +32,9 @@ loop-part-init g c =
     record {
       before = c.requires.before;
       parts = no_part_filed rules c.args.rule fresh c.args.filed.now c.args.position c.args.one;
-      needs = no_part_yet rules c.args.rule fresh c.args.position c.args.one c.args.needs.now.items;
+      needs = gains_up_to c.args.last (IsNeedAmong rules c.args.rule None c.args.one fresh)
+          (IsNeedWithPartTo rules c.args.rule fresh c.args.position c.args.one 0) c.args.needs.now.items c.args.needs.now.items
+          (no_part_yet rules c.args.rule fresh c.args.position c.args.one c.args.needs.now.items);
     }
 
 pub add_of_part_at-requires-clause-before : goal.add_of_part_at-requires-clause-before
@@ -43,7 +50,7 @@ loop-part-preserved g c =
           c.loop-part.invariant.before;
       parts = one_part_filed rules c.args.rule fresh c.loop-part.filed c.add_of_part_at.new.filed c.args.position c.loop-part.part c.args.one filed
           c.loop-part.invariant.parts;
-      needs = one_part_more rules c.args.rule fresh c.args.position c.args.one c.loop-part.part _ _ _ c.loop-part.invariant.needs
+      needs = one_part_more rules c.args.rule fresh c.args.position c.args.one c.args.last c.loop-part.part _ _ _ c.loop-part.invariant.needs
           c.in_ok-add_of_part_at.ensures.needs;
     }
 
@@ -57,5 +64,5 @@ returns-clause-filed g c =
 pub returns-clause-needs : goal.returns-clause-needs
 returns-clause-needs g c =
     let count = c.part_count-part-end.ensures ∙ ap (part_count c.args.self.now.book.now c.args.rule) c.as_held.ensures in
-    all_parts c.args.self.now.book.now c.args.rule c.args.fresh.now c.args.position c.args.one c.part_count-part-end.result c.loop-part.part _ _ count
+    all_parts c.args.self.now.book.now c.args.rule c.args.fresh.now c.args.position c.args.one c.args.last c.part_count-part-end.result c.loop-part.part _ _ count
     c.loop-part-test.false c.loop-part.invariant.needs

@@ -1,7 +1,7 @@
 use Rattle.std.proofs.Common.{None}
 use Rattle.clr_foot.specs.Candidates.{IsNeedAmong}
 use Rattle.clr_foot.specs.Gains.{Gains}
-use Rattle.clr_foot.specs.NewPairs.{AreFiledBefore, ArePartsFiled}
+use Rattle.clr_foot.specs.NewPairs.{AreFiledBefore, ArePartsFiled, UpTo}
 use Rattle.clr_foot.proofs.NewPairLaws.{IsNeedWithPartTo}
 use Rattle.clr_foot.proofs.scenes.Scene.add_of_new.Given as goal
 
@@ -10,6 +10,6 @@ abbrev pub invariant-loop-part : goal.invariant-loop-part
 invariant-loop-part g l = record {
   before : AreFiledBefore l.self.book.now l.rule l.fresh l.position l.filed;
   parts : ArePartsFiled l.self.book.now l.rule l.filed l.position l.one l.part;
-  needs : Gains (IsNeedAmong l.self.book.now l.rule None l.one l.fresh) (IsNeedWithPartTo l.self.book.now l.rule l.fresh l.position l.one l.part)
+  needs : Gains (IsNeedAmong l.self.book.now l.rule None l.one l.fresh) (UpTo l.last (IsNeedWithPartTo l.self.book.now l.rule l.fresh l.position l.one l.part))
       l.fn.needs.items l.needs.items;
 }

@@ -1,5 +1,5 @@
-use Rattle.clr_foot.specs.Gains.{Gains}
-use Rattle.clr_foot.specs.NewPairs.{AreFiledBefore, IsNeedOfTwo}
+use Rattle.clr_foot.specs.Gains.{Reaches}
+use Rattle.clr_foot.specs.NewPairs.{AreFiledBefore, IsNeedOfTwo, Passes}
 use Rattle.clr_foot.proofs.NewPairLaws.{IsNeedBefore}
 use Rattle.clr_foot.proofs.scenes.Scene.add_of_new_pairs.Given as goal
 
@@ -7,5 +7,6 @@ use Rattle.clr_foot.proofs.scenes.Scene.add_of_new_pairs.Given as goal
 abbrev pub invariant-loop-position : goal.invariant-loop-position
 invariant-loop-position g l = record {
   filed : AreFiledBefore l.self.book.now l.rule l.fresh l.position l.filed;
-  needs : Gains (IsNeedOfTwo l.self.book.now l.rule l.fresh) (IsNeedBefore l.self.book.now l.rule l.fresh l.position) l.fn.needs.items l.needs.items;
+  needs : Reaches (Passes l.self.book.now l.sparing) (IsNeedOfTwo l.self.book.now l.rule l.fresh) (IsNeedBefore l.self.book.now l.rule l.fresh l.position)
+      l.fn.needs.items l.needs.items;
 }

@@ -5,7 +5,7 @@ use Rattle.clr_spot_maps.specs.declared.spot_maps.FiledPart.{FiledPart}
 use Rattle.clr_spot_maps.specs.Filing.{filed_entry, near}
 use Rattle.clr_foot.specs.Candidates.{IsNeedAmong}
 use Rattle.clr_foot.specs.Gains.{OfSome}
-use Rattle.clr_foot.specs.NewPairs.{IsNeedOfEntry, IsNeedWithPart, entry_at}
+use Rattle.clr_foot.specs.NewPairs.{IsNeedOfEntry, IsNeedWithPart, UpTo, entry_at}
 use Rattle.clr_foot.specs.Scenes.{setting_in}
 use Rattle.clr_foot.proofs.Gaining.{gains_as}
 use Rattle.clr_foot.proofs.NewPairLaws.{part_found}
@@ -33,9 +33,10 @@ returns-clause-needs g c =
     let read : c.as_slice.result.now ≡ beside = c.as_slice.ensures.value ∙ c.in_ok-add_near.ensures.ok ∙ ap (λ (es : List FiledPart). es ++ beside) c.new-beside.ensures.items in
     let among = IsNeedAmong rules c.args.rule None c.args.one c.args.fresh.now in
     let of_entry = IsNeedOfEntry rules c.args.rule c.args.fresh.now c.args.one c.args.part in
-    gains_as among (OfSome of_entry c.as_slice.result.now) among (IsNeedWithPart rules c.args.rule c.args.fresh.now c.args.position c.args.one c.args.part) _ _
+    gains_as among (OfSome (λ e. UpTo c.args.last (of_entry e)) c.as_slice.result.now) among
+    (UpTo c.args.last (IsNeedWithPart rules c.args.rule c.args.fresh.now c.args.position c.args.one c.args.part)) _ _
     (λ n w. w)
-    (λ n w. subst (λ es. OfSome of_entry es n) (sym read)
+    (λ n w. let found = subst (λ es. OfSome of_entry es n) (sym read)
     (part_found s c.requires.fit c.args.rule c.args.fresh.now c.args.position c.args.filed.now c.requires.before c.args.one c.args.part spots.list spots.wide n
-    list wide w))
+    list wide w.0) in (found.0, found.1, (found.2, w.1)))
     c.in_ok-add_of_entries.ensures

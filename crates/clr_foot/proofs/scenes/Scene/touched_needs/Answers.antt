@@ -1,43 +1,8 @@
-use Rattle.std.proofs.Common.{[], ◌≤◌, subst, sym, refl, true}
-use Rattle.clr_foot.specs.Gains.{Gains}
-use Rattle.clr_needs.specs.Needs.{IsTouched}
-use Rattle.clr_foot.specs.Scenes.{setting_in}
-use Rattle.clr_foot.specs.Touches.{IsInCells}
-use Rattle.clr_foot.specs.Versions.{Finds}
-use Rattle.clr_needs.proofs.NeedOrder.{need_exact}
 use Rattle.clr_foot.proofs.Searches.{sets_of}
-use Rattle.clr_foot.proofs.TouchSteps.{IsTouchedBelow, all_touched, no_rule_yet, one_rule_more}
+use Rattle.clr_foot.proofs.TouchSteps.{none_spared}
 use Rattle.clr_foot.proofs.scenes.Scene.touched_needs.Goals as goal
-
-pub loop-rule-init : goal.loop-rule-init
-loop-rule-init g c =
-    let scene = c.args.self.now in
-    let root = g.V.RowView.content scene.root.now in
-    let sets = sets_of scene.members.sets.items in
-    subst (Gains (IsTouched (setting_in g.V.RowView.content scene)) (IsTouchedBelow scene.book.now root sets 0) []) (sym c.new-needs.ensures.items)
-    (no_rule_yet scene.book.now root sets [])
-
-pub loop-rule-preserved : goal.loop-rule-preserved
-loop-rule-preserved g c =
-    let scene = c.args.self.now in
-    one_rule_more scene.book.now (g.V.RowView.content scene.root.now) (sets_of scene.members.sets.items) c.loop-rule.rule [] _ _ c.loop-rule.invariant
-    c.in_ok-add_of_rule.ensures
-
-pub put_in_order-requires : goal.put_in_order-requires
-put_in_order-requires g c = need_exact
 
 pub returns : goal.returns
 returns g c =
     let scene = c.args.self.now in
-    let added = all_touched scene.book.now (g.V.RowView.content scene.root.now) (sets_of scene.members.sets.items) c.loop-rule.rule [] c.loop-rule.needs.items
-    (subst (λ n. n ≤ c.loop-rule.rule) c.len-rule-end.ensures.value c.loop-rule-test.false) refl c.loop-rule.invariant in
-    record {
-      ascending = c.put_in_order.ensures.ascending;
-      exactly = λ n. (λ h. (added n).0 ((c.put_in_order.ensures.same n).0 h), λ t. (c.put_in_order.ensures.same n).1 ((added n).1 t));
-    }
-
-pub add_of_rule-requires-clause-fresh : goal.add_of_rule-requires-clause-fresh
-add_of_rule-requires-clause-fresh g c =
-    let s = setting_in g.V.RowView.content c.args.self.now in
-    subst (Finds s true (IsInCells c.args.self.now.members.cells.items)) (sym c.as_slice-in-loop-rule.ensures.value)
-    (subst (λ cells. Finds s true (IsInCells cells) c.in_ok-fresh.fresh.items) c.as_slice.ensures.value c.in_ok-fresh.ensures)
+    none_spared scene.book.now (g.V.RowView.content scene.root.now) (sets_of scene.members.sets.items) c.in_ok-needs.needs.items c.in_ok-needs.ensures
