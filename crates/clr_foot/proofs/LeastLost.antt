@@ -33,7 +33,7 @@ use Rattle.clr_needs.proofs.NeedOrder.{need_total}
 use Rattle.clr_needs.proofs.Placing.{PlaceOf, after, before, here, place_of}
 use Rattle.clr_needs.proofs.Reading.{all_taken}
 use Rattle.clr_foot.specs.Gains.{IsReached}
-use Rattle.clr_foot.specs.NewPairs.{IsBar, Passes, is_unserved, is_unserved_by, is_unserved_under}
+use Rattle.clr_foot.specs.NewPairs.{BreaksAtOnce, Passes, is_unserved, is_unserved_by, is_unserved_under}
 use Rattle.clr_foot.specs.Touches.{ListsTouched}
 use Rattle.clr_foot.proofs.TouchSteps.{changed_is_old}
 
@@ -56,8 +56,8 @@ never_served rules ask s t r unserved served = by (slice_get rules ask.rule) uns
     by (Some rule) e f = false≢true (sym (never_server rule ask s t r e) ∙ f)
 
 -- a listed need is possible
-pub listed_possible : (c : Setting ℕ) (sparing : Bool) (needs : List Need) (n : Need) → ListsTouched c sparing needs → Contains needs n → IsPossibleNeed c n
-listed_possible c sparing needs n listed h = let (a, b, p, touched) = listed.only n h in (a, b, p)
+pub listed_possible : (c : Setting ℕ) (leaves_out : Bool) (needs : List Need) (n : Need) → ListsTouched c leaves_out needs → Contains needs n → IsPossibleNeed c n
+listed_possible c leaves_out needs n listed h = let (a, b, p, touched) = listed.only n h in (a, b, p)
 
 module _ (rules : List Rule) (root : Content) (sets : List Changes) (one : length sets ≡ 1) where
   abbrev s : Setting ℕ
@@ -73,11 +73,11 @@ module _ (rules : List Rule) (root : Content) (sets : List Changes) (one : lengt
       by (With n) e = refl
       by (Without n) e = absurd (false≢true (sym (changed_is_old rules root sets v l is (subst IsChanged (sym e) tt)).0 ∙ new))
 
-  bar_is_lost : (sparing : Bool) (n : Need) → IsTouched s n → IsBar rules sparing n → IsUnservedAfterMerge s n
-  bar_is_lost sparing n (a, b, p, touched) bar = (a, b, p, living n.second b p.second_is bar.second, unserved)
+  break_is_lost : (leaves_out : Bool) (n : Need) → IsTouched s n → BreaksAtOnce rules leaves_out n → IsUnservedAfterMerge s n
+  break_is_lost leaves_out n (a, b, p, touched) breaking = (a, b, p, living n.second b p.second_is breaking.second, unserved)
     where
       first : is_living a.life ≡ true
-      first = stays n.first a bar.first p.first_is
+      first = stays n.first a breaking.first p.first_is
 
       living : (w : Option VersionId) (b : Option (Lived ℕ)) → IsBesideToo s n.first a w b → is_fresh w ≡ true → are_living a b ≡ true
       living None None is e = first
@@ -86,7 +86,7 @@ module _ (rules : List Rule) (root : Content) (sets : List Changes) (one : lengt
       living (Some w) (Some b) is e = let second = stays w b e is.is in λ i. first i && second i
 
       unserved : HasLivingServer s n a b → ⊥
-      unserved (v, l, serve, alive) = never_served rules (ask_of n) (held_row n.first a) (held_too n.second b) (held_row v l) bar.unserved serve.it_serves
+      unserved (v, l, serve, alive) = never_served rules (ask_of n) (held_row n.first a) (held_too n.second b) (held_row v l) breaking.unserved serve.it_serves
 
   -- ---- the order of needs whose subjects stand is that of their cells
 
@@ -165,7 +165,7 @@ module _ (rules : List Rule) (root : Content) (sets : List Changes) (one : lengt
 
   -- ---- the first lost one of the listed needs
 
-  module _ (sparing : Bool) (holds : Holds rules s.root) (needs read : List Need) (k : ℕ) (listed : ListsTouched s sparing needs) (same : read ≡ needs)
+  module _ (leaves_out : Bool) (holds : Holds rules s.root) (needs read : List Need) (k : ℕ) (listed : ListsTouched s leaves_out needs) (same : read ≡ needs)
       (kept : (m : Need) → Contains (take k read) m → IsServedAfterMerge s m) where
     pub none_is_lost : length read ≤ k → Holds rules (view_after_merge s)
     none_is_lost past = holds_after rules root sets one holds (λ m t. by m (listed.every m t))
@@ -173,9 +173,9 @@ module _ (rules : List Rule) (root : Content) (sets : List Changes) (one : lengt
         all : (m : Need) → Contains needs m → IsServedAfterMerge s m
         all m h = kept m (all_taken read k m past (subst (λ ms. Contains ms m) (sym same) h))
 
-        by : (m : Need) → IsReached (Passes rules sparing) needs m → IsServedAfterMerge s m
+        by : (m : Need) → IsReached (Passes rules leaves_out) needs m → IsServedAfterMerge s m
         by m (inl h) = all m h
-        by m (inr (j, h, (bar, less))) = absurd (kept_not_lost j (all j h) (bar_is_lost sparing j (listed.only j h) bar))
+        by m (inr (j, h, (breaking, less))) = absurd (kept_not_lost j (all j h) (break_is_lost leaves_out j (listed.only j h) breaking))
 
     pub first_is_least : (n d : Need) (lost : Bool) (b : Broken) → k < length read → n ≡ get_or read k d → IsJudged s n lost → lost ≡ true → b ≡ broken_of n
         → IsLeastBroken rules (view_after_merge s) b
@@ -198,13 +198,13 @@ module _ (rules : List Rule) (root : Content) (sets : List Changes) (one : lengt
         at m lost_too (after e) = behind_it m lost_too e
 
         behind : (m j : Need) → IsUnservedAfterMerge s m → IsUnservedAfterMerge s j → need_cmp j m ≡ Less → PlaceOf need_cmp read j k n → IsNoMore n m
-        behind m j lost_too bar e (before h) = absurd (kept_not_lost j (kept j h) bar)
-        behind m j lost_too bar e (here f) = behind_it m lost_too (ap (λ i. need_cmp i m) f ∙ e)
-        behind m j lost_too bar e (after f) = behind_it m lost_too (need_total.trans n j m f e)
+        behind m j lost_too breaking e (before h) = absurd (kept_not_lost j (kept j h) breaking)
+        behind m j lost_too breaking e (here f) = behind_it m lost_too (ap (λ i. need_cmp i m) f ∙ e)
+        behind m j lost_too breaking e (after f) = behind_it m lost_too (need_total.trans n j m f e)
 
-        by : (m : Need) → IsUnservedAfterMerge s m → IsReached (Passes rules sparing) needs m → IsNoMore n m
+        by : (m : Need) → IsUnservedAfterMerge s m → IsReached (Passes rules leaves_out) needs m → IsNoMore n m
         by m lost_too (inl h) = at m lost_too (place m h)
-        by m lost_too (inr (j, h, (bar, e))) = behind m j lost_too (bar_is_lost sparing j (listed.only j h) bar) e (place j h)
+        by m lost_too (inr (j, h, (breaking, e))) = behind m j lost_too (break_is_lost leaves_out j (listed.only j h) breaking) e (place j h)
 
         least : (b : Broken) → IsBroken rules (view_after_merge s) b → is_gt (broken_cmp (broken_of n) b) ≡ false
         least b broken =

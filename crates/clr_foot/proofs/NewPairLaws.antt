@@ -36,7 +36,7 @@ use Rattle.clr_foot.specs.declared.versions.Version.{Version}
 use Rattle.clr_foot.specs.Candidates.{IsNeedAmong, IsNeedOf, IsNeedOfAsk, IsNeedOfPair, are_opposed, may_be_paired}
 use Rattle.clr_foot.specs.Gains.{Gains, IsReached, OfSome, Reaches}
 use Rattle.clr_foot.specs.NewPairs.{AreFiledBefore, ArePartsFiled, IsNeedAtPosition, IsNeedOfEntry, IsNeedOfItsPart, IsNeedOfParts, IsNeedOfTwo, IsNeedWithBefore, IsNeedWithPart, entry_at, with_part}
-use Rattle.clr_foot.specs.NewPairs.{HasBar, Passes, UpTo, is_past, is_unserved_under}
+use Rattle.clr_foot.specs.NewPairs.{HasBreakAt, Passes, UpTo, is_past, is_unserved_under}
 use Rattle.clr_foot.specs.Versions.{FitsSetting, row_and_life, row_of}
 use Rattle.clr_foot.proofs.CandidateLaws.{first_counted, first_within, one_cell, opposed_pair, ordered_pair, pair_back, second_counted, second_within, they_call, turned_less, turned_told}
 use Rattle.clr_foot.proofs.Gaining.{gains_as, gains_both, gains_none, reaches_as, reaches_both}
@@ -66,20 +66,20 @@ module _ (last : Option CellId) where
   up_to_either P Q n (inr q) e = inr (q, e)
 
 -- what is told of the last need of a list
-pub bar_told : (rules : List Rule) (sparing : Bool) (number : ℕ) (list : List Need) (k : ℕ) (n : Need) (unserved told : Bool) → sparing ≡ true
+pub break_told : (rules : List Rule) (leaves_out : Bool) (number : ℕ) (list : List Need) (k : ℕ) (n : Need) (unserved told : Bool) → leaves_out ≡ true
     → unserved ≡ is_unserved_under rules number
     → unserved ≡ true
     → slice_get list k ≡ Some n
     → told ≡ (is_fresh n.second && (n.first.fresh && (n.rule == number)))
     → told ≡ true
-    → HasBar rules sparing number list n.first.cell
-bar_told rules sparing number list k n unserved told spared is holds at tells two =
+    → HasBreakAt rules leaves_out number list n.first.cell
+break_told rules leaves_out number list k n unserved told leaves_out is holds at tells two =
     let parts = and_parts (is_fresh n.second) (n.first.fresh && (n.rule == number)) (sym tells ∙ two) in
     let rest = and_parts n.first.fresh (n.rule == number) parts.1 in
     let its : n.rule ≡ number = (Decides-eqb n.rule number).0 rest.1 in (
       n,
       got_in list k n at,
-      record { spared = spared; unserved = ap (is_unserved_under rules) its ∙ sym is ∙ holds; first = rest.0; second = parts.0 },
+      record { leaves_out = leaves_out; unserved = ap (is_unserved_under rules) its ∙ sym is ∙ holds; first = rest.0; second = parts.0 },
       its,
       refl,
     )
@@ -394,18 +394,18 @@ module _ (rules : List Rule) (number : ℕ) (fresh : List Version) where
   its_rule m n (s, at, (i, t, less, got, inl w)) = w.need.rule
   its_rule m n (s, at, (i, t, less, got, inr w)) = w.need.rule
 
-  passed : (last : Option CellId) (sparing : Bool) (needs : List Need) → IfSome last (HasBar rules sparing number needs) → (n : Need) → n.rule ≡ number
-      → is_past last n.first.cell ≡ true → (m : Need) × Contains needs m × Passes rules sparing m n
-  passed None sparing needs bar n rule e = absurd (false≢true e)
-  passed (Some q) sparing needs (m, listed, bar, its, cell) n rule e =
-      (m, listed, (bar, less_by_cell m n (rule ∙ sym its) (ap (λ r. is_gt (cell_cmp n.first.cell r)) cell ∙ e)))
+  passed : (last : Option CellId) (leaves_out : Bool) (needs : List Need) → IfSome last (HasBreakAt rules leaves_out number needs) → (n : Need) → n.rule ≡ number
+      → is_past last n.first.cell ≡ true → (m : Need) × Contains needs m × Passes rules leaves_out m n
+  passed None leaves_out needs breaking n rule e = absurd (false≢true e)
+  passed (Some q) leaves_out needs (m, listed, breaking, its, cell) n rule e =
+      (m, listed, (breaking, less_by_cell m n (rule ∙ sym its) (ap (λ r. is_gt (cell_cmp n.first.cell r)) cell ∙ e)))
 
-  pub one_position_more : (last : Option CellId) (sparing : Bool) (m : ℕ) (old middle new : List Need)
-      → IfSome last (HasBar rules sparing number middle)
-      → Reaches (Passes rules sparing) Two (IsNeedBefore m) old middle
-      → Gains Two (UpTo last (IsNeedAtPosition rules number fresh m)) middle new → Reaches (Passes rules sparing) Two (IsNeedBefore (m + 1)) old new
-  one_position_more last sparing m old middle new bar g h =
-      reaches_both (Passes rules sparing) Two (IsNeedBefore m) (IsNeedAtPosition rules number fresh m) (IsNeedBefore (m + 1)) old middle new split g
+  pub one_position_more : (last : Option CellId) (leaves_out : Bool) (m : ℕ) (old middle new : List Need)
+      → IfSome last (HasBreakAt rules leaves_out number middle)
+      → Reaches (Passes rules leaves_out) Two (IsNeedBefore m) old middle
+      → Gains Two (UpTo last (IsNeedAtPosition rules number fresh m)) middle new → Reaches (Passes rules leaves_out) Two (IsNeedBefore (m + 1)) old new
+  one_position_more last leaves_out m old middle new breaking g h =
+      reaches_both (Passes rules leaves_out) Two (IsNeedBefore m) (IsNeedAtPosition rules number fresh m) (IsNeedBefore (m + 1)) old middle new split g
       (record { kept = h.kept; only = h.only; every = λ n w. by n w (is_past last n.first.cell) refl })
     where
       split : (n : Need) → IsNeedBefore (m + 1) n → IsNeedBefore m n ⊎ IsNeedAtPosition rules number fresh m n
@@ -414,9 +414,9 @@ module _ (rules : List Rule) (number : ℕ) (fresh : List Version) where
         | inr late ↦ (let here : k ≡ m = omega (arith, less, late) in inr (subst (λ j. IsNeedAtPosition rules number fresh j n) here w))
       ]
 
-      by : (n : Need) → IsNeedAtPosition rules number fresh m n → (b : Bool) → is_past last n.first.cell ≡ b → IsReached (Passes rules sparing) new n
+      by : (n : Need) → IsNeedAtPosition rules number fresh m n → (b : Bool) → is_past last n.first.cell ≡ b → IsReached (Passes rules leaves_out) new n
       by n w false e = inl (h.every n (w, e))
-      by n w true e = let (j, listed, passes) = passed last sparing middle bar n (its_rule m n w) e in inr (j, h.kept j listed, passes)
+      by n w true e = let (j, listed, passes) = passed last leaves_out middle breaking n (its_rule m n w) e in inr (j, h.kept j listed, passes)
 
   two_before : (m : ℕ) → length fresh ≤ m → (n : Need) → Two n → IsNeedBefore m n
   two_before m past n (s, t, (i, below, is), (j, under, is_too), w) = by
@@ -441,6 +441,6 @@ module _ (rules : List Rule) (number : ℕ) (fresh : List Version) where
         ]
       ]
 
-  pub all_positions : (sparing : Bool) (m : ℕ) (old new : List Need) → length fresh ≤ m → Reaches (Passes rules sparing) Two (IsNeedBefore m) old new
-      → Reaches (Passes rules sparing) Two Two old new
-  all_positions sparing m old new past g = reaches_as (Passes rules sparing) Two (IsNeedBefore m) Two Two old new (λ n w. w) (two_before m past) g
+  pub all_positions : (leaves_out : Bool) (m : ℕ) (old new : List Need) → length fresh ≤ m → Reaches (Passes rules leaves_out) Two (IsNeedBefore m) old new
+      → Reaches (Passes rules leaves_out) Two Two old new
+  all_positions leaves_out m old new past g = reaches_as (Passes rules leaves_out) Two (IsNeedBefore m) Two Two old new (λ n w. w) (two_before m past) g

@@ -317,20 +317,20 @@ module _ (rules : List Rule) (root : Content) (sets : List Changes) where
   changed_is_gone (With n) h = absurd h
   changed_is_gone (Without n) h = refl
 
-  pub rule_gains : (sparing : Bool) (number : ℕ) (fresh old : List Version) (first second third last : List Need)
+  pub rule_gains : (leaves_out : Bool) (number : ℕ) (fresh old : List Version) (first second third last : List Need)
       → Finds s true (IsInCells (changed_cells sets)) fresh
       → Finds s false (IsInCells (changed_cells sets)) old
       → Gains (IsTouched s) (OfSome (IsNeedOfNew s number) fresh) first second
       → Gains (IsTouched s) (OfSome (IsNeedOfChanged s number) old) second third
-      → Reaches (Passes rules sparing) (IsNeedOfTwo rules number fresh) (IsNeedOfTwo rules number fresh) third last
-      → Reaches (Passes rules sparing) (IsTouched s) (IsTouchedOf s number) first last
-  rule_gains sparing number fresh old first second third last found found_old g h pairs =
-      reaches_both (Passes rules sparing) (IsTouched s) (IsPlacedAmong number fresh old) (IsNeedOfTwo rules number fresh) (IsTouchedOf s number) first third
+      → Reaches (Passes rules leaves_out) (IsNeedOfTwo rules number fresh) (IsNeedOfTwo rules number fresh) third last
+      → Reaches (Passes rules leaves_out) (IsTouched s) (IsTouchedOf s number) first last
+  rule_gains leaves_out number fresh old first second third last found found_old g h pairs =
+      reaches_both (Passes rules leaves_out) (IsTouched s) (IsPlacedAmong number fresh old) (IsNeedOfTwo rules number fresh) (IsTouchedOf s number) first third
       last find
-      (gains_reach (Passes rules sparing) (IsTouched s) (IsPlacedAmong number fresh old) first third
+      (gains_reach (Passes rules leaves_out) (IsTouched s) (IsPlacedAmong number fresh old) first third
       (gains_both (IsTouched s) (OfSome (IsNeedOfNew s number) fresh) (OfSome (IsNeedOfChanged s number) old) (IsPlacedAmong number fresh old) first second
       third (λ n w. w) g h))
-      (reaches_as (Passes rules sparing) (IsNeedOfTwo rules number fresh) (IsNeedOfTwo rules number fresh) (IsTouched s) (IsNeedOfTwo rules number fresh) third
+      (reaches_as (Passes rules leaves_out) (IsNeedOfTwo rules number fresh) (IsNeedOfTwo rules number fresh) (IsTouched s) (IsNeedOfTwo rules number fresh) third
       last (two_touched number fresh (IsInCells (changed_cells sets)) found) (λ n w. w) pairs)
     where
       beside : (q : CellId) (n : Need) → Contains (changed_cells sets) q → IsNeedBesideOld s number (version_of true q) n
@@ -367,16 +367,16 @@ module _ (rules : List Rule) (root : Content) (sets : List Changes) where
     pub touched : IsTouched s n
     pub below : n.rule < number
 
-  module _ (sparing : Bool) where
-    pub no_rule_yet : (needs : List Need) → Reaches (Passes rules sparing) (IsTouched s) (IsTouchedBelow 0) needs needs
-    no_rule_yet needs = gains_reach (Passes rules sparing) (IsTouched s) (IsTouchedBelow 0) needs needs
+  module _ (leaves_out : Bool) where
+    pub no_rule_yet : (needs : List Need) → Reaches (Passes rules leaves_out) (IsTouched s) (IsTouchedBelow 0) needs needs
+    no_rule_yet needs = gains_reach (Passes rules leaves_out) (IsTouched s) (IsTouchedBelow 0) needs needs
         (gains_none (IsTouched s) (IsTouchedBelow 0) needs (λ n w. let less = w.below in omega (arith, less)))
 
-    pub one_rule_more : (number : ℕ) (old middle new : List Need) → Reaches (Passes rules sparing) (IsTouched s) (IsTouchedBelow number) old middle
-        → Reaches (Passes rules sparing) (IsTouched s) (IsTouchedOf s number) middle new
-        → Reaches (Passes rules sparing) (IsTouched s) (IsTouchedBelow (number + 1)) old new
+    pub one_rule_more : (number : ℕ) (old middle new : List Need) → Reaches (Passes rules leaves_out) (IsTouched s) (IsTouchedBelow number) old middle
+        → Reaches (Passes rules leaves_out) (IsTouched s) (IsTouchedOf s number) middle new
+        → Reaches (Passes rules leaves_out) (IsTouched s) (IsTouchedBelow (number + 1)) old new
     one_rule_more number old middle new g h =
-        reaches_both (Passes rules sparing) (IsTouched s) (IsTouchedBelow number) (IsTouchedOf s number) (IsTouchedBelow (number + 1)) old middle new split g h
+        reaches_both (Passes rules leaves_out) (IsTouched s) (IsTouchedBelow number) (IsTouchedOf s number) (IsTouchedBelow (number + 1)) old middle new split g h
       where
         split : (n : Need) → IsTouchedBelow (number + 1) n → IsTouchedBelow number n ⊎ IsTouchedOf s number n
         split n w = elim (cases_lt n.rule number) [
@@ -386,10 +386,10 @@ module _ (rules : List Rule) (root : Content) (sets : List Changes) where
 
     -- all that are added to an empty list, in order
     pub all_touched : (number : ℕ) (empty new sorted : List Need) → length rules ≤ number → empty ≡ []
-        → Reaches (Passes rules sparing) (IsTouched s) (IsTouchedBelow number) empty new
+        → Reaches (Passes rules leaves_out) (IsTouched s) (IsTouchedBelow number) empty new
         → IsStrictlySortedBy need_cmp sorted
         → ((n : Need) → Contains sorted n ↔ Contains new n)
-        → ListsTouched s sparing sorted
+        → ListsTouched s leaves_out sorted
     all_touched number empty new sorted past none g ascending same = record {
       ascending = ascending;
       only = λ n h. only n (g.only n ((same n).0 h));
@@ -400,7 +400,7 @@ module _ (rules : List Rule) (root : Content) (sets : List Changes) where
         only n (inl h) = absurd (among n [] (subst (λ ns. Contains ns n) none h))
         only n (inr t) = t
 
-        every : (n : Need) → IsReached (Passes rules sparing) new n → IsReached (Passes rules sparing) sorted n
+        every : (n : Need) → IsReached (Passes rules leaves_out) new n → IsReached (Passes rules leaves_out) sorted n
         every n (inl h) = inl ((same n).1 h)
         every n (inr (m, h, passes)) = inr (m, (same m).1 h, passes)
 
@@ -408,9 +408,9 @@ module _ (rules : List Rule) (root : Content) (sets : List Changes) where
         below n (a, b, p, touched) = let less = rule_there rules (ask_of n) (held_row n.first a) (held_too n.second b) p.they_call in omega (arith, less, past)
 
   -- where none is left out, they are all
-  pub none_spared : (needs : List Need) → ListsTouched s false needs → AreTouchedNeeds s needs
-  none_spared needs listed = record { ascending = listed.ascending; exactly = λ n. (listed.only n, λ t. by n (listed.every n t)) }
+  pub none_left_out : (needs : List Need) → ListsTouched s false needs → AreTouchedNeeds s needs
+  none_left_out needs listed = record { ascending = listed.ascending; exactly = λ n. (listed.only n, λ t. by n (listed.every n t)) }
     where
       by : (n : Need) → IsReached (Passes rules false) needs n → Contains needs n
       by n (inl h) = h
-      by n (inr (m, h, (bar, less))) = absurd (false≢true bar.spared)
+      by n (inr (m, h, (breaking, less))) = absurd (false≢true breaking.leaves_out)

@@ -94,16 +94,16 @@ abbrev pub UpTo : Option CellId → (Need → Type 0) → Need → Type 0
 UpTo last P n = P n × (is_past last n.first.cell ≡ false)
 
 -- two new versions make the need, which no row serves, in a list that may leave out what is behind it
-pub record IsBar (rules : List Rule) (sparing : Bool) (n : Need) : Type 0 where
-  pub spared : sparing ≡ true
+pub record BreaksAtOnce (rules : List Rule) (leaves_out : Bool) (n : Need) : Type 0 where
+  pub leaves_out : leaves_out ≡ true
   pub unserved : is_unserved_under rules n.rule ≡ true
   pub first : n.first.fresh ≡ true
   pub second : is_fresh n.second ≡ true
 
 -- one of some needs is such a one of a rule, with its first subject at this cell
-abbrev pub HasBar : List Rule → Bool → ℕ → List Need → CellId → Type 0
-HasBar rules sparing number needs q = (n : Need) × Contains needs n × IsBar rules sparing n × (n.rule ≡ number) × (n.first.cell ≡ q)
+abbrev pub HasBreakAt : List Rule → Bool → ℕ → List Need → CellId → Type 0
+HasBreakAt rules leaves_out number needs q = (n : Need) × Contains needs n × BreaksAtOnce rules leaves_out n × (n.rule ≡ number) × (n.first.cell ≡ q)
 
 -- such a one stands before another need
 abbrev pub Passes : List Rule → Bool → Need → Need → Type 0
-Passes rules sparing m n = IsBar rules sparing m × (need_cmp m n ≡ Less)
+Passes rules leaves_out m n = BreaksAtOnce rules leaves_out m × (need_cmp m n ≡ Less)

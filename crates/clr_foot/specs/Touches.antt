@@ -50,7 +50,7 @@ abbrev pub IsServerOf : Setting ℕ → Ask → Version → Option Version → V
 IsServerOf c ask s t v = (l : Lived ℕ) × (version c v ≡ Some l) × (serves c.rules ask (row_of s) (option_map row_of t) (held_row v l) ≡ true)
 
 -- touched needs, ascending: all of them, but for those that a listed one passes
-pub record ListsTouched (c : Setting ℕ) (sparing : Bool) (needs : List Need) : Type 0 where
+pub record ListsTouched (c : Setting ℕ) (leaves_out : Bool) (needs : List Need) : Type 0 where
   pub ascending : IsStrictlySortedBy need_cmp needs
   pub only : (n : Need) → Contains needs n → IsTouched c n
-  pub every : (n : Need) → IsTouched c n → IsReached (Passes c.rules sparing) needs n
+  pub every : (n : Need) → IsTouched c n → IsReached (Passes c.rules leaves_out) needs n

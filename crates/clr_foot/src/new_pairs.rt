@@ -6,7 +6,7 @@ ghost use Rattle.std.specs.Prelude.{◌≡◌, ◌<◌, ◌+◌, ◌-◌, ◌&&�
 ghost use Rattle.clr_foot.specs.Candidates.{IsNeedAmong, IsNeedOfPair};
 ghost use Rattle.clr_foot.specs.Gains.{Gains, OfSome, Reaches};
 ghost use Rattle.clr_foot.specs.NewPairs.{AreFiledBefore, IsNeedAtPosition, IsNeedOfEntry, IsNeedOfParts, IsNeedOfTwo};
-ghost use Rattle.clr_foot.specs.NewPairs.{HasBar, IsNeedWithBefore, IsNeedWithPart, Passes, UpTo, is_past, with_part};
+ghost use Rattle.clr_foot.specs.NewPairs.{HasBreakAt, IsNeedWithBefore, IsNeedWithPart, Passes, UpTo, is_past, with_part};
 ghost use Rattle.clr_foot.specs.Scenes.{setting_in};
 ghost use Rattle.clr_needs.specs.Needs.{is_fresh};
 ghost use Rattle.clr_foot.specs.Versions.{AreAt, FitsSetting, IsAt, row_of};
@@ -245,11 +245,11 @@ impl<V: RowView, F: RowFinder> Scene<'_, V, F> {
 
     /// The cell of the first subject of the last of some needs, where needs behind it may be left
     /// out: it is of this rule, under which no row serves, and of two new versions.
-    fn last_that_counts(&self, rule: u16, sparing: bool, needs: &[Need]) -> Option<CellId>
+    fn last_that_counts(&self, rule: u16, leaves_out: bool, needs: &[Need]) -> Option<CellId>
         requires number { rule < length self.now.book.now }
-        ensures { IfSome result (HasBar self.now.book.now sparing rule needs.now) }
+        ensures { IfSome result (HasBreakAt self.now.book.now leaves_out rule needs.now) }
     {
-        if !sparing {
+        if !leaves_out {
             return None;
         }
         if !self.is_unserved(rule) {
@@ -262,25 +262,25 @@ impl<V: RowView, F: RowFinder> Scene<'_, V, F> {
         None
     }
 
-    /// Adds the needs of two of some versions. If it is sparing, it may leave needs out that stand
+    /// Adds the needs of two of some versions. If it is leaves_out, it may leave needs out that stand
     /// behind one of two new versions in the list, under a rule by which no row serves. It fails for
     /// want of memory alone.
     pub(crate) fn add_of_new_pairs(
         &self,
         rule: u16,
-        sparing: bool,
+        leaves_out: bool,
         fresh: &[Version],
         needs: &mut Vec<Need>,
     ) -> Result<(), AllocError>
         requires number { rule < length self.now.book.now }
         requires fit { FitsSetting (setting_in V.content self.now) }
         requires fresh { AreAt (setting_in V.content self.now) fresh.now }
-        ensures { OnOk result (Reaches (Passes self.now.book.now sparing) (IsNeedOfTwo self.now.book.now rule fresh.now)
+        ensures { OnOk result (Reaches (Passes self.now.book.now leaves_out) (IsNeedOfTwo self.now.book.now rule fresh.now)
             (IsNeedOfTwo self.now.book.now rule fresh.now) needs.old.items needs.new.items) }
     {
         let mut filed = SpotMap::new(self.alloc);
         for position in 0..fresh.len() {
-            let last = self.last_that_counts(rule, sparing, needs.as_slice());
+            let last = self.last_that_counts(rule, leaves_out, needs.as_slice());
             self.add_of_new_at(rule, fresh, position, last, &mut filed, needs)?;
         }
         Ok(())

@@ -264,11 +264,11 @@ impl<V: RowView, F: RowFinder> Scene<'_, V, F> {
     }
 
     /// Adds the touched needs of a rule, where the new versions and the old ones of the changed cells
-    /// are given. If it is sparing, needs may be left out that stand behind one which no row serves.
+    /// are given. If it is leaves_out, needs may be left out that stand behind one which no row serves.
     fn add_of_rule(
         &self,
         rule: u16,
-        sparing: bool,
+        leaves_out: bool,
         fresh: &[Version],
         old: &[Version],
         needs: &mut Vec<Need>,
@@ -277,20 +277,20 @@ impl<V: RowView, F: RowFinder> Scene<'_, V, F> {
         requires ready { IsReady F.settled (model_of V.content self.now) }
         requires fresh { Finds (setting_in V.content self.now) true (IsInCells self.now.members.cells.items) fresh.now }
         requires old { Finds (setting_in V.content self.now) false (IsInCells self.now.members.cells.items) old.now }
-        ensures { OnOk result (Reaches (Passes self.now.book.now sparing) (IsTouched (setting_in V.content self.now))
+        ensures { OnOk result (Reaches (Passes self.now.book.now leaves_out) (IsTouched (setting_in V.content self.now))
             (IsTouchedOf (setting_in V.content self.now) rule) needs.old.items needs.new.items) }
     {
         self.add_of_new_versions(rule, fresh, needs)?;
         self.add_of_changed(rule, old, needs)?;
-        self.add_of_new_pairs(rule, sparing, fresh, needs)?;
+        self.add_of_new_pairs(rule, leaves_out, fresh, needs)?;
         Ok(())
     }
 
-    /// The touched needs, ascending, each once. If it is sparing, needs may be left out that stand
+    /// The touched needs, ascending, each once. If it is leaves_out, needs may be left out that stand
     /// behind one which no row serves.
-    pub(crate) fn list_touched(&self, sparing: bool) -> Result<Vec<Need>, AllocError>
+    pub(crate) fn list_touched(&self, leaves_out: bool) -> Result<Vec<Need>, AllocError>
         requires ready { IsReady F.settled (model_of V.content self.now) }
-        ensures { IfOk result (λ needs. ListsTouched (setting_in V.content self.now) sparing needs.items) }
+        ensures { IfOk result (λ needs. ListsTouched (setting_in V.content self.now) leaves_out needs.items) }
     {
         let fresh = self.versions_at(true, self.members.cells.as_slice())?;
         let old = self.versions_at(false, self.members.cells.as_slice())?;
@@ -298,7 +298,7 @@ impl<V: RowView, F: RowFinder> Scene<'_, V, F> {
         for rule in 0..self.book.len() {
             self.add_of_rule(
                 rule as u16,
-                sparing,
+                leaves_out,
                 fresh.as_slice(),
                 old.as_slice(),
                 &mut needs,

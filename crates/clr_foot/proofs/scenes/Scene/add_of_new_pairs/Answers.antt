@@ -1,6 +1,6 @@
 use Rattle.std.proofs.Common.{subst}
 use Rattle.std.specs.Prelude.{IfSome}
-use Rattle.clr_foot.specs.NewPairs.{HasBar, IsNeedOfTwo, Passes}
+use Rattle.clr_foot.specs.NewPairs.{HasBreakAt, IsNeedOfTwo, Passes}
 use Rattle.clr_foot.proofs.Gaining.{gains_reach}
 use Rattle.clr_foot.proofs.NewPairLaws.{IsNeedBefore, all_positions, no_position_yet, none_filed, one_position_more}
 use Rattle.clr_foot.proofs.scenes.Scene.add_of_new_pairs.Goals as goal
@@ -10,7 +10,7 @@ loop-position-init g c =
     let rules = c.args.self.now.book.now in
     record {
       filed = none_filed rules c.args.rule c.args.fresh.now c.new-filed.result;
-      needs = gains_reach (Passes rules c.args.sparing) (IsNeedOfTwo rules c.args.rule c.args.fresh.now) (IsNeedBefore rules c.args.rule c.args.fresh.now 0)
+      needs = gains_reach (Passes rules c.args.leaves_out) (IsNeedOfTwo rules c.args.rule c.args.fresh.now) (IsNeedBefore rules c.args.rule c.args.fresh.now 0)
           c.args.needs.now.items c.args.needs.now.items (no_position_yet rules c.args.rule c.args.fresh.now c.args.needs.now.items);
     }
 
@@ -22,12 +22,12 @@ loop-position-preserved g c =
     let rules = c.args.self.now.book.now in
     record {
       filed = c.in_ok-add_of_new_at.ensures.filed;
-      needs = one_position_more rules c.args.rule c.args.fresh.now c.last_that_counts-last.result c.args.sparing c.loop-position.position _ _ _
-          (subst (λ list. IfSome c.last_that_counts-last.result (HasBar rules c.args.sparing c.args.rule list)) c.as_slice.ensures.value
+      needs = one_position_more rules c.args.rule c.args.fresh.now c.last_that_counts-last.result c.args.leaves_out c.loop-position.position _ _ _
+          (subst (λ list. IfSome c.last_that_counts-last.result (HasBreakAt rules c.args.leaves_out c.args.rule list)) c.as_slice.ensures.value
           c.last_that_counts-last.ensures) c.loop-position.invariant.needs
           c.in_ok-add_of_new_at.ensures.needs;
     }
 
 pub returns : goal.returns
-returns g c = all_positions c.args.self.now.book.now c.args.rule c.args.fresh.now c.args.sparing c.loop-position.position _ _ c.loop-position-test.false
+returns g c = all_positions c.args.self.now.book.now c.args.rule c.args.fresh.now c.args.leaves_out c.loop-position.position _ _ c.loop-position-test.false
     c.loop-position.invariant.needs

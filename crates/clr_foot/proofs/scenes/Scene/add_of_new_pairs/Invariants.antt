@@ -7,6 +7,6 @@ use Rattle.clr_foot.proofs.scenes.Scene.add_of_new_pairs.Given as goal
 abbrev pub invariant-loop-position : goal.invariant-loop-position
 invariant-loop-position g l = record {
   filed : AreFiledBefore l.self.book.now l.rule l.fresh l.position l.filed;
-  needs : Reaches (Passes l.self.book.now l.sparing) (IsNeedOfTwo l.self.book.now l.rule l.fresh) (IsNeedBefore l.self.book.now l.rule l.fresh l.position)
+  needs : Reaches (Passes l.self.book.now l.leaves_out) (IsNeedOfTwo l.self.book.now l.rule l.fresh) (IsNeedBefore l.self.book.now l.rule l.fresh l.position)
       l.fn.needs.items l.needs.items;
 }

@@ -15,14 +15,14 @@ loop-rule-init g c =
     let scene = c.args.self.now in
     let root = g.V.RowView.content scene.root.now in
     let sets = sets_of scene.members.sets.items in
-    subst (Reaches (Passes scene.book.now c.args.sparing) (IsTouched (setting_in g.V.RowView.content scene)) (IsTouchedBelow scene.book.now root sets 0) [])
+    subst (Reaches (Passes scene.book.now c.args.leaves_out) (IsTouched (setting_in g.V.RowView.content scene)) (IsTouchedBelow scene.book.now root sets 0) [])
     (sym c.new-needs.ensures.items)
-    (no_rule_yet scene.book.now root sets c.args.sparing [])
+    (no_rule_yet scene.book.now root sets c.args.leaves_out [])
 
 pub loop-rule-preserved : goal.loop-rule-preserved
 loop-rule-preserved g c =
     let scene = c.args.self.now in
-    one_rule_more scene.book.now (g.V.RowView.content scene.root.now) (sets_of scene.members.sets.items) c.args.sparing c.loop-rule.rule [] _ _ c.loop-rule.invariant
+    one_rule_more scene.book.now (g.V.RowView.content scene.root.now) (sets_of scene.members.sets.items) c.args.leaves_out c.loop-rule.rule [] _ _ c.loop-rule.invariant
     c.in_ok-add_of_rule.ensures
 
 pub put_in_order-requires : goal.put_in_order-requires
@@ -31,7 +31,7 @@ put_in_order-requires g c = need_exact
 pub returns : goal.returns
 returns g c =
     let scene = c.args.self.now in
-    all_touched scene.book.now (g.V.RowView.content scene.root.now) (sets_of scene.members.sets.items) c.args.sparing c.loop-rule.rule [] c.loop-rule.needs.items
+    all_touched scene.book.now (g.V.RowView.content scene.root.now) (sets_of scene.members.sets.items) c.args.leaves_out c.loop-rule.rule [] c.loop-rule.needs.items
     _ (subst (λ n. n ≤ c.loop-rule.rule) c.len-rule-end.ensures.value c.loop-rule-test.false) refl c.loop-rule.invariant c.put_in_order.ensures.ascending
     c.put_in_order.ensures.same
 

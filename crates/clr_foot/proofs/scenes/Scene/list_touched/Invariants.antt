@@ -10,5 +10,5 @@ use Rattle.clr_foot.proofs.scenes.Scene.list_touched.Given as goal
 -- the needs of the rules so far were added
 abbrev pub invariant-loop-rule : goal.invariant-loop-rule
 invariant-loop-rule g l =
-    Reaches (Passes l.self.book.now l.sparing) (IsTouched (setting_in g.V.RowView.content l.self)) (IsTouchedBelow l.self.book.now (g.V.RowView.content l.self.root.now)
+    Reaches (Passes l.self.book.now l.leaves_out) (IsTouched (setting_in g.V.RowView.content l.self)) (IsTouchedBelow l.self.book.now (g.V.RowView.content l.self.root.now)
     (sets_of l.self.members.sets.items) l.rule) [] l.needs.items
