@@ -14,8 +14,8 @@ pub record ListedClash : Type 0 where
   pub members : List ℕ
   pub need : Need
 
-abbrev pub clash_of : Clash → ListedClash
-clash_of k = record { members = k.members.items; need = k.need }
+abbrev pub listed_clash_of : Clash → ListedClash
+listed_clash_of k = record { members = k.members.items; need = k.need }
 
 -- listed clashes are ordered by need
 abbrev pub listed_cmp : ListedClash → ListedClash → Ordering

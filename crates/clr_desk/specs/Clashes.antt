@@ -12,7 +12,7 @@ use Rattle.clr_sites.specs.SiteNames.{site}
 use Rattle.clr_lines.specs.Reports.{count_line}
 use Rattle.clr_verdict_lines.specs.Verdicts.{verdict_text}
 use Rattle.clr_plan.specs.declared.plans.Plan.TheVariants as plan
-use Rattle.clr_site_clashes.specs.SiteClashes.{IsFound}
+use Rattle.clr_site_clashes.specs.SiteClashes.{FindsClashes}
 use Rattle.clr_site_clashes.specs.declared.site_sets.SiteClash.{SiteClash}
 use Rattle.clr_site_clashes.specs.declared.site_sets.SiteClashes.{SiteClashes}
 use Rattle.clr_desk.specs.Certificates.{plan_print}
@@ -60,7 +60,7 @@ found_print o s found = print_of (clashes_text o.schema s found.clashes.items fo
 
 -- the smallest sets, or the test of names that fails, as the line of a plan that is unfit
 pub data IsSitePrint (s : Site) (o : Office) (print : Printed) : Type 0 where
-  of_found : (found : SiteClashes) → IsFound o s found → print ≡ found_print o s found → IsSitePrint s o print
+  of_found : (found : SiteClashes) → FindsClashes o s found → print ≡ found_print o s found → IsSitePrint s o print
   of_names : (v : Verdict) → name_fault o s ≡ Some v → print ≡ plan_print o s (plan.Unfit v) → IsSitePrint s o print
 
 -- of the members that names ask for

@@ -7,7 +7,7 @@ use Rattle.clr_steps.specs.Offices.{Office}
 use Rattle.clr_steps.specs.Steps.{is_lost}
 use Rattle.clr_clearance.specs.declared.verdicts.Verdict.{Verdict}
 use Rattle.clr_cert.specs.declared.certificates.Certificate.{Certificate}
-use Rattle.clr_check.specs.Answers.{IsRefusal}
+use Rattle.clr_check.specs.Answers.{IsRefusingVerdict}
 use Rattle.clr_sites.specs.Certificates.{entries_in, site_of}
 use Rattle.clr_lines.specs.Replies.{reply_text}
 use Rattle.clr_verdict_lines.specs.Verdicts.{verdict_text}
@@ -30,7 +30,7 @@ verdict_print o c v = print_of [] (verdict_text o.schema c.members c.root v) (no
 pub data IsMergePrint (names : List Name) (o : Office) (c : Certificate) (print : Printed) : Type 0 where
   of_merges : (replies : List Reply) (stopped : Option ℕ) (left : Office) → AreMerged o c names replies stopped left
       → print ≡ merge_print replies stopped left → IsMergePrint names o c print
-  of_verdict : (v : Verdict) → IsRefusal o (site_of c) (entries_in c.entries) v → print ≡ verdict_print o c v → IsMergePrint names o c print
+  of_verdict : (v : Verdict) → IsRefusingVerdict o (site_of c) (entries_in c.entries) v → print ≡ verdict_print o c v → IsMergePrint names o c print
 
 -- the same, and behind its notes hints at names that no workspace of the office that was read has
 abbrev pub IsHintedMerge : List Name → Office → Certificate → Printed → Type 0
