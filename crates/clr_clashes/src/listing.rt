@@ -5,7 +5,7 @@ ghost use Rattle.std.specs.Prelude.{◌≡◌, map, IfOk, OnOk};
 ghost use Rattle.std.specs.List.{list_any};
 ghost use Rattle.clr_needs.specs.Needs.{IsPossibleNeed};
 ghost use Rattle.clr_foot.specs.Scenes.{IsReady, model_of, setting_of};
-ghost use Rattle.clr_clashes.specs.Keeping.{IsNoted, is_within, with_clash};
+ghost use Rattle.clr_clashes.specs.Keeping.{AddsNeedClash, is_all_in, with_clash};
 ghost use Rattle.clr_clashes.specs.ListedClashes.{AreSmallestClashes, listed_clash_of};
 
 use clr_finders::RowFinder;
@@ -23,14 +23,14 @@ pub struct Clash {
 
 /// Returns whether all of some members are among others.
 fn is_within(members: &[u16], others: &[u16]) -> bool
-    ensures { result ≡ is_within members.now others.now }
+    ensures { result ≡ is_all_in members.now others.now }
 {
     members.iter().all(|member| others.contains(member))
 }
 
 /// Returns whether the members of one of some clashes are all among some members.
 fn hold_clash(clashes: &[Clash], members: &[u16]) -> bool
-    ensures { result ≡ list_any (λ k. is_within k.members.items members.now) clashes.now }
+    ensures { result ≡ list_any (λ k. is_all_in k.members.items members.now) clashes.now }
 {
     clashes
         .iter()
@@ -57,7 +57,8 @@ fn note_need<V: RowView, F: RowFinder>(
 ) -> Result<(), AllocError>
     requires ready { IsReady F.settled (model_of V.content scene.now) }
     requires possible { IsPossibleNeed (setting_of (model_of V.content scene.now)) need.now }
-    ensures { OnOk result (IsNoted (setting_of (model_of V.content scene.now)) need.now (map listed_clash_of clashes.old.items) (map listed_clash_of clashes.new.items)) }
+    ensures { OnOk result (AddsNeedClash (setting_of (model_of V.content scene.now)) need.now
+        (map listed_clash_of clashes.old.items) (map listed_clash_of clashes.new.items)) }
 {
     match scene.pick(need)? {
         Some(_) => Ok(()),

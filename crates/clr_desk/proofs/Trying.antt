@@ -17,7 +17,7 @@ use Rattle.clr_office.specs.Outcomes.{IsPlanned}
 use Rattle.clr_cert.specs.Texts.{certificate_text}
 use Rattle.clr_desk.specs.Choices.{AreTrials, IsChoicePrint, IsTrialAt, Trial, is_taken, left_text, members_or_children, members_tried, names_line, of_trials}
 use Rattle.clr_desk.specs.Choices.{refusal_text, taken_in}
-use Rattle.clr_prints.specs.Printing.{printout_of, printed}
+use Rattle.clr_prints.specs.Printing.{printed, printout_of}
 use Rattle.clr_prints.specs.declared.prints.Print.{Print}
 use Rattle.clr_desk.specs.Trials.{IsAdded, IsChosen, IsTried}
 use Rattle.clr_desk.specs.declared.choices.Choice.{Choice}

@@ -19,7 +19,7 @@ use Rattle.clr_desk.specs.Geographic.{IsGeographicAnswer}
 use Rattle.clr_desk.specs.Merges.{IsHintedMerge}
 use Rattle.clr_prints.specs.NameHints.{IsHinted}
 use Rattle.clr_desk.specs.Orders.{IsOrderPrint}
-use Rattle.clr_prints.specs.Printing.{IsPrintoutIn, IsPrintoutOfCase, IsPrintoutFault, PrintoutOrFault, Printout}
+use Rattle.clr_prints.specs.Printing.{IsPrintoutFault, IsPrintoutIn, IsPrintoutOfCase, Printout, PrintoutOrFault}
 use Rattle.clr_desk.specs.Whys.{IsWhyPrint}
 use Rattle.clr_desk_pages.specs.Maps.{IsMapPrint}
 use Rattle.clr_desk_pages.specs.Reports.{IsReportPrint}
@@ -31,9 +31,11 @@ IsDeskAnswerWithin (ask.Certificate root names) office second layers print =
 IsDeskAnswerWithin (ask.Merge names) office certificate layers print = IsPrintoutOfCase (IsHintedMerge names) (case_of office certificate) print
 IsDeskAnswerWithin ask.Format office second layers print = IsPrintoutIn IsFormatPrint (draft_in office) print
 IsDeskAnswerWithin (ask.Keep root names) office second layers print = IsPrintoutIn (IsHinted (IsChoicePrint root names) (root ∷ names)) (draft_in office) print
-IsDeskAnswerWithin (ask.Clashes root names) office second layers print = IsPrintoutIn (IsHinted (IsClashesPrint root names) (root ∷ names)) (draft_in office) print
+IsDeskAnswerWithin (ask.Clashes root names) office second layers print =
+    IsPrintoutIn (IsHinted (IsClashesPrint root names) (root ∷ names)) (draft_in office) print
 IsDeskAnswerWithin (ask.Why kind) office second layers print = IsWhyPrint kind office second print
-IsDeskAnswerWithin (ask.Map root names) office second layers print = IsPrintoutIn (IsHinted (IsMapPrint (site root names)) (root ∷ names)) (draft_in office) print
+IsDeskAnswerWithin (ask.Map root names) office second layers print =
+    IsPrintoutIn (IsHinted (IsMapPrint (site root names)) (root ∷ names)) (draft_in office) print
 IsDeskAnswerWithin (ask.Report root names) office second layers print =
     IsPrintoutIn (IsHinted (IsReportPrint (site root names)) (root ∷ names)) (draft_in office) print
 IsDeskAnswerWithin (ask.WorkOrder root names) office second layers print =

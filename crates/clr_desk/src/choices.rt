@@ -8,7 +8,7 @@ ghost use Rattle.clr_office.specs.Outcomes.{IsPlanned};
 ghost use Rattle.clr_desk.specs.Choices.{IsChoicePrint, names_line, refusal_text};
 ghost use Rattle.clr_desk.specs.Trials.{IsAdded, IsChosen, IsTried};
 ghost use Rattle.clr_prints.specs.NameHints.{IsHinted};
-ghost use Rattle.clr_prints.specs.Printing.{IsMadePrintout, IsPrintoutIn, printout_of, printed};
+ghost use Rattle.clr_prints.specs.Printing.{IsMadePrintout, IsPrintoutIn, printed, printout_of};
 
 use crate::certificates::plan_print;
 use crate::children::members_asked;

@@ -2,7 +2,7 @@
 ghost use Rattle.std.specs.Prelude.{◌≡◌, ◌++◌, ◌∷◌, [], filter, map, IfOk, OnOk};
 ghost use Rattle.std.specs.List.{list_any, range_with_len};
 ghost use Rattle.clr_sites.specs.SiteNames.{site};
-ghost use Rattle.clr_desk.specs.Clashes.{beside, in_no_set, is_listed_position, is_beside, is_in_no_set};
+ghost use Rattle.clr_desk.specs.Clashes.{beside, in_no_set, is_beside, is_in_no_set, is_listed_position};
 
 use clr_site_clashes::{SiteClash, names_at};
 use std::alloc::{AllocError, Global};

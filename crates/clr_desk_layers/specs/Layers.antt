@@ -29,7 +29,8 @@ unfit_print why name = printout_of [] (unfit_line why name) true false
 
 -- the layer of a table's rows in a content, or that a column is called as the field of shapes
 pub data IsPrintOfTable (tables : List TableDef) (at : ℕ) (table : Name) (content : Content) (print : PrintoutOrFault) : Type 0 where
-  of_layer : (text : List ℕ) → IsTableLayer tables at content (Some text) → print ≡ printout_of text [] false false → IsPrintOfTable tables at table content print
+  of_layer : (text : List ℕ) → IsTableLayer tables at content (Some text) → print ≡ printout_of text [] false false
+      → IsPrintOfTable tables at table content print
   of_wkt_column : IsTableLayer tables at content None → print ≡ unfit_print wkt_column_word table → IsPrintOfTable tables at table content print
 
 -- the same of a table and a workspace by their names, or that no table or no workspace has its name

@@ -12,7 +12,7 @@ use Rattle.clr_rule_text.specs.declared.faults.TextFault.{TextFault}
 use Rattle.clr_rule_text.specs.declared.faults.TextFault.TheVariants as fault
 use Rattle.clr_office_text.specs.declared.formats.Format.{Format}
 use Rattle.clr_item_faults.specs.InnerFaults.{book_fault_of, put_fault_of, tables_fault_of}
-use Rattle.clr_item_explanations.specs.FaultNames.{IsNamed, rule_fault_name, schema_fault_name}
+use Rattle.clr_item_explanations.specs.FaultNames.{BeginsWithName, rule_fault_name, schema_fault_name}
 use Rattle.clr_faults.specs.Spots.{IsFoundIn, value_in}
 use Rattle.clr_faults.specs.declared.spots.Spot.{Spot}
 use Rattle.clr_fault_lines.specs.declared.remarks.Remark.{Remark}
@@ -25,15 +25,15 @@ tables_in d = format_of d >>= λ format. schema_of format d
 
 -- the sentence begins with the name of the fault that the row of an item has over its table, where it has one
 abbrev pub IsRowTold : List TableDef → Data → List ℕ → Type 0
-IsRowTold tables item sentence = (f : RowFault) → put_fault_of tables item ≡ Some f → IsNamed (row_fault_name f) sentence
+IsRowTold tables item sentence = (f : RowFault) → put_fault_of tables item ≡ Some f → BeginsWithName (row_fault_name f) sentence
 
 -- the same of the fault of the book of rules
 abbrev pub IsRuleTold : List TableDef → Data → List ℕ → Type 0
-IsRuleTold tables d sentence = (number : ℕ) (f : RuleFault) → book_fault_of tables d ≡ Some (number, f) → IsNamed (rule_fault_name f) sentence
+IsRuleTold tables d sentence = (number : ℕ) (f : RuleFault) → book_fault_of tables d ≡ Some (number, f) → BeginsWithName (rule_fault_name f) sentence
 
 -- and of the fault of the tables
 abbrev pub IsSchemaTold : Format → Data → List ℕ → Type 0
-IsSchemaTold format d sentence = (f : SchemaFault) → tables_fault_of format d ≡ Some f → IsNamed (schema_fault_name f) sentence
+IsSchemaTold format d sentence = (f : SchemaFault) → tables_fault_of format d ≡ Some f → BeginsWithName (schema_fault_name f) sentence
 
 -- the fault that the reader of a text drops is told
 abbrev pub TellsDroppedFault : Data → TextFault → Spot → List ℕ → Type 0

@@ -14,7 +14,7 @@ use Rattle.clr_sites.proofs.SearchLemmas.{it_is, it_is_not}
 use Rattle.clr_foot.proofs.InvolvedLaws.{both_depend}
 use Rattle.clr_groups.proofs.LabelledGroups.{PutAt, earlier, last, put_at}
 use Rattle.clr_independence.specs.declared.member_pairs.Pair.{Pair}
-use Rattle.clr_independence.specs.Pairs.{AreNeedsOf, TellsIfApart, IsPairByNeeds, ShareOne}
+use Rattle.clr_independence.specs.Pairs.{AreNeedsOf, IsPairByNeeds, ShareOne, TellsIfApart}
 
 -- dependence -------------------------------------------------------------------------------------
 

@@ -11,7 +11,7 @@ use Rattle.clr_needs.specs.declared.needs.Need.{Need}
 use Rattle.clr_needs.specs.Settings.{Setting}
 use Rattle.clr_sites.specs.Told.{IsTold}
 use Rattle.clr_independence.specs.declared.member_pairs.Pair.{Pair}
-use Rattle.clr_independence.specs.Pairs.{AddsPairs, AreAscending, AreNeedsOf, ArePairs, TellsIfApart, IsPairByNeeds, ShareOne, pair_members, pairs_below, pairs_with}
+use Rattle.clr_independence.specs.Pairs.{AddsPairs, AreAscending, AreNeedsOf, ArePairs, IsPairByNeeds, ShareOne, TellsIfApart, pair_members, pairs_below, pairs_with}
 use Rattle.clr_independence.proofs.NeedLaws.{pair_is_independent}
 
 range_more : (a n j : ℕ) → a + n ≡ j → range_with_len a (n + 1) ≡ range_with_len a n ++ j ∷ []

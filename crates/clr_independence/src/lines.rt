@@ -4,7 +4,7 @@ ghost use Rattle.std.specs.Prelude.{◌≡◌, ◌++◌, codes, map, IfOk, OnOk}
 ghost use Rattle.std.specs.List.{flat_map};
 ghost use Rattle.clr_sites.specs.SiteNames.{site};
 ghost use Rattle.clr_verdict_lines.specs.Verdicts.{verdict_text};
-ghost use Rattle.clr_independence.specs.Lines.{AreIndependenceLines, independence_text, independence_line};
+ghost use Rattle.clr_independence.specs.Lines.{AreIndependenceLines, independence_line, independence_text};
 
 use crate::independences::{Independence, independence_of};
 use crate::member_pairs::Pair;

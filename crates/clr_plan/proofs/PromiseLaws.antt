@@ -22,7 +22,7 @@ use Rattle.clr_plan.specs.declared.plans.Plan.{Plan}
 use Rattle.clr_plan.specs.declared.plans.Plan.TheVariants as plan
 use Rattle.clr_sites.specs.Certificates.{entries_in}
 use Rattle.clr_plan.specs.Plans.{IsPlan}
-use Rattle.clr_plan.specs.Promises.{IsExact, IsUnfitWhere, StaysCleared, Promises, is_cleared, is_out_of_memory}
+use Rattle.clr_plan.specs.Promises.{IsExact, IsUnfitWhere, Promises, StaysCleared, is_cleared, is_out_of_memory}
 use Rattle.clr_plan.proofs.FaultLaws.{no_name_fault}
 
 not_found : (v : Verdict) → None ≡ Some v → ⊥

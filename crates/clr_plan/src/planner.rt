@@ -5,7 +5,7 @@ ghost use Rattle.clr_steps.specs.Quiet.{Site};
 ghost use Rattle.clr_sites.specs.SiteNames.{site};
 ghost use Rattle.clr_sites.specs.Sites.{AreParts};
 ghost use Rattle.clr_plan.specs.Plans.{IsPlan};
-ghost use Rattle.clr_plan.specs.Promises.{IsExact, IsUnfitWhere, StaysCleared, Promises};
+ghost use Rattle.clr_plan.specs.Promises.{IsExact, IsUnfitWhere, Promises, StaysCleared};
 
 use crate::faults::{plan_fault, plan_shared};
 use crate::plans::Plan;

@@ -8,11 +8,11 @@ use Rattle.clr_check_texts.specs.declared.cases.CaseFault.TheVariants as no_case
 use Rattle.clr_rule_text.specs.declared.faults.TextFault.{TextFault}
 use Rattle.clr_office.specs.Clearances.{fault_print}
 use Rattle.clr_reports.specs.Printing.{IsNoPrint}
-use Rattle.clr_reports.specs.Printing.{IsMadePrintout as AreLinesMade, IsPrintoutIn as IsLinesIn, IsPrintoutFault as IsLinesFault, PrintoutOrFault as Lines}
+use Rattle.clr_reports.specs.Printing.{IsMadePrintout as AreLinesMade, IsPrintoutFault as IsLinesFault, IsPrintoutIn as IsLinesIn, PrintoutOrFault as Lines}
 use Rattle.clr_reports.specs.declared.faults.RunFault.{RunFault}
 use Rattle.clr_reports.specs.declared.faults.RunFault.TheVariants as run_fault
 use Rattle.clr_reports.specs.declared.outputs.Output.{Output}
-use Rattle.clr_prints.specs.Printing.{AreLinesAsNotes, IsMadePrintout, IsPrintoutIn, IsPrintoutOfCase, IsPrintoutFault, PrintoutOrFault, as_notes, of_fault, of_why, unless_lost}
+use Rattle.clr_prints.specs.Printing.{AreLinesAsNotes, IsMadePrintout, IsPrintoutFault, IsPrintoutIn, IsPrintoutOfCase, PrintoutOrFault, as_notes, of_fault, of_why, unless_lost}
 use Rattle.clr_prints.specs.declared.prints.Print.{Print}
 
 -- no text, whether it is dropped or not

@@ -1,6 +1,6 @@
 //! Hints at names that no workspace has.
 ghost use Rattle.std.specs.Prelude.{◌≡◌, ◌∷◌, All, Contains, IfOk, IfSome, OnOk};
-ghost use Rattle.clr_prints.specs.NameHints.{AddsHint, AreNameHints, HintsAt, IsWorkspaceName, IsNobody, hint_text};
+ghost use Rattle.clr_prints.specs.NameHints.{AddsHint, AreNameHints, HintsAt, IsNobody, IsWorkspaceName, hint_text};
 ghost use Rattle.clr_prints.specs.Printing.{printed};
 
 use crate::prints::Print;

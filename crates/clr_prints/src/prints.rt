@@ -2,7 +2,7 @@
 ghost use Rattle.std.specs.Prelude.{◌≡◌, [], false, IfOk};
 ghost use Rattle.clr_reports.specs.Printing.{status_of};
 ghost use Rattle.clr_prints.specs.NameHints.{with_lines};
-ghost use Rattle.clr_prints.specs.Printing.{AreLinesAsNotes, is_lost_ending, printout_of, printed, status_by, unless_lost};
+ghost use Rattle.clr_prints.specs.Printing.{AreLinesAsNotes, is_lost_ending, printed, printout_of, status_by, unless_lost};
 
 use clr_office::{Output, RunFault};
 use std::alloc::{AllocError, Global};

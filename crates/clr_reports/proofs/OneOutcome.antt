@@ -19,7 +19,7 @@ use Rattle.clr_independence.specs.declared.independences.Independence.{Independe
 use Rattle.clr_independence.specs.declared.independences.Independence.TheVariants as said
 use Rattle.clr_independence.specs.declared.member_pairs.Pair.{Pair}
 use Rattle.clr_independence.specs.Independences.{IsIndependenceOf, IsUnfitFor, of_cell, of_member}
-use Rattle.clr_independence.specs.Lines.{independence_text, independence_line}
+use Rattle.clr_independence.specs.Lines.{independence_line, independence_text}
 use Rattle.clr_independence.specs.Pairs.{pair_members}
 use Rattle.clr_reports.specs.Outcomes.{IsIndependenceOutcome, Outcome}
 use Rattle.clr_reports.specs.Outcomes.{has_dependence}

@@ -14,7 +14,7 @@ use Rattle.clr_sites.specs.SiteNames.{site}
 use Rattle.clr_clashes.specs.ListedClashes.{AreSmallestClashes, ListedClash}
 use Rattle.clr_site_clashes.specs.Conflicts.{conflict_clashes, free_positions}
 use Rattle.clr_site_clashes.specs.SharedCells.{apart_positions, shared_clashes}
-use Rattle.clr_site_clashes.specs.SiteSets.{SiteClash, stored_site_clash, site_clash}
+use Rattle.clr_site_clashes.specs.SiteSets.{SiteClash, site_clash, stored_clash}
 use Rattle.clr_site_clashes.specs.declared.site_sets.SiteClashes.{SiteClashes as Found}
 
 -- the members that are looked at together, by position
@@ -43,7 +43,7 @@ pub record AreSiteClashes (o : Office) (s : Site) (broken : List SiteClash) (fou
   pub named : name_fault o s ≡ None
   pub looked : found.looked.items ≡ looked_at o s
   pub needs : AreNeedClashes o (looked_site o s) (looked_at o s) broken
-  pub clashes : map stored_site_clash found.clashes.items
+  pub clashes : map stored_clash found.clashes.items
       ≡ conflict_clashes o s.members ++ shared_clashes (change_sets o s) (free_positions o s.members) ++ broken
 
 abbrev pub FindsClashes : Office → Site → Found → Type 0

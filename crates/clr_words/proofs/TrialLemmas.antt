@@ -18,7 +18,7 @@ use Rattle.clr_steps.specs.Steps.{IsAnswer, answer, is_lost, refused_or_done, st
 use Rattle.clr_words.specs.declared.trials.Trial.{Trial}
 use Rattle.clr_words.specs.Making.{AddsTrial, IsBack, IsEditJudged}
 use Rattle.clr_words.specs.declared.remedies.Action.TheVariants as action
-use Rattle.clr_words.specs.Trials.{IsEdited, TellsIfCleared, IsTrialAnswer, IsTrial}
+use Rattle.clr_words.specs.Trials.{IsEdited, IsTrial, IsTrialAnswer, TellsIfCleared}
 use Rattle.clr_words.proofs.Savepoints.{IsBetween, as_before, edited, same}
 
 -- an edit was tried or not, and what was there is there again

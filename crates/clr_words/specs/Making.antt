@@ -9,7 +9,7 @@ use Rattle.clr_steps.specs.Offices.{Office}
 use Rattle.clr_steps.specs.Quiet.{Site}
 use Rattle.clr_steps.specs.Steps.{answer, step}
 use Rattle.clr_words.specs.declared.trials.Trial.{Trial}
-use Rattle.clr_words.specs.Trials.{TellsIfCleared, IsTrial}
+use Rattle.clr_words.specs.Trials.{IsTrial, TellsIfCleared}
 
 -- a command is done, or nothing changes
 abbrev pub IsDone : Office → Command → Bool → Office → Type 0

@@ -6,7 +6,7 @@ ghost use Rattle.clr_steps.specs.Offices.{Office as Whole};
 ghost use Rattle.clr_sites.specs.SiteNames.{site};
 ghost use Rattle.clr_words.specs.declared.trials.TheConstants.{BEFORE_TRIAL as SAVEPOINT};
 ghost use Rattle.clr_words.specs.Making.{AddsTrial, IsBack, IsDone, IsEditJudged};
-ghost use Rattle.clr_words.specs.Trials.{IsEdited, TellsIfCleared, IsTrialAnswer, IsTrial};
+ghost use Rattle.clr_words.specs.Trials.{IsEdited, IsTrial, IsTrialAnswer, TellsIfCleared};
 
 use crate::remedies::{Action, Remedy, plan_remedies};
 use clr_change::{Edit, Edits};

@@ -5,13 +5,13 @@ use Rattle.clr_needs.specs.declared.needs.Need.{Need}
 use Rattle.clr_needs.specs.Picks.{Blocks, Picks}
 use Rattle.clr_foot.specs.Scenes.{model_of, setting_of}
 use Rattle.clr_needs.specs.Settings.{Setting}
-use Rattle.clr_clashes.specs.Keeping.{IsNoted, with_clash}
+use Rattle.clr_clashes.specs.Keeping.{AddsNeedClash, with_clash}
 use Rattle.clr_clashes.specs.ListedClashes.{ListedClash, listed_clash_of}
 use Rattle.clr_clashes.proofs.listing.note_need.Goals as goal
 
 noted : {T E : Type 0} (c : Setting ℕ) (n : Need) (old new : List ListedClash) (members : List ℕ) → Picks c n None → Blocks c n members → (r : Result T E)
     → OnOk r (new ≡ with_clash old (record { members = members; need = n }))
-    → OnOk r (IsNoted c n old new)
+    → OnOk r (AddsNeedClash c n old new)
 noted c n old new members none blocks (Ok u) h = inr (members, none, blocks, h)
 noted c n old new members none blocks (Err e) h = tt
 

@@ -1,7 +1,7 @@
 use Rattle.std.proofs.Common.{◌∙◌, ◌++◌, ap, inr, subst}
 use Rattle.std.specs.Prelude.{Contains, IfSome}
 use Rattle.std.proofs.lemmas.List.Elements.{All-contains}
-use Rattle.clr_prints.specs.NameHints.{IsWorkspaceName, IsNobody}
+use Rattle.clr_prints.specs.NameHints.{IsNobody, IsWorkspaceName}
 use Rattle.clr_prints.proofs.name_hints.add_hint.Goals as goal
 
 pub returns-in_ok-extend_from_slice : goal.returns-in_ok-extend_from_slice
