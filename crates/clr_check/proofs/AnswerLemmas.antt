@@ -16,7 +16,7 @@ use Rattle.clr_clearance.specs.Safety.{Safe}
 use Rattle.clr_clearance.specs.Sites.{RootHolds, change_sets, setting_by_position}
 use Rattle.clr_clearance.specs.Verdicts.{IsVerdict, member_fault, of_cell, of_need, of_none}
 use Rattle.clr_clearance.specs.Verdicts.{of_member as member}
-use Rattle.clr_check.specs.Answers.{IsAnswer, IsRefusal, of_memory, of_verdict, verdict_of}
+use Rattle.clr_check.specs.Answers.{IsCheckAnswer, IsRefusingVerdict, of_memory, of_verdict, verdict_of}
 use Rattle.clr_check.specs.Entries.{IsLeastUncovered}
 use Rattle.clr_clearance.proofs.ClearLemmas.{clear_covers, no_member_fault}
 use Rattle.clr_clearance.proofs.HeadlineLemmas.{headline}
@@ -29,16 +29,16 @@ use Rattle.clr_sites.proofs.SiteLemmas.{names_free, root_holds}
 -- what an answer says ------------------------------------------------------------------------------
 
 module _ (o : Office) (s : Site) (entries : List Entry) where
-  pub fault_answers : (v : Verdict) → IsFault o s v → IsAnswer o s entries v
+  pub fault_answers : (v : Verdict) → IsFault o s v → IsCheckAnswer o s entries v
   fault_answers v (of_member e) = of_verdict (member e)
   fault_answers v (without_memory e f) = of_memory e f
 
-  pub clear_verdict : (v : Verdict) → IsAnswer o s entries v → v ≡ verdict.Clear → IsVerdict o s entries verdict.Clear
+  pub clear_verdict : (v : Verdict) → IsCheckAnswer o s entries v → v ≡ verdict.Clear → IsVerdict o s entries verdict.Clear
   clear_verdict v (of_verdict h) e = subst (IsVerdict o s entries) e h
   clear_verdict v (of_memory none f) e = absurd (let both : verdict.OutOfMemory ≡ verdict.Clear = sym f ∙ e in cc)
 
   -- all that a clear answer promises
-  pub clear_promises : IsAdmitted o → (v : Verdict) → IsAnswer o s entries v → v ≡ verdict.Clear → StaysFree o s × Safe o s × Headline o s × RunsAreCleared o s
+  pub clear_promises : IsAdmitted o → (v : Verdict) → IsCheckAnswer o s entries v → v ≡ verdict.Clear → StaysFree o s × Safe o s × Headline o s × RunsAreCleared o s
   clear_promises admitted v answer e =
       let clear = clear_verdict v answer e in
       let holds = root_holds o admitted s (clear_covers o s entries clear).mergeable.kept in
@@ -48,28 +48,28 @@ module _ (o : Office) (s : Site) (entries : List Entry) where
 -- what a scene tells --------------------------------------------------------------------------------
 
 module _ (o : Office) (s : Site) (entries : List Entry) (free : member_fault o s ≡ None) where
-  pub memory_answers : IsAnswer o s entries verdict.OutOfMemory
+  pub memory_answers : IsCheckAnswer o s entries verdict.OutOfMemory
   memory_answers = of_memory (names_free o s free) refl
 
-  pub scene_answers : (fault : SceneFault) → IsSceneFault (change_sets o s) fault → IsAnswer o s entries (verdict_of fault)
+  pub scene_answers : (fault : SceneFault) → IsSceneFault (change_sets o s) fault → IsCheckAnswer o s entries (verdict_of fault)
   scene_answers (scene.SharedCell cell i j) shared = of_verdict (of_cell cell i j free shared refl)
   scene_answers scene.OutOfMemory h = memory_answers
 
   module _ (c : Setting ℕ) (is : c ≡ setting_by_position o s) (apart : AreApart (change_sets o s)) where
-    pub clear_answers : AreCovered c entries → IsAnswer o s entries verdict.Clear
+    pub clear_answers : AreCovered c entries → IsCheckAnswer o s entries verdict.Clear
     clear_answers covered = of_verdict (of_none free apart (subst (λ d. AreCovered d entries) is covered) refl)
 
-    pub uncovered_answers : (n : Need) → IsLeastUncovered c entries n → IsAnswer o s entries (verdict.Uncovered n)
+    pub uncovered_answers : (n : Need) → IsLeastUncovered c entries n → IsCheckAnswer o s entries (verdict.Uncovered n)
     uncovered_answers n least =
         let moved = subst (λ d. IsLeastUncovered d entries n) is least in
         of_verdict (of_need n moved.0 moved.1 free apart moved.2 refl)
 
-module _ (o : Office) (s : Site) (entries : List Entry) (clear : IsAnswer o s entries verdict.Clear) where
+module _ (o : Office) (s : Site) (entries : List Entry) (clear : IsCheckAnswer o s entries verdict.Clear) where
   pub clear_holds : IsAdmitted o → RootHolds o s
   clear_holds admitted = root_holds o admitted s (clear_covers o s entries (clear_verdict o s entries verdict.Clear clear refl)).mergeable.kept
 
   -- no memory for the replies
-  pub clear_refused : IsRefusal o s entries verdict.OutOfMemory
+  pub clear_refused : IsRefusingVerdict o s entries verdict.OutOfMemory
   clear_refused = record {
     answer = of_memory (names_free o s (no_member_fault o s (clear_covers o s entries (clear_verdict o s entries verdict.Clear clear refl)).mergeable)) refl;
     not_clear = λ e. absurd (cc);

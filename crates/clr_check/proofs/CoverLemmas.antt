@@ -13,7 +13,7 @@ use Rattle.clr_needs.proofs.NeedSubjects.{subjects_once}
 use Rattle.clr_needs.proofs.Reading.{none_taken, one_more, all_taken}
 use Rattle.clr_needs.proofs.PickLaws.{listed_serves, serving_listed}
 use Rattle.clr_clearance.proofs.CheckLemmas.{one_lived}
-use Rattle.clr_check.specs.Entries.{HasCover, lasts, same_too}
+use Rattle.clr_check.specs.Entries.{HasCover, lives_with_subject, same_too}
 use Rattle.clr_sites.specs.Told.{IsTold}
 use Rattle.clr_cert.specs.declared.certificates.Entry.{Entry}
 use Rattle.clr_sites.proofs.SearchLemmas.{either_told, it_is_not, told_as, told_by}
@@ -60,7 +60,7 @@ unfolding life_of
 too_told l None = λ h. h
 too_told l (Some b) = same_told l b.life
 
-lasts_told : (l : Lifetime ℕ) (a : Lived ℕ) (b : Option (Lived ℕ)) → IsTold (lasts l (Some a.life) (life_of b)) (Lasts l a b)
+lasts_told : (l : Lifetime ℕ) (a : Lived ℕ) (b : Option (Lived ℕ)) → IsTold (lives_with_subject l (Some a.life) (life_of b)) (Lasts l a b)
 lasts_told l a b = either_told _ _ (l ≡ Always) _ (same_told l Always) (either_told _ _ (l ≡ a.life) (IsLifeOf l b) (same_told l a.life) (too_told l b))
 
 -- versions that serve ----------------------------------------------------------------------------
@@ -95,12 +95,12 @@ module _ (c : Setting ℕ) where
 
     pub alone_told : (v : VersionId) (life : Lifetime ℕ) (first second : Option (Lifetime ℕ)) (told : Bool) → Contains servers v → Some life ≡ life_at v → first
         ≡ life_at n.first → second ≡ life_at_too n.second
-        → told ≡ lasts life first second → IsTold told (CoversAlone c n a b v)
+        → told ≡ lives_with_subject life first second → IsTold told (CoversAlone c n a b v)
     alone_told v life first second told h at e f is =
         let (l, there, same) = lived_at v life at in
         let first_is : first ≡ Some a.life = e ∙ ap (option_map (λ (x : Lived ℕ). x.life)) possible.first_is in
         let second_is : second ≡ life_of b = f ∙ second_life n.first a n.second b possible.second_is in
-        let whole : told ≡ lasts l.life (Some a.life) (life_of b) = is ∙ (λ i. lasts (sym same i) (first_is i) (second_is i)) in
+        let whole : told ≡ lives_with_subject l.life (Some a.life) (life_of b) = is ∙ (λ i. lives_with_subject (sym same i) (first_is i) (second_is i)) in
         let (m, serves) = listed_serves c n servers are a b possible v h in
         subst (λ t. IsTold t (CoversAlone c n a b v)) (sym whole)
         (told_as _ (Lasts l.life a b) (CoversAlone c n a b v)

@@ -9,13 +9,13 @@ use Rattle.clr_clearance.specs.declared.verdicts.Verdict.{Verdict}
 use Rattle.clr_clearance.specs.declared.verdicts.Verdict.TheVariants as verdict
 use Rattle.clr_clearance.specs.Verdicts.{IsVerdict, name_fault}
 
-pub data IsAnswer (o : Office) (s : Site) (entries : List Entry) (v : Verdict) : Type 0 where
-  of_verdict : IsVerdict o s entries v → IsAnswer o s entries v
-  of_memory : name_fault o s ≡ None → v ≡ verdict.OutOfMemory → IsAnswer o s entries v
+pub data IsCheckAnswer (o : Office) (s : Site) (entries : List Entry) (v : Verdict) : Type 0 where
+  of_verdict : IsVerdict o s entries v → IsCheckAnswer o s entries v
+  of_memory : name_fault o s ≡ None → v ≡ verdict.OutOfMemory → IsCheckAnswer o s entries v
 
 -- the verdict isn't clear
-pub record IsRefusal (o : Office) (s : Site) (entries : List Entry) (v : Verdict) : Type 0 where
-  pub answer : IsAnswer o s entries v
+pub record IsRefusingVerdict (o : Office) (s : Site) (entries : List Entry) (v : Verdict) : Type 0 where
+  pub answer : IsCheckAnswer o s entries v
   pub not_clear : ¬ (v ≡ verdict.Clear)
 
 -- what is said where change sets make no scene

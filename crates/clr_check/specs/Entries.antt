@@ -22,8 +22,8 @@ same_too l None = false
 same_too l (Some m) = same_life l m
 
 -- Always, or the life of a subject
-abbrev pub lasts : Lifetime ℕ → Option (Lifetime ℕ) → Option (Lifetime ℕ) → Bool
-lasts l first second = same_life l Always || (same_too l first || same_too l second)
+abbrev pub lives_with_subject : Lifetime ℕ → Option (Lifetime ℕ) → Option (Lifetime ℕ) → Bool
+lives_with_subject l first second = same_life l Always || (same_too l first || same_too l second)
 
 -- the versions of an entry cover the need
 abbrev pub HasCover : Setting ℕ → Need → Lived ℕ → Option (Lived ℕ) → List Entry → Type 0

@@ -7,7 +7,7 @@ ghost use Rattle.clr_clearance.specs.Safety.{Safe};
 ghost use Rattle.clr_clearance.specs.declared.verdicts.Verdict.TheVariants as verdict;
 ghost use Rattle.clr_steps.specs.Quiet.{Site};
 ghost use Rattle.clr_kept_finders.specs.Fitting.{IsAdmitted};
-ghost use Rattle.clr_check.specs.Answers.{IsAnswer, verdict_of};
+ghost use Rattle.clr_check.specs.Answers.{IsCheckAnswer, verdict_of};
 ghost use Rattle.clr_sites.specs.Certificates.{entries_in, site_of};
 ghost use Rattle.clr_sites.specs.Sites.{AreOfSite, AreParts};
 
@@ -40,7 +40,7 @@ fn verdict_of(fault: SceneFault) -> Verdict
 /// Returns what the tests of cells and needs say of the parts of a site.
 fn judge_parts(alloc: Global, office: &Office, parts: &SiteParts, entries: &[Entry]) -> Verdict
     requires { AreOfSite office.now parts.now }
-    ensures { (s : Site) → AreParts office.now s parts.now → IsAnswer office.now s (entries_in entries.now) result }
+    ensures { (s : Site) → AreParts office.now s parts.now → IsCheckAnswer office.now s (entries_in entries.now) result }
 {
     match parts.scene(alloc, office) {
         Ok(scene) => match first_uncovered(alloc, &scene, entries) {
@@ -64,7 +64,7 @@ fn judge_parts(alloc: Global, office: &Office, parts: &SiteParts, entries: &[Ent
 /// answers to quiet commands is then a cleared run. Nothing that the certificate says is taken to
 /// be true.
 pub fn check(alloc: Global, office: &Office, certificate: &Certificate) -> Verdict
-    ensures answer { IsAnswer office.now (site_of certificate.now) (entries_in certificate.now.entries) result }
+    ensures answer { IsCheckAnswer office.now (site_of certificate.now) (entries_in certificate.now.entries) result }
     ensures free { result ≡ verdict.Clear → StaysFree office.now (site_of certificate.now) }
     ensures safe { result ≡ verdict.Clear → Safe office.now (site_of certificate.now) }
     ensures headline { result ≡ verdict.Clear → Headline office.now (site_of certificate.now) }

@@ -11,7 +11,7 @@ ghost use Rattle.clr_needs.specs.Orders.{version_cmp};
 ghost use Rattle.clr_foot.specs.Scenes.{IsReady, model_of, setting_of};
 ghost use Rattle.clr_needs.specs.Settings.{Lived};
 ghost use Rattle.clr_sites.specs.Certificates.{entries_in};
-ghost use Rattle.clr_check.specs.Entries.{HasCover, IsLeastUncovered, lasts, same_too};
+ghost use Rattle.clr_check.specs.Entries.{HasCover, IsLeastUncovered, lives_with_subject, same_too};
 ghost use Rattle.clr_sites.specs.Told.{IsTold};
 
 use crate::entries::{entries_of, sort_entries};
@@ -57,7 +57,7 @@ fn is_life_of(life: Life, subject: Option<Life>) -> bool
 
 /// Returns whether what lives so stands wherever the subjects do.
 fn lasts(life: Life, first: Option<Life>, second: Option<Life>) -> bool
-    ensures { result ≡ lasts (lifetime life) (option_map lifetime first) (option_map lifetime second) }
+    ensures { result ≡ lives_with_subject (lifetime life) (option_map lifetime first) (option_map lifetime second) }
 {
     are_same(life, Life::Always) || is_life_of(life, first) || is_life_of(life, second)
 }

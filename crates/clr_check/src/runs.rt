@@ -4,7 +4,7 @@ ghost use Rattle.std.specs.Prelude.{◌≡◌, ◌≤◌, [], IfErr, IfOk, OnErr
 ghost use Rattle.clr_clearance.specs.ClearedRuns.{IsClearedRun, IsQuietStart};
 ghost use Rattle.clr_clearance.specs.Verdicts.{IsVerdict};
 ghost use Rattle.clr_clearance.specs.declared.verdicts.Verdict.TheVariants as verdict;
-ghost use Rattle.clr_check.specs.Answers.{IsRefusal};
+ghost use Rattle.clr_check.specs.Answers.{IsRefusingVerdict};
 ghost use Rattle.clr_sites.specs.Certificates.{entries_in, site_of};
 
 use crate::checks::check;
@@ -64,7 +64,7 @@ pub fn perform_cleared(
     certificate: &Certificate,
     commands: &[Command],
 ) -> Result<ClearedRun, Verdict>
-    ensures refused { IfErr result (IsRefusal office.old (site_of certificate.now) (entries_in certificate.now.entries)) }
+    ensures refused { IfErr result (IsRefusingVerdict office.old (site_of certificate.now) (entries_in certificate.now.entries)) }
     ensures unchanged { OnErr result (office.new ≡ office.old) }
     ensures clear { OnOk result (IsVerdict office.old (site_of certificate.now) (entries_in certificate.now.entries) verdict.Clear) }
     ensures start { IfOk result (λ run. IsQuietStart office.old (site_of certificate.now) commands.now run.replies.items office.new run.stopped) }

@@ -4,7 +4,7 @@ use Rattle.clr_steps.specs.Offices.{Office}
 use Rattle.clr_clearance.specs.declared.verdicts.Verdict.{Verdict}
 use Rattle.clr_cert.specs.declared.certificates.Certificate.{Certificate}
 use Rattle.clr_check_texts.specs.Cases.{Case, IsCaseFault}
-use Rattle.clr_check_texts.specs.Checks.{IsChecked, IsJudged, IsVerdictOn, said_of}
+use Rattle.clr_check_texts.specs.Checks.{IsChecked, IsCheckedVerdict, IsVerdictOn, said_of}
 use Rattle.clr_check_texts.specs.declared.cases.CaseFault.{CaseFault}
 use Rattle.clr_check_texts.specs.declared.cases.CaseFault.TheVariants as fault
 
@@ -14,5 +14,5 @@ said given (fault.Unheld o position need) is = (o, is)
 said given (fault.BadCertificate n e) is = is
 said given fault.OutOfMemory is = tt
 
-pub judged : (given : Case) (o : Office) (c : Certificate) (v : Verdict) → given ≡ Ok (o, c) → IsJudged o c v → IsVerdictOn given v
+pub judged : (given : Case) (o : Office) (c : Certificate) (v : Verdict) → given ≡ Ok (o, c) → IsCheckedVerdict o c v → IsVerdictOn given v
 judged given o c v is h = subst (λ g. IsVerdictOn g v) (sym is) h

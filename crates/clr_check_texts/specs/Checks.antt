@@ -7,7 +7,7 @@ use Rattle.clr_clearance.specs.Headline.{Headline}
 use Rattle.clr_clearance.specs.Laws.{StaysFree}
 use Rattle.clr_clearance.specs.Safety.{Safe}
 use Rattle.clr_cert.specs.declared.certificates.Certificate.{Certificate}
-use Rattle.clr_check.specs.Answers.{IsAnswer}
+use Rattle.clr_check.specs.Answers.{IsCheckAnswer}
 use Rattle.clr_sites.specs.Certificates.{entries_in, site_of}
 use Rattle.clr_check_texts.specs.Cases.{Case}
 use Rattle.clr_check_texts.specs.declared.cases.CaseFault.{CaseFault}
@@ -17,15 +17,15 @@ use Rattle.clr_check_texts.specs.declared.checked.Checked.TheVariants as checked
 
 -- the verdict on a certificate, or want of memory where no test of names fails. Where it is clear, the members are safe, as the headline
 -- says in one sentence, and every rule holds in the root with the changes of any of them
-pub record IsJudged (o : Office) (c : Certificate) (v : Verdict) : Type 0 where
-  pub answer : IsAnswer o (site_of c) (entries_in c.entries) v
+pub record IsCheckedVerdict (o : Office) (c : Certificate) (v : Verdict) : Type 0 where
+  pub answer : IsCheckAnswer o (site_of c) (entries_in c.entries) v
   pub free : v ≡ verdict.Clear → StaysFree o (site_of c)
   pub safe : v ≡ verdict.Clear → Safe o (site_of c)
   pub headline : v ≡ verdict.Clear → Headline o (site_of c)
 
 -- it is the verdict on what the texts give
 abbrev pub IsVerdictOn : Case → Verdict → Type 0
-IsVerdictOn (Ok given) v = IsJudged given.0 given.1 v
+IsVerdictOn (Ok given) v = IsCheckedVerdict given.0 given.1 v
 IsVerdictOn (Err why) v = ⊥
 
 -- what is answered, memory aside: the verdict where the texts give an office and a certificate, and else why they don't

@@ -2,7 +2,7 @@
 
 ghost use Rattle.std.specs.Prelude.{◌≡◌, Ok, IfOk, IfErr};
 ghost use Rattle.clr_check_texts.specs.Cases.{IsCaseFault, case_of};
-ghost use Rattle.clr_check_texts.specs.Checks.{IsChecked, IsJudged, said_of};
+ghost use Rattle.clr_check_texts.specs.Checks.{IsChecked, IsCheckedVerdict, said_of};
 
 use crate::cases::{CaseFault, read_case};
 use crate::checked::Checked;
@@ -25,7 +25,7 @@ pub struct TextCheck {
 /// says is taken to be true.
 pub fn judge_texts(alloc: Global, office: &[u8], certificate: &[u8]) -> Result<TextCheck, CaseFault>
     ensures case { IfOk result (λ check. case_of office.now certificate.now ≡ Ok (check.office, check.certificate)) }
-    ensures verdict { IfOk result (λ check. IsJudged check.office check.certificate check.verdict) }
+    ensures verdict { IfOk result (λ check. IsCheckedVerdict check.office check.certificate check.verdict) }
     ensures fault { IfErr result (IsCaseFault (case_of office.now certificate.now)) }
 {
     match read_case(alloc, office, certificate) {

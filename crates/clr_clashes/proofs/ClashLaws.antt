@@ -18,7 +18,7 @@ use Rattle.clr_needs.proofs.NeedSubjects.{subjects_once}
 use Rattle.clr_needs.proofs.PartLaws.{IsPart, possible_up}
 use Rattle.clr_needs.proofs.PartLives.{IsInside}
 use Rattle.clr_needs.proofs.PartPositions.{StandsIn, below_member, is_part, stands_among, stands_of}
-use Rattle.clr_clashes.specs.Clashes.{HoldNoClash, IsClash, IsWithin, LeavesNoneUncovered}
+use Rattle.clr_clashes.specs.Clashes.{HoldNoClash, IsAllIn, IsClash, LeavesNoneUncovered}
 use Rattle.clr_clashes.specs.Laws.{ClashesDecideSubsets}
 use Rattle.clr_clashes.proofs.Lists.{shorter_or_same}
 use Rattle.clr_clashes.proofs.PartNeeds.{are_shown, blockers_inside, touched_down, touched_up, uncovered_down, uncovered_up}
@@ -46,7 +46,7 @@ module _ (rules : List Rule) (root : Content) (sets : List Changes) where
 
   -- ---- members that hold no smallest clash hold none
 
-  no_clash : (list : List ℕ) → HoldNoClash c list → (size : ℕ) (xs : List ℕ) → length xs < size → IsClash c xs → IsWithin xs list → ⊥
+  no_clash : (list : List ℕ) → HoldNoClash c list → (size : ℕ) (xs : List ℕ) → length xs < size → IsClash c xs → IsAllIn xs list → ⊥
   no_clash list none zero xs less clash within = absurd (omega (arith, less))
   no_clash list none (suc size) xs less clash within = none xs (record {
     clash = clash;

@@ -13,35 +13,35 @@ use Rattle.clr_needs.specs.declared.needs.Need.{Need}
 use Rattle.clr_needs.specs.Orders.{need_cmp}
 use Rattle.clr_needs.specs.Settings.{Setting}
 use Rattle.clr_needs.proofs.NeedOrder.{need_total}
-use Rattle.clr_clashes.specs.Clashes.{IsBrokenBy, IsWithin}
-use Rattle.clr_clashes.specs.Keeping.{is_within, with_clash}
+use Rattle.clr_clashes.specs.Clashes.{IsAllIn, IsBrokenBy}
+use Rattle.clr_clashes.specs.Keeping.{is_all_in, with_clash}
 use Rattle.clr_clashes.specs.ListedClashes.{ListedClash, listed_cmp}
 
 -- lists within lists -------------------------------------------------------------------------
 
-pub told_within : (xs ys : List ℕ) → is_within xs ys ≡ true → IsWithin xs ys
+pub told_within : (xs ys : List ℕ) → is_all_in xs ys ≡ true → IsAllIn xs ys
 told_within xs ys e x h = contained x ys (by xs e (among x xs h))
   where
-    by : (xs : List ℕ) → is_within xs ys ≡ true → Among x xs → Among x ys
+    by : (xs : List ℕ) → is_all_in xs ys ≡ true → Among x xs → Among x ys
     by [] e h = absurd h
     by (z ∷ xs) e (inl same) =
-        let (y, there, is) = some_of (λ y. y == z) ys (and_parts (list_any (λ y. y == z) ys) (is_within xs ys) e).0 in
+        let (y, there, is) = some_of (λ y. y == z) ys (and_parts (list_any (λ y. y == z) ys) (is_all_in xs ys) e).0 in
         subst (λ w. Among w ys) ((Decides-eqb y z).0 is ∙ same) there
-    by (z ∷ xs) e (inr h) = by xs (and_parts (list_any (λ y. y == z) ys) (is_within xs ys) e).1 h
+    by (z ∷ xs) e (inr h) = by xs (and_parts (list_any (λ y. y == z) ys) (is_all_in xs ys) e).1 h
 
-pub within_told : (xs ys : List ℕ) → IsWithin xs ys → is_within xs ys ≡ true
+pub within_told : (xs ys : List ℕ) → IsAllIn xs ys → is_all_in xs ys ≡ true
 within_told xs ys within = by xs (λ x h. among x ys (within x (contained x xs h)))
   where
-    by : (xs : List ℕ) → ((x : ℕ) → Among x xs → Among x ys) → is_within xs ys ≡ true
+    by : (xs : List ℕ) → ((x : ℕ) → Among x xs → Among x ys) → is_all_in xs ys ≡ true
     by [] h = refl
-    by (x ∷ xs) h = and_from (list_any (λ y. y == x) ys) (is_within xs ys)
+    by (x ∷ xs) h = and_from (list_any (λ y. y == x) ys) (is_all_in xs ys)
         (any_by (λ y. y == x) x ys (h x (inl refl)) ((Decides-eqb x x).1 refl))
         (by xs (λ y k. h y (inr k)))
 
-within_both : (xs ys zs : List ℕ) → IsWithin xs ys → IsWithin ys zs → IsWithin xs zs
+within_both : (xs ys zs : List ℕ) → IsAllIn xs ys → IsAllIn ys zs → IsAllIn xs zs
 within_both xs ys zs first second x h = second x (first x h)
 
-within_same : (xs ys : List ℕ) → IsStrictlySortedBy nat_cmp xs → IsStrictlySortedBy nat_cmp ys → IsWithin xs ys → IsWithin ys xs → xs ≡ ys
+within_same : (xs ys : List ℕ) → IsStrictlySortedBy nat_cmp xs → IsStrictlySortedBy nat_cmp ys → IsAllIn xs ys → IsAllIn ys xs → xs ≡ ys
 within_same xs ys p q there back = same_rising nat_cmp_total xs ys p q
     (λ x h. among x ys (there x (contained x xs h))) (λ x h. among x xs (back x (contained x ys h)))
 
@@ -64,14 +64,14 @@ module _ (c : Setting ℕ) where
   pub record IsKept (seen : Need → Type 0) (k : ListedClash) : Type 0 where
     pub looked_at : seen k.need
     pub broken : IsBrokenBy c k.need k.members
-    pub smallest : (n : Need) (xs : List ℕ) → seen n → IsBrokenBy c n xs → IsWithin xs k.members → xs ≡ k.members
+    pub smallest : (n : Need) (xs : List ℕ) → seen n → IsBrokenBy c n xs → IsAllIn xs k.members → xs ≡ k.members
     pub least : (n : Need) → seen n → IsBrokenBy c n k.members → ¬ (need_cmp n k.need ≡ Less)
 
   -- and members that break one of these needs hold the members of one that is kept
   pub record AreKept (seen : Need → Type 0) (ks : List ListedClash) : Type 0 where
     pub ascending : IsStrictlySortedBy listed_cmp ks
     pub each : (k : ListedClash) → Contains ks k → IsKept seen k
-    pub every : (n : Need) (xs : List ℕ) → seen n → IsBrokenBy c n xs → (k : ListedClash) × Contains ks k × IsWithin k.members xs
+    pub every : (n : Need) (xs : List ℕ) → seen n → IsBrokenBy c n xs → (k : ListedClash) × Contains ks k × IsAllIn k.members xs
 
   pub none_kept : (seen : Need → Type 0) → ((n : Need) → ¬ (seen n)) → AreKept seen []
   unfolding IsStrictlySortedBy
@@ -88,7 +88,7 @@ module _ (c : Setting ℕ) where
     open step use {later, ahead, it, back}
 
     -- what was kept still is, where the members that break one more need aren't fewer of its own
-    still_kept : (k : ListedClash) → IsKept seen k → ((xs : List ℕ) → IsBrokenBy c n xs → IsWithin xs k.members → xs ≡ k.members) → IsKept next k
+    still_kept : (k : ListedClash) → IsKept seen k → ((xs : List ℕ) → IsBrokenBy c n xs → IsAllIn xs k.members → xs ≡ k.members) → IsKept next k
     still_kept k p same = record {
       looked_at = ahead k.need p.looked_at;
       broken = p.broken;
@@ -96,7 +96,7 @@ module _ (c : Setting ℕ) where
       least = λ m is. least m (back m is);
     }
       where
-        smallest : (m : Need) (xs : List ℕ) → seen m ⊎ (m ≡ n) → IsBrokenBy c m xs → IsWithin xs k.members → xs ≡ k.members
+        smallest : (m : Need) (xs : List ℕ) → seen m ⊎ (m ≡ n) → IsBrokenBy c m xs → IsAllIn xs k.members → xs ≡ k.members
         smallest m xs (inl before) broken within = p.smallest m xs before broken within
         smallest m xs (inr e) broken within = same xs (subst (λ o. IsBrokenBy c o xs) e broken) within
 
@@ -112,17 +112,17 @@ module _ (c : Setting ℕ) where
       every = λ m xs is broken. every m xs (back m is) broken;
     }
       where
-        every : (m : Need) (xs : List ℕ) → seen m ⊎ (m ≡ n) → IsBrokenBy c m xs → (k : ListedClash) × Contains ks k × IsWithin k.members xs
+        every : (m : Need) (xs : List ℕ) → seen m ⊎ (m ≡ n) → IsBrokenBy c m xs → (k : ListedClash) × Contains ks k × IsAllIn k.members xs
         every m xs (inl before) broken = are.every m xs before broken
         every m xs (inr e) broken = absurd (none xs (subst (λ o. IsBrokenBy c o xs) e broken))
 
     module _ (members : List ℕ) (broken : IsBrokenBy c n members) where
       -- the members that break it hold those of one that is kept
-      module _ (j : ListedClash) (there : Contains ks j) (inside : IsWithin j.members members) where
-        same_members : (k : ListedClash) → IsKept seen k → (xs : List ℕ) → IsBrokenBy c n xs → IsWithin xs k.members → xs ≡ k.members
+      module _ (j : ListedClash) (there : Contains ks j) (inside : IsAllIn j.members members) where
+        same_members : (k : ListedClash) → IsKept seen k → (xs : List ℕ) → IsBrokenBy c n xs → IsAllIn xs k.members → xs ≡ k.members
         same_members k p xs breaks within =
             let same = one n xs members breaks broken in
-            let j_in_xs : IsWithin j.members xs = (λ x h. subst (λ ys. Contains ys x) (sym same) (inside x h)) in
+            let j_in_xs : IsAllIn j.members xs = (λ x h. subst (λ ys. Contains ys x) (sym same) (inside x h)) in
             let is = are.each j there in
             let e = p.smallest j.need j.members is.looked_at is.broken (within_both j.members xs k.members j_in_xs within) in
             within_same xs k.members (rises n xs breaks) (rises k.need k.members p.broken) within (λ x h. j_in_xs x (subst (λ ys. Contains ys x) (sym e) h))
@@ -134,24 +134,24 @@ module _ (c : Setting ℕ) where
           every = λ m xs is breaks. every m xs (back m is) breaks;
         }
           where
-            every : (m : Need) (xs : List ℕ) → seen m ⊎ (m ≡ n) → IsBrokenBy c m xs → (k : ListedClash) × Contains ks k × IsWithin k.members xs
+            every : (m : Need) (xs : List ℕ) → seen m ⊎ (m ≡ n) → IsBrokenBy c m xs → (k : ListedClash) × Contains ks k × IsAllIn k.members xs
             every m xs (inl before) breaks = are.every m xs before breaks
             every m xs (inr e) breaks =
                 let same = one n xs members (subst (λ o. IsBrokenBy c o xs) e breaks) broken in
                 (j, there, λ x h. subst (λ ys. Contains ys x) (sym same) (inside x h))
 
       -- they hold those of none
-      module _ (none : (j : ListedClash) → Contains ks j → ¬ (IsWithin j.members members)) where
+      module _ (none : (j : ListedClash) → Contains ks j → ¬ (IsAllIn j.members members)) where
         abbrev clash : ListedClash
         clash = record { members = members; need = n }
 
         abbrev stays : ListedClash → Bool
-        stays j = not (is_within members j.members)
+        stays j = not (is_all_in members j.members)
 
         abbrev after : List ListedClash
         after = filter stays ks ++ clash ∷ []
 
-        no_smaller : (m : Need) (xs : List ℕ) → seen m → IsBrokenBy c m xs → ¬ (IsWithin xs members)
+        no_smaller : (m : Need) (xs : List ℕ) → seen m → IsBrokenBy c m xs → ¬ (IsAllIn xs members)
         no_smaller m xs before breaks within =
             let (j, there, inside) = are.every m xs before breaks in
             none j there (within_both j.members xs members inside within)
@@ -171,7 +171,7 @@ module _ (c : Setting ℕ) where
         }
 
         -- what stays doesn't hold them
-        not_held : (j : ListedClash) → stays j ≡ true → ¬ (IsWithin members j.members)
+        not_held : (j : ListedClash) → stays j ≡ true → ¬ (IsAllIn members j.members)
         not_held j e within = false≢true (sym (ap not (within_told members j.members within)) ∙ e)
 
         stayed : (k : ListedClash) → Among k (filter stays ks) → Among k ks × (stays k ≡ true)
@@ -195,16 +195,16 @@ module _ (c : Setting ℕ) where
         at_end : Contains after clash
         at_end = contained clash after (among_right clash (filter stays ks) (clash ∷ []) (inl refl))
 
-        every_after : (m : Need) (xs : List ℕ) → seen m ⊎ (m ≡ n) → IsBrokenBy c m xs → (k : ListedClash) × Contains after k × IsWithin k.members xs
+        every_after : (m : Need) (xs : List ℕ) → seen m ⊎ (m ≡ n) → IsBrokenBy c m xs → (k : ListedClash) × Contains after k × IsAllIn k.members xs
         every_after m xs (inr e) breaks =
             let same = one n xs members (subst (λ o. IsBrokenBy c o xs) e breaks) broken in
             (clash, at_end, λ x h. subst (λ ys. Contains ys x) (sym same) h)
         every_after m xs (inl before) breaks =
             let (j, there, inside) = are.every m xs before breaks in
-            by j there inside (cases_Bool (is_within members j.members))
+            by j there inside (cases_Bool (is_all_in members j.members))
           where
-            by : (j : ListedClash) → Contains ks j → IsWithin j.members xs → (is_within members j.members ≡ true) ⊎ (is_within members j.members ≡ false)
-                → (k : ListedClash) × Contains after k × IsWithin k.members xs
+            by : (j : ListedClash) → Contains ks j → IsAllIn j.members xs → (is_all_in members j.members ≡ true) ⊎ (is_all_in members j.members ≡ false)
+                → (k : ListedClash) × Contains after k × IsAllIn k.members xs
             by j there inside (inl e) = (clash, at_end, within_both members j.members xs (told_within members j.members e) inside)
             by j there inside (inr e) =
                 (j, contained j after (among_left j (filter stays ks) (clash ∷ []) (kept_among stays j ks (among j ks there) (ap not e))), inside)
@@ -217,12 +217,12 @@ module _ (c : Setting ℕ) where
         }
 
       pub kept_with_clash : AreKept next (with_clash ks (record { members = members; need = n }))
-      kept_with_clash = by (list_any (λ (j : ListedClash). is_within j.members members) ks) refl
+      kept_with_clash = by (list_any (λ (j : ListedClash). is_all_in j.members members) ks) refl
         where
-          by : (b : Bool) → list_any (λ (j : ListedClash). is_within j.members members) ks ≡ b
-              → AreKept next (cond b ks (filter (λ (j : ListedClash). not (is_within members j.members)) ks ++ record { members = members; need = n } ∷ []))
+          by : (b : Bool) → list_any (λ (j : ListedClash). is_all_in j.members members) ks ≡ b
+              → AreKept next (cond b ks (filter (λ (j : ListedClash). not (is_all_in members j.members)) ks ++ record { members = members; need = n } ∷ []))
           by true e =
-              let (j, there, is) = some_of (λ (j : ListedClash). is_within j.members members) ks e in
+              let (j, there, is) = some_of (λ (j : ListedClash). is_all_in j.members members) ks e in
               kept_beside_larger j (contained j ks there) (told_within j.members members is)
           by false e = kept_with_smaller (λ j there within.
-              false≢true (sym e ∙ any_by (λ (j : ListedClash). is_within j.members members) j ks (among j ks there) (within_told j.members members within)))
+              false≢true (sym e ∙ any_by (λ (j : ListedClash). is_all_in j.members members) j ks (among j ks there) (within_told j.members members within)))

@@ -17,7 +17,7 @@ use Rattle.clr_needs.specs.Settings.{Setting, Lifetime, With, Without, Lived}
 use Rattle.clr_needs.proofs.Reading.{all_taken, none_taken, one_more, read_in}
 use Rattle.clr_needs.proofs.NeedOrder.{need_exact, need_total}
 use Rattle.clr_clashes.specs.Clashes.{IsBrokenBy}
-use Rattle.clr_clashes.specs.Keeping.{IsNoted}
+use Rattle.clr_clashes.specs.Keeping.{AddsNeedClash}
 use Rattle.clr_clashes.specs.Laws.{ListedClashesDecideSubsets}
 use Rattle.clr_clashes.specs.ListedClashes.{AreSmallestClashes, IsListedClash, ListedClash}
 use Rattle.clr_clashes.proofs.ClashLaws.{clashes_decide}
@@ -109,7 +109,7 @@ module _ (c : Setting ℕ) (needs read : List Need) (touched : AreTouchedNeeds c
     step : IsNext c before next n
     step = record { later = later; ahead = ahead; it = it; back = back }
 
-    pub one_noted : IsNoted c n old new → AreKeptTo (k + 1) new
+    pub one_noted : AddsNeedClash c n old new → AreKeptTo (k + 1) new
     one_noted (inl (p, picks, stays)) = subst (AreKeptTo (k + 1)) (sym stays) (kept_beside_covered c before next n step old are
         (λ xs broken. (let (a, b, uncovered) = broken.uncovered in picked_covered c n a b p (picks a b uncovered.possible) uncovered)))
     one_noted (inr (members, none, blocks, is)) = subst (AreKeptTo (k + 1)) (sym is) (kept_with_clash c before next n step old are members broken)

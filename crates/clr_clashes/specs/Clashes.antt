@@ -7,8 +7,8 @@ use Rattle.clr_needs.specs.Picks.{Blocks}
 use Rattle.clr_needs.specs.Settings.{Setting}
 
 -- all of one list are in another
-abbrev pub IsWithin : List ℕ → List ℕ → Type 0
-IsWithin xs ys = (x : ℕ) → Contains xs x → Contains ys x
+abbrev pub IsAllIn : List ℕ → List ℕ → Type 0
+IsAllIn xs ys = (x : ℕ) → Contains xs x → Contains ys x
 
 -- a touched need that nothing covers, and exactly the members that break it, ascending
 pub record IsBrokenBy (c : Setting ℕ) (n : Need) (list : List ℕ) : Type 0 where
@@ -23,7 +23,7 @@ IsClash c list = (n : Need) × IsBrokenBy c n list
 -- a clash that holds no other
 pub record IsSmallestClash (c : Setting ℕ) (list : List ℕ) : Type 0 where
   pub clash : IsClash c list
-  pub smallest : (other : List ℕ) → IsClash c other → IsWithin other list → other ≡ list
+  pub smallest : (other : List ℕ) → IsClash c other → IsAllIn other list → other ≡ list
 
 -- nothing that is touched is left uncovered
 abbrev pub LeavesNoneUncovered : Setting ℕ → Type 0
@@ -31,4 +31,4 @@ LeavesNoneUncovered c = (n : Need) → IsTouched c n → ¬ (IsUncoveredNeed c n
 
 -- some members hold none of the smallest clashes
 abbrev pub HoldNoClash : Setting ℕ → List ℕ → Type 0
-HoldNoClash c positions = (list : List ℕ) → IsSmallestClash c list → ¬ (IsWithin list positions)
+HoldNoClash c positions = (list : List ℕ) → IsSmallestClash c list → ¬ (IsAllIn list positions)

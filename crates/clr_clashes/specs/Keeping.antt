@@ -8,14 +8,14 @@ use Rattle.clr_needs.specs.Settings.{Setting}
 use Rattle.clr_clashes.specs.ListedClashes.{ListedClash}
 
 -- all of one list are in another
-abbrev pub is_within : List ℕ → List ℕ → Bool
-is_within xs ys = list_all (λ x. list_any (λ y. y == x) ys) xs
+abbrev pub is_all_in : List ℕ → List ℕ → Bool
+is_all_in xs ys = list_all (λ x. list_any (λ y. y == x) ys) xs
 
 -- one more clash: nothing changes where it holds one that is there; else those that hold it give way to it
 abbrev pub with_clash : List ListedClash → ListedClash → List ListedClash
-with_clash ks k = if list_any (λ j. is_within j.members k.members) ks then ks else filter (λ j. not (is_within k.members j.members)) ks ++ k ∷ []
+with_clash ks k = if list_any (λ j. is_all_in j.members k.members) ks then ks else filter (λ j. not (is_all_in k.members j.members)) ks ++ k ∷ []
 
 -- one more need: nothing changes where witnesses are picked for it; else the members that break it are added
-abbrev pub IsNoted : Setting ℕ → Need → List ListedClash → List ListedClash → Type 0
-IsNoted c n old new = ((p : VersionId × Option VersionId) × Picks c n (Some p) × (new ≡ old))
+abbrev pub AddsNeedClash : Setting ℕ → Need → List ListedClash → List ListedClash → Type 0
+AddsNeedClash c n old new = ((p : VersionId × Option VersionId) × Picks c n (Some p) × (new ≡ old))
     ⊎ ((members : List ℕ) × Picks c n None × Blocks c n members × (new ≡ with_clash old (record { members = members; need = n })))

@@ -7,15 +7,15 @@ use Rattle.clr_needs.specs.Needs.{Lists}
 use Rattle.clr_needs.specs.Orders.{need_cmp}
 use Rattle.clr_needs.specs.Settings.{Setting}
 use Rattle.clr_clashes.specs.declared.listing.Clash.{Clash}
-use Rattle.clr_clashes.specs.Clashes.{IsBrokenBy, IsClash, IsSmallestClash, IsWithin}
+use Rattle.clr_clashes.specs.Clashes.{IsAllIn, IsBrokenBy, IsClash, IsSmallestClash}
 
 -- members and a need, as a list of clashes has them
 pub record ListedClash : Type 0 where
   pub members : List ℕ
   pub need : Need
 
-abbrev pub clash_of : Clash → ListedClash
-clash_of k = record { members = k.members.items; need = k.need }
+abbrev pub listed_clash_of : Clash → ListedClash
+listed_clash_of k = record { members = k.members.items; need = k.need }
 
 -- listed clashes are ordered by need
 abbrev pub listed_cmp : ListedClash → ListedClash → Ordering
@@ -30,8 +30,8 @@ pub record IsListedClash (c : Setting ℕ) (k : ListedClash) : Type 0 where
 -- exactly the smallest clashes, each once, in the order of their needs; and each clash holds one of them
 pub record AreSmallestClashes (c : Setting ℕ) (ks : List ListedClash) : Type 0 where
   pub lists : Lists listed_cmp (IsListedClash c) ks
-  pub every : (list : List ℕ) → IsClash c list → (k : ListedClash) × Contains ks k × IsWithin k.members list
+  pub every : (list : List ℕ) → IsClash c list → (k : ListedClash) × Contains ks k × IsAllIn k.members list
 
 -- some members hold none of the listed clashes
 abbrev pub HoldNoneOf : List ListedClash → List ℕ → Type 0
-HoldNoneOf ks positions = (k : ListedClash) → Contains ks k → ¬ (IsWithin k.members positions)
+HoldNoneOf ks positions = (k : ListedClash) → Contains ks k → ¬ (IsAllIn k.members positions)

@@ -5,8 +5,8 @@ ghost use Rattle.std.specs.Prelude.{◌≡◌, map, IfOk, OnOk};
 ghost use Rattle.std.specs.List.{list_any};
 ghost use Rattle.clr_needs.specs.Needs.{IsPossibleNeed};
 ghost use Rattle.clr_foot.specs.Scenes.{IsReady, model_of, setting_of};
-ghost use Rattle.clr_clashes.specs.Keeping.{IsNoted, is_within, with_clash};
-ghost use Rattle.clr_clashes.specs.ListedClashes.{AreSmallestClashes, clash_of};
+ghost use Rattle.clr_clashes.specs.Keeping.{AddsNeedClash, is_all_in, with_clash};
+ghost use Rattle.clr_clashes.specs.ListedClashes.{AreSmallestClashes, listed_clash_of};
 
 use clr_finders::RowFinder;
 use clr_foot::Scene;
@@ -23,14 +23,14 @@ pub struct Clash {
 
 /// Returns whether all of some members are among others.
 fn is_within(members: &[u16], others: &[u16]) -> bool
-    ensures { result ≡ is_within members.now others.now }
+    ensures { result ≡ is_all_in members.now others.now }
 {
     members.iter().all(|member| others.contains(member))
 }
 
 /// Returns whether the members of one of some clashes are all among some members.
 fn hold_clash(clashes: &[Clash], members: &[u16]) -> bool
-    ensures { result ≡ list_any (λ k. is_within k.members.items members.now) clashes.now }
+    ensures { result ≡ list_any (λ k. is_all_in k.members.items members.now) clashes.now }
 {
     clashes
         .iter()
@@ -39,7 +39,7 @@ fn hold_clash(clashes: &[Clash], members: &[u16]) -> bool
 
 /// Adds a clash, unless it holds one that is there, and drops those that hold it.
 fn add_clash(clashes: &mut Vec<Clash>, clash: Clash) -> Result<(), AllocError>
-    ensures { OnOk result (map clash_of clashes.new.items ≡ with_clash (map clash_of clashes.old.items) (clash_of clash)) }
+    ensures { OnOk result (map listed_clash_of clashes.new.items ≡ with_clash (map listed_clash_of clashes.old.items) (listed_clash_of clash)) }
 {
     if hold_clash(clashes.as_slice(), clash.members.as_slice()) {
         return Ok(());
@@ -57,7 +57,8 @@ fn note_need<V: RowView, F: RowFinder>(
 ) -> Result<(), AllocError>
     requires ready { IsReady F.settled (model_of V.content scene.now) }
     requires possible { IsPossibleNeed (setting_of (model_of V.content scene.now)) need.now }
-    ensures { OnOk result (IsNoted (setting_of (model_of V.content scene.now)) need.now (map clash_of clashes.old.items) (map clash_of clashes.new.items)) }
+    ensures { OnOk result (AddsNeedClash (setting_of (model_of V.content scene.now)) need.now
+        (map listed_clash_of clashes.old.items) (map listed_clash_of clashes.new.items)) }
 {
     match scene.pick(need)? {
         Some(_) => Ok(()),
@@ -82,7 +83,7 @@ pub fn clashes<V: RowView, F: RowFinder>(
     scene: &Scene<'_, V, F>,
 ) -> Result<Vec<Clash>, AllocError>
     requires ready { IsReady F.settled (model_of V.content scene.now) }
-    ensures { IfOk result (λ list. AreSmallestClashes (setting_of (model_of V.content scene.now)) (map clash_of list.items)) }
+    ensures { IfOk result (λ list. AreSmallestClashes (setting_of (model_of V.content scene.now)) (map listed_clash_of list.items)) }
 {
     let needs = scene.touched_needs()?;
     let mut list = Vec::new(alloc);

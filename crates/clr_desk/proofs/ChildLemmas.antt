@@ -9,7 +9,7 @@ use Rattle.clr_steps.specs.Offices.{Office}
 use Rattle.clr_steps.specs.Readings.{name_at}
 use Rattle.clr_clearance.specs.Sites.{is_child}
 use Rattle.clr_sites.specs.SiteNames.{site}
-use Rattle.clr_desk.specs.Choices.{child_in, children_of}
+use Rattle.clr_desk.specs.Choices.{child_in, children_of_root}
 
 module _ (o : Office) (root : Name) where
   abbrev names : List Name
@@ -35,7 +35,7 @@ module _ (o : Office) (root : Name) where
       filter_more (is_child o (site root [])) names k [] inside ∙ ap (λ (r : Option Name). children_to k ++ child_in o root r) (sym (named k less))
 
   -- all workspaces
-  pub all : (k : ℕ) → length o.workspaces ≤ k → children_to k ≡ children_of o root
+  pub all : (k : ℕ) → length o.workspaces ≤ k → children_to k ≡ children_of_root o root
   all k past = ap (filter (is_child o (site root []))) (take_all k names
       (let count = length-map o.workspaces (λ (w : Workspace). w.name) in omega (arith, past, count)))
 

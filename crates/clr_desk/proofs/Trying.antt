@@ -15,9 +15,9 @@ use Rattle.clr_plan.specs.declared.plans.Plan.TheVariants as plan
 use Rattle.clr_plan.specs.Promises.{is_out_of_memory}
 use Rattle.clr_office.specs.Outcomes.{IsPlanned}
 use Rattle.clr_cert.specs.Texts.{certificate_text}
-use Rattle.clr_desk.specs.Choices.{AreTrials, IsChoicePrint, IsTrialAt, Trial, is_taken, left_text, members_asked, members_of, names_line, of_trials}
+use Rattle.clr_desk.specs.Choices.{AreTrials, IsChoicePrint, IsTrialAt, Trial, is_taken, left_text, members_or_children, members_tried, names_line, of_trials}
 use Rattle.clr_desk.specs.Choices.{refusal_text, taken_in}
-use Rattle.clr_prints.specs.Printing.{print_of, printed}
+use Rattle.clr_prints.specs.Printing.{printed, printout_of}
 use Rattle.clr_prints.specs.declared.prints.Print.{Print}
 use Rattle.clr_desk.specs.Trials.{IsAdded, IsChosen, IsTried}
 use Rattle.clr_desk.specs.declared.choices.Choice.{Choice}
@@ -137,8 +137,8 @@ module _ (o : Office) (root : Name) where
         or_true true = refl
         or_true false = refl
 
-        said : (t : Trial) → is_taken t ≡ false → left_text o root t ≡ refusal_text o.schema root (members_of t) t.name t.plan
-        said t e = ap (λ b. cond b [] (refusal_text o.schema root (members_of t) t.name t.plan)) e
+        said : (t : Trial) → is_taken t ≡ false → left_text o root t ≡ refusal_text o.schema root (members_tried t) t.name t.plan
+        said t e = ap (λ b. cond b [] (refusal_text o.schema root (members_tried t) t.name t.plan)) e
 
 -- all names are tried
 pub all_tried : (o : Office) (root : Name) (names : List Name) (at : ℕ) (choice : Choice) → length names ≤ at → IsChosen o root (take at names) choice
@@ -147,8 +147,8 @@ all_tried o root names at choice past h = subst (λ ns. IsChosen o root ns choic
 
 -- what is printed of a choice among the members that names ask for
 pub choice_printed : {E : Type 0} (o : Office) (root : Name) (names : List Name) (choice : Choice) (result : Result Print E)
-    → IsChosen o root (members_asked o root names) choice
-    → IfOk result (λ p. printed p ≡ print_of (certificate_text o.schema choice.certificate)
+    → IsChosen o root (members_or_children o root names) choice
+    → IfOk result (λ p. printed p ≡ printout_of (certificate_text o.schema choice.certificate)
     (names_line (codes "kept") choice.taken.items ++ choice.left.items) choice.is_any_left false)
     → IfOk result (λ p. IsChoicePrint root names o (printed p))
 choice_printed o root names choice (Ok p) (trials, are, made) is =

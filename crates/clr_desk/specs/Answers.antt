@@ -19,38 +19,40 @@ use Rattle.clr_desk.specs.Geographic.{IsGeographicAnswer}
 use Rattle.clr_desk.specs.Merges.{IsHintedMerge}
 use Rattle.clr_prints.specs.NameHints.{IsHinted}
 use Rattle.clr_desk.specs.Orders.{IsOrderPrint}
-use Rattle.clr_prints.specs.Printing.{IsPrintIn, IsPrintOfCase, IsTextFault, Printed, Printout}
+use Rattle.clr_prints.specs.Printing.{IsPrintoutFault, IsPrintoutIn, IsPrintoutOfCase, Printout, PrintoutOrFault}
 use Rattle.clr_desk.specs.Whys.{IsWhyPrint}
 use Rattle.clr_desk_pages.specs.Maps.{IsMapPrint}
 use Rattle.clr_desk_pages.specs.Reports.{IsReportPrint}
 
 -- what is to be printed for what is asked of an office text, a second text and layers
-abbrev pub IsAnswerWithin : Ask → List ℕ → List ℕ → List GivenLayer → Printed → Type 0
-IsAnswerWithin (ask.Certificate root names) office second layers print =
-    IsPrintIn (IsHinted (IsCertificatePrint (site root names)) (root ∷ names)) (draft_in office) print
-IsAnswerWithin (ask.Merge names) office certificate layers print = IsPrintOfCase (IsHintedMerge names) (case_of office certificate) print
-IsAnswerWithin ask.Format office second layers print = IsPrintIn IsFormatPrint (draft_in office) print
-IsAnswerWithin (ask.Keep root names) office second layers print = IsPrintIn (IsHinted (IsChoicePrint root names) (root ∷ names)) (draft_in office) print
-IsAnswerWithin (ask.Clashes root names) office second layers print = IsPrintIn (IsHinted (IsClashesPrint root names) (root ∷ names)) (draft_in office) print
-IsAnswerWithin (ask.Why kind) office second layers print = IsWhyPrint kind office second print
-IsAnswerWithin (ask.Map root names) office second layers print = IsPrintIn (IsHinted (IsMapPrint (site root names)) (root ∷ names)) (draft_in office) print
-IsAnswerWithin (ask.Report root names) office second layers print =
-    IsPrintIn (IsHinted (IsReportPrint (site root names)) (root ∷ names)) (draft_in office) print
-IsAnswerWithin (ask.WorkOrder root names) office second layers print =
-    IsPrintIn (IsHinted (IsOrderPrint (site root names)) (root ∷ names)) (draft_in office) print
-IsAnswerWithin (ask.Geographic asked) office second layers print = IsGeographicAnswer asked office layers print
+abbrev pub IsDeskAnswerWithin : Ask → List ℕ → List ℕ → List GivenLayer → PrintoutOrFault → Type 0
+IsDeskAnswerWithin (ask.Certificate root names) office second layers print =
+    IsPrintoutIn (IsHinted (IsCertificatePrint (site root names)) (root ∷ names)) (draft_in office) print
+IsDeskAnswerWithin (ask.Merge names) office certificate layers print = IsPrintoutOfCase (IsHintedMerge names) (case_of office certificate) print
+IsDeskAnswerWithin ask.Format office second layers print = IsPrintoutIn IsFormatPrint (draft_in office) print
+IsDeskAnswerWithin (ask.Keep root names) office second layers print = IsPrintoutIn (IsHinted (IsChoicePrint root names) (root ∷ names)) (draft_in office) print
+IsDeskAnswerWithin (ask.Clashes root names) office second layers print =
+    IsPrintoutIn (IsHinted (IsClashesPrint root names) (root ∷ names)) (draft_in office) print
+IsDeskAnswerWithin (ask.Why kind) office second layers print = IsWhyPrint kind office second print
+IsDeskAnswerWithin (ask.Map root names) office second layers print =
+    IsPrintoutIn (IsHinted (IsMapPrint (site root names)) (root ∷ names)) (draft_in office) print
+IsDeskAnswerWithin (ask.Report root names) office second layers print =
+    IsPrintoutIn (IsHinted (IsReportPrint (site root names)) (root ∷ names)) (draft_in office) print
+IsDeskAnswerWithin (ask.WorkOrder root names) office second layers print =
+    IsPrintoutIn (IsHinted (IsOrderPrint (site root names)) (root ∷ names)) (draft_in office) print
+IsDeskAnswerWithin (ask.Geographic asked) office second layers print = IsGeographicAnswer asked office layers print
 
 -- the same where `too_long` says whether a text is
-abbrev pub IsAnswerIf : Bool → Ask → List ℕ → List ℕ → List GivenLayer → Printed → Type 0
-IsAnswerIf true asked office second layers print = print ≡ Err run_fault.TooLong
-IsAnswerIf false asked office second layers print = IsAnswerWithin asked office second layers print
+abbrev pub IsDeskAnswerIf : Bool → Ask → List ℕ → List ℕ → List GivenLayer → PrintoutOrFault → Type 0
+IsDeskAnswerIf true asked office second layers print = print ≡ Err run_fault.TooLong
+IsDeskAnswerIf false asked office second layers print = IsDeskAnswerWithin asked office second layers print
 
 abbrev pub is_too_long_layer : GivenLayer → Bool
 is_too_long_layer layer = is_too_long layer.text.items
 
-abbrev pub IsAnswerTo : Ask → List ℕ → List ℕ → List GivenLayer → Printed → Type 0
-IsAnswerTo asked office second layers print =
-    IsAnswerIf (is_too_long office || is_too_long second || list_any is_too_long_layer layers) asked office second layers print
+abbrev pub IsDeskAnswerTo : Ask → List ℕ → List ℕ → List GivenLayer → PrintoutOrFault → Type 0
+IsDeskAnswerTo asked office second layers print =
+    IsDeskAnswerIf (is_too_long office || is_too_long second || list_any is_too_long_layer layers) asked office second layers print
 
 -- the sink of the text and that of the notes: what each held before and holds now, where it tells, and whether it failed
 pub record Sinks : Type 0 where
@@ -73,7 +75,7 @@ abbrev pub IsTorn : Sinks → Type 0
 IsTorn sinks = (sinks.text_failed ≡ true) ⊎ ((sinks.notes_failed ≡ true) × (sinks.text_holds ≡ sinks.text_held))
 
 -- what is asked is answered so: its text and its notes went out, or it has this fault, or a sink failed
-abbrev pub IsAnswer : (Printed → Type 0) → Sinks → Result ℕ RunFault → Type 0
-IsAnswer IsPrint sinks (Ok status) = (print : Printout) × IsPrint (Ok print) × (print.status ≡ status) × WentOut sinks print
-IsAnswer IsPrint sinks (Err run_fault.WriteFailed) = IsTorn sinks
-IsAnswer IsPrint sinks (Err e) = IsTextFault IsPrint e
+abbrev pub IsDeskAnswer : (PrintoutOrFault → Type 0) → Sinks → Result ℕ RunFault → Type 0
+IsDeskAnswer IsPrint sinks (Ok status) = (print : Printout) × IsPrint (Ok print) × (print.status ≡ status) × WentOut sinks print
+IsDeskAnswer IsPrint sinks (Err run_fault.WriteFailed) = IsTorn sinks
+IsDeskAnswer IsPrint sinks (Err e) = IsPrintoutFault IsPrint e

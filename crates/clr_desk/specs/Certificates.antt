@@ -8,12 +8,12 @@ use Rattle.clr_plan.specs.declared.plans.Plan.TheVariants as plan
 use Rattle.clr_plan.specs.Promises.{is_out_of_memory}
 use Rattle.clr_plan_lines.specs.Plans.{plan_text}
 use Rattle.clr_office.specs.Outcomes.{IsPlanned}
-use Rattle.clr_prints.specs.Printing.{Printed, print_of}
+use Rattle.clr_prints.specs.Printing.{PrintoutOrFault, printout_of}
 
 -- the certificate of a cleared plan; of any other its lines, as notes, which counts as a refusal
-abbrev pub plan_print : Office → Site → Plan → Printed
-plan_print o s (plan.Cleared c) = print_of (certificate_text o.schema c) [] false false
-plan_print o s p = print_of [] (plan_text o.schema s.members s.root p) true (is_out_of_memory p)
+abbrev pub plan_print : Office → Site → Plan → PrintoutOrFault
+plan_print o s (plan.Cleared c) = printout_of (certificate_text o.schema c) [] false false
+plan_print o s p = printout_of [] (plan_text o.schema s.members s.root p) true (is_out_of_memory p)
 
-abbrev pub IsCertificatePrint : Site → Office → Printed → Type 0
+abbrev pub IsCertificatePrint : Site → Office → PrintoutOrFault → Type 0
 IsCertificatePrint s o print = (p : Plan) × IsPlanned o s p × (print ≡ plan_print o s p)

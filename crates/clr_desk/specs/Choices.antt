@@ -15,11 +15,11 @@ use Rattle.clr_plan.specs.Promises.{is_cleared, is_out_of_memory}
 use Rattle.clr_plan_lines.specs.Plans.{plan_text}
 use Rattle.clr_office.specs.Outcomes.{IsPlanned}
 use Rattle.clr_desk.specs.Certificates.{plan_print}
-use Rattle.clr_prints.specs.Printing.{Printed, print_of}
+use Rattle.clr_prints.specs.Printing.{PrintoutOrFault, printout_of}
 
 -- the children of a root, in order of creation
-abbrev pub children_of : Office → Name → List Name
-children_of o root = filter (is_child o (site root [])) (map (λ w. w.name) o.workspaces)
+abbrev pub children_of_root : Office → Name → List Name
+children_of_root o root = filter (is_child o (site root [])) (map (λ w. w.name) o.workspaces)
 
 -- a name in a list, where it is that of a child of the root
 abbrev pub child_in : Office → Name → Option Name → List Name
@@ -27,9 +27,9 @@ child_in o root None = []
 child_in o root (Some name) = if is_child o (site root []) name then name ∷ [] else []
 
 -- the members that names ask for: these, or all children where there are none
-abbrev pub members_asked : Office → Name → List Name → List Name
-members_asked o root [] = children_of o root
-members_asked o root (name ∷ names) = name ∷ names
+abbrev pub members_or_children : Office → Name → List Name → List Name
+members_or_children o root [] = children_of_root o root
+members_or_children o root (name ∷ names) = name ∷ names
 
 -- trials -------------------------------------------------------------------------------------
 
@@ -43,8 +43,8 @@ abbrev pub is_taken : Trial → Bool
 is_taken t = is_cleared t.plan
 
 -- those taken before a name, and then it
-abbrev pub members_of : Trial → List Name
-members_of t = t.before ++ t.name ∷ []
+abbrev pub members_tried : Trial → List Name
+members_tried t = t.before ++ t.name ∷ []
 
 -- the names of the trials that are cleared
 abbrev pub taken_in : List Trial → List Name
@@ -53,7 +53,7 @@ taken_in trials = map (λ t. t.name) (filter is_taken trials)
 -- the trial at a position: of those taken at earlier ones and its name there is this plan, with what it promises, and memory was found
 pub record IsTrialAt (o : Office) (root : Name) (trials : List Trial) (at : ℕ) (t : Trial) : Type 0 where
   pub before : t.before ≡ taken_in (take at trials)
-  pub planned : IsPlanned o (site root (members_of t)) t.plan
+  pub planned : IsPlanned o (site root (members_tried t)) t.plan
   pub found : is_out_of_memory t.plan ≡ false
 
 -- these names are tried in their order
@@ -73,17 +73,17 @@ refusal_text tables root members name p = codes "left " ++ name ++ codes "\n" ++
 
 -- these of a name that is left, and nothing of one that is taken
 abbrev pub left_text : Office → Name → Trial → List ℕ
-left_text o root t = if is_taken t then [] else refusal_text o.schema root (members_of t) t.name t.plan
+left_text o root t = if is_taken t then [] else refusal_text o.schema root (members_tried t) t.name t.plan
 
 -- the certificate of those taken, and as notes who they are, and why each other is left, which counts as a refusal
-abbrev pub choice_print : Office → Name → List Trial → Certificate → Printed
+abbrev pub choice_print : Office → Name → List Trial → Certificate → PrintoutOrFault
 choice_print o root trials c =
-    print_of (certificate_text o.schema c) (names_line (codes "kept") (taken_in trials) ++ flat_map (left_text o root) trials)
+    printout_of (certificate_text o.schema c) (names_line (codes "kept") (taken_in trials) ++ flat_map (left_text o root) trials)
     (list_any (λ t. not (is_taken t)) trials) false
 
 -- names are tried in their order, and the plan of those taken is cleared by this certificate; or no plan of the root is cleared, not even that of nobody
-pub data IsChoicePrint (root : Name) (names : List Name) (o : Office) (print : Printed) : Type 0 where
-  of_trials : (trials : List Trial) (c : Certificate) → AreTrials o root (members_asked o root names) trials
+pub data IsChoicePrint (root : Name) (names : List Name) (o : Office) (print : PrintoutOrFault) : Type 0 where
+  of_trials : (trials : List Trial) (c : Certificate) → AreTrials o root (members_or_children o root names) trials
       → IsPlanned o (site root (taken_in trials)) (plan.Cleared c)
       → print ≡ choice_print o root trials c → IsChoicePrint root names o print
   of_nobody : (p : Plan) → IsPlanned o (site root []) p → is_cleared p ≡ false → print ≡ plan_print o (site root []) p → IsChoicePrint root names o print

@@ -12,28 +12,28 @@ use Rattle.clr_sites.specs.SiteNames.{site}
 use Rattle.clr_lines.specs.Reports.{count_line}
 use Rattle.clr_verdict_lines.specs.Verdicts.{verdict_text}
 use Rattle.clr_plan.specs.declared.plans.Plan.TheVariants as plan
-use Rattle.clr_site_clashes.specs.SiteClashes.{IsFound}
+use Rattle.clr_site_clashes.specs.SiteClashes.{FindsClashes}
 use Rattle.clr_site_clashes.specs.declared.site_sets.SiteClash.{SiteClash}
 use Rattle.clr_site_clashes.specs.declared.site_sets.SiteClashes.{SiteClashes}
 use Rattle.clr_desk.specs.Certificates.{plan_print}
-use Rattle.clr_desk.specs.Choices.{members_asked, names_line}
-use Rattle.clr_prints.specs.Printing.{Printed, print_of}
+use Rattle.clr_desk.specs.Choices.{members_or_children, names_line}
+use Rattle.clr_prints.specs.Printing.{PrintoutOrFault, printout_of}
 
 -- the members of a set, and why they can't be merged together
 abbrev pub clash_text : List TableDef → Site → SiteClash → List ℕ
 clash_text tables s k =
     names_line (codes "clash") (names_at s k.members.items) ++ codes "cause " ++ verdict_text tables (names_at s k.members.items) s.root k.cause
 
-abbrev pub is_among : ℕ → List ℕ → Bool
-is_among at positions = list_any (λ x. x == at) positions
+abbrev pub is_listed_position : ℕ → List ℕ → Bool
+is_listed_position at positions = list_any (λ x. x == at) positions
 
 -- a position that isn't among some
 abbrev pub is_beside : List ℕ → ℕ → Bool
-is_beside looked at = not (is_among at looked)
+is_beside looked at = not (is_listed_position at looked)
 
 -- a position that is in none of some sets
 abbrev pub is_in_no_set : List SiteClash → ℕ → Bool
-is_in_no_set clashes at = not (list_any (λ (k : SiteClash). is_among at k.members.items) clashes)
+is_in_no_set clashes at = not (list_any (λ (k : SiteClash). is_listed_position at k.members.items) clashes)
 
 -- the members that weren't looked at with the others
 abbrev pub beside : Site → List ℕ → List Name
@@ -55,14 +55,14 @@ clashes_text tables s clashes looked =
     ++ line_of_some (codes "beside") (beside s looked) ++ names_line (codes "free") (in_no_set s clashes)
 
 -- one such set counts as a refusal
-abbrev pub found_print : Office → Site → SiteClashes → Printed
-found_print o s found = print_of (clashes_text o.schema s found.clashes.items found.looked.items) [] (nat_lt 0 (length found.clashes.items)) false
+abbrev pub found_print : Office → Site → SiteClashes → PrintoutOrFault
+found_print o s found = printout_of (clashes_text o.schema s found.clashes.items found.looked.items) [] (nat_lt 0 (length found.clashes.items)) false
 
 -- the smallest sets, or the test of names that fails, as the line of a plan that is unfit
-pub data IsSitePrint (s : Site) (o : Office) (print : Printed) : Type 0 where
-  of_found : (found : SiteClashes) → IsFound o s found → print ≡ found_print o s found → IsSitePrint s o print
+pub data IsSitePrint (s : Site) (o : Office) (print : PrintoutOrFault) : Type 0 where
+  of_found : (found : SiteClashes) → FindsClashes o s found → print ≡ found_print o s found → IsSitePrint s o print
   of_names : (v : Verdict) → name_fault o s ≡ Some v → print ≡ plan_print o s (plan.Unfit v) → IsSitePrint s o print
 
 -- of the members that names ask for
-abbrev pub IsClashesPrint : Name → List Name → Office → Printed → Type 0
-IsClashesPrint root names o print = IsSitePrint (site root (members_asked o root names)) o print
+abbrev pub IsClashesPrint : Name → List Name → Office → PrintoutOrFault → Type 0
+IsClashesPrint root names o print = IsSitePrint (site root (members_or_children o root names)) o print

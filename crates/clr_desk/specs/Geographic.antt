@@ -7,22 +7,22 @@ use Rattle.clr_desk_command_line.specs.declared.asks.GeographicAsk.TheVariants a
 use Rattle.clr_layer_changes.specs.declared.options.GivenLayer.{GivenLayer}
 use Rattle.clr_layer_changes.specs.declared.options.LayerOptions.{LayerOptions}
 use Rattle.clr_desk_designs.specs.Designs.{IsDesignPrint, IsDesignScriptPrint, IsOfficePrint}
-use Rattle.clr_desk_features.specs.Features.{IsAnswer as IsFeaturesAnswer}
+use Rattle.clr_desk_features.specs.Features.{IsFeaturesAnswer}
 use Rattle.clr_desk_layers.specs.Layers.{IsLayerPrint}
 use Rattle.clr_prints.specs.NameHints.{IsHinted}
-use Rattle.clr_prints.specs.Printing.{IsPrintIn, Printed}
+use Rattle.clr_prints.specs.Printing.{IsPrintoutIn, PrintoutOrFault}
 
 -- layers are read so: rows without keys get keys from this one on, and coordinates are rounded or not
 abbrev pub options_of : ℕ → Bool → LayerOptions
 options_of first_key rounded = record { first_key = first_key; rounded = rounded }
 
 -- what is to be printed for what is asked of an office text and layers
-abbrev pub IsGeographicAnswer : GeographicAsk → List ℕ → List GivenLayer → Printed → Type 0
+abbrev pub IsGeographicAnswer : GeographicAsk → List ℕ → List GivenLayer → PrintoutOrFault → Type 0
 IsGeographicAnswer (ask.Features root names system) office layers print = IsFeaturesAnswer (site root names) (root ∷ names) system (draft_in office) print
 IsGeographicAnswer (ask.Layer table workspace) office layers print =
-    IsPrintIn (IsHinted (IsLayerPrint table workspace) (workspace ∷ [])) (draft_in office) print
-IsGeographicAnswer (ask.Office tables rounded) office layers print = IsPrintIn (IsOfficePrint (options_of 1 rounded) layers) (draft_in office) print
+    IsPrintoutIn (IsHinted (IsLayerPrint table workspace) (workspace ∷ [])) (draft_in office) print
+IsGeographicAnswer (ask.Office tables rounded) office layers print = IsPrintoutIn (IsOfficePrint (options_of 1 rounded) layers) (draft_in office) print
 IsGeographicAnswer (ask.Design design) office layers print =
-    IsPrintIn (IsDesignPrint design.name (options_of design.first_key design.is_rounded) layers) (draft_in office) print
+    IsPrintoutIn (IsDesignPrint design.name (options_of design.first_key design.is_rounded) layers) (draft_in office) print
 IsGeographicAnswer (ask.DesignScript design) office layers print =
-    IsPrintIn (IsDesignScriptPrint design.name (options_of design.first_key design.is_rounded) layers) (draft_in office) print
+    IsPrintoutIn (IsDesignScriptPrint design.name (options_of design.first_key design.is_rounded) layers) (draft_in office) print

@@ -7,31 +7,31 @@ use Rattle.clr_steps.specs.Offices.{Office}
 use Rattle.clr_steps.specs.Steps.{is_lost}
 use Rattle.clr_clearance.specs.declared.verdicts.Verdict.{Verdict}
 use Rattle.clr_cert.specs.declared.certificates.Certificate.{Certificate}
-use Rattle.clr_check.specs.Answers.{IsRefusal}
+use Rattle.clr_check.specs.Answers.{IsRefusingVerdict}
 use Rattle.clr_sites.specs.Certificates.{entries_in, site_of}
 use Rattle.clr_lines.specs.Replies.{reply_text}
 use Rattle.clr_verdict_lines.specs.Verdicts.{verdict_text}
 use Rattle.clr_office.specs.Clearances.{AreMerged, is_clear, is_without_memory, stop_text}
 use Rattle.clr_reports.specs.Outcomes.{dump_text, is_refused}
 use Rattle.clr_prints.specs.NameHints.{IsHinted}
-use Rattle.clr_prints.specs.Printing.{Printed, print_of}
+use Rattle.clr_prints.specs.Printing.{PrintoutOrFault, printout_of}
 
 -- the text of the office that is left, and as notes a line of each reply and that of the stop
-abbrev pub merge_print : List Reply → Option ℕ → Office → Printed
+abbrev pub merge_print : List Reply → Option ℕ → Office → PrintoutOrFault
 merge_print replies stopped left =
-    print_of (dump_text left) (flat_map (reply_text left.schema) replies ++ stop_text stopped) (list_any is_refused replies || is_some stopped)
+    printout_of (dump_text left) (flat_map (reply_text left.schema) replies ++ stop_text stopped) (list_any is_refused replies || is_some stopped)
     (list_any is_lost replies)
 
 -- no office, and as notes the line of a verdict that isn't clear
-abbrev pub verdict_print : Office → Certificate → Verdict → Printed
-verdict_print o c v = print_of [] (verdict_text o.schema c.members c.root v) (not (is_clear v)) (is_without_memory v)
+abbrev pub verdict_print : Office → Certificate → Verdict → PrintoutOrFault
+verdict_print o c v = printout_of [] (verdict_text o.schema c.members c.root v) (not (is_clear v)) (is_without_memory v)
 
 -- merges in the order of the names, as far as they are quiet for the certificate; where it isn't clear, none
-pub data IsMergePrint (names : List Name) (o : Office) (c : Certificate) (print : Printed) : Type 0 where
+pub data IsMergePrintout (names : List Name) (o : Office) (c : Certificate) (print : PrintoutOrFault) : Type 0 where
   of_merges : (replies : List Reply) (stopped : Option ℕ) (left : Office) → AreMerged o c names replies stopped left
-      → print ≡ merge_print replies stopped left → IsMergePrint names o c print
-  of_verdict : (v : Verdict) → IsRefusal o (site_of c) (entries_in c.entries) v → print ≡ verdict_print o c v → IsMergePrint names o c print
+      → print ≡ merge_print replies stopped left → IsMergePrintout names o c print
+  of_verdict : (v : Verdict) → IsRefusingVerdict o (site_of c) (entries_in c.entries) v → print ≡ verdict_print o c v → IsMergePrintout names o c print
 
 -- the same, and behind its notes hints at names that no workspace of the office that was read has
-abbrev pub IsHintedMerge : List Name → Office → Certificate → Printed → Type 0
-IsHintedMerge names o c print = IsHinted (λ read. IsMergePrint names read c) (c.root ∷ names) o print
+abbrev pub IsHintedMerge : List Name → Office → Certificate → PrintoutOrFault → Type 0
+IsHintedMerge names o c print = IsHinted (λ read. IsMergePrintout names read c) (c.root ∷ names) o print

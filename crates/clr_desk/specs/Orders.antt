@@ -4,11 +4,11 @@ use Rattle.clr_steps.specs.Offices.{Office}
 use Rattle.clr_steps.specs.Quiet.{Site}
 use Rattle.clr_words.specs.declared.work_orders.WorkOrder.{WorkOrder}
 use Rattle.clr_words.specs.WorkOrders.{IsWorkOrder}
-use Rattle.clr_prints.specs.Printing.{Printed, print_of}
+use Rattle.clr_prints.specs.Printing.{PrintoutOrFault, printout_of}
 
 -- the text of the work order, which counts as a refusal where the members aren't cleared
-abbrev pub order_print : WorkOrder → Printed
-order_print order = print_of order.text.items [] (not order.is_cleared) order.is_lost
+abbrev pub order_print : WorkOrder → PrintoutOrFault
+order_print order = printout_of order.text.items [] (not order.is_cleared) order.is_lost
 
-abbrev pub IsOrderPrint : Site → Office → Printed → Type 0
+abbrev pub IsOrderPrint : Site → Office → PrintoutOrFault → Type 0
 IsOrderPrint s o print = (order : WorkOrder) × IsWorkOrder o s order × (print ≡ order_print order)

@@ -5,7 +5,7 @@ use Rattle.clr_desk_command_line.specs.declared.asks.TextKind.TheVariants as kin
 use Rattle.clr_why.specs.Whys.{IsCertificateWhy, IsOfficeWhy, IsScriptWhy}
 use Rattle.clr_why.specs.declared.whys.Why.{Why}
 use Rattle.clr_why.specs.declared.whys.Why.TheVariants as why
-use Rattle.clr_prints.specs.Printing.{Printed}
+use Rattle.clr_prints.specs.Printing.{PrintoutOrFault}
 
 -- what is found in the office text, or in the second text over it
 abbrev pub IsWhy : TextKind → List ℕ → List ℕ → Why → Type 0
@@ -14,10 +14,10 @@ IsWhy kind.Script office second = IsScriptWhy office second
 IsWhy kind.Certificate office second = IsCertificateWhy office second
 
 -- status 0 where there is no fault, 1 where a rule of the office doesn't hold, and 2 where there is a fault
-abbrev pub why_print : Why → Printed
+abbrev pub why_print : Why → PrintoutOrFault
 why_print why.NoFault = Ok (record { text = codes "no fault\n"; notes = []; status = 0 })
 why_print (why.Unheld lines) = Ok (record { text = lines.items; notes = []; status = 1 })
 why_print (why.Faulty lines) = Ok (record { text = lines.items; notes = []; status = 2 })
 
-abbrev pub IsWhyPrint : TextKind → List ℕ → List ℕ → Printed → Type 0
+abbrev pub IsWhyPrint : TextKind → List ℕ → List ℕ → PrintoutOrFault → Type 0
 IsWhyPrint asked office second print = (found : Why) × IsWhy asked office second found × (print ≡ why_print found)

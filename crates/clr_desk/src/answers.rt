@@ -4,8 +4,8 @@ ghost use Rattle.std.specs.Prelude.{◌≡◌, ◌≢◌, [], false, IfErr, IfOk
 ghost use Rattle.std.specs.List.{list_any};
 ghost use Rattle.std.specs.Io.KnownBytes.{Appends};
 ghost use Rattle.clr_reports.specs.declared.faults.RunFault.TheVariants as run_fault;
-ghost use Rattle.clr_desk.specs.Answers.{IsAnswer, IsAnswerTo, IsAnswerWithin, is_too_long_layer};
-ghost use Rattle.clr_prints.specs.Printing.{IsMade};
+ghost use Rattle.clr_desk.specs.Answers.{IsDeskAnswer, IsDeskAnswerTo, IsDeskAnswerWithin, is_too_long_layer};
+ghost use Rattle.clr_prints.specs.Printing.{IsMadePrintout};
 
 use crate::certificates::answer_certificate;
 use crate::choices::answer_keep;
@@ -30,7 +30,7 @@ fn answer_texts(
     second: &[u8],
     layers: &[GivenLayer],
 ) -> Result<Print, RunFault>
-    ensures { IsMade (IsAnswerWithin ask.now office.now second.now layers.now) result }
+    ensures { IsMadePrintout (IsDeskAnswerWithin ask.now office.now second.now layers.now) result }
 {
     match ask {
         Ask::Certificate(root, names) => {
@@ -82,7 +82,7 @@ pub fn answer<W: Sink, N: Sink>(
 ) -> Result<u8, RunFault>
     requires writer { W.failed writer.old ≡ false }
     requires notes { N.failed notes.old ≡ false }
-    ensures answers { IsAnswer (IsAnswerTo ask.now office.now second.now layers.now) (record {
+    ensures answers { IsDeskAnswer (IsDeskAnswerTo ask.now office.now second.now layers.now) (record {
       text_held = W.contents writer.old;
       text_holds = W.contents writer.new;
       text_failed = W.failed writer.new;

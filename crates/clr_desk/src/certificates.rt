@@ -5,7 +5,7 @@ ghost use Rattle.clr_drafts.specs.Drafts.{draft_in};
 ghost use Rattle.clr_plan.specs.Promises.{is_cleared as is_cleared_plan};
 ghost use Rattle.clr_desk.specs.Certificates.{IsCertificatePrint, plan_print};
 ghost use Rattle.clr_prints.specs.NameHints.{IsHinted};
-ghost use Rattle.clr_prints.specs.Printing.{IsMade, IsPrintIn, printed};
+ghost use Rattle.clr_prints.specs.Printing.{IsMadePrintout, IsPrintoutIn, printed};
 
 use clr_cert::write_certificate;
 use clr_engine::Office;
@@ -71,7 +71,7 @@ pub fn answer_certificate(
     root: &str,
     names: &[Words],
 ) -> Result<Print, RunFault>
-    ensures { IsMade (IsPrintIn (IsHinted (IsCertificatePrint (site root.now names.now)) (root.now ∷ names.now)) (draft_in office.now)) result }
+    ensures { IsMadePrintout (IsPrintoutIn (IsHinted (IsCertificatePrint (site root.now names.now)) (root.now ∷ names.now)) (draft_in office.now)) result }
 {
     match open_office(alloc, office) {
         Ok(office) => {

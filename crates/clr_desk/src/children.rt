@@ -3,7 +3,7 @@ ghost use Rattle.std.specs.Prelude.{◌≡◌, ◌++◌, [], IfOk, OnOk};
 ghost use Rattle.clr_steps.specs.Readings.{name_at};
 ghost use Rattle.clr_sites.specs.SiteNames.{site};
 ghost use Rattle.clr_clearance.specs.Sites.{is_child};
-ghost use Rattle.clr_desk.specs.Choices.{child_in, children_of, members_asked};
+ghost use Rattle.clr_desk.specs.Choices.{child_in, children_of_root, members_or_children};
 
 use clr_engine::Office;
 use clr_office::{Names, Words};
@@ -44,7 +44,7 @@ fn add_child(
 
 /// Returns the children of a root, in order of creation.
 fn children_of(alloc: Global, office: &Office, root: &str) -> Result<Names, AllocError>
-    ensures { IfOk result (λ names. names ≡ children_of office.now root.now) }
+    ensures { IfOk result (λ names. names ≡ children_of_root office.now root.now) }
 {
     let mut names = Vec::new(alloc);
     let count = office.len() - 1;
@@ -62,7 +62,7 @@ pub fn members_asked(
     root: &str,
     names: &[Words],
 ) -> Result<Names, AllocError>
-    ensures { IfOk result (λ members. members ≡ members_asked office.now root.now names.now) }
+    ensures { IfOk result (λ members. members ≡ members_or_children office.now root.now names.now) }
 {
     if names.is_empty() {
         return children_of(alloc, office, root);

@@ -8,7 +8,7 @@ ghost use Rattle.clr_office.specs.Outcomes.{IsPlanned};
 ghost use Rattle.clr_desk.specs.Choices.{IsChoicePrint, names_line, refusal_text};
 ghost use Rattle.clr_desk.specs.Trials.{IsAdded, IsChosen, IsTried};
 ghost use Rattle.clr_prints.specs.NameHints.{IsHinted};
-ghost use Rattle.clr_prints.specs.Printing.{IsMade, IsPrintIn, print_of, printed};
+ghost use Rattle.clr_prints.specs.Printing.{IsMadePrintout, IsPrintoutIn, printed, printout_of};
 
 use crate::certificates::plan_print;
 use crate::children::members_asked;
@@ -135,7 +135,7 @@ fn choice_of(
 /// Returns the certificate of the members taken, and as notes who they are and why the others are
 /// left.
 fn choice_print(alloc: Global, schema: &Schema, choice: &Choice) -> Result<Print, AllocError>
-    ensures { IfOk result (λ p. printed p ≡ print_of (certificate_text schema.now choice.now.certificate)
+    ensures { IfOk result (λ p. printed p ≡ printout_of (certificate_text schema.now choice.now.certificate)
         (names_line (codes "kept") choice.now.taken.items ++ choice.now.left.items) choice.now.is_any_left false) }
 {
     let taken = texts(alloc, choice.taken.as_slice())?;
@@ -187,7 +187,7 @@ pub fn answer_keep(
     root: &str,
     names: &[Words],
 ) -> Result<Print, RunFault>
-    ensures { IsMade (IsPrintIn (IsHinted (IsChoicePrint root.now names.now) (root.now ∷ names.now)) (draft_in office.now)) result }
+    ensures { IsMadePrintout (IsPrintoutIn (IsHinted (IsChoicePrint root.now names.now) (root.now ∷ names.now)) (draft_in office.now)) result }
 {
     match open_office(alloc, office) {
         Ok(office) => {

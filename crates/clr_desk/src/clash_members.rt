@@ -2,21 +2,21 @@
 ghost use Rattle.std.specs.Prelude.{◌≡◌, ◌++◌, ◌∷◌, [], filter, map, IfOk, OnOk};
 ghost use Rattle.std.specs.List.{list_any, range_with_len};
 ghost use Rattle.clr_sites.specs.SiteNames.{site};
-ghost use Rattle.clr_desk.specs.Clashes.{beside, in_no_set, is_among, is_beside, is_in_no_set};
+ghost use Rattle.clr_desk.specs.Clashes.{beside, in_no_set, is_beside, is_in_no_set, is_listed_position};
 
 use clr_site_clashes::{SiteClash, names_at};
 use std::alloc::{AllocError, Global};
 
 /// Returns whether a position is among some.
 fn is_among(positions: &[usize], at: usize) -> bool
-    ensures { result ≡ is_among at positions.now }
+    ensures { result ≡ is_listed_position at positions.now }
 {
     positions.contains(&at)
 }
 
 /// Returns whether a position is in one of some sets.
 fn is_in_a_set(clashes: &[SiteClash], at: usize) -> bool
-    ensures { result ≡ list_any (λ k. is_among at k.members.items) clashes.now }
+    ensures { result ≡ list_any (λ k. is_listed_position at k.members.items) clashes.now }
 {
     clashes
         .iter()

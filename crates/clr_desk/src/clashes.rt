@@ -5,7 +5,7 @@ ghost use Rattle.clr_drafts.specs.Drafts.{draft_in};
 ghost use Rattle.clr_site_clashes.specs.SiteClashes.{IsFaultOfNames};
 ghost use Rattle.clr_desk.specs.Clashes.{IsClashesPrint, IsSitePrint, found_print};
 ghost use Rattle.clr_prints.specs.NameHints.{IsHinted};
-ghost use Rattle.clr_prints.specs.Printing.{IsMade, IsPrintIn, printed};
+ghost use Rattle.clr_prints.specs.Printing.{IsMadePrintout, IsPrintoutIn, printed};
 
 use crate::certificates::plan_print;
 use crate::children::members_asked;
@@ -86,7 +86,7 @@ pub fn answer_clashes(
     root: &str,
     names: &[Words],
 ) -> Result<Print, RunFault>
-    ensures { IsMade (IsPrintIn (IsHinted (IsClashesPrint root.now names.now) (root.now ∷ names.now)) (draft_in office.now)) result }
+    ensures { IsMadePrintout (IsPrintoutIn (IsHinted (IsClashesPrint root.now names.now) (root.now ∷ names.now)) (draft_in office.now)) result }
 {
     match open_office(alloc, office) {
         Ok(office) => {

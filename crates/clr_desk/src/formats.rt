@@ -2,7 +2,7 @@
 ghost use Rattle.std.specs.Prelude.{◌≡◌, ◌++◌, ◌∷◌, [], IfOk, IsTrue, OnOk};
 ghost use Rattle.clr_drafts.specs.Drafts.{draft_in};
 ghost use Rattle.clr_desk.specs.Formats.{IsFormatPrint, IsInLines, without_line_ends};
-ghost use Rattle.clr_prints.specs.Printing.{IsMade, IsPrintIn, printed};
+ghost use Rattle.clr_prints.specs.Printing.{IsMadePrintout, IsPrintoutIn, printed};
 
 use clr_engine::Office;
 use clr_office::{RunFault, open_office};
@@ -103,7 +103,7 @@ fn format_print(alloc: Global, office: &Office) -> Result<Print, AllocError>
 
 /// Returns the office of a text, a row a line.
 pub fn answer_format(alloc: Global, office: &[u8]) -> Result<Print, RunFault>
-    ensures { IsMade (IsPrintIn IsFormatPrint (draft_in office.now)) result }
+    ensures { IsMadePrintout (IsPrintoutIn IsFormatPrint (draft_in office.now)) result }
 {
     match open_office(alloc, office) {
         Ok(office) => Ok(format_print(alloc, &office)?),

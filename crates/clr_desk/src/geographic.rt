@@ -1,7 +1,7 @@
 //! What is printed in the texts of geographic information systems, and of such texts.
 
 ghost use Rattle.clr_desk.specs.Geographic.{IsGeographicAnswer};
-ghost use Rattle.clr_prints.specs.Printing.{IsMade};
+ghost use Rattle.clr_prints.specs.Printing.{IsMadePrintout};
 
 use clr_desk_command_line::GeographicAsk;
 use clr_desk_designs::{
@@ -20,7 +20,7 @@ pub(crate) fn answer_geographic(
     office: &[u8],
     layers: &[GivenLayer],
 ) -> Result<Print, RunFault>
-    ensures { IsMade (IsGeographicAnswer ask.now office.now layers.now) result }
+    ensures { IsMadePrintout (IsGeographicAnswer ask.now office.now layers.now) result }
 {
     match ask {
         GeographicAsk::Features(root, names, system) => answer_geojson(

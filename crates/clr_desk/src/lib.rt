@@ -1,7 +1,7 @@
 //! The answers of the second program, each told as a text, notes and a status.
 //!
 //! - `answer` [`answers`]: where the sinks tell their bytes and there is a status, the bytes on both and
-//!   the status are what `IsAnswerTo` says, and each fault is answered only where the texts have it,
+//!   the status are what `IsDeskAnswerTo` says, and each fault is answered only where the texts have it,
 //!   want of memory aside. So: of `certificate` the records of a certificate by which the members are
 //!   safe, and nothing else, or the lines of the plan as notes; of `merge` the text of the office that a
 //!   run leaves as `perform_cleared` promises it, and the replies and the stop as notes; of `format` the

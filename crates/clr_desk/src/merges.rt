@@ -1,8 +1,8 @@
 //! Merges that a certificate clears, and the office that they leave.
 ghost use Rattle.std.specs.Prelude.{◌≡◌, IfOk};
 ghost use Rattle.clr_check_texts.specs.Cases.{case_of};
-ghost use Rattle.clr_desk.specs.Merges.{IsHintedMerge, IsMergePrint, merge_print};
-ghost use Rattle.clr_prints.specs.Printing.{IsMade, IsPrintOfCase, printed};
+ghost use Rattle.clr_desk.specs.Merges.{IsHintedMerge, IsMergePrintout, merge_print};
+ghost use Rattle.clr_prints.specs.Printing.{IsMadePrintout, IsPrintoutOfCase, printed};
 
 use clr_cert::Certificate;
 use clr_check::{ClearedRun, perform_cleared};
@@ -34,7 +34,7 @@ fn merge_members(
     certificate: &Certificate,
     names: &[Words],
 ) -> Result<Print, AllocError>
-    ensures { IfOk result (λ p. IsMergePrint names.now office.old certificate.now (printed p)) }
+    ensures { IfOk result (λ p. IsMergePrintout names.now office.old certificate.now (printed p)) }
 {
     let commands = merge_commands(alloc, names)?;
     match perform_cleared(alloc, office, certificate, commands.as_slice()) {
@@ -53,7 +53,7 @@ pub fn answer_merge(
     certificate: &[u8],
     names: &[Words],
 ) -> Result<Print, RunFault>
-    ensures { IsMade (IsPrintOfCase (IsHintedMerge names.now) (case_of office.now certificate.now)) result }
+    ensures { IsMadePrintout (IsPrintoutOfCase (IsHintedMerge names.now) (case_of office.now certificate.now)) result }
 {
     match read_case(alloc, office, certificate) {
         Ok((mut office, certificate)) => {

@@ -1,6 +1,6 @@
 //! Whether a text can be used, and where its fault is.
 ghost use Rattle.std.specs.Prelude.{◌≡◌, IfOk};
-ghost use Rattle.clr_prints.specs.Printing.{IsMade, printed};
+ghost use Rattle.clr_prints.specs.Printing.{IsMadePrintout, printed};
 ghost use Rattle.clr_desk.specs.Whys.{IsWhy, IsWhyPrint, why_print};
 
 use clr_desk_command_line::TextKind;
@@ -43,7 +43,7 @@ pub fn answer_why(
     office: &[u8],
     second: &[u8],
 ) -> Result<Print, RunFault>
-    ensures { IsMade (IsWhyPrint kind.now office.now second.now) result }
+    ensures { IsMadePrintout (IsWhyPrint kind.now office.now second.now) result }
 {
     let why = why_of(alloc, kind, office, second)?;
     Ok(print_of_why(alloc, why)?)

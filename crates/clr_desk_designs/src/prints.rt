@@ -4,7 +4,7 @@ ghost use Rattle.std.specs.Prelude.{◌≡◌, IfOk};
 ghost use Rattle.clr_rows.specs.Schemas.{FitsSchema};
 ghost use Rattle.clr_prints.specs.Printing.{printed};
 ghost use Rattle.clr_desk_designs.specs.Designs.{IsDesignPrint, IsDesignScriptPrint, IsOfficePrint, IsOfficeText};
-ghost use Rattle.clr_desk_designs.specs.Designs.{IsPrintOfDesign, IsPrintOfLive, IsPrintOfScript, fault_print, refusal_print};
+ghost use Rattle.clr_desk_designs.specs.Designs.{IsPrintOfDesign, IsPrintOfLive, IsPrintOfScript, faulty_layer_printout, refusal_print};
 
 use crate::fault_lines::fault_line;
 use clr_designs::{make_design, replace_live};
@@ -24,7 +24,7 @@ fn print_of_fault(
     layers: &[GivenLayer],
     faulty: &FaultyLayer,
 ) -> Result<Print, AllocError>
-    ensures { IfOk result (λ p. printed p ≡ fault_print layers.now faulty.now) }
+    ensures { IfOk result (λ p. printed p ≡ faulty_layer_printout layers.now faulty.now) }
 {
     Ok(Print {
         text: Vec::new(alloc),

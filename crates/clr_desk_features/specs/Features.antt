@@ -9,7 +9,7 @@ use Rattle.clr_plan_features.specs.PlanFeatures.{AreFeatures}
 use Rattle.clr_rule_text.specs.declared.faults.TextFault.{TextFault}
 use Rattle.clr_office.specs.Outcomes.{IsPlanned}
 use Rattle.clr_prints.specs.NameHints.{IsHinted}
-use Rattle.clr_prints.specs.Printing.{IsPrintIn, Printed, print_of}
+use Rattle.clr_prints.specs.Printing.{IsPrintoutIn, PrintoutOrFault, printout_of}
 
 -- how a system of coordinates is named by its number in the register of EPSG, as `EPSG:25832`
 abbrev pub system_name : ℕ → List ℕ
@@ -20,16 +20,16 @@ abbrev pub IsNoSystem : List ℕ → Type 0
 IsNoSystem text = (code : ℕ) → code < 2 ^ 32 → text ≢ system_name code
 
 -- the text of features, which counts as a refusal unless the plan is cleared
-abbrev pub features_print : List ℕ → Plan → Printed
-features_print text p = print_of text [] (not (is_cleared p)) (is_out_of_memory p)
+abbrev pub features_print : List ℕ → Plan → PrintoutOrFault
+features_print text p = printout_of text [] (not (is_cleared p)) (is_out_of_memory p)
 
 -- the features of a plan of the site, in a system of coordinates if one is given
-abbrev pub IsFeaturesPrint : Site → Option ℕ → Office → Printed → Type 0
+abbrev pub IsFeaturesPrint : Site → Option ℕ → Office → PrintoutOrFault → Type 0
 IsFeaturesPrint s system o print =
     (p : Plan) × (text : List ℕ) × IsPlanned o s p × AreFeatures o s p system text × (print ≡ features_print text p)
 
 -- no text, and a note that this names no system
-abbrev pub no_system_print : List ℕ → Printed
+abbrev pub no_system_print : List ℕ → PrintoutOrFault
 no_system_print text = Ok (record {
   text = [];
   notes = codes "'" ++ text ++ codes "' names no system of coordinates: write EPSG: and a number, as EPSG:25832\n";
@@ -37,8 +37,8 @@ no_system_print text = Ok (record {
 })
 
 -- what is printed of an office text and the text of a system, if one is given; the names are those at which hints are given
-pub data IsAnswer (s : Site) (names : List Name) (system : Option (List ℕ)) (given : Result Office TextFault) (print : Printed) : Type 0 where
-  without_system : system ≡ None → IsPrintIn (IsHinted (IsFeaturesPrint s None) names) given print → IsAnswer s names system given print
-  in_system : (code : ℕ) → system ≡ Some (system_name code) → IsPrintIn (IsHinted (IsFeaturesPrint s (Some code)) names) given print
-      → IsAnswer s names system given print
-  of_no_system : (text : List ℕ) → system ≡ Some text → IsNoSystem text → print ≡ no_system_print text → IsAnswer s names system given print
+pub data IsFeaturesAnswer (s : Site) (names : List Name) (system : Option (List ℕ)) (given : Result Office TextFault) (print : PrintoutOrFault) : Type 0 where
+  without_system : system ≡ None → IsPrintoutIn (IsHinted (IsFeaturesPrint s None) names) given print → IsFeaturesAnswer s names system given print
+  in_system : (code : ℕ) → system ≡ Some (system_name code) → IsPrintoutIn (IsHinted (IsFeaturesPrint s (Some code)) names) given print
+      → IsFeaturesAnswer s names system given print
+  of_no_system : (text : List ℕ) → system ≡ Some text → IsNoSystem text → print ≡ no_system_print text → IsFeaturesAnswer s names system given print

@@ -4,9 +4,9 @@ ghost use Rattle.std.specs.Prelude.{◌≡◌, ◌∷◌, IfOk};
 ghost use Rattle.std.specs.Option.{option_copied};
 ghost use Rattle.clr_sites.specs.SiteNames.{site};
 ghost use Rattle.clr_drafts.specs.Drafts.{draft_in};
-ghost use Rattle.clr_desk_features.specs.Features.{IsAnswer, IsFeaturesPrint, features_print};
+ghost use Rattle.clr_desk_features.specs.Features.{IsFeaturesAnswer, IsFeaturesPrint, features_print};
 ghost use Rattle.clr_prints.specs.NameHints.{IsHinted};
-ghost use Rattle.clr_prints.specs.Printing.{IsMade, IsPrintIn, printed};
+ghost use Rattle.clr_prints.specs.Printing.{IsMadePrintout, IsPrintoutIn, printed};
 
 use crate::systems::{print_of_no_system, system_of};
 use clr_engine::Office;
@@ -52,7 +52,7 @@ fn answer_in(
     names: &[Words],
     system: Option<u32>,
 ) -> Result<Print, RunFault>
-    ensures { IsMade (IsPrintIn (IsHinted (IsFeaturesPrint (site root.now names.now) system) (root.now ∷ names.now)) (draft_in office.now)) result }
+    ensures { IsMadePrintout (IsPrintoutIn (IsHinted (IsFeaturesPrint (site root.now names.now) system) (root.now ∷ names.now)) (draft_in office.now)) result }
 {
     match open_office(alloc, office) {
         Ok(office) => {
@@ -74,7 +74,7 @@ pub fn answer_geojson(
     names: &[Words],
     system: Option<&Words>,
 ) -> Result<Print, RunFault>
-    ensures { IsMade (IsAnswer (site root.now names.now) (root.now ∷ names.now) (option_copied system.entry) (draft_in office.now)) result }
+    ensures { IsMadePrintout (IsFeaturesAnswer (site root.now names.now) (root.now ∷ names.now) (option_copied system.entry) (draft_in office.now)) result }
 {
     let Some(text) = system else {
         return answer_in(alloc, office, root, names, None);

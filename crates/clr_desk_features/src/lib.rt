@@ -1,6 +1,6 @@
 //! What the second program prints of the features of a plan.
 //!
-//! - `answer_geojson`: the features of the plan of members over the office of a text, in a system of coordinates if one is named (`IsAnswer`).
+//! - `answer_geojson`: the features of the plan of members over the office of a text, in a system of coordinates if one is named (`IsFeaturesAnswer`).
 #![tactic(auto)]
 
 mod features;

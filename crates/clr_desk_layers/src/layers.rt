@@ -4,7 +4,7 @@ ghost use Rattle.clr_rows.specs.Schemas.{FitsSchema};
 ghost use Rattle.clr_drafts.specs.Drafts.{draft_in};
 ghost use Rattle.clr_desk_layers.specs.Layers.{IsLayerPrint, IsPrintOfTable};
 ghost use Rattle.clr_prints.specs.NameHints.{IsHinted};
-ghost use Rattle.clr_prints.specs.Printing.{IsMade, IsPrintIn, printed};
+ghost use Rattle.clr_prints.specs.Printing.{IsMadePrintout, IsPrintoutIn, printed};
 
 use crate::unfits::{no_table, no_workspace, wkt_column};
 use clr_engine::Office;
@@ -61,7 +61,7 @@ pub fn answer_layer(
     table: &str,
     workspace: &str,
 ) -> Result<Print, RunFault>
-    ensures { IsMade (IsPrintIn (IsHinted (IsLayerPrint table.now workspace.now) (workspace.now ∷ [])) (draft_in office.now)) result }
+    ensures { IsMadePrintout (IsPrintoutIn (IsHinted (IsLayerPrint table.now workspace.now) (workspace.now ∷ [])) (draft_in office.now)) result }
 {
     match open_office(alloc, office) {
         Ok(office) => {

@@ -6,13 +6,13 @@ use Rattle.clr_plan.specs.declared.plans.Plan.{Plan}
 use Rattle.clr_plan.specs.Promises.{is_cleared, is_out_of_memory}
 use Rattle.clr_plan_map.specs.Maps.{IsMap}
 use Rattle.clr_office.specs.Outcomes.{IsPlanned}
-use Rattle.clr_prints.specs.Printing.{Printed, print_of}
+use Rattle.clr_prints.specs.Printing.{PrintoutOrFault, printout_of}
 
 -- the text of a map, which counts as a refusal unless the plan is cleared
-abbrev pub map_print : List ℕ → Plan → Printed
-map_print text p = print_of text [] (not (is_cleared p)) (is_out_of_memory p)
+abbrev pub map_print : List ℕ → Plan → PrintoutOrFault
+map_print text p = printout_of text [] (not (is_cleared p)) (is_out_of_memory p)
 
 -- the map of a plan of the site
-abbrev pub IsMapPrint : Site → Office → Printed → Type 0
+abbrev pub IsMapPrint : Site → Office → PrintoutOrFault → Type 0
 IsMapPrint s o print =
     (p : Plan) × (text : List ℕ) × IsPlanned o s p × IsMap o.schema s.members s.root p text × (print ≡ map_print text p)

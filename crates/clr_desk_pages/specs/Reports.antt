@@ -6,12 +6,12 @@ use Rattle.clr_plan.specs.declared.plans.Plan.{Plan}
 use Rattle.clr_plan.specs.Promises.{is_cleared, is_out_of_memory}
 use Rattle.clr_plan_report.specs.Reports.{IsReport}
 use Rattle.clr_office.specs.Outcomes.{IsPlanned}
-use Rattle.clr_prints.specs.Printing.{Printed, print_of}
+use Rattle.clr_prints.specs.Printing.{PrintoutOrFault, printout_of}
 
 -- the text of a report, which counts as a refusal unless the plan is cleared
-abbrev pub report_print : List ℕ → Plan → Printed
-report_print text p = print_of text [] (not (is_cleared p)) (is_out_of_memory p)
+abbrev pub report_print : List ℕ → Plan → PrintoutOrFault
+report_print text p = printout_of text [] (not (is_cleared p)) (is_out_of_memory p)
 
 -- the report of a plan of the site
-abbrev pub IsReportPrint : Site → Office → Printed → Type 0
+abbrev pub IsReportPrint : Site → Office → PrintoutOrFault → Type 0
 IsReportPrint s o print = (p : Plan) × (text : List ℕ) × IsPlanned o s p × IsReport o s p text × (print ≡ report_print text p)

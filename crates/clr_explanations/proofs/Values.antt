@@ -10,13 +10,13 @@ use Rattle.clr_faults.specs.Spots.{IsFoundIn, value_in}
 use Rattle.clr_faults.specs.declared.spots.Spot.{Spot}
 use Rattle.clr_faults.specs.declared.spots.Spot.TheVariants.{Whole}
 use Rattle.clr_explanations.specs.Places.{IsPlaceOf}
-use Rattle.clr_explanations.specs.Remarks.{IsTold, IsToldIn}
+use Rattle.clr_explanations.specs.Remarks.{TellsDroppedFault, TellsDroppedFaultIn}
 use Rattle.clr_explanations.proofs.Told.{no_fault, of_some}
 
-pub told_in : (text : List ℕ) (d : Data) (e : TextFault) (at : Spot) (s : List ℕ) → value_in text ≡ Some d → IsTold d e at s → IsToldIn text e at s
-told_in text d e at s is told = λ other again. of_some (λ x. IsTold x e at s) (value_in text) d other (sym is) told again
+pub told_in : (text : List ℕ) (d : Data) (e : TextFault) (at : Spot) (s : List ℕ) → value_in text ≡ Some d → TellsDroppedFault d e at s → TellsDroppedFaultIn text e at s
+told_in text d e at s is told = λ other again. of_some (λ x. TellsDroppedFault x e at s) (value_in text) d other (sym is) told again
 
-pub no_value_in : (text : List ℕ) (e : TextFault) (at : Spot) (s : List ℕ) → value_in text ≡ None → IsToldIn text e at s
+pub no_value_in : (text : List ℕ) (e : TextFault) (at : Spot) (s : List ℕ) → value_in text ≡ None → TellsDroppedFaultIn text e at s
 no_value_in text e at s is = λ d again. no_fault (value_in text) d (sym is) again
 
 whole_of : (P : Data → Type 0) (value : Option Data) (at : Spot) → value ≡ None → MatchOption value (at ≡ Whole) P → at ≡ Whole

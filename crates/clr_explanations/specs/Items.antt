@@ -13,13 +13,13 @@ item_in_workspace at key item d = item_of (codes "workspaces") at d >>= item_of 
 abbrev pub saved_item : ℕ → ℕ → ℕ → Data → Result Data TextFault
 saved_item at mark cell d = item_in_workspace at (codes "marks") mark d >>= item_of (codes "rows") cell
 
-abbrev pub item_at : Spot → Data → Result Data TextFault
-item_at Whole d = Ok d
-item_at (Table at) d = item_of (codes "tables") at d
-item_at (Rule at) d = item_of (codes "rules") at d
-item_at (Live at) d = item_of (codes "live") at d
-item_at (Workspace at) d = item_of (codes "workspaces") at d
-item_at (Base at cell) d = item_in_workspace at (codes "base") cell d
-item_at (Row at cell) d = item_in_workspace at (codes "rows") cell d
-item_at (Mark at mark) d = item_in_workspace at (codes "marks") mark d
-item_at (Saved at mark cell) d = saved_item at mark cell d
+abbrev pub item_at_spot : Spot → Data → Result Data TextFault
+item_at_spot Whole d = Ok d
+item_at_spot (Table at) d = item_of (codes "tables") at d
+item_at_spot (Rule at) d = item_of (codes "rules") at d
+item_at_spot (Live at) d = item_of (codes "live") at d
+item_at_spot (Workspace at) d = item_of (codes "workspaces") at d
+item_at_spot (Base at cell) d = item_in_workspace at (codes "base") cell d
+item_at_spot (Row at cell) d = item_in_workspace at (codes "rows") cell d
+item_at_spot (Mark at mark) d = item_in_workspace at (codes "marks") mark d
+item_at_spot (Saved at mark cell) d = saved_item at mark cell d

@@ -7,8 +7,8 @@ abbrev pub workspace_path : ℕ → List ℕ
 workspace_path at = codes "workspaces[" ++ decimal at ++ codes "]"
 
 -- the path of an item of a list that stands in another item
-abbrev pub path_in : List ℕ → List ℕ → ℕ → List ℕ
-path_in outer list item = outer ++ codes "." ++ list ++ codes "[" ++ decimal item ++ codes "]"
+abbrev pub list_item_path : List ℕ → List ℕ → ℕ → List ℕ
+list_item_path outer list item = outer ++ codes "." ++ list ++ codes "[" ++ decimal item ++ codes "]"
 
 -- the path of an item, as `workspaces[0].rows[3]`; of the whole text, none
 abbrev pub spot_path : Spot → List ℕ
@@ -17,10 +17,10 @@ spot_path (Table at) = codes "tables[" ++ decimal at ++ codes "]"
 spot_path (Rule at) = codes "rules[" ++ decimal at ++ codes "]"
 spot_path (Live at) = codes "live[" ++ decimal at ++ codes "]"
 spot_path (Workspace at) = workspace_path at
-spot_path (Base at cell) = path_in (workspace_path at) (codes "base") cell
-spot_path (Row at cell) = path_in (workspace_path at) (codes "rows") cell
-spot_path (Mark at mark) = path_in (workspace_path at) (codes "marks") mark
-spot_path (Saved at mark cell) = path_in (path_in (workspace_path at) (codes "marks") mark) (codes "rows") cell
+spot_path (Base at cell) = list_item_path (workspace_path at) (codes "base") cell
+spot_path (Row at cell) = list_item_path (workspace_path at) (codes "rows") cell
+spot_path (Mark at mark) = list_item_path (workspace_path at) (codes "marks") mark
+spot_path (Saved at mark cell) = list_item_path (list_item_path (workspace_path at) (codes "marks") mark) (codes "rows") cell
 
 -- the path of the item, and what follows it
 abbrev pub BeginsWithPath : Spot → List ℕ → Type 0

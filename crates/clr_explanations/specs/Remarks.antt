@@ -12,11 +12,11 @@ use Rattle.clr_rule_text.specs.declared.faults.TextFault.{TextFault}
 use Rattle.clr_rule_text.specs.declared.faults.TextFault.TheVariants as fault
 use Rattle.clr_office_text.specs.declared.formats.Format.{Format}
 use Rattle.clr_item_faults.specs.InnerFaults.{book_fault_of, put_fault_of, tables_fault_of}
-use Rattle.clr_item_explanations.specs.FaultNames.{IsNamed, rule_fault_name, schema_fault_name}
+use Rattle.clr_item_explanations.specs.FaultNames.{BeginsWithName, rule_fault_name, schema_fault_name}
 use Rattle.clr_faults.specs.Spots.{IsFoundIn, value_in}
 use Rattle.clr_faults.specs.declared.spots.Spot.{Spot}
 use Rattle.clr_fault_lines.specs.declared.remarks.Remark.{Remark}
-use Rattle.clr_explanations.specs.Items.{item_at}
+use Rattle.clr_explanations.specs.Items.{item_at_spot}
 use Rattle.clr_explanations.specs.Places.{IsPlaceOf}
 
 -- the schema of a text
@@ -25,32 +25,32 @@ tables_in d = format_of d >>= λ format. schema_of format d
 
 -- the sentence begins with the name of the fault that the row of an item has over its table, where it has one
 abbrev pub IsRowTold : List TableDef → Data → List ℕ → Type 0
-IsRowTold tables item sentence = (f : RowFault) → put_fault_of tables item ≡ Some f → IsNamed (row_fault_name f) sentence
+IsRowTold tables item sentence = (f : RowFault) → put_fault_of tables item ≡ Some f → BeginsWithName (row_fault_name f) sentence
 
 -- the same of the fault of the book of rules
 abbrev pub IsRuleTold : List TableDef → Data → List ℕ → Type 0
-IsRuleTold tables d sentence = (number : ℕ) (f : RuleFault) → book_fault_of tables d ≡ Some (number, f) → IsNamed (rule_fault_name f) sentence
+IsRuleTold tables d sentence = (number : ℕ) (f : RuleFault) → book_fault_of tables d ≡ Some (number, f) → BeginsWithName (rule_fault_name f) sentence
 
 -- and of the fault of the tables
 abbrev pub IsSchemaTold : Format → Data → List ℕ → Type 0
-IsSchemaTold format d sentence = (f : SchemaFault) → tables_fault_of format d ≡ Some f → IsNamed (schema_fault_name f) sentence
+IsSchemaTold format d sentence = (f : SchemaFault) → tables_fault_of format d ≡ Some f → BeginsWithName (schema_fault_name f) sentence
 
 -- the fault that the reader of a text drops is told
-abbrev pub IsTold : Data → TextFault → Spot → List ℕ → Type 0
-IsTold d fault.BadSchema at sentence = (format : Format) → format_of d ≡ Ok format → IsSchemaTold format d sentence
-IsTold d fault.BadRule at sentence = (tables : List TableDef) → tables_in d ≡ Ok tables → IsRuleTold tables d sentence
-IsTold d fault.BadRow at sentence =
-    (tables : List TableDef) (item : Data) → tables_in d ≡ Ok tables → item_at at d ≡ Ok item → IsRowTold tables item sentence
-IsTold d _ at sentence = Unit {0}
+abbrev pub TellsDroppedFault : Data → TextFault → Spot → List ℕ → Type 0
+TellsDroppedFault d fault.BadSchema at sentence = (format : Format) → format_of d ≡ Ok format → IsSchemaTold format d sentence
+TellsDroppedFault d fault.BadRule at sentence = (tables : List TableDef) → tables_in d ≡ Ok tables → IsRuleTold tables d sentence
+TellsDroppedFault d fault.BadRow at sentence =
+    (tables : List TableDef) (item : Data) → tables_in d ≡ Ok tables → item_at_spot at d ≡ Ok item → IsRowTold tables item sentence
+TellsDroppedFault d _ at sentence = Unit {0}
 
-abbrev pub IsToldIn : List ℕ → TextFault → Spot → List ℕ → Type 0
-IsToldIn text e at sentence = (d : Data) → value_in text ≡ Some d → IsTold d e at sentence
+abbrev pub TellsDroppedFaultIn : List ℕ → TextFault → Spot → List ℕ → Type 0
+TellsDroppedFaultIn text e at sentence = (d : Data) → value_in text ≡ Some d → TellsDroppedFault d e at sentence
 
 -- what is said of a fault at an item: its path, and the fault that the reader drops
 pub record IsRemarkAt (text : List ℕ) (e : TextFault) (at : Spot) (remark : Remark) : Type 0 where
   pub within : remark.offset ≤ length text
   pub place : IsPlaceOf at (string_bytes remark.place)
-  pub told : IsToldIn text e at (string_bytes remark.sentence)
+  pub told : TellsDroppedFaultIn text e at (string_bytes remark.sentence)
 
 -- what is said of a fault of a text: it stands at the item that is found
 abbrev pub IsOfficeRemark : List ℕ → TextFault → Remark → Type 0

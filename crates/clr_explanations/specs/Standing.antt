@@ -4,7 +4,7 @@ use Rattle.clr_layers.specs.Layers.{workspaces_over}
 use Rattle.clr_parts.specs.Parts.{workspaces_fault}
 use Rattle.clr_parts.specs.declared.parts.PartFault.{PartFault}
 use Rattle.clr_office_text.specs.Offices.{OfficeText, office_in}
-use Rattle.clr_item_explanations.specs.FaultNames.{IsNamed, part_fault_name}
+use Rattle.clr_item_explanations.specs.FaultNames.{BeginsWithName, part_fault_name}
 use Rattle.clr_faults.specs.declared.spots.Spot.TheVariants as spot
 use Rattle.clr_fault_lines.specs.declared.remarks.Remark.{Remark}
 use Rattle.clr_explanations.specs.Places.{BeginsWithPath}
@@ -27,4 +27,4 @@ pub record IsStandingRemark (text : List ℕ) (remark : Remark) : Type 0 where
   pub fault : PartFault
   pub found : IsStandingFault text (Some (at, fault))
   pub place : BeginsWithPath (spot.Workspace at) (string_bytes remark.place)
-  pub sentence : IsNamed (part_fault_name fault) (string_bytes remark.sentence)
+  pub sentence : BeginsWithName (part_fault_name fault) (string_bytes remark.sentence)

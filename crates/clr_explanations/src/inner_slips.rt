@@ -2,7 +2,7 @@
 ghost use Rattle.std.specs.Prelude.{string_bytes, IfOk};
 ghost use Rattle.serde_json.specs.View.{view};
 ghost use Rattle.clr_rule_text.specs.declared.faults.TextFault.TheVariants as text_fault;
-ghost use Rattle.clr_explanations.specs.Remarks.{IsRowTold, IsRuleTold, IsSchemaTold, IsTold};
+ghost use Rattle.clr_explanations.specs.Remarks.{IsRowTold, IsRuleTold, IsSchemaTold, TellsDroppedFault};
 
 use crate::items::item_at;
 use crate::readings::{format_in, schema_in};
@@ -38,7 +38,7 @@ fn slip_of_tables(alloc: Global, json: &Json, format: Format) -> Result<Slip, Al
 /// Returns why the tables of a text make no schema.
 #[tactic(auto, using(crate::proofs::Told::bad_schema_told, crate::proofs::Told::no_format))]
 pub fn schema_slip(alloc: Global, json: &Json, spot: Spot) -> Result<Slip, AllocError>
-    ensures { IfOk result (λ slip. IsTold (view json.now) text_fault.BadSchema spot (string_bytes slip.sentence)) }
+    ensures { IfOk result (λ slip. TellsDroppedFault (view json.now) text_fault.BadSchema spot (string_bytes slip.sentence)) }
 {
     let _spot = spot;
     match format_in(json)? {
@@ -74,7 +74,7 @@ fn slip_of_rule(alloc: Global, json: &Json, spot: Spot, schema: &Schema) -> Resu
 /// Returns why a rule can't stand over the schema.
 #[tactic(auto, using(crate::proofs::Told::bad_rule_told, crate::proofs::Told::no_tables))]
 pub fn rule_slip(alloc: Global, json: &Json, spot: Spot) -> Result<Slip, AllocError>
-    ensures { IfOk result (λ slip. IsTold (view json.now) text_fault.BadRule spot (string_bytes slip.sentence)) }
+    ensures { IfOk result (λ slip. TellsDroppedFault (view json.now) text_fault.BadRule spot (string_bytes slip.sentence)) }
 {
     match schema_in(alloc, json)? {
         Some(schema) => slip_of_rule(alloc, json, spot, &schema),
@@ -96,7 +96,7 @@ fn slip_of_row(alloc: Global, item: &Json, schema: &Schema) -> Result<Slip, Allo
 /// Returns why the row at an item can't stand in its table.
 #[tactic(auto, using(crate::proofs::Told::bad_row_told, crate::proofs::Told::no_tables_of_row, crate::proofs::Told::no_item))]
 pub fn row_slip(alloc: Global, json: &Json, spot: Spot) -> Result<Slip, AllocError>
-    ensures { IfOk result (λ slip. IsTold (view json.now) text_fault.BadRow spot (string_bytes slip.sentence)) }
+    ensures { IfOk result (λ slip. TellsDroppedFault (view json.now) text_fault.BadRow spot (string_bytes slip.sentence)) }
 {
     let Some(schema) = schema_in(alloc, json)? else {
         return slip_or_unknown(alloc, None);

@@ -2,7 +2,7 @@
 ghost use Rattle.std.specs.Prelude.{◌≡◌, Ok, IfOk, IsErr, MatchOption};
 ghost use Rattle.serde_json.specs.View.{view};
 ghost use Rattle.clr_faults.specs.Stages.{item_of};
-ghost use Rattle.clr_explanations.specs.Items.{item_at, item_in_workspace, saved_item};
+ghost use Rattle.clr_explanations.specs.Items.{item_at_spot, item_in_workspace, saved_item};
 
 use clr_faults::Spot;
 use clr_item_faults::unless_lost;
@@ -57,7 +57,7 @@ fn saved_item<'a>(
 
 /// Returns the item at which a fault stands, or none where there is no such item.
 pub fn item_at(json: &Json, spot: Spot) -> Result<Option<&Json>, AllocError>
-    ensures { let meant = item_at spot (view json.now) in IfOk result (λ found. MatchOption found (IsErr meant) (λ v. meant ≡ Ok (view v.now))) }
+    ensures { let meant = item_at_spot spot (view json.now) in IfOk result (λ found. MatchOption found (IsErr meant) (λ v. meant ≡ Ok (view v.now))) }
 {
     match spot {
         Spot::Whole => Ok(Some(json)),

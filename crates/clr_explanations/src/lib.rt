@@ -2,7 +2,7 @@
 //!
 //! - `explain_office` [`none`, `told`, `at`]: whether an office text can be read; else the reader's own fault, and a remark on the item that
 //!   has it, the first of its list whose own reading answers this fault. Where the reader drops the fault of a row, of the book of
-//!   rules or of the tables, the sentence begins with the name of just that fault (`IsTold`).
+//!   rules or of the tables, the sentence begins with the name of just that fault (`TellsDroppedFault`).
 //! - `explain_standing` [`none`, `told`]: of a text that can be read, the fault of its workspaces as a whole, and the first that has it.
 //! - `office_fault_words`: the word `office`, and the number and the name of a fault.
 //!

@@ -4,7 +4,7 @@ ghost use Rattle.serde_json.specs.View.{view};
 ghost use Rattle.clr_office_text.specs.Offices.{office_in};
 ghost use Rattle.clr_explanations.specs.Places.{IsPlaceOf};
 ghost use Rattle.clr_faults.specs.Spots.{IsFoundIn};
-ghost use Rattle.clr_explanations.specs.Remarks.{IsOfficeRemark, IsTold, IsToldIn};
+ghost use Rattle.clr_explanations.specs.Remarks.{IsOfficeRemark, TellsDroppedFault, TellsDroppedFaultIn};
 
 use crate::field_slips::field_slip;
 use crate::inner_slips::{row_slip, rule_slip, schema_slip, slip_or_unknown};
@@ -35,7 +35,7 @@ fn workspace_slip(alloc: Global, json: &Json, spot: Spot) -> Result<Slip, AllocE
 
 /// Returns what is wrong with the item that has the fault.
 fn slip_of(alloc: Global, text: &[u8], json: &Json, found: Found) -> Result<Slip, AllocError>
-    ensures { IfOk result (λ slip. IsTold (view json.now) found.fault found.spot (string_bytes slip.sentence)) }
+    ensures { IfOk result (λ slip. TellsDroppedFault (view json.now) found.fault found.spot (string_bytes slip.sentence)) }
 {
     match found.fault {
         TextFault::BadSchema => schema_slip(alloc, json, found.spot),
@@ -53,7 +53,7 @@ fn slip_of(alloc: Global, text: &[u8], json: &Json, found: Found) -> Result<Slip
 fn remark_in(alloc: Global, text: &[u8], json: &Json, found: Found) -> Result<Remark, AllocError>
     ensures within { IfOk result (λ remark. remark.offset ≤ length text.now) }
     ensures place { IfOk result (λ remark. IsPlaceOf found.spot (string_bytes remark.place)) }
-    ensures told { IfOk result (λ remark. IsTold (view json.now) found.fault found.spot (string_bytes remark.sentence)) }
+    ensures told { IfOk result (λ remark. TellsDroppedFault (view json.now) found.fault found.spot (string_bytes remark.sentence)) }
 {
     let slip = slip_of(alloc, text, json, found)?;
     remark_of(alloc, text, json, found.spot, slip)
@@ -87,7 +87,7 @@ fn remark_on(alloc: Global, text: &[u8], found: Found) -> Result<Remark, AllocEr
     requires { IsFoundIn text.now found.fault found.spot }
     ensures within { IfOk result (λ remark. remark.offset ≤ length text.now) }
     ensures place { IfOk result (λ remark. IsPlaceOf found.spot (string_bytes remark.place)) }
-    ensures told { IfOk result (λ remark. IsToldIn text.now found.fault found.spot (string_bytes remark.sentence)) }
+    ensures told { IfOk result (λ remark. TellsDroppedFaultIn text.now found.fault found.spot (string_bytes remark.sentence)) }
 {
     match Json::from_slice(alloc, text) {
         Ok(json) => {

@@ -1,6 +1,6 @@
 //! Items of an office text, and their paths.
 ghost use Rattle.std.specs.Prelude.{◌≡◌, codes, string_bytes, IfOk};
-ghost use Rattle.clr_explanations.specs.Places.{path_in, spot_path, workspace_path};
+ghost use Rattle.clr_explanations.specs.Places.{list_item_path, spot_path, workspace_path};
 
 use clr_faults::Spot;
 use clr_places::{Key, Step};
@@ -15,7 +15,7 @@ fn workspace_path(alloc: Global, at: usize) -> Result<String, AllocError>
 
 /// Returns the path of an item of a list that stands in another item.
 fn path_in(alloc: Global, outer: &str, list: &str, item: usize) -> Result<String, AllocError>
-    ensures { IfOk result (λ path. string_bytes path ≡ path_in outer.now list.now item) }
+    ensures { IfOk result (λ path. string_bytes path ≡ list_item_path outer.now list.now item) }
 {
     let path = format!(in alloc; "{outer}.{list}[{item}]")?;
     Ok(path)
@@ -28,7 +28,7 @@ fn path_in_workspace(
     list: &str,
     item: usize,
 ) -> Result<String, AllocError>
-    ensures { IfOk result (λ path. string_bytes path ≡ path_in (workspace_path at) list.now item) }
+    ensures { IfOk result (λ path. string_bytes path ≡ list_item_path (workspace_path at) list.now item) }
 {
     let outer = workspace_path(alloc, at)?;
     let path = path_in(alloc, outer.as_str(), list, item)?;
@@ -37,7 +37,7 @@ fn path_in_workspace(
 
 /// Returns the path of a cell of a savepoint.
 fn saved_path(alloc: Global, at: usize, mark: usize, cell: usize) -> Result<String, AllocError>
-    ensures { IfOk result (λ path. string_bytes path ≡ path_in (path_in (workspace_path at) (codes "marks") mark) (codes "rows") cell) }
+    ensures { IfOk result (λ path. string_bytes path ≡ list_item_path (list_item_path (workspace_path at) (codes "marks") mark) (codes "rows") cell) }
 {
     let outer = path_in_workspace(alloc, at, "marks", mark)?;
     let path = path_in(alloc, outer.as_str(), "rows", cell)?;

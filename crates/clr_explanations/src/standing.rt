@@ -2,7 +2,7 @@
 ghost use Rattle.std.specs.Prelude.{◌≡◌, ◌≢◌, ◌≤◌, length, string_bytes, IfNone, IfOk, IfSome};
 ghost use Rattle.clr_explanations.specs.Places.{BeginsWithPath};
 ghost use Rattle.clr_explanations.specs.Standing.{IsStandingFault, IsStandingRemark, StandsIfRead};
-ghost use Rattle.clr_item_explanations.specs.FaultNames.{IsNamed, part_fault_name};
+ghost use Rattle.clr_item_explanations.specs.FaultNames.{BeginsWithName, part_fault_name};
 
 use crate::places::remark_of;
 use clr_fault_lines::Remark;
@@ -17,7 +17,7 @@ use std::alloc::{AllocError, Global};
 
 /// Returns why a workspace can't stand among all of them.
 fn slip_of_part(alloc: Global, json: &Json, at: usize, fault: PartFault) -> Result<Slip, AllocError>
-    ensures { IfOk result (λ slip. IsNamed (part_fault_name fault) (string_bytes slip.sentence)) }
+    ensures { IfOk result (λ slip. BeginsWithName (part_fault_name fault) (string_bytes slip.sentence)) }
 {
     match items_at(json, Key::Workspaces).get(at) {
         Some(workspace) => explain_part(alloc, workspace, fault),
@@ -61,7 +61,7 @@ fn remark_on_part(
 ) -> Result<Remark, AllocError>
     ensures within { IfOk result (λ remark. remark.offset ≤ length text.now) }
     ensures place { IfOk result (λ remark. BeginsWithPath (Spot.Workspace at) (string_bytes remark.place)) }
-    ensures named { IfOk result (λ remark. IsNamed (part_fault_name fault) (string_bytes remark.sentence)) }
+    ensures named { IfOk result (λ remark. BeginsWithName (part_fault_name fault) (string_bytes remark.sentence)) }
 {
     let Ok(json) = Json::from_slice(alloc, text) else {
         return Err(AllocError);

@@ -5,18 +5,18 @@ use Rattle.clr_places.specs.Places.{begins_character, is_line_end, last_line}
 use Rattle.clr_fault_lines.specs.declared.remarks.Remark.{Remark}
 
 -- the line of a byte, counted from 1
-abbrev pub line_of : List ℕ → ℕ → ℕ
-line_of text offset = count_by is_line_end (take offset text) + 1
+abbrev pub line_number_of : List ℕ → ℕ → ℕ
+line_number_of text offset = count_by is_line_end (take offset text) + 1
 
 -- its column in characters, counted from 1
-abbrev pub column_of : List ℕ → ℕ → ℕ
-column_of text offset = count_by begins_character (last_line (take offset text)) + 1
+abbrev pub column_number_of : List ℕ → ℕ → ℕ
+column_number_of text offset = count_by begins_character (last_line (take offset text)) + 1
 
 -- where the byte stands, and what else is said of that place
 abbrev pub place_line : List ℕ → Remark → List ℕ
 place_line text remark =
-    codes "at line " ++ decimal (line_of text remark.offset) ++ codes ", column " ++ decimal (column_of text remark.offset) ++ string_bytes remark.place
-    ++ codes "\n"
+    codes "at line " ++ decimal (line_number_of text remark.offset) ++ codes ", column " ++ decimal (column_number_of text remark.offset)
+    ++ string_bytes remark.place ++ codes "\n"
 
 abbrev pub hint_line : Option (String Global) → List ℕ
 hint_line None = []
@@ -29,5 +29,5 @@ AreFaultLines text name remark lines = (shown : List ℕ)
 
 -- the file, the line, the column and the sentence
 abbrev pub short_line : List ℕ → List ℕ → Remark → List ℕ
-short_line text file remark = file ++ codes ":" ++ decimal (line_of text remark.offset) ++ codes ":" ++ decimal (column_of text remark.offset) ++ codes ": "
-    ++ string_bytes remark.sentence ++ codes "\n"
+short_line text file remark = file ++ codes ":" ++ decimal (line_number_of text remark.offset) ++ codes ":" ++ decimal (column_number_of text remark.offset)
+    ++ codes ": " ++ string_bytes remark.sentence ++ codes "\n"

@@ -13,8 +13,8 @@ tone_mark Good = codes "<h1><b class=\"good\">"
 tone_mark Bad = codes "<h1><b class=\"bad\">"
 tone_mark Neither = codes "<h1><b>"
 
-abbrev pub verdict_text : Tone → List ℕ → List ℕ → List ℕ
-verdict_text tone word about = between (tone_mark tone) word (codes "</b>") ++ between (codes " <small>") about (codes "</small></h1>\n")
+abbrev pub html_verdict_text : Tone → List ℕ → List ℕ → List ℕ
+html_verdict_text tone word about = between (tone_mark tone) word (codes "</b>") ++ between (codes " <small>") about (codes "</small></h1>\n")
 
 abbrev pub points_text : List Text → List ℕ
 points_text points = codes "<ul>\n" ++ framed_texts (codes "<li>") (codes "</li>\n") points ++ codes "</ul>\n"
@@ -25,7 +25,7 @@ folded_lines_text words lines =
 
 -- a picture goes out as it is
 unfoldable pub block_text : Block → List ℕ
-block_text (block.Verdict tone word about) = verdict_text tone word.items about.items
+block_text (block.Verdict tone word about) = html_verdict_text tone word.items about.items
 block_text (block.Heading words) = between (codes "<h2>") words.items (codes "</h2>\n")
 block_text (block.Paragraph text) = framed_text (codes "<p>") (codes "</p>\n") text
 block_text (block.Points points) = points_text points.items

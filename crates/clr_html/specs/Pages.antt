@@ -19,5 +19,5 @@ unfoldable pub sections_text : List Section → List ℕ
 sections_text sections = flat_map section_text sections
 
 -- the title, and then the sections
-unfoldable pub page_text : Page → List ℕ
-page_text page = between OPENING.now page.title.items STYLES.now ++ sections_text page.sections.items ++ CLOSING.now
+unfoldable pub html_page_text : Page → List ℕ
+html_page_text page = between OPENING.now page.title.items STYLES.now ++ sections_text page.sections.items ++ CLOSING.now

@@ -19,15 +19,15 @@ framed_texts begin end texts = flat_map (framed_text begin end) texts
 abbrev pub row_text : Row → List ℕ
 row_text row = codes "<tr>" ++ framed_texts (codes "<td>") (codes "</td>") row.cells.items ++ codes "</tr>\n"
 
-unfoldable pub rows_text : List Row → List ℕ
-rows_text rows = flat_map row_text rows
+unfoldable pub html_rows_text : List Row → List ℕ
+html_rows_text rows = flat_map row_text rows
 
 abbrev pub heads_text : List Text → List ℕ
 heads_text heads = HEADS.now ++ framed_texts (codes "<th>") (codes "</th>") heads ++ END_OF_HEADS.now
 
 -- the heads of the columns, and then the rows
 unfoldable pub table_text : Table → List ℕ
-table_text table = heads_text table.heads.items ++ rows_text table.rows.items ++ END_OF_TABLE.now
+table_text table = heads_text table.heads.items ++ html_rows_text table.rows.items ++ END_OF_TABLE.now
 
 abbrev pub summary_text : Fold → List ℕ
 summary_text fold = codes "<summary>" ++ text_text fold.name ++ between (codes " <small>") fold.words.items (codes "</small></summary>\n")

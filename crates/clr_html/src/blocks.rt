@@ -1,7 +1,7 @@
 //! The blocks of a page.
 
 ghost use Rattle.std.specs.Prelude.{◌≡◌, ◌++◌, codes, OnOk};
-ghost use Rattle.clr_html.specs.Blocks.{block_text, folded_lines_text, points_text, tone_mark, verdict_text};
+ghost use Rattle.clr_html.specs.Blocks.{block_text, folded_lines_text, html_verdict_text, points_text, tone_mark};
 
 use crate::tables::{Fold, Table, add_each_framed, add_fold, add_framed, add_table};
 use crate::texts::{Text, add_between};
@@ -53,7 +53,7 @@ fn tone_mark(tone: Tone) -> &'static str
 }
 
 fn add_verdict(page: &mut Vec<u8>, tone: Tone, word: &[u8], about: &[u8]) -> Result<(), AllocError>
-    ensures { OnOk result (page.new.items ≡ page.old.items ++ verdict_text tone word.now about.now) }
+    ensures { OnOk result (page.new.items ≡ page.old.items ++ html_verdict_text tone word.now about.now) }
 {
     add_between(page, tone_mark(tone), word, "</b>")?;
     add_between(page, " <small>", about, "</small></h1>\n")

@@ -1,6 +1,6 @@
 //! Pages of hypertext (HTML), made of typed blocks and written as text: one file without a script, a font or a link, which prints on A4.
 //!
-//! - `write_page` [`written`]: the text is exactly `page_text` of the page, memory aside. Each text of the page is escaped; a picture
+//! - `write_page` [`written`]: the text is exactly `html_page_text` of the page, memory aside. Each text of the page is escaped; a picture
 //!   goes out as it is given.
 #![tactic(auto)]
 

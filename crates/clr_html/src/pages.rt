@@ -1,7 +1,7 @@
 //! Pages, and how they are written.
 
 ghost use Rattle.std.specs.Prelude.{◌≡◌, ◌++◌, IfOk, OnOk};
-ghost use Rattle.clr_html.specs.Pages.{blocks_text, page_text, section_text, sections_text};
+ghost use Rattle.clr_html.specs.Pages.{blocks_text, html_page_text, section_text, sections_text};
 
 use crate::blocks::{Block, add_block};
 use crate::marks::{END_OF_SECTION, SECTION};
@@ -52,9 +52,9 @@ fn add_sections(page: &mut Vec<u8>, sections: &[Section]) -> Result<(), AllocErr
 
 /// Returns the text of a page, which is HTML in UTF-8: one file that loads nothing and runs no script. Each text is escaped, and a
 /// picture goes out as it is.
-#[tactic(auto, unfolding(crate::specs::Pages::page_text))]
+#[tactic(auto, unfolding(crate::specs::Pages::html_page_text))]
 pub fn write_page(alloc: Global, page: &Page) -> Result<Vec<u8>, AllocError>
-    ensures written { IfOk result (λ text. text.items ≡ page_text page.now) }
+    ensures written { IfOk result (λ text. text.items ≡ html_page_text page.now) }
 {
     let mut text = Vec::new(alloc);
     add_between(&mut text, OPENING, page.title.as_slice(), STYLES)?;

@@ -2,7 +2,7 @@
 
 ghost use Rattle.std.specs.Prelude.{◌≡◌, ◌++◌, codes, OnOk};
 ghost use Rattle.std.specs.List.{flat_map};
-ghost use Rattle.clr_html.specs.Tables.{fold_text, framed_text, framed_texts, heads_text, row_text, rows_text, summary_text, table_text};
+ghost use Rattle.clr_html.specs.Tables.{fold_text, framed_text, framed_texts, heads_text, html_rows_text, row_text, summary_text, table_text};
 
 use crate::marks::{END_OF_HEADS, END_OF_TABLE, HEADS};
 use crate::texts::{Text, add_between, add_text};
@@ -68,9 +68,9 @@ fn add_row(page: &mut Vec<u8>, row: &Row) -> Result<(), AllocError>
     page.extend_from_slice(b"</tr>\n")
 }
 
-#[tactic(auto, unfolding(crate::specs::Tables::rows_text))]
+#[tactic(auto, unfolding(crate::specs::Tables::html_rows_text))]
 fn add_rows(page: &mut Vec<u8>, rows: &[Row]) -> Result<(), AllocError>
-    ensures { OnOk result (page.new.items ≡ page.old.items ++ rows_text rows.now) }
+    ensures { OnOk result (page.new.items ≡ page.old.items ++ html_rows_text rows.now) }
 {
     for row in rows {
         add_row(page, row)?;

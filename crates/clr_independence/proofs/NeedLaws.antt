@@ -14,15 +14,15 @@ use Rattle.clr_sites.proofs.SearchLemmas.{it_is, it_is_not}
 use Rattle.clr_foot.proofs.InvolvedLaws.{both_depend}
 use Rattle.clr_groups.proofs.LabelledGroups.{PutAt, earlier, last, put_at}
 use Rattle.clr_independence.specs.declared.member_pairs.Pair.{Pair}
-use Rattle.clr_independence.specs.Pairs.{AreNeedsOf, IsApart, IsPairOf, ShareOne}
+use Rattle.clr_independence.specs.Pairs.{AreNeedsOf, IsPairByNeeds, ShareOne, TellsIfApart}
 
 -- dependence -------------------------------------------------------------------------------------
 
 module _ (c : Setting ℕ) (count : ℕ) (lists : List (List Need)) (are : AreNeedsOf c count lists) where
-  pub pair_is_independent : (p : Pair) → IsPairOf lists p → IsIndependence c p.first p.second p.independent
+  pub pair_is_independent : (p : Pair) → IsPairByNeeds lists p → IsIndependence c p.first p.second p.independent
   pair_is_independent p t = by p.independent t.each
     where
-      by : (b : Bool) → IsApart b t.needs t.others → IsIndependence c p.first p.second b
+      by : (b : Bool) → TellsIfApart b t.needs t.others → IsIndependence c p.first p.second b
       by true none = λ (n, a, b, possible, first, second).
           none (
             n,

@@ -11,7 +11,7 @@ use Rattle.clr_needs.specs.declared.needs.Need.{Need}
 use Rattle.clr_needs.specs.Settings.{Setting}
 use Rattle.clr_sites.specs.Told.{IsTold}
 use Rattle.clr_independence.specs.declared.member_pairs.Pair.{Pair}
-use Rattle.clr_independence.specs.Pairs.{AddsPairs, AreAscending, AreNeedsOf, ArePairs, IsApart, IsPairOf, ShareOne, members_of, pairs_below, pairs_with}
+use Rattle.clr_independence.specs.Pairs.{AddsPairs, AreAscending, AreNeedsOf, ArePairs, IsPairByNeeds, ShareOne, TellsIfApart, pair_members, pairs_below, pairs_with}
 use Rattle.clr_independence.proofs.NeedLaws.{pair_is_independent}
 
 range_more : (a n j : ℕ) → a + n ≡ j → range_with_len a (n + 1) ≡ range_with_len a n ++ j ∷ []
@@ -28,12 +28,12 @@ beside i j = (i, j)
 module _ (lists : List (List Need)) (first : ℕ) where
   -- the pairs with the members before a position
   pub record AddsPairsTo (end : ℕ) (old new : List Pair) : Type 0 where
-    pub all : map members_of new ≡ map members_of old ++ map (beside first) (range_with_len (first + 1) (end - (first + 1)))
-    pub each : (p : Pair) → Contains new p → Contains old p ⊎ IsPairOf lists p
+    pub all : map pair_members new ≡ map pair_members old ++ map (beside first) (range_with_len (first + 1) (end - (first + 1)))
+    pub each : (p : Pair) → Contains new p → Contains old p ⊎ IsPairByNeeds lists p
 
   pub no_pairs_with : (old : List Pair) → AddsPairsTo (first + 1) old old
   no_pairs_with old = record {
-    all = sym (append-nil (map members_of old)) ∙ (let none : 0 ≡ (first + 1) - (first + 1) = omega arith in ap (λ n. map members_of old
+    all = sym (append-nil (map pair_members old)) ∙ (let none : 0 ≡ (first + 1) - (first + 1) = omega arith in ap (λ n. map pair_members old
         ++ map (beside first) (range_with_len (first + 1) n)) none);
     each = λ p h. inl h;
   }
@@ -41,7 +41,7 @@ module _ (lists : List (List Need)) (first : ℕ) where
   abbrev pub pair : ℕ → Bool → Pair
   pair second answer = record { first = first; second = second; independent = not answer }
 
-  apart_by : (b : Bool) (needs others : List Need) → IsTold b (ShareOne needs others) → IsApart (not b) needs others
+  apart_by : (b : Bool) (needs others : List Need) → IsTold b (ShareOne needs others) → TellsIfApart (not b) needs others
   apart_by true needs others h = h
   apart_by false needs others h = h
 
@@ -51,9 +51,9 @@ module _ (lists : List (List Need)) (first : ℕ) where
       → AddsPairsTo second old list
       → AddsPairsTo (second + 1) old new
   one_pair_with second needs others answer old list new from at other_at tells put are = record {
-    all = ap (map members_of) put ∙ map-append members_of list (pair second answer ∷ []) ∙ ap (λ (ps : List (ℕ × ℕ)). ps ++ beside first second ∷ []) are.all
-        ∙ append_assoc (map members_of old) (map (beside first) (range_with_len (first + 1) (second - (first + 1)))) (beside first second ∷ [])
-        ∙ ap (λ ps. map members_of old ++ ps) more;
+    all = ap (map pair_members) put ∙ map-append pair_members list (pair second answer ∷ []) ∙ ap (λ (ps : List (ℕ × ℕ)). ps ++ beside first second ∷ []) are.all
+        ∙ append_assoc (map pair_members old) (map (beside first) (range_with_len (first + 1) (second - (first + 1)))) (beside first second ∷ [])
+        ∙ ap (λ ps. map pair_members old ++ ps) more;
     each = λ q h. by q (Contains-append_cases list (pair second answer ∷ []) q (subst (λ ps. Contains ps q) put h));
   }
     where
@@ -67,20 +67,20 @@ module _ (lists : List (List Need)) (first : ℕ) where
           ∙ ap (map (beside first)) (sym (range_more (first + 1) (second - (first + 1)) ((first + 1) + (second - (first + 1))) refl))
           ∙ ap (λ m. map (beside first) (range_with_len (first + 1) m)) (sym next)
 
-      here : IsPairOf lists (pair second answer)
+      here : IsPairByNeeds lists (pair second answer)
       here = record { needs = needs; others = others; first = at; second = other_at; each = apart_by answer needs others tells }
 
-      last : (q : Pair) → (pair second answer ≡ q) ⊎ ⊥ → IsPairOf lists q
-      last q (inl e) = subst (IsPairOf lists) e here
+      last : (q : Pair) → (pair second answer ≡ q) ⊎ ⊥ → IsPairByNeeds lists q
+      last q (inl e) = subst (IsPairByNeeds lists) e here
       last q (inr none) = absurd none
 
-      by : (q : Pair) → Contains list q ⊎ Contains (pair second answer ∷ []) q → Contains old q ⊎ IsPairOf lists q
+      by : (q : Pair) → Contains list q ⊎ Contains (pair second answer ∷ []) q → Contains old q ⊎ IsPairByNeeds lists q
       by q (inl h) = are.each q h
       by q (inr h) = inr (last q (among q (pair second answer ∷ []) h))
 
   pub all_pairs_with : (end : ℕ) (old new : List Pair) → end ≡ length lists → AddsPairsTo end old new → AddsPairs lists first old new
   all_pairs_with end old new is are = record {
-    all = are.all ∙ ap (λ k. map members_of old ++ map (beside first) (range_with_len (first + 1) (k - (first + 1)))) is;
+    all = are.all ∙ ap (λ k. map pair_members old ++ map (beside first) (range_with_len (first + 1) (k - (first + 1)))) is;
     each = are.each;
   }
 
@@ -89,8 +89,8 @@ module _ (lists : List (List Need)) (first : ℕ) where
 module _ (lists : List (List Need)) where
   -- the pairs of the members before a position
   pub record ArePairsTo (end : ℕ) (pairs : List Pair) : Type 0 where
-    pub all : map members_of pairs ≡ flat_map (pairs_with (length lists)) (range_with_len 0 end)
-    pub each : (p : Pair) → Contains pairs p → IsPairOf lists p
+    pub all : map pair_members pairs ≡ flat_map (pairs_with (length lists)) (range_with_len 0 end)
+    pub each : (p : Pair) → Contains pairs p → IsPairByNeeds lists p
 
   pub no_pairs : (pairs : List Pair) → pairs ≡ [] → ArePairsTo 0 pairs
   no_pairs pairs none = subst (ArePairsTo 0) (sym none) (record { all = refl; each = λ p h. absurd (among p [] h) })
@@ -103,7 +103,7 @@ module _ (lists : List (List Need)) where
     each = λ p h. by p (adds.each p h);
   }
     where
-      by : (p : Pair) → Contains old p ⊎ IsPairOf lists p → IsPairOf lists p
+      by : (p : Pair) → Contains old p ⊎ IsPairByNeeds lists p → IsPairByNeeds lists p
       by p (inl h) = are.each p h
       by p (inr h) = h
 

@@ -16,13 +16,13 @@ word_of true = codes "independent "
 word_of false = codes "dependent "
 
 -- the line of a pair: the word, and both names
-abbrev pub pair_text : List Name → Pair → List ℕ
-pair_text members p = word_of p.independent ++ member_name members p.first ++ codes " " ++ member_name members p.second ++ codes "\n"
+abbrev pub independence_line : List Name → Pair → List ℕ
+independence_line members p = word_of p.independent ++ member_name members p.first ++ codes " " ++ member_name members p.second ++ codes "\n"
 
 -- the lines of what is said of members of a root
 unfoldable pub independence_text : List TableDef → List Name → Name → Independence → List ℕ
 independence_text tables members root (said.Unfit v) = codes "unfit " ++ verdict_text tables members root v
-independence_text tables members root (said.Pairs pairs) = flat_map (pair_text members) pairs.items
+independence_text tables members root (said.Pairs pairs) = flat_map (independence_line members) pairs.items
 
 -- the lines of the members of a site in an office
 abbrev pub AreIndependenceLines : Office → Site → List ℕ → Type 0

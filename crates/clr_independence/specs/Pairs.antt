@@ -17,12 +17,12 @@ pairs_with count i = map (λ j. (i, j)) (range_with_len (i + 1) (count - (i + 1)
 abbrev pub pairs_below : ℕ → List (ℕ × ℕ)
 pairs_below count = flat_map (pairs_with count) (range_with_len 0 count)
 
-abbrev pub members_of : Pair → ℕ × ℕ
-members_of p = (p.first, p.second)
+abbrev pub pair_members : Pair → ℕ × ℕ
+pair_members p = (p.first, p.second)
 
 -- each pair once, in the order of the list, with whether its members are independent
 pub record ArePairs (c : Setting ℕ) (count : ℕ) (pairs : List Pair) : Type 0 where
-  pub all : map members_of pairs ≡ pairs_below count
+  pub all : map pair_members pairs ≡ pairs_below count
   pub each : (p : Pair) → Contains pairs p → IsIndependence c p.first p.second p.independent
 
 -- by the needs of each member -----------------------------------------------------------------
@@ -40,19 +40,19 @@ pub record AreNeedsOf (c : Setting ℕ) (count : ℕ) (lists : List (List Need))
   pub each : (k : ℕ) (list : List Need) → slice_get lists k ≡ Some list → Lists need_cmp (IsInvolving c k) list
 
 -- two lists have no need in common, or one
-abbrev pub IsApart : Bool → List Need → List Need → Type 0
-IsApart true needs others = ¬ (ShareOne needs others)
-IsApart false needs others = ShareOne needs others
+abbrev pub TellsIfApart : Bool → List Need → List Need → Type 0
+TellsIfApart true needs others = ¬ (ShareOne needs others)
+TellsIfApart false needs others = ShareOne needs others
 
 -- a pair, which is independent where the needs of its members have none in common
-pub record IsPairOf (lists : List (List Need)) (p : Pair) : Type 0 where
+pub record IsPairByNeeds (lists : List (List Need)) (p : Pair) : Type 0 where
   pub needs : List Need
   pub others : List Need
   pub first : slice_get lists p.first ≡ Some needs
   pub second : slice_get lists p.second ≡ Some others
-  pub each : IsApart p.independent needs others
+  pub each : TellsIfApart p.independent needs others
 
 -- the pairs of a member with those behind it are added
 pub record AddsPairs (lists : List (List Need)) (first : ℕ) (old new : List Pair) : Type 0 where
-  pub all : map members_of new ≡ map members_of old ++ pairs_with (length lists) first
-  pub each : (p : Pair) → Contains new p → Contains old p ⊎ IsPairOf lists p
+  pub all : map pair_members new ≡ map pair_members old ++ pairs_with (length lists) first
+  pub each : (p : Pair) → Contains new p → Contains old p ⊎ IsPairByNeeds lists p

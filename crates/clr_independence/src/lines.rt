@@ -4,7 +4,7 @@ ghost use Rattle.std.specs.Prelude.{◌≡◌, ◌++◌, codes, map, IfOk, OnOk}
 ghost use Rattle.std.specs.List.{flat_map};
 ghost use Rattle.clr_sites.specs.SiteNames.{site};
 ghost use Rattle.clr_verdict_lines.specs.Verdicts.{verdict_text};
-ghost use Rattle.clr_independence.specs.Lines.{AreIndependenceLines, independence_text, pair_text};
+ghost use Rattle.clr_independence.specs.Lines.{AreIndependenceLines, independence_line, independence_text};
 
 use crate::independences::{Independence, independence_of};
 use crate::member_pairs::Pair;
@@ -16,7 +16,7 @@ use std::alloc::{AllocError, Global};
 
 /// Adds the line of a pair.
 fn add_pair(lines: &mut Vec<u8>, members: &[&str], pair: Pair) -> Result<(), AllocError>
-    ensures { OnOk result (lines.new.items ≡ lines.old.items ++ pair_text (map (λ name. name.now) members.now) pair) }
+    ensures { OnOk result (lines.new.items ≡ lines.old.items ++ independence_line (map (λ name. name.now) members.now) pair) }
 {
     let word = if pair.independent {
         "independent "
@@ -32,7 +32,7 @@ fn add_pair(lines: &mut Vec<u8>, members: &[&str], pair: Pair) -> Result<(), All
 
 /// Returns the lines of pairs.
 fn pair_lines(alloc: Global, members: &[&str], pairs: &[Pair]) -> Result<Vec<u8>, AllocError>
-    ensures { IfOk result (λ lines. lines.items ≡ flat_map (pair_text (map (λ name. name.now) members.now)) pairs.now) }
+    ensures { IfOk result (λ lines. lines.items ≡ flat_map (independence_line (map (λ name. name.now) members.now)) pairs.now) }
 {
     let mut lines = Vec::new(alloc);
     for pair in pairs {

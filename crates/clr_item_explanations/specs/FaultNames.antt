@@ -22,8 +22,8 @@ schema_fault_name unfit.BadName = codes "BadName"
 schema_fault_name unfit.NameTaken = codes "NameTaken"
 
 -- a sentence begins with a name and a colon
-abbrev pub IsNamed : List ℕ → List ℕ → Type 0
-IsNamed name sentence = (told : List ℕ) × (sentence ≡ name ++ codes ": " ++ told)
+abbrev pub BeginsWithName : List ℕ → List ℕ → Type 0
+BeginsWithName name sentence = (told : List ℕ) × (sentence ≡ name ++ codes ": " ++ told)
 
 abbrev pub part_fault_name : PartFault → List ℕ
 part_fault_name unfit_part.OutOfMemory = codes "OutOfMemory"

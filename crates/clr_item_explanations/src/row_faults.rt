@@ -1,7 +1,7 @@
 //! Rows that don't fit their table.
 ghost use Rattle.std.specs.Prelude.{◌≡◌, string_bytes, IfOk};
 ghost use Rattle.clr_lines.specs.Replies.{row_fault_name};
-ghost use Rattle.clr_item_explanations.specs.FaultNames.{IsNamed};
+ghost use Rattle.clr_item_explanations.specs.FaultNames.{BeginsWithName};
 
 use crate::fields::{items_at, text_at};
 use crate::rows::coordinates_of;
@@ -169,7 +169,7 @@ pub fn explain_row_fault(
     schema: &Schema,
     fault: RowFault,
 ) -> Result<Slip, AllocError>
-    ensures { IfOk result (λ slip. IsNamed (row_fault_name fault) (string_bytes slip.sentence)) }
+    ensures { IfOk result (λ slip. BeginsWithName (row_fault_name fault) (string_bytes slip.sentence)) }
 {
     let slip = match table_of(schema, text_at(json, Key::T)) {
         Some(table) => of_fault(alloc, json, table, fault)?,

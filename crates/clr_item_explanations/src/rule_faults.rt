@@ -1,6 +1,6 @@
 //! Rules that can be read and can't stand over the schema.
 ghost use Rattle.std.specs.Prelude.{◌≡◌, string_bytes, IfOk};
-ghost use Rattle.clr_item_explanations.specs.FaultNames.{IsNamed, rule_fault_name};
+ghost use Rattle.clr_item_explanations.specs.FaultNames.{BeginsWithName, rule_fault_name};
 
 use crate::fields::{items_at, text_at};
 use crate::rules::{Part, parts_of};
@@ -175,7 +175,7 @@ fn sentence_of(fault: RuleFault) -> &'static str {
 
 /// Returns why a rule can't stand in a book over the schema, for the fault that it has: the name of the fault, and a sentence.
 pub fn explain_rule_fault(alloc: Global, fault: RuleFault) -> Result<Slip, AllocError>
-    ensures { IfOk result (λ slip. IsNamed (rule_fault_name fault) (string_bytes slip.sentence)) }
+    ensures { IfOk result (λ slip. BeginsWithName (rule_fault_name fault) (string_bytes slip.sentence)) }
 {
     let slip = Slip::of_words(alloc, &[], sentence_of(fault))?;
     slip.named(alloc, rule_fault_word(fault))

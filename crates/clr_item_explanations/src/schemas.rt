@@ -1,6 +1,6 @@
 //! Tables that can be read and make no schema.
 ghost use Rattle.std.specs.Prelude.{◌≡◌, string_bytes, IfOk};
-ghost use Rattle.clr_item_explanations.specs.FaultNames.{IsNamed, schema_fault_name};
+ghost use Rattle.clr_item_explanations.specs.FaultNames.{BeginsWithName, schema_fault_name};
 
 use crate::fields::{items_at, text_at};
 use crate::slips::Slip;
@@ -133,7 +133,7 @@ fn schema_fault_word(fault: SchemaFault) -> &'static str
 /// Returns why the tables of an office text make no schema, for the fault that they have: the name of the fault, and a sentence.
 /// Its steps lead from the whole text.
 pub fn explain_schema(alloc: Global, json: &Json, fault: SchemaFault) -> Result<Slip, AllocError>
-    ensures { IfOk result (λ slip. IsNamed (schema_fault_name fault) (string_bytes slip.sentence)) }
+    ensures { IfOk result (λ slip. BeginsWithName (schema_fault_name fault) (string_bytes slip.sentence)) }
 {
     let slip = match fault {
         SchemaFault::TooMany => too_many(alloc, json)?,

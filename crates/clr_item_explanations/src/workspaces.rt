@@ -1,6 +1,6 @@
 //! Workspaces and marks that can't be read, or that can't stand.
 ghost use Rattle.std.specs.Prelude.{◌≡◌, string_bytes, IfOk};
-ghost use Rattle.clr_item_explanations.specs.FaultNames.{IsNamed, part_fault_name};
+ghost use Rattle.clr_item_explanations.specs.FaultNames.{BeginsWithName, part_fault_name};
 
 use crate::fields::{Wanted, explain_field, explain_fields, items_at, text_at};
 use crate::slips::Slip;
@@ -125,7 +125,7 @@ fn key_of(fault: PartFault) -> Key {
 
 /// Returns why a workspace can't stand among all of them, for the fault that it has: the name of the fault, and a sentence.
 pub fn explain_part(alloc: Global, workspace: &Json, fault: PartFault) -> Result<Slip, AllocError>
-    ensures { IfOk result (λ slip. IsNamed (part_fault_name fault) (string_bytes slip.sentence)) }
+    ensures { IfOk result (λ slip. BeginsWithName (part_fault_name fault) (string_bytes slip.sentence)) }
 {
     let sentence = sentence_of(alloc, text_at(workspace, Key::Name), fault)?;
     let key = key_of(fault);

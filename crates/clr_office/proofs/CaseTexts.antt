@@ -12,10 +12,10 @@ use Rattle.clr_clearance.specs.ClearedRuns.{IsClearedRun, IsQuietStart}
 use Rattle.clr_clearance.specs.Plans.{merges}
 use Rattle.clr_clearance.specs.Verdicts.{IsVerdict}
 use Rattle.clr_cert.specs.declared.certificates.Certificate.{Certificate}
-use Rattle.clr_check.specs.Answers.{IsRefusal}
+use Rattle.clr_check.specs.Answers.{IsRefusingVerdict}
 use Rattle.clr_sites.specs.Certificates.{entries_in, site_of}
 use Rattle.clr_check_texts.specs.Cases.{Case, IsCaseFault}
-use Rattle.clr_check_texts.specs.Checks.{IsJudged}
+use Rattle.clr_check_texts.specs.Checks.{IsCheckedVerdict}
 use Rattle.clr_check_texts.specs.declared.cases.CaseFault.{CaseFault}
 use Rattle.clr_check_texts.specs.declared.cases.CaseFault.TheVariants as no_case
 use Rattle.clr_verdict_lines.specs.Verdicts.{verdict_text}
@@ -67,11 +67,11 @@ module _ (o : Office) (c : Certificate) (v : Verdict) (output : Output)
   of_verdict : outcome_of output o ≡ verdict_outcome o c v
   of_verdict = parts_are o _ _ _ _ _ _ lines refused lost
 
-  pub checked : IsJudged o c v → IsVerdictOutcome o c (outcome_of output o)
+  pub checked : IsCheckedVerdict o c v → IsVerdictOutcome o c (outcome_of output o)
   checked judged = (v, judged, of_verdict)
 
   -- no merge is performed
-  pub not_merged : (names : List Name) → IsRefusal o (site_of c) (entries_in c.entries) v → IsMergeOutcome o c names (outcome_of output o)
+  pub not_merged : (names : List Name) → IsRefusingVerdict o (site_of c) (entries_in c.entries) v → IsMergeOutcome o c names (outcome_of output o)
   not_merged names refusal = of_verdict_alone v refusal of_verdict
 
 module _ (o left : Office) (c : Certificate) (names : List Name) (commands : List Command) (replies : List Reply) (stopped : Option ℕ) (output : Output) where

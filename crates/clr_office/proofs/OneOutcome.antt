@@ -15,7 +15,7 @@ use Rattle.clr_clearance.specs.Verdicts.{IsVerdict}
 use Rattle.clr_clearance.proofs.OneAnswerLemmas.{one_start}
 use Rattle.clr_clearance.proofs.VerdictLemmas.{one_verdict}
 use Rattle.clr_cert.specs.declared.certificates.Certificate.{Certificate}
-use Rattle.clr_check.specs.Answers.{IsAnswer, of_memory, of_verdict}
+use Rattle.clr_check.specs.Answers.{IsCheckAnswer, of_memory, of_verdict}
 use Rattle.clr_sites.specs.Certificates.{entries_in, site_of}
 use Rattle.clr_sites.specs.SiteNames.{site}
 use Rattle.clr_verdict_lines.specs.Verdicts.{verdict_text}
@@ -62,7 +62,7 @@ one_planned o s all other (p, planned, is) (q, planned_other, is_other) found fo
 
 module _ (o : Office) (c : Certificate) where
   abbrev IsSaid : Verdict → Type 0
-  IsSaid v = IsAnswer o (site_of c) (entries_in c.entries) v
+  IsSaid v = IsCheckAnswer o (site_of c) (entries_in c.entries) v
 
   found_verdict : (v : Verdict) → IsSaid v → is_without_memory v ≡ false → IsVerdict o (site_of c) (entries_in c.entries) v
   found_verdict v (of_verdict is) found = is

@@ -12,10 +12,10 @@ use Rattle.clr_clearance.specs.ClearedRuns.{IsClearedRun, IsQuietStart}
 use Rattle.clr_clearance.specs.Plans.{merges}
 use Rattle.clr_clearance.specs.Verdicts.{IsVerdict}
 use Rattle.clr_cert.specs.declared.certificates.Certificate.{Certificate}
-use Rattle.clr_check.specs.Answers.{IsRefusal}
+use Rattle.clr_check.specs.Answers.{IsRefusingVerdict}
 use Rattle.clr_sites.specs.Certificates.{entries_in, site_of}
 use Rattle.clr_check_texts.specs.Cases.{Case}
-use Rattle.clr_check_texts.specs.Checks.{IsJudged}
+use Rattle.clr_check_texts.specs.Checks.{IsCheckedVerdict}
 use Rattle.clr_check_texts.specs.declared.cases.CaseFault.{CaseFault}
 use Rattle.clr_check_texts.specs.declared.cases.CaseFault.TheVariants as no_case
 use Rattle.clr_lines.specs.Replies.{reply_text}
@@ -41,7 +41,7 @@ verdict_outcome o c v = outcome (verdict_text o.schema c.members c.root v) (not 
 
 -- the outcome of some verdict on a certificate; where it is clear, the members are safe
 abbrev pub IsVerdictOutcome : Office → Certificate → Outcome → Type 0
-IsVerdictOutcome o c all = (v : Verdict) × IsJudged o c v × (all ≡ verdict_outcome o c v)
+IsVerdictOutcome o c all = (v : Verdict) × IsCheckedVerdict o c v × (all ≡ verdict_outcome o c v)
 
 -- merges -------------------------------------------------------------------------------------
 
@@ -67,7 +67,7 @@ merge_outcome replies stopped left = outcome (merge_text replies stopped left) (
 pub data IsMergeOutcome (o : Office) (c : Certificate) (names : List Name) (all : Outcome) : Type 0 where
   of_merges : (replies : List Reply) (stopped : Option ℕ) (left : Office) → AreMerged o c names replies stopped left
       → all ≡ merge_outcome replies stopped left → IsMergeOutcome o c names all
-  of_verdict : (v : Verdict) → IsRefusal o (site_of c) (entries_in c.entries) v → all ≡ verdict_outcome o c v → IsMergeOutcome o c names all
+  of_verdict : (v : Verdict) → IsRefusingVerdict o (site_of c) (entries_in c.entries) v → all ≡ verdict_outcome o c v → IsMergeOutcome o c names all
 
 -- texts --------------------------------------------------------------------------------------
 

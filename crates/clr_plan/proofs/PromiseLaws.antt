@@ -22,7 +22,7 @@ use Rattle.clr_plan.specs.declared.plans.Plan.{Plan}
 use Rattle.clr_plan.specs.declared.plans.Plan.TheVariants as plan
 use Rattle.clr_sites.specs.Certificates.{entries_in}
 use Rattle.clr_plan.specs.Plans.{IsPlan}
-use Rattle.clr_plan.specs.Promises.{IsExact, IsUnfitWhere, Lasts, Promises, is_cleared, is_out_of_memory}
+use Rattle.clr_plan.specs.Promises.{IsExact, IsUnfitWhere, Promises, StaysCleared, is_cleared, is_out_of_memory}
 use Rattle.clr_plan.proofs.FaultLaws.{no_name_fault}
 
 not_found : (v : Verdict) → None ≡ Some v → ⊥
@@ -84,7 +84,7 @@ stays o s (plan.Blocked order cause) clear h found = absurd (clear.unblocked ord
 stays o s (plan.Unfit v) clear h found = absurd (not_found v (sym (no_name_fault o s clear.free) ∙ h))
 stays o s plan.OutOfMemory clear h found = absurd (false≢true (sym found))
 
-pub lasting_law : (o : Office) (s : Site) (p : Plan) → IsPlan o s p → Lasts o s p
+pub lasting_law : (o : Office) (s : Site) (p : Plan) → IsPlan o s p → StaysCleared o s p
 lasting_law o s p h first site entries commands lost covers holds quiet later same once found =
     let clear = lasting_reordered first site entries commands lost covers holds quiet in
     stays o s p (subst (λ now. (other : Site) → NamesTheSame (standing now site) other → repeated_member other ≡ None → StaysClear now other) (sym later) clear

@@ -27,13 +27,13 @@ pub record IsProof (o : Office) (s : Site) (c : Certificate) : Type 0 where
   pub headline : Headline o s
 
 -- of the merges of the members in this order, the workspaces kept, one meets a conflict or breaks a rule
-pub record IsRefusal (o : Office) (s : Site) (order : List ℕ) : Type 0 where
+pub record IsRefusedOrder (o : Office) (s : Site) (order : List ℕ) : Type 0 where
   pub refused : is_refused o (names_at s order) ≡ true
   pub unsafe : ¬ (Safe o s)
 
 abbrev pub Promises : Office → Site → Plan → Type 0
 Promises o s (plan.Cleared c) = IsProof o s c
-Promises o s (plan.Blocked order cause) = IsRefusal o s order.items
+Promises o s (plan.Blocked order cause) = IsRefusedOrder o s order.items
 Promises o s (plan.Unfit v) = Unit {0}
 Promises o s plan.OutOfMemory = Unit {0}
 
@@ -58,8 +58,8 @@ abbrev pub IsUnfitWhere : Office → Site → Plan → Type 0
 IsUnfitWhere o s p = (v : Verdict) → IsUnfit o s v → p ≡ plan.Unfit v
 
 -- the members of a covered site that stand after quiet commands are cleared, in whichever order they are named, memory aside
-abbrev pub Lasts : Office → Site → Plan → Type 0
-Lasts o s p = (first : Office) (site : Site) (entries : List Entry) (commands : List Command) (lost : ℕ → Bool)
+abbrev pub StaysCleared : Office → Site → Plan → Type 0
+StaysCleared o s p = (first : Office) (site : Site) (entries : List Entry) (commands : List Command) (lost : ℕ → Bool)
     → Covers first site entries
     → RootHolds first site
     → AreQuiet first site commands lost

@@ -5,7 +5,7 @@ ghost use Rattle.clr_steps.specs.Quiet.{Site};
 ghost use Rattle.clr_sites.specs.SiteNames.{site};
 ghost use Rattle.clr_sites.specs.Sites.{AreParts};
 ghost use Rattle.clr_plan.specs.Plans.{IsPlan};
-ghost use Rattle.clr_plan.specs.Promises.{IsExact, IsUnfitWhere, Lasts, Promises};
+ghost use Rattle.clr_plan.specs.Promises.{IsExact, IsUnfitWhere, Promises, StaysCleared};
 
 use crate::faults::{plan_fault, plan_shared};
 use crate::plans::Plan;
@@ -47,7 +47,7 @@ pub fn plan(alloc: Global, office: &Office, root: &str, members: &[&str]) -> Pla
     ensures unfit { IsUnfitWhere office.now (site root.now (map (λ name. name.now) members.now)) result }
     ensures promises { Promises office.now (site root.now (map (λ name. name.now) members.now)) result }
     ensures exact { IsExact office.now (site root.now (map (λ name. name.now) members.now)) result }
-    ensures lasts { Lasts office.now (site root.now (map (λ name. name.now) members.now)) result }
+    ensures lasts { StaysCleared office.now (site root.now (map (λ name. name.now) members.now)) result }
 {
     let _rules = office.book();
     match read_site(alloc, office, root, &members) {

@@ -32,13 +32,13 @@ what_came None = Added
 what_came (Some before) = Changed
 
 -- what becomes of a row by a change, and the row that shows it: the new one, or else the one that is taken away
-abbrev pub shown : Option Row → Option Row → List (What × Row)
-shown before (Some after) = (what_came before, after) ∷ []
-shown (Some before) None = (Removed, before) ∷ []
-shown None None = []
+abbrev pub change_shown : Option Row → Option Row → List (What × Row)
+change_shown before (Some after) = (what_came before, after) ∷ []
+change_shown (Some before) None = (Removed, before) ∷ []
+change_shown None None = []
 
 abbrev pub change_features : List TableDef → List CellId → Name → CellId × Change → List Feature
-change_features tables causes name e = map (λ p. row_feature tables causes name p.0 e.0 p.1) (shown e.1.before e.1.after)
+change_features tables causes name e = map (λ p. row_feature tables causes name p.0 e.0 p.1) (change_shown e.1.before e.1.after)
 
 -- what a member changes, ascending
 unfoldable pub member_features : List TableDef → List CellId → Name × Changes → List Feature

@@ -26,15 +26,15 @@ second_cell None = []
 second_cell (Some v) = v.cell ∷ []
 
 -- the cells that a verdict names: of the rows that need something, or the one cell that is changed twice
-abbrev pub named_cells : Verdict → List CellId
-named_cells (verdict.Conflict member cell count) = cell ∷ []
-named_cells (verdict.SharedCell cell first second) = cell ∷ []
-named_cells (verdict.Uncovered need) = need.first.cell ∷ second_cell need.second
-named_cells _ = []
+abbrev pub cells_of_verdict : Verdict → List CellId
+cells_of_verdict (verdict.Conflict member cell count) = cell ∷ []
+cells_of_verdict (verdict.SharedCell cell first second) = cell ∷ []
+cells_of_verdict (verdict.Uncovered need) = need.first.cell ∷ second_cell need.second
+cells_of_verdict _ = []
 
 -- the cells that the cause of a plan names, if it has one
 abbrev pub cause_cells : Plan → List CellId
-cause_cells (plan.Blocked order cause) = named_cells cause
+cause_cells (plan.Blocked order cause) = cells_of_verdict cause
 cause_cells _ = []
 
 abbrev pub is_blocked : Plan → Bool

@@ -26,8 +26,8 @@ abbrev pub is_same_cell : CellId → CellId → Bool
 is_same_cell a b = (a.table == b.table) && int_eq a.key b.key
 
 -- whether the cell is one of these
-abbrev pub is_among : List CellId → CellId → Bool
-is_among cells cell = list_any (is_same_cell cell) cells
+abbrev pub is_one_of_cells : List CellId → CellId → Bool
+is_one_of_cells cells cell = list_any (is_same_cell cell) cells
 
 -- a value of a column of this name
 abbrev pub value_property : List ℕ → Value → Property
@@ -47,7 +47,7 @@ unfoldable pub cell_properties : List TableDef → List CellId → Name → What
 cell_properties tables causes workspace what cell =
     text_property (codes "table") (name_of_table tables cell.table) ∷ number_property (codes "key") cell.key
     ∷ text_property (codes "workspace") workspace ∷ text_property (codes "what") (what_word what)
-    ∷ flag_property (codes "cause") (is_among causes cell) ∷ []
+    ∷ flag_property (codes "cause") (is_one_of_cells causes cell) ∷ []
 
 -- the feature of a row, by the tables, the cells that a cause names, the workspace, and what becomes of the row
 unfoldable pub row_feature : List TableDef → List CellId → Name → What → CellId → Row → Feature

@@ -1,7 +1,7 @@
 //! The cells that the cause of a plan names.
 
 ghost use Rattle.std.specs.Prelude.{◌≡◌, ◌∷◌, IfOk};
-ghost use Rattle.clr_plan_features.specs.PlanFeatures.{cause_cells, named_cells, second_cell};
+ghost use Rattle.clr_plan_features.specs.PlanFeatures.{cause_cells, cells_of_verdict, second_cell};
 
 use clr_clearance::Verdict;
 use clr_needs::Need;
@@ -23,7 +23,7 @@ fn cells_of_need(alloc: Global, need: &Need) -> Result<Vec<CellId>, AllocError>
 
 /// Returns the cells that a verdict names.
 fn named_cells(alloc: Global, verdict: &Verdict) -> Result<Vec<CellId>, AllocError>
-    ensures { IfOk result (λ cells. cells.items ≡ named_cells verdict.now) }
+    ensures { IfOk result (λ cells. cells.items ≡ cells_of_verdict verdict.now) }
 {
     match verdict {
         Verdict::Uncovered(need) => cells_of_need(alloc, need),

@@ -3,7 +3,7 @@
 ghost use Rattle.std.specs.Prelude.{◌≡◌, ◌++◌, codes, map, string_bytes, IfOk, OnOk};
 ghost use Rattle.std.specs.List.{zip};
 ghost use Rattle.std.specs.Option.{option_copied};
-ghost use Rattle.clr_plan_features.specs.RowFeatures.{cell_properties, column_property, is_among, is_same_cell, row_feature, value_properties, value_property, what_word};
+ghost use Rattle.clr_plan_features.specs.RowFeatures.{cell_properties, column_property, is_one_of_cells, is_same_cell, row_feature, value_properties, value_property, what_word};
 
 use clr_geojson::{Feature, Properties, Property};
 use clr_rows::{CellId, Kind, Row, Schema, TableDef, Value, Words};
@@ -42,7 +42,7 @@ fn is_same_cell(one: CellId, other: CellId) -> bool
 
 /// Returns whether a cell is one of these.
 fn is_among(cells: &[CellId], cell: CellId) -> bool
-    ensures { result ≡ is_among cells.now cell }
+    ensures { result ≡ is_one_of_cells cells.now cell }
 {
     cells.iter().any(|other| is_same_cell(cell, *other))
 }

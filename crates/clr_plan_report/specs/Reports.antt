@@ -16,7 +16,7 @@ use Rattle.clr_html.specs.declared.blocks.Block.TheVariants as block
 use Rattle.clr_html.specs.declared.blocks.Tone.{Tone}
 use Rattle.clr_html.specs.declared.pages.Page.{Page}
 use Rattle.clr_html.specs.declared.pages.Section.{Section}
-use Rattle.clr_html.specs.Pages.{page_text}
+use Rattle.clr_html.specs.Pages.{html_page_text}
 use Rattle.clr_plan_map.specs.Maps.{IsMap, plan_word}
 use Rattle.clr_plan_report.specs.declared.feet.TheConstants.{PLAN, PLANUNDER}
 
@@ -62,4 +62,4 @@ pub record IsReportPage (tables : List TableDef) (members : List Name) (root : N
 abbrev pub IsReport : Office → Site → Plan → List ℕ → Type 0
 IsReport o s p text =
     (picture : List ℕ) × (page : Page) × IsMap o.schema s.members s.root p picture × IsReportPage o.schema s.members s.root p picture page
-    × (text ≡ page_text page)
+    × (text ≡ html_page_text page)

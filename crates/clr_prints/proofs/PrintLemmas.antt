@@ -8,11 +8,11 @@ use Rattle.clr_check_texts.specs.declared.cases.CaseFault.TheVariants as no_case
 use Rattle.clr_rule_text.specs.declared.faults.TextFault.{TextFault}
 use Rattle.clr_office.specs.Clearances.{fault_print}
 use Rattle.clr_reports.specs.Printing.{IsNoPrint}
-use Rattle.clr_reports.specs.Printing.{IsMade as AreLinesMade, IsPrintIn as IsLinesIn, IsTextFault as IsLinesFault, Printed as Lines}
+use Rattle.clr_reports.specs.Printing.{IsMadePrintout as AreLinesMade, IsPrintoutFault as IsLinesFault, IsPrintoutIn as IsLinesIn, PrintoutOrFault as Lines}
 use Rattle.clr_reports.specs.declared.faults.RunFault.{RunFault}
 use Rattle.clr_reports.specs.declared.faults.RunFault.TheVariants as run_fault
 use Rattle.clr_reports.specs.declared.outputs.Output.{Output}
-use Rattle.clr_prints.specs.Printing.{AreNoted, IsMade, IsPrintIn, IsPrintOfCase, IsTextFault, Printed, as_notes, of_fault, of_why, unless_lost}
+use Rattle.clr_prints.specs.Printing.{AreLinesAsNotes, IsMadePrintout, IsPrintoutFault, IsPrintoutIn, IsPrintoutOfCase, PrintoutOrFault, as_notes, of_fault, of_why, unless_lost}
 use Rattle.clr_prints.specs.declared.prints.Print.{Print}
 
 -- no text, whether it is dropped or not
@@ -20,8 +20,8 @@ no_text : (lost : Bool) → unless_lost lost [] ≡ []
 no_text true = refl
 no_text false = refl
 
-module _ (Q : Lines → Type 0) (P : Printed → Type 0) (leads : (lines : Lines) → Q lines → P (as_notes lines)) where
-  fault_noted : (e : RunFault) → IsLinesFault Q e → IsTextFault P e
+module _ (Q : Lines → Type 0) (P : PrintoutOrFault → Type 0) (leads : (lines : Lines) → Q lines → P (as_notes lines)) where
+  fault_noted : (e : RunFault) → IsLinesFault Q e → IsPrintoutFault P e
   fault_noted (run_fault.BadOffice f) h = leads (Err (run_fault.BadOffice f)) h
   fault_noted (run_fault.BadScript number f) h = leads (Err (run_fault.BadScript number f)) h
   fault_noted (run_fault.BadCertificate number f) h = leads (Err (run_fault.BadCertificate number f)) h
@@ -32,28 +32,28 @@ module _ (Q : Lines → Type 0) (P : Printed → Type 0) (leads : (lines : Lines
   fault_noted run_fault.NoSeparator h = absurd h
 
   -- lines that are made of one are notes that are made of the other
-  pub noted : (answer : Result Output RunFault) (result : Result Print RunFault) → AreLinesMade Q answer → AreNoted answer result → IsMade P result
+  pub noted : (answer : Result Output RunFault) (result : Result Print RunFault) → AreLinesMade Q answer → AreLinesAsNotes answer result → IsMadePrintout P result
   noted (Ok output) (Ok print) made are = rw (are, no_text output.lost) (leads _ made)
   noted (Ok output) (Err f) made are = absurd are
   noted (Err e) (Ok print) made are = absurd are
-  noted (Err e) (Err f) made are = subst (IsTextFault P) (sym are) (fault_noted e made)
+  noted (Err e) (Err f) made are = subst (IsPrintoutFault P) (sym are) (fault_noted e made)
 
 -- of an office text that gives no office in which the rules hold
-pub office_fault : (P : Office → Printed → Type 0) (given : Result Office TextFault) (answer : Result Output RunFault) (result : Result Print RunFault)
-    → AreLinesMade (IsLinesIn IsNoPrint given) answer → AreNoted answer result → IsMade (IsPrintIn P given) result
-office_fault P given = noted (IsLinesIn IsNoPrint given) (IsPrintIn P given) (λ lines h. of_fault lines h refl)
+pub office_fault : (P : Office → PrintoutOrFault → Type 0) (given : Result Office TextFault) (answer : Result Output RunFault) (result : Result Print RunFault)
+    → AreLinesMade (IsLinesIn IsNoPrint given) answer → AreLinesAsNotes answer result → IsMadePrintout (IsPrintoutIn P given) result
+office_fault P given = noted (IsLinesIn IsNoPrint given) (IsPrintoutIn P given) (λ lines h. of_fault lines h refl)
 
 -- of texts that don't give an office with a certificate
-module _ (P : Office → Certificate → Printed → Type 0) (given : Case) where
+module _ (P : Office → Certificate → PrintoutOrFault → Type 0) (given : Case) where
   -- want of memory may come in place of anything
   lost : (answer : Result Output RunFault) (result : Result Print RunFault) → AreLinesMade (λ print. print ≡ Err run_fault.OutOfMemory) answer
-      → AreNoted answer result
-      → IsMade (IsPrintOfCase P given) result
+      → AreLinesAsNotes answer result
+      → IsMadePrintout (IsPrintoutOfCase P given) result
   lost (Ok output) result h are = absurd cc
   lost (Err e) (Ok print) h are = absurd are
-  lost (Err e) (Err f) h are = subst (IsTextFault (IsPrintOfCase P given)) (sym are) (by e h)
+  lost (Err e) (Err f) h are = subst (IsPrintoutFault (IsPrintoutOfCase P given)) (sym are) (by e h)
     where
-      by : (e : RunFault) → IsLinesFault (λ print. print ≡ Err run_fault.OutOfMemory) e → IsTextFault (IsPrintOfCase P given) e
+      by : (e : RunFault) → IsLinesFault (λ print. print ≡ Err run_fault.OutOfMemory) e → IsPrintoutFault (IsPrintoutOfCase P given) e
       by (run_fault.BadOffice f) h = absurd cc
       by (run_fault.BadScript number f) h = absurd cc
       by (run_fault.BadCertificate number f) h = absurd cc
@@ -65,11 +65,11 @@ module _ (P : Office → Certificate → Printed → Type 0) (given : Case) wher
 
   told : (w : CaseFault) → given ≡ Err w → (answer : Result Output RunFault) (result : Result Print RunFault)
       → AreLinesMade (λ print. print ≡ fault_print w) answer
-      → AreNoted answer result → IsMade (IsPrintOfCase P given) result
-  told w is = noted (λ print. print ≡ fault_print w) (IsPrintOfCase P given) (λ lines e. of_why w is (ap as_notes e))
+      → AreLinesAsNotes answer result → IsMadePrintout (IsPrintoutOfCase P given) result
+  told w is = noted (λ print. print ≡ fault_print w) (IsPrintoutOfCase P given) (λ lines e. of_why w is (ap as_notes e))
 
   pub case_fault : (w : CaseFault) → IsCaseFault given w → (answer : Result Output RunFault) (result : Result Print RunFault)
-      → AreLinesMade (λ print. print ≡ fault_print w) answer → AreNoted answer result → IsMade (IsPrintOfCase P given) result
+      → AreLinesMade (λ print. print ≡ fault_print w) answer → AreLinesAsNotes answer result → IsMadePrintout (IsPrintoutOfCase P given) result
   case_fault (no_case.BadOffice e) is = told (no_case.BadOffice e) is
   case_fault (no_case.Unheld o position need) is = told (no_case.Unheld o position need) is
   case_fault (no_case.BadCertificate number e) is = told (no_case.BadCertificate number e) is

@@ -23,15 +23,15 @@ pub record Printout : Type 0 where
   pub status : ℕ
 
 -- or why nothing is printed
-abbrev pub Printed : Type 0
-Printed = Result Printout RunFault
+abbrev pub PrintoutOrFault : Type 0
+PrintoutOrFault = Result Printout RunFault
 
 -- a text, and none where something found no memory
 abbrev pub unless_lost : Bool → List ℕ → List ℕ
 unless_lost lost text = if lost then [] else text
 
-abbrev pub print_of : List ℕ → List ℕ → Bool → Bool → Printed
-print_of text notes refused lost = Ok (record { text = unless_lost lost text; notes = notes; status = status_of refused lost })
+abbrev pub printout_of : List ℕ → List ℕ → Bool → Bool → PrintoutOrFault
+printout_of text notes refused lost = Ok (record { text = unless_lost lost text; notes = notes; status = status_of refused lost })
 
 -- the exit status of an ending
 abbrev pub status_by : Ending → ℕ
@@ -40,45 +40,45 @@ status_by ending.Refused = 1
 status_by ending.Unread = 2
 status_by ending.Lost = 3
 
-abbrev pub is_lost : Ending → Bool
-is_lost ending.Lost = true
-is_lost _ = false
+abbrev pub is_lost_ending : Ending → Bool
+is_lost_ending ending.Lost = true
+is_lost_ending _ = false
 
 -- what a print puts on both, and its exit status
-abbrev pub printed : Print → Printed
-printed print = Ok (record { text = unless_lost (is_lost print.ending) print.text.items; notes = print.notes.items; status = status_by print.ending })
+abbrev pub printed : Print → PrintoutOrFault
+printed print = Ok (record { text = unless_lost (is_lost_ending print.ending) print.text.items; notes = print.notes.items; status = status_by print.ending })
 
 -- no text, and as notes the lines that `clr_office` prints, with its exit status
-abbrev pub as_notes : Lines → Printed
+abbrev pub as_notes : Lines → PrintoutOrFault
 as_notes (Ok printed) = Ok (record { text = []; notes = printed.0; status = printed.1 })
 as_notes (Err e) = Err e
 
 -- texts --------------------------------------------------------------------------------------
 
 -- what is printed of an office text: what is asked of its office, or as notes why there is none, or which rule doesn't hold
-pub data IsPrintIn (IsPrint : Office → Printed → Type 0) (given : Result Office TextFault) (print : Printed) : Type 0 where
-  of_office : (o : Office) → given ≡ Ok o → unheld_in o ≡ None → IsPrint o print → IsPrintIn IsPrint given print
-  of_fault : (lines : Lines) → IsLinesIn IsNoPrint given lines → print ≡ as_notes lines → IsPrintIn IsPrint given print
+pub data IsPrintoutIn (IsPrint : Office → PrintoutOrFault → Type 0) (given : Result Office TextFault) (print : PrintoutOrFault) : Type 0 where
+  of_office : (o : Office) → given ≡ Ok o → unheld_in o ≡ None → IsPrint o print → IsPrintoutIn IsPrint given print
+  of_fault : (lines : Lines) → IsLinesIn IsNoPrint given lines → print ≡ as_notes lines → IsPrintoutIn IsPrint given print
 
 -- the same of an office text and a certificate's text
-pub data IsPrintOfCase (IsPrint : Office → Certificate → Printed → Type 0) (given : Case) (print : Printed) : Type 0 where
-  of_case : (o : Office) (c : Certificate) → given ≡ Ok (o, c) → IsPrint o c print → IsPrintOfCase IsPrint given print
-  of_why : (why : CaseFault) → given ≡ Err why → print ≡ as_notes (fault_print why) → IsPrintOfCase IsPrint given print
+pub data IsPrintoutOfCase (IsPrint : Office → Certificate → PrintoutOrFault → Type 0) (given : Case) (print : PrintoutOrFault) : Type 0 where
+  of_case : (o : Office) (c : Certificate) → given ≡ Ok (o, c) → IsPrint o c print → IsPrintoutOfCase IsPrint given print
+  of_why : (why : CaseFault) → given ≡ Err why → print ≡ as_notes (fault_print why) → IsPrintoutOfCase IsPrint given print
 
 -- what is made -------------------------------------------------------------------------------
 
 -- a fault that texts have, by what is to be printed of them, or want of memory
-abbrev pub IsTextFault : (Printed → Type 0) → RunFault → Type 0
-IsTextFault IsPrint run_fault.OutOfMemory = Unit {0}
-IsTextFault IsPrint e = IsPrint (Err e)
+abbrev pub IsPrintoutFault : (PrintoutOrFault → Type 0) → RunFault → Type 0
+IsPrintoutFault IsPrint run_fault.OutOfMemory = Unit {0}
+IsPrintoutFault IsPrint e = IsPrint (Err e)
 
 -- a print is what is to be printed; or a fault
-abbrev pub IsMade : (Printed → Type 0) → Result Print RunFault → Type 0
-IsMade IsPrint (Ok print) = IsPrint (printed print)
-IsMade IsPrint (Err e) = IsTextFault IsPrint e
+abbrev pub IsMadePrintout : (PrintoutOrFault → Type 0) → Result Print RunFault → Type 0
+IsMadePrintout IsPrint (Ok print) = IsPrint (printed print)
+IsMadePrintout IsPrint (Err e) = IsPrintoutFault IsPrint e
 
 -- lines that were made, as notes
-abbrev pub AreNoted : Result Output RunFault → Result Print RunFault → Type 0
-AreNoted (Ok output) (Ok print) = printed print ≡ print_of [] output.lines.items output.refused output.lost
-AreNoted (Err e) (Err f) = f ≡ e
-AreNoted _ _ = ⊥
+abbrev pub AreLinesAsNotes : Result Output RunFault → Result Print RunFault → Type 0
+AreLinesAsNotes (Ok output) (Ok print) = printed print ≡ printout_of [] output.lines.items output.refused output.lost
+AreLinesAsNotes (Err e) (Err f) = f ≡ e
+AreLinesAsNotes _ _ = ⊥

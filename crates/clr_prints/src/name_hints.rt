@@ -1,6 +1,6 @@
 //! Hints at names that no workspace has.
 ghost use Rattle.std.specs.Prelude.{◌≡◌, ◌∷◌, All, Contains, IfOk, IfSome, OnOk};
-ghost use Rattle.clr_prints.specs.NameHints.{AddsHint, AreNameHints, HintsAt, IsNamed, IsNobody, hint_text};
+ghost use Rattle.clr_prints.specs.NameHints.{AddsHint, AreNameHints, HintsAt, IsNobody, IsWorkspaceName, hint_text};
 ghost use Rattle.clr_prints.specs.Printing.{printed};
 
 use crate::prints::Print;
@@ -12,7 +12,7 @@ use std::alloc::{AllocError, Global};
 
 /// Returns the names of all workspaces, that of LIVE first.
 fn names_of_workspaces<'a>(alloc: Global, office: &'a Office) -> Result<Vec<&'a str>, AllocError>
-    ensures { IfOk result (λ names. All (λ name. IsNamed office.now name.now) names.items) }
+    ensures { IfOk result (λ names. All (λ name. IsWorkspaceName office.now name.now) names.items) }
 {
     let mut names = Vec::new(alloc);
     for at in 0..office.len() {
@@ -58,7 +58,7 @@ fn add_hint(
     name: &str,
     lines: &mut Vec<u8>,
 ) -> Result<(), AllocError>
-    requires { All (λ other. IsNamed office.now other.now) known.now }
+    requires { All (λ other. IsWorkspaceName office.now other.now) known.now }
     ensures { OnOk result (AddsHint office.now name.now lines.old.items lines.new.items) }
 {
     if let Some(near) = meant(alloc, office, known, name)? {

@@ -2,7 +2,7 @@
 ghost use Rattle.std.specs.Prelude.{◌≡◌, [], false, IfOk};
 ghost use Rattle.clr_reports.specs.Printing.{status_of};
 ghost use Rattle.clr_prints.specs.NameHints.{with_lines};
-ghost use Rattle.clr_prints.specs.Printing.{AreNoted, is_lost, print_of, printed, status_by, unless_lost};
+ghost use Rattle.clr_prints.specs.Printing.{AreLinesAsNotes, is_lost_ending, printed, printout_of, status_by, unless_lost};
 
 use clr_office::{Output, RunFault};
 use std::alloc::{AllocError, Global};
@@ -25,7 +25,7 @@ impl Ending {
     /// memory.
     pub fn of(refused: bool, lost: bool) -> Ending
         ensures status { status_by result ≡ status_of refused lost }
-        ensures lost { is_lost result ≡ lost }
+        ensures lost { is_lost_ending result ≡ lost }
     {
         if lost {
             Ending::Lost
@@ -50,7 +50,7 @@ impl Print {
     /// Returns a text with notes, where something was refused or not, and something found no memory
     /// or not.
     pub fn new(text: Vec<u8>, notes: Vec<u8>, refused: bool, lost: bool) -> Print
-        ensures { printed result ≡ print_of text.items notes.items refused lost }
+        ensures { printed result ≡ printout_of text.items notes.items refused lost }
     {
         Print {
             text,
@@ -61,7 +61,7 @@ impl Print {
 
     /// Returns a text that refuses nothing, without notes.
     pub fn of_text(alloc: Global, text: Vec<u8>) -> Print
-        ensures { printed result ≡ print_of text.items [] false false }
+        ensures { printed result ≡ printout_of text.items [] false false }
     {
         Print::new(text, Vec::new(alloc), false, false)
     }
@@ -76,7 +76,7 @@ impl Print {
 
     /// Returns what goes to standard output: the text, and nothing where something found no memory.
     pub fn shown(&self) -> &[u8]
-        ensures { result.now ≡ unless_lost (is_lost self.now.ending) self.now.text.items }
+        ensures { result.now ≡ unless_lost (is_lost_ending self.now.ending) self.now.text.items }
     {
         match self.ending {
             Ending::Lost => &[],
@@ -100,7 +100,7 @@ impl Print {
 
 /// Lines as notes, without a text.
 pub fn notes_of(alloc: Global, answer: Result<Output, RunFault>) -> Result<Print, RunFault>
-    ensures { AreNoted answer result }
+    ensures { AreLinesAsNotes answer result }
 {
     match answer {
         Ok(output) => Ok(Print::new(Vec::new(alloc), output.lines, output.refused, output.lost)),

@@ -19,8 +19,8 @@ use Rattle.clr_independence.specs.declared.independences.Independence.{Independe
 use Rattle.clr_independence.specs.declared.independences.Independence.TheVariants as said
 use Rattle.clr_independence.specs.declared.member_pairs.Pair.{Pair}
 use Rattle.clr_independence.specs.Independences.{IsIndependenceOf, IsUnfitFor, of_cell, of_member}
-use Rattle.clr_independence.specs.Lines.{independence_text, pair_text}
-use Rattle.clr_independence.specs.Pairs.{members_of}
+use Rattle.clr_independence.specs.Lines.{independence_line, independence_text}
+use Rattle.clr_independence.specs.Pairs.{pair_members}
 use Rattle.clr_reports.specs.Outcomes.{IsIndependenceOutcome, Outcome}
 use Rattle.clr_reports.specs.Outcomes.{has_dependence}
 use Rattle.clr_reports.proofs.Outcomes.{parts_are}
@@ -44,20 +44,20 @@ one_told c x y false false one two = refl
 abbrev IsTold : Setting ℕ → Pair → Type 0
 IsTold c p = IsIndependence c p.first p.second p.independent
 
-one_pair : (c : Setting ℕ) (p q : Pair) → members_of p ≡ members_of q → IsTold c p → IsTold c q → p ≡ q
+one_pair : (c : Setting ℕ) (p q : Pair) → pair_members p ≡ pair_members q → IsTold c p → IsTold c q → p ≡ q
 one_pair c p q same one two =
     let turned : IsIndependence c p.first p.second q.independent = subst (λ (both : ℕ × ℕ). IsIndependence c both.0 both.1 q.independent) (sym same) two in
     let told = one_told c p.first p.second p.independent q.independent one turned in
     λ i. record { first = (same i).0; second = (same i).1; independent = told i }
 
-one_pairs : (c : Setting ℕ) (ps qs : List Pair) → map members_of ps ≡ map members_of qs
+one_pairs : (c : Setting ℕ) (ps qs : List Pair) → map pair_members ps ≡ map pair_members qs
     → ((p : Pair) → Among p ps → IsTold c p) → ((q : Pair) → Among q qs → IsTold c q) → ps ≡ qs
 one_pairs c [] [] same one two = refl
 one_pairs c [] (q ∷ qs) same one two = absurd (cc)
 one_pairs c (p ∷ ps) [] same one two = absurd (cc)
 one_pairs c (p ∷ ps) (q ∷ qs) same one two =
-    let head : members_of p ≡ members_of q = cc in
-    let tail : map members_of ps ≡ map members_of qs = cc in
+    let head : pair_members p ≡ pair_members q = cc in
+    let tail : map pair_members ps ≡ map pair_members qs = cc in
     λ i. one_pair c p q head (one p (inl refl)) (two q (inl refl)) i ∷ one_pairs c ps qs tail (λ x h. one x (inr h)) (λ x h. two x (inr h)) i
 
 module _ (o : Office) (s : Site) where
@@ -74,7 +74,7 @@ module _ (o : Office) (s : Site) where
   text_of value = independence_text o.schema s.members s.root value
 
   abbrev text_of_pairs : List Pair → List ℕ
-  text_of_pairs pairs = flat_map (pair_text s.members) pairs
+  text_of_pairs pairs = flat_map (independence_line s.members) pairs
 
   same_text : (value other : Independence) → IsIndependenceOf o s value → IsIndependenceOf o s other
       → (text_of value ≡ text_of other) × (has_dependence value ≡ has_dependence other)

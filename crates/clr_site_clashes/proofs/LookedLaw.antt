@@ -18,7 +18,7 @@ use Rattle.clr_clearance.specs.Sites.{change_sets}
 use Rattle.clr_clearance.specs.Verdicts.{member_fault}
 use Rattle.clr_clearance.proofs.ClearLemmas.{faultless, has_at}
 use Rattle.clr_sites.specs.SiteNames.{site}
-use Rattle.clr_site_clashes.specs.Conflicts.{conflict_clash, conflict_clashes, conflict_in, conflict_of, free_positions, is_free}
+use Rattle.clr_site_clashes.specs.Conflicts.{conflict_clash, conflict_clashes, conflict_in, conflict_of, free_positions, is_without_conflict}
 use Rattle.clr_site_clashes.specs.Laws.{AreLookedAt}
 use Rattle.clr_site_clashes.specs.SharedCells.{cell_of_two, earlier_clash, earlier_clashes, is_apart_at, is_changed_in, pair_clash, shared_cell, shared_clashes}
 use Rattle.clr_site_clashes.specs.SiteClashes.{looked_at}
@@ -72,7 +72,7 @@ module _ (o : Office) (s : Site) (fits : member_fault o s ≡ None) (apart : Are
           ap (λ cells. option_map (site_clash (at ∷ [])) (conflict_in cells)) ((faultless o s fits).free name (has_at s.members at name e))
 
   all_free : free_positions o s.members ≡ positions_of s.members
-  all_free = all_kept (is_free o s.members) (λ at. ap is_none (no_conflict at)) (positions_of s.members)
+  all_free = all_kept (is_without_conflict o s.members) (λ at. ap is_none (no_conflict at)) (positions_of s.members)
 
   all_at : looked_at o s ≡ positions_of s.members
   all_at =

@@ -15,7 +15,7 @@ use Rattle.clr_clearance.specs.Sites.{AreMergeable, change_sets}
 use Rattle.clr_clearance.specs.Verdicts.{member_fault}
 use Rattle.clr_clearance.proofs.ClearLemmas.{has_at, mergeable_of, position_of}
 use Rattle.clr_clearance.proofs.RefusedLemmas.{names_part}
-use Rattle.clr_site_clashes.specs.Laws.{part_of}
+use Rattle.clr_site_clashes.specs.Laws.{site_of_part}
 
 module _ {X : Type 0} (xs : List X) where
   some_there : (k : ℕ) → k < length xs → slice_get xs k ≡ None → ⊥
@@ -44,14 +44,14 @@ module _ (o : Office) (s : Site) (positions : List ℕ) (fits : member_fault o s
   stands_at : (j : ℕ) (name : Name) → slice_get (names_at s positions) j ≡ Some name → (k : ℕ) × StandsIn positions j k × (slice_get s.members k ≡ Some name)
   stands_at = element_of s.members positions (λ k h. below k (contained k positions h))
 
-  among : (name : Name) → is_member (part_of s positions) name ≡ true → is_member s name ≡ true
+  among : (name : Name) → is_member (site_of_part s positions) name ≡ true → is_member s name ≡ true
   among name h =
       let (j, e) = position_of (names_at s positions) name h in
       let (k, at, is) = stands_at j name e in
       has_at s.members k name is
 
   -- some of them are mergeable too
-  pub part_mergeable : AreMergeable o (part_of s positions)
+  pub part_mergeable : AreMergeable o (site_of_part s positions)
   unfolding is_root
   part_mergeable =
       let all = mergeable_of o s fits apart in

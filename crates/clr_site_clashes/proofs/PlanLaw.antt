@@ -35,7 +35,7 @@ use Rattle.clr_plan.specs.Plans.{IsPlan}
 use Rattle.clr_plan.specs.Promises.{is_cleared, is_out_of_memory}
 use Rattle.clr_clashes.specs.Clashes.{LeavesNoneUncovered}
 use Rattle.clr_clashes.specs.Laws.{ListedClashesDecideSubsets}
-use Rattle.clr_site_clashes.specs.Laws.{ClashesDecidePlans, part_of}
+use Rattle.clr_site_clashes.specs.Laws.{ClashesDecidePlans, site_of_part}
 use Rattle.clr_site_clashes.proofs.PartSites.{part_mergeable}
 
 -- change sets of some members --------------------------------------------------------------------
@@ -52,7 +52,7 @@ sets_same f names (k ∷ ks) =
     ∙ ap₂ (λ (o : Option Changes) (sets : List Changes). cons_option o sets) (sym (slice_get-map f names k)) (sets_same f names ks)
 
 setting_same : (o : Office) (s : Site) (positions : List ℕ)
-    → setting_by_position o (part_of s positions) ≡ setting_at o.book (root_content o s) (change_sets o s) positions
+    → setting_by_position o (site_of_part s positions) ≡ setting_at o.book (root_content o s) (change_sets o s) positions
 unfolding root_content
 setting_same o s positions = ap (setting o.book (root_content o s)) (sets_same (changes_in o) s.members positions)
 
@@ -110,8 +110,8 @@ plans_decided law o s listed positions p fits apart root smallest ascending belo
     let same = setting_same o s positions in
     let decided = law o.book (root_content o s) sets listed positions apart root smallest ascending within in
     let part = part_mergeable o s positions fits apart ascending below in
-    let fits_too = no_member_fault o (part_of s positions) part in
-    let apart_too = apart_sets o (part_of s positions) part in (
-      λ cleared. decided.0 (subst LeavesNoneUncovered same (cleared_leaves_none o (part_of s positions) p planned cleared)),
-      λ none. none_left_cleared o (part_of s positions) fits_too apart_too (subst LeavesNoneUncovered (sym same) (decided.1 none)) p planned found,
+    let fits_too = no_member_fault o (site_of_part s positions) part in
+    let apart_too = apart_sets o (site_of_part s positions) part in (
+      λ cleared. decided.0 (subst LeavesNoneUncovered same (cleared_leaves_none o (site_of_part s positions) p planned cleared)),
+      λ none. none_left_cleared o (site_of_part s positions) fits_too apart_too (subst LeavesNoneUncovered (sym same) (decided.1 none)) p planned found,
     )

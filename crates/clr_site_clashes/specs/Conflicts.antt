@@ -24,9 +24,9 @@ conflict_clash o names at = option_map (site_clash (at ∷ [])) (option_and_then
 abbrev pub conflict_clashes : Office → List Name → List SiteClash
 conflict_clashes o names = filter_map (conflict_clash o names) (positions_of names)
 
-abbrev pub is_free : Office → List Name → ℕ → Bool
-is_free o names at = is_none (conflict_clash o names at)
+abbrev pub is_without_conflict : Office → List Name → ℕ → Bool
+is_without_conflict o names at = is_none (conflict_clash o names at)
 
 -- the positions of the others
 abbrev pub free_positions : Office → List Name → List ℕ
-free_positions o names = filter (is_free o names) (positions_of names)
+free_positions o names = filter (is_without_conflict o names) (positions_of names)

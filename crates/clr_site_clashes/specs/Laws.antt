@@ -19,8 +19,8 @@ use Rattle.clr_site_clashes.specs.SiteClashes.{looked_at, looked_site}
 use Rattle.clr_site_clashes.specs.SiteSets.{positions_of}
 
 -- some of the members, by position
-abbrev pub part_of : Site → List ℕ → Site
-part_of s positions = site s.root (names_at s positions)
+abbrev pub site_of_part : Site → List ℕ → Site
+site_of_part s positions = site s.root (names_at s positions)
 
 -- of members of a root in which every rule holds, none in conflict and no cell changed by two: the plan of some of them is cleared exactly where
 -- they hold none of the listed sets, memory aside
@@ -32,7 +32,7 @@ ClashesDecidePlans = (o : Office) (s : Site) (listed : List ListedClash) (positi
     → AreSmallestClashes (setting_by_position o s) listed
     → IsStrictlySortedBy nat_cmp positions
     → ((k : ℕ) → Contains positions k → k < length s.members)
-    → IsPlan o (part_of s positions) p
+    → IsPlan o (site_of_part s positions) p
     → is_out_of_memory p ≡ false
     → (is_cleared p ≡ true) ↔ HoldNoneOf listed positions
 

@@ -14,7 +14,7 @@ use Rattle.clr_sites.specs.SiteNames.{site}
 use Rattle.clr_clashes.specs.ListedClashes.{AreSmallestClashes, ListedClash}
 use Rattle.clr_site_clashes.specs.Conflicts.{conflict_clashes, free_positions}
 use Rattle.clr_site_clashes.specs.SharedCells.{apart_positions, shared_clashes}
-use Rattle.clr_site_clashes.specs.SiteSets.{SiteClash, clash_of, site_clash}
+use Rattle.clr_site_clashes.specs.SiteSets.{SiteClash, site_clash, stored_clash}
 use Rattle.clr_site_clashes.specs.declared.site_sets.SiteClashes.{SiteClashes as Found}
 
 -- the members that are looked at together, by position
@@ -43,11 +43,11 @@ pub record AreSiteClashes (o : Office) (s : Site) (broken : List SiteClash) (fou
   pub named : name_fault o s ≡ None
   pub looked : found.looked.items ≡ looked_at o s
   pub needs : AreNeedClashes o (looked_site o s) (looked_at o s) broken
-  pub clashes : map clash_of found.clashes.items
+  pub clashes : map stored_clash found.clashes.items
       ≡ conflict_clashes o s.members ++ shared_clashes (change_sets o s) (free_positions o s.members) ++ broken
 
-abbrev pub IsFound : Office → Site → Found → Type 0
-IsFound o s found = (broken : List SiteClash) × AreSiteClashes o s broken found
+abbrev pub FindsClashes : Office → Site → Found → Type 0
+FindsClashes o s found = (broken : List SiteClash) × AreSiteClashes o s broken found
 
 -- the first test of names that fails, or no memory was found
 abbrev pub IsFaultOfNames : Office → Site → Verdict → Type 0
@@ -55,5 +55,5 @@ IsFaultOfNames o s v = (name_fault o s ≡ Some v) ⊎ (v ≡ verdict.OutOfMemor
 
 -- they are these, or such a fault
 abbrev pub AreFound : Office → Site → Result Found Verdict → Type 0
-AreFound o s (Ok found) = IsFound o s found
+AreFound o s (Ok found) = FindsClashes o s found
 AreFound o s (Err v) = IsFaultOfNames o s v

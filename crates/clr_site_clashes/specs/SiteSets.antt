@@ -13,8 +13,8 @@ pub record SiteClash : Type 0 where
 abbrev pub site_clash : List ℕ → Verdict → SiteClash
 site_clash members cause = record { members = members; cause = cause }
 
-abbrev pub clash_of : Stored → SiteClash
-clash_of k = site_clash k.members.items k.cause
+abbrev pub stored_clash : Stored → SiteClash
+stored_clash k = site_clash k.members.items k.cause
 
 -- the positions of some names
 abbrev pub positions_of : List Name → List ℕ

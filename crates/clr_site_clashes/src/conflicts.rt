@@ -1,7 +1,7 @@
 //! Members that are in conflict with the root.
 ghost use Rattle.std.specs.Prelude.{◌≡◌, ◌++◌, ◌∷◌, [], filter, map, option_map, option_to_list, unwrap_or, IfOk, OnOk};
-ghost use Rattle.clr_site_clashes.specs.Conflicts.{conflict_clash, conflict_clashes, conflict_in, conflict_of, free_positions, is_free};
-ghost use Rattle.clr_site_clashes.specs.SiteSets.{clash_of};
+ghost use Rattle.clr_site_clashes.specs.Conflicts.{conflict_clash, conflict_clashes, conflict_in, conflict_of, free_positions, is_without_conflict};
+ghost use Rattle.clr_site_clashes.specs.SiteSets.{stored_clash};
 
 use crate::site_sets::SiteClash;
 use clr_clearance::Verdict;
@@ -39,7 +39,7 @@ fn conflict_clash(
     names: &[&str],
     at: usize,
 ) -> Result<Option<SiteClash>, AllocError>
-    ensures { IfOk result (λ clash. option_map clash_of clash ≡ conflict_clash office.now (map (λ name. name.now) names.now) at) }
+    ensures { IfOk result (λ clash. option_map stored_clash clash ≡ conflict_clash office.now (map (λ name. name.now) names.now) at) }
 {
     let Some(name) = names.get(at) else {
         return Ok(None);
@@ -60,9 +60,9 @@ fn add_member(
     clashes: &mut Vec<SiteClash>,
     free: &mut Vec<usize>,
 ) -> Result<(), AllocError>
-    ensures clashes { OnOk result (map clash_of clashes.new.items
-        ≡ map clash_of clashes.old.items ++ option_to_list (conflict_clash office.now (map (λ name. name.now) names.now) at)) }
-    ensures free { OnOk result (free.new.items ≡ free.old.items ++ filter (is_free office.now (map (λ name. name.now) names.now)) (at ∷ [])) }
+    ensures clashes { OnOk result (map stored_clash clashes.new.items
+        ≡ map stored_clash clashes.old.items ++ option_to_list (conflict_clash office.now (map (λ name. name.now) names.now) at)) }
+    ensures free { OnOk result (free.new.items ≡ free.old.items ++ filter (is_without_conflict office.now (map (λ name. name.now) names.now)) (at ∷ [])) }
 {
     match conflict_clash(alloc, office, names, at)? {
         Some(clash) => {
@@ -82,7 +82,7 @@ pub(crate) fn conflicts_of(
     office: &Office,
     names: &[&str],
 ) -> Result<(Vec<SiteClash>, Vec<usize>), AllocError>
-    ensures clashes { IfOk result (λ r. map clash_of r.0.items ≡ conflict_clashes office.now (map (λ name. name.now) names.now)) }
+    ensures clashes { IfOk result (λ r. map stored_clash r.0.items ≡ conflict_clashes office.now (map (λ name. name.now) names.now)) }
     ensures free { IfOk result (λ r. r.1.items ≡ free_positions office.now (map (λ name. name.now) names.now)) }
 {
     let mut clashes = Vec::new(alloc);

@@ -1,9 +1,9 @@
 //! Members that break needs which nothing covers.
 ghost use Rattle.std.specs.Prelude.{◌≡◌, map, IfOk};
 ghost use Rattle.clr_sites.specs.SiteNames.{site};
-ghost use Rattle.clr_clashes.specs.ListedClashes.{clash_of as listed_of};
+ghost use Rattle.clr_clashes.specs.ListedClashes.{listed_clash_of};
 ghost use Rattle.clr_site_clashes.specs.SiteClashes.{AreNeedClashes, need_clash};
-ghost use Rattle.clr_site_clashes.specs.SiteSets.{clash_of};
+ghost use Rattle.clr_site_clashes.specs.SiteSets.{stored_clash};
 
 use crate::places::numbers_at;
 use crate::site_sets::SiteClash;
@@ -15,7 +15,7 @@ use std::alloc::{AllocError, Global};
 
 /// Returns a set of those looked at, by positions among all.
 fn need_clash(alloc: Global, looked: &[usize], clash: &Clash) -> Result<SiteClash, AllocError>
-    ensures { IfOk result (λ set. clash_of set ≡ need_clash looked.now (listed_of clash.now)) }
+    ensures { IfOk result (λ set. stored_clash set ≡ need_clash looked.now (listed_clash_of clash.now)) }
 {
     let members = numbers_at(alloc, looked, clash.members.as_slice())?;
     let cause = Verdict::Uncovered(clash.need);
@@ -28,7 +28,7 @@ fn clashes_among(
     looked: &[usize],
     listed: &[Clash],
 ) -> Result<Vec<SiteClash>, AllocError>
-    ensures { IfOk result (λ list. map clash_of list.items ≡ map (need_clash looked.now) (map listed_of listed.now)) }
+    ensures { IfOk result (λ list. map stored_clash list.items ≡ map (need_clash looked.now) (map listed_clash_of listed.now)) }
 {
     let mut list = Vec::with_capacity(alloc, listed.len())?;
     for clash in listed {
@@ -46,7 +46,7 @@ pub(crate) fn need_clashes(
     names: &[&str],
     looked: &[usize],
 ) -> Result<Vec<SiteClash>, AllocError>
-    ensures { IfOk result (λ list. AreNeedClashes office.now (site root.now (map (λ name. name.now) names.now)) looked.now (map clash_of list.items)) }
+    ensures { IfOk result (λ list. AreNeedClashes office.now (site root.now (map (λ name. name.now) names.now)) looked.now (map stored_clash list.items)) }
 {
     let Ok(parts) = read_site(alloc, office, root, &names) else {
         return Err(AllocError);

@@ -1,7 +1,7 @@
 //! Pairs of members that change one cell.
 ghost use Rattle.std.specs.Prelude.{◌≡◌, ◌++◌, ◌∷◌, [], filter, map, option_map, option_to_list, IfOk, OnOk};
 ghost use Rattle.clr_site_clashes.specs.SharedCells.{apart_positions, earlier_clash, earlier_clashes, is_apart_at, pair_clash, shared_clashes};
-ghost use Rattle.clr_site_clashes.specs.SiteSets.{clash_of};
+ghost use Rattle.clr_site_clashes.specs.SiteSets.{stored_clash};
 
 use crate::shared_cells::shared_cell;
 use crate::site_sets::SiteClash;
@@ -16,7 +16,7 @@ fn pair_clash(
     earlier: usize,
     later: usize,
 ) -> Result<Option<SiteClash>, AllocError>
-    ensures { IfOk result (λ pair. option_map clash_of pair ≡ pair_clash sets.now earlier later) }
+    ensures { IfOk result (λ pair. option_map stored_clash pair ≡ pair_clash sets.now earlier later) }
 {
     if earlier >= sets.len() || later >= sets.len() {
         return Ok(None);
@@ -41,7 +41,7 @@ fn add_pair(
     later: usize,
     pairs: &mut Vec<SiteClash>,
 ) -> Result<(), AllocError>
-    ensures { OnOk result (map clash_of pairs.new.items ≡ map clash_of pairs.old.items ++ option_to_list (earlier_clash sets.now later earlier)) }
+    ensures { OnOk result (map stored_clash pairs.new.items ≡ map stored_clash pairs.old.items ++ option_to_list (earlier_clash sets.now later earlier)) }
 {
     if earlier >= later {
         return Ok(());
@@ -61,7 +61,7 @@ fn earlier_clashes(
     free: &[usize],
     later: usize,
 ) -> Result<Vec<SiteClash>, AllocError>
-    ensures { IfOk result (λ pairs. map clash_of pairs.items ≡ earlier_clashes sets.now free.now later) }
+    ensures { IfOk result (λ pairs. map stored_clash pairs.items ≡ earlier_clashes sets.now free.now later) }
 {
     let mut pairs = Vec::new(alloc);
     for earlier in free {
@@ -79,7 +79,7 @@ fn add_member(
     clashes: &mut Vec<SiteClash>,
     looked: &mut Vec<usize>,
 ) -> Result<(), AllocError>
-    ensures clashes { OnOk result (map clash_of clashes.new.items ≡ map clash_of clashes.old.items ++ earlier_clashes sets.now free.now later) }
+    ensures clashes { OnOk result (map stored_clash clashes.new.items ≡ map stored_clash clashes.old.items ++ earlier_clashes sets.now free.now later) }
     ensures looked { OnOk result (looked.new.items ≡ looked.old.items ++ filter (is_apart_at sets.now free.now) (later ∷ [])) }
 {
     let mut pairs = earlier_clashes(alloc, sets, free, later)?;
@@ -98,7 +98,7 @@ pub(crate) fn pairs_of(
     sets: &[ChangeSet],
     free: &[usize],
 ) -> Result<(Vec<SiteClash>, Vec<usize>), AllocError>
-    ensures clashes { IfOk result (λ r. map clash_of r.0.items ≡ shared_clashes sets.now free.now) }
+    ensures clashes { IfOk result (λ r. map stored_clash r.0.items ≡ shared_clashes sets.now free.now) }
     ensures looked { IfOk result (λ r. r.1.items ≡ apart_positions sets.now free.now) }
 {
     let mut clashes = Vec::new(alloc);

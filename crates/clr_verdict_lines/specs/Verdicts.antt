@@ -15,14 +15,14 @@ use Rattle.clr_lines.specs.Pieces.{cell_text}
 abbrev pub member_name : List Name → ℕ → Name
 member_name members at = unwrap_or (slice_get members at) []
 
-abbrev pub second_text : List TableDef → Option VersionId → ℕ → List ℕ
-second_text tables None part = []
-second_text tables (Some v) part = codes " " ++ subject_text tables v part
+abbrev pub second_version_text : List TableDef → Option VersionId → ℕ → List ℕ
+second_version_text tables None part = []
+second_version_text tables (Some v) part = codes " " ++ subject_text tables v part
 
 -- a need, as `rule 1 main/20/old/3 main/21/new`
-abbrev pub need_text : List TableDef → Need → List ℕ
-need_text tables need =
-    codes "rule " ++ decimal need.rule ++ codes " " ++ subject_text tables need.first need.first_part ++ second_text tables need.second need.second_part
+abbrev pub need_of_versions_text : List TableDef → Need → List ℕ
+need_of_versions_text tables need =
+    codes "rule " ++ decimal need.rule ++ codes " " ++ subject_text tables need.first need.first_part ++ second_version_text tables need.second need.second_part
 
 -- a line that ends with a name
 abbrev pub name_text : List ℕ → Name → List ℕ
@@ -38,7 +38,7 @@ shared_text tables cell first second = codes "5 SharedCell " ++ cell_text tables
 
 -- a need that no entry covers
 abbrev pub uncovered_text : List TableDef → Need → List ℕ
-uncovered_text tables need = codes "6 Uncovered " ++ need_text tables need ++ codes "\n"
+uncovered_text tables need = codes "6 Uncovered " ++ need_of_versions_text tables need ++ codes "\n"
 
 -- the line of a verdict on members of a root: its number and its name, with its details
 abbrev pub verdict_text : List TableDef → List Name → Name → Verdict → List ℕ

@@ -2,7 +2,7 @@
 
 ghost use Rattle.std.specs.Prelude.{◌≡◌, ◌++◌, decimal, OnOk};
 ghost use Rattle.clr_rows.specs.Beginnings.{IsBegun};
-ghost use Rattle.clr_verdict_lines.specs.Verdicts.{need_text, second_text};
+ghost use Rattle.clr_verdict_lines.specs.Verdicts.{need_of_versions_text, second_version_text};
 
 use clr_cert::add_subject;
 use clr_needs::{Need, VersionId};
@@ -17,8 +17,8 @@ fn add_second(
     version: Option<VersionId>,
     part: u16,
 ) -> Result<(), AllocError>
-    ensures ok { OnOk result (line.new.items ≡ line.old.items ++ second_text schema.now version part) }
-    ensures begun { IsBegun line.old.items (second_text schema.now version part) line.new.items }
+    ensures ok { OnOk result (line.new.items ≡ line.old.items ++ second_version_text schema.now version part) }
+    ensures begun { IsBegun line.old.items (second_version_text schema.now version part) line.new.items }
 {
     match version {
         Some(version) => {
@@ -33,8 +33,8 @@ fn add_second(
 /// each with its part where that isn't 1. If memory runs out, the line keeps what stood in it, with
 /// a beginning of the need behind it.
 pub(crate) fn add_need(line: &mut Vec<u8>, schema: &Schema, need: &Need) -> Result<(), AllocError>
-    ensures ok { OnOk result (line.new.items ≡ line.old.items ++ need_text schema.now need.now) }
-    ensures begun { IsBegun line.old.items (need_text schema.now need.now) line.new.items }
+    ensures ok { OnOk result (line.new.items ≡ line.old.items ++ need_of_versions_text schema.now need.now) }
+    ensures begun { IsBegun line.old.items (need_of_versions_text schema.now need.now) line.new.items }
 {
     line.extend_from_slice(b"rule ")?;
     line.extend_from_slice(Buffer::new().format(need.rule).as_bytes())?;

@@ -6,16 +6,16 @@ use Rattle.clr_scripts.specs.declared.faults.RecordFault.{RecordFault}
 use Rattle.clr_rule_text.specs.declared.faults.TextFault.{TextFault}
 use Rattle.clr_fault_lines.specs.FaultLines.{short_line}
 use Rattle.clr_fault_lines.specs.declared.remarks.Remark.{Remark}
-use Rattle.clr_why.specs.Whys.{IsCertificateFault, IsOfficeFault, IsScriptFault}
+use Rattle.clr_why.specs.Whys.{IsRemarkedCertificateFault, IsRemarkedOfficeFault, IsRemarkedScriptFault}
 
 -- the file, the line, the column and the sentence of a remark on the fault that the text has
 abbrev pub IsShortOfficeFault : List ℕ → List ℕ → List ℕ → Type 0
-IsShortOfficeFault text file line = (e : TextFault) × (remark : Remark) × IsOfficeFault text e remark × (line ≡ short_line text file remark)
+IsShortOfficeFault text file line = (e : TextFault) × (remark : Remark) × IsRemarkedOfficeFault text e remark × (line ≡ short_line text file remark)
 
 abbrev pub IsShortScriptFault : List TableDef → List ℕ → List ℕ → List ℕ → Type 0
 IsShortScriptFault tables text file line =
-    (e : RecordFault) × (remark : Remark) × IsScriptFault tables text e remark × (line ≡ short_line text file remark)
+    (e : RecordFault) × (remark : Remark) × IsRemarkedScriptFault tables text e remark × (line ≡ short_line text file remark)
 
 abbrev pub IsShortCertificateFault : List TableDef → List ℕ → List ℕ → List ℕ → Type 0
 IsShortCertificateFault tables text file line =
-    (e : CertFault) × (remark : Remark) × IsCertificateFault tables text e remark × (line ≡ short_line text file remark)
+    (e : CertFault) × (remark : Remark) × IsRemarkedCertificateFault tables text e remark × (line ≡ short_line text file remark)

@@ -28,34 +28,34 @@ abbrev pub IsRemark : List ℕ → TextFault → Remark → Type 0
 IsRemark text e remark = IsOfficeRemark text e remark ⊎ IsStandingRemark text remark
 
 -- the fault of an office text, and a remark on it
-abbrev pub IsOfficeFault : List ℕ → TextFault → Remark → Type 0
-IsOfficeFault text e remark = (draft_in text ≡ Err e) × IsRemark text e remark
+abbrev pub IsRemarkedOfficeFault : List ℕ → TextFault → Remark → Type 0
+IsRemarkedOfficeFault text e remark = (draft_in text ≡ Err e) × IsRemark text e remark
 
 -- the fault of a script over a schema, and a remark on its record
-abbrev pub IsScriptFault : List TableDef → List ℕ → RecordFault → Remark → Type 0
-IsScriptFault tables text e remark = (number : ℕ) × (script_in_text tables text ≡ Err (number, e)) × IsRecordRemark text number remark
+abbrev pub IsRemarkedScriptFault : List TableDef → List ℕ → RecordFault → Remark → Type 0
+IsRemarkedScriptFault tables text e remark = (number : ℕ) × (script_in_text tables text ≡ Err (number, e)) × IsRecordRemark text number remark
 
-abbrev pub IsCertificateFault : List TableDef → List ℕ → CertFault → Remark → Type 0
-IsCertificateFault tables text e remark = (number : ℕ) × (certificate_in tables text ≡ Err (number, e)) × IsRecordRemark text number remark
+abbrev pub IsRemarkedCertificateFault : List TableDef → List ℕ → CertFault → Remark → Type 0
+IsRemarkedCertificateFault tables text e remark = (number : ℕ) × (certificate_in tables text ≡ Err (number, e)) × IsRecordRemark text number remark
 
 -- lines --------------------------------------------------------------------------------------
 
 -- the lines begin with the fault that the text has, and the line, the column and the path are those of a remark on it
 abbrev pub AreOfficeLines : List ℕ → List ℕ → Type 0
-AreOfficeLines text lines = (e : TextFault) × (remark : Remark) × IsOfficeFault text e remark × AreFaultLines text (office_fault_words e) remark lines
+AreOfficeLines text lines = (e : TextFault) × (remark : Remark) × IsRemarkedOfficeFault text e remark × AreFaultLines text (office_fault_words e) remark lines
 
 abbrev pub AreScriptLines : List TableDef → List ℕ → List ℕ → Type 0
 AreScriptLines tables text lines =
-    (e : RecordFault) × (remark : Remark) × IsScriptFault tables text e remark × AreFaultLines text (script_fault_words e) remark lines
+    (e : RecordFault) × (remark : Remark) × IsRemarkedScriptFault tables text e remark × AreFaultLines text (script_fault_words e) remark lines
 
 abbrev pub AreCertificateLines : List TableDef → List ℕ → List ℕ → Type 0
 AreCertificateLines tables text lines =
-    (e : CertFault) × (remark : Remark) × IsCertificateFault tables text e remark × AreFaultLines text (certificate_fault_words e) remark lines
+    (e : CertFault) × (remark : Remark) × IsRemarkedCertificateFault tables text e remark × AreFaultLines text (certificate_fault_words e) remark lines
 
 -- what is found ------------------------------------------------------------------------------
 
 -- a rule doesn't hold in the office of a text
-pub record IsUnheld (text lines : List ℕ) : Type 0 where
+pub record TellsUnheldRule (text lines : List ℕ) : Type 0 where
   pub office : Office
   pub position : ℕ
   pub need : Broken
@@ -66,7 +66,7 @@ pub record IsUnheld (text lines : List ℕ) : Type 0 where
 -- an office in which the rules hold, one in which a rule doesn't, or no office
 abbrev pub IsOfficeWhy : List ℕ → Why → Type 0
 IsOfficeWhy text NoFault = (o : Office) × (draft_in text ≡ Ok o) × (unheld_in o ≡ None)
-IsOfficeWhy text (Unheld lines) = IsUnheld text lines.items
+IsOfficeWhy text (Unheld lines) = TellsUnheldRule text lines.items
 IsOfficeWhy text (Faulty lines) = AreOfficeLines text lines.items
 
 -- what is found in a text over an office: that it can be read; or the lines of its fault or of that of the office

@@ -2,7 +2,7 @@
 ghost use Rattle.std.specs.Prelude.{◌≡◌, IfNone, IfOk, IfSome, IsOk, Ok};
 ghost use Rattle.clr_drafts.specs.Drafts.{draft_in};
 ghost use Rattle.clr_office_text.specs.Offices.{office_in};
-ghost use Rattle.clr_why.specs.Whys.{AreOfficeLines, IsOfficeFault, IsOfficeWhy};
+ghost use Rattle.clr_why.specs.Whys.{AreOfficeLines, IsOfficeWhy, IsRemarkedOfficeFault};
 
 use crate::needs::unheld_lines;
 use crate::whys::Why;
@@ -17,7 +17,7 @@ use std::alloc::{AllocError, Global};
 fn standing_fault(alloc: Global, text: &[u8]) -> Result<Option<OfficeFault>, AllocError>
     requires { IsOk (office_in text.now) }
     ensures none { IfOk result (λ found. IfNone found (IsOk (draft_in text.now))) }
-    ensures told { IfOk result (λ found. IfSome found (λ f. IsOfficeFault text.now f.fault f.remark)) }
+    ensures told { IfOk result (λ found. IfSome found (λ f. IsRemarkedOfficeFault text.now f.fault f.remark)) }
 {
     match explain_standing(alloc, text)? {
         Some(remark) => Ok(Some(OfficeFault {
@@ -31,7 +31,7 @@ fn standing_fault(alloc: Global, text: &[u8]) -> Result<Option<OfficeFault>, All
 /// Returns the fault of an office text, and what is said of it, or none where it is an office.
 pub(crate) fn office_fault(alloc: Global, text: &[u8]) -> Result<Option<OfficeFault>, AllocError>
     ensures none { IfOk result (λ found. IfNone found (IsOk (draft_in text.now))) }
-    ensures told { IfOk result (λ found. IfSome found (λ f. IsOfficeFault text.now f.fault f.remark)) }
+    ensures told { IfOk result (λ found. IfSome found (λ f. IsRemarkedOfficeFault text.now f.fault f.remark)) }
 {
     match explain_office(alloc, text)? {
         Some(found) => Ok(Some(found)),
@@ -46,7 +46,7 @@ pub(crate) fn office_lines(
     text: &[u8],
     found: &OfficeFault,
 ) -> Result<Vec<u8>, AllocError>
-    requires { IsOfficeFault text.now found.now.fault found.now.remark }
+    requires { IsRemarkedOfficeFault text.now found.now.fault found.now.remark }
     ensures { IfOk result (λ lines. AreOfficeLines text.now lines.items) }
 {
     let lines = fault_lines(alloc, text, office_fault_words(found.fault), &found.remark)?;

@@ -4,7 +4,7 @@ ghost use Rattle.clr_cert.specs.Certificates.{certificate_in};
 ghost use Rattle.clr_record_explanations.specs.RecordRemarks.{IsRecordRemark};
 ghost use Rattle.clr_scripts.specs.Scripts.{script_in_text};
 ghost use Rattle.clr_why.specs.Shorts.{IsShortCertificateFault, IsShortOfficeFault, IsShortScriptFault};
-ghost use Rattle.clr_why.specs.Whys.{IsOfficeFault};
+ghost use Rattle.clr_why.specs.Whys.{IsRemarkedOfficeFault};
 
 use crate::offices::office_fault;
 use clr_explanations::OfficeFault;
@@ -20,7 +20,7 @@ fn office_line(
     file: &str,
     found: &OfficeFault,
 ) -> Result<Vec<u8>, AllocError>
-    requires { IsOfficeFault text.now found.now.fault found.now.remark }
+    requires { IsRemarkedOfficeFault text.now found.now.fault found.now.remark }
     ensures { IfOk result (λ line. IsShortOfficeFault text.now file.now line.items) }
 {
     let line = short_line(alloc, text, file, &found.remark)?;

@@ -3,7 +3,7 @@
 ghost use Rattle.std.specs.Prelude.{◌≡◌, true, IfSome};
 ghost use Rattle.clr_rows.specs.Places.{InRange, Differ};
 ghost use Rattle.clr_segments.specs.Segments.{LiesOn};
-ghost use Rattle.clr_wording.specs.Meetings.{IsTold};
+ghost use Rattle.clr_wording.specs.Meetings.{IsMeetingOfParts};
 
 use clr_rows::{GREATEST_COORDINATE, Place};
 use clr_segments::{Meet, lies_on, meet};
@@ -104,7 +104,7 @@ fn common_place(first: (Place, Place), second: (Place, Place)) -> Option<Place>
 /// ends of each part differ; of any other parts nothing is told. That a single common point which is
 /// told to lie between whole millimetres does so is tested.
 pub fn meet_parts(first: (Place, Place), second: (Place, Place)) -> Meeting
-    ensures told { IsTold first.0 first.1 second.0 second.1 result }
+    ensures told { IsMeetingOfParts first.0 first.1 second.0 second.1 result }
 {
     if !is_part(first) || !is_part(second) {
         return Meeting::NoParts;

@@ -18,7 +18,7 @@ use Rattle.clr_steps.specs.Steps.{IsAnswer, answer, is_lost, refused_or_done, st
 use Rattle.clr_words.specs.declared.trials.Trial.{Trial}
 use Rattle.clr_words.specs.Making.{AddsTrial, IsBack, IsEditJudged}
 use Rattle.clr_words.specs.declared.remedies.Action.TheVariants as action
-use Rattle.clr_words.specs.Trials.{IsEdited, IsJudged, IsTold, IsTrial}
+use Rattle.clr_words.specs.Trials.{IsEdited, IsTrial, IsTrialAnswer, TellsIfCleared}
 use Rattle.clr_words.proofs.Savepoints.{IsBetween, as_before, edited, same}
 
 -- an edit was tried or not, and what was there is there again
@@ -34,14 +34,14 @@ back_to o saved there left ws savepoint edit s told sound mark judged (rolled, r
 
 pub told_of : (o saved there : Office) (ws savepoint : Name) (edit : Edit) (s : Site) (told : Option Bool)
     → step o (command.Mark ws savepoint) ≡ answer Done saved → IsEditJudged saved ws edit s told there
-    → IfSome told (λ cleared. (next : Office) × IsEdited o ws edit next × IsJudged next s cleared)
+    → IfSome told (λ cleared. (next : Office) × IsEdited o ws edit next × TellsIfCleared next s cleared)
 told_of o saved there ws savepoint edit s None mark e = tt
 told_of o saved there ws savepoint edit s (Some cleared) mark (made, judged) =
     (there, record { savepoint = savepoint; saved = saved; mark = mark; apply = made }, judged)
 
 -- what is told of an edit is told of the action that makes it
 pub told_as : (o : Office) (s : Site) (at : ℕ) (edit : Edit) (ws : Name) → slice_get s.members at ≡ Some ws → (told : Option Bool)
-    → IfSome told (λ cleared. (next : Office) × IsEdited o ws edit next × IsJudged next s cleared) → IfSome told (IsTold o s (action.Make at edit))
+    → IfSome told (λ cleared. (next : Office) × IsEdited o ws edit next × TellsIfCleared next s cleared) → IfSome told (IsTrialAnswer o s (action.Make at edit))
 told_as o s at edit ws get None h = tt
 told_as o s at edit ws get (Some cleared) (next, made, judged) = (ws, get, next, made, judged)
 

@@ -9,7 +9,7 @@ use Rattle.clr_steps.specs.Offices.{Office}
 use Rattle.clr_steps.specs.Quiet.{Site}
 use Rattle.clr_steps.specs.Steps.{answer, step}
 use Rattle.clr_words.specs.declared.trials.Trial.{Trial}
-use Rattle.clr_words.specs.Trials.{IsJudged, IsTrial}
+use Rattle.clr_words.specs.Trials.{IsTrial, TellsIfCleared}
 
 -- a command is done, or nothing changes
 abbrev pub IsDone : Office → Command → Bool → Office → Type 0
@@ -23,7 +23,7 @@ IsBack o ws savepoint next =
 
 -- an edit was made, and the members are cleared then or not; or it can't be made, and nothing changes
 abbrev pub IsEditJudged : Office → Name → Edit → Site → Option Bool → Office → Type 0
-IsEditJudged o ws edit s (Some cleared) next = (step o (command.Apply ws (edit ∷ [])) ≡ answer Done next) × IsJudged next s cleared
+IsEditJudged o ws edit s (Some cleared) next = (step o (command.Apply ws (edit ∷ [])) ≡ answer Done next) × TellsIfCleared next s cleared
 IsEditJudged o ws edit s None next = next ≡ o
 
 -- one more trial at most

@@ -22,7 +22,7 @@ pub record IsAnswered (o : Office) (s : Site) (p : Plan) : Type 0 where
   pub exact : IsExact o s p
 
 -- a plan that found its memory is cleared, or isn't
-pub record IsJudged (o : Office) (s : Site) (cleared : Bool) : Type 0 where
+pub record TellsIfCleared (o : Office) (s : Site) (cleared : Bool) : Type 0 where
   pub plan : Plan
   pub planned : IsAnswered o s plan
   pub found : is_out_of_memory plan ≡ false
@@ -36,11 +36,11 @@ pub record IsEdited (o : Office) (ws : Name) (edit : Edit) (next : Office) : Typ
   pub apply : step saved (command.Apply ws (edit ∷ [])) ≡ answer Done next
 
 -- what is told of an action: the plan of the members but the one that is left out, or that of all in the office in which one made an edit
-abbrev pub IsTold : Office → Site → Action → Bool → Type 0
-IsTold o s (action.LeaveOut at) cleared = IsJudged o (site s.root (remove s.members at)) cleared
-IsTold o s (action.Make at edit) cleared =
-    (ws : Name) × (slice_get s.members at ≡ Some ws) × (next : Office) × IsEdited o ws edit next × IsJudged next s cleared
+abbrev pub IsTrialAnswer : Office → Site → Action → Bool → Type 0
+IsTrialAnswer o s (action.LeaveOut at) cleared = TellsIfCleared o (site s.root (remove s.members at)) cleared
+IsTrialAnswer o s (action.Make at edit) cleared =
+    (ws : Name) × (slice_get s.members at ≡ Some ws) × (next : Office) × IsEdited o ws edit next × TellsIfCleared next s cleared
 
 -- what is told of a trial is told of some action
 abbrev pub IsTrial : Office → Site → Trial → Type 0
-IsTrial o s trial = (tried : Action) × IsTold o s tried trial.is_cleared
+IsTrial o s trial = (tried : Action) × IsTrialAnswer o s tried trial.is_cleared

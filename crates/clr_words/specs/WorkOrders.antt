@@ -15,13 +15,13 @@ abbrev pub answer_text : Bool → List ℕ
 answer_text true = codes ": cleared\n"
 answer_text false = codes ": not cleared\n"
 
-abbrev pub line_text : Trial → List ℕ
-line_text trial = codes "  - " ++ trial.words ++ answer_text trial.is_cleared
+abbrev pub trial_line : Trial → List ℕ
+trial_line trial = codes "  - " ++ trial.words ++ answer_text trial.is_cleared
 
 -- the line of a trial that has this answer, and nothing of another
 abbrev pub trial_text : Bool → Trial → List ℕ
-trial_text true trial = if trial.is_cleared then line_text trial else []
-trial_text false trial = if trial.is_cleared then [] else line_text trial
+trial_text true trial = if trial.is_cleared then trial_line trial else []
+trial_text false trial = if trial.is_cleared then [] else trial_line trial
 
 -- the lines of trials, those first that are cleared; nothing where nothing was tried
 abbrev pub trials_text : List Trial → List ℕ

@@ -2,7 +2,7 @@
 
 ghost use Rattle.std.specs.Prelude.{◌≡◌, ◌++◌, OnOk};
 ghost use Rattle.std.specs.List.{flat_map};
-ghost use Rattle.clr_words.specs.WorkOrders.{answer_text, line_text, trial_text, trials_text};
+ghost use Rattle.clr_words.specs.WorkOrders.{answer_text, trial_line, trial_text, trials_text};
 
 use crate::trials::Trial;
 use std::alloc::AllocError;
@@ -20,7 +20,7 @@ fn answer_word(is_cleared: bool) -> &'static str
 
 /// Adds the line of a trial.
 fn add_line(text: &mut Vec<u8>, trial: &Trial) -> Result<(), AllocError>
-    ensures { OnOk result (text.new.items ≡ text.old.items ++ line_text trial.now) }
+    ensures { OnOk result (text.new.items ≡ text.old.items ++ trial_line trial.now) }
 {
     text.extend_from_slice(b"  - ")?;
     text.extend_from_slice(trial.words.as_str().as_bytes())?;

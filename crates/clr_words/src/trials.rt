@@ -6,7 +6,7 @@ ghost use Rattle.clr_steps.specs.Offices.{Office as Whole};
 ghost use Rattle.clr_sites.specs.SiteNames.{site};
 ghost use Rattle.clr_words.specs.declared.trials.TheConstants.{BEFORE_TRIAL as SAVEPOINT};
 ghost use Rattle.clr_words.specs.Making.{AddsTrial, IsBack, IsDone, IsEditJudged};
-ghost use Rattle.clr_words.specs.Trials.{IsEdited, IsJudged, IsTold, IsTrial};
+ghost use Rattle.clr_words.specs.Trials.{IsEdited, IsTrial, IsTrialAnswer, TellsIfCleared};
 
 use crate::remedies::{Action, Remedy, plan_remedies};
 use clr_change::{Edit, Edits};
@@ -34,7 +34,7 @@ fn are_cleared(
     root: &str,
     names: &[&str],
 ) -> Result<bool, AllocError>
-    ensures { IfOk result (IsJudged office.now (site root.now (map (λ name. name.now) names.now))) }
+    ensures { IfOk result (TellsIfCleared office.now (site root.now (map (λ name. name.now) names.now))) }
 {
     match plan(alloc, office, root, names) {
         Plan::Cleared(_) => Ok(true),
@@ -151,7 +151,7 @@ fn try_edit(
     edit: Edit,
 ) -> Result<Option<bool>, AllocError>
     ensures told { IfOk result (λ told. IfSome told (λ cleared. (next : Whole)
-        × IsEdited office.old ws.now edit next × IsJudged next (site root.now (map (λ name. name.now) names.now)) cleared)) }
+        × IsEdited office.old ws.now edit next × TellsIfCleared next (site root.now (map (λ name. name.now) names.now)) cleared)) }
     ensures back { IfOk result (λ told. office.new ≡ office.old) }
 {
     let _sound = office.len();
@@ -186,7 +186,7 @@ fn try_action(
     names: &[&str],
     action: Action,
 ) -> Result<Option<bool>, AllocError>
-    ensures told { IfOk result (λ told. IfSome told (IsTold office.old (site root.now (map (λ name. name.now) names.now)) action)) }
+    ensures told { IfOk result (λ told. IfSome told (IsTrialAnswer office.old (site root.now (map (λ name. name.now) names.now)) action)) }
     ensures back { IfOk result (λ told. office.new ≡ office.old) }
 {
     match action {

@@ -1,5 +1,5 @@
 use Rattle.std.proofs.Common.{subst}
-use Rattle.clr_check.specs.Answers.{IsAnswer}
+use Rattle.clr_check.specs.Answers.{IsCheckAnswer}
 use Rattle.clr_sites.specs.Faults.{IsFault}
 use Rattle.clr_sites.specs.Certificates.{entries_in, site_of}
 use Rattle.clr_sites.specs.SiteNames.{site}
@@ -11,14 +11,14 @@ pub returns-in-Ok-clause-answer : goal.returns-in-Ok-clause-answer
 returns-in-Ok-clause-answer c =
     let o = c.args.office.now in
     let s = site_of c.args.certificate.now in
-    subst (λ es. IsAnswer o s (entries_in es) c.judge_parts.result) c.as_slice.ensures
+    subst (λ es. IsCheckAnswer o s (entries_in es) c.judge_parts.result) c.as_slice.ensures
     (c.judge_parts.ensures s (subst (λ root. AreParts o (site root c.args.certificate.now.members) c.in-Ok.parts) c.as_str.ensures c.in-Ok.ensures.parts))
 
 pub returns-in-Ok-clause-free : goal.returns-in-Ok-clause-free
 returns-in-Ok-clause-free c e =
     let o = c.args.office.now in
     let s = site_of c.args.certificate.now in
-    let answer = subst (λ es. IsAnswer o s (entries_in es) c.judge_parts.result) c.as_slice.ensures
+    let answer = subst (λ es. IsCheckAnswer o s (entries_in es) c.judge_parts.result) c.as_slice.ensures
     (c.judge_parts.ensures s (subst (λ root. AreParts o (site root c.args.certificate.now.members) c.in-Ok.parts) c.as_str.ensures c.in-Ok.ensures.parts)) in
     (clear_promises o s (entries_in c.args.certificate.now.entries) c.in-Ok.ensures.admitted c.judge_parts.result answer e).0
 
@@ -26,7 +26,7 @@ pub returns-in-Ok-clause-safe : goal.returns-in-Ok-clause-safe
 returns-in-Ok-clause-safe c e =
     let o = c.args.office.now in
     let s = site_of c.args.certificate.now in
-    let answer = subst (λ es. IsAnswer o s (entries_in es) c.judge_parts.result) c.as_slice.ensures
+    let answer = subst (λ es. IsCheckAnswer o s (entries_in es) c.judge_parts.result) c.as_slice.ensures
     (c.judge_parts.ensures s (subst (λ root. AreParts o (site root c.args.certificate.now.members) c.in-Ok.parts) c.as_str.ensures c.in-Ok.ensures.parts)) in
     (clear_promises o s (entries_in c.args.certificate.now.entries) c.in-Ok.ensures.admitted c.judge_parts.result answer e).1
 
@@ -34,7 +34,7 @@ pub returns-in-Ok-clause-headline : goal.returns-in-Ok-clause-headline
 returns-in-Ok-clause-headline c e =
     let o = c.args.office.now in
     let s = site_of c.args.certificate.now in
-    let answer = subst (λ es. IsAnswer o s (entries_in es) c.judge_parts.result) c.as_slice.ensures
+    let answer = subst (λ es. IsCheckAnswer o s (entries_in es) c.judge_parts.result) c.as_slice.ensures
     (c.judge_parts.ensures s (subst (λ root. AreParts o (site root c.args.certificate.now.members) c.in-Ok.parts) c.as_str.ensures c.in-Ok.ensures.parts)) in
     (clear_promises o s (entries_in c.args.certificate.now.entries) c.in-Ok.ensures.admitted c.judge_parts.result answer e).2
 
@@ -42,7 +42,7 @@ pub returns-in-Ok-clause-runs : goal.returns-in-Ok-clause-runs
 returns-in-Ok-clause-runs c e =
     let o = c.args.office.now in
     let s = site_of c.args.certificate.now in
-    let answer = subst (λ es. IsAnswer o s (entries_in es) c.judge_parts.result) c.as_slice.ensures
+    let answer = subst (λ es. IsCheckAnswer o s (entries_in es) c.judge_parts.result) c.as_slice.ensures
     (c.judge_parts.ensures s (subst (λ root. AreParts o (site root c.args.certificate.now.members) c.in-Ok.parts) c.as_str.ensures c.in-Ok.ensures.parts)) in
     (clear_promises o s (entries_in c.args.certificate.now.entries) c.in-Ok.ensures.admitted c.judge_parts.result answer e).3
 

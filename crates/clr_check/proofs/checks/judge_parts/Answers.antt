@@ -1,5 +1,5 @@
 use Rattle.std.proofs.Common.{subst, sym}
-use Rattle.clr_check.specs.Answers.{IsAnswer}
+use Rattle.clr_check.specs.Answers.{IsCheckAnswer}
 use Rattle.clr_sites.specs.Certificates.{entries_in}
 use Rattle.clr_check.proofs.AnswerLemmas.{clear_answers, scene_answers, uncovered_answers}
 use Rattle.clr_check.proofs.checks.judge_parts.Goals as goal
@@ -19,5 +19,5 @@ returns-in-Ok-Some c s parts =
 pub returns : goal.returns
 returns c s parts =
     let entries = entries_in c.args.entries.now in
-    subst (IsAnswer c.args.office.now s entries) (sym c.verdict_of.ensures) (scene_answers c.args.office.now s entries parts.free c.in-Err.fault
+    subst (IsCheckAnswer c.args.office.now s entries) (sym c.verdict_of.ensures) (scene_answers c.args.office.now s entries parts.free c.in-Err.fault
     (c.in-Err.ensures.shared s parts))

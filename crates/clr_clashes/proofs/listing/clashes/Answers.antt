@@ -3,14 +3,14 @@ use Rattle.clr_foot.specs.Scenes.{model_of, setting_of}
 use Rattle.clr_needs.proofs.BreakLaws.{touched_possible}
 use Rattle.clr_needs.proofs.Reading.{read_of}
 use Rattle.clr_needs.proofs.NeedOrder.{unread}
-use Rattle.clr_clashes.specs.ListedClashes.{clash_of}
+use Rattle.clr_clashes.specs.ListedClashes.{listed_clash_of}
 use Rattle.clr_clashes.proofs.ListedLaws.{all_kept, none_kept_yet, one_noted}
 use Rattle.clr_clashes.proofs.listing.clashes.Goals as goal
 
 pub loop-need-init : goal.loop-need-init
 loop-need-init g c = none_kept_yet (setting_of (model_of g.V.RowView.content c.args.scene.now)) c.in_ok-needs.needs.items c.deref-need-items.result.now
     c.in_ok-needs.ensures c.deref-need-items.ensures.value
-    (map clash_of c.new-list.result.items) (ap (map clash_of) c.new-list.ensures.items)
+    (map listed_clash_of c.new-list.result.items) (ap (map listed_clash_of) c.new-list.ensures.items)
 
 pub note_need-requires-clause-possible : goal.note_need-requires-clause-possible
 note_need-requires-clause-possible g c =
@@ -23,10 +23,10 @@ note_need-requires-clause-possible g c =
 pub loop-need-preserved : goal.loop-need-preserved
 loop-need-preserved g c = one_noted (setting_of (model_of g.V.RowView.content c.args.scene.now)) c.in_ok-needs.needs.items c.deref-need-items.result.now
     c.in_ok-needs.ensures c.deref-need-items.ensures.value
-    c.loop-need.need-index unread c.loop-need-test.true (map clash_of c.loop-need.list.items) (map clash_of c.note_need.new.clashes.items) c.loop-need.invariant
+    c.loop-need.need-index unread c.loop-need-test.true (map listed_clash_of c.loop-need.list.items) (map listed_clash_of c.note_need.new.clashes.items) c.loop-need.invariant
     c.in_ok-note_need.ensures
 
 pub returns : goal.returns
 returns g c = all_kept (setting_of (model_of g.V.RowView.content c.args.scene.now)) c.in_ok-needs.needs.items c.deref-need-items.result.now
     c.in_ok-needs.ensures c.deref-need-items.ensures.value
-    c.loop-need.need-index (map clash_of c.loop-need.list.items) c.loop-need-test.false c.loop-need.invariant
+    c.loop-need.need-index (map listed_clash_of c.loop-need.list.items) c.loop-need-test.false c.loop-need.invariant

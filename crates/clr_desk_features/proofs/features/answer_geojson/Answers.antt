@@ -3,8 +3,8 @@ use Rattle.std.specs.Option.{option_copied}
 use Rattle.clr_sites.specs.SiteNames.{site}
 use Rattle.clr_drafts.specs.Drafts.{draft_in}
 use Rattle.clr_prints.specs.NameHints.{IsHinted}
-use Rattle.clr_prints.specs.Printing.{IsPrintIn}
-use Rattle.clr_desk_features.specs.Features.{IsAnswer, IsFeaturesPrint, in_system, no_system_print, of_no_system, system_name, without_system}
+use Rattle.clr_prints.specs.Printing.{IsPrintoutIn}
+use Rattle.clr_desk_features.specs.Features.{IsFeaturesAnswer, IsFeaturesPrint, in_system, no_system_print, of_no_system, system_name, without_system}
 use Rattle.clr_desk_features.proofs.Made.{made_as}
 use Rattle.clr_desk_features.proofs.features.answer_geojson.Goals as goal
 
@@ -14,7 +14,7 @@ returns-in_default c =
     let s = site c.args.root.now c.args.names.now in
     let names = c.args.root.now ∷ c.args.names.now in
     let given = draft_in c.args.office.now in
-    made_as (IsPrintIn (IsHinted (IsFeaturesPrint s None) names) given) (IsAnswer s names (option_copied c.args.system) given)
+    made_as (IsPrintoutIn (IsHinted (IsFeaturesPrint s None) names) given) (IsFeaturesAnswer s names (option_copied c.args.system) given)
     (λ print is. without_system none is) c.answer_in.result c.answer_in.ensures
 
 pub returns-in-Some-system_of : goal.returns-in-Some-system_of
@@ -25,7 +25,7 @@ returns-in-Some-system_of c =
     let s = site c.args.root.now c.args.names.now in
     let names = c.args.root.now ∷ c.args.names.now in
     let given = draft_in c.args.office.now in
-    made_as (IsPrintIn (IsHinted (IsFeaturesPrint s (Some code)) names) given) (IsAnswer s names (option_copied c.args.system) given)
+    made_as (IsPrintoutIn (IsHinted (IsFeaturesPrint s (Some code)) names) given) (IsFeaturesAnswer s names (option_copied c.args.system) given)
     (λ print is. in_system code named is) c.answer_in-in-Some-system_of.result c.answer_in-in-Some-system_of.ensures
 
 pub returns-in_ok-print_of_no_system-in-None : goal.returns-in_ok-print_of_no_system-in-None

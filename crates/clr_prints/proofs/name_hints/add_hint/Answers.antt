@@ -1,7 +1,7 @@
 use Rattle.std.proofs.Common.{◌∙◌, ◌++◌, ap, inr, subst}
 use Rattle.std.specs.Prelude.{Contains, IfSome}
 use Rattle.std.proofs.lemmas.List.Elements.{All-contains}
-use Rattle.clr_prints.specs.NameHints.{IsNamed, IsNobody}
+use Rattle.clr_prints.specs.NameHints.{IsNobody, IsWorkspaceName}
 use Rattle.clr_prints.proofs.name_hints.add_hint.Goals as goal
 
 pub returns-in_ok-extend_from_slice : goal.returns-in_ok-extend_from_slice
@@ -14,6 +14,6 @@ returns-in_ok-extend_from_slice c =
     inr (
       near.now,
       meant.1,
-      All-contains (λ name. IsNamed o name.now) known near c.requires meant.0,
+      All-contains (λ name. IsWorkspaceName o name.now) known near c.requires meant.0,
       c.in_ok-extend_from_slice.ensures.items ∙ ap (λ ls. c.args.lines.now.items ++ ls) (c.as_slice.ensures.value ∙ c.in_ok-line.ensures),
     )

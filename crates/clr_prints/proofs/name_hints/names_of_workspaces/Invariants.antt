@@ -1,7 +1,7 @@
 use Rattle.std.specs.Prelude.{All}
-use Rattle.clr_prints.specs.NameHints.{IsNamed}
+use Rattle.clr_prints.specs.NameHints.{IsWorkspaceName}
 use Rattle.clr_prints.proofs.name_hints.names_of_workspaces.Given as goal
 
 -- those so far are names of workspaces
 abbrev pub invariant-loop-at : goal.invariant-loop-at
-invariant-loop-at l = All (λ name. IsNamed l.fn.office name.now) l.names.items
+invariant-loop-at l = All (λ name. IsWorkspaceName l.fn.office name.now) l.names.items

@@ -8,16 +8,16 @@ use Rattle.clr_site_clashes.specs.declared.site_sets.SiteClash.{SiteClash as Sto
 use Rattle.clr_site_clashes.specs.Conflicts.{free_positions}
 use Rattle.clr_site_clashes.specs.SharedCells.{apart_positions, shared_clashes}
 use Rattle.clr_site_clashes.specs.SiteClashes.{AreNeedClashes, looked_at, looked_site}
-use Rattle.clr_site_clashes.specs.SiteSets.{SiteClash, clash_of}
+use Rattle.clr_site_clashes.specs.SiteSets.{SiteClash, stored_clash}
 use Rattle.clr_site_clashes.proofs.clashes.clashes_of_children.Goals as goal
 
 -- three lists, one behind the other
 joined : (conflicts pairs needs first all : List Stored) → first ≡ conflicts ++ pairs → all ≡ first ++ needs
-    → map clash_of all ≡ map clash_of conflicts ++ map clash_of pairs ++ map clash_of needs
+    → map stored_clash all ≡ map stored_clash conflicts ++ map stored_clash pairs ++ map stored_clash needs
 joined conflicts pairs needs first all e f =
-    ap (map clash_of) (f ∙ ap (λ (ks : List Stored). ks ++ needs) e)
-    ∙ map-append clash_of (conflicts ++ pairs) needs
-    ∙ ap (λ (ks : List SiteClash). ks ++ map clash_of needs) (map-append clash_of conflicts pairs)
+    ap (map stored_clash) (f ∙ ap (λ (ks : List Stored). ks ++ needs) e)
+    ∙ map-append stored_clash (conflicts ++ pairs) needs
+    ∙ ap (λ (ks : List SiteClash). ks ++ map stored_clash needs) (map-append stored_clash conflicts pairs)
 
 pub returns : goal.returns
 returns c =
@@ -30,11 +30,11 @@ returns c =
     let again : c.as_slice-5.result.now ≡ looked_at o s = c.as_slice-5.ensures.value ∙ looked in
     let given : map (λ name. name.now) c.as_slice-4.result.now ≡ names_at s (looked_at o s) =
     ap (map (λ name. name.now)) c.as_slice-4.ensures.value ∙ c.in_ok-names.ensures ∙ ap (names_at s) (c.as_slice-3.ensures.value ∙ looked) in
-    let needs = map clash_of c.in_ok-needs.needs.items in
+    let needs = map stored_clash c.in_ok-needs.needs.items in
     let found : AreNeedClashes o (looked_site o s) (looked_at o s) needs =
     subst (λ (list : List ℕ). AreNeedClashes o (looked_site o s) list needs) again
     (subst (λ (ms : List Name). AreNeedClashes o (site s.root ms) c.as_slice-5.result.now needs) given c.in_ok-needs.ensures) in
-    let pairs : map clash_of c.in_ok-pairs.pairs.items ≡ shared_clashes (change_sets o s) (free_positions o names) =
+    let pairs : map stored_clash c.in_ok-pairs.pairs.items ≡ shared_clashes (change_sets o s) (free_positions o names) =
     c.in_ok-pairs.ensures.clashes ∙ (λ i. shared_clashes (sets i) (free i)) in (
       needs,
       record {

@@ -1,9 +1,9 @@
 use Rattle.std.proofs.Common.{◌≡◌, map, take}
-use Rattle.clr_clashes.specs.ListedClashes.{clash_of as listed_of}
+use Rattle.clr_clashes.specs.ListedClashes.{listed_clash_of}
 use Rattle.clr_site_clashes.specs.SiteClashes.{need_clash}
-use Rattle.clr_site_clashes.specs.SiteSets.{clash_of}
+use Rattle.clr_site_clashes.specs.SiteSets.{stored_clash}
 use Rattle.clr_site_clashes.proofs.needs.clashes_among.Given as goal
 
 -- the sets so far
 abbrev pub invariant-loop-clash : goal.invariant-loop-clash
-invariant-loop-clash l = map clash_of l.list.items ≡ map (need_clash l.looked) (map listed_of (take l.clash-index l.listed))
+invariant-loop-clash l = map stored_clash l.list.items ≡ map (need_clash l.looked) (map listed_clash_of (take l.clash-index l.listed))
