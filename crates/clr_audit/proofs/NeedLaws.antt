@@ -1,5 +1,6 @@
 -- A search among the rows that are near adds just the broken needs that all rows have.
-use Rattle.std.proofs.Common.{◌≡◌, ◌⊎◌, inl, inr, ℕ, zero, suc, ◌+◌, ◌<◌, Bool, true, false, cond, not, ◌&&◌, List, [], ◌∷◌, ◌++◌, Option, Some, None, Contains, map, slice_get, refl, sym, ap, subst, ◌∙◌, arith}
+use Rattle.std.proofs.Common.{◌≡◌, ◌⊎◌, inl, inr, ℕ, zero, suc, ◌+◌, ◌<◌, Bool, true, false, cond, not, ◌&&◌, List, [], ◌∷◌, ◌++◌, Option, Some, None, Contains}
+use Rattle.std.proofs.Common.{map, slice_get, refl, sym, ap, subst, ◌∙◌, arith}
 use Rattle.std.proofs.lemmas.Bool.{and_parts, cases_Bool, false≢true, not-true}
 use Rattle.std.specs.Cmp.{both_ways}
 use Rattle.std.specs.List.{list_any, flat_map}
@@ -23,7 +24,8 @@ use Rattle.clr_rules.specs.Roles.{roles_under}
 use Rattle.clr_spots.specs.RoleSpots.{subject_spots_under, server_spots_under}
 use Rattle.clr_spots.specs.Spots.{unless_many, are_many}
 use Rattle.clr_rules.proofs.Elements.{Among, among, contained, among_left, among_right, flat_among, among_flat, some_of, any_by}
-use Rattle.clr_spots.proofs.RoleLaws.{alone_parts, first_part_there, second_part_there, subject_alone, subjects_beside, subjects_meet, server_role, servers_meet}
+use Rattle.clr_spots.proofs.RoleLaws.{alone_parts, first_part_there, second_part_there, subject_alone, subjects_beside, subjects_meet, server_role}
+use Rattle.clr_spots.proofs.RoleLaws.{servers_meet}
 use Rattle.clr_spots.proofs.SharedSpots.{Common}
 use Rattle.clr_audit.specs.declared.role_index.RoleIndex.{RoleIndex}
 use Rattle.clr_audit.specs.declared.searching.Search.{Search}
@@ -32,7 +34,8 @@ use Rattle.clr_rows.specs.Beginnings.{IsBegun}
 use Rattle.clr_spot_maps.specs.Filing.{Filed, IsFiled, near}
 use Rattle.clr_audit.specs.RoleFiling.{filed_rows, no_rows_filed, partners}
 use Rattle.clr_audit.specs.PartServers.{is_on, may_serve_part, may_serve_part_by}
-use Rattle.clr_audit.specs.Searches.{may_serve_at, may_serve_if, server_if, servers_of_part, serves_if, serves_at, need_if_broken, need_with, need_beside, IsBeside, IsBrokenAmong, Gains, GainsSome, IsAlone, IsOfPart, IsOfRow, IsPaired}
+use Rattle.clr_audit.specs.Searches.{may_serve_at, may_serve_if, server_if, servers_of_part, serves_if, serves_at, need_if_broken, need_with, need_beside}
+use Rattle.clr_audit.specs.Searches.{IsBeside, IsBrokenAmong, Gains, GainsSome, IsAlone, IsOfPart, IsOfRow, IsPaired}
 use Rattle.clr_spot_maps.proofs.Filed.{found_near}
 use Rattle.clr_audit.proofs.Gaining.{gains_begun, gains_listed, gains_none, gains_more}
 use Rattle.clr_audit.proofs.RoleFiled.{IsRowFiled, IsSubjectFiled, entry, rows_filed}

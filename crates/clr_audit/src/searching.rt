@@ -2,7 +2,8 @@
 //! alone that share a spot with them, and a server is looked for among such servers alone: no other
 //! row can stand in a need with them.
 
-ghost use Rattle.std.specs.Prelude.{◌≡◌, ◌↔◌, ◌<◌, ◌++◌, ◌∷◌, true, length, slice_get, Contains, IfOk, IfSome, MatchOption, OnErr, OnOk, None, Some, option_map, option_to_list};
+ghost use Rattle.std.specs.Prelude.{◌≡◌, ◌↔◌, ◌<◌, ◌++◌, ◌∷◌, true, length, slice_get, Contains, IfOk, IfSome, MatchOption, OnErr, OnOk, None, Some};
+ghost use Rattle.std.specs.Prelude.{option_map, option_to_list};
 ghost use Rattle.std.specs.List.{flat_map};
 ghost use Rattle.clr_rows.specs.Held.{held_of};
 ghost use Rattle.clr_rules.specs.Books.{FitTogether};
@@ -10,8 +11,10 @@ ghost use Rattle.clr_rules.specs.Calls.{plain_ask};
 ghost use Rattle.clr_rules.specs.Roles.{roles_under};
 ghost use Rattle.clr_rules.specs.declared.needs.Broken.{Broken as OneBroken};
 ghost use Rattle.clr_rows.specs.Beginnings.{IsBegun};
-ghost use Rattle.clr_audit.specs.Searches.{AreInOrder, AreRowsFiled, GainsAll, GainsSome, IsAlone, IsLeastFrom, IsLeastListed, IsOfPart, IsOfRow, IsOfRule, IsPaired};
-ghost use Rattle.clr_audit.specs.Searches.{is_up_to, may_serve_at, need_if_broken, need_beside, rows_of, serves_among, serves_at, server_if, servers_at_spots, servers_near, servers_of_part};
+ghost use Rattle.clr_audit.specs.Searches.{AreInOrder, AreRowsFiled, GainsAll, GainsSome, IsAlone, IsLeastFrom, IsLeastListed, IsOfPart, IsOfRow, IsOfRule};
+ghost use Rattle.clr_audit.specs.Searches.{IsPaired};
+ghost use Rattle.clr_audit.specs.Searches.{is_up_to, may_serve_at, need_if_broken, need_beside, rows_of, serves_among, serves_at, server_if, servers_at_spots};
+ghost use Rattle.clr_audit.specs.Searches.{servers_near, servers_of_part};
 
 use crate::part_servers::may_serve_part;
 use crate::role_index::RoleIndex;

@@ -1,5 +1,6 @@
 -- Entries sorted by need, and those of one need.
-use Rattle.std.proofs.Common.{◌≡◌, ℕ, ◌+◌, ◌-◌, ◌<◌, ◌≤◌, ◌⊎◌, inl, inr, Bool, true, false, List, [], ◌∷◌, Contains, get_or, length, drop, take, refl, sym, ap, ◌∙◌, subst, arith, Option}
+use Rattle.std.proofs.Common.{◌≡◌, ℕ, ◌+◌, ◌-◌, ◌<◌, ◌≤◌, ◌⊎◌, inl, inr, Bool, true, false, List, [], ◌∷◌, Contains, get_or, length, drop, take, refl, sym, ap}
+use Rattle.std.proofs.Common.{◌∙◌, subst, arith, Option}
 use Rattle.std.specs.Cmp.{IsTotalOrder, tied_itself}
 use Rattle.std.specs.List.Sorted.{IsPartitionedBy, IsPartitionPoint}
 use Rattle.std.specs.Ordering.{is_gt, is_le, is_lt, ordering_reverse}

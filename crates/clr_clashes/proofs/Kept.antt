@@ -8,7 +8,8 @@ use Rattle.std.proofs.lemmas.Bool.{and_from, and_parts, cases_Bool, false≢true
 use Rattle.std.proofs.lemmas.Bool.Decides.{Decides-eqb}
 use Rattle.std.proofs.lemmas.Cmp.{nat_cmp_total}
 use Rattle.std.proofs.lemmas.List.Kept.{IsStrictlySortedBy-filter}
-use Rattle.clr_rules.proofs.Elements.{Among, among, among_either, among_kept, among_left, among_right, any_by, contained, kept_among, not_both, not_itself, rising_joined, same_rising, some_of}
+use Rattle.clr_rules.proofs.Elements.{Among, among, among_either, among_kept, among_left, among_right, any_by, contained, kept_among, not_both, not_itself}
+use Rattle.clr_rules.proofs.Elements.{rising_joined, same_rising, some_of}
 use Rattle.clr_needs.specs.declared.needs.Need.{Need}
 use Rattle.clr_needs.specs.Orders.{need_cmp}
 use Rattle.clr_needs.specs.Settings.{Setting}

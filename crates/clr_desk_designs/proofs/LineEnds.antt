@@ -1,5 +1,6 @@
 -- An office text with a line end behind it is read as the same office.
-use Rattle.std.proofs.Common.{◌≡◌, ℕ, suc, ◌+◌, ◌-◌, ◌≤◌, Bool, true, false, cond, ◌&&◌, ◌||◌, ◌==◌, List, [], ◌∷◌, ◌++◌, length, take, drop, Option, Some, None, option_and_then, option_map, Result, Ok, Err, refl, sym, ap, ap₂, ◌∙◌, arith, length-append, nat_eq, nat_lt}
+use Rattle.std.proofs.Common.{◌≡◌, ℕ, suc, ◌+◌, ◌-◌, ◌≤◌, Bool, true, false, cond, ◌&&◌, ◌||◌, ◌==◌, List, [], ◌∷◌, ◌++◌, length, take, drop, Option, Some}
+use Rattle.std.proofs.Common.{None, option_and_then, option_map, Result, Ok, Err, refl, sym, ap, ap₂, ◌∙◌, arith, length-append, nat_eq, nat_lt}
 use Rattle.std.specs.Cmp.Lexicographic.{pointwise}
 use Rattle.std.specs.List.{prefix_len}
 use Rattle.std.specs.Char.{encode_utf8, is_ascii_digit, is_digit}
@@ -7,9 +8,12 @@ use Rattle.std.specs.Str.{is_utf8}
 use Rattle.std.proofs.lemmas.List.{take-append-le}
 use Rattle.std.proofs.lemmas.Str.{IsUtf8-append, IsUtf8-from_is_utf8, is_utf8-from_IsUtf8}
 use Rattle.json.specs.Token.{Token, bad, boolean, null, number}
-use Rattle.json.specs.Text.{Within, after_backslash, after_high, after_u, code_unit, content, is_high_surrogate, is_low_surrogate, plain, prepend, short_escape, surrogate_pair}
-use Rattle.json.specs.Word.{after_digits, after_exponent, after_fraction, after_minus, after_number, after_sign, after_whole, ends_word, literal, number_before, word}
-use Rattle.json.specs.Lex.{Class, Lexeme, Mode, backslash, between, class, in_escape, in_string, in_word, lex, lex_byte, operator, operator_lexeme, other, punctuate, fresh, quote, space, string_token, token}
+use Rattle.json.specs.Text.{Within, after_backslash, after_high, after_u, code_unit, content, is_high_surrogate, is_low_surrogate, plain, prepend, short_escape}
+use Rattle.json.specs.Text.{surrogate_pair}
+use Rattle.json.specs.Word.{after_digits, after_exponent, after_fraction, after_minus, after_number, after_sign, after_whole, ends_word, literal, number_before}
+use Rattle.json.specs.Word.{word}
+use Rattle.json.specs.Lex.{Class, Lexeme, Mode, backslash, between, class, in_escape, in_string, in_word, lex, lex_byte, operator, operator_lexeme, other}
+use Rattle.json.specs.Lex.{punctuate, fresh, quote, space, string_token, token}
 use Rattle.json.specs.Json as json
 use Rattle.json.proofs.Printed.Utf8.{IsUtf8-are_ascii}
 use Rattle.serde_json.specs.Read.{max_depth, of_json, read}

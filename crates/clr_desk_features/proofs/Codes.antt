@@ -1,5 +1,6 @@
 -- Decimals of numbers of 32 bits.
-use Rattle.std.proofs.Common.{◌≡◌, ℕ, ℤ, pos, negsuc, ◌<◌, ◌^◌, List, Option, Some, decimal, ap, ◌∙◌, sym, subst, rules, unsigned_abs, FitsSigned, w64, to_z, of_z}
+use Rattle.std.proofs.Common.{◌≡◌, ℕ, ℤ, pos, negsuc, ◌<◌, ◌^◌, List, Option, Some, decimal, ap, ◌∙◌, sym, subst, rules, unsigned_abs, FitsSigned, w64, to_z}
+use Rattle.std.proofs.Common.{of_z}
 use Rattle.std.proofs.lemmas.Int.{to_z-of_z}
 use Rattle.std.specs.Int.{FitsUnsignedBits}
 use Rattle.clr_records.specs.Decimals.{number_of}

@@ -1,5 +1,6 @@
 -- A finder that has settled a content finds the rows that share.
-use Rattle.std.proofs.Common.{◌≡◌, ◌∙◌, ◌<◌, ◌+◌, ℕ, zero, suc, Bool, true, false, ◌&&◌, ◌||◌, not, List, map, length, Option, Some, None, slice_get, refl, sym, ap, arith}
+use Rattle.std.proofs.Common.{◌≡◌, ◌∙◌, ◌<◌, ◌+◌, ℕ, zero, suc, Bool, true, false, ◌&&◌, ◌||◌, not, List, map, length, Option, Some, None, slice_get, refl, sym}
+use Rattle.std.proofs.Common.{ap, arith}
 use Rattle.std.specs.FinMap as finite
 use Rattle.std.specs.List.{range_with_len}
 use Rattle.std.specs.Option.{option_map}
@@ -12,7 +13,8 @@ use Rattle.clr_rules.specs.declared.rules.Rule.{Rule}
 use Rattle.clr_rules.specs.Sides.{has_role}
 use Rattle.clr_spots.specs.Spots.{are_sharing, share, share_by, share_under, spots_by, spots_under, is_wide_by, is_wide_under, have_common_spot}
 use Rattle.clr_rules.proofs.Elements.{same_rising}
-use Rattle.clr_finders.specs.Sharing.{Settled, IsSettledFor, are_meeting, found_cells, is_met, is_met_at, may_serve_under, row_spots, rule_spots, sharing, sharing_servers}
+use Rattle.clr_finders.specs.Sharing.{Settled, IsSettledFor, are_meeting, found_cells, is_met, is_met_at, may_serve_under, row_spots, rule_spots, sharing}
+use Rattle.clr_finders.specs.Sharing.{sharing_servers}
 use Rattle.clr_finders.specs.declared.row_spots.RuleSpots.{RuleSpots}
 use Rattle.clr_finders.proofs.EntryLemmas.{passing_cells, passing_rise, passes_in, in_passes}
 

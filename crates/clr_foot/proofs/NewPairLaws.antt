@@ -1,5 +1,6 @@
 -- Which needs of two new versions are found among the parts that were filed before.
-use Rattle.std.proofs.Common.{◌≡◌, ◌∙◌, ◌<◌, ◌≤◌, ◌+◌, ◌-◌, ◌==◌, ℕ, zero, suc, Bool, true, false, ◌&&◌, List, [], ◌∷◌, ◌⊎◌, inl, inr, Option, Some, None, Contains, get_or, length, slice_get, refl, sym, ap, subst, arith}
+use Rattle.std.proofs.Common.{◌≡◌, ◌∙◌, ◌<◌, ◌≤◌, ◌+◌, ◌-◌, ◌==◌, ℕ, zero, suc, Bool, true, false, ◌&&◌, List, [], ◌∷◌, ◌⊎◌, inl, inr, Option, Some, None}
+use Rattle.std.proofs.Common.{Contains, get_or, length, slice_get, refl, sym, ap, subst, arith}
 use Rattle.std.specs.Prelude.{IfSome}
 use Rattle.std.specs.Cmp.{tied_itself}
 use Rattle.std.specs.Option.{option_cmp}
@@ -35,10 +36,12 @@ use Rattle.clr_needs.specs.Settings.{Setting}
 use Rattle.clr_foot.specs.declared.versions.Version.{Version}
 use Rattle.clr_foot.specs.Candidates.{IsNeedAmong, IsNeedOf, IsNeedOfAsk, IsNeedOfPair, are_opposed, may_be_paired}
 use Rattle.clr_foot.specs.Gains.{Gains, IsReached, OfSome, Reaches}
-use Rattle.clr_foot.specs.NewPairs.{AreFiledBefore, ArePartsFiled, IsNeedAtPosition, IsNeedOfEntry, IsNeedOfItsPart, IsNeedOfParts, IsNeedOfTwo, IsNeedWithBefore, IsNeedWithPart, entry_at, with_part}
+use Rattle.clr_foot.specs.NewPairs.{AreFiledBefore, ArePartsFiled, IsNeedAtPosition, IsNeedOfEntry, IsNeedOfItsPart, IsNeedOfParts, IsNeedOfTwo}
+use Rattle.clr_foot.specs.NewPairs.{IsNeedWithBefore, IsNeedWithPart, entry_at, with_part}
 use Rattle.clr_foot.specs.NewPairs.{HasBreakAt, Passes, UpTo, is_past, is_unserved_under}
 use Rattle.clr_foot.specs.Versions.{FitsSetting, row_and_life, row_of}
-use Rattle.clr_foot.proofs.CandidateLaws.{first_counted, first_within, one_cell, opposed_pair, ordered_pair, pair_back, second_counted, second_within, they_call, turned_less, turned_told}
+use Rattle.clr_foot.proofs.CandidateLaws.{first_counted, first_within, one_cell, opposed_pair, ordered_pair, pair_back, second_counted, second_within}
+use Rattle.clr_foot.proofs.CandidateLaws.{they_call, turned_less, turned_told}
 use Rattle.clr_foot.proofs.Gaining.{gains_as, gains_both, gains_none, reaches_as, reaches_both}
 use Rattle.clr_foot.proofs.SharingLaws.{both_paired}
 

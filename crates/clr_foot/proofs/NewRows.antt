@@ -1,5 +1,6 @@
 -- The rows that members bring, filed one cell after another.
-use Rattle.std.proofs.Common.{◌≡◌, ◌∙◌, ◌<◌, ◌≤◌, ◌+◌, ℕ, Bool, true, false, cond, List, ◌⊎◌, inl, inr, Option, Some, None, Contains, get_or, is_some, length, take, refl, sym, ap, subst}
+use Rattle.std.proofs.Common.{◌≡◌, ◌∙◌, ◌<◌, ◌≤◌, ◌+◌, ℕ, Bool, true, false, cond, List, ◌⊎◌, inl, inr, Option, Some, None, Contains, get_or, is_some, length}
+use Rattle.std.proofs.Common.{take, refl, sym, ap, subst}
 use Rattle.std.specs.FinMap as finite
 use Rattle.std.specs.Cmp.{Equal-is, tied_itself}
 use Rattle.std.specs.Option.{option_map}

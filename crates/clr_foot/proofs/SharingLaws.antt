@@ -1,5 +1,6 @@
 -- Versions that stand in one need are found near one another.
-use Rattle.std.proofs.Common.{◌≡◌, ◌∙◌, ◌<◌, ℕ, Bool, true, false, cond, ◌&&◌, ◌||◌, not, List, [], Option, Some, None, inl, inr, Contains, length, slice_get, refl, sym, ap, subst}
+use Rattle.std.proofs.Common.{◌≡◌, ◌∙◌, ◌<◌, ℕ, Bool, true, false, cond, ◌&&◌, ◌||◌, not, List, [], Option, Some, None, inl, inr, Contains, length, slice_get}
+use Rattle.std.proofs.Common.{refl, sym, ap, subst}
 use Rattle.std.specs.FinMap as finite
 use Rattle.std.specs.Cmp.{Equal-is, tied_itself}
 use Rattle.std.specs.Option.{option_map}
@@ -26,7 +27,8 @@ use Rattle.clr_spots.proofs.RoleLaws.{subjects_beside}
 use Rattle.clr_spots.proofs.ShareLaws.{servers_share, subjects_share}
 use Rattle.clr_spots.proofs.SharedSpots.{share_back}
 use Rattle.clr_finders.specs.declared.row_spots.RuleSpots.{RuleSpots}
-use Rattle.clr_finders.specs.Sharing.{IsSettledFor, Settled, found_cells, is_met_at, may_serve, may_serve_by, may_serve_under, row_spots, rule_spots, sharing, sharing_servers}
+use Rattle.clr_finders.specs.Sharing.{IsSettledFor, Settled, found_cells, is_met_at, may_serve, may_serve_by, may_serve_under, row_spots, rule_spots, sharing}
+use Rattle.clr_finders.specs.Sharing.{sharing_servers}
 use Rattle.clr_finders.proofs.EntryLemmas.{in_passes, passes_in}
 use Rattle.clr_finders.proofs.SharingLemmas.{found_servers, found_sharing}
 use Rattle.clr_foot.specs.Candidates.{is_of_two, is_of_two_by, is_of_two_under, may_be_paired}

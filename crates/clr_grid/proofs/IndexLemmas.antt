@@ -1,5 +1,6 @@
 -- Indexes by rule: what stays filed, and that each row is filed.
-use Rattle.std.proofs.Common.{◌≡◌, ◌⊎◌, inl, inr, ◌<◌, ◌≤◌, ◌+◌, ℕ, zero, suc, Bool, true, false, cond, not, ◌&&◌, ◌||◌, List, [], ◌∷◌, ◌++◌, length, get_or, set, Option, Some, None, slice_get, refl, ap, sym, subst, ◌∙◌, arith}
+use Rattle.std.proofs.Common.{◌≡◌, ◌⊎◌, inl, inr, ◌<◌, ◌≤◌, ◌+◌, ℕ, zero, suc, Bool, true, false, cond, not, ◌&&◌, ◌||◌, List, [], ◌∷◌, ◌++◌, length, get_or}
+use Rattle.std.proofs.Common.{set, Option, Some, None, slice_get, refl, ap, sym, subst, ◌∙◌, arith}
 use Rattle.std.proofs.lemmas.Bool.{false≢true, true≢false, and_parts, or_cases, cases_Bool, cases_lt}
 use Rattle.std.specs.Cmp.{Equal-is}
 use Rattle.std.specs.FinMap as finite
@@ -16,7 +17,9 @@ use Rattle.clr_spots.specs.declared.spots.Spot.{Spot}
 use Rattle.clr_spots.specs.Spots.{have_common_spot}
 use Rattle.clr_rules.proofs.Elements.{some_of, any_by}
 use Rattle.clr_grid.specs.CellSets.{is_one, is_one_of}
-use Rattle.clr_grid.specs.Filing.{Key, Wide, At, has_key, is_filed, is_filed_under, is_looked_at, side_of, keeps_number, keeps_wide, same_side, of_side, spots_at, stays, IsFiled, IsFiledToo, AreFiled, AreOfRows, AreGone, GainNone, GainOnly, HasRowFor, HoldCells, AllHoldCells, StayFiled, StayFiledBut, AreNear, has_key_of, has_key_under}
+use Rattle.clr_grid.specs.Filing.{Key, Wide, At, has_key, is_filed, is_filed_under, is_looked_at, side_of, keeps_number, keeps_wide, same_side, of_side}
+use Rattle.clr_grid.specs.Filing.{spots_at, stays, IsFiled, IsFiledToo, AreFiled, AreOfRows, AreGone, GainNone, GainOnly, HasRowFor, HoldCells, AllHoldCells}
+use Rattle.clr_grid.specs.Filing.{StayFiled, StayFiledBut, AreNear, has_key_of, has_key_under}
 use Rattle.clr_grid.specs.RowMaps.{Rows, RowOrNone, IsRowAt, no_rows, with_pending, with_row, with_settled, without_pending}
 use Rattle.clr_finders.specs.Sharing.{are_meeting, is_met, is_met_at}
 use Rattle.clr_finders.specs.declared.row_spots.RuleSpots.{RuleSpots}

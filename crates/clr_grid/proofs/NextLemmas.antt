@@ -1,5 +1,6 @@
 -- The next cell behind a given one: in a tree, and among all that are looked at for a row.
-use Rattle.std.proofs.Common.{◌≡◌, ◌∙◌, ◌⊎◌, inl, inr, ◌+◌, ◌<◌, ℕ, true, false, nat_eq, ◌&&◌, List, [], ◌∷◌, length, get_or, take, Option, Some, None, is_some, refl, sym, ap, subst}
+use Rattle.std.proofs.Common.{◌≡◌, ◌∙◌, ◌⊎◌, inl, inr, ◌+◌, ◌<◌, ℕ, true, false, nat_eq, ◌&&◌, List, [], ◌∷◌, length, get_or, take, Option, Some, None, is_some}
+use Rattle.std.proofs.Common.{refl, sym, ap, subst}
 use Rattle.std.specs.Prelude.{Contains, slice_get}
 use Rattle.std.proofs.lemmas.Bool.{false≢true, or_cases, or_left, or_right, true≢false}
 use Rattle.std.specs.BTreeMap.{BTreeMap, get}

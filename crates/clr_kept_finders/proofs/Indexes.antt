@@ -1,5 +1,6 @@
 -- Finders, by position, of contents that change.
-use Rattle.std.proofs.Common.{◌≡◌, ◌∙◌, ◌++◌, ℕ, zero, suc, List, [], ◌∷◌, length, remove, Option, Some, None, refl, sym, ap, subst, slice_index_or, slice_set, unwrap_or}
+use Rattle.std.proofs.Common.{◌≡◌, ◌∙◌, ◌++◌, ℕ, zero, suc, List, [], ◌∷◌, length, remove, Option, Some, None, refl, sym, ap, subst, slice_index_or, slice_set}
+use Rattle.std.proofs.Common.{unwrap_or}
 use Rattle.std.specs.FinMap as finite
 use Rattle.std.specs.Option.{option_map}
 use Rattle.std.proofs.lemmas.List.{set-get_or}

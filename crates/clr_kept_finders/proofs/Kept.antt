@@ -1,5 +1,6 @@
 -- The contents in which rules are to hold, once an operation of the tree changed a workspace.
-use Rattle.std.proofs.Common.{◌≡◌, ◌∙◌, ℕ, zero, suc, ◌<◌, Bool, true, false, cond, List, [], ◌∷◌, ◌++◌, map, remove, Option, Some, None, refl, sym, ap, slice_index_or, slice_set}
+use Rattle.std.proofs.Common.{◌≡◌, ◌∙◌, ℕ, zero, suc, ◌<◌, Bool, true, false, cond, List, [], ◌∷◌, ◌++◌, map, remove, Option, Some, None, refl, sym, ap}
+use Rattle.std.proofs.Common.{slice_index_or, slice_set}
 use Rattle.std.specs.Option.{option_map}
 use Rattle.std.proofs.lemmas.List.{map-set}
 use Rattle.std.proofs.Math.ListN.{get_or-map}
@@ -9,7 +10,9 @@ use Rattle.clr_rows.specs.Contents.{Content, taken_over}
 use Rattle.clr_workspaces.specs.Marks.{Mark, Name, mark_last, without_mark_of}
 use Rattle.clr_workspaces.specs.Workspaces.{Workspace, no_workspace, parent_of, workspace_at}
 use Rattle.clr_workspaces.proofs.RootLemmas.{later_stays}
-use Rattle.clr_workspaces.specs.Operations.{after_create, after_refresh, after_remove, after_remove_under, after_rebase, after_rebase_under, after_write, at_position, change_at, change_marks, keep_row, new_leaf, own_changes, with_base_merged, refresh, with_current, with_mark_of, with_marks}
+use Rattle.clr_workspaces.specs.Operations.{after_create, after_refresh, after_remove, after_remove_under, after_rebase, after_rebase_under, after_write}
+use Rattle.clr_workspaces.specs.Operations.{at_position, change_at, change_marks, keep_row, new_leaf, own_changes, with_base_merged, refresh, with_current}
+use Rattle.clr_workspaces.specs.Operations.{with_mark_of, with_marks}
 use Rattle.clr_workspaces.specs.declared.rebases.Keep.{Keep}
 use Rattle.clr_workspaces.specs.declared.rebases.Keep.TheVariants as keeps
 use Rattle.clr_workspaces.specs.declared.rebases.Rebase.TheVariants as ways

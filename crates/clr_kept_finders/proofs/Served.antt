@@ -1,5 +1,6 @@
 -- Trees of offices with their finders.
-use Rattle.std.proofs.Common.{◌≡◌, ◌∙◌, ◌<◌, ◌++◌, ◌-◌, ◌+◌, ℕ, zero, suc, true, false, cond, List, [], ◌∷◌, length, remove, take, Option, Some, None, refl, sym, ap, subst, slice_get, slice_set, arith}
+use Rattle.std.proofs.Common.{◌≡◌, ◌∙◌, ◌<◌, ◌++◌, ◌-◌, ◌+◌, ℕ, zero, suc, true, false, cond, List, [], ◌∷◌, length, remove, take, Option, Some, None, refl}
+use Rattle.std.proofs.Common.{sym, ap, subst, slice_get, slice_set, arith}
 use Rattle.std.specs.Prelude.{Result, Ok, Err, OnOk, IfSome, is_err}
 use Rattle.std.specs.declared.alloc.AllocError.{AllocError}
 use Rattle.std.specs.Option.{option_and_then, option_map, option_map_or}

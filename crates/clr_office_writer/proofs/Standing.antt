@@ -1,5 +1,6 @@
 -- The workspaces of an office can stand as parts: sound workspaces have no fault.
-use Rattle.std.proofs.Common.{◌≡◌, ℕ, zero, suc, ◌+◌, ◌≤◌, ◌<◌, Bool, true, false, cond, not, ◌==◌, List, [], ◌∷◌, length, take, get_or, Option, Some, None, is_some, refl, sym, ap, subst, ◌∙◌, arith}
+use Rattle.std.proofs.Common.{◌≡◌, ℕ, zero, suc, ◌+◌, ◌≤◌, ◌<◌, Bool, true, false, cond, not, ◌==◌, List, [], ◌∷◌, length, take, get_or, Option, Some, None}
+use Rattle.std.proofs.Common.{is_some, refl, sym, ap, subst, ◌∙◌, arith}
 use Rattle.std.specs.Prelude.{◌||◌}
 use Rattle.std.specs.List.{list_all, position_or_len}
 use Rattle.std.specs.Option.{option_or}
@@ -10,7 +11,8 @@ use Rattle.std.proofs.lemmas.List.{length-take-le}
 use Rattle.clr_rows.specs.Contents.{Content}
 use Rattle.clr_rows.specs.Names.{is_good_name}
 use Rattle.clr_workspaces.specs.Marks.{Name, Mark, Saved, ChildMark, is_mark_of, mark_count}
-use Rattle.clr_workspaces.specs.Workspaces.{Workspace, depth_of, depth_within, find, is_child_named, no_workspace, one_above, parent_of, live_workspace, workspace_at}
+use Rattle.clr_workspaces.specs.Workspaces.{Workspace, depth_of, depth_within, find, is_child_named, no_workspace, one_above, parent_of, live_workspace}
+use Rattle.clr_workspaces.specs.Workspaces.{workspace_at}
 use Rattle.clr_workspaces.proofs.FindLemmas.{first_is, first_of, has_name}
 use Rattle.clr_parts.specs.Parts.{first_below, has_good_marks, is_childs, is_marked_once, is_under, marks_fault_at, name_fault_at, workspaces_fault}
 use Rattle.clr_workspaces.specs.Roots.{IsRooted}

@@ -1,5 +1,6 @@
 -- The touched needs of groups, one scene after another.
-use Rattle.std.proofs.Common.{◌≡◌, ◌∙◌, ◌<◌, ◌≤◌, ◌+◌, ◌⊎◌, ℕ, List, [], ◌∷◌, ◌++◌, inl, inr, Contains, Option, Some, get_or, length, map, refl, sym, ap, subst, arith, take}
+use Rattle.std.proofs.Common.{◌≡◌, ◌∙◌, ◌<◌, ◌≤◌, ◌+◌, ◌⊎◌, ℕ, List, [], ◌∷◌, ◌++◌, inl, inr, Contains, Option, Some, get_or, length, map, refl, sym, ap, subst}
+use Rattle.std.proofs.Common.{arith, take}
 use Rattle.std.specs.Prelude.{◌↔◌, option_map, slice_get}
 use Rattle.std.specs.FinMap.{IsAntisymmetric}
 use Rattle.std.specs.Ordering.{nat_cmp}

@@ -3,7 +3,8 @@
 ghost use Rattle.std.specs.Prelude.{◌≡◌, ◌++◌, codes, map, string_bytes, IfOk, OnOk};
 ghost use Rattle.std.specs.List.{zip};
 ghost use Rattle.std.specs.Option.{option_copied};
-ghost use Rattle.clr_plan_features.specs.RowFeatures.{cell_properties, column_property, is_one_of_cells, is_same_cell, row_feature, value_properties, value_property, what_word};
+ghost use Rattle.clr_plan_features.specs.RowFeatures.{cell_properties, column_property, is_one_of_cells, is_same_cell, row_feature, value_properties};
+ghost use Rattle.clr_plan_features.specs.RowFeatures.{value_property, what_word};
 
 use clr_geojson::{Feature, Properties, Property};
 use clr_rows::{CellId, Kind, Row, Schema, TableDef, Value, Words};

@@ -12,7 +12,8 @@ use Rattle.clr_reports.specs.Printing.{IsMadePrintout as AreLinesMade, IsPrintou
 use Rattle.clr_reports.specs.declared.faults.RunFault.{RunFault}
 use Rattle.clr_reports.specs.declared.faults.RunFault.TheVariants as run_fault
 use Rattle.clr_reports.specs.declared.outputs.Output.{Output}
-use Rattle.clr_prints.specs.Printing.{AreLinesAsNotes, IsMadePrintout, IsPrintoutFault, IsPrintoutIn, IsPrintoutOfCase, PrintoutOrFault, as_notes, of_fault, of_why, unless_lost}
+use Rattle.clr_prints.specs.Printing.{AreLinesAsNotes, IsMadePrintout, IsPrintoutFault, IsPrintoutIn, IsPrintoutOfCase, PrintoutOrFault, as_notes, of_fault}
+use Rattle.clr_prints.specs.Printing.{of_why, unless_lost}
 use Rattle.clr_prints.specs.declared.prints.Print.{Print}
 
 -- no text, whether it is dropped or not

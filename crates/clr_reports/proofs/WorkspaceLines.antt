@@ -1,5 +1,6 @@
 -- The names of workspaces one after another, each of which stands.
-use Rattle.std.proofs.Common.{◌≡◌, ℕ, zero, suc, ◌+◌, ◌<◌, add-one, Bool, true, false, ◌||◌, cond, List, [], ◌∷◌, drop, Some, is_some, slice_get, refl, subst, ◌∙◌, arith, option_map}
+use Rattle.std.proofs.Common.{◌≡◌, ℕ, zero, suc, ◌+◌, ◌<◌, add-one, Bool, true, false, ◌||◌, cond, List, [], ◌∷◌, drop, Some, is_some, slice_get, refl, subst}
+use Rattle.std.proofs.Common.{◌∙◌, arith, option_map}
 use Rattle.std.proofs.lemmas.Option.{same_Some, slice_get-map}
 use Rattle.clr_rows.specs.Names.{live_name}
 use Rattle.clr_workspaces.specs.Marks.{Name}

@@ -1,5 +1,6 @@
 -- Names that stand earlier in a list, and the first of them.
-use Rattle.std.proofs.Common.{◌≡◌, ℕ, zero, suc, ◌+◌, ◌<◌, ◌≤◌, Bool, true, false, not, cond, ◌||◌, List, [], ◌∷◌, Some, None, Bor, BTreeSet, get_or, length, nat_lt, take, refl, sym, ap, ◌∙◌, arith}
+use Rattle.std.proofs.Common.{◌≡◌, ℕ, zero, suc, ◌+◌, ◌<◌, ◌≤◌, Bool, true, false, not, cond, ◌||◌, List, [], ◌∷◌, Some, None, Bor, BTreeSet, get_or, length}
+use Rattle.std.proofs.Common.{nat_lt, take, refl, sym, ap, ◌∙◌, arith}
 use Rattle.std.proofs.lemmas.Bool.{lt-ltb, le-ltb}
 use Rattle.std.specs.Prelude.{position, slice_get}
 use Rattle.std.specs.BTreeSet.{IsEmpty, Updates, contains}

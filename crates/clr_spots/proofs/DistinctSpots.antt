@@ -1,5 +1,6 @@
 -- A row has each of its spots once.
-use Rattle.std.proofs.Common.{◌≡◌, inl, inr, ℕ, zero, suc, ◌<◌, ℤ, pos, ◌+ℤ◌, Bool, true, false, cond, not, List, [], ◌∷◌, ◌++◌, filter, Option, Some, None, refl, sym, ap, ◌∙◌, arith}
+use Rattle.std.proofs.Common.{◌≡◌, inl, inr, ℕ, zero, suc, ◌<◌, ℤ, pos, ◌+ℤ◌, Bool, true, false, cond, not, List, [], ◌∷◌, ◌++◌, filter, Option, Some, None}
+use Rattle.std.proofs.Common.{refl, sym, ap, ◌∙◌, arith}
 use Rattle.std.proofs.lemmas.Bool.{false_from_ne_true}
 use Rattle.std.proofs.lemmas.Int.{ints}
 use Rattle.std.specs.List.{fold, list_any, IsDistinct}
@@ -14,7 +15,8 @@ use Rattle.clr_spots.specs.Laws.{SpotsDiffer}
 use Rattle.clr_rows.specs.Held.{Held}
 use Rattle.clr_spots.specs.SpotOrder.{same_spot}
 use Rattle.clr_spots.specs.SpotOrderLaws.{same_spot_is}
-use Rattle.clr_spots.specs.Spots.{square_of, span, column_of_squares, grid_of_squares, squares_of, squares_of_all, squares_near, square_at, in_role, union, are_many, all_spots, spots}
+use Rattle.clr_spots.specs.Spots.{square_of, span, column_of_squares, grid_of_squares, squares_of, squares_of_all, squares_near, square_at, in_role, union}
+use Rattle.clr_spots.specs.Spots.{are_many, all_spots, spots}
 use Rattle.clr_spots.proofs.PathSquares.{add_squares}
 use Rattle.clr_rules.proofs.Elements.{clash, Among, among_either, among_kept, all_by, any_by, each_of}
 

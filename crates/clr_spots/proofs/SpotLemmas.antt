@@ -1,5 +1,6 @@
 -- Lists of spots: their order, and those of two roles.
-use Rattle.std.proofs.Common.{◌≡◌, ℕ, zero, suc, ◌<◌, ◌≤◌, Bool, true, false, cond, not, List, [], ◌∷◌, ◌++◌, ◌+◌, Option, Some, length, drop, fold, get_or, refl, sym, ap, subst, ◌∙◌, ◌↔◌, IsTrue, arith, append-nil}
+use Rattle.std.proofs.Common.{◌≡◌, ℕ, zero, suc, ◌<◌, ◌≤◌, Bool, true, false, cond, not, List, [], ◌∷◌, ◌++◌, ◌+◌, Option, Some, length, drop, fold, get_or}
+use Rattle.std.proofs.Common.{refl, sym, ap, subst, ◌∙◌, ◌↔◌, IsTrue, arith, append-nil}
 use Rattle.std.specs.Prelude.{option_to_list}
 use Rattle.std.specs.Hash.{HashWrites}
 use Rattle.std.specs.List.{flat_map, list_any}

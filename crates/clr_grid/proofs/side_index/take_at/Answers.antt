@@ -1,6 +1,7 @@
 use Rattle.std.proofs.Common.{nat_eq}
 use Rattle.std.specs.HashMap.{get}
-use Rattle.clr_grid.proofs.FilingLemmas.{AtNumbers, emptied_fewer, emptied_gone, emptied_hold, emptied_keeps, removed_fewer, removed_gone, removed_hold, removed_keeps}
+use Rattle.clr_grid.proofs.FilingLemmas.{AtNumbers, emptied_fewer, emptied_gone, emptied_hold, emptied_keeps, removed_fewer, removed_gone, removed_hold}
+use Rattle.clr_grid.proofs.FilingLemmas.{removed_keeps}
 use Rattle.clr_grid.proofs.side_index.take_at.Goals as goal
 
 pub returns-then-remove_at-clause-kept : goal.returns-then-remove_at-clause-kept

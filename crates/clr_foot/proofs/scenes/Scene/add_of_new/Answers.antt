@@ -4,7 +4,8 @@ use Rattle.clr_foot.specs.Candidates.{IsNeedAmong}
 use Rattle.clr_foot.specs.NewPairs.{IsNeedWithBefore}
 use Rattle.clr_foot.specs.Scenes.{setting_in}
 use Rattle.clr_foot.specs.Versions.{row_of}
-use Rattle.clr_foot.proofs.NewPairLaws.{IsNeedWithPartTo, all_parts, before_stays, gains_up_to, no_part_filed, no_part_yet, one_part_filed, one_part_more, unpaired_filed, unpaired_needs, version_filed}
+use Rattle.clr_foot.proofs.NewPairLaws.{IsNeedWithPartTo, all_parts, before_stays, gains_up_to, no_part_filed, no_part_yet, one_part_filed, one_part_more}
+use Rattle.clr_foot.proofs.NewPairLaws.{unpaired_filed, unpaired_needs, version_filed}
 use Rattle.clr_foot.proofs.VersionFits.{fit_one}
 use Rattle.clr_foot.proofs.scenes.Scene.add_of_new.Goals as goal
 
