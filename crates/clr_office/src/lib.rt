@@ -34,10 +34,10 @@
 //!   the input alone, also of plans, verdicts, merges and independence.
 //! - [`keeps`]: with any fault but WriteFailed nothing was written; after a failed write it isn't
 //!   known how much was.
-//! - For other programs: `open_office` [`meant`, `held`, `answer`], the office of a text, or what is
-//!   answered in its place; and the lines of parts, `verdict_output`, `fault_output`,
-//!   `replies_output`, `stop_output` and `dump_text`, by which what such a program prints is the
-//!   same. `merge_commands`, `texts`.
+//! - For other programs: the lines of parts, `verdict_output`, `fault_output`, `replies_output` and
+//!   `stop_output`, by which what such a program prints is the same, and `merge_commands`. What is
+//!   printed of an office without its plans is in `clr_reports`, of which `open_office`, `dump_text`,
+//!   `texts`, `read_input`, `Output` and `RunFault` are handed on.
 //! - `Source`, `Sink`, `Text`, `Page` and `Port`, what a run reads from and writes to, are those of
 //!   `clr_devices`.
 #![tactic(auto)]
