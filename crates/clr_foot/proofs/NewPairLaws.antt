@@ -76,13 +76,13 @@ pub break_told : (rules : List Rule) (leaves_out : Bool) (number : ℕ) (list : 
     → told ≡ (is_fresh n.second && (n.first.fresh && (n.rule == number)))
     → told ≡ true
     → HasBreakAt rules leaves_out number list n.first.cell
-break_told rules leaves_out number list k n unserved told leaves_out is holds at tells two =
+break_told rules leaves_out number list k n unserved told allowed is holds at tells two =
     let parts = and_parts (is_fresh n.second) (n.first.fresh && (n.rule == number)) (sym tells ∙ two) in
     let rest = and_parts n.first.fresh (n.rule == number) parts.1 in
     let its : n.rule ≡ number = (Decides-eqb n.rule number).0 rest.1 in (
       n,
       got_in list k n at,
-      record { leaves_out = leaves_out; unserved = ap (is_unserved_under rules) its ∙ sym is ∙ holds; first = rest.0; second = parts.0 },
+      record { allowed = allowed; unserved = ap (is_unserved_under rules) its ∙ sym is ∙ holds; first = rest.0; second = parts.0 },
       its,
       refl,
     )

@@ -414,4 +414,4 @@ module _ (rules : List Rule) (root : Content) (sets : List Changes) where
     where
       by : (n : Need) → IsReached (Passes rules false) needs n → Contains needs n
       by n (inl h) = h
-      by n (inr (m, h, (breaking, less))) = absurd (false≢true breaking.leaves_out)
+      by n (inr (m, h, (breaking, less))) = absurd (false≢true breaking.allowed)

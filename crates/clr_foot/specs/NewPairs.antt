@@ -95,7 +95,7 @@ UpTo last P n = P n × (is_past last n.first.cell ≡ false)
 
 -- two new versions make the need, which no row serves, in a list that may leave out what is behind it
 pub record BreaksAtOnce (rules : List Rule) (leaves_out : Bool) (n : Need) : Type 0 where
-  pub leaves_out : leaves_out ≡ true
+  pub allowed : leaves_out ≡ true
   pub unserved : is_unserved_under rules n.rule ≡ true
   pub first : n.first.fresh ≡ true
   pub second : is_fresh n.second ≡ true
