@@ -17,7 +17,7 @@ use_program "$program"
 
 # How many seconds pass at most between two lines while the program is proved.
 patience=${CLR_OFFICE_PATIENCE-60}
-# The folder in which it is proved, once in `first` and once in `beside`, and the process that does so.
+# The folder in which it is proved, in its folders `first` and `beside`, and the process that does so.
 room= proving=
 
 clean_up() {
@@ -53,33 +53,46 @@ crates_up_to() {
     echo "${crates[@]}"
 }
 
-# Ends what was started in the background. A signal that comes before a job has begun is lost, so each is sent until none is left.
-end_jobs() {
-    trap '' TERM
-    while [ -n "$(jobs -pr)" ]; do
-        kill $(jobs -pr) 2>/dev/null
-        sleep 0.1
+# The crates that can be proved beside the awaited ones, each behind those that it stands on: no awaited crate stands on them, and they stand on
+# none of these but the first, nor on one that is late.
+crates_beside() {
+    local crate later up below=
+    for crate in "${awaited[@]}"; do
+        if [ -n "${uses[$crate]+known}" ]; then below+=" $(crates_up_to "$crate") "; fi
+    done
+    for crate in "${crates[@]}"; do
+        up=" $(crates_up_to "$crate") "
+        if [[ $below = *" $crate "* ]]; then continue; fi
+        for later in "${awaited[@]:1}" "${late[@]}"; do
+            if [[ $up = *" $later "* ]]; then continue 2; fi
+        done
+        echo $up
     done
 }
 
-# Has `rt ci` prove in a folder, until it is interrupted.
-prove_in() {
-    (cd "$1" && exec rt ci 2>&1 </dev/null) &
-    wait $!
+# Has `rt ci` prove in a folder, by a command that is given, in the background. It ends with the process that began it.
+begin_in() {
+    local folder=$1
+    shift
+    (cd "$folder" && exec setpriv --pdeathsig TERM "$@" rt ci 2>&1 </dev/null) &
 }
 
-# Proves the awaited crates first, so that no other crate takes their turn, and then all. Beside that all crates are proved with what
-# the processors have left: what one run has proved the other takes.
+# Proves the awaited crates first, so that no other crate takes their turn, and then all. Crates for which these don't wait are proved beside
+# them, with what the processors have left: what one run has proved the other takes.
 prove() {
-    local crate
-    trap end_jobs EXIT
+    local crate beside
+    beside=$(crates_beside)
+    if [ -n "$beside" ]; then
+        copy_crates "$room/beside" $beside || return 1
+        begin_in "$room/beside" nice -n 19
+    fi
+    trap 'kill $(jobs -p) 2>/dev/null' EXIT
     trap 'exit 143' TERM
-    (cd "$room/beside" && exec nice -n 19 rt ci 2>&1 </dev/null) &
     for crate in "${awaited[@]}"; do
         if [ -z "${uses[$crate]+known}" ]; then continue; fi
-        copy_crates "$room/first" $(crates_up_to "$crate") && prove_in "$room/first" || return 1
+        copy_crates "$room/first" $(crates_up_to "$crate") && begin_in "$room/first" && wait $! || return 1
     done
-    copy_crates "$room/first" "${crates[@]}" && prove_in "$room/first"
+    copy_crates "$room/first" "${crates[@]}" && begin_in "$room/first" && wait $!
 }
 
 # Reads what `rt ci` prints, and says a line for each crate that is done, and for each minute in which none is. It fails after a line
@@ -129,8 +142,7 @@ build() {
     say "proving the program once, ${#crates[@]} crates: $takes; after an interrupt the next start goes on where this one was"
     room=$(mktemp -d "${TMPDIR:-/tmp}/$program.XXXXXX") || refuse "there is no room for a folder in which the program can be built"
     digest=$(digest_of_sources) before=$(listing)
-    copy_crates "$room/beside" "${crates[@]}" || refuse "the sources can't be copied into $room"
-    exec 8< <(prove 9>&-)
+    exec 8< <(exec 9>&- && prove)
     proving=$!
     follow <&8 || exit 2
     exec 8<&-

@@ -25,8 +25,10 @@ add_crate() {
     crates+=("$1")
 }
 
-# The crates that most others wait for: what each of them stands on is proved, and then itself, before all that is left.
-awaited=(clr_rows clr_engine clr_plan_lines)
+# The crates that most others wait for, each behind those that it uses: what each of them stands on is proved, and then itself, before
+# all that is left. Beside them crates are proved that stand neither on the later ones nor on one of those that are `late`.
+awaited=(clr_rows clr_engine)
+late=(clr_tree clr_foot)
 
 # Sets `program` to a name, `crates` to the crates that it stands on, each behind those that it uses, and then its own, and `sources` to
 # all its sources.
