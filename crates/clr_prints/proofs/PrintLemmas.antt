@@ -8,7 +8,7 @@ use Rattle.clr_check_texts.specs.declared.cases.CaseFault.TheVariants as no_case
 use Rattle.clr_rule_text.specs.declared.faults.TextFault.{TextFault}
 use Rattle.clr_office.specs.Clearances.{fault_print}
 use Rattle.clr_reports.specs.Printing.{IsNoPrint}
-use Rattle.clr_reports.specs.Printing.{IsMadePrintout as AreLinesMade, IsPrintoutFault as IsLinesFault, IsPrintoutIn as IsLinesIn, PrintoutOrFault as Lines}
+use Rattle.clr_reports.specs.Printing.{IsMade as AreLinesMade, IsPrintIn as IsLinesIn, IsTextFault as IsLinesFault, Printed as Lines}
 use Rattle.clr_reports.specs.declared.faults.RunFault.{RunFault}
 use Rattle.clr_reports.specs.declared.faults.RunFault.TheVariants as run_fault
 use Rattle.clr_reports.specs.declared.outputs.Output.{Output}
