@@ -16,14 +16,14 @@ use Rattle.clr_rules.proofs.AskLemmas.{rule_there}
 use Rattle.clr_rules.proofs.BrokenOrder.{broken_total}
 use Rattle.clr_rules.proofs.BrokenLemmas.{held_listed, listed_stands, lists_broken, lt_is}
 use Rattle.clr_rules.proofs.Elements.{Among, among, contained, any_by, some_of, same_rising}
-use Rattle.clr_audit.specs.Searches.{Gains, IsBeside, IsBrokenAmong}
+use Rattle.clr_audit.specs.Searches.{GainsBroken, IsSecondAmong, IsBrokenAmong}
 
 -- broken among the rows of a content, and in it ------------------------------------------------
-beside_stands : (content : Content) (s : Held) (t : Option Held) → IsBeside (rows_in content) s t → StandsBeside (row_at content) s t
+beside_stands : (content : Content) (s : Held) (t : Option Held) → IsSecondAmong (rows_in content) s t → StandsBeside (row_at content) s t
 beside_stands content s None h = tt
 beside_stands content s (Some t) h = (listed_stands content t (among t (rows_in content) h.0), lt_is (cell_cmp s.0 t.0) h.1)
 
-stands_beside : (content : Content) (s : Held) (t : Option Held) → StandsBeside (row_at content) s t → IsBeside (rows_in content) s t
+stands_beside : (content : Content) (s : Held) (t : Option Held) → StandsBeside (row_at content) s t → IsSecondAmong (rows_in content) s t
 stands_beside content s None h = tt
 stands_beside content s (Some t) h = (contained t (rows_in content) (held_listed content t h.0), ap is_lt h.1)
 
@@ -63,12 +63,13 @@ broken_among rules content b h = record {
 -- the rows are those of a content, and the list has gained the needs of all rules
 pub audit_is : (rules : List Rule) (content : Content) (rows : List Held) (gained list : List Broken) (count : ℕ) → rows ≡ rows_in content → length rules
     ≡ count
-    → Gains rules rows (λ b h. b.rule < count) [] gained → IsStrictlySortedBy broken_cmp list → ((b : Broken) → (Contains list b → Contains gained b)
+    → GainsBroken rules rows (λ b h. b.rule < count) [] gained → IsStrictlySortedBy broken_cmp list → ((b : Broken) → (Contains list b → Contains gained b)
     × (Contains gained b → Contains list b))
     → list ≡ broken_needs rules content
 audit_is rules content rows gained list count rows_are all gains rising same =
     let whole = lists_broken rules content in
-    let gains_here : Gains rules (rows_in content) (λ b h. b.rule < count) [] gained = subst (λ (r : List Held). Gains rules r (λ b h. b.rule < count) [] gained) rows_are gains in
+    let gains_here : GainsBroken rules (rows_in content) (λ b h. b.rule < count) [] gained =
+    subst (λ (r : List Held). GainsBroken rules r (λ b h. b.rule < count) [] gained) rows_are gains in
     same_rising broken_total list (broken_needs rules content) rising whole.ascending
     (λ b h. there b (gains_here.only b ((same b).0 (contained b list h))))
     (λ b h. let is = broken_among rules content b ((whole.exactly b).0 (contained b (broken_needs rules content) h)) in

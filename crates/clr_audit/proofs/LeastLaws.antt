@@ -21,7 +21,7 @@ use Rattle.clr_rules.specs.Needs.{IsBroken, IsFirstBroken, ask_of, broken_cmp, b
 use Rattle.clr_rules.proofs.BrokenOrder.{broken_exact, broken_total}
 use Rattle.clr_rules.proofs.BrokenLemmas.{lists_broken}
 use Rattle.clr_rules.proofs.Elements.{Among, among, among_either, contained, each_of}
-use Rattle.clr_audit.specs.Searches.{Gains, AreInOrder, IsOfRow, IsBrokenAmong, IsLeastAmong, IsLeastListed, is_up_to}
+use Rattle.clr_audit.specs.Searches.{GainsBroken, AreInCellOrder, IsOfRow, IsBrokenAmong, IsLeastAmong, IsLeastListed, is_up_to}
 use Rattle.clr_audit.proofs.AuditLaws.{broken_among, is_broken}
 use Rattle.clr_audit.proofs.FitLaws.{rows_more}
 use Rattle.clr_audit.proofs.Gaining.{gains_more}
@@ -104,7 +104,7 @@ least_listed old new m rising same is = record {
         ∙ each_of (λ y. broken_cmp x y ≡ Less) c xs p.0 later)
 
 -- ---- rows in order
-later_row : (rows : List Borrowed) → AreInOrder (map held_of rows) → (i : ℕ) (s : Borrowed) (t : Held) → i < length rows → s ≡ get_or rows i s
+later_row : (rows : List Borrowed) → AreInCellOrder (map held_of rows) → (i : ℕ) (s : Borrowed) (t : Held) → i < length rows → s ≡ get_or rows i s
     → Among t (map held_of (drop (i + 1) rows)) → cell_cmp s.cell t.0 ≡ Less
 unfolding IsStrictlySortedBy
 later_row [] p i s t less is h = absurd (omega (arith, less))
@@ -121,9 +121,9 @@ either_part (r ∷ rows) (suc k) t (inr h) = elim (either_part rows k t h) [ inl
 
 -- ---- the needs of one row more
 pub row_gained : (rules : List Rule) (rows : List Borrowed) (n i : ℕ) (s : Borrowed) (before list after : List Broken) → i < length rows → s ≡ get_or rows i s
-    → Gains rules (map held_of rows) (λ b h. (b.rule ≡ n) × Contains (map held_of (take i rows)) h.first) before list
-    → Gains rules (map held_of rows) (IsOfRow n (held_of s)) list after
-    → Gains rules (map held_of rows) (λ b h. (b.rule ≡ n) × Contains (map held_of (take (i + 1) rows)) h.first) before after
+    → GainsBroken rules (map held_of rows) (λ b h. (b.rule ≡ n) × Contains (map held_of (take i rows)) h.first) before list
+    → GainsBroken rules (map held_of rows) (IsOfRow n (held_of s)) list after
+    → GainsBroken rules (map held_of rows) (λ b h. (b.rule ≡ n) × Contains (map held_of (take (i + 1) rows)) h.first) before after
 row_gained rules rows n i s before list after less is g k =
     gains_more rules (map held_of rows) (λ b h. (b.rule ≡ n) × Contains (map held_of (take i rows)) h.first) (IsOfRow n (held_of s)) (λ b h. (b.rule ≡ n)
     × Contains (map held_of (take (i + 1) rows)) h.first)
@@ -137,8 +137,8 @@ row_gained rules rows n i s before list after less is g k =
 
 -- ---- the least
 pub least_found : (rules : List Rule) (rows : List Borrowed) (n i : ℕ) (s : Borrowed) (before list : List Broken) (m : Broken) → i < length rows → s
-    ≡ get_or rows i s → AreInOrder (map held_of rows)
-    → Gains rules (map held_of rows) (λ b h. (b.rule ≡ n) × Contains (map held_of (take (i + 1) rows)) h.first) before list
+    ≡ get_or rows i s → AreInCellOrder (map held_of rows)
+    → GainsBroken rules (map held_of rows) (λ b h. (b.rule ≡ n) × Contains (map held_of (take (i + 1) rows)) h.first) before list
     → IsLeastListed list m → is_up_to n s.cell m ≡ true → IsLeastAmong rules (map held_of rows) n before m
 least_found rules rows n i s before list m less is rise gains first early = record { broken = gains.only m first.listed; least = least }
   where
@@ -169,12 +169,12 @@ least_found rules rows n i s before list m less is rise gains first early = reco
 
 -- the least of all is the first that an audit lists
 pub first_is : (rules : List Rule) (content : Content) (rows : List Held) (n : ℕ) (before : List Broken) (m : Broken) → rows ≡ rows_in content
-    → Gains rules rows (λ b h. b.rule < n) [] before
+    → GainsBroken rules rows (λ b h. b.rule < n) [] before
     → IsLeastAmong rules rows n before m → Some m ≡ slice_get (broken_needs rules content) 0
 first_is rules content rows n before m rows_are gains_rows least_rows = go (slice_get (broken_needs rules content) 0) (lists_broken rules content).first
   where
-    gains : Gains rules (rows_in content) (λ b h. b.rule < n) [] before
-    gains = subst (λ (r : List Held). Gains rules r (λ b h. b.rule < n) [] before) rows_are gains_rows
+    gains : GainsBroken rules (rows_in content) (λ b h. b.rule < n) [] before
+    gains = subst (λ (r : List Held). GainsBroken rules r (λ b h. b.rule < n) [] before) rows_are gains_rows
 
     least : IsLeastAmong rules (rows_in content) n before m
     least = subst (λ (r : List Held). IsLeastAmong rules r n before m) rows_are least_rows

@@ -12,7 +12,7 @@ use Rattle.clr_segments.specs.Searches.{lies_on, have_two_common_points}
 use Rattle.clr_rules.specs.declared.needs.Ask.{Ask}
 use Rattle.clr_rules.specs.declared.needs.Broken.{Broken}
 use Rattle.clr_rules.specs.declared.rules.Rule.{Rule}
-use Rattle.clr_rules.specs.declared.rules.Rule.TheVariants.{Unique, Partner, EndNode, Crossing, Near}
+use Rattle.clr_rules.specs.declared.rules.Rule.TheVariants.{Crossing}
 use Rattle.clr_rules.specs.Sides.{Segment, is_of_side, point_of}
 use Rattle.clr_spots.specs.declared.spots.Spot.{Spot}
 use Rattle.clr_spots.specs.declared.spots.Spots.{Spots}
@@ -31,17 +31,17 @@ use Rattle.clr_audit.specs.declared.role_index.RoleIndex.{RoleIndex}
 use Rattle.clr_audit.specs.declared.searching.Search.{Search}
 use Rattle.clr_spot_maps.specs.declared.spot_maps.FiledPart.{FiledPart}
 use Rattle.clr_rows.specs.Beginnings.{IsBegun}
-use Rattle.clr_spot_maps.specs.Filing.{Filed, IsFiled, near}
+use Rattle.clr_spot_maps.specs.Filing.{Filed, IsEntered, near}
 use Rattle.clr_audit.specs.RoleFiling.{filed_rows, no_rows_filed, partners}
 use Rattle.clr_audit.specs.PartServers.{is_on, may_serve_part, may_serve_part_by}
 use Rattle.clr_audit.specs.Searches.{may_serve_at, may_serve_if, server_if, servers_of_part, serves_if, serves_at, need_if_broken, need_with, need_beside}
-use Rattle.clr_audit.specs.Searches.{IsBeside, IsBrokenAmong, Gains, GainsSome, IsAlone, IsOfPart, IsOfRow, IsPaired}
+use Rattle.clr_audit.specs.Searches.{IsSecondAmong, IsBrokenAmong, GainsBroken, GainsBrokenAlone, IsAlone, IsOfPart, IsOfRow, IsPaired}
 use Rattle.clr_spot_maps.proofs.Filed.{found_near}
 use Rattle.clr_audit.proofs.Gaining.{gains_begun, gains_listed, gains_none, gains_more}
 use Rattle.clr_audit.proofs.RoleFiled.{IsRowFiled, IsSubjectFiled, entry, rows_filed}
 
 -- an entry that is filed where a row may stand beside it is among those near that row
-found_among : (m : Filed) (e : FiledPart) (xs ys : List Spot) → IsFiled m e ys → Common xs ys → Among e (near m (unless_many xs) (are_many xs))
+found_among : (m : Filed) (e : FiledPart) (xs ys : List Spot) → IsEntered m e ys → Common xs ys → Among e (near m (unless_many xs) (are_many xs))
 found_among m e xs ys h w = among e (near m (unless_many xs) (are_many xs)) (found_near m e xs ys h w)
 
 -- lists by position ----------------------------------------------------------------------------
@@ -113,7 +113,8 @@ served_alike search spots part other s t ready called =
     (λ f. let (r, h, g) = some_of (serves rules ask s t) rows f in
     let (k, at) = placed r rows h in
     let filed = (row_filed search spots part s ready k r at).server (server_role rules ask s t r g) in
-    let found : Among (entry k 1) (near servers (unless_many xs) (are_many xs)) = found_among servers (entry k 1) xs (server_spots_under rules n r) filed (servers_meet rules ask s t r called g) in
+    let found : Among (entry k 1) (near servers (unless_many xs) (are_many xs)) = found_among servers (entry k 1) xs (server_spots_under rules n r) filed
+    (servers_meet rules ask s t r called g) in
     let here : Among (entry k 1) (near servers spots.list spots.wide) =
     subst (λ (ys : List Spot). Among (entry k 1) (near servers ys spots.wide)) (sym ready.list)
     (subst (λ (b : Bool). Among (entry k 1) (near servers (unless_many xs) b)) (sym ready.wide) found) in
@@ -130,14 +131,10 @@ crossed (Some a) (Some b) (Some p) h =
 
 part_served : (rule : Option Rule) (ask : Ask) (s t r : Held) → is_server_of rule ask s (Some t) r ≡ true → may_serve_part_by rule ask.first_part s r ≡ true
 unfolding is_server may_serve_part
-part_served None ask s t r h = refl
-part_served (Some (Unique subject columns)) ask s t r h = refl
-part_served (Some (Partner subject columns server server_columns)) ask s t r h = refl
-part_served (Some (EndNode subject tip server)) ask s t r h = refl
-part_served (Some (Near a b d)) ask s t r h = refl
 part_served (Some (Crossing a b server)) ask s t r h =
     crossed (part_of s.1.shape ask.first_part) (part_of t.1.shape ask.second_part) (point_of r)
     (and_parts (is_of_side server r) (is_crossing_at (part_of s.1.shape ask.first_part) (part_of t.1.shape ask.second_part) (point_of r)) h).1
+part_served _ ask s t r h = refl
 
 entry_served : (search : Search) (part other : ℕ) (s t : Held) (e : FiledPart)
     → serves_at search.book.now (ask_of_parts search.rule part other) (map held_of search.rows.now) s (Some t) e ≡ true → may_serve_at search part s e ≡ true
@@ -184,7 +181,7 @@ need_is search servers part other s t alike = go (calls search.book.now (ask_of_
     go false e = refl
     go true e = ap (λ (served : Bool). cond (not served) (broken_at ask s t ∷ []) []) (alike e)
 
-need_broken : (rules : List Rule) (ask : Ask) (rows : List Held) (s : Held) (t : Option Held) (b : Broken) → Contains rows s → IsBeside rows s t
+need_broken : (rules : List Rule) (ask : Ask) (rows : List Held) (s : Held) (t : Option Held) (b : Broken) → Contains rows s → IsSecondAmong rows s t
     → Among b (need_of rules ask rows s t) → IsBrokenAmong rules rows b
 need_broken rules ask rows s t b listed beside h = go (calls rules ask s t && not (list_any (serves rules ask s t) rows)) refl h
   where
@@ -206,7 +203,7 @@ need_broken rules ask rows s t b listed beside h = go (calls rules ask s t && no
 
 -- a broken need of this ask and this first row
 record IsNeeded (rules : List Rule) (rows : List Held) (ask : Ask) (s : Held) (t : Option Held) (b : Broken) : Type 0 where
-  pub beside : IsBeside rows s t
+  pub beside : IsSecondAmong rows s t
   pub they_call : calls rules ask s t ≡ true
   pub unmet : list_any (serves rules ask s t) rows ≡ false
   pub named : b ≡ broken_at ask s t
@@ -232,7 +229,7 @@ at_second rules rows ask s t u b is h = subst (λ (o : Option Held). IsNeeded ru
 pub alone_gains : (search : Search) (spots : Spots) (s : Held) (before after : List Broken) → IsReady search spots 1 s
     → Contains (map held_of search.rows.now) s
     → after ≡ before ++ need_if_broken search (near search.index.now.servers spots.list spots.wide) (plain_ask search.rule) s None
-    → Gains search.book.now (map held_of search.rows.now) (IsAlone search.rule s) before after
+    → GainsBroken search.book.now (map held_of search.rows.now) (IsAlone search.rule s) before after
 alone_gains search spots s before after ready listed added =
     let rules = search.book.now in
     let rows = map held_of search.rows.now in
@@ -242,7 +239,8 @@ alone_gains search spots s before after ready listed added =
     gains_listed rules rows (IsAlone search.rule s) before after (need_if_broken search found ask s None) added
     (λ b k. need_broken rules ask rows s None b listed tt (subst (Among b) same k))
     (λ b h w.
-    let whole = at_second rules rows (ask_of_parts search.rule b.first_part b.second_part) s h.second None b w.2 (needed rules rows search.rule b.first_part b.second_part s b h w.0 refl refl w.1) in
+    let whole = at_second rules rows (ask_of_parts search.rule b.first_part b.second_part) s h.second None b w.2
+    (needed rules rows search.rule b.first_part b.second_part s b h w.0 refl refl w.1) in
     let parts = alone_parts rules (ask_of_parts search.rule b.first_part b.second_part) s whole.they_call in
     subst (Among b) (sym same) (needed_listed rules rows ask s None b
     (at_second rules rows ask s h.second None b w.2 (needed rules rows search.rule 1 1 s b h w.0 parts.0 parts.1 w.1))))
@@ -305,14 +303,16 @@ pair_found search spots servers part other s roles es ready alike is all t b h =
     let filed : IsSubjectFiled index (roles_under rules n t) (entry k other) (subject_spots_under rules n other t) =
     subst (λ (j : ℕ). IsSubjectFiled index (roles_under rules n t) (entry k j) (subject_spots_under rules n j t)) (sym there.2)
     ((row_filed search spots part s ready k t at).subject there.0 there.1) in
-    let beside = subst (λ (r : Roles). ((r.first ≡ true) × ((roles_under rules n t).second ≡ true)) ⊎ (((roles_under rules n t).first ≡ true) × (r.second ≡ true))) (sym is) (subjects_beside rules ask s t h.they_call) in
+    let beside = subst (λ (r : Roles). ((r.first ≡ true) × ((roles_under rules n t).second ≡ true))
+    ⊎ (((roles_under rules n t).first ≡ true) × (r.second ≡ true))) (sym is) (subjects_beside rules ask s t h.they_call) in
     let found : Among (entry k other) (partners index roles (unless_many xs) (are_many xs)) =
     partner_found index roles (roles_under rules n t) (entry k other) xs (subject_spots_under rules n other t) filed
     (subjects_meet rules rows ask s t ready.fit h.they_call) beside in
     let here : Among (entry k other) (partners index roles spots.list spots.wide) =
     subst (λ (ys : List Spot). Among (entry k other) (partners index roles ys spots.wide)) (sym ready.list)
     (subst (λ (w : Bool). Among (entry k other) (partners index roles (unless_many xs) w)) (sym ready.wide) found) in
-    let one : Among b (need_if_broken search servers ask s (Some t)) = subst (Among b) (sym (need_is search servers part other s (Some t) (alike other t))) (needed_listed rules rows ask s (Some t) b h) in
+    let one : Among b (need_if_broken search servers ask s (Some t)) = subst (Among b) (sym (need_is search servers part other s (Some t) (alike other t)))
+    (needed_listed rules rows ask s (Some t) b h) in
     let own : Among b (need_beside search servers s part (entry k other)) =
     subst (λ (o : Option Held). Among b (need_with search servers ask s o)) (sym at)
     (subst (λ (after : Bool). Among b (cond after (need_if_broken search servers ask s (Some t)) [])) (sym h.beside.1) one) in
@@ -325,7 +325,7 @@ pub part_gains : (search : Search) (spots : Spots) (servers : List FiledPart) (p
     → Contains (map held_of search.rows.now) s → roles ≡ roles_under search.book.now search.rule s
     → ((e : FiledPart) → Among e (partners search.index.now roles spots.list spots.wide) → Among e es)
     → after ≡ before ++ flat_map (need_beside search servers s part) es
-    → Gains search.book.now (map held_of search.rows.now) (IsOfPart search.rule s part) before after
+    → GainsBroken search.book.now (map held_of search.rows.now) (IsOfPart search.rule s part) before after
 part_gains search spots servers part s roles es before after ready alike listed is all added =
     gains_listed search.book.now (map held_of search.rows.now) (IsOfPart search.rule s part) before after (flat_map (need_beside search servers s part) es)
     added
@@ -342,7 +342,7 @@ pub part_some : (search : Search) (servers : List FiledPart) (part : ℕ) (s : H
     → FindAll search part s servers
     → Contains (map held_of search.rows.now) s
     → IsBegun before (flat_map (need_beside search servers s part) es) after
-    → GainsSome search before after
+    → GainsBrokenAlone search before after
 part_some search servers part s es before after alike listed begun =
     gains_begun search.book.now (map held_of search.rows.now) before after (flat_map (need_beside search servers s part) es) begun
     (λ b k. beside_broken search servers part s alike listed es b k)
@@ -374,14 +374,15 @@ beside_none search servers s part k j o at is = ap (need_with search servers (as
 -- rows ---------------------------------------------------------------------------------------------
 -- a row that may not be a subject alone has no broken need alone
 pub none_alone : (rules : List Rule) (rows : List Held) (n : ℕ) (s : Held) (roles : Roles) (xs : List Broken) → roles ≡ roles_under rules n s → roles.alone
-    ≡ false → Gains rules rows (IsAlone n s) xs xs
+    ≡ false → GainsBroken rules rows (IsAlone n s) xs xs
 none_alone rules rows n s roles xs is none = gains_none rules rows (IsAlone n s) xs (λ b h w.
-    let whole = at_second rules rows (ask_of_parts n b.first_part b.second_part) s h.second None b w.2 (needed rules rows n b.first_part b.second_part s b h w.0 refl refl w.1) in
+    let whole = at_second rules rows (ask_of_parts n b.first_part b.second_part) s h.second None b w.2
+    (needed rules rows n b.first_part b.second_part s b h w.0 refl refl w.1) in
     false≢true (sym none ∙ ap (λ (r : Roles). r.alone) is ∙ subject_alone rules (ask_of_parts n b.first_part b.second_part) s whole.they_call))
 
 -- nor has one that may be neither of two subjects a broken need with another
 pub none_paired : (rules : List Rule) (rows : List Held) (n : ℕ) (s : Held) (roles : Roles) (xs : List Broken) → roles ≡ roles_under rules n s → roles.first
-    ≡ false → roles.second ≡ false → Gains rules rows (IsPaired n s) xs xs
+    ≡ false → roles.second ≡ false → GainsBroken rules rows (IsPaired n s) xs xs
 none_paired rules rows n s roles xs is not_first not_second = gains_none rules rows (IsPaired n s) xs
     (λ b h w. go h.second b w.2 (needed rules rows n b.first_part b.second_part s b h w.0 refl refl w.1))
   where
@@ -393,8 +394,8 @@ none_paired rules rows n s roles xs is not_first not_second = gains_none rules r
     ]
 
 -- alone and with others
-pub row_gains : (rules : List Rule) (rows : List Held) (n : ℕ) (s : Held) (xs ys zs : List Broken) → Gains rules rows (IsAlone n s) xs ys
-    → Gains rules rows (IsPaired n s) ys zs → Gains rules rows (IsOfRow n s) xs zs
+pub row_gains : (rules : List Rule) (rows : List Held) (n : ℕ) (s : Held) (xs ys zs : List Broken) → GainsBroken rules rows (IsAlone n s) xs ys
+    → GainsBroken rules rows (IsPaired n s) ys zs → GainsBroken rules rows (IsOfRow n s) xs zs
 row_gains rules rows n s xs ys zs g k = gains_more rules rows (IsAlone n s) (IsPaired n s) (IsOfRow n s) xs ys zs g k
     (λ b h w. elim (either h.second) [ inl none ↦ inl (w.0, w.1, none) | inr some ↦ inr (w.0, w.1, some) ])
   where

@@ -12,13 +12,13 @@ use Rattle.clr_rows.specs.Held.{Held}
 use Rattle.clr_spots.specs.Spots.{unless_many, are_many}
 use Rattle.clr_audit.specs.declared.role_index.RoleIndex.{RoleIndex}
 use Rattle.clr_spot_maps.specs.declared.spot_maps.FiledPart.{FiledPart}
-use Rattle.clr_spot_maps.specs.Filing.{Filed, IsFiled, filed_entry}
+use Rattle.clr_spot_maps.specs.Filing.{Filed, IsEntered, filed_entry}
 use Rattle.clr_audit.specs.RoleFiling.{with_subject, with_parts, with_pairs, with_server, with_row, filed_rows}
 use Rattle.clr_spot_maps.proofs.Filed.{entry_stays, entry_filed}
 
 -- what is filed in one map is filed in another
 abbrev Stays : Filed → Filed → Type 0
-Stays m m' = (q : FiledPart) (ys : List Spot) → IsFiled m q ys → IsFiled m' q ys
+Stays m m' = (q : FiledPart) (ys : List Spot) → IsEntered m q ys → IsEntered m' q ys
 
 -- and so in each role
 record Grows (index index' : RoleIndex) : Type 0 where
@@ -59,9 +59,9 @@ grows_subject index roles e xs wide = go roles.first roles.second
 
 -- the entry of a subject is filed where its roles say
 pub record IsSubjectFiled (index : RoleIndex) (roles : Roles) (e : FiledPart) (xs : List Spot) : Type 0 where
-  pub both : roles.first ≡ true → roles.second ≡ true → IsFiled index.boths e xs
-  pub first : roles.first ≡ true → roles.second ≡ false → IsFiled index.firsts e xs
-  pub second : roles.first ≡ false → roles.second ≡ true → IsFiled index.seconds e xs
+  pub both : roles.first ≡ true → roles.second ≡ true → IsEntered index.boths e xs
+  pub first : roles.first ≡ true → roles.second ≡ false → IsEntered index.firsts e xs
+  pub second : roles.first ≡ false → roles.second ≡ true → IsEntered index.seconds e xs
 
 subject_stays : (index index' : RoleIndex) (roles : Roles) (e : FiledPart) (xs : List Spot) → Grows index index' → IsSubjectFiled index roles e xs
     → IsSubjectFiled index' roles e xs
@@ -146,14 +146,14 @@ grows_server rules n index position s = go (roles_under rules n s).server
     go false = grows_same index
 
 server_filed : (rules : List Rule) (n : ℕ) (index : RoleIndex) (position : ℕ) (s : Held) → (roles_under rules n s).server ≡ true
-    → IsFiled (with_server rules n index position s).servers (entry position 1) (server_spots_under rules n s)
+    → IsEntered (with_server rules n index position s).servers (entry position 1) (server_spots_under rules n s)
 server_filed rules n index position s has = rw has (entry_filed index.servers (entry position 1) (server_spots_under rules n s))
 
 -- a row is filed at its position
 pub record IsRowFiled (rules : List Rule) (n : ℕ) (index : RoleIndex) (position : ℕ) (s : Held) : Type 0 where
   pub subject : (part : ℕ) → part < part_count rules n s → IsSubjectFiled index (roles_under rules n s) (entry position (suc part))
       (subject_spots_under rules n (suc part) s)
-  pub server : (roles_under rules n s).server ≡ true → IsFiled index.servers (entry position 1) (server_spots_under rules n s)
+  pub server : (roles_under rules n s).server ≡ true → IsEntered index.servers (entry position 1) (server_spots_under rules n s)
 
 row_stays : (rules : List Rule) (n : ℕ) (index index' : RoleIndex) (position : ℕ) (s : Held) → Grows index index' → IsRowFiled rules n index position s
     → IsRowFiled rules n index' position s

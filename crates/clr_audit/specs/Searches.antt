@@ -80,16 +80,16 @@ abbrev pub need_beside : Search → List FiledPart → Held → ℕ → FiledPar
 need_beside search servers s part e = need_with search servers (ask_of_parts search.rule part e.part) s (slice_get (map held_of search.rows.now) e.position)
 
 -- a second subject is one of the rows too, at a greater cell
-abbrev pub IsBeside : List Held → Held → Option Held → Type 0
-IsBeside rows s None = ⊤
-IsBeside rows s (Some t) = Contains rows t × (is_after s t ≡ true)
+abbrev pub IsSecondAmong : List Held → Held → Option Held → Type 0
+IsSecondAmong rows s None = ⊤
+IsSecondAmong rows s (Some t) = Contains rows t × (is_after s t ≡ true)
 
 -- a need of listed rows that none of them serves
 pub record IsBrokenAmong (rules : List Rule) (rows : List Held) (b : Broken) : Type 0 where
   pub first : Held
   pub second : Option Held
   pub listed : Contains rows first
-  pub beside : IsBeside rows first second
+  pub beside : IsSecondAmong rows first second
   pub they_call : calls rules (ask_of b) first second ≡ true
   pub unmet : list_any (serves rules (ask_of b) first second) rows ≡ false
   pub named : b ≡ broken_at (ask_of b) first second
@@ -99,7 +99,7 @@ abbrev pub WantedOf : List Rule → List Held → Type 1
 WantedOf rules rows = (b : Broken) → IsBrokenAmong rules rows b → Type 0
 
 -- the later list has the earlier one, besides it broken needs alone, and of those all that are wanted
-pub record Gains (rules : List Rule) (rows : List Held) (Wanted : WantedOf rules rows) (before after : List Broken) : Type 0 where
+pub record GainsBroken (rules : List Rule) (rows : List Held) (Wanted : WantedOf rules rows) (before after : List Broken) : Type 0 where
   pub stay : (b : Broken) → Contains before b → Contains after b
   pub only : (b : Broken) → Contains after b → Contains before b ⊎ IsBrokenAmong rules rows b
   pub found : (b : Broken) (h : IsBrokenAmong rules rows b) → Wanted b h → Contains after b
@@ -126,11 +126,11 @@ IsOfPart n s part b h = (b.rule ≡ n) × (h.first ≡ s) × IsSome h.second × 
 
 -- the later list has the earlier one, besides it broken needs of a search's rows alone, and of those all that are wanted
 abbrev pub GainsAll : (search : Search) → WantedOf search.book.now (rows_of search) → List Broken → List Broken → Type 0
-GainsAll search Wanted before after = Gains search.book.now (rows_of search) Wanted before after
+GainsAll search Wanted before after = GainsBroken search.book.now (rows_of search) Wanted before after
 
 -- the later list has the earlier one, and besides it broken needs alone
-abbrev pub GainsSome : Search → List Broken → List Broken → Type 0
-GainsSome search before after = GainsAll search (λ b h. ⊥) before after
+abbrev pub GainsBrokenAlone : Search → List Broken → List Broken → Type 0
+GainsBrokenAlone search before after = GainsAll search (λ b h. ⊥) before after
 
 -- the least of all -------------------------------------------------------------------------------
 
@@ -139,8 +139,8 @@ abbrev pub is_up_to : ℕ → CellId → Broken → Bool
 is_up_to n cell b = is_le (ordering_then (nat_cmp b.rule n) (cell_cmp b.first cell))
 
 -- the rows stand in the order of their cells
-abbrev pub AreInOrder : List Held → Type 0
-AreInOrder rows = IsStrictlySortedBy (λ s t. cell_cmp s.0 t.0) rows
+abbrev pub AreInCellOrder : List Held → Type 0
+AreInCellOrder rows = IsStrictlySortedBy (λ s t. cell_cmp s.0 t.0) rows
 
 -- a need of a list that no need of the list comes before
 pub record IsLeastListed (list : List Broken) (b : Broken) : Type 0 where

@@ -5,7 +5,7 @@ ghost use Rattle.clr_rows.specs.Contents.{row_at};
 ghost use Rattle.clr_rows.specs.Held.{held_of};
 ghost use Rattle.clr_rules.specs.Books.{FitsContent, FitTogether};
 ghost use Rattle.clr_rules.specs.Needs.{IsAudit, broken_needs, rows_in};
-ghost use Rattle.clr_audit.specs.Searches.{AreInOrder, Gains, IsLeastAmong, IsOfRule};
+ghost use Rattle.clr_audit.specs.Searches.{AreInCellOrder, GainsBroken, IsLeastAmong, IsOfRule};
 
 use crate::role_index::RoleIndex;
 use crate::searching::Search;
@@ -35,7 +35,7 @@ fn add_of_rule(
 ) -> Result<(), AllocError>
     requires number { rule < length book.now }
     requires fit { FitTogether book.now (map held_of rows.now) }
-    ensures { OnOk result (Gains book.now (map held_of rows.now) (IsOfRule rule) list.old.items list.new.items) }
+    ensures { OnOk result (GainsBroken book.now (map held_of rows.now) (IsOfRule rule) list.old.items list.new.items) }
 {
     let index = RoleIndex::of_rows(alloc, book, rule, rows)?;
     let search = Search {
@@ -76,8 +76,8 @@ fn add_of_rule_until_least(
 ) -> Result<Option<Broken>, AllocError>
     requires number { rule < length book.now }
     requires fit { FitTogether book.now (map held_of rows.now) }
-    requires in_order { AreInOrder (map held_of rows.now) }
-    ensures { IfOk result (λ found. MatchOption found (Gains book.now (map held_of rows.now) (IsOfRule rule) list.old.items list.new.items)
+    requires in_order { AreInCellOrder (map held_of rows.now) }
+    ensures { IfOk result (λ found. MatchOption found (GainsBroken book.now (map held_of rows.now) (IsOfRule rule) list.old.items list.new.items)
         (IsLeastAmong book.now (map held_of rows.now) rule list.old.items)) }
 {
     let index = RoleIndex::of_rows(alloc, book, rule, rows)?;

@@ -4,7 +4,7 @@ ghost use Rattle.std.specs.Prelude.{◌≡◌, IfSome};
 ghost use Rattle.clr_rows.specs.Held.{held_of};
 ghost use Rattle.clr_rows.specs.Places.{InRange};
 ghost use Rattle.clr_segments.specs.Searches.{lies_on};
-ghost use Rattle.clr_rules.specs.Fitting.{IsSound, IsSoundSegment};
+ghost use Rattle.clr_rules.specs.Fitting.{IsSoundShape, IsSoundSegment};
 ghost use Rattle.clr_audit.specs.PartServers.{is_on, may_serve_part};
 
 use clr_rows::{Held, Place};
@@ -36,14 +36,12 @@ fn is_on(place: Option<Place>, segment: Option<(Place, Place)>) -> bool
 /// crossing it is a point of that part.
 #[tactic(auto, unfolding(crate::specs::PartServers::may_serve_part))]
 pub(crate) fn may_serve_part(rule: &Rule, number: u16, first: Held, server: Held) -> bool
-    requires first { IsSound first.row.now.shape }
-    requires server { IsSound server.row.now.shape }
+    requires first { IsSoundShape first.row.now.shape }
+    requires server { IsSoundShape server.row.now.shape }
     ensures { result ≡ may_serve_part rule.now number (held_of first.entry) (held_of server.entry) }
 {
     match rule {
         Rule::Crossing { .. } => is_on(point_in(&server.row.shape), part(&first.row.shape, number)),
-        Rule::Unique { .. } | Rule::Partner { .. } | Rule::EndNode { .. } | Rule::Near { .. } => {
-            true
-        }
+        _ => true,
     }
 }

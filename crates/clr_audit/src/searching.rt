@@ -11,7 +11,18 @@ ghost use Rattle.clr_rules.specs.Calls.{plain_ask};
 ghost use Rattle.clr_rules.specs.Roles.{roles_under};
 ghost use Rattle.clr_rules.specs.declared.needs.Broken.{Broken as OneBroken};
 ghost use Rattle.clr_rows.specs.Beginnings.{IsBegun};
-ghost use Rattle.clr_audit.specs.Searches.{AreInOrder, AreRowsFiled, GainsAll, GainsSome, IsAlone, IsLeastFrom, IsLeastListed, IsOfPart, IsOfRow, IsOfRule};
+ghost use Rattle.clr_audit.specs.Searches.{
+  AreInCellOrder,
+  AreRowsFiled,
+  GainsAll,
+  GainsBrokenAlone,
+  IsAlone,
+  IsLeastFrom,
+  IsLeastListed,
+  IsOfPart,
+  IsOfRow,
+  IsOfRule,
+};
 ghost use Rattle.clr_audit.specs.Searches.{IsPaired};
 ghost use Rattle.clr_audit.specs.Searches.{is_up_to, may_serve_at, need_if_broken, need_beside, rows_of, serves_among, serves_at, server_if, servers_at_spots};
 ghost use Rattle.clr_audit.specs.Searches.{servers_near, servers_of_part};
@@ -315,7 +326,7 @@ impl<'a> Search<'a> {
         requires one { Contains (rows_of self.now) (held_of first) }
         requires roles { roles ≡ roles_under self.now.book.now self.now.rule (held_of first) }
         ensures ok { OnOk result (GainsAll self.now (IsOfPart self.now.rule (held_of first.entry) part) list.old.items list.new.items) }
-        ensures err { OnErr result (GainsSome self.now list.old.items list.new.items) }
+        ensures err { OnErr result (GainsBrokenAlone self.now list.old.items list.new.items) }
     {
         let spots = subject_spots(alloc, self.book, self.rule, part, first)?;
         let mut beside = Vec::new(alloc);
@@ -340,7 +351,7 @@ impl<'a> Search<'a> {
         requires one { Contains (rows_of self.now) (held_of first) }
         requires roles { roles ≡ roles_under self.now.book.now self.now.rule (held_of first) }
         ensures ok { OnOk result (GainsAll self.now (IsPaired self.now.rule (held_of first.entry)) list.old.items list.new.items) }
-        ensures err { OnErr result (GainsSome self.now list.old.items list.new.items) }
+        ensures err { OnErr result (GainsBrokenAlone self.now list.old.items list.new.items) }
     {
         for part in 0..self.book.part_count(self.rule, first) {
             self.add_of_part(alloc, first, roles, part + 1, list)?;
@@ -360,7 +371,7 @@ impl<'a> Search<'a> {
         requires filed { AreRowsFiled self.now }
         requires one { Contains (rows_of self.now) (held_of first) }
         ensures ok { OnOk result (GainsAll self.now (IsOfRow self.now.rule (held_of first.entry)) list.old.items list.new.items) }
-        ensures err { OnErr result (GainsSome self.now list.old.items list.new.items) }
+        ensures err { OnErr result (GainsBrokenAlone self.now list.old.items list.new.items) }
     {
         let roles = self.book.roles_of(self.rule, first);
         if roles.alone {
@@ -379,7 +390,7 @@ impl<'a> Search<'a> {
         requires fit { FitTogether self.now.book.now (rows_of self.now) }
         requires filed { AreRowsFiled self.now }
         ensures ok { OnOk result (GainsAll self.now (IsOfRule self.now.rule) list.old.items list.new.items) }
-        ensures err { OnErr result (GainsSome self.now list.old.items list.new.items) }
+        ensures err { OnErr result (GainsBrokenAlone self.now list.old.items list.new.items) }
     {
         for first in self.rows {
             self.add_of_row(alloc, *first, list)?;
@@ -397,7 +408,7 @@ impl<'a> Search<'a> {
         requires number { self.now.rule < length self.now.book.now }
         requires fit { FitTogether self.now.book.now (rows_of self.now) }
         requires filed { AreRowsFiled self.now }
-        requires in_order { AreInOrder (rows_of self.now) }
+        requires in_order { AreInCellOrder (rows_of self.now) }
         ensures { IfOk result (λ found. MatchOption found
             (GainsAll self.now (IsOfRule self.now.rule) list.old.items list.new.items) (IsLeastFrom self.now list.old.items)) }
     {

@@ -1,5 +1,6 @@
 -- The record of an entry is in ASCII, and is read as the entry.
-use Rattle.std.proofs.Common.{◌≡◌, ℕ, ◌<◌, ◌^◌, ◌==◌, ◌&&◌, Bool, true, false, not, List, [], ◌∷◌, ◌++◌, length, codes, Option, Some, None, pos, refl, arith, ltb, append_assoc}
+use Rattle.std.proofs.Common.{◌≡◌, ℕ, ◌<◌, ◌^◌, ◌==◌, ◌&&◌, Bool, true, false, not, List, [], ◌∷◌, ◌++◌, length, codes, Option, Some, None, pos, refl, arith}
+use Rattle.std.proofs.Common.{ltb, append_assoc}
 use Rattle.std.specs.Prelude.{IfSome, MatchOption}
 use Rattle.std.specs.List.{list_all, position_or_len}
 use Rattle.std.specs.Fmt.{decimal, signed_decimal}
@@ -26,7 +27,8 @@ use Rattle.clr_records.proofs.Decimals.{number_again}
 use Rattle.clr_records.proofs.Utf8.{name_byte_low}
 use Rattle.clr_cert.specs.declared.certificates.Entry.{Entry}
 use Rattle.clr_cert.specs.declared.limits.TheConstants.{GREATEST_PART}
-use Rattle.clr_cert.specs.Texts.{IsNamed, IsWellFormedEntry, IsPart, IsReadBack, entry_fields, fresh_word, part_text, second_text, subject_text, two_text, version_text}
+use Rattle.clr_cert.specs.Texts.{IsInSchema, IsWellFormedEntry, IsPart, IsReadBack, entry_fields, fresh_word, part_text, second_text, subject_text, two_text}
+use Rattle.clr_cert.specs.Texts.{version_text}
 use Rattle.clr_cert.specs.Versions.{cell_and_rest, cut_of, entry_of, fresh_of, is_slash, second_of, subject_of, two_of, version_of, word_and_part}
 
 -- texts without `/` ------------------------------------------------------------------------------
@@ -150,11 +152,11 @@ fresh_ascii : (b : Bool) → IsAscii (fresh_word b)
 fresh_ascii true = bytes_ascii (fresh_word true) refl
 fresh_ascii false = bytes_ascii (fresh_word false) refl
 
-version_again : (tables : List TableDef) (v : VersionId) → schema_fault tables ≡ None → IsNamed tables v → version_of tables (version_text tables v) ≡ Some v
+version_again : (tables : List TableDef) (v : VersionId) → schema_fault tables ≡ None → IsInSchema tables v → version_of tables (version_text tables v) ≡ Some v
 unfolding version_of
 version_again tables v sound is = rw (cell_again tables v.cell (fresh_word v.fresh) sound is, fresh_again v.fresh) refl
 
-version_ascii : (tables : List TableDef) (v : VersionId) → schema_fault tables ≡ None → IsNamed tables v → IsAscii (version_text tables v)
+version_ascii : (tables : List TableDef) (v : VersionId) → schema_fault tables ≡ None → IsInSchema tables v → IsAscii (version_text tables v)
 version_ascii tables v sound is = cell_ascii tables v.cell (fresh_word v.fresh) sound is (fresh_ascii v.fresh)
 
 -- a subject's text: its cell, and then its word and its part
@@ -196,14 +198,14 @@ part_ascii b part is = IsAscii-append (fresh_word b) (part_text part) (fresh_asc
     by true e = rw e IsAscii-nil
     by false e = let most = is.1 in rw e (IsAscii-cons 47 (decimal part) (omega arith) (IsAscii-decimal part (omega arith)))
 
-subject_again : (tables : List TableDef) (v : VersionId) (part : ℕ) → schema_fault tables ≡ None → IsNamed tables v → IsPart part
+subject_again : (tables : List TableDef) (v : VersionId) (part : ℕ) → schema_fault tables ≡ None → IsInSchema tables v → IsPart part
     → subject_of tables (subject_text tables v part) ≡ Some (v, part)
 unfolding subject_of
 subject_again tables v part sound is one =
     rw (subject_is tables v part, cell_again tables v.cell (fresh_word v.fresh ++ part_text part) sound is, part_again v.fresh part one, fresh_again v.fresh)
     refl
 
-subject_ascii : (tables : List TableDef) (v : VersionId) (part : ℕ) → schema_fault tables ≡ None → IsNamed tables v → IsPart part
+subject_ascii : (tables : List TableDef) (v : VersionId) (part : ℕ) → schema_fault tables ≡ None → IsInSchema tables v → IsPart part
     → IsAscii (subject_text tables v part)
 subject_ascii tables v part sound is one = rw (subject_is tables v part) (cell_ascii tables v.cell (fresh_word v.fresh
     ++ part_text part) sound is (part_ascii v.fresh part one))
@@ -225,23 +227,24 @@ version_long tables v = ne_eqb _ 0 (λ e. omega (
 ))
 
 second_again : (tables : List TableDef) (second : Option VersionId) (part : ℕ) → schema_fault tables ≡ None
-    → MatchOption second (part ≡ 1) (λ v. IsNamed tables v × IsPart part)
+    → MatchOption second (part ≡ 1) (λ v. IsInSchema tables v × IsPart part)
     → second_of tables (second_text tables second part) ≡ Some (second, part)
 second_again tables None part sound is = rw is refl
 second_again tables (Some v) part sound is = rw (subject_long tables v part, subject_again tables v part sound is.0 is.1) refl
 
 second_ascii : (tables : List TableDef) (second : Option VersionId) (part : ℕ) → schema_fault tables ≡ None
-    → MatchOption second (part ≡ 1) (λ v. IsNamed tables v × IsPart part)
+    → MatchOption second (part ≡ 1) (λ v. IsInSchema tables v × IsPart part)
     → IsAscii (second_text tables second part)
 second_ascii tables None part sound is = IsAscii-nil
 second_ascii tables (Some v) part sound is = subject_ascii tables v part sound is.0 is.1
 
-two_again : (tables : List TableDef) (two : Option VersionId) → schema_fault tables ≡ None → IfSome two (IsNamed tables) → two_of tables (two_text tables two)
+two_again : (tables : List TableDef) (two : Option VersionId) → schema_fault tables ≡ None → IfSome two (IsInSchema tables) →
+    two_of tables (two_text tables two)
     ≡ Some two
 two_again tables None sound is = refl
 two_again tables (Some v) sound is = rw (version_long tables v, version_again tables v sound is) refl
 
-two_ascii : (tables : List TableDef) (two : Option VersionId) → schema_fault tables ≡ None → IfSome two (IsNamed tables) → IsAscii (two_text tables two)
+two_ascii : (tables : List TableDef) (two : Option VersionId) → schema_fault tables ≡ None → IfSome two (IsInSchema tables) → IsAscii (two_text tables two)
 two_ascii tables None sound is = IsAscii-nil
 two_ascii tables (Some v) sound is = version_ascii tables v sound is
 

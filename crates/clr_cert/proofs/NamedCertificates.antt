@@ -1,5 +1,6 @@
 -- The certificate that a text gives has good names, cells that the schema names, and parts of paths.
-use Rattle.std.proofs.Common.{◌≡◌, ℕ, zero, suc, ◌+◌, ◌&&◌, ◌||◌, Bool, true, false, cond, List, [], ◌∷◌, codes, Option, Some, None, Result, Ok, Err, ℤ, pos, negsuc, refl, ap, subst, ◌∙◌, arith, ltb, leb}
+use Rattle.std.proofs.Common.{◌≡◌, ℕ, zero, suc, ◌+◌, ◌&&◌, ◌||◌, Bool, true, false, cond, List, [], ◌∷◌, codes, Option, Some, None, Result, Ok, Err, ℤ, pos}
+use Rattle.std.proofs.Common.{negsuc, refl, ap, subst, ◌∙◌, arith, ltb, leb}
 use Rattle.std.specs.Prelude.{IfSome, MatchOption, option_map}
 use Rattle.std.specs.List.{All}
 use Rattle.std.specs.Option.{is_none, option_and_then}
@@ -22,8 +23,9 @@ use Rattle.clr_cert.specs.declared.items.Item.{Item}
 use Rattle.clr_cert.specs.declared.items.Item.TheVariants.{Root, Member, Need}
 use Rattle.clr_cert.specs.declared.limits.TheConstants.{GREATEST_PART}
 use Rattle.clr_cert.specs.Certificates.{certificate_from, certificate_of, is_live, is_root, item_of, name_of, nothing_said, root_of, with_item}
-use Rattle.clr_cert.specs.Texts.{IsNamed, IsWellFormed, IsWellFormedEntry, IsPart}
-use Rattle.clr_cert.specs.Versions.{cell_and_rest, cut_of, entry_of, fresh_of, if_named, is_empty, part_behind, part_of, rule_of, second_of, subject_of, two_of, version_of, word_and_part}
+use Rattle.clr_cert.specs.Texts.{IsInSchema, IsWellFormed, IsWellFormedEntry, IsPart}
+use Rattle.clr_cert.specs.Versions.{cell_and_rest, cut_of, entry_of, fresh_of, if_named, is_empty, part_behind, part_of, rule_of, second_of, subject_of, two_of}
+use Rattle.clr_cert.specs.Versions.{version_of, word_and_part}
 
 -- what follows from each step of a reading follows from the whole
 then_so : {A B G : Type 0} (o : Option A) (f : A → Option B) (y : B) → ((x : A) → o ≡ Some x → f x ≡ Some y → G) → option_and_then f o ≡ Some y → G
@@ -56,12 +58,12 @@ cell_named tables text found e =
     f1)
     e
 
-version_named : (tables : List TableDef) (text : List ℕ) (v : VersionId) → version_of tables text ≡ Some v → IsNamed tables v
+version_named : (tables : List TableDef) (text : List ℕ) (v : VersionId) → version_of tables text ≡ Some v → IsInSchema tables v
 unfolding version_of
 version_named tables text v e =
     then_so (cell_and_rest tables text) _ v (λ named e1 f1.
     then_so (fresh_of named.1) _ v (λ fresh e2 f2.
-    subst (IsNamed tables) (same_Some (record { cell = named.0; fresh = fresh }) v f2) (cell_named tables text named e1))
+    subst (IsInSchema tables) (same_Some (record { cell = named.0; fresh = fresh }) v f2) (cell_named tables text named e1))
     f1)
     e
 
@@ -87,20 +89,21 @@ behind_is (Some parts) text found e =
     e1)
     e
 
-subject_named : (tables : List TableDef) (text : List ℕ) (found : VersionId × ℕ) → subject_of tables text ≡ Some found → IsNamed tables found.0 × IsPart found.1
+subject_named : (tables : List TableDef) (text : List ℕ) (found : VersionId × ℕ) → subject_of tables text ≡ Some found → IsInSchema tables found.0
+    × IsPart found.1
 unfolding subject_of
 subject_named tables text found e =
     then_so (cell_and_rest tables text) _ found (λ named e1 f1.
     then_so (word_and_part named.1) _ found (λ last e2 f2.
     then_so (fresh_of last.0) _ found (λ fresh e3 f3.
-    subst (λ (x : VersionId × ℕ). IsNamed tables x.0 × IsPart x.1) (same_Some (record { cell = named.0; fresh = fresh }, last.1) found f3)
+    subst (λ (x : VersionId × ℕ). IsInSchema tables x.0 × IsPart x.1) (same_Some (record { cell = named.0; fresh = fresh }, last.1) found f3)
     (cell_named tables text named e1, behind_is (cut_of named.1) named.1 last e2))
     f2)
     f1)
     e
 
 abbrev IsSecond : List TableDef → Option VersionId × ℕ → Type 0
-IsSecond tables found = MatchOption found.0 (found.1 ≡ 1) (λ v. IsNamed tables v × IsPart found.1)
+IsSecond tables found = MatchOption found.0 (found.1 ≡ 1) (λ v. IsInSchema tables v × IsPart found.1)
 
 second_named : (tables : List TableDef) (text : List ℕ) (found : Option VersionId × ℕ) → second_of tables text ≡ Some found → IsSecond tables found
 second_named tables text found e = by (is_empty text) e
@@ -113,14 +116,14 @@ second_named tables text found e = by (is_empty text) e
         subst (IsSecond tables) same refl
     by false e = map_so (subject_of tables text) _ found (λ subject e1 same. subst (IsSecond tables) same (subject_named tables text subject e1)) e
 
-two_named : (tables : List TableDef) (text : List ℕ) (found : Option VersionId) → two_of tables text ≡ Some found → IfSome found (IsNamed tables)
+two_named : (tables : List TableDef) (text : List ℕ) (found : Option VersionId) → two_of tables text ≡ Some found → IfSome found (IsInSchema tables)
 two_named tables text found e = by (is_empty text) e
   where
-    by : (b : Bool) → cond b (Some None) (option_map Some (version_of tables text)) ≡ Some found → IfSome found (IsNamed tables)
+    by : (b : Bool) → cond b (Some None) (option_map Some (version_of tables text)) ≡ Some found → IfSome found (IsInSchema tables)
     by true e =
         let same : ◌≡◌ {A = Option VersionId} None found = cc in
-        subst (λ (o : Option VersionId). IfSome o (IsNamed tables)) same tt
-    by false e = map_so (version_of tables text) _ found (λ version e1 same. subst (λ (o : Option VersionId). IfSome o (IsNamed tables)) same
+        subst (λ (o : Option VersionId). IfSome o (IsInSchema tables)) same tt
+    by false e = map_so (version_of tables text) _ found (λ version e1 same. subst (λ (o : Option VersionId). IfSome o (IsInSchema tables)) same
         (version_named tables text version e1)) e
 
 entry_named : (tables : List TableDef) (fields : List (List ℕ)) (entry : Entry) → entry_of tables fields ≡ Some entry → IsWellFormedEntry tables entry

@@ -66,19 +66,19 @@ certificate_text tables c = records_text (certificate_records tables c)
 -- the certificates that have a text ------------------------------------------------------------
 
 -- the schema names the cell of a version
-abbrev pub IsNamed : List TableDef → VersionId → Type 0
-IsNamed tables v = cell_fault tables v.cell ≡ None
+abbrev pub IsInSchema : List TableDef → VersionId → Type 0
+IsInSchema tables v = cell_fault tables v.cell ≡ None
 
 abbrev pub IsPart : ℕ → Type 0
 IsPart part = (1 ≤ part) × (part ≤ GREATEST_PART)
 
 -- the schema names the cells of an entry, and its parts are parts of a path; without a second subject its part is 1
 pub record IsWellFormedEntry (tables : List TableDef) (e : Entry) : Type 0 where
-  pub first : IsNamed tables e.need.first
+  pub first : IsInSchema tables e.need.first
   pub first_part : IsPart e.need.first_part
-  pub second : MatchOption e.need.second (e.need.second_part ≡ 1) (λ v. IsNamed tables v × IsPart e.need.second_part)
-  pub one : IsNamed tables e.one
-  pub two : IfSome e.two (IsNamed tables)
+  pub second : MatchOption e.need.second (e.need.second_part ≡ 1) (λ v. IsInSchema tables v × IsPart e.need.second_part)
+  pub one : IsInSchema tables e.one
+  pub two : IfSome e.two (IsInSchema tables)
 
 -- the names are good, and the schema names each cell
 pub record IsWellFormed (tables : List TableDef) (c : Certificate) : Type 0 where

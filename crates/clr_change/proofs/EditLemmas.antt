@@ -1,5 +1,6 @@
 -- Edits made one after another over the changes of a content.
-use Rattle.std.proofs.Common.{◌≡◌, ℕ, ◌+◌, ◌<◌, ◌≤◌, get_or, Bool, true, false, cond, List, [], ◌∷◌, ◌++◌, take, drop, length, is_some, Option, Some, None, refl, sym, ap, subst, ◌∙◌}
+use Rattle.std.proofs.Common.{◌≡◌, ℕ, ◌+◌, ◌<◌, ◌≤◌, get_or, Bool, true, false, cond, List, [], ◌∷◌, ◌++◌, take, drop, length, is_some, Option, Some, None}
+use Rattle.std.proofs.Common.{refl, sym, ap, subst, ◌∙◌}
 use Rattle.std.specs.FinMap as finite
 use Rattle.std.specs.Option.{option_or, option_map}
 use Rattle.std.specs.Ordering.{eq_by_cmp}
@@ -21,7 +22,8 @@ use Rattle.clr_change.specs.declared.edits.Edit.{Edit}
 use Rattle.clr_change.specs.declared.edits.Edit.TheVariants.{Insert, Update, Delete}
 use Rattle.clr_change.specs.declared.edits.EditFault.{EditFault}
 use Rattle.clr_change.specs.declared.edits.EditFault.TheVariants as fault
-use Rattle.clr_change.specs.Edits.{taken_fault, missing, edit_fault, after_edit, after_edits, first_fault, first_bad_edit, IsMade, FaultIs, IsRefused, number_of}
+use Rattle.clr_change.specs.Edits.{taken_fault, missing, edit_fault, after_edit, after_edits, first_fault, first_bad_edit, IsMade, FaultIs, IsFirstEditFault}
+use Rattle.clr_change.specs.Edits.{number_of}
 
 -- a row set over changes -----------------------------------------------------------------------
 
@@ -157,7 +159,8 @@ module _ (tables : List TableDef) (content : Content) (edits : List Edit) where
   one_staged at edit old new within is so_far made =
       let current = after_edits content (take at edits) in
       let one = made current so_far.staged_is in
-      let next : after_edits content (take (at + 1) edits) ≡ after_edit current edit = ap (after_edits content) (take_more edits at edit within) ∙ ap (λ e. after_edits content (take at edits ++ e ∷ [])) (sym is) ∙ all_edited_more content (take at edits) edit in
+      let next : after_edits content (take (at + 1) edits) ≡ after_edit current edit = ap (after_edits content) (take_more edits at edit within)
+      ∙ ap (λ e. after_edits content (take at edits ++ e ∷ [])) (sym is) ∙ all_edited_more content (take at edits) edit in
       record {
         staged_is = one.1 ∙ ap (changes content) (sym next);
         passed = so_far.passed ∙ ap (first_bad_edit tables current (at + 1)) (drop_more edits at edit within ∙ ap (λ e. e ∷ drop (at + 1) edits) (sym is))
@@ -166,7 +169,7 @@ module _ (tables : List TableDef) (content : Content) (edits : List Edit) where
       }
 
   pub one_refused : (at : ℕ) (edit : Edit) (old : Changes) (why : EditFault) → at < length edits → edit ≡ get_or edits at edit → IsStagedTo at old
-      → FaultIs tables content edit old why → IsRefused (first_bad_edit tables content 1 edits) (number_of at why, why)
+      → FaultIs tables content edit old why → IsFirstEditFault (first_bad_edit tables content 1 edits) (number_of at why, why)
   one_refused at edit old why within is so_far = go why
     where
       first : (why : EditFault) → edit_fault tables (after_edits content (take at edits)) edit ≡ Some why → first_bad_edit tables content 1 edits
@@ -176,7 +179,7 @@ module _ (tables : List TableDef) (content : Content) (edits : List Edit) where
           so_far.passed ∙ ap (first_bad_edit tables current (at + 1)) (drop_more edits at edit within ∙ ap (λ e. e ∷ drop (at + 1) edits) (sym is))
           ∙ first_bad_here tables current (at + 1) edit (drop (at + 1) edits) why e
 
-      go : (why : EditFault) → FaultIs tables content edit old why → IsRefused (first_bad_edit tables content 1 edits) (number_of at why, why)
+      go : (why : EditFault) → FaultIs tables content edit old why → IsFirstEditFault (first_bad_edit tables content 1 edits) (number_of at why, why)
       go fault.OutOfMemory h = refl
       go (fault.Row row) h = first (fault.Row row) (h (after_edits content (take at edits)) so_far.staged_is)
       go fault.KeyTaken h = first fault.KeyTaken (h (after_edits content (take at edits)) so_far.staged_is)

@@ -16,7 +16,7 @@ abbrev pub AreDifferent : Changes → Type 0
 AreDifferent changed = (cell : CellId) (change : Change) → finite.get changed cell ≡ Some change → same change.before change.after ≡ false
 
 -- entries in the order of cells, each change with two rows that differ
-pub record IsSound (entries : List (CellId × Change)) : Type 0 where
+pub record IsSoundChangeSet (entries : List (CellId × Change)) : Type 0 where
   pub ascending : T (finite.is_sorted cell_cmp entries)
   pub differ : AreDifferent (changes_of entries)
 

@@ -48,11 +48,11 @@ number_of at fault.OutOfMemory = 0
 number_of at _ = at + 1
 
 -- a refusal names the first edit that can't be made, or is 0 for want of memory
-abbrev pub IsRefused : Option (ℕ × EditFault) → ℕ × EditFault → Type 0
-IsRefused first (n, fault.OutOfMemory) = n ≡ 0
-IsRefused first (n, fault.Row why) = first ≡ Some (n, fault.Row why)
-IsRefused first (n, fault.KeyTaken) = first ≡ Some (n, fault.KeyTaken)
-IsRefused first (n, fault.NoRow) = first ≡ Some (n, fault.NoRow)
+abbrev pub IsFirstEditFault : Option (ℕ × EditFault) → ℕ × EditFault → Type 0
+IsFirstEditFault first (n, fault.OutOfMemory) = n ≡ 0
+IsFirstEditFault first (n, fault.Row why) = first ≡ Some (n, fault.Row why)
+IsFirstEditFault first (n, fault.KeyTaken) = first ≡ Some (n, fault.KeyTaken)
+IsFirstEditFault first (n, fault.NoRow) = first ≡ Some (n, fault.NoRow)
 
 -- changes of a content, over which an edit is made
 abbrev pub IsMade : List TableDef → Content → Edit → Changes → Changes → Type 0

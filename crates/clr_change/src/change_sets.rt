@@ -31,11 +31,11 @@ impl Model for ChangeSet {
 
     ghost coded = { coded_changes };
 
-    ghost use Rattle.clr_change.specs.ChangeSets.{changes_of, IsSound};
+    ghost use Rattle.clr_change.specs.ChangeSets.{changes_of, IsSoundChangeSet};
 
     ghost view = { λ a. changes_of a.changes.entries };
 
-    ghost invariant = { λ a. IsSound a.changes.entries };
+    ghost invariant = { λ a. IsSoundChangeSet a.changes.entries };
 }
 
 /// Returns whether two rows are the same, a missing row counting as a value.

@@ -7,7 +7,7 @@ ghost use Rattle.clr_rows.specs.Schemas.{Answers, row_fault, cell_fault};
 ghost use Rattle.clr_change.specs.declared.edits.Edit.TheVariants.{Insert, Update, Delete};
 ghost use Rattle.clr_change.specs.declared.edits.EditFault.TheVariants.{OutOfMemory, Row as Unfit};
 ghost use Rattle.clr_change.specs.ChangeSets.{set_change};
-ghost use Rattle.clr_change.specs.Edits.{after_edits, first_bad_edit, FaultIs, IsMade, IsRefused, number_of};
+ghost use Rattle.clr_change.specs.Edits.{after_edits, first_bad_edit, FaultIs, IsMade, IsFirstEditFault, number_of};
 
 use crate::change_sets::ChangeSet;
 use crate::edits::{Edit, EditFault};
@@ -25,7 +25,7 @@ pub fn stage<V: RowView>(
 ) -> Result<ChangeSet, (usize, EditFault)>
     ensures passed { OnOk result (first_bad_edit schema.now (V.content view.now) 1 edits.now ≡ None) }
     ensures changes { IfOk result (λ set. set ≡ changes (V.content view.now) (after_edits (V.content view.now) edits.now)) }
-    ensures refused { IfErr result (IsRefused (first_bad_edit schema.now (V.content view.now) 1 edits.now)) }
+    ensures refused { IfErr result (IsFirstEditFault (first_bad_edit schema.now (V.content view.now) 1 edits.now)) }
 {
     let mut staged = ChangeSet::new(alloc);
     for (at, edit) in edits.iter().enumerate() {

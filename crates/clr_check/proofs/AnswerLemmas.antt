@@ -23,13 +23,13 @@ use Rattle.clr_clearance.proofs.HeadlineLemmas.{headline}
 use Rattle.clr_clearance.proofs.ReplyLemmas.{quiet_run}
 use Rattle.clr_clearance.proofs.RunLemmas.{clear_is_safe}
 use Rattle.clr_kept_finders.specs.Fitting.{IsAdmitted}
-use Rattle.clr_sites.specs.Faults.{IsFault, of_member, without_memory}
+use Rattle.clr_sites.specs.Faults.{IsSiteFault, of_member, without_memory}
 use Rattle.clr_sites.proofs.SiteLemmas.{names_free, root_holds}
 
 -- what an answer says ------------------------------------------------------------------------------
 
 module _ (o : Office) (s : Site) (entries : List Entry) where
-  pub fault_answers : (v : Verdict) → IsFault o s v → IsCheckAnswer o s entries v
+  pub fault_answers : (v : Verdict) → IsSiteFault o s v → IsCheckAnswer o s entries v
   fault_answers v (of_member e) = of_verdict (member e)
   fault_answers v (without_memory e f) = of_memory e f
 
@@ -38,7 +38,8 @@ module _ (o : Office) (s : Site) (entries : List Entry) where
   clear_verdict v (of_memory none f) e = absurd (let both : verdict.OutOfMemory ≡ verdict.Clear = sym f ∙ e in cc)
 
   -- all that a clear answer promises
-  pub clear_promises : IsAdmitted o → (v : Verdict) → IsCheckAnswer o s entries v → v ≡ verdict.Clear → StaysFree o s × Safe o s × Headline o s × RunsAreCleared o s
+  pub clear_promises : IsAdmitted o → (v : Verdict) → IsCheckAnswer o s entries v → v ≡ verdict.Clear → StaysFree o s × Safe o s × Headline o s
+      × RunsAreCleared o s
   clear_promises admitted v answer e =
       let clear = clear_verdict v answer e in
       let holds = root_holds o admitted s (clear_covers o s entries clear).mergeable.kept in

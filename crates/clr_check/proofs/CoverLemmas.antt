@@ -6,9 +6,9 @@ use Rattle.std.proofs.lemmas.Bool.Decides.{Decides-eqb}
 use Rattle.clr_needs.specs.declared.needs.Need.{Need}
 use Rattle.clr_needs.specs.declared.needs.VersionId.{VersionId}
 use Rattle.clr_needs.specs.Blocking.{same_life}
-use Rattle.clr_foot.specs.Candidates.{are_opposed}
+use Rattle.clr_versions.specs.Candidates.{are_opposed}
 use Rattle.clr_needs.specs.Covers.{CoverTogether, CoversAlone, IsLifeOf, Lasts, WitnessesCover}
-use Rattle.clr_needs.specs.Needs.{AreOpposed, AreServers, IsBesideToo, IsPossible, Serves}
+use Rattle.clr_needs.specs.Needs.{AreOpposed, AreServers, IsBesideIfAny, IsPossible, Serves}
 use Rattle.clr_needs.specs.Settings.{Setting, Lifetime, Always, With, Without, Lived, version}
 use Rattle.clr_needs.proofs.NeedSubjects.{subjects_once}
 use Rattle.clr_needs.proofs.Reading.{none_taken, one_more, all_taken}
@@ -71,9 +71,9 @@ module _ (c : Setting ℕ) where
   abbrev pub life_at : VersionId → Option (Lifetime ℕ)
   life_at v = option_map (λ (l : Lived ℕ). l.life) (version c v)
 
-  abbrev pub life_at_too : Option VersionId → Option (Lifetime ℕ)
-  life_at_too None = None
-  life_at_too (Some v) = life_at v
+  abbrev pub life_at_if_any : Option VersionId → Option (Lifetime ℕ)
+  life_at_if_any None = None
+  life_at_if_any (Some v) = life_at v
 
   lived_at : (v : VersionId) (life : Lifetime ℕ) → Some life ≡ life_at v → (l : Lived ℕ) × (version c v ≡ Some l) × (l.life ≡ life)
   lived_at v life e = by (version c v) refl e
@@ -83,7 +83,7 @@ module _ (c : Setting ℕ) where
       by None is f = absurd (cc)
       by (Some l) is f = (l, is, let one : life ≡ l.life = cc in sym one)
 
-  second_life : (first : VersionId) (a : Lived ℕ) (v : Option VersionId) (b : Option (Lived ℕ)) → IsBesideToo c first a v b → life_at_too v ≡ life_of b
+  second_life : (first : VersionId) (a : Lived ℕ) (v : Option VersionId) (b : Option (Lived ℕ)) → IsBesideIfAny c first a v b → life_at_if_any v ≡ life_of b
   unfolding life_of
   second_life first a None None h = refl
   second_life first a None (Some b) h = absurd h
@@ -95,7 +95,7 @@ module _ (c : Setting ℕ) where
     unlisted v out (l, serves, lasting) = out (serving_listed c n servers are a b possible v l serves)
 
     pub alone_told : (v : VersionId) (life : Lifetime ℕ) (first second : Option (Lifetime ℕ)) (told : Bool) → Contains servers v → Some life ≡ life_at v → first
-        ≡ life_at n.first → second ≡ life_at_too n.second
+        ≡ life_at n.first → second ≡ life_at_if_any n.second
         → told ≡ lives_with_subject life first second → IsTold told (CoversAlone c n a b v)
     alone_told v life first second told h at e f is =
         let (l, there, same) = lived_at v life at in
@@ -109,10 +109,10 @@ module _ (c : Setting ℕ) where
         (λ (k, serving, lasting). subst (λ (z : Lived ℕ). Lasts z.life a b) (one_lived c v k l serving.is there) lasting) (lasts_told l.life a b))
 
     pub one_unlisted : (v w : VersionId) → ¬ (Contains servers v) → ¬ (CoverTogether c n a b v w)
-    one_unlisted v w out (l, m, serves, serves_too, opposed) = out (serving_listed c n servers are a b possible v l serves)
+    one_unlisted v w out (l, m, serves, serves_if_any, opposed) = out (serving_listed c n servers are a b possible v l serves)
 
     pub other_unlisted : (v w : VersionId) → ¬ (Contains servers w) → ¬ (CoverTogether c n a b v w)
-    other_unlisted v w out (l, m, serves, serves_too, opposed) = out (serving_listed c n servers are a b possible w m serves_too)
+    other_unlisted v w out (l, m, serves, serves_if_any, opposed) = out (serving_listed c n servers are a b possible w m serves_if_any)
 
     pub together_told : (v w : VersionId) (one two : Lifetime ℕ) (told : Bool) → Contains servers v → Contains servers w → Some one ≡ life_at v → Some two
         ≡ life_at w → told ≡ are_opposed one two
@@ -121,7 +121,7 @@ module _ (c : Setting ℕ) where
         let (l, there, same) = lived_at v one at in
         let (m, there_too, same_too) = lived_at w two at_too in
         let (x, serves) = listed_serves c n servers are a b possible v h in
-        let (y, serves_too) = listed_serves c n servers are a b possible w k in
+        let (y, serves_if_any) = listed_serves c n servers are a b possible w k in
         let whole : told ≡ are_opposed l.life m.life = is ∙ (λ i. are_opposed (sym same i) (sym same_too i)) in
         subst (λ t. IsTold t (CoverTogether c n a b v w)) (sym whole)
         (told_as _ (AreOpposed l.life m.life) (CoverTogether c n a b v w)
@@ -130,7 +130,7 @@ module _ (c : Setting ℕ) where
           m,
           subst (Serves c n a b v) (one_lived c v x l serves.is there) serves,
           subst (Serves c n a b w)
-              (one_lived c w y m serves_too.is there_too) serves_too,
+              (one_lived c w y m serves_if_any.is there_too) serves_if_any,
           opposed,
         ))
         (λ (p, q, serving, serving_too, opposed).

@@ -113,7 +113,8 @@ module _ (total : IsTotalOrder need_cmp) (entries : List Entry) (rises : RiseByN
 
       pub is_part : low ≤ high → (k : Entry) → IsEntryOf entries n k → Contains part k
       is_part le k ((j, less, is), same) =
-          let tie : need_cmp (get_or entries j k).need n ≡ Equal = ap (λ (x : Entry). need_cmp x.need n) is ∙ ap (λ m. need_cmp m n) same ∙ tied_itself total n in
+          let tie : need_cmp (get_or entries j k).need n ≡ Equal = ap (λ (x : Entry). need_cmp x.need n) is ∙ ap (λ m. need_cmp m n) same
+          ∙ tied_itself total n in
           let above : low ≤ j = elim (side low j) [ inl h ↦ h | inr h ↦ absurd (false≢true (sym (ap is_lt tie) ∙ before.0 j k (omega arith) h)) ] in
           let below : j < high = elim (side high j) [ inl h ↦ absurd (false≢true (sym (after.1 j k h less) ∙ ap is_le tie)) | inr h ↦ h ] in
           let here : j - low < high - low = omega (arith, above, below) in

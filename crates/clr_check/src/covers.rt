@@ -3,7 +3,7 @@
 ghost use Rattle.std.specs.Prelude.{◌≡◌, ℕ, Contains, IfOk, MatchOption, Option, option_map};
 ghost use Rattle.std.specs.List.Sorted.{IsStrictlySortedBy};
 ghost use Rattle.clr_needs.specs.Blocking.{same_life};
-ghost use Rattle.clr_foot.specs.Candidates.{are_opposed};
+ghost use Rattle.clr_versions.specs.Candidates.{are_opposed};
 ghost use Rattle.clr_needs.specs.Covers.{AreCovered, CoverTogether, CoversAlone, WitnessesCover};
 ghost use Rattle.clr_needs.specs.Members.{lifetime};
 ghost use Rattle.clr_needs.specs.Needs.{AreServers, IsPossible, IsPossibleNeed};

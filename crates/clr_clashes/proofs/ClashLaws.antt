@@ -74,7 +74,8 @@ module _ (rules : List Rule) (root : Content) (sets : List Changes) where
     covered_holds_none covered clash smallest within =
         let (n, broken) = smallest.clash in
         let (a, b, uncovered) = broken.uncovered in
-        let inside : ((y : ℕ) → IsBlocker c n a b y → IsInside stands y) = (λ y h. stands_of list y (within y (((broken.blockers a b uncovered.possible).exactly y).1 h))) in
+        let inside : ((y : ℕ) → IsBlocker c n a b y → IsInside stands y) =
+        (λ y h. stands_of list y (within y (((broken.blockers a b uncovered.possible).exactly y).1 h))) in
         let s = are_shown c d stands part n a b uncovered.possible inside in
         covered n
         (s.first, s.second, s.possible, touched_down c d stands part n s.first s.second a b s.in_first s.in_second uncovered inside s.possible disjoint holds)
@@ -94,7 +95,8 @@ module _ (rules : List Rule) (root : Content) (sets : List Changes) where
             blockers = blocks;
           },
         )
-        (λ y h. (let (k, is) = blockers_inside c d stands part n p q u.first u.second u.in_first u.in_second uncovered u.possible y (((blocks u.first u.second u.possible).exactly y).0 h) in stands_among list k y is)))
+        (λ y h. (let (k, is) = blockers_inside c d stands part n p q u.first u.second u.in_first u.in_second uncovered u.possible y
+        (((blocks u.first u.second u.possible).exactly y).0 h) in stands_among list k y is)))
 
 pub clashes_decide : ClashesDecideSubsets
 clashes_decide rules root sets positions apart holds ascending below =

@@ -7,7 +7,7 @@ use Rattle.clr_rules.specs.Needs.{Holds}
 use Rattle.clr_needs.specs.declared.needs.Need.{Need}
 use Rattle.clr_needs.specs.declared.needs.VersionId.{VersionId}
 use Rattle.clr_needs.specs.Covers.{CoversAlone, CoverTogether, IsBlocker, IsLifeOf, IsUncovered, Lasts}
-use Rattle.clr_needs.specs.Needs.{AreOpposed, IsBesideToo, IsChanged, IsPossible, IsTouchedBy, Serves, ask_of, held_too, is_fresh}
+use Rattle.clr_needs.specs.Needs.{AreOpposed, IsBesideIfAny, IsChanged, IsPossible, IsTouchedBy, Serves, ask_of, held_if_any, is_fresh}
 use Rattle.clr_needs.specs.Settings.{Setting, AreDisjoint, Lifetime, Always, With, Without, Lived, held_row, version}
 use Rattle.clr_needs.proofs.CoverLaws.{root_server}
 use Rattle.clr_needs.proofs.Lives.{lives}
@@ -102,7 +102,7 @@ module _ {A B : Type 0} (c : Setting B) (d : Setting A) (stands : A → B → Ty
   same_held : (v : VersionId) (l : Lived A) (m : Lived B) → l.row ≡ m.row → held_row v l ≡ held_row v m
   same_held v l m row = λ i. (v.cell, row i)
 
-  same_second : (w : Option VersionId) (q : Option (Lived A)) (b : Option (Lived B)) → IsSecondIn stands q b → held_too w q ≡ held_too w b
+  same_second : (w : Option VersionId) (q : Option (Lived A)) (b : Option (Lived B)) → IsSecondIn stands q b → held_if_any w q ≡ held_if_any w b
   same_second None q b same = refl
   same_second (Some w) None None same = refl
   same_second (Some w) None (Some m) same = absurd same
@@ -114,8 +114,8 @@ module _ {A B : Type 0} (c : Setting B) (d : Setting A) (stands : A → B → Ty
   module _ (n : Need) (p : Lived A) (q : Option (Lived A)) (a : Lived B) (b : Option (Lived B)) (first : IsVersionIn stands p a)
       (second : IsSecondIn stands q b) where
     same_serves : (v : VersionId) (l : Lived A) (m : Lived B) → l.row ≡ m.row
-        → serves d.rules (ask_of n) (held_row n.first p) (held_too n.second q) (held_row v l)
-        ≡ serves c.rules (ask_of n) (held_row n.first a) (held_too n.second b) (held_row v m)
+        → serves d.rules (ask_of n) (held_row n.first p) (held_if_any n.second q) (held_row v l)
+        ≡ serves c.rules (ask_of n) (held_row n.first a) (held_if_any n.second b) (held_row v m)
     same_serves v l m row = λ i. serves (part.rules i) (ask_of n) (same_held n.first p a first.row i) (same_second n.second q b second i)
         (same_held v l m row i)
 
@@ -307,9 +307,9 @@ module _ {A B : Type 0} (c : Setting B) (d : Setting A) (stands : A → B → Ty
         in_second = others;
       }
     where
-      second : (p : Lived A) → IsVersionIn stands p a → (w : Option VersionId) (b : Option (Lived B)) → IsBesideToo c n.first a w b
+      second : (p : Lived A) → IsVersionIn stands p a → (w : Option VersionId) (b : Option (Lived B)) → IsBesideIfAny c n.first a w b
           → ((y : B) → IsLifeOf (With y) b → IsInside stands y)
-          → (q : Option (Lived A)) × IsBesideToo d n.first p w q × IsSecondIn stands q b
+          → (q : Option (Lived A)) × IsBesideIfAny d n.first p w q × IsSecondIn stands q b
       second p same None None is in_it = (None, tt, tt)
       second p same None (Some m) is in_it = absurd is
       second p same (Some w) None is in_it = absurd is

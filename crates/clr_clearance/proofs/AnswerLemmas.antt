@@ -1,5 +1,6 @@
 -- What a merge or a refresh of a member is answered, and what it leaves.
-use Rattle.std.proofs.Common.{◌≡◌, ◌⊎◌, Bool, true, false, not, ◌&&◌, cond, List, [], ◌∷◌, ◌++◌, inl, inr, refl, sym, ap, ◌∙◌, subst, Option, Some, None, is_some}
+use Rattle.std.proofs.Common.{◌≡◌, ◌⊎◌, Bool, true, false, not, ◌&&◌, cond, List, [], ◌∷◌, ◌++◌, inl, inr, refl, sym, ap, ◌∙◌, subst, Option, Some, None}
+use Rattle.std.proofs.Common.{is_some}
 use Rattle.std.specs.Option.{option_map, option_map_or}
 use Rattle.std.proofs.lemmas.Bool.{false≢true, true≢false}
 use Rattle.std.proofs.lemmas.List.{append-nil}
@@ -278,7 +279,8 @@ module _ (first : Office) (site : Site) (mergeable : AreMergeable first site) (n
         by : IsAnswered now (command.Refresh name) (after_refresh now) → IsMergeOf first site (name ∷ names) v.current
         by (refused reply undone e) = absurd (false≢true (sym undone ∙ ap is_done (sym (ap (λ (a : Answer). a.reply) e) ∙ done)))
         by (performed w is e) =
-            let steps = refresh_steps site now w inv.kept (its_own w is) (not_root first site mergeable names now inv w.name (its_member w is)) (it first site mergeable names now inv w.name (its_member w is) w (its_own w is)).under in
+            let steps = refresh_steps site now w inv.kept (its_own w is) (not_root first site mergeable names now inv w.name (its_member w is))
+            (it first site mergeable names now inv w.name (its_member w is) w (its_own w is)).under in
             let at : shown (after_refresh now w) w.name ≡ Some (member_of v) =
             ap (shown (after_refresh now w)) (same w is) ∙ sym (ap (λ (a : Answer). shown a.office name) e) ∙ ap (option_map member_of) found in
             let one : Some (member_refreshed (content_of now w.parent) (member_of w)) ≡ Some (member_of v) = sym steps.here ∙ at in

@@ -1,5 +1,6 @@
 -- Entries that cover a setting, carried over to a later one, in which some members are merged and some are gone.
-use Rattle.std.proofs.Common.{◌≡◌, ◌∙◌, ◌⊎◌, Bool, true, false, not, ◌&&◌, ◌||◌, cond, List, [], ◌∷◌, inl, inr, refl, sym, ap, subst, Option, Some, None, is_some, map, unwrap_or}
+use Rattle.std.proofs.Common.{◌≡◌, ◌∙◌, ◌⊎◌, Bool, true, false, not, ◌&&◌, ◌||◌, cond, List, [], ◌∷◌, inl, inr, refl, sym, ap, subst, Option, Some, None}
+use Rattle.std.proofs.Common.{is_some, map, unwrap_or}
 use Rattle.std.specs.Option.{option_map}
 use Rattle.std.proofs.lemmas.Bool.{false≢true, or_cases, or_left, or_right}
 use Rattle.clr_rows.specs.declared.cells.CellId.{CellId}
@@ -10,8 +11,9 @@ use Rattle.clr_rules.specs.Calls.{calls, serves}
 use Rattle.clr_needs.specs.declared.needs.Need.{Need}
 use Rattle.clr_needs.specs.declared.needs.VersionId.{VersionId}
 use Rattle.clr_needs.specs.Covers.{AreCovered, CoversAlone, Entry, HasEntry, IsLifeOf, Lasts, WitnessesCover}
-use Rattle.clr_needs.specs.Needs.{AreOpposed, IsBesideToo, IsChanged, IsPossible, IsTouchedBy, Serves, ask_of, held_too, is_fresh}
-use Rattle.clr_needs.specs.Settings.{Setting, AreDisjoint, Lifetime, Always, With, Without, Lived, changer, has, held_row, new_row, new_version, old_version, version}
+use Rattle.clr_needs.specs.Needs.{AreOpposed, IsBesideIfAny, IsChanged, IsPossible, IsTouchedBy, Serves, ask_of, held_if_any, is_fresh}
+use Rattle.clr_needs.specs.Settings.{Setting, AreDisjoint, Lifetime, Always, With, Without, Lived, changer, has, held_row, new_row, new_version, old_version}
+use Rattle.clr_needs.specs.Settings.{version}
 use Rattle.clr_needs.proofs.Lives.{new_is, old_is, opposed_too, version_by, version_by_changer}
 use Rattle.clr_needs.proofs.Merges.{IsChanger, changer_is}
 
@@ -287,8 +289,8 @@ module _ {A B : Type 0} (c : Setting A) (next : Setting B) (fate : A → Fate B)
     -- needs ----------------------------------------------------------------------------------------------------
 
     abbrev AsksSame : Need → Lived A → Option (Lived A) → Need → Lived B → Option (Lived B) → Type 0
-    AsksSame m a b n d e = (h : Held) → serves next.rules (ask_of n) (held_row n.first d) (held_too n.second e) h
-        ≡ serves c.rules (ask_of m) (held_row m.first a) (held_too m.second b) h
+    AsksSame m a b n d e = (h : Held) → serves next.rules (ask_of n) (held_row n.first d) (held_if_any n.second e) h
+        ≡ serves c.rules (ask_of m) (held_row m.first a) (held_if_any m.second b) h
 
     -- a possible need was possible: the old versions of its subjects call it
     record OldNeed (n : Need) (d : Lived B) (e : Option (Lived B)) : Type 0 where
@@ -324,7 +326,8 @@ module _ {A B : Type 0} (c : Setting A) (next : Setting B) (fate : A → Fate B)
         one : held_row it.id it.lived ≡ held_row n.first d
         one = same_held n.first d it
 
-        by : (w : Option VersionId) (x : Option (Lived B)) → IsBesideToo next n.first d w x → calls next.rules (ask_of n) (held_row n.first d) (held_too w x)
+        by : (w : Option VersionId) (x : Option (Lived B)) → IsBesideIfAny next n.first d w x →
+            calls next.rules (ask_of n) (held_row n.first d) (held_if_any w x)
             ≡ true → OldNeed (record n { second = w }) d x
         by None None beside call = record {
           need = record n { first = it.id; second = None };
@@ -411,7 +414,7 @@ module _ {A B : Type 0} (c : Setting A) (next : Setting B) (fate : A → Fate B)
             record {
               is = it.is;
               it_serves = sym (old.asks (held_row it.id it.lived))
-                  ∙ ap (serves next.rules (ask_of n) (held_row n.first d) (held_too n.second e)) (same_held v l it) ∙ s.it_serves;
+                  ∙ ap (serves next.rules (ask_of n) (held_row n.first d) (held_if_any n.second e)) (same_held v l it) ∙ s.it_serves;
             },
             was_changed it.lived.life l.life it.life changed,
           )

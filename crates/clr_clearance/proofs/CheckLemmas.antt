@@ -7,7 +7,7 @@ use Rattle.clr_rules.proofs.Elements.{Among, among, contained, each_of, not_both
 use Rattle.clr_needs.specs.declared.needs.Need.{Need}
 use Rattle.clr_needs.specs.declared.needs.VersionId.{VersionId}
 use Rattle.clr_needs.specs.Covers.{Entry, HasEntry}
-use Rattle.clr_needs.specs.Needs.{IsBesideToo, IsPossible}
+use Rattle.clr_needs.specs.Needs.{IsBesideIfAny, IsPossible}
 use Rattle.clr_needs.specs.Orders.{need_cmp}
 use Rattle.clr_needs.specs.Settings.{Setting, Lived, version}
 use Rattle.clr_needs.proofs.NeedOrder.{need_total}
@@ -41,7 +41,7 @@ module _ (c : Setting ℕ) where
   pub one_lived : (v : VersionId) (a d : Lived ℕ) → version c v ≡ Some a → version c v ≡ Some d → a ≡ d
   one_lived v a d e f = let both : Some a ≡ Some d = sym e ∙ f in cc
 
-  one_beside : (v : VersionId) (a d : Lived ℕ) (w : Option VersionId) (b e : Option (Lived ℕ)) → IsBesideToo c v a w b → IsBesideToo c v d w e → b ≡ e
+  one_beside : (v : VersionId) (a d : Lived ℕ) (w : Option VersionId) (b e : Option (Lived ℕ)) → IsBesideIfAny c v a w b → IsBesideIfAny c v d w e → b ≡ e
   one_beside v a d None None None h k = refl
   one_beside v a d None None (Some e) h k = absurd k
   one_beside v a d None (Some b) e h k = absurd h
@@ -111,7 +111,8 @@ quiet_more o site (x ∷ cs) (r ∷ rs) now c reply answers quiet is (suc at) d 
     let lost : (λ k. lost_in (r ∷ rs) (k + 1)) ≡ lost_in rs = λ i k. lost_later r rs k i in
     let lost_more : (λ k. lost_in (r ∷ rs ++ reply ∷ []) (k + 1)) ≡ lost_in (rs ++ reply ∷ []) = λ i k. lost_later r (rs ++ reply ∷ []) k i in
     let behind : AreQuiet (step_or_lost (is_lost r) o x).office site cs (λ k. lost_in (r ∷ rs) (k + 1)) = λ k y g. quiet (suc k) y g in
-    let rest = quiet_more next site cs rs now c reply answers.2 (subst (λ p. AreQuiet p site cs (lost_in rs)) office (subst (AreQuiet (step_or_lost (is_lost r) o x).office site cs) lost behind)) is in
+    let rest = quiet_more next site cs rs now c reply answers.2
+    (subst (λ p. AreQuiet p site cs (lost_in rs)) office (subst (AreQuiet (step_or_lost (is_lost r) o x).office site cs) lost behind)) is in
     let whole : AreQuiet (step_or_lost (is_lost r) o x).office site (cs ++ c ∷ []) (λ k. lost_in (r ∷ rs ++ reply ∷ []) (k + 1)) =
     subst (AreQuiet (step_or_lost (is_lost r) o x).office site (cs ++ c ∷ [])) (sym lost_more)
     (subst (λ p. AreQuiet p site (cs ++ c ∷ []) (lost_in (rs ++ reply ∷ []))) (sym office) rest) in

@@ -1,5 +1,6 @@
 -- The verdict is clear exactly where the entries cover the site.
-use Rattle.std.proofs.Common.{◌≡◌, ℕ, zero, suc, ◌+◌, ◌<◌, Bool, true, false, not, ◌||◌, cond, List, [], ◌∷◌, ◌⊎◌, inl, inr, refl, sym, ap, ◌∙◌, subst, arith, Option, Some, None, is_some, length, slice_get, slice_index_or, take}
+use Rattle.std.proofs.Common.{◌≡◌, ℕ, zero, suc, ◌+◌, ◌<◌, Bool, true, false, not, ◌||◌, cond, List, [], ◌∷◌, ◌⊎◌, inl, inr, refl, sym, ap, ◌∙◌, subst, arith}
+use Rattle.std.proofs.Common.{Option, Some, None, is_some, length, slice_get, slice_index_or, take}
 use Rattle.std.specs.List.{position, position_from, range_with_len}
 use Rattle.std.specs.Option.{option_map, option_or}
 use Rattle.std.proofs.lemmas.Bool.{cases_Bool, false≢true, true≢false, or_cases, or_left, or_right, not-false}
@@ -23,7 +24,8 @@ use Rattle.clr_clearance.specs.declared.verdicts.Verdict.{Verdict}
 use Rattle.clr_clearance.specs.declared.verdicts.Verdict.TheVariants as verdict
 use Rattle.clr_clearance.specs.Laws.{ClearLaw}
 use Rattle.clr_clearance.specs.Sites.{AreMergeable, Covers, change_sets, changed_by, is_child, setting_of}
-use Rattle.clr_clearance.specs.Verdicts.{IsVerdict, first_conflict, first_repeated, is_repeated, member_fault, missing_member, name_fault, repeated_member, root_fault, stray_member, of_cell, of_member, of_need, of_none}
+use Rattle.clr_clearance.specs.Verdicts.{IsVerdict, first_conflict, first_repeated, is_repeated, member_fault, missing_member, name_fault, repeated_member}
+use Rattle.clr_clearance.specs.Verdicts.{root_fault, stray_member, of_cell, of_member, of_need, of_none}
 use Rattle.clr_clearance.proofs.NameLemmas.{has_is}
 use Rattle.clr_clearance.proofs.StaticLemmas.{apart_sets, child_under, same_after}
 
@@ -116,7 +118,8 @@ module _ (names : List Name) where
   -- no name stands earlier exactly where none stands twice
   unrepeated : first_repeated names ≡ None → (j k : ℕ) (name : Name) → j < k → slice_get names j ≡ Some name → slice_get names k ≡ Some name → ⊥
   unrepeated none j k name less e f =
-      let fails = each_fails (is_repeated names) (range_with_len 0 (length names)) none k (0 + k) (number_at 0 (length names) k (slice_get_within names k name f)) in
+      let fails = each_fails (is_repeated names) (range_with_len 0 (length names)) none k (0 + k)
+      (number_at 0 (length names) k (slice_get_within names k name f)) in
       let zero_more : 0 + k ≡ k = omega arith in
       let repeated : is_repeated names k ≡ true = ap (has (take k names)) (get_or_from_slice_get names k name [] f) ∙ earlier names j k name less e in
       false≢true (sym fails ∙ ap (is_repeated names) zero_more ∙ repeated)
@@ -142,7 +145,8 @@ module _ (names : List Name) where
 
           not_twice : is_repeated names x ≡ true → ⊥
           not_twice h =
-              let within : x < length names = (let less = slice_get_within (range_with_len 0 (length names)) k x e in omega (arith, at, less, length-range_with_len 0 (length names))) in
+              let within : x < length names = (let less = slice_get_within (range_with_len 0 (length names)) k x e in
+              omega (arith, at, less, length-range_with_len 0 (length names))) in
               let (j, less, f) = before names x (slice_index_or names x []) h in
               let same = differ j x (slice_index_or names x []) f (slice_get-get_or names x [] within) in
               omega (arith, less, same)

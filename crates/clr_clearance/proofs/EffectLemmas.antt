@@ -200,7 +200,8 @@ module _ (site : Site) (o : Office) (w : Workspace) (kept : IsRootKept o site) (
   remove_steps =
       let next = after_merge o w in
       let gone = with_workspaces next (without w.name next.workspaces) in
-      let left = then_others site w.name next gone _ (others_without site w.name out next) (others_marked site w.name out gone w.parent (without_mark_of w.name)) in
+      let left = then_others site w.name next gone _ (others_without site w.name out next)
+      (others_marked site w.name out gone w.parent (without_mark_of w.name)) in
       record {
         root = left.root ∙ merge_steps.root;
         kept = left.kept ∙ merge_steps.kept;
@@ -218,7 +219,8 @@ module _ (site : Site) (o : Office) (w : Workspace) (kept : IsRootKept o site) (
   refresh_steps =
       let f = refresh (content_of o w.parent) in
       let next = with_workspaces o (modify w.name f o.workspaces) in
-      let left = then_others site w.name o next _ (others_modified site w.name out o f (λ v. refl)) (others_marked site w.name out next w.parent (mark_last w.name)) in
+      let left = then_others site w.name o next _ (others_modified site w.name out o f (λ v. refl))
+      (others_marked site w.name out next w.parent (mark_last w.name)) in
       record {
         root = left.root;
         kept = left.kept ∙ kept;

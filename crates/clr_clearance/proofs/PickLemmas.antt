@@ -7,7 +7,7 @@ use Rattle.clr_needs.specs.declared.needs.Need.{Need}
 use Rattle.clr_needs.specs.declared.needs.VersionId.{VersionId}
 use Rattle.clr_needs.specs.Covers.{AreBlockers, AreCovered, CoverTogether, Entry, HasEntry, IsBlocker, IsLifeOf, IsUncovered, WitnessesCover}
 use Rattle.clr_needs.specs.Independence.{Names}
-use Rattle.clr_needs.specs.Needs.{AreOpposed, IsBesideToo, IsPossible, Lists}
+use Rattle.clr_needs.specs.Needs.{AreOpposed, IsBesideIfAny, IsPossible, Lists}
 use Rattle.clr_needs.specs.Picks.{HasBoth, IsPick, Picks, ServesAs}
 use Rattle.clr_needs.specs.Settings.{Setting, Lifetime, With, Without, Lived, has}
 use Rattle.clr_needs.proofs.Lives.{names_member}
@@ -50,7 +50,7 @@ module _ (c : Setting ℕ) (n : Need) (a : Lived ℕ) (b : Option (Lived ℕ)) w
   blocker_is_member possible x (inl e) = names_member c n.first a x possible.first_is (subst (λ l. Names l x) (sym e) refl)
   blocker_is_member possible x (inr (inl h)) = beside n.second b possible.second_is h
     where
-      beside : (w : Option VersionId) (d : Option (Lived ℕ)) → IsBesideToo c n.first a w d → IsLifeOf (With x) d → has c.same c.members x ≡ true
+      beside : (w : Option VersionId) (d : Option (Lived ℕ)) → IsBesideIfAny c n.first a w d → IsLifeOf (With x) d → has c.same c.members x ≡ true
       beside None None is e = absurd e
       beside None (Some d) is e = absurd is
       beside (Some w) None is e = absurd e
@@ -91,6 +91,7 @@ module _ (c : Setting ℕ) where
 
   pub picked_cover : (entries : List Entry) → ArePicked c entries → AreCovered c entries
   picked_cover entries picked n a b possible touched =
-      let (e, there, same) = among_mapped (λ (x : Entry). x.0) n entries (among n (map (λ (x : Entry). x.0) entries) ((picked.needs.exactly n).1 (a, b, possible, touched))) in
+      let (e, there, same) = among_mapped (λ (x : Entry). x.0) n entries
+      (among n (map (λ (x : Entry). x.0) entries) ((picked.needs.exactly n).1 (a, b, possible, touched))) in
       let pick = subst (λ m. Picks c m (Some (e.1, e.2))) same (picked.picks e (contained e entries there)) in
       entry_among n a b entries e there same (pick_covers c n a b e.1 e.2 (pick a b possible))

@@ -1,5 +1,6 @@
 -- Orders of merges in which one is refused.
-use Rattle.std.proofs.Common.{◌≡◌, ◌⊎◌, ℕ, suc, ◌+◌, Bool, true, false, cond, List, [], ◌∷◌, ◌++◌, inl, inr, refl, sym, ap, ◌∙◌, subst, arith, Option, Some, None, is_some, slice_get, unwrap_or}
+use Rattle.std.proofs.Common.{◌≡◌, ◌⊎◌, ℕ, suc, ◌+◌, Bool, true, false, cond, List, [], ◌∷◌, ◌++◌, inl, inr, refl, sym, ap, ◌∙◌, subst, arith, Option, Some}
+use Rattle.std.proofs.Common.{None, is_some, slice_get, unwrap_or}
 use Rattle.std.specs.List.{cons_option}
 use Rattle.std.specs.Option.{option_map, option_map_or, option_or}
 use Rattle.std.proofs.lemmas.Bool.{cases_Bool, false≢true, or_cases, or_left, or_parts, or_right}
@@ -259,8 +260,10 @@ conflict_is_refused o site at cell count e =
   where
     by : (name : Name) (r : Option Workspace) → workspace o name ≡ r → least_and_count (conflicts_in o name) ≡ Some (cell, count) → is_refused o (name ∷ [])
         ≡ true
-    by name None e h = let none : least_and_count (conflicts_in o name) ≡ None = ap (λ r. least_and_count (option_map_or (λ (w : Workspace). conflicts (content_of o w.parent) (own_changes w)) r [])) e in absurd (cc)
+    by name None e h = let none : least_and_count (conflicts_in o name) ≡ None =
+        ap (λ r. least_and_count (option_map_or (λ (w : Workspace). conflicts (content_of o w.parent) (own_changes w)) r [])) e in absurd (cc)
     by name (Some w) e h =
-        let list : conflicts_in o name ≡ conflicts (content_of o w.parent) (own_changes w) = ap (λ r. option_map_or (λ (v : Workspace). conflicts (content_of o v.parent) (own_changes v)) r []) e in
+        let list : conflicts_in o name ≡ conflicts (content_of o w.parent) (own_changes w) =
+        ap (λ r. option_map_or (λ (v : Workspace). conflicts (content_of o v.parent) (own_changes v)) r []) e in
         or_left _ false (merge_clashes o name w (cell, count) e (ap (λ cells. option_map in_conflict (least_and_count cells)) (sym list)
         ∙ ap (option_map in_conflict) h))

@@ -1,5 +1,6 @@
 -- Where two members change one cell, the second merge of both is refused.
-use Rattle.std.proofs.Common.{◌≡◌, ℕ, Bool, true, false, ◌&&◌, cond, not, [], ◌∷◌, inl, inr, refl, sym, ap, ◌∙◌, arith, Option, Some, None, is_some, slice_get, unwrap_or}
+use Rattle.std.proofs.Common.{◌≡◌, ℕ, Bool, true, false, ◌&&◌, cond, not, [], ◌∷◌, inl, inr, refl, sym, ap, ◌∙◌, arith, Option, Some, None, is_some, slice_get}
+use Rattle.std.proofs.Common.{unwrap_or}
 use Rattle.std.specs.List.{cons_option}
 use Rattle.std.specs.Option.{option_map}
 use Rattle.std.proofs.lemmas.Bool.{false≢true, true≢false, or_left, or_right, not-false}
@@ -61,7 +62,8 @@ module _ (o : Office) (site : Site) (kept : is_kept o site.root ≡ true) (cell 
   differs : row_at first.at.current cell ≡ row_at second.at.base cell → ⊥
   differs e =
       let one : row_at first.at.base cell ≡ row_at first.at.current cell = sym (first.agrees cell first.changed) ∙ second.agrees cell second.changed ∙ sym e in
-      let same_rows : same (row_at first.at.base cell) (row_at first.at.current cell) ≡ true = ap (λ r. same r (row_at first.at.current cell)) one ∙ same_itself (row_at first.at.current cell) in
+      let same_rows : same (row_at first.at.base cell) (row_at first.at.current cell) ≡ true = ap (λ r. same r (row_at first.at.current cell)) one
+      ∙ same_itself (row_at first.at.current cell) in
       true≢false (sym first.changed ∙ ap not same_rows)
 
   -- the second member is in conflict after the merge of the first
@@ -71,9 +73,11 @@ module _ (o : Office) (site : Site) (kept : is_kept o site.root ≡ true) (cell 
   in_conflict_then next v root looks none =
       let parent : is_root site v.parent ≡ true = ap (λ (k : Member). is_root site k.parent) looks ∙ child_parent o site n second.at second.child second.is in
       let changed : is_changed v.base v.current cell ≡ true = ap (λ (k : Member). is_changed k.base k.current cell) looks ∙ second.changed in
-      let above : row_at (content_of next v.parent) cell ≡ row_at first.at.current cell = ap (λ c. row_at c cell) (content_above next site v parent ∙ root) ∙ taken_there in
+      let above : row_at (content_of next v.parent) cell ≡ row_at first.at.current cell = ap (λ c. row_at c cell) (content_above next site v parent ∙ root)
+      ∙ taken_there in
       let free = (conflict_law (content_of next v.parent) v).0 none cell in
-      let equal : same (row_at (content_of next v.parent) cell) (row_at v.base cell) ≡ true = not-false _ (sym (ap (λ b. b && not (same (row_at (content_of next v.parent) cell) (row_at v.base cell))) changed) ∙ free) in
+      let equal : same (row_at (content_of next v.parent) cell) (row_at v.base cell) ≡ true =
+      not-false _ (sym (ap (λ b. b && not (same (row_at (content_of next v.parent) cell) (row_at v.base cell))) changed) ∙ free) in
       differs (sym above ∙ same_is (row_at (content_of next v.parent) cell) (row_at v.base cell) equal ∙ ap (λ (k : Member). row_at k.base cell) looks)
 
   both_are_refused : is_refused o (m ∷ n ∷ []) ≡ true
@@ -90,10 +94,12 @@ module _ (o : Office) (site : Site) (kept : is_kept o site.root ≡ true) (cell 
       by (merged free none is) =
           let w = first.at in
           let named = found_name o m w first.is in
-          let steps = merge_steps site o w kept (ap (workspace o) named ∙ first.is) (ap (is_root site) named ∙ child_apart o site m first.child) (child_parent o site m w first.child first.is) in
+          let steps = merge_steps site o w kept (ap (workspace o) named ∙ first.is) (ap (is_root site) named ∙ child_apart o site m first.child)
+          (child_parent o site m w first.child first.is) in
           let office : next ≡ after_merge o w = ap (λ (a : Answer). a.office) is in
           let root : root_content next site ≡ merged_content o w = ap (λ p. root_content p site) office ∙ steps.root in
-          let there : shown next n ≡ Some (member_of second.at) = ap (λ p. shown p n) office ∙ steps.others n (child_apart o site n second.child) (ap (λ k. same_name k n) named ∙ apart) ∙ ap (option_map member_of) second.is in
+          let there : shown next n ≡ Some (member_of second.at) = ap (λ p. shown p n) office
+          ∙ steps.others n (child_apart o site n second.child) (ap (λ k. same_name k n) named ∙ apart) ∙ ap (option_map member_of) second.is in
           let (v, e, looks) = shown_some next n (member_of second.at) there in
           elim (conflict_or_none next v) [
             | inl none_there ↦ absurd (in_conflict_then next v root looks none_there)

@@ -24,7 +24,8 @@ use Rattle.clr_steps.specs.Quiet.{Site, is_root, is_member, root_content}
 use Rattle.clr_steps.specs.Readings.{changes_in, conflicts_in}
 use Rattle.clr_steps.proofs.FindLemmas.{same_itself}
 use Rattle.clr_clearance.specs.Laws.{NumberLaw, StaticLaw}
-use Rattle.clr_clearance.specs.Sites.{AgreesWith, AreMergeable, Covers, KeepsRules, RootHolds, change_sets, changed_by, is_child, setting_by_position, setting_of}
+use Rattle.clr_clearance.specs.Sites.{AgreesWith, AreMergeable, Covers, KeepsRules, RootHolds, change_sets, changed_by, is_child, setting_by_position}
+use Rattle.clr_clearance.specs.Sites.{setting_of}
 use Rattle.clr_clearance.proofs.SiteLemmas.{changed_by-standing, content_above, free_agrees, some_is_changed, untaken}
 
 -- children -------------------------------------------------------------------------------------------
@@ -127,6 +128,7 @@ pub static_law : StaticLaw
 static_law o site entries covers holds = record {
   keeps = keeps_rules o site entries covers holds;
   free = λ names name w part member out e cell changed.
-      (let changes : is_some (changed_by o name cell) ≡ true = ap is_some (changed_by-standing o name w cell e) ∙ some_is_changed w.base w.current cell ∙ changed in
+      (let changes : is_some (changed_by o name cell) ≡ true = ap is_some (changed_by-standing o name w cell e) ∙ some_is_changed w.base w.current cell
+      ∙ changed in
       untaken o site names name cell covers.mergeable.apart part member out changes ∙ member_agrees o site name w covers.mergeable member e cell changed);
 }

@@ -14,7 +14,7 @@ use Rattle.clr_rows.proofs.ChangeLemmas.{same_changes, get-changes, apart_from_s
 use Rattle.clr_rows.proofs.RowLemmas.{tied_cells}
 use Rattle.clr_change.specs.ChangeSets.{set_change, change_from}
 use Rattle.clr_change.proofs.SetLemmas.{get-set_change}
-use Rattle.clr_differences.specs.Differences.{Differences, Rows, seen_over}
+use Rattle.clr_differences.specs.Differences.{Differences, RowEntries, seen_over}
 use Rattle.clr_differences.proofs.DifferenceLemmas.{row-seen_over}
 use Rattle.clr_contents.specs.Pinning.{set_each}
 
@@ -23,7 +23,7 @@ abbrev at_entry : Content → CellId → Option Change → Option (Option Row) �
 at_entry base q old None = old
 at_entry base q old (Some row) = change_from (row_at base q) row
 
-get-set_each : (base : Content) (es : Rows) (changed : Changes) (q : CellId) → AreApart es → finite.get (set_each base changed es) q
+get-set_each : (base : Content) (es : RowEntries) (changed : Changes) (q : CellId) → AreApart es → finite.get (set_each base changed es) q
     ≡ at_entry base q (finite.get changed q) (find cell_cmp q es)
 unfolding set_each
 get-set_each base [] changed q apart = refl

@@ -1,5 +1,6 @@
 -- Entries that are made first: no content changes, and none is lost.
-use Rattle.std.proofs.Common.{◌≡◌, ℕ, suc, zero, ◌<◌, ◌≢◌, ⊎_elim, true, false, cond, List, [], ◌∷◌, length, get_or, map, Some, None, refl, ap, sym, subst, ◌∙◌, arith, slice_set}
+use Rattle.std.proofs.Common.{◌≡◌, ℕ, suc, zero, ◌<◌, ◌≢◌, ⊎_elim, true, false, cond, List, [], ◌∷◌, length, get_or, map, Some, None, refl, ap, sym, subst, ◌∙◌}
+use Rattle.std.proofs.Common.{arith, slice_set}
 use Rattle.std.proofs.lemmas.List.{length-set, get_or-set_same, get_or-set_other}
 use Rattle.std.proofs.lemmas.Bool.{cases_eq}
 use Rattle.std.specs.declared.option.Option.{Option}
@@ -7,8 +8,9 @@ use Rattle.std.specs.FinMap as finite
 use Rattle.clr_rows.specs.declared.cells.CellId.{CellId}
 use Rattle.clr_rows.specs.declared.rows.Row.{Row}
 use Rattle.clr_rows.specs.Contents.{Content, row_at, over}
-use Rattle.clr_differences.specs.Differences.{Differences, Rows, seen_over, put_each, cells_in, is_among, HasEntry, IsOwnOver}
-use Rattle.clr_differences.proofs.DifferenceLemmas.{neutral, neutral_new, entry_stays, entry_made, entries_keep, put_each_keeps, over_outside, not_among, put_elsewhere, put_each_elsewhere}
+use Rattle.clr_differences.specs.Differences.{Differences, RowEntries, seen_over, put_each, cells_in, is_among, HasDifference, IsOwnOver}
+use Rattle.clr_differences.proofs.DifferenceLemmas.{neutral, neutral_new, entry_stays, entry_made, entries_keep, put_each_keeps, over_outside, not_among}
+use Rattle.clr_differences.proofs.DifferenceLemmas.{put_elsewhere, put_each_elsewhere}
 use Rattle.clr_workspaces.specs.Marks.{Name, Mark}
 use Rattle.clr_workspaces.specs.Workspaces.{Workspace, workspace_at, parent_of}
 use Rattle.clr_layers.specs.Layers.{Layer, no_layer, layer_at, layer_changed, whole_of, whole_mark, wholes, above_at, IsUnder, StayOwnBeside}
@@ -25,7 +27,8 @@ use Rattle.clr_contents.proofs.MoveLemmas.{stays}
 pub whole_base : (above : Content) (l : Layer) (d : Differences) → seen_over above d ≡ seen_over above l.base → whole_of above (record l { base = d })
     ≡ whole_of above l
 unfolding whole_of
-whole_base above l d same = ap (λ (b : Content). let w : Workspace = record { name = l.name; parent = l.parent; base = b; current = seen_over b l.current; marks = map (whole_mark b) l.marks; kept = l.kept } in w) same
+whole_base above l d same = ap (λ (b : Content). let w : Workspace =
+    record { name = l.name; parent = l.parent; base = b; current = seen_over b l.current; marks = map (whole_mark b) l.marks; kept = l.kept } in w) same
 
 pub whole_current : (above : Content) (l : Layer) (d : Differences) → seen_over (seen_over above l.base) d ≡ seen_over (seen_over above l.base) l.current
     → whole_of above (record l { current = d }) ≡ whole_of above l
@@ -56,7 +59,8 @@ module _ (live : Content) (ls : List Layer) (at : ℕ) (r : IsRooted (wholes liv
   pub current_pinned : (k : CellId) (v : Option Row) → v ≡ row_at (workspace_at (wholes live ls) at).current k
       → wholes live (layer_changed ls at (λ l. record l { current = finite.insert l.current k v })) ≡ wholes live ls
   current_pinned k v is =
-      let row : v ≡ row_at (seen_over (seen_over above stored.base) stored.current) k = is ∙ ap (λ (w : Workspace). row_at w.current k) (wholes-at live ls at some lt) ∙ ap (λ (m : Content). row_at m k) (current_of_whole above stored) in
+      let row : v ≡ row_at (seen_over (seen_over above stored.base) stored.current) k = is
+      ∙ ap (λ (w : Workspace). row_at w.current k) (wholes-at live ls at some lt) ∙ ap (λ (m : Content). row_at m k) (current_of_whole above stored) in
       stays live ls at r some lt _ refl refl (whole_current above stored (finite.insert stored.current k v)
       (neutral (seen_over above stored.base) stored.current k v row))
 
@@ -64,7 +68,8 @@ module _ (live : Content) (ls : List Layer) (at : ℕ) (r : IsRooted (wholes liv
       → ((b : Content) → row_at b k ≡ v → map (whole_mark b) ms ≡ map (whole_mark b) stored.marks)
       → wholes live (layer_changed ls at (λ l. record l { marks = ms })) ≡ wholes live ls
   saved_pinned k v ms is same =
-      let row : row_at (seen_over above stored.base) k ≡ v = sym (is ∙ ap (λ (w : Workspace). row_at w.base k) (wholes-at live ls at some lt) ∙ ap (λ (m : Content). row_at m k) (base_of_whole above stored)) in
+      let row : row_at (seen_over above stored.base) k ≡ v =
+      sym (is ∙ ap (λ (w : Workspace). row_at w.base k) (wholes-at live ls at some lt) ∙ ap (λ (m : Content). row_at m k) (base_of_whole above stored)) in
       stays live ls at r some lt _ refl refl (whole_marks above stored ms (same (seen_over above stored.base) row))
 
 -- entries stay ---------------------------------------------------------------------------------
@@ -117,7 +122,7 @@ extends_current ls at k v lt = extends_set ls at _ lt (record {
       (layer_at ls at).current k q v h;
 })
 
-pub extends_put : (ls : List Layer) (at : ℕ) (rows : Rows) → at < length ls
+pub extends_put : (ls : List Layer) (at : ℕ) (rows : RowEntries) → at < length ls
     → Extends ls (layer_changed ls at (λ l. record l { current = put_each l.current rows }))
 extends_put ls at rows lt = extends_set ls at _ lt (record {
   name = refl;
@@ -187,7 +192,7 @@ but_current ls at k v lt =
       saved = λ row own. own;
     })
 
-pub but_put : (ls : List Layer) (at : ℕ) (rows : Rows) → at < length ls
+pub but_put : (ls : List Layer) (at : ℕ) (rows : RowEntries) → at < length ls
     → StayOwnBut at (cells_in rows) ls (layer_changed ls at (λ l. record l { current = put_each l.current rows }))
 but_put ls at rows lt =
     but_set ls at _ (cells_in rows) lt
@@ -208,12 +213,13 @@ apart_at (cell ∷ cells) zero c q lt apart = ap (λ b. cond b true false) (not_
 apart_at (cell ∷ cells) (suc i) c q lt apart = apart_at cells i c q (omega arith) (not_among cell cells q apart).1
 
 pub pinned_base : (ls : List Layer) (at : ℕ) (k : CellId) (v : Option Row) → at < length ls
-    → HasEntry (layer_at (layer_changed ls at (λ l. record l { base = finite.insert l.base k v })) at).base k
-pinned_base ls at k v lt = subst (λ (l : Layer). HasEntry l.base k) (sym (get_or-set_same ls at _ no_layer lt)) (entry_made (layer_at ls at).base k v)
+    → HasDifference (layer_at (layer_changed ls at (λ l. record l { base = finite.insert l.base k v })) at).base k
+pinned_base ls at k v lt = subst (λ (l : Layer). HasDifference l.base k) (sym (get_or-set_same ls at _ no_layer lt)) (entry_made (layer_at ls at).base k v)
 
 pub pinned_current : (ls : List Layer) (at : ℕ) (k : CellId) (v : Option Row) → at < length ls
-    → HasEntry (layer_at (layer_changed ls at (λ l. record l { current = finite.insert l.current k v })) at).current k
-pinned_current ls at k v lt = subst (λ (l : Layer). HasEntry l.current k) (sym (get_or-set_same ls at _ no_layer lt)) (entry_made (layer_at ls at).current k v)
+    → HasDifference (layer_at (layer_changed ls at (λ l. record l { current = finite.insert l.current k v })) at).current k
+pinned_current ls at k v lt = subst (λ (l : Layer). HasDifference l.current k) (sym (get_or-set_same ls at _ no_layer lt))
+    (entry_made (layer_at ls at).current k v)
 
 -- the children's entries stay pinned where layers get more entries
 pub children_keep : (ls ms : List Layer) (name : Name) (cells : List CellId) → Extends ls ms → ChildrenPin ls name cells → ChildrenPin ms name cells
@@ -223,5 +229,5 @@ children_keep ls ms name cells e pinned k some lt under =
     (pinned k some (subst (λ n. k < n) e.long lt) (subst (λ n. IsUnder name (record (layer_at ls k) { parent = n })) one.parent under))
 
 -- rows that the children have pinned
-pub rows_agree : (ls : List Layer) (name : Name) (m : Content) (rows : Rows) → ChildrenPin ls name (cells_in rows) → LaterAgree name m (over m rows) ls
+pub rows_agree : (ls : List Layer) (name : Name) (m : Content) (rows : RowEntries) → ChildrenPin ls name (cells_in rows) → LaterAgree name m (over m rows) ls
 rows_agree ls name m rows pinned k some lt under q none = over_outside (layer_at ls k).base rows m (pinned k some lt under) q none

@@ -1,5 +1,6 @@
 -- Entries that have the row of what they lie over go, and no content changes.
-use Rattle.std.proofs.Common.{◌≡◌, ℕ, suc, zero, ◌<◌, List, [], ◌∷◌, ◌++◌, length, map, take, get_or, slice_set, Some, unwrap_or, refl, ap, sym, ◌∙◌, subst, arith}
+use Rattle.std.proofs.Common.{◌≡◌, ℕ, suc, zero, ◌<◌, List, [], ◌∷◌, ◌++◌, length, map, take, get_or, slice_set, Some, unwrap_or, refl, ap, sym, ◌∙◌, subst}
+use Rattle.std.proofs.Common.{arith}
 use Rattle.std.specs.Str.{bytes_eq}
 use Rattle.std.proofs.lemmas.List.{length-set, get_or-set_same}
 use Rattle.std.proofs.lemmas.List.Folds.{position_or_len-set}
@@ -11,7 +12,8 @@ use Rattle.clr_differences.specs.Differences.{Differences, seen_over}
 use Rattle.clr_differences.proofs.SweepLemmas.{seen-swept}
 use Rattle.clr_workspaces.specs.Marks.{Name, Saved, ChildMark}
 use Rattle.clr_workspaces.specs.Workspaces.{Workspace, workspace_at, find, parent_of}
-use Rattle.clr_layers.specs.Layers.{Layer, no_layer, layer_at, layer_changed, find_layer, whole_of, whole_mark, top, content_by_name, above_in, grow, wholes, above_at}
+use Rattle.clr_layers.specs.Layers.{Layer, no_layer, layer_at, layer_changed, find_layer, whole_of, whole_mark, top, content_by_name, above_in, grow, wholes}
+use Rattle.clr_layers.specs.Layers.{above_at}
 use Rattle.clr_layers.specs.declared.stored_marks.StoredMark.{StoredMark}
 use Rattle.clr_layers.specs.declared.stored_marks.StoredMark.TheVariants as kinds
 use Rattle.clr_layers.proofs.Meaning.{length-wholes, name-wholes, parent-wholes, find-wholes, wholes-at}

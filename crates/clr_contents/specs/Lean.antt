@@ -45,13 +45,13 @@ abbrev pub IsLean : Content → List Layer → Type 0
 IsLean live ls = (k : ℕ) → 0 < k → k < length ls → IsLeanOver (wholes live ls) k (layer_at ls k)
 
 -- a workspace at one of some cells isn't the one at a position, nor a child of it
-pub record IsBeside (ws : List Workspace) (at : ℕ) (cells : List CellId) (k : ℕ) (q : CellId) : Type 0 where
+pub record IsElsewhere (ws : List Workspace) (at : ℕ) (cells : List CellId) (k : ℕ) (q : CellId) : Type 0 where
   pub other : k ≡ at → is_among cells q ≡ false
   pub under : parent_of ws k ≡ Some at → is_among cells q ≡ false
 
 -- a layer has no neutral entry but at some cells, and there only as the one at a position or a child of it
 abbrev pub IsLeanBeside : List Workspace → ℕ → List CellId → ℕ → Layer → Type 0
-IsLeanBeside ws at cells k l = (q : CellId) → IsBeside ws at cells k q → IsLeanAt (row_above ws k q) l q
+IsLeanBeside ws at cells k l = (q : CellId) → IsElsewhere ws at cells k q → IsLeanAt (row_above ws k q) l q
 
 -- none of the layers under LIVE has a neutral entry but the one at a position and its children at some cells
 abbrev pub IsLeanBut : ℕ → List CellId → Content → List Layer → Type 0

@@ -5,7 +5,7 @@ use Rattle.clr_rows.specs.declared.cells.CellId.{CellId}
 use Rattle.clr_rows.specs.declared.rows.Row.{Row}
 use Rattle.clr_rows.specs.Contents.{Content, Changes, row_at}
 use Rattle.clr_change.specs.ChangeSets.{set_change}
-use Rattle.clr_differences.specs.Differences.{Rows, HasEntry, HasEntries, is_among, IsOwnOver}
+use Rattle.clr_differences.specs.Differences.{RowEntries, HasDifference, HasEntries, is_among, IsOwnOver}
 use Rattle.clr_workspaces.specs.Marks.{Name}
 use Rattle.clr_layers.specs.Layers.{Layer, layer_at, IsUnder, AreOwnOver}
 
@@ -13,8 +13,8 @@ use Rattle.clr_layers.specs.Layers.{Layer, layer_at, IsUnder, AreOwnOver}
 pub record HasEntriesOf (l m : Layer) : Type 0 where
   pub name : m.name ≡ l.name
   pub parent : m.parent ≡ l.parent
-  pub base : (q : CellId) → HasEntry l.base q → HasEntry m.base q
-  pub current : (q : CellId) → HasEntry l.current q → HasEntry m.current q
+  pub base : (q : CellId) → HasDifference l.base q → HasDifference m.base q
+  pub current : (q : CellId) → HasDifference l.current q → HasDifference m.current q
 
 -- each layer has the same name and parent as before, and at least the same entries
 pub record Extends (ls ms : List Layer) : Type 0 where
@@ -41,6 +41,6 @@ abbrev pub ChildrenPin : List Layer → Name → List CellId → Type 0
 ChildrenPin ls name cells = (k : ℕ) → 0 < k → k < length ls → IsUnder name (layer_at ls k) → HasEntries (layer_at ls k).base cells
 
 -- the changes from a content to the rows at some cells, set one after another
-unfoldable pub set_each : Content → Changes → Rows → Changes
+unfoldable pub set_each : Content → Changes → RowEntries → Changes
 set_each base changed [] = changed
 set_each base changed (e ∷ es) = set_each base (set_change changed e.0 (row_at base e.0) e.1) es

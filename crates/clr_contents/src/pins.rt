@@ -2,7 +2,7 @@
 
 ghost use Rattle.std.specs.Prelude.{◌≡◌, ◌<◌, ◌∷◌, [], length, OnOk};
 ghost use Rattle.std.specs.Str.{bytes_eq};
-ghost use Rattle.clr_differences.specs.Differences.{HasEntry, HasEntries};
+ghost use Rattle.clr_differences.specs.Differences.{HasDifference, HasEntries};
 ghost use Rattle.clr_layers.specs.Layers.{layer_at, wholes, IsUnder, EachMarkPins};
 ghost use Rattle.clr_contents.specs.Pinning.{Extends, ChildrenPin, StayOwnBut, StayOwnButChildren};
 ghost use Rattle.clr_workspaces.specs.Roots.{IsRooted};
@@ -24,7 +24,7 @@ fn pin_base(live: &Sheet, map: &mut WorkspaceMap, at: usize, cell: CellId) -> Re
     ensures seen { wholes live.now map.new ≡ wholes live.now map.old }
     ensures extends { Extends map.old map.new }
     ensures elsewhere { StayOwnBut at (cell ∷ []) map.old map.new }
-    ensures pinned { OnOk result (HasEntry (layer_at map.new at).base cell) }
+    ensures pinned { OnOk result (HasDifference (layer_at map.new at).base cell) }
 {
     if map.base(at).get(cell).is_some() {
         return Ok(());
@@ -123,7 +123,7 @@ pub fn pin_current(
     ensures seen { wholes live.now map.new ≡ wholes live.now map.old }
     ensures extends { Extends map.old map.new }
     ensures elsewhere { StayOwnBut at (cell ∷ []) map.old map.new }
-    ensures pinned { OnOk result (HasEntry (layer_at map.new at).current cell) }
+    ensures pinned { OnOk result (HasDifference (layer_at map.new at).current cell) }
 {
     if map.current(at).get(cell).is_some() {
         return Ok(());

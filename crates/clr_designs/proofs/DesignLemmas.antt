@@ -26,7 +26,7 @@ use Rattle.clr_steps.proofs.ModifyLemmas.{modify_below}
 use Rattle.clr_steps.proofs.SeenLemmas.{only_at}
 use Rattle.clr_layer_changes.specs.Changes.{edits_between}
 use Rattle.clr_layer_changes.proofs.EditLemmas.{edits_lead}
-use Rattle.clr_designs.specs.Designs.{AreDone, IsDesignMade, IsPerformed, design_of, design_refusal, with_design}
+use Rattle.clr_designs.specs.Designs.{AreDone, IsDesignMade, IsCommandAnswer, design_of, design_refusal, with_design}
 use Rattle.clr_designs.specs.Laws.{DesignLaw}
 use Rattle.clr_designs.proofs.EditLemmas.{edits_are_made}
 use Rattle.clr_designs.proofs.PerformLemmas.{not_refused}
@@ -150,7 +150,7 @@ module _ (o : Office) (name : Name) (may : design_refusal o name ≡ None) where
 
     -- whatever is answered to the second command behind the first, it is done
     pub edits_apply : IsSound (live_workspace o.live ∷ o.workspaces) → OfficeFits o → FitsSchema o.schema content → (mid left : Office) (refused : Option Reply)
-        → mid ≡ with_leaf → IsPerformed mid (Apply name edits) refused left → IsDesignMade o name content refused left
+        → mid ≡ with_leaf → IsCommandAnswer mid (Apply name edits) refused left → IsDesignMade o name content refused left
     edits_apply sound fits content_fits mid left None is done =
         let all = one_step with_leaf (Apply name edits) (with_design o name content) (may_apply fits content_fits) applied in
         let answered : answer Done (with_design o name content) ≡ answer Done left = sym all ∙ ap (λ m. step m (Apply name edits)) (sym is) ∙ done in

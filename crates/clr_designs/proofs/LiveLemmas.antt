@@ -17,7 +17,7 @@ use Rattle.clr_steps.specs.Offices.{Office, content_of, is_kept, set_content, st
 use Rattle.clr_steps.specs.Refusals.{breaks, edit_refusal, first_broken, refusal}
 use Rattle.clr_layer_changes.specs.Changes.{edits_between}
 use Rattle.clr_layer_changes.proofs.EditLemmas.{edits_lead}
-use Rattle.clr_designs.specs.Designs.{IsLiveReplaced, IsPerformed, with_live}
+use Rattle.clr_designs.specs.Designs.{IsLiveReplaced, IsCommandAnswer, with_live}
 use Rattle.clr_designs.proofs.EditLemmas.{edits_are_made}
 use Rattle.clr_designs.proofs.PerformLemmas.{not_refused}
 
@@ -64,7 +64,7 @@ module _ (o : Office) (content : Content) where
   this_broken (Some need) reply e = (need, refl, sym (same_Some (RuleBroken need) reply e))
 
   pub live_replaced : OfficeFits o → FitsSchema o.schema content → (left : Office) (refused : Option Reply)
-      → IsPerformed o (Apply live_name (edits_between o.live content)) refused left → IsLiveReplaced o content refused left
+      → IsCommandAnswer o (Apply live_name (edits_between o.live content)) refused left → IsLiveReplaced o content refused left
   live_replaced fits content_fits left None done =
       let refusal_is = live_refusal fits content_fits in
       let is = not_refused o (Apply live_name (edits_between o.live content)) left (λ h. never_done (first_broken o.book content) (sym refusal_is ∙ h)) done in

@@ -16,9 +16,9 @@ use Rattle.clr_steps.specs.Steps.{answer, run, step}
 use Rattle.clr_layer_changes.specs.Changes.{edits_between}
 
 -- a command is done, or refused for the first reason that applies, and then nothing changes
-abbrev pub IsPerformed : Office → Command → Option Reply → Office → Type 0
-IsPerformed o c None left = step o c ≡ answer Done left
-IsPerformed o c (Some reply) left = (refusal o c ≡ Some reply) × (left ≡ o)
+abbrev pub IsCommandAnswer : Office → Command → Option Reply → Office → Type 0
+IsCommandAnswer o c None left = step o c ≡ answer Done left
+IsCommandAnswer o c (Some reply) left = (refusal o c ≡ Some reply) × (left ≡ o)
 
 -- designs ------------------------------------------------------------------------------------
 

@@ -4,7 +4,7 @@ ghost use Rattle.std.specs.Prelude.{◌≡◌, IfOk, OnErr};
 ghost use Rattle.clr_rows.specs.Names.{live_name};
 ghost use Rattle.clr_rows.specs.Schemas.{FitsSchema};
 ghost use Rattle.clr_steps.specs.declared.commands.Command.TheVariants as command;
-ghost use Rattle.clr_designs.specs.Designs.{IsDesignBegun, IsDesignMade, IsLiveReplaced, IsPerformed};
+ghost use Rattle.clr_designs.specs.Designs.{IsDesignBegun, IsDesignMade, IsLiveReplaced, IsCommandAnswer};
 
 use clr_engine::Office;
 use clr_layer_changes::edits_between;
@@ -14,7 +14,7 @@ use std::alloc::{AllocError, Global};
 
 /// Performs a command, and returns why it is refused, if it is; then nothing changes. If memory runs out, nothing changes.
 fn perform(office: &mut Office, command: &Command) -> Result<Option<Reply>, AllocError>
-    ensures performed { IfOk result (λ refused. IsPerformed office.old command.now refused office.new) }
+    ensures performed { IfOk result (λ refused. IsCommandAnswer office.old command.now refused office.new) }
     ensures err { OnErr result (office.new ≡ office.old) }
 {
     match office.perform(command) {
@@ -30,7 +30,7 @@ fn create_workspace(
     office: &mut Office,
     name: &str,
 ) -> Result<Option<Reply>, AllocError>
-    ensures performed { IfOk result (λ refused. IsPerformed office.old (command.Create name.now live_name) refused office.new) }
+    ensures performed { IfOk result (λ refused. IsCommandAnswer office.old (command.Create name.now live_name) refused office.new) }
     ensures err { OnErr result (office.new ≡ office.old) }
 {
     let command = Command::Create {
@@ -47,7 +47,7 @@ fn apply_edits(
     ws: &str,
     edits: Edits,
 ) -> Result<Option<Reply>, AllocError>
-    ensures performed { IfOk result (λ refused. IsPerformed office.old (command.Apply ws.now edits) refused office.new) }
+    ensures performed { IfOk result (λ refused. IsCommandAnswer office.old (command.Apply ws.now edits) refused office.new) }
     ensures err { OnErr result (office.new ≡ office.old) }
 {
     let command = Command::Apply {

@@ -35,7 +35,13 @@ all_known = (
                 (refl, inl (λ rows. refl)),
                 (
                   (refl, inl (λ rows. refl)),
-                  ((refl, inl (λ rows. refl)), ((refl, inl (λ rows. refl)), ((refl, inl (λ rows. refl)), ((refl, inl (λ rows. refl)), ((refl, inr refl), tt))))),
+                  (
+                    (refl, inl (λ rows. refl)),
+                    (
+                      (refl, inl (λ rows. refl)),
+                      ((refl, inl (λ rows. refl)), ((refl, inl (λ rows. refl)), ((refl, inr refl), tt))),
+                    ),
+                  ),
                 ),
               ),
             ),

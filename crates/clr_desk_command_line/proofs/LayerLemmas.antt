@@ -1,5 +1,6 @@
 -- Words that name layers, and words that name none.
-use Rattle.std.proofs.Common.{◌≡◌, ◌∙◌, ℕ, ◌+◌, ◌≤◌, ◌<◌, ◌||◌, Bool, true, false, not, cond, List, [], ◌∷◌, length, map, take, get_or, Some, None, Bor, arith, ap, ap₂, refl, sym}
+use Rattle.std.proofs.Common.{◌≡◌, ◌∙◌, ℕ, ◌+◌, ◌≤◌, ◌<◌, ◌||◌, Bool, true, false, not, cond, List, [], ◌∷◌, length, map, take, get_or, Some, None, Bor, arith}
+use Rattle.std.proofs.Common.{ap, ap₂, refl, sym}
 use Rattle.std.specs.Prelude.{if◌then◌else◌}
 use Rattle.std.specs.List.{list_all, list_any, position_or_len}
 use Rattle.std.proofs.lemmas.List.{take_all}

@@ -1,5 +1,6 @@
 -- What a subcommand and its values ask for.
-use Rattle.std.specs.Prelude.{ℕ, ◌==◌, ◌||◌, not, Bool, true, false, List, [], ◌∷◌, map, codes, Option, Some, None, if◌then◌else◌, is_some, option_and_then, option_map, unwrap_or, unsigned_abs}
+use Rattle.std.specs.Prelude.{ℕ, ◌==◌, ◌||◌, not, Bool, true, false, List, [], ◌∷◌, map, codes, Option, Some, None, if◌then◌else◌, is_some, option_and_then}
+use Rattle.std.specs.Prelude.{option_map, unwrap_or, unsigned_abs}
 use Rattle.std.specs.List.{after_first, before_first, list_all, list_any}
 use Rattle.std.specs.Option.{option_map_or}
 use Rattle.std.specs.Str.{bytes_eq}

@@ -3,7 +3,17 @@
 ghost use Rattle.std.specs.Prelude.{◌≡◌, Some, IfOk, IfErr, is_some, map, option_map, true};
 ghost use Rattle.clap.specs.Words.{first_of, found_of, rows_of, subcommand_of, takes};
 ghost use Rattle.clr_command_line.specs.Asks.{IsMemory};
-ghost use Rattle.clr_desk_command_line.specs.Asks.{ask_of, ask_by_name, members_ask, geographic_asked, is_readable, members_asked, merge_of, or_members_asked, why_of};
+ghost use Rattle.clr_desk_command_line.specs.Asks.{
+  ask_of,
+  ask_by_name,
+  members_ask,
+  geographic_asked,
+  is_readable,
+  members_asked,
+  merge_of,
+  or_members_asked,
+  why_of,
+};
 ghost use Rattle.clr_desk_command_line.specs.Program.{program};
 
 use crate::asks::{Ask, TextKind};

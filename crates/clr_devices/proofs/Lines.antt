@@ -1,5 +1,7 @@
 -- A text in lines: its first line, and the cut at the separator line by line.
-use Rattle.std.proofs.Common.{◌≡◌, ℕ, suc, ◌+◌, ◌==◌, ◌<◌, ◌≤◌, Bool, true, false, cond, ltb, List, [], ◌∷◌, ◌++◌, length, take, drop, Option, Some, None, option_map, refl, sym, ap, ◌∙◌, arith, append_assoc, append-nil, take-add, drop-drop, lt-ltb, le-ltb, ltb-true, ltb-false, length-drop, one-add, add-one}
+use Rattle.std.proofs.Common.{◌≡◌, ℕ, suc, ◌+◌, ◌==◌, ◌<◌, ◌≤◌, Bool, true, false, cond, ltb, List, [], ◌∷◌, ◌++◌, length, take, drop, Option, Some, None}
+use Rattle.std.proofs.Common.{option_map, refl, sym, ap, ◌∙◌, arith, append_assoc, append-nil, take-add, drop-drop, lt-ltb, le-ltb, ltb-true, ltb-false}
+use Rattle.std.proofs.Common.{length-drop, one-add, add-one}
 use Rattle.std.proofs.lemmas.List.{drop_all}
 use Rattle.std.specs.List.{concat, position, position_or_len}
 use Rattle.std.specs.Io.BufRead.{take_through}
@@ -95,7 +97,8 @@ found_at text i whole below is so_far =
     let rest = drop i text in
     let left : 0 < length rest = omega (arith, below, length-drop i text) in
     let after = drop (line_size rest) rest in
-    let here : around_separator rest ≡ Some ([], after) = ap cut_lines (first_line rest left) ∙ found (take (line_size rest) rest) (lines_of after) is ∙ ap (λ xs. Some ([], xs)) (joined after) in
+    let here : around_separator rest ≡ Some ([], after) = ap cut_lines (first_line rest left) ∙ found (take (line_size rest) rest) (lines_of after) is
+    ∙ ap (λ xs. Some ([], xs)) (joined after) in
     sym (ap (with_front (take i text)) here ∙ ap (λ front. Some (front, after)) (append-nil (take i text))) ∙ so_far
 
 -- the first line from i on is passed

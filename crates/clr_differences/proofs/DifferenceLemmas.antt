@@ -1,5 +1,6 @@
 -- Differences over a content, cell by cell, and the entries that they have.
-use Rattle.std.proofs.Common.{◌≡◌, ℕ, ◌+◌, ◌<◌, Bool, true, false, cond, List, [], ◌∷◌, ◌++◌, length, get_or, take, Some, None, is_some, unwrap_or, Bor, refl, ap, sym, subst, ◌∙◌}
+use Rattle.std.proofs.Common.{◌≡◌, ℕ, ◌+◌, ◌<◌, Bool, true, false, cond, List, [], ◌∷◌, ◌++◌, length, get_or, take, Some, None, is_some, unwrap_or, Bor, refl}
+use Rattle.std.proofs.Common.{ap, sym, subst, ◌∙◌}
 use Rattle.std.specs.declared.option.Option.{Option}
 use Rattle.std.proofs.lemmas.Bool.{false≢true}
 use Rattle.std.proofs.lemmas.Grind.{take_at_read}
@@ -13,7 +14,7 @@ use Rattle.clr_rows.specs.Contents.{Content, row_at, set_cell, over}
 use Rattle.clr_rows.proofs.CellOrder.{cell_cmp_total}
 use Rattle.clr_rows.proofs.ChangeLemmas.{same_content, tied_self, row-set_cell, row-over, apart_from_sorted}
 use Rattle.clr_rows.proofs.RowLemmas.{tied_cells}
-use Rattle.clr_differences.specs.Differences.{Differences, Rows, cells_in, no_differences, seen_over, put_each, is_among, HasEntry, HasEntries}
+use Rattle.clr_differences.specs.Differences.{Differences, RowEntries, cells_in, no_differences, seen_over, put_each, is_among, HasDifference, HasEntries}
 
 -- what is seen ---------------------------------------------------------------------------------
 
@@ -36,13 +37,13 @@ seen_over-insert m d k v = same_content _ _ (λ q.
     by true o r = refl
     by false o r = refl
 
-pub seen_over-put_each : (m : Content) (es : Rows) (d : Differences) → seen_over m (put_each d es) ≡ over (seen_over m d) es
+pub seen_over-put_each : (m : Content) (es : RowEntries) (d : Differences) → seen_over m (put_each d es) ≡ over (seen_over m d) es
 unfolding put_each over
 seen_over-put_each m [] d = refl
 seen_over-put_each m (e ∷ es) d = seen_over-put_each m es (finite.insert d e.0 e.1) ∙ ap (λ x. over x es) (seen_over-insert m d e.0 e.1)
 
 -- rows put into no differences
-pub seen_over-fresh : (m : Content) (es : Rows) → seen_over m (put_each no_differences es) ≡ over m es
+pub seen_over-fresh : (m : Content) (es : RowEntries) → seen_over m (put_each no_differences es) ≡ over m es
 seen_over-fresh m es = seen_over-put_each m es no_differences ∙ ap (λ x. over x es) (seen_over-none m)
 
 -- a cell set to the row that stands there
@@ -98,15 +99,15 @@ hidden m n d agree = same_content _ _ (λ q. row-seen_over n d q ∙ by (finite.
     by (Some z) h = refl
 
 -- a cell set where there is an entry
-pub set_outside : (d : Differences) (m : Content) (k : CellId) (v : Option Row) → HasEntry d k → AgreeOutside d m (set_cell m k v)
+pub set_outside : (d : Differences) (m : Content) (k : CellId) (v : Option Row) → HasDifference d k → AgreeOutside d m (set_cell m k v)
 set_outside d m k v pinned q none = row-set_cell m k v q ∙ by (eq_by_cmp cell_cmp q k) refl
   where
     by : (b : Bool) → eq_by_cmp cell_cmp q k ≡ b → cond b v (row_at m q) ≡ row_at m q
-    by true h = absurd (false≢true (sym (ap is_some none) ∙ subst (HasEntry d) (sym (tied_cells q k h)) pinned))
+    by true h = absurd (false≢true (sym (ap is_some none) ∙ subst (HasDifference d) (sym (tied_cells q k h)) pinned))
     by false h = refl
 
 -- rows put where there are entries
-pub over_outside : (d : Differences) (es : Rows) (m : Content) → HasEntries d (cells_in es) → AgreeOutside d m (over m es)
+pub over_outside : (d : Differences) (es : RowEntries) (m : Content) → HasEntries d (cells_in es) → AgreeOutside d m (over m es)
 unfolding over
 over_outside d [] m pinned q none = refl
 over_outside d (e ∷ es) m pinned q none = over_outside d es (set_cell m e.0 e.1) pinned.1 q none ∙ set_outside d m e.0 e.1 pinned.0 q none
@@ -118,34 +119,35 @@ seen_outside d m e pinned = over_outside d (finite.entries e) m pinned
 
 -- entries --------------------------------------------------------------------------------------
 
-pub entry_stays : (d : Differences) (k q : CellId) (v : Option Row) → HasEntry d q → HasEntry (finite.insert d k v) q
+pub entry_stays : (d : Differences) (k q : CellId) (v : Option Row) → HasDifference d q → HasDifference (finite.insert d k v) q
 entry_stays d k q v pinned = ap is_some (finite.get-insert cell_cmp_total d k v q) ∙ by (eq_by_cmp cell_cmp q k) (finite.get d q) pinned
   where
     by : (b : Bool) (o : Option (Option Row)) → is_some o ≡ true → is_some (cond b (Some v) o) ≡ true
     by true o h = refl
     by false o h = h
 
-pub entry_made : (d : Differences) (k : CellId) (v : Option Row) → HasEntry (finite.insert d k v) k
+pub entry_made : (d : Differences) (k : CellId) (v : Option Row) → HasDifference (finite.insert d k v) k
 entry_made d k v = ap is_some (finite.get-insert cell_cmp_total d k v k ∙ ap (λ b. cond b (Some v) (finite.get d k)) (tied_self k))
 
-pub entries_keep : (d e : Differences) (cells : List CellId) → ((q : CellId) → HasEntry d q → HasEntry e q) → HasEntries d cells → HasEntries e cells
+pub entries_keep : (d e : Differences) (cells : List CellId) → ((q : CellId) → HasDifference d q → HasDifference e q) → HasEntries d cells → HasEntries e cells
 entries_keep d e [] more pinned = tt
 entries_keep d e (cell ∷ cells) more pinned = (more cell pinned.0, entries_keep d e cells more pinned.1)
 
 pub entries_stay : (cells : List CellId) (d : Differences) (k : CellId) (v : Option Row) → HasEntries d cells → HasEntries (finite.insert d k v) cells
 entries_stay cells d k v pinned = entries_keep d (finite.insert d k v) cells (λ q. entry_stays d k q v) pinned
 
-pub put_each_keeps : (es : Rows) (d : Differences) (q : CellId) → HasEntry d q → HasEntry (put_each d es) q
+pub put_each_keeps : (es : RowEntries) (d : Differences) (q : CellId) → HasDifference d q → HasDifference (put_each d es) q
 unfolding put_each
 put_each_keeps [] d q pinned = pinned
 put_each_keeps (e ∷ es) d q pinned = put_each_keeps es (finite.insert d e.0 e.1) q (entry_stays d e.0 q e.1 pinned)
 
-entries_push : (d : Differences) (cells : List CellId) (cell : CellId) → HasEntries d cells → HasEntry d cell → HasEntries d (cells ++ cell ∷ [])
+entries_push : (d : Differences) (cells : List CellId) (cell : CellId) → HasEntries d cells → HasDifference d cell → HasEntries d (cells ++ cell ∷ [])
 entries_push d [] cell pinned one = (one, tt)
 entries_push d (c ∷ cells) cell pinned one = (pinned.0, entries_push d cells cell pinned.1 one)
 
 -- entries at one more of some cells
-pub entries_next : (d : Differences) (cells : List CellId) (i : ℕ) (c : CellId) → i < length cells → HasEntries d (take i cells) → HasEntry d (get_or cells i c)
+pub entries_next : (d : Differences) (cells : List CellId) (i : ℕ) (c : CellId) → i < length cells → HasEntries d (take i cells) →
+    HasDifference d (get_or cells i c)
     → HasEntries d (take (i + 1) cells)
 entries_next d cells i c lt pinned one = subst (HasEntries d) (sym (take_at_read cells i c lt).1) (entries_push d (take i cells) (get_or cells i c) pinned one)
 
@@ -167,7 +169,7 @@ put_elsewhere d k v q apart = finite.get-insert cell_cmp_total d k v q ∙ ap (�
 pub taken_elsewhere : (d : Differences) (k q : CellId) → is_among (k ∷ []) q ≡ false → finite.get (finite.remove d k) q ≡ finite.get d q
 taken_elsewhere d k q apart = finite.get-remove cell_cmp_total d k q ∙ ap (λ b. cond b None (finite.get d q)) (not_among k [] q apart).0
 
-pub put_each_elsewhere : (es : Rows) (d : Differences) (q : CellId) → is_among (cells_in es) q ≡ false → finite.get (put_each d es) q ≡ finite.get d q
+pub put_each_elsewhere : (es : RowEntries) (d : Differences) (q : CellId) → is_among (cells_in es) q ≡ false → finite.get (put_each d es) q ≡ finite.get d q
 unfolding put_each
 put_each_elsewhere [] d q apart = refl
 put_each_elsewhere (e ∷ es) d q apart =

@@ -1,5 +1,6 @@
 -- The entries that are left are the changed cells.
-use Rattle.std.proofs.Common.{◌≡◌, ℕ, ◌+◌, ◌<◌, Bool, true, false, cond, not, T, suc, List, [], ◌∷◌, ◌++◌, length, get_or, take, map, filter, Some, None, unwrap_or, refl, ap, sym, subst, ◌∙◌}
+use Rattle.std.proofs.Common.{◌≡◌, ℕ, ◌+◌, ◌<◌, Bool, true, false, cond, not, T, suc, List, [], ◌∷◌, ◌++◌, length, get_or, take, map, filter, Some, None}
+use Rattle.std.proofs.Common.{unwrap_or, refl, ap, sym, subst, ◌∙◌}
 use Rattle.std.proofs.lemmas.Bool.{false≢true}
 use Rattle.std.proofs.lemmas.Grind.{take_at_read}
 use Rattle.std.specs.declared.option.Option.{Option}
@@ -20,7 +21,8 @@ use Rattle.clr_rows.proofs.Entries.{keys-from_sorted}
 use Rattle.clr_rows.proofs.RowLemmas.{tied_cells}
 use Rattle.clr_rows.proofs.SameLemmas.{same_is, same_itself}
 use Rattle.clr_rows.proofs.Tests.{first, second}
-use Rattle.clr_differences.specs.Differences.{Differences, Rows, differences_from, seen_over, is_own, without_neutral, is_among, is_neutral_over, swept_cell, swept_at, IsOwnOver}
+use Rattle.clr_differences.specs.Differences.{Differences, RowEntries, differences_from, seen_over, is_own, without_neutral, is_among, is_neutral_over}
+use Rattle.clr_differences.specs.Differences.{swept_cell, swept_at, IsOwnOver}
 use Rattle.clr_differences.proofs.DifferenceLemmas.{row-seen_over, neutral_taken}
 
 -- what `retain` leaves, where the test keeps no state and changes no value
@@ -33,10 +35,10 @@ filtered_from_retain T p f says (e ∷ es) kept h =
     let rest = filtered_from_retain T p f says es h.3 (subst (λ u. RetainsPairs T u es h.3) s.2 h.5) in
     h.6 ∙ (λ j. cond (s.0 j) ((e.0, s.1 j) ∷ rest j) (rest j))
 
-pub swept_entries : (below : Content) (es kept : Rows) → T (is_sorted cell_cmp es) → kept ≡ filter (is_own below) es → finite.from_sorted kept
+pub swept_entries : (below : Content) (es kept : RowEntries) → T (is_sorted cell_cmp es) → kept ≡ filter (is_own below) es → finite.from_sorted kept
     ≡ without_neutral below (finite.from_sorted es)
 unfolding without_neutral
-swept_entries below es kept sorted e = ap (λ (es : Rows). finite.from_sorted es) (e
+swept_entries below es kept sorted e = ap (λ (es : RowEntries). finite.from_sorted es) (e
     ∙ ap (filter (is_own below)) (sym (finite.entries-from_sorted cell_cmp es sorted)))
 
 -- what a filter leaves of a cell
@@ -44,7 +46,7 @@ abbrev kept_of : Content → CellId → Option (Option Row) → Option (Option R
 kept_of below q None = None
 kept_of below q (Some row) = cond (is_own below (q, row)) (Some row) None
 
-find_own : (below : Content) (es : Rows) (q : CellId) → T (is_sorted cell_cmp es) → find cell_cmp q (filter (is_own below) es)
+find_own : (below : Content) (es : RowEntries) (q : CellId) → T (is_sorted cell_cmp es) → find cell_cmp q (filter (is_own below) es)
     ≡ kept_of below q (find cell_cmp q es)
 find_own below [] q sorted = refl
 find_own below (e ∷ es) q sorted =

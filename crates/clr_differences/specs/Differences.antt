@@ -16,21 +16,21 @@ abbrev pub coded_differences : Coded Differences
 coded_differences = finite.code coded_cell (coded_option coded_row)
 
 -- rows, or none, by cell
-abbrev pub Rows : Type 0
-Rows = List (CellId × Option Row)
+abbrev pub RowEntries : Type 0
+RowEntries = List (CellId × Option Row)
 
-abbrev pub cells_in : Rows → List CellId
+abbrev pub cells_in : RowEntries → List CellId
 cells_in rows = map (λ e. e.0) rows
 
-abbrev pub differences_of : Rows → Differences
+abbrev pub differences_of : RowEntries → Differences
 differences_of entries = finite.from_sorted entries
 
 abbrev pub no_differences : Differences
 no_differences = finite.empty
 
 -- the entries stand in the order of cells
-abbrev pub IsSound : Rows → Type 0
-IsSound entries = T (finite.is_sorted cell_cmp entries)
+abbrev pub AreSorted : RowEntries → Type 0
+AreSorted entries = T (finite.is_sorted cell_cmp entries)
 
 -- the content that is seen where differences lie over another
 unfoldable pub seen_over : Content → Differences → Content
@@ -72,14 +72,14 @@ swept_at below [] d = d
 swept_at below (cell ∷ cells) d = swept_at below cells (swept_cell below d cell)
 
 -- entries put one after another
-unfoldable pub put_each : Differences → Rows → Differences
+unfoldable pub put_each : Differences → RowEntries → Differences
 put_each d [] = d
 put_each d (e ∷ es) = put_each (finite.insert d e.0 e.1) es
 
-abbrev pub HasEntry : Differences → CellId → Type 0
-HasEntry d cell = is_some (finite.get d cell) ≡ true
+abbrev pub HasDifference : Differences → CellId → Type 0
+HasDifference d cell = is_some (finite.get d cell) ≡ true
 
 -- an entry at each of these cells
 abbrev pub HasEntries : Differences → List CellId → Type 0
 HasEntries d [] = Unit {0}
-HasEntries d (cell ∷ cells) = HasEntry d cell × HasEntries d cells
+HasEntries d (cell ∷ cells) = HasDifference d cell × HasEntries d cells

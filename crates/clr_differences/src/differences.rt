@@ -9,7 +9,7 @@ ghost use Rattle.clr_rows.specs.declared.cells.CellId.{CellId as Cell};
 ghost use Rattle.clr_rows.specs.declared.rows.Row.{Row as OneRow};
 ghost use Rattle.clr_rows.specs.Same.{same};
 ghost use Rattle.clr_differences.specs.Differences.{no_differences, put_each, seen_over, without_neutral, swept_at, swept_cell, cells_in};
-ghost use Rattle.clr_differences.specs.Differences.{is_among, is_neutral_over, HasEntry, HasEntries};
+ghost use Rattle.clr_differences.specs.Differences.{is_among, is_neutral_over, HasDifference, HasEntries};
 
 use clr_change::{are_same, copy_row};
 use clr_rows::{CellId, Row, RowView};
@@ -34,7 +34,7 @@ impl Model for Differences {
 
     ghost view = { λ d. differences.differences_of d.rows.entries };
 
-    ghost invariant = { λ d. differences.IsSound d.rows.entries };
+    ghost invariant = { λ d. differences.AreSorted d.rows.entries };
 }
 
 /// Returns whether an entry at a cell has the row of the content below.
@@ -122,7 +122,7 @@ impl Differences {
     pub fn put(&mut self, cell: CellId, row: Option<Row>) -> Result<(), AllocError>
         ensures ok { OnOk result (self.new ≡ finite.insert self.old cell row) }
         ensures err { OnErr result (self.new ≡ self.old) }
-        ensures pinned { HasEntry self.old cell → IsOk result }
+        ensures pinned { HasDifference self.old cell → IsOk result }
     {
         self.rows.insert(cell, row)?;
         Ok(())
@@ -130,7 +130,7 @@ impl Differences {
 
     /// Sets an entry that is there to a row, or to none.
     pub fn set(&mut self, cell: CellId, row: Option<Row>)
-        requires { HasEntry self.old cell }
+        requires { HasDifference self.old cell }
         ensures { self.new ≡ finite.insert self.old cell row }
     {
         let put: Result<_, _> = self.put(cell, row);
@@ -159,7 +159,7 @@ impl Differences {
     /// stays, also where memory runs out.
     pub fn pin(&mut self, cell: CellId, row: Option<&Row>) -> Result<(), AllocError>
         ensures seen { (below : Content) → row_at below cell ≡ option_copied row.entry → seen_over below self.new ≡ seen_over below self.old }
-        ensures pinned { OnOk result (HasEntry self.new cell) }
+        ensures pinned { OnOk result (HasDifference self.new cell) }
         ensures others { (q : CellId) → is_among (cell ∷ []) q ≡ false → finite.get self.new q ≡ finite.get self.old q }
     {
         if self.get(cell).is_some() {

@@ -7,7 +7,7 @@ use Rattle.clr_rows.specs.Contents.{Content}
 use Rattle.clr_layers.specs.Layers.{Layer, grow, above_in, whole_of, workspaces_over}
 use Rattle.clr_workspaces.specs.Workspaces.{Workspace, live_workspace, workspace_at}
 use Rattle.clr_layers.proofs.Meaning.{length-grow}
-use Rattle.clr_parts.specs.Parts.{IsRefused, first_below, name_fault_at, workspaces_fault}
+use Rattle.clr_parts.specs.Parts.{IsFirstPartFault, first_below, name_fault_at, workspaces_fault}
 use Rattle.clr_workspaces.specs.declared.limits.TheConstants.{MOST_WORKSPACES}
 use Rattle.clr_parts.specs.declared.parts.PartFault.{PartFault}
 use Rattle.clr_parts.specs.declared.parts.PartFault.TheVariants as part
@@ -25,7 +25,7 @@ falls : (o : Office) (e : ℕ × PartFault) → workspaces_fault o.live o.worksp
 unfolding if_standing
 falls o e some = rw some refl
 
-pub refused : (o : Office) (e : ℕ × PartFault) → IsRefused (workspaces_fault o.live o.workspaces) e → Fails (text_fault_of e.1) (if_standing o)
+pub refused : (o : Office) (e : ℕ × PartFault) → IsFirstPartFault (workspaces_fault o.live o.workspaces) e → Fails (text_fault_of e.1) (if_standing o)
 refused o (n, part.OutOfMemory) why = tt
 refused o (n, part.BadName) why = falls o _ why
 refused o (n, part.NameTaken) why = falls o _ why

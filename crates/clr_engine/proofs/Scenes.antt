@@ -15,11 +15,11 @@ use Rattle.clr_needs.specs.Broken.{view_after_merge}
 use Rattle.clr_foot.specs.Scenes.{IsReady, SceneModel, setting_of}
 use Rattle.clr_steps.specs.Refusals.{first_broken}
 use Rattle.clr_rules.specs.declared.rules.Rule.{Rule}
-use Rattle.clr_grid.specs.RowMaps.{Rows}
+use Rattle.clr_grid.specs.RowMaps.{FiledRows}
 use Rattle.clr_needs.specs.declared.needs.VersionId.{VersionId}
 use Rattle.clr_needs.specs.Members.{after_in, after_of, setting}
 use Rattle.clr_needs.specs.Settings.{Lived, changer, held_row, new_row, new_version, old_version, version}
-use Rattle.clr_foot.specs.Versions.{FitsSetting}
+use Rattle.clr_versions.specs.Versions.{FitsSetting}
 use Rattle.clr_workspaces.specs.Workspaces.{Workspace}
 use Rattle.clr_kept_finders.specs.Finders.{IsFinderAt, IsFinderOf, kept_content}
 use Rattle.clr_kept_finders.specs.Fitting.{FitBoth}
@@ -71,14 +71,14 @@ module _ (book rules : List Rule) (content root : Content) (changed : Changes) (
   fits_scene = subst (λ r. FitsSetting (setting r root sets)) (sym is) (subst (λ m. FitsSetting (setting book m sets)) (sym same)
       (subst (λ ss. FitsSetting (setting book content ss)) (sym one) (fits_setting book content changed fit)))
 
-  pub ready : (finder : Rows) → IsFinderOf book content finder
-      → IsReady {F = Rows} (λ f. f.settled) (record { rules = rules; root = root; sets = sets; finder = finder })
+  pub ready : (finder : FiledRows) → IsFinderOf book content finder
+      → IsReady {F = FiledRows} (λ f. f.settled) (record { rules = rules; root = root; sets = sets; finder = finder })
   ready finder served = record {
     fit = fits_scene;
     is_settled = subst (λ r. IsSettledFor finder.settled r root) (sym is) (subst (λ m. IsSettledFor finder.settled book m) (sym same) served.0);
   }
 
-  pub listed : (m : SceneModel Rows) (finder : Rows) → m ≡ record { rules = rules; root = root; sets = sets; finder = finder }
+  pub listed : (m : SceneModel FiledRows) (finder : FiledRows) → m ≡ record { rules = rules; root = root; sets = sets; finder = finder }
       → (r : Result (Option Broken) AllocError)
       → IfOk r (IsFirstBroken m.rules (view_after_merge (setting_of m))) → IfOk r (λ need. need ≡ first_broken book (taken_over content changed))
   unfolding first_broken
@@ -86,22 +86,23 @@ module _ (book rules : List Rule) (content root : Content) (changed : Changes) (
       (subst (λ r. IsFirstBroken r (view_after_merge (setting r content (changed ∷ []))) need) is
       (subst (λ c. IsFirstBroken rules (view_after_merge (setting rules c (changed ∷ []))) need) same
       (subst (λ ss. IsFirstBroken rules (view_after_merge (setting rules root ss)) need) one
-      (subst (λ (m : SceneModel Rows). IsFirstBroken m.rules (view_after_merge (setting_of m)) need) e h))))
+      (subst (λ (m : SceneModel FiledRows). IsFirstBroken m.rules (view_after_merge (setting_of m)) need) e h))))
   listed m finder e (Err x) h = h
 
 -- ---- a workspace with a finder
-pub unserved : (book : List Rule) (w : Workspace) (finder : Option Rows) → IsFinderAt book (kept_content w) finder → finder ≡ None → w.kept ≡ false
+pub unserved : (book : List Rule) (w : Workspace) (finder : Option FiledRows) → IsFinderAt book (kept_content w) finder → finder ≡ None → w.kept ≡ false
 unserved book w finder is e = by w.kept (subst (λ f. IsFinderAt book (kept_content w) f) e is)
   where
     by : (b : Bool) → IsFinderAt book (cond b (Some w.current) None) None → b ≡ false
     by true h = absurd h
     by false h = refl
 
-pub record IsServedAt (book : List Rule) (w : Workspace) (finder : Rows) : Type 0 where
+pub record IsServedAt (book : List Rule) (w : Workspace) (finder : FiledRows) : Type 0 where
   pub kept : w.kept ≡ true
   pub is : IsFinderOf book w.current finder
 
-pub served_at : (book : List Rule) (w : Workspace) (option : Option Rows) (finder : Rows) → IsFinderAt book (kept_content w) option → option ≡ Some finder
+pub served_at : (book : List Rule) (w : Workspace) (option : Option FiledRows) (finder : FiledRows) → IsFinderAt book (kept_content w) option →
+    option ≡ Some finder
     → IsServedAt book w finder
 served_at book w option finder is e = by w.kept refl (subst (λ f. IsFinderAt book (kept_content w) f) e is)
   where

@@ -3,7 +3,7 @@
 ghost use Rattle.std.specs.Prelude.{◌≡◌, None, option_map, IfOk, IfErr, OnOk};
 ghost use Rattle.clr_steps.specs.Offices.{office_of};
 ghost use Rattle.clr_steps.specs.Readings.{name_at};
-ghost use Rattle.clr_parts.specs.Parts.{first_fault, IsRefused};
+ghost use Rattle.clr_parts.specs.Parts.{first_fault, IsFirstPartFault};
 ghost use Rattle.clr_kept_finders.specs.Fitting.{IsFitting};
 ghost use Rattle.clr_engine.specs.Drafts.{IsUnheld, office_of_parts, unheld_in};
 
@@ -75,7 +75,7 @@ impl Draft {
         requires { IsFitting (office_of_parts schema book live parts.items) }
         ensures made { IfOk result (λ draft. draft ≡ office_of_parts schema book live parts.items) }
         ensures passed { OnOk result (first_fault live parts.items ≡ None) }
-        ensures refused { IfErr result (IsRefused (first_fault live parts.items)) }
+        ensures refused { IfErr result (IsFirstPartFault (first_fault live parts.items)) }
     {
         let tree = Tree::build(alloc, live, parts)?;
         Ok(Draft::of_tree(alloc, schema, book, tree))

@@ -1,6 +1,6 @@
 -- What is found of the workspaces of a text as a whole.
 use Rattle.std.proofs.Common.{◌≡◌, ◌≢◌, ℕ, List, Option, Some, None, Result, Ok, Err, refl}
-use Rattle.clr_parts.specs.Parts.{IsRefused}
+use Rattle.clr_parts.specs.Parts.{IsFirstPartFault}
 use Rattle.clr_parts.specs.declared.parts.PartFault.{PartFault}
 use Rattle.clr_parts.specs.declared.parts.PartFault.TheVariants as part
 use Rattle.clr_rule_text.specs.Fields.{Fails}
@@ -11,7 +11,7 @@ use Rattle.clr_item_faults.proofs.Lost.{fails_exactly}
 use Rattle.clr_explanations.specs.Standing.{IsStandingFault, standing_fault}
 use Rattle.clr_explanations.proofs.Told.{of_ok}
 
-refused_exactly : (first : Option (ℕ × PartFault)) (n : ℕ) (f : PartFault) → f ≢ part.OutOfMemory → IsRefused first (n, f) → first ≡ Some (n, f)
+refused_exactly : (first : Option (ℕ × PartFault)) (n : ℕ) (f : PartFault) → f ≢ part.OutOfMemory → IsFirstPartFault first (n, f) → first ≡ Some (n, f)
 refused_exactly first n part.OutOfMemory kept refused = absurd (kept refl)
 refused_exactly first n part.BadName kept refused = refused
 refused_exactly first n part.NameTaken kept refused = refused
@@ -24,7 +24,7 @@ pub stands : (text : List ℕ) (read : OfficeText) (found : Option (ℕ × PartF
     → IsStandingFault text found
 stands text read found is fault = λ o again. of_ok (λ x. standing_fault x ≡ found) (office_in text) read o is fault again
 
-pub refused_stands : (text : List ℕ) (read : OfficeText) (refused : ℕ × PartFault) → office_in text ≡ Ok read → IsRefused (standing_fault read) refused
+pub refused_stands : (text : List ℕ) (read : OfficeText) (refused : ℕ × PartFault) → office_in text ≡ Ok read → IsFirstPartFault (standing_fault read) refused
     → refused.1 ≢ part.OutOfMemory → IsStandingFault text (Some refused)
 refused_stands text read refused is found kept =
     stands text read (Some refused) is (refused_exactly (standing_fault read) refused.0 refused.1 kept found)

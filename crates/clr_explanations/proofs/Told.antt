@@ -40,7 +40,8 @@ schema_told format d f s is named = λ g again. of_some (λ h. BeginsWithName (s
 pub no_schema_fault : (format : Format) (d : Data) (s : List ℕ) → None ≡ tables_fault_of format d → IsSchemaTold format d s
 no_schema_fault format d s is = λ g again. no_fault (tables_fault_of format d) g is again
 
-pub bad_schema_told : (d : Data) (at : Spot) (s : List ℕ) (format : Format) → format_of d ≡ Ok format → IsSchemaTold format d s → TellsDroppedFault d fault.BadSchema at s
+pub bad_schema_told : (d : Data) (at : Spot) (s : List ℕ) (format : Format) → format_of d ≡ Ok format → IsSchemaTold format d s →
+    TellsDroppedFault d fault.BadSchema at s
 bad_schema_told d at s format is told = λ other again. of_ok (λ x. IsSchemaTold x d s) (format_of d) format other is told again
 
 pub no_format : (d : Data) (at : Spot) (s : List ℕ) → IsErr (format_of d) → TellsDroppedFault d fault.BadSchema at s
@@ -55,7 +56,8 @@ rule_told tables d f s is named = λ number g again. of_some (λ h. BeginsWithNa
 pub no_rule_fault : (tables : List TableDef) (d : Data) (s : List ℕ) → None ≡ book_fault_of tables d → IsRuleTold tables d s
 no_rule_fault tables d s is = λ number g again. no_fault (book_fault_of tables d) (number, g) is again
 
-pub bad_rule_told : (d : Data) (at : Spot) (s : List ℕ) (tables : List TableDef) → tables_in d ≡ Ok tables → IsRuleTold tables d s → TellsDroppedFault d fault.BadRule at s
+pub bad_rule_told : (d : Data) (at : Spot) (s : List ℕ) (tables : List TableDef) → tables_in d ≡ Ok tables → IsRuleTold tables d s →
+    TellsDroppedFault d fault.BadRule at s
 bad_rule_told d at s tables is told = λ others again. of_ok (λ x. IsRuleTold x d s) (tables_in d) tables others is told again
 
 pub no_tables : (d : Data) (at : Spot) (s : List ℕ) → IsErr (tables_in d) → TellsDroppedFault d fault.BadRule at s

@@ -13,7 +13,8 @@ use Rattle.clr_explanations.specs.Places.{IsPlaceOf}
 use Rattle.clr_explanations.specs.Remarks.{TellsDroppedFault, TellsDroppedFaultIn}
 use Rattle.clr_explanations.proofs.Told.{no_fault, of_some}
 
-pub told_in : (text : List ℕ) (d : Data) (e : TextFault) (at : Spot) (s : List ℕ) → value_in text ≡ Some d → TellsDroppedFault d e at s → TellsDroppedFaultIn text e at s
+pub told_in : (text : List ℕ) (d : Data) (e : TextFault) (at : Spot) (s : List ℕ) → value_in text ≡ Some d → TellsDroppedFault d e at s →
+    TellsDroppedFaultIn text e at s
 told_in text d e at s is told = λ other again. of_some (λ x. TellsDroppedFault x e at s) (value_in text) d other (sym is) told again
 
 pub no_value_in : (text : List ℕ) (e : TextFault) (at : Spot) (s : List ℕ) → value_in text ≡ None → TellsDroppedFaultIn text e at s

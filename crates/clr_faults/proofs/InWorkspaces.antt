@@ -11,7 +11,7 @@ use Rattle.clr_office_text.specs.Workspaces.{head_of}
 use Rattle.clr_faults.specs.declared.spots.Spot.TheVariants.{Mark, Workspace}
 use Rattle.clr_faults.specs.Behind.{BehindBase, BehindHead, BehindRows, HasMark, HasWorkspace}
 use Rattle.clr_faults.specs.Parts.{cell_fault_at, mark_fault}
-use Rattle.clr_faults.specs.Spots.{HasNone, IsAt}
+use Rattle.clr_faults.specs.Spots.{HasNone, IsFaultAt}
 use Rattle.clr_faults.specs.Stages.{base_faults, in_workspace, item_of, mark_faults, row_faults, saved_faults, savepoint_of}
 use Rattle.clr_faults.proofs.Passing.{none_as, none_with, over, pass, stuck}
 
@@ -43,7 +43,7 @@ saved_are d e format tables at one mark item has there read = inside d e format 
 
 -- the workspace isn't there, or its head can't be read
 pub without_item : (d : Data) (e : TextFault) (format : Format) (tables : List TableDef) (at : ℕ) → HasWorkspace d e format tables at
-    → is_ok (item_of (codes "workspaces") at d) ≡ false → IsAt d e (Workspace at)
+    → is_ok (item_of (codes "workspaces") at d) ≡ false → IsFaultAt d e (Workspace at)
 without_item d e format tables at has failed = (has.first, nothing _, nothing _, nothing _)
   where
     nothing : (f : List TableDef → Data → Result (Option (ℕ × TextFault)) TextFault) → HasNone (in_workspace f at d) e
@@ -52,7 +52,7 @@ without_item d e format tables at has failed = (has.first, nothing _, nothing _,
         (stuck (item_of (codes "workspaces") at d) (λ one. head_of format one >>= λ head. f tables one) e failed)
 
 pub without_head : (d : Data) (e : TextFault) (format : Format) (tables : List TableDef) (at : ℕ) (one : Data) → HasWorkspace d e format tables at
-    → item_of (codes "workspaces") at d ≡ Ok one → is_ok (head_of format one) ≡ false → IsAt d e (Workspace at)
+    → item_of (codes "workspaces") at d ≡ Ok one → is_ok (head_of format one) ≡ false → IsFaultAt d e (Workspace at)
 without_head d e format tables at one has there failed = (has.first, nothing _, nothing _, nothing _)
   where
     nothing : (f : List TableDef → Data → Result (Option (ℕ × TextFault)) TextFault) → HasNone (in_workspace f at d) e
@@ -61,7 +61,7 @@ without_head d e format tables at one has there failed = (has.first, nothing _, 
 
 -- its base can't be read, and no cell of it has the fault
 pub without_base : (d : Data) (e : TextFault) (format : Format) (tables : List TableDef) (at : ℕ) (one : Data) → BehindHead d e format tables at one
-    → HasNone (base_faults at d) e → is_ok (differences_at (codes "base") tables one) ≡ false → IsAt d e (Workspace at)
+    → HasNone (base_faults at d) e → is_ok (differences_at (codes "base") tables one) ≡ false → IsFaultAt d e (Workspace at)
 without_base d e format tables at one behind none failed = (
   behind.has.first,
   none,
@@ -71,7 +71,7 @@ without_base d e format tables at one behind none failed = (
 
 -- its rows can't be read, and no cell of them has the fault
 pub without_rows : (d : Data) (e : TextFault) (format : Format) (tables : List TableDef) (at : ℕ) (one : Data) → BehindBase d e format tables at one
-    → HasNone (row_faults at d) e → is_ok (differences_at (codes "rows") tables one) ≡ false → IsAt d e (Workspace at)
+    → HasNone (row_faults at d) e → is_ok (differences_at (codes "rows") tables one) ≡ false → IsFaultAt d e (Workspace at)
 without_rows d e format tables at one behind none failed = (
   behind.before.has.first,
   behind.none,
@@ -82,20 +82,20 @@ without_rows d e format tables at one behind none failed = (
 
 -- no mark of it has the fault
 pub without_marks : (d : Data) (e : TextFault) (format : Format) (tables : List TableDef) (at : ℕ) (one : Data) → BehindRows d e format tables at one
-    → ((mark : ℕ) → mark_fault tables one ≢ Some (mark, e)) → IsAt d e (Workspace at)
+    → ((mark : ℕ) → mark_fault tables one ≢ Some (mark, e)) → IsFaultAt d e (Workspace at)
 without_marks d e format tables at one behind none =
     (behind.before.before.has.first, behind.before.none, behind.none, none_with _ _ e (marks_are d e format tables at one behind) none)
 
 -- the mark isn't there, or is no savepoint
 pub without_mark : (d : Data) (e : TextFault) (format : Format) (tables : List TableDef) (at : ℕ) (one : Data) (mark : ℕ)
     → HasMark d e format tables at one mark
-    → is_ok (item_of (codes "marks") mark one) ≡ false → IsAt d e (Mark at mark)
+    → is_ok (item_of (codes "marks") mark one) ≡ false → IsFaultAt d e (Mark at mark)
 without_mark d e format tables at one mark has failed =
     (has.before.has.first, has.first, none_as _ _ e (inside d e format tables at one _ has.before) (stuck (item_of (codes "marks") mark one) _ e failed))
 
 pub without_savepoint : (d : Data) (e : TextFault) (format : Format) (tables : List TableDef) (at : ℕ) (one : Data) (mark : ℕ) (item : Data)
     → HasMark d e format tables at one mark
-    → item_of (codes "marks") mark one ≡ Ok item → is_ok (savepoint_of item) ≡ false → IsAt d e (Mark at mark)
+    → item_of (codes "marks") mark one ≡ Ok item → is_ok (savepoint_of item) ≡ false → IsFaultAt d e (Mark at mark)
 without_savepoint d e format tables at one mark item has there failed = (
   has.before.has.first,
   has.first,
@@ -107,6 +107,6 @@ without_savepoint d e format tables at one mark item has there failed = (
 pub without_cells : (d : Data) (e : TextFault) (format : Format) (tables : List TableDef) (at : ℕ) (one : Data) (mark : ℕ) (item : Data)
     → HasMark d e format tables at one mark
     → item_of (codes "marks") mark one ≡ Ok item → IsOk (savepoint_of item) → ((cell : ℕ) → cell_fault_at (codes "rows") tables item ≢ Some (cell, e))
-    → IsAt d e (Mark at mark)
+    → IsFaultAt d e (Mark at mark)
 without_cells d e format tables at one mark item has there read none =
     (has.before.has.first, has.first, none_with _ _ e (saved_are d e format tables at one mark item has there read) none)

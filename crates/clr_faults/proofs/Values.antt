@@ -7,9 +7,10 @@ use Rattle.serde_json.specs.Read.{read}
 use Rattle.clr_rule_text.specs.declared.faults.TextFault.{TextFault}
 use Rattle.clr_faults.specs.declared.spots.Spot.{Spot}
 use Rattle.clr_faults.specs.declared.spots.Spot.TheVariants.{Whole}
-use Rattle.clr_faults.specs.Spots.{IsAt, IsFoundIn, value_in}
+use Rattle.clr_faults.specs.Spots.{IsFaultAt, IsFoundIn, value_in}
 
-pub found_in_value : (bytes : List ℕ) (d : Data) (e : TextFault) (spot : Spot) → IsUtf8 bytes → read bytes ≡ Some d → IsAt d e spot → IsFoundIn bytes e spot
+pub found_in_value : (bytes : List ℕ) (d : Data) (e : TextFault) (spot : Spot) → IsUtf8 bytes → read bytes ≡ Some d → IsFaultAt d e spot →
+    IsFoundIn bytes e spot
 unfolding value_in
 found_in_value bytes d e spot utf8 is found = rw (is_utf8-from_IsUtf8 bytes utf8, is) found
 

@@ -11,7 +11,7 @@ use Rattle.clr_rule_text.specs.Rules.{rules_of}
 use Rattle.clr_faults.specs.declared.spots.Spot.TheVariants.{Whole}
 use Rattle.clr_faults.specs.Behind.{BehindLive, BehindRules, BehindTables}
 use Rattle.clr_faults.specs.Parts.{live_fault, rule_fault, workspace_fault}
-use Rattle.clr_faults.specs.Spots.{HasNone, IsAt}
+use Rattle.clr_faults.specs.Spots.{HasNone, IsFaultAt}
 use Rattle.clr_faults.specs.Stages.{known, live_faults, rule_faults, table_faults, workspace_faults}
 use Rattle.clr_faults.proofs.Passing.{no_schema, none_as, none_with, over, pass, stuck, unknown}
 
@@ -29,21 +29,21 @@ workspaces_are d e format tables behind =
     over d format tables _ behind.before.before.over ∙ pass (rules_of tables d) _ behind.before.read ∙ pass (live_of tables d) _ behind.read
 
 -- no format
-pub without_format : (d : Data) (e : TextFault) → None ≡ known (format_of d) → IsAt d e Whole
+pub without_format : (d : Data) (e : TextFault) → None ≡ known (format_of d) → IsFaultAt d e Whole
 without_format d e is =
     let failed = unknown (format_of d) (sym is) in
     (stuck (format_of d) _ e failed, stuck (format_of d) _ e failed, stuck (format_of d) _ e failed, stuck (format_of d) _ e failed)
 
 -- no schema
 pub without_schema : (d : Data) (e : TextFault) (format : Format) → format_of d ≡ Ok format → HasNone (table_faults d) e → None ≡ known (schema_of format d)
-    → IsAt d e Whole
+    → IsFaultAt d e Whole
 without_schema d e format formatted none is =
     let failed = unknown (schema_of format d) (sym is) in
     (none, no_schema d format _ e formatted failed, no_schema d format _ e formatted failed, no_schema d format _ e formatted failed)
 
 -- no book of rules
 pub without_rules : (d : Data) (e : TextFault) (format : Format) (tables : List TableDef) → BehindTables d e format tables → HasNone (rule_faults d) e
-    → is_ok (rules_of tables d) ≡ false → IsAt d e Whole
+    → is_ok (rules_of tables d) ≡ false → IsFaultAt d e Whole
 without_rules d e format tables behind none failed = (
   behind.none,
   none,
@@ -53,7 +53,7 @@ without_rules d e format tables behind none failed = (
 
 -- no content of LIVE
 pub without_live : (d : Data) (e : TextFault) (format : Format) (tables : List TableDef) → BehindRules d e format tables → HasNone (live_faults d) e
-    → is_ok (live_of tables d) ≡ false → IsAt d e Whole
+    → is_ok (live_of tables d) ≡ false → IsFaultAt d e Whole
 without_live d e format tables behind none failed = (
   behind.before.none,
   behind.none,
@@ -63,6 +63,6 @@ without_live d e format tables behind none failed = (
 
 -- no workspace that has the fault
 pub without_workspaces : (d : Data) (e : TextFault) (format : Format) (tables : List TableDef) → BehindLive d e format tables
-    → ((at : ℕ) → workspace_fault format tables d ≢ Some (at, e)) → IsAt d e Whole
+    → ((at : ℕ) → workspace_fault format tables d ≢ Some (at, e)) → IsFaultAt d e Whole
 without_workspaces d e format tables behind none =
     (behind.before.before.none, behind.before.none, behind.none, none_with _ _ e (workspaces_are d e format tables behind) none)

@@ -17,17 +17,17 @@ abbrev pub HasNone : Result (Option (ℕ × TextFault)) TextFault → TextFault 
 HasNone faults e = (at : ℕ) → faults ≢ Ok (Some (at, e))
 
 -- the item is the first of its list whose own reading answers the fault, and so is each that it stands in; no item in it is so
-abbrev pub IsAt : Data → TextFault → Spot → Type 0
-IsAt d e Whole = HasNone (table_faults d) e × HasNone (rule_faults d) e × HasNone (live_faults d) e × HasNone (workspace_faults d) e
-IsAt d e (Table at) = HasFirst (table_faults d) e at
-IsAt d e (Rule at) = HasFirst (rule_faults d) e at
-IsAt d e (Live at) = HasFirst (live_faults d) e at
-IsAt d e (Workspace at) =
+abbrev pub IsFaultAt : Data → TextFault → Spot → Type 0
+IsFaultAt d e Whole = HasNone (table_faults d) e × HasNone (rule_faults d) e × HasNone (live_faults d) e × HasNone (workspace_faults d) e
+IsFaultAt d e (Table at) = HasFirst (table_faults d) e at
+IsFaultAt d e (Rule at) = HasFirst (rule_faults d) e at
+IsFaultAt d e (Live at) = HasFirst (live_faults d) e at
+IsFaultAt d e (Workspace at) =
     HasFirst (workspace_faults d) e at × HasNone (base_faults at d) e × HasNone (row_faults at d) e × HasNone (mark_faults at d) e
-IsAt d e (Base at cell) = HasFirst (workspace_faults d) e at × HasFirst (base_faults at d) e cell
-IsAt d e (Row at cell) = HasFirst (workspace_faults d) e at × HasFirst (row_faults at d) e cell
-IsAt d e (Mark at mark) = HasFirst (workspace_faults d) e at × HasFirst (mark_faults at d) e mark × HasNone (saved_faults at mark d) e
-IsAt d e (Saved at mark cell) =
+IsFaultAt d e (Base at cell) = HasFirst (workspace_faults d) e at × HasFirst (base_faults at d) e cell
+IsFaultAt d e (Row at cell) = HasFirst (workspace_faults d) e at × HasFirst (row_faults at d) e cell
+IsFaultAt d e (Mark at mark) = HasFirst (workspace_faults d) e at × HasFirst (mark_faults at d) e mark × HasNone (saved_faults at mark d) e
+IsFaultAt d e (Saved at mark cell) =
     HasFirst (workspace_faults d) e at × HasFirst (mark_faults at d) e mark × HasFirst (saved_faults at mark d) e cell
 
 -- the value that the bytes are, if they are JSON
@@ -36,4 +36,4 @@ value_in bytes = if is_utf8 bytes then read bytes else None
 
 -- the same in the value that the bytes are; where they are none, the fault is of the whole text
 abbrev pub IsFoundIn : List ℕ → TextFault → Spot → Type 0
-IsFoundIn bytes e spot = MatchOption (value_in bytes) (spot ≡ Whole) (λ d. IsAt d e spot)
+IsFoundIn bytes e spot = MatchOption (value_in bytes) (spot ≡ Whole) (λ d. IsFaultAt d e spot)

@@ -4,7 +4,7 @@ ghost use Rattle.std.specs.Prelude.{◌≡◌, Err, IfOk, IfSome, IfNone, IsOk};
 ghost use Rattle.serde_json.specs.View.{view};
 ghost use Rattle.clr_office_text.specs.Offices.{office_in};
 ghost use Rattle.clr_faults.specs.Behind.{BehindLive, BehindRules, BehindTables};
-ghost use Rattle.clr_faults.specs.Spots.{IsAt, IsFoundIn};
+ghost use Rattle.clr_faults.specs.Spots.{IsFaultAt, IsFoundIn};
 
 use crate::parts::{live_fault, rule_fault, table_fault, workspace_fault};
 use crate::read_parts::{has_live, has_rules, known_format, known_schema};
@@ -26,7 +26,7 @@ pub struct Found {
 /// Returns the workspace that has the fault, an item of it, or the whole text.
 fn spot_in_workspaces(alloc: Global, text: FaultyText) -> Result<Spot, AllocError>
     requires { BehindLive (view text.json.now) text.fault text.format text.schema.now }
-    ensures { IfOk result (IsAt (view text.entry.json.now) text.entry.fault) }
+    ensures { IfOk result (IsFaultAt (view text.entry.json.now) text.entry.fault) }
 {
     let first = workspace_fault(alloc, text.json, text.format, text.schema)?;
     match place_with(first, text.fault) {
@@ -38,7 +38,7 @@ fn spot_in_workspaces(alloc: Global, text: FaultyText) -> Result<Spot, AllocErro
 /// Returns the row of LIVE that has the fault, or what comes behind LIVE.
 fn spot_behind_rules(alloc: Global, text: FaultyText) -> Result<Spot, AllocError>
     requires { BehindRules (view text.json.now) text.fault text.format text.schema.now }
-    ensures { IfOk result (IsAt (view text.entry.json.now) text.entry.fault) }
+    ensures { IfOk result (IsFaultAt (view text.entry.json.now) text.entry.fault) }
 {
     let first = live_fault(alloc, text.json, text.schema)?;
     if let Some(at) = place_with(first, text.fault) {
@@ -54,7 +54,7 @@ fn spot_behind_rules(alloc: Global, text: FaultyText) -> Result<Spot, AllocError
 /// Returns the rule that has the fault, or what comes behind the rules.
 fn spot_behind_tables(alloc: Global, text: FaultyText) -> Result<Spot, AllocError>
     requires { BehindTables (view text.json.now) text.fault text.format text.schema.now }
-    ensures { IfOk result (IsAt (view text.entry.json.now) text.entry.fault) }
+    ensures { IfOk result (IsFaultAt (view text.entry.json.now) text.entry.fault) }
 {
     let first = rule_fault(alloc, text.json, text.schema)?;
     if let Some(at) = place_with(first, text.fault) {
@@ -69,7 +69,7 @@ fn spot_behind_tables(alloc: Global, text: FaultyText) -> Result<Spot, AllocErro
 
 /// Returns the item of a text that has the fault.
 fn find_spot(alloc: Global, json: &Json, fault: TextFault) -> Result<Spot, AllocError>
-    ensures { IfOk result (IsAt (view json.now) fault) }
+    ensures { IfOk result (IsFaultAt (view json.now) fault) }
 {
     let Some(format) = known_format(json)? else {
         return Ok(Spot::Whole);

@@ -3,7 +3,7 @@
 ghost use Rattle.std.specs.Prelude.{◌≡◌, IfOk};
 ghost use Rattle.serde_json.specs.View.{view};
 ghost use Rattle.clr_faults.specs.Behind.{HasMark};
-ghost use Rattle.clr_faults.specs.Spots.{IsAt};
+ghost use Rattle.clr_faults.specs.Spots.{IsFaultAt};
 
 use crate::items::item_in;
 use crate::parts::cell_fault_at;
@@ -22,7 +22,7 @@ pub fn spot_at_mark(
     mark: usize,
 ) -> Result<Spot, AllocError>
     requires { HasMark (view text.json.now) text.fault text.format text.schema.now at (view one.now) mark }
-    ensures { IfOk result (IsAt (view text.entry.json.now) text.entry.fault) }
+    ensures { IfOk result (IsFaultAt (view text.entry.json.now) text.entry.fault) }
 {
     let Some(item) = item_in(one, "marks", mark)? else {
         return Ok(Spot::Mark(at, mark));

@@ -3,7 +3,7 @@
 ghost use Rattle.std.specs.Prelude.{◌≡◌, codes, Ok, IfOk};
 ghost use Rattle.serde_json.specs.View.{view};
 ghost use Rattle.clr_faults.specs.Behind.{BehindBase, BehindHead, BehindRows, HasWorkspace};
-ghost use Rattle.clr_faults.specs.Spots.{IsAt};
+ghost use Rattle.clr_faults.specs.Spots.{IsFaultAt};
 
 use crate::items::item_in;
 use crate::marks::spot_at_mark;
@@ -17,7 +17,7 @@ use std::alloc::{AllocError, Global};
 /// Returns the mark of a workspace that has the fault, a cell of it, or the workspace.
 fn spot_in_marks(alloc: Global, text: FaultyText, at: usize, one: &Json) -> Result<Spot, AllocError>
     requires { BehindRows (view text.json.now) text.fault text.format text.schema.now at (view one.now) }
-    ensures { IfOk result (IsAt (view text.entry.json.now) text.entry.fault) }
+    ensures { IfOk result (IsFaultAt (view text.entry.json.now) text.entry.fault) }
 {
     match place_with(mark_fault(alloc, one, text.schema)?, text.fault) {
         Some(mark) => spot_at_mark(alloc, text, at, one, mark),
@@ -33,7 +33,7 @@ fn spot_behind_base(
     one: &Json,
 ) -> Result<Spot, AllocError>
     requires { BehindBase (view text.json.now) text.fault text.format text.schema.now at (view one.now) }
-    ensures { IfOk result (IsAt (view text.entry.json.now) text.entry.fault) }
+    ensures { IfOk result (IsFaultAt (view text.entry.json.now) text.entry.fault) }
 {
     let first = cell_fault_at(alloc, one, "rows", text.schema)?;
     if let Some(cell) = place_with(first, text.fault) {
@@ -54,7 +54,7 @@ fn spot_behind_head(
     one: &Json,
 ) -> Result<Spot, AllocError>
     requires { BehindHead (view text.json.now) text.fault text.format text.schema.now at (view one.now) }
-    ensures { IfOk result (IsAt (view text.entry.json.now) text.entry.fault) }
+    ensures { IfOk result (IsFaultAt (view text.entry.json.now) text.entry.fault) }
 {
     let first = cell_fault_at(alloc, one, "base", text.schema)?;
     if let Some(cell) = place_with(first, text.fault) {
@@ -70,7 +70,7 @@ fn spot_behind_head(
 /// Returns the item of a workspace that has the fault, or the workspace.
 pub fn spot_at_workspace(alloc: Global, text: FaultyText, at: usize) -> Result<Spot, AllocError>
     requires { HasWorkspace (view text.json.now) text.fault text.format text.schema.now at }
-    ensures { IfOk result (IsAt (view text.entry.json.now) text.entry.fault) }
+    ensures { IfOk result (IsFaultAt (view text.entry.json.now) text.entry.fault) }
 {
     let Some(one) = item_in(text.json, "workspaces", at)? else {
         return Ok(Spot::Workspace(at));

@@ -33,7 +33,8 @@ module _ {X : Type 0} where
   found_in q x [] e = absurd (cc)
   found_in q x (y ∷ es) e = go (eq_by_cmp cell_cmp q y.0) refl e (found_in q x es)
     where
-      go : (b : Bool) → eq_by_cmp cell_cmp q y.0 ≡ b → cond b (Some y.1) (find cell_cmp q es) ≡ Some x → (find cell_cmp q es ≡ Some x → Among (q, x) es) → Among (q, x) (y ∷ es)
+      go : (b : Bool) → eq_by_cmp cell_cmp q y.0 ≡ b → cond b (Some y.1) (find cell_cmp q es) ≡ Some x → (find cell_cmp q es ≡ Some x → Among (q, x) es) →
+          Among (q, x) (y ∷ es)
       go true p d more = let i : q ≡ y.0 = cell_cmp_exact q y.0 ((Equal-is (cell_cmp q y.0)).0 p) in let j : y.1 ≡ x = cc in inl (λ k. (sym i k, j k))
       go false p d more = inr (more d)
 
@@ -73,7 +74,8 @@ module _ {X : Type 0} where
   passing_cells p m = map (λ (e : CellId × X). e.0) (filter p (entries m))
 
   pub passing_rise : (p : CellId × X → Bool) (m : FinMap cell_cmp X) → IsStrictlySortedBy cell_cmp (passing_cells p m)
-  passing_rise p m = rising_mapped entry_cmp cell_cmp (λ (e : CellId × X). e.0) (λ e f less. less) (filter p (entries m)) (IsStrictlySortedBy-filter entry_cmp p (entries m) (entries_rise m))
+  passing_rise p m = rising_mapped entry_cmp cell_cmp (λ (e : CellId × X). e.0) (λ e f less. less) (filter p (entries m))
+      (IsStrictlySortedBy-filter entry_cmp p (entries m) (entries_rise m))
 
   pub passes_in : (p : CellId × X → Bool) (m : FinMap cell_cmp X) (q : CellId) (x : X) → get m q ≡ Some x → p (q, x) ≡ true → Among q (passing_cells p m)
   passes_in p m q x e h = mapped_among (λ (e : CellId × X). e.0) (q, x) (filter p (entries m)) (kept_among p (q, x) (entries m) (entry_listed m q x e) h)

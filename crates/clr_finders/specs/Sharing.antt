@@ -8,9 +8,8 @@ use Rattle.clr_rows.specs.declared.rows.Row.{Row}
 use Rattle.clr_rows.specs.Cells.{cell_cmp}
 use Rattle.clr_rows.specs.Contents.{Content, row_at}
 use Rattle.clr_rules.specs.declared.rules.Rule.{Rule}
-use Rattle.clr_rules.specs.declared.rules.Rule.TheVariants.{Unique, Partner, EndNode, Crossing, Near}
 use Rattle.clr_rows.specs.Held.{Held}
-use Rattle.clr_rules.specs.Sides.{has_role, is_of_side}
+use Rattle.clr_rules.specs.Sides.{has_role, is_of, sides}
 use Rattle.clr_spots.specs.Spots.{are_sharing, have_common_spot, spots_under, is_wide_under}
 use Rattle.clr_finders.specs.declared.row_spots.RuleSpots.{RuleSpots}
 
@@ -18,11 +17,7 @@ use Rattle.clr_finders.specs.declared.row_spots.RuleSpots.{RuleSpots}
 
 -- the row is of the side that serves
 abbrev pub may_serve : Rule → Held → Bool
-may_serve (Unique subject columns) s = false
-may_serve (Partner subject columns server server_columns) s = is_of_side server s
-may_serve (EndNode subject tip server) s = is_of_side server s
-may_serve (Crossing a b server) s = is_of_side server s
-may_serve (Near a b d) s = false
+may_serve rule s = is_of (sides rule).server s
 
 abbrev pub may_serve_by : Option Rule → Held → Bool
 may_serve_by None s = false

@@ -9,7 +9,7 @@ ghost use Rattle.clr_rules.specs.Books.{FitTogether};
 ghost use Rattle.clr_finders.specs.NextCells.{IsNextOf};
 ghost use Rattle.clr_finders.specs.Sharing.{Pending, Settled, found_cells, next_at, row_spots, rows_at, rule_spots};
 
-use crate::row_spots::RuleSpots;
+use crate::row_spots::{RowSpots, RuleSpots};
 use clr_rows::{CellId, Held, Row};
 use clr_rules::RuleBook;
 use std::alloc::{AllocError, Global};
@@ -44,6 +44,20 @@ pub trait RowFinder: Drop {
         requires number { rule < length book.now }
         requires fit { FitTogether book.now (held_of held ∷ []) }
         ensures { IfOk result (λ cells. cells.items ≡ found_cells true (settled self.now) rule (rule_spots book.now rule (held_of held.entry))) };
+
+    /// Returns the spots of the settled row at a cell under each rule, or none where no row stands.
+    fn spots_at(&self, cell: CellId) -> Option<&RowSpots>
+        ensures { option_copied result ≡ finite.get (settled self.now) cell };
+
+    /// Returns cells among which each of `sharing` stands, for a row of these spots under a rule, or
+    /// each of `sharing_servers` where servers alone are looked for. There may be others.
+    fn candidates(
+        &self,
+        servers: bool,
+        rule: u16,
+        spots: &RuleSpots,
+    ) -> Result<Vec<CellId>, AllocError>
+        ensures { IfOk result (λ cells. (q : Cell) → Contains (found_cells servers (settled self.now) rule spots.now) q → Contains cells.items q) };
 
     /// Returns a cell behind a given one, or any where none is given, which is past no cell of
     /// `sharing_servers` that stands there, for a row of these spots under a rule. None says that

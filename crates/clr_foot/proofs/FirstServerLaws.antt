@@ -18,7 +18,7 @@ use Rattle.clr_finders.specs.NextCells.{IsBehind, IsNextOf}
 use Rattle.clr_finders.specs.Sharing.{IsSettledFor, Settled, rule_spots}
 use Rattle.clr_needs.specs.declared.needs.Need.{Need}
 use Rattle.clr_needs.specs.declared.needs.VersionId.{VersionId}
-use Rattle.clr_needs.specs.Blocking.{has_life_too, same_life}
+use Rattle.clr_needs.specs.Blocking.{has_subject_of_life, same_life}
 use Rattle.clr_needs.specs.Broken.{IsServedAfterMerge, is_living_at}
 use Rattle.clr_needs.specs.Covers.{CoversAlone, IsLifeOf, Lasts}
 use Rattle.clr_needs.specs.Members.{setting}
@@ -30,10 +30,11 @@ use Rattle.clr_needs.proofs.BlockerLaws.{lives_as, same_told, subject_told, told
 use Rattle.clr_needs.proofs.NeedSubjects.{subjects_once}
 use Rattle.clr_foot.specs.declared.first_servers.Sought.{Sought}
 use Rattle.clr_foot.specs.declared.first_servers.Sought.TheVariants.{Living, Lasting}
-use Rattle.clr_foot.specs.declared.versions.Version.{Version}
+use Rattle.clr_versions.specs.declared.versions.Version.{Version}
 use Rattle.clr_foot.specs.FirstServers.{IsFirstAt, IsFoundCell, IsServerSought, IsServingSought, IsToldServer, is_sought}
-use Rattle.clr_foot.specs.Touches.{IsNear}
-use Rattle.clr_foot.specs.Versions.{AreNewRowsFiled, IsNamed, IsNamedToo, row_and_life, row_of, version_of}
+use Rattle.clr_foot.specs.Touches.{IsNeighbour}
+use Rattle.clr_foot.specs.NewRows.{AreNewRowsFiled}
+use Rattle.clr_versions.specs.Versions.{IsNamed, IsNamedIfAny, row_and_life, row_of, version_of}
 use Rattle.clr_foot.proofs.ServerLaws.{first_row, serving_same}
 use Rattle.clr_foot.proofs.SharingLaws.{may_serve_there, near_server, server_near}
 use Rattle.clr_foot.proofs.VersionLists.{new_cell_found, old_cell_found}
@@ -138,7 +139,7 @@ module _ (rules : List Rule) (root : Content) (sets : List Changes) (old new : S
       → (v : VersionId) → IsServerSought sought c n s t v → IsFoundCell old new n.rule x v.cell
   server_found sought n s t x below called spots v ((l, is, serve), looked) = subst (λ y. IsFoundCell old new n.rule y v.cell) (sym spots) (by v.fresh refl)
     where
-      near : IsNear true rules n.rule (row_of s) (held_row v l)
+      near : IsNeighbour true rules n.rule (row_of s) (held_row v l)
       near = near_server rules n.rule (row_of s) (held_row v l) (server_near rules (ask_of n) (row_of s) (option_map row_of t) (held_row v l) called serve).0
           (may_serve_there rules (ask_of n) (row_of s) (option_map row_of t) (held_row v l) called serve)
 
@@ -158,7 +159,7 @@ least_as : (P Q : VersionId → Type 0) → ((v : VersionId) → P v → Q v) �
     → IsLeastVersion Q v
 least_as P Q there back v (is, least) = (there v is, λ w lesser h. least w lesser (back w h))
 
-pub of_need : (sought : Sought) (c : Setting ℕ) (n : Need) (s : Version) (t : Option Version) → IsNamed c n.first s → IsNamedToo c n.second t
+pub of_need : (sought : Sought) (c : Setting ℕ) (n : Need) (s : Version) (t : Option Version) → IsNamed c n.first s → IsNamedIfAny c n.second t
     → IsPossibleNeed c n → (found : Option VersionId)
     → IfSome found (IsLeastVersion (IsServerSought sought c n s t)) → IfSome found (IsLeastVersion (IsServingSought sought c n))
 of_need sought c n s t named named_too possible found = if_some_as (IsLeastVersion (IsServerSought sought c n s t))
@@ -175,20 +176,20 @@ served_after c n v ((x, y, l, q, serve), living) a b p alive =
 -- the least one that serves and lasts is picked
 module _ (c : Setting ℕ) (n : Need) (a : Lived ℕ) (b : Option (Lived ℕ)) (p : IsPossible c n a b) where
   told_lasting : (l : Lived ℕ) → lasts c n (Some l) ≡ true → Lasts l.life a b
-  told_lasting l e = by (or_cases (same_life l.life Always) (has_life_too l.life c n) e)
+  told_lasting l e = by (or_cases (same_life l.life Always) (has_subject_of_life l.life c n) e)
     where
       either : (a.life ≡ l.life) ⊎ IsLifeOf l.life b → Lasts l.life a b
       either (inl h) = inr (inl (sym h))
       either (inr h) = inr (inr h)
 
-      by : (same_life l.life Always ≡ true) ⊎ (has_life_too l.life c n ≡ true) → Lasts l.life a b
+      by : (same_life l.life Always ≡ true) ⊎ (has_subject_of_life l.life c n ≡ true) → Lasts l.life a b
       by (inl h) = inl (same_told l.life Always h)
       by (inr h) = either (subject_told c n l.life a b p h)
 
   lasting_told : (l : Lived ℕ) → Lasts l.life a b → lasts c n (Some l) ≡ true
-  lasting_told l (inl h) = or_left (same_life l.life Always) (has_life_too l.life c n) (lives_as Always l h)
-  lasting_told l (inr (inl h)) = or_right (same_life l.life Always) (has_life_too l.life c n) (told_subject c n l.life a b p (inl (sym h)))
-  lasting_told l (inr (inr h)) = or_right (same_life l.life Always) (has_life_too l.life c n) (told_subject c n l.life a b p (inr h))
+  lasting_told l (inl h) = or_left (same_life l.life Always) (has_subject_of_life l.life c n) (lives_as Always l h)
+  lasting_told l (inr (inl h)) = or_right (same_life l.life Always) (has_subject_of_life l.life c n) (told_subject c n l.life a b p (inl (sym h)))
+  lasting_told l (inr (inr h)) = or_right (same_life l.life Always) (has_subject_of_life l.life c n) (told_subject c n l.life a b p (inr h))
 
   covers : (v : VersionId) → IsServingSought Lasting c n v → CoversAlone c n a b v
   covers v ((x, y, l, q, serve), e) =

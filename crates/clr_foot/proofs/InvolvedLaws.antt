@@ -12,22 +12,23 @@ use Rattle.clr_rules.proofs.AskLemmas.{rule_there}
 use Rattle.clr_rules.proofs.Elements.{among, contained}
 use Rattle.clr_needs.specs.declared.needs.Need.{Need}
 use Rattle.clr_needs.specs.declared.needs.VersionId.{VersionId}
-use Rattle.clr_foot.specs.declared.versions.Version.{Version}
-use Rattle.clr_foot.specs.Candidates.{IsNeedServedBy, IsNeedWith, IsSubject}
-use Rattle.clr_foot.specs.Gains.{Gains, OfSome}
-use Rattle.clr_needs.specs.Independence.{AreDependent, Involves, Names, NamesToo}
-use Rattle.clr_foot.specs.Involvement.{IsInvolvedAt, IsInvolvedBy, IsInvolvedWith, IsInvolving, IsToldInvolving, names, names_at, names_by}
+use Rattle.clr_versions.specs.declared.versions.Version.{Version}
+use Rattle.clr_versions.specs.Candidates.{IsNeedServedBy, IsNeedWith, IsSubject}
+use Rattle.clr_versions.specs.Gains.{Gains, OfSome}
+use Rattle.clr_needs.specs.Independence.{AreDependent, Involves, Names, NamesIfAny}
+use Rattle.clr_foot.specs.Involvement.{IsInvolvedAt, IsInvolvedBy, IsInvolvedWith, IsInvolving, IsToldInvolving}
+use Rattle.clr_versions.specs.Naming.{names, names_at, names_by}
 use Rattle.clr_needs.specs.Members.{after_at, setting}
-use Rattle.clr_needs.specs.Needs.{AreServers, IsBesideToo, IsPossible, IsPossibleNeed, Lists, Serves, ask_of, held_too}
+use Rattle.clr_needs.specs.Needs.{AreServers, IsBesideIfAny, IsPossible, IsPossibleNeed, Lists, Serves, ask_of, held_if_any}
 use Rattle.clr_needs.specs.Orders.{need_cmp}
 use Rattle.clr_needs.specs.Settings.{Setting, Lifetime, Always, With, Without, Lived, changer, held_row, version}
-use Rattle.clr_foot.specs.Versions.{IsAt, row_and_life, version_of}
+use Rattle.clr_versions.specs.Versions.{IsAt, row_and_life, version_of}
 use Rattle.clr_needs.proofs.NeedSubjects.{subjects_once}
 use Rattle.clr_needs.proofs.Reading.{all_taken, one_more, read_of}
-use Rattle.clr_foot.proofs.Gaining.{gains_as, gains_both, gains_none}
+use Rattle.clr_versions.proofs.Gaining.{gains_as, gains_both, gains_none}
 use Rattle.clr_needs.proofs.Lives.{named_by_old, new_is, old_is, version_by, version_by_changer}
 use Rattle.clr_needs.proofs.Merges.{IsChanger, changer_is}
-use Rattle.clr_foot.proofs.SharedCells.{key_among}
+use Rattle.clr_versions.proofs.SharedCells.{key_among}
 use Rattle.clr_foot.proofs.TouchLaws.{lived_is}
 
 -- ---- lives and names
@@ -51,7 +52,7 @@ module _ (c : Setting ℕ) where
         let row = lived_is c v n.first a (sym e) at p.first_is in (a, b, p, inl (subst (λ l. Names l.life x) row names))
     with_involves n (rule, inr e, a, b, p) = (a, b, p, inr (inl (by n.second b refl p.second_is)))
       where
-        by : (w : Option VersionId) (m : Option (Lived ℕ)) → n.second ≡ w → IsBesideToo c n.first a w m → NamesToo m x
+        by : (w : Option VersionId) (m : Option (Lived ℕ)) → n.second ≡ w → IsBesideIfAny c n.first a w m → NamesIfAny m x
         by None None second beside = let clash : None ≡ Some v.id = sym second ∙ e in cc
         by None (Some m) second beside = absurd beside
         by (Some w) None second beside = absurd beside
@@ -111,7 +112,7 @@ module _ (c : Setting ℕ) where
       (λ n w. record { involved = w; below = below n w }) g
     where
       below : (n : Need) → IsInvolvedWith c x v n → n.rule < number
-      below n w = let less = rule_there c.rules (ask_of n) (held_row n.first w.first) (held_too n.second w.second) w.possible.they_call in
+      below n w = let less = rule_there c.rules (ask_of n) (held_row n.first w.first) (held_if_any n.second w.second) w.possible.they_call in
           omega (arith, less, past)
 
   -- ---- the version of a name
@@ -144,7 +145,7 @@ module _ (c : Setting ℕ) where
     subject_involves : (a : Lived ℕ) (b : Option (Lived ℕ)) → IsPossible c n a b → names_by x c n.first n.second ≡ true → Involves c n a b x
     subject_involves a b p e = by n.second b p.second_is e
       where
-        by : (w : Option VersionId) (b : Option (Lived ℕ)) → IsBesideToo c n.first a w b → names_by x c n.first w ≡ true → Involves c n a b x
+        by : (w : Option VersionId) (b : Option (Lived ℕ)) → IsBesideIfAny c n.first a w b → names_by x c n.first w ≡ true → Involves c n a b x
         by None None is e = inl (told_names a.life x (sym (name_at n.first a p.first_is) ∙ e))
         by None (Some b) is e = absurd is
         by (Some w) None is e = absurd is
@@ -156,10 +157,11 @@ module _ (c : Setting ℕ) where
     pub named_involves : (told : Bool) → IsPossibleNeed c n → told ≡ names_by x c n.first n.second → told ≡ true → IsInvolving c x n
     named_involves told (a, b, p) is e = (a, b, p, subject_involves a b p (sym is ∙ e))
 
-    no_subject : (a : Lived ℕ) (b : Option (Lived ℕ)) → IsPossible c n a b → names_by x c n.first n.second ≡ false → Names a.life x ⊎ NamesToo b x → ⊥
+    no_subject : (a : Lived ℕ) (b : Option (Lived ℕ)) → IsPossible c n a b → names_by x c n.first n.second ≡ false → Names a.life x ⊎ NamesIfAny b x → ⊥
     no_subject a b p e h = by n.second b p.second_is e h
       where
-        by : (w : Option VersionId) (b : Option (Lived ℕ)) → IsBesideToo c n.first a w b → names_by x c n.first w ≡ false → Names a.life x ⊎ NamesToo b x → ⊥
+        by : (w : Option VersionId) (b : Option (Lived ℕ)) → IsBesideIfAny c n.first a w b → names_by x c n.first w ≡ false → Names a.life x ⊎ NamesIfAny b x →
+            ⊥
         by None None is e (inl h) = false≢true (sym e ∙ name_at n.first a p.first_is ∙ names_told a.life x h)
         by None None is e (inr h) = h
         by None (Some b) is e h = is
@@ -250,7 +252,7 @@ module _ (rules : List Rule) (root : Content) (sets : List Changes) where
         by_version n.first n (record { first = a; second = b; lived = a; rule = refl; possible = p; is = p.first_is; names = names; role = inl (inl refl) })
     at_key n (a, b, p, inr (inl names)) = by n.second b refl p.second_is names
       where
-        by : (w : Option VersionId) (m : Option (Lived ℕ)) → n.second ≡ w → IsBesideToo c n.first a w m → NamesToo m x
+        by : (w : Option VersionId) (m : Option (Lived ℕ)) → n.second ≡ w → IsBesideIfAny c n.first a w m → NamesIfAny m x
             → OfSome (IsInvolvedAt c x) (finite.keys set) n
         by None None e is h = absurd h
         by None (Some m) e is h = absurd is

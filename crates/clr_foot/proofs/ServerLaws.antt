@@ -9,13 +9,13 @@ use Rattle.clr_rules.proofs.AskLemmas.{rule_there}
 use Rattle.clr_rules.proofs.Elements.{among}
 use Rattle.clr_needs.specs.declared.needs.Need.{Need}
 use Rattle.clr_needs.specs.declared.needs.VersionId.{VersionId}
-use Rattle.clr_foot.specs.declared.versions.Version.{Version}
-use Rattle.clr_foot.specs.Candidates.{IsServerAmong}
-use Rattle.clr_foot.specs.Gains.{Gains}
-use Rattle.clr_needs.specs.Needs.{IsBesideToo, IsPossible, IsPossibleNeed, IsServing, ask_of, held_too}
+use Rattle.clr_versions.specs.declared.versions.Version.{Version}
+use Rattle.clr_versions.specs.Candidates.{IsServerAmong}
+use Rattle.clr_versions.specs.Gains.{Gains}
+use Rattle.clr_needs.specs.Needs.{IsBesideIfAny, IsPossible, IsPossibleNeed, IsServing, ask_of, held_if_any}
 use Rattle.clr_needs.specs.Settings.{Setting, Lived, held_row, version}
-use Rattle.clr_foot.specs.Touches.{IsNear, IsServerOf}
-use Rattle.clr_foot.specs.Versions.{AreAt, Finds, HasVersion, IsAtToo, IsNamed, IsNamedToo, row_and_life, row_of, version_of}
+use Rattle.clr_foot.specs.Touches.{IsNeighbour, IsServerOf}
+use Rattle.clr_versions.specs.Versions.{AreAt, Finds, HasVersion, IsAtIfAny, IsNamed, IsNamedIfAny, row_and_life, row_of, version_of}
 use Rattle.clr_foot.proofs.SharingLaws.{may_serve_there, near_server, server_near}
 use Rattle.clr_foot.proofs.TouchLaws.{lived_is}
 
@@ -37,8 +37,8 @@ module _ (c : Setting ℕ) where
         (r, h, same, (λ i. serves c.rules ask (row_of s) (option_map row_of t) ((same i).cell, (row i).row)) ∙ serve)
 
     pub servers_exactly : (empty middle names : List VersionId) (v : VersionId) → calls c.rules ask (row_of s) (option_map row_of t) ≡ true
-        → Finds c false (IsNear true c.rules ask.rule (row_of s)) old
-        → Finds c true (IsNear true c.rules ask.rule (row_of s)) others
+        → Finds c false (IsNeighbour true c.rules ask.rule (row_of s)) old
+        → Finds c true (IsNeighbour true c.rules ask.rule (row_of s)) others
         → empty ≡ []
         → Gains (Serving old) (Serving old) empty middle
         → Gains (Serving others) (Serving others) middle names
@@ -56,7 +56,7 @@ module _ (c : Setting ℕ) where
         every : IsServerOf c ask s t v → Contains names v
         every (l, is, serve) = by v.fresh refl
           where
-            near : IsNear true c.rules ask.rule (row_of s) (held_row v l)
+            near : IsNeighbour true c.rules ask.rule (row_of s) (held_row v l)
             near = near_server c.rules ask.rule (row_of s) (held_row v l) (server_near c.rules ask (row_of s) (option_map row_of t) (held_row v l) called
                 serve).0
                 (may_serve_there c.rules ask (row_of s) (option_map row_of t) (held_row v l) called serve)
@@ -73,7 +73,7 @@ module _ (c : Setting ℕ) where
 
   -- ---- the subjects of a possible need
 
-  pub at_too : (id : Option VersionId) (v : Option Version) → IsNamedToo c id v → IsAtToo c v
+  pub at_too : (id : Option VersionId) (v : Option Version) → IsNamedIfAny c id v → IsAtIfAny c v
   at_too None None h = tt
   at_too None (Some v) h = absurd h
   at_too (Some id) None h = tt
@@ -82,16 +82,16 @@ module _ (c : Setting ℕ) where
   pub first_row : (id : VersionId) (v : Version) (l : Lived ℕ) → IsNamed c id v → version c id ≡ Some l → row_of v ≡ held_row id l
   first_row id v l h is = let row = lived_is c v id l h.0 h.1 is in λ i. ((h.0 i).cell, (row i).row)
 
-  second_row : (first : VersionId) (a : Lived ℕ) (id : Option VersionId) (v : Option Version) (b : Option (Lived ℕ)) → IsNamedToo c id v
-      → IsBesideToo c first a id b → option_map row_of v ≡ held_too id b
+  second_row : (first : VersionId) (a : Lived ℕ) (id : Option VersionId) (v : Option Version) (b : Option (Lived ℕ)) → IsNamedIfAny c id v
+      → IsBesideIfAny c first a id b → option_map row_of v ≡ held_if_any id b
   second_row first a None None b h is = refl
   second_row first a None (Some v) b h is = absurd h
   second_row first a (Some id) v None h is = absurd is
   second_row first a (Some id) None (Some b) h is = let clash : None ≡ Some b = sym h ∙ is.is in cc
   second_row first a (Some id) (Some v) (Some b) h is = ap Some (first_row id v b h is.is)
 
-  module _ (n : Need) (s : Version) (t : Option Version) (named : IsNamed c n.first s) (named_too : IsNamedToo c n.second t) where
-    rows_are : (a : Lived ℕ) (b : Option (Lived ℕ)) → IsPossible c n a b → (row_of s ≡ held_row n.first a) × (option_map row_of t ≡ held_too n.second b)
+  module _ (n : Need) (s : Version) (t : Option Version) (named : IsNamed c n.first s) (named_too : IsNamedIfAny c n.second t) where
+    rows_are : (a : Lived ℕ) (b : Option (Lived ℕ)) → IsPossible c n a b → (row_of s ≡ held_row n.first a) × (option_map row_of t ≡ held_if_any n.second b)
     rows_are a b p = (first_row n.first s a named p.first_is, second_row n.first a n.second t b named_too p.second_is)
 
     pub subjects_call : IsPossibleNeed c n → calls c.rules (ask_of n) (row_of s) (option_map row_of t) ≡ true
@@ -138,7 +138,7 @@ module _ (c : Setting ℕ) where
   none_serving n v none = (λ e. absurd (false≢true e), λ (a, b, l, p, serve). (let clash : None ≡ Some l = sym none ∙ serve.is in cc))
 
   pub possible_number : (n : Need) → IsPossibleNeed c n → n.rule < length c.rules
-  possible_number n (a, b, p) = rule_there c.rules (ask_of n) (held_row n.first a) (held_too n.second b) p.they_call
+  possible_number n (a, b, p) = rule_there c.rules (ask_of n) (held_row n.first a) (held_if_any n.second b) p.they_call
 
   pub possible_there : (n : Need) → IsPossibleNeed c n → version c n.first ≡ None → ⊥
   possible_there n (a, b, p) none = let clash : None ≡ Some a = sym none ∙ p.first_is in cc

@@ -15,15 +15,13 @@ use Rattle.clr_rows.specs.Held.{Held}
 use Rattle.clr_rows.proofs.CellOrder.{cell_cmp_exact, cell_cmp_total}
 use Rattle.clr_rules.specs.declared.needs.Ask.{Ask}
 use Rattle.clr_rules.specs.declared.rules.Rule.{Rule}
-use Rattle.clr_rules.specs.declared.rules.Rule.TheVariants.{Unique, Partner, EndNode, Crossing, Near}
 use Rattle.clr_rules.specs.Books.{FitTogether, FitsCell}
-use Rattle.clr_rules.specs.Calls.{are_subjects, are_subjects_of, calls, is_plain, is_server, is_server_of, serves}
-use Rattle.clr_rules.specs.Sides.{has_role, has_role_by, has_role_in, is_of_side}
+use Rattle.clr_rules.specs.Calls.{are_subjects, calls, is_server, serves}
+use Rattle.clr_rules.specs.Sides.{has_role, has_role_by, has_role_in}
 use Rattle.clr_spots.specs.Spots.{are_sharing, share, share_by, share_under}
 use Rattle.clr_rules.proofs.Elements.{Among, contained}
 use Rattle.clr_rules.proofs.FittingLemmas.{distance_fits}
 use Rattle.clr_rules.proofs.RoleLemmas.{servers_have_roles, subjects_have_roles}
-use Rattle.clr_spots.proofs.RoleLaws.{subjects_beside}
 use Rattle.clr_spots.proofs.ShareLaws.{servers_share, subjects_share}
 use Rattle.clr_spots.proofs.SharedSpots.{share_back}
 use Rattle.clr_finders.specs.declared.row_spots.RuleSpots.{RuleSpots}
@@ -31,30 +29,10 @@ use Rattle.clr_finders.specs.Sharing.{IsSettledFor, Settled, found_cells, is_met
 use Rattle.clr_finders.specs.Sharing.{sharing_servers}
 use Rattle.clr_finders.proofs.EntryLemmas.{in_passes, passes_in}
 use Rattle.clr_finders.proofs.SharingLemmas.{found_servers, found_sharing}
-use Rattle.clr_foot.specs.Candidates.{is_of_two, is_of_two_by, is_of_two_under, may_be_paired}
 use Rattle.clr_needs.specs.Settings.{Setting}
-use Rattle.clr_foot.specs.Touches.{IsNear}
-use Rattle.clr_foot.specs.Versions.{FitsSetting}
-
--- ---- the rule of an ask
-
-abbrev IsRule : List Rule → ℕ → Rule → Type 0
-IsRule rules number rule = slice_get rules number ≡ Some rule
-
-called_by : (rules : List Rule) (ask : Ask) (s : Held) (t : Option Held) → calls rules ask s t ≡ true → (rule : Rule) × IsRule rules ask.rule rule
-    × (are_subjects rule ask s t ≡ true)
-unfolding calls
-called_by rules ask s t e = by (slice_get rules ask.rule) refl e
-  where
-    by : (r : Option Rule) → slice_get rules ask.rule ≡ r → are_subjects_of r ask s t ≡ true → (rule : Rule) × IsRule rules ask.rule rule
-        × (are_subjects rule ask s t ≡ true)
-    by None at f = absurd (false≢true f)
-    by (Some rule) at f = (rule, at, f)
-
-pub served_by : (rules : List Rule) (ask : Ask) (s : Held) (t : Option Held) (r : Held) (rule : Rule) → IsRule rules ask.rule rule → serves rules ask s t r
-    ≡ true → is_server rule ask s t r ≡ true
-unfolding serves
-served_by rules ask s t r rule at e = sym (ap (λ o. is_server_of o ask s t r) at) ∙ e
+use Rattle.clr_foot.specs.Touches.{IsNeighbour}
+use Rattle.clr_versions.specs.Versions.{FitsSetting}
+use Rattle.clr_versions.proofs.AskLaws.{IsRule, called_by, served_by}
 
 rule_shares : (rules : List Rule) (number : ℕ) (rule : Rule) (s t : Held) → IsRule rules number rule → has_role_in rule s ≡ true → has_role_in rule t ≡ true
     → share rule s t ≡ true → are_sharing rules number s t ≡ true
@@ -96,61 +74,21 @@ server_near_second rules ask s t r e f =
     rule_shares rules ask.rule rule r t at (servers_have_roles rule ask s (Some t) r serve) (subjects_have_roles rule ask s (Some t) called).1
     (servers_share rule ask s (Some t) r called serve).1
 
--- two are asked by a rule that is asked of two
-two_are_asked : (rule : Rule) (ask : Ask) (s t : Held) → are_subjects rule ask s (Some t) ≡ true → is_of_two rule ≡ true
-unfolding are_subjects
-two_are_asked (Unique subject columns) ask s t e = refl
-two_are_asked (Partner subject columns server server_columns) ask s t e = absurd (false≢true e)
-two_are_asked (EndNode subject tip server) ask s t e = absurd (false≢true e)
-two_are_asked (Crossing a b server) ask s t e = refl
-two_are_asked (Near a b d) ask s t e = refl
-
-pub two_asked : (rules : List Rule) (ask : Ask) (s t : Held) → calls rules ask s (Some t) ≡ true → is_of_two_under rules ask.rule ≡ true
-unfolding is_of_two_under
-two_asked rules ask s t e = let (rule, at, called) = called_by rules ask s (Some t) e in ap is_of_two_by at ∙ two_are_asked rule ask s t called
-
-both_true : (a b : Bool) → a ≡ true → b ≡ true → (a && b) ≡ true
-both_true a b e f = λ i. e i && f i
-
--- each of two that call is of a side of two subjects
-pub both_paired : (rules : List Rule) (ask : Ask) (s t : Held) → calls rules ask s (Some t) ≡ true → (may_be_paired rules ask.rule s ≡ true)
-    × (may_be_paired rules ask.rule t ≡ true)
-unfolding may_be_paired
-both_paired rules ask s t e =
-    let two = two_asked rules ask s t e in
-    elim (subjects_beside rules ask s t e) [
-      | inl w ↦ (both_true _ _ two (or_left _ _ w.0), both_true _ _ two (or_right _ _ w.1))
-      | inr w ↦ (both_true _ _ two (or_right _ _ w.1), both_true _ _ two (or_left _ _ w.0))
-    ]
-
 -- a server is of the side that serves
-of_server_side : (rule : Rule) (ask : Ask) (s : Held) (t : Option Held) (r : Held) → is_server rule ask s t r ≡ true → may_serve rule r ≡ true
-unfolding is_server
-of_server_side (Unique subject columns) ask s t r e = absurd (false≢true e)
-of_server_side (Partner subject columns server server_columns) ask s None r e =
-    (and_parts (is_of_side server r) _ (and_parts (is_of_side subject s) _ (and_parts (is_plain ask) _ e).1).1).0
-of_server_side (Partner subject columns server server_columns) ask s (Some t) r e = absurd (false≢true e)
-of_server_side (EndNode subject tip server) ask s None r e =
-    (and_parts (is_of_side server r) _ (and_parts (is_of_side subject s) _ (and_parts (is_plain ask) _ e).1).1).0
-of_server_side (EndNode subject tip server) ask s (Some t) r e = absurd (false≢true e)
-of_server_side (Crossing a b server) ask s None r e = absurd (false≢true e)
-of_server_side (Crossing a b server) ask s (Some t) r e = (and_parts (is_of_side server r) _ e).0
-of_server_side (Near a b d) ask s t r e = absurd (false≢true e)
-
 pub may_serve_there : (rules : List Rule) (ask : Ask) (s : Held) (t : Option Held) (r : Held) → calls rules ask s t ≡ true → serves rules ask s t r ≡ true
     → may_serve_under rules ask.rule r ≡ true
-unfolding may_serve_under
+unfolding may_serve_under is_server
 may_serve_there rules ask s t r e f =
     let (rule, at, called) = called_by rules ask s t e in
-    ap (λ o. may_serve_by o r) at ∙ of_server_side rule ask s t r (served_by rules ask s t r rule at f)
+    ap (λ o. may_serve_by o r) at ∙ (and_parts (may_serve rule r) _ (served_by rules ask s t r rule at f)).0
 
 -- ---- what finders find
 
-pub near_all : (rules : List Rule) (number : ℕ) (s t : Held) → are_sharing rules number s t ≡ true → IsNear false rules number s t
+pub near_all : (rules : List Rule) (number : ℕ) (s t : Held) → are_sharing rules number s t ≡ true → IsNeighbour false rules number s t
 near_all rules number s t e = ap (λ b. b && (not false || may_serve_under rules number t)) e
 
 pub near_server : (rules : List Rule) (number : ℕ) (s t : Held) → are_sharing rules number s t ≡ true → may_serve_under rules number t ≡ true
-    → IsNear true rules number s t
+    → IsNeighbour true rules number s t
 near_server rules number s t e f = λ i. e i && (not true || f i)
 
 -- one row alone is a content, and what is found of it is found of any
@@ -179,7 +117,7 @@ module _ (servers : Bool) (rules : List Rule) (number : ℕ) (s : Held) (q : Cel
   has_row = finite.get-insert cell_cmp_total finite.empty q row q ∙ ap (λ b. cond b (Some row) (finite.get (finite.empty {X = Row} {R = cell_cmp}) q))
       (ap is_eq (tied_itself cell_cmp_total q))
 
-  is_met : number < length rules → IsNear servers rules number s (q, row)
+  is_met : number < length rules → IsNeighbour servers rules number s (q, row)
       → is_met_at servers (rule_spots rules number s) number (Some (row_spots rules (q, row))) ≡ true
   unfolding found_cells sharing sharing_servers
   is_met below near = by servers near
@@ -191,13 +129,14 @@ module _ (servers : Bool) (rules : List Rule) (number : ℕ) (s : Held) (q : Cel
           let same : Some ys ≡ Some (row_spots rules (q, row)) = sym at ∙ is_settled q ∙ ap (option_map (λ r. row_spots rules (q, r))) has_row in
           ap (is_met_at b (rule_spots rules number s) number) (sym same) ∙ met
 
-      by : (b : Bool) → IsNear b rules number s (q, row) → is_met_at b (rule_spots rules number s) number (Some (row_spots rules (q, row))) ≡ true
+      by : (b : Bool) → IsNeighbour b rules number s (q, row) → is_met_at b (rule_spots rules number s) number (Some (row_spots rules (q, row))) ≡ true
       by false h = its_spots_meet false (subst (Among q) (sym (found_sharing rules one_row one_settled number s is_settled below))
           (passes_in (are_sharing rules number s) one_row q row has_row (and_parts (are_sharing rules number s (q, row)) _ h).0))
       by true h = its_spots_meet true (subst (Among q) (sym (found_servers rules one_row one_settled number s is_settled below))
           (passes_in (λ t. are_sharing rules number s t && may_serve_under rules number t) one_row q row has_row h))
 
-  pub found_near : (settled : Settled) → number < length rules → finite.get settled q ≡ Some (row_spots rules (q, row)) → IsNear servers rules number s (q, row)
+  pub found_near : (settled : Settled) → number < length rules → finite.get settled q ≡ Some (row_spots rules (q, row)) →
+      IsNeighbour servers rules number s (q, row)
       → Contains (found_cells servers settled number (rule_spots rules number s)) q
   unfolding found_cells
   found_near settled below at near =

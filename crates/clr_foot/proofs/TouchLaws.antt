@@ -9,20 +9,22 @@ use Rattle.clr_rows.specs.Held.{Held}
 use Rattle.clr_rows.specs.Cells.{cell_cmp}
 use Rattle.clr_needs.specs.declared.needs.Need.{Need}
 use Rattle.clr_needs.specs.declared.needs.VersionId.{VersionId}
-use Rattle.clr_foot.specs.declared.versions.Version.{Version}
-use Rattle.clr_foot.specs.Candidates.{IsNeedAmong, IsNeedBetween, IsNeedOf, IsNeedOfPair, IsNeedServedBy, IsNeedWith, id_of, may_be_paired, serves_too}
-use Rattle.clr_needs.specs.Needs.{AreOpposed, IsBeside, IsBesideToo, IsPossible, Serves, ask_of, held_too}
+use Rattle.clr_versions.specs.declared.versions.Version.{Version}
+use Rattle.clr_versions.specs.Candidates.{IsNeedAmong, IsNeedBetween, IsNeedOf, IsNeedOfPair, IsNeedServedBy, IsNeedWith, id_of, may_be_paired, serves_if_any}
+use Rattle.clr_needs.specs.Needs.{AreOpposed, IsBeside, IsBesideIfAny, IsPossible, Serves, ask_of, held_if_any}
 use Rattle.clr_needs.specs.Settings.{Setting, Lived, held_row, version}
-use Rattle.clr_foot.specs.Serving.{IsNeverServed, MayBeServed}
-use Rattle.clr_foot.specs.Touches.{IsNear, IsNeedServedAmong}
-use Rattle.clr_foot.specs.Versions.{AreAt, FindsAll, FitsSetting, HasVersion, IsAt, row_and_life, row_of}
-use Rattle.clr_foot.proofs.CandidateLaws.{they_call}
-use Rattle.clr_foot.proofs.SharingLaws.{both_paired, may_serve_there, near_all, server_near, server_near_second, subjects_near}
+use Rattle.clr_versions.specs.Serving.{IsNeverServed}
+use Rattle.clr_foot.specs.Serving.{MayBeServed}
+use Rattle.clr_foot.specs.Touches.{IsNeighbour, IsNeedServedAmong}
+use Rattle.clr_versions.specs.Versions.{AreAt, FindsAll, FitsSetting, HasVersion, IsAt, row_and_life, row_of}
+use Rattle.clr_new_pairs.proofs.CandidateLaws.{they_call}
+use Rattle.clr_new_pairs.proofs.CandidateLaws.{both_paired}
+use Rattle.clr_foot.proofs.SharingLaws.{may_serve_there, near_all, server_near, server_near_second, subjects_near}
 
 lived_too : Option Version → Option (Lived ℕ)
 lived_too t = option_map row_and_life t
 
-held_named : (t : Option Version) → held_too (option_map id_of t) (option_map row_and_life t) ≡ option_map row_of t
+held_named : (t : Option Version) → held_if_any (option_map id_of t) (option_map row_and_life t) ≡ option_map row_of t
 held_named None = refl
 held_named (Some t) = refl
 
@@ -37,22 +39,22 @@ module _ (c : Setting ℕ) where
 
   module _ (number : ℕ) (r : Option Version) (s : Version) (at : IsAt c s) where
     rows_call : (t : Option Version) (n : Need) → IsNeedOf c.rules number r s t n
-        → calls c.rules (ask_of n) (held_row n.first (row_and_life s)) (held_too n.second (option_map row_and_life t)) ≡ true
+        → calls c.rules (ask_of n) (held_row n.first (row_and_life s)) (held_if_any n.second (option_map row_and_life t)) ≡ true
     rows_call t n w =
-        (λ i. calls c.rules (ask_of n) ((w.first i).cell, s.row.now) (held_too (w.second i) (option_map row_and_life t)))
+        (λ i. calls c.rules (ask_of n) ((w.first i).cell, s.row.now) (held_if_any (w.second i) (option_map row_and_life t)))
         ∙ ap (calls c.rules (ask_of n) (row_of s)) (held_named t) ∙ they_call c.rules number r s t n w
 
     pub alone_possible : (n : Need) → IsNeedOf c.rules number r s None n → IsPossible c n (row_and_life s) None
     alone_possible n w = record {
       first_is = ap (version c) w.first ∙ at;
-      second_is = subst (λ x. IsBesideToo c n.first (row_and_life s) x None) (sym w.second) tt;
+      second_is = subst (λ x. IsBesideIfAny c n.first (row_and_life s) x None) (sym w.second) tt;
       they_call = rows_call None n w;
     }
 
     pub pair_possible : (t : Version) (n : Need) → IsAt c t → IsNeedBetween c.rules number r s t n → IsPossible c n (row_and_life s) (Some (row_and_life t))
     pair_possible t n at_too w = record {
       first_is = ap (version c) w.need.first ∙ at;
-      second_is = subst (λ x. IsBesideToo c n.first (row_and_life s) x (Some (row_and_life t))) (sym w.need.second) beside;
+      second_is = subst (λ x. IsBesideIfAny c n.first (row_and_life s) x (Some (row_and_life t))) (sym w.need.second) beside;
       they_call = rows_call (Some t) n w.need;
     }
       where
@@ -64,9 +66,9 @@ module _ (c : Setting ℕ) where
       → Serves c n (row_and_life s) (option_map row_and_life t) r.id (row_and_life r)
   server_serves number r s t n at w = record {
     is = at;
-    it_serves = (λ i. serves c.rules (ask_of n) ((w.first i).cell, s.row.now) (held_too (w.second i) (option_map row_and_life t)) (row_of r))
+    it_serves = (λ i. serves c.rules (ask_of n) ((w.first i).cell, s.row.now) (held_if_any (w.second i) (option_map row_and_life t)) (row_of r))
         ∙ ap (λ h. serves c.rules (ask_of n) (row_of s) h (row_of r)) (held_named t)
-        ∙ (and_parts (serves_too c.rules (ask_of n) s t (Some r)) _ w.asked).0;
+        ∙ (and_parts (serves_if_any c.rules (ask_of n) s t (Some r)) _ w.asked).0;
   }
 
   -- ---- what is added is a need with the version, or one that it serves
@@ -124,16 +126,16 @@ module _ (c : Setting ℕ) where
       → option_map id_of t ≡ n.second
       → row_and_life s ≡ a
       → option_map row_and_life t ≡ b
-      → calls c.rules (ask_of n) (held_row n.first a) (held_too n.second b) ≡ true
-      → serves_too c.rules (ask_of n) s t r ≡ true
+      → calls c.rules (ask_of n) (held_row n.first a) (held_if_any n.second b) ≡ true
+      → serves_if_any c.rules (ask_of n) s t r ≡ true
       → IsNeedOf c.rules number r s t n
   need_of_versions number r s t n a b rule first second row rows called serve = record {
     rule = rule;
     first = sym first;
     second = sym second;
-    asked = served_then (serves_too c.rules (ask_of n) s t r) _ serve
+    asked = served_then (serves_if_any c.rules (ask_of n) s t r) _ serve
         (sym (ap (calls c.rules (ask_of n) (row_of s)) (held_named t))
-        ∙ (λ i. calls c.rules (ask_of n) ((first i).cell, (row i).row) (held_too (second i) (rows i))) ∙ called);
+        ∙ (λ i. calls c.rules (ask_of n) ((first i).cell, (row i).row) (held_if_any (second i) (rows i))) ∙ called);
   }
 
   serves_versions : (r s : Version) (t : Option Version) (n : Need) (a : Lived ℕ) (b : Option (Lived ℕ)) (l : Lived ℕ)
@@ -142,11 +144,11 @@ module _ (c : Setting ℕ) where
       → row_and_life s ≡ a
       → option_map row_and_life t ≡ b
       → row_and_life r ≡ l
-      → serves c.rules (ask_of n) (held_row n.first a) (held_too n.second b) (held_row r.id l) ≡ true
-      → serves_too c.rules (ask_of n) s t (Some r) ≡ true
+      → serves c.rules (ask_of n) (held_row n.first a) (held_if_any n.second b) (held_row r.id l) ≡ true
+      → serves_if_any c.rules (ask_of n) s t (Some r) ≡ true
   serves_versions r s t n a b l first second row rows server serve =
       sym (ap (λ h. serves c.rules (ask_of n) (row_of s) h (row_of r)) (held_named t))
-      ∙ (λ i. serves c.rules (ask_of n) ((first i).cell, (row i).row) (held_too (second i) (rows i)) (r.id.cell, (server i).row)) ∙ serve
+      ∙ (λ i. serves c.rules (ask_of n) ((first i).cell, (row i).row) (held_if_any (second i) (rows i)) (r.id.cell, (server i).row)) ∙ serve
 
   -- two versions in the order of their cells
   pub need_between : (number : ℕ) (r : Option Version) (s t : Version) (n : Need) (a : Lived ℕ) (w : VersionId) (b : Lived ℕ)
@@ -159,7 +161,7 @@ module _ (c : Setting ℕ) where
       → version c n.first ≡ Some a
       → IsBeside c n.first a w b
       → calls c.rules (ask_of n) (held_row n.first a) (Some (held_row w b)) ≡ true
-      → (row_and_life s ≡ a → row_and_life t ≡ b → serves_too c.rules (ask_of n) s (Some t) r ≡ true)
+      → (row_and_life s ≡ a → row_and_life t ≡ b → serves_if_any c.rules (ask_of n) s (Some t) r ≡ true)
       → IsNeedBetween c.rules number r s t n
   need_between number r s t n a w b rule first same second at at_too is beside called serve =
       let row = lived_is s n.first a first at is in
@@ -169,14 +171,15 @@ module _ (c : Setting ℕ) where
         not_opposed = subst (λ l. ¬ (AreOpposed l.life (row_and_life t).life)) (sym row) (subst (λ l. ¬ (AreOpposed a.life l.life)) (sym rows)
             beside.not_opposed);
         need = need_of_versions number r s (Some t) n a (Some b) rule first (ap Some same ∙ sym second) row (ap Some rows)
-            (ap (λ x. calls c.rules (ask_of n) (held_row n.first a) (held_too x (Some b))) second ∙ called) (serve row rows);
+            (ap (λ x. calls c.rules (ask_of n) (held_row n.first a) (held_if_any x (Some b))) second ∙ called) (serve row rows);
       }
 
   -- what is near a version's row is near the version
   near_of : (v : Version) (id : VersionId) (l : Lived ℕ) (s : Held) (number rule : ℕ) → rule ≡ number → v.id ≡ id → row_and_life v ≡ l
-      → IsNear false c.rules rule (held_row id l) s → IsNear false c.rules number (row_of v) s
+      → IsNeighbour false c.rules rule (held_row id l) s → IsNeighbour false c.rules number (row_of v) s
   near_of v id l s number rule is same row near =
-      subst (λ h. IsNear false c.rules number h s) (λ i. ((sym same i).cell, (sym row i).row)) (subst (λ k. IsNear false c.rules k (held_row id l) s) is near)
+      subst (λ h. IsNeighbour false c.rules number h s) (λ i. ((sym same i).cell, (sym row i).row))
+      (subst (λ k. IsNeighbour false c.rules k (held_row id l) s) is near)
 
   -- a need with a version alone
   alone_found : (number : ℕ) (v : Version) (at : IsAt c v) (n : Need) (a : Lived ℕ) → n.rule ≡ number → n.first ≡ v.id → n.second ≡ None → version c n.first
@@ -184,7 +187,7 @@ module _ (c : Setting ℕ) where
       → calls c.rules (ask_of n) (held_row n.first a) None ≡ true → IsNeedOf c.rules number None v None n
   alone_found number v at n a rule first second is called =
       need_of_versions number None v None n a None rule (sym first) (sym second) (lived_is v n.first a (sym first) at is) refl
-      (ap (λ w. calls c.rules (ask_of n) (held_row n.first a) (held_too {A = ℕ} w None)) second ∙ called) refl
+      (ap (λ w. calls c.rules (ask_of n) (held_row n.first a) (held_if_any {A = ℕ} w None)) second ∙ called) refl
 
   -- a need with a version that is of no side of two subjects is that of the version alone
   pub alone_of_one : (number : ℕ) (v : Version) (at : IsAt c v) (told : Bool) → told ≡ may_be_paired c.rules number (row_of v) → told ≡ false → (n : Need)
@@ -197,8 +200,8 @@ module _ (c : Setting ℕ) where
           let row = lived_is v id l same at there in
           false≢true (sym fails ∙ is ∙ (λ i. may_be_paired c.rules (sym rule i) ((same i).cell, (row i).row)) ∙ may)
 
-      by : (w : Option VersionId) (b : Option (Lived ℕ)) → n.second ≡ w → IsBesideToo c n.first a w b
-          → calls c.rules (ask_of n) (held_row n.first a) (held_too {A = ℕ} w b) ≡ true
+      by : (w : Option VersionId) (b : Option (Lived ℕ)) → n.second ≡ w → IsBesideIfAny c n.first a w b
+          → calls c.rules (ask_of n) (held_row n.first a) (held_if_any {A = ℕ} w b) ≡ true
           → (n.first ≡ v.id) ⊎ (n.second ≡ Some v.id) → IsNeedOf c.rules number None v None n
       by None None second beside called (inl e) = alone_found number v at n a rule e second p.first_is called
       by None None second beside called (inr e) = let clash : None ≡ Some v.id = sym second ∙ e in cc
@@ -211,7 +214,7 @@ module _ (c : Setting ℕ) where
           absurd (paired w b same beside.is (both_paired c.rules (ask_of n) (held_row n.first a) (held_row w b) called).1)
 
   module _ (fits : FitsSetting c) (number : ℕ) (v : Version) (at : IsAt c v) (near : List Version) (P : VersionId → Type 0) (are : AreAt c near)
-      (every : (id : VersionId) (l : Lived ℕ) → P id → version c id ≡ Some l → IsNear false c.rules number (row_of v) (held_row id l)
+      (every : (id : VersionId) (l : Lived ℕ) → P id → version c id ≡ Some l → IsNeighbour false c.rules number (row_of v) (held_row id l)
       → HasVersion near id) where
     -- a need with a version is found: it stands alone, or beside one that is near
     abbrev pub IsFound : Need → Type 0
@@ -226,8 +229,8 @@ module _ (c : Setting ℕ) where
         → IsFound n
     with_found n (rule, subject, a, b, p) second_sought first_sought = by n.second b refl p.second_is p.they_call subject
       where
-        by : (w : Option VersionId) (b : Option (Lived ℕ)) → n.second ≡ w → IsBesideToo c n.first a w b
-            → calls c.rules (ask_of n) (held_row n.first a) (held_too {A = ℕ} w b) ≡ true
+        by : (w : Option VersionId) (b : Option (Lived ℕ)) → n.second ≡ w → IsBesideIfAny c n.first a w b
+            → calls c.rules (ask_of n) (held_row n.first a) (held_if_any {A = ℕ} w b) ≡ true
             → (n.first ≡ v.id) ⊎ (n.second ≡ Some v.id) → IsFound n
         by None None second beside called (inl e) = inl (alone_found number v at n a rule e second p.first_is called)
         by None None second beside called (inr e) = let clash : None ≡ Some v.id = sym second ∙ e in cc
@@ -244,7 +247,8 @@ module _ (c : Setting ℕ) where
             let same : w ≡ v.id = let both : Some w ≡ Some v.id = sym second ∙ e in cc in
             let row = lived_is v w b (sym same) at beside.is in
             let shared = (subjects_near c fits (ask_of n) (held_row n.first a) (held_row w b) called).1 in
-            let near = near_of v w b (held_row n.first a) number n.rule rule (sym same) row (near_all c.rules n.rule (held_row w b) (held_row n.first a) shared) in
+            let near = near_of v w b (held_row n.first a) number n.rule rule (sym same) row
+            (near_all c.rules n.rule (held_row w b) (held_row n.first a) shared) in
             need_is_found n n.first (λ t is t_at. inr (need_between number None t v n a w b rule is (sym same) second t_at at p.first_is beside called
             (λ row rows. refl)))
             (every n.first a (first_sought e) p.first_is near)
@@ -277,25 +281,30 @@ module _ (c : Setting ℕ) where
             → ¬ (IsNeverServed c.rules number (row_of r) t)
         second_served t serve never = never.second (ask_of n) (held_row n.first a) rule (its_row (held_row n.first a) (Some t) serve)
 
-        by : (w : Option VersionId) (b : Option (Lived ℕ)) → n.second ≡ w → IsBesideToo c n.first a w b
-            → calls c.rules (ask_of n) (held_row n.first a) (held_too {A = ℕ} w b) ≡ true
-            → serves c.rules (ask_of n) (held_row n.first a) (held_too {A = ℕ} w b) (held_row r.id l) ≡ true → IsNeedServedAmong c.rules number r near near n
+        by : (w : Option VersionId) (b : Option (Lived ℕ)) → n.second ≡ w → IsBesideIfAny c n.first a w b
+            → calls c.rules (ask_of n) (held_row n.first a) (held_if_any {A = ℕ} w b) ≡ true
+            → serves c.rules (ask_of n) (held_row n.first a) (held_if_any {A = ℕ} w b) (held_row r.id l) ≡ true → IsNeedServedAmong c.rules number r near near n
         by None (Some b) second beside called serve = absurd beside
         by (Some w) None second beside called serve = absurd beside
         by None None second beside called serve =
-            let (s, h, same) = found.every n.first a p.first_is (close n.first a (server_near c.rules (ask_of n) (held_row n.first a) None (held_row r.id l) called serve).1 (first_served None serve)) in
+            let (s, h, same) = found.every n.first a p.first_is
+            (close n.first a (server_near c.rules (ask_of n) (held_row n.first a) None (held_row r.id l) called serve).1 (first_served None serve)) in
             let row = lived_is s n.first a same (found.are s h) p.first_is in
-            let called_too = ap (λ w. calls c.rules (ask_of n) (held_row n.first a) (held_too {A = ℕ} w None)) second ∙ called in
-            let serve_too = ap (λ w. serves c.rules (ask_of n) (held_row n.first a) (held_too {A = ℕ} w None) (held_row r.id l)) second ∙ serve in (
+            let called_too = ap (λ w. calls c.rules (ask_of n) (held_row n.first a) (held_if_any {A = ℕ} w None)) second ∙ called in
+            let serve_too = ap (λ w. serves c.rules (ask_of n) (held_row n.first a) (held_if_any {A = ℕ} w None) (held_row r.id l)) second ∙ serve in (
               s,
               h,
               inl (need_of_versions number (Some r) s None n a None rule same (sym second) row refl called_too
                   (serves_versions r s None n a None l same (sym second) row refl server serve_too)),
             )
         by (Some w) (Some b) second beside called serve =
-            let (s, h, same) = found.every n.first a p.first_is (close n.first a (server_near c.rules (ask_of n) (held_row n.first a) (Some (held_row w b)) (held_row r.id l) called serve).1 (first_served (Some (held_row w b)) serve)) in
-            let (t, k, same_too) = found.every w b beside.is (close w b (server_near_second c.rules (ask_of n) (held_row n.first a) (held_row w b) (held_row r.id l) called serve) (second_served (held_row w b) serve)) in
-            let serve_too = ap (λ w. serves c.rules (ask_of n) (held_row n.first a) (held_too {A = ℕ} w (Some b)) (held_row r.id l)) second ∙ serve in (
+            let (s, h, same) = found.every n.first a p.first_is
+            (close n.first a (server_near c.rules (ask_of n) (held_row n.first a) (Some (held_row w b)) (held_row r.id l) called serve).1
+            (first_served (Some (held_row w b)) serve)) in
+            let (t, k, same_too) = found.every w b beside.is
+            (close w b (server_near_second c.rules (ask_of n) (held_row n.first a) (held_row w b) (held_row r.id l) called serve)
+            (second_served (held_row w b) serve)) in
+            let serve_too = ap (λ w. serves c.rules (ask_of n) (held_row n.first a) (held_if_any {A = ℕ} w (Some b)) (held_row r.id l)) second ∙ serve in (
               s,
               h,
               inr (
@@ -312,4 +321,4 @@ module _ (c : Setting ℕ) where
   not_served number r at told is fails n (rule, a, b, l, p, v) =
       let row = lived_is r r.id l refl at v.is in
       false≢true (sym fails ∙ is ∙ (λ i. may_serve_under c.rules (sym rule i) (r.id.cell, (row i).row))
-      ∙ may_serve_there c.rules (ask_of n) (held_row n.first a) (held_too n.second b) (held_row r.id l) p.they_call v.it_serves)
+      ∙ may_serve_there c.rules (ask_of n) (held_row n.first a) (held_if_any n.second b) (held_row r.id l) p.they_call v.it_serves)

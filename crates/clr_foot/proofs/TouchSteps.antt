@@ -16,25 +16,25 @@ use Rattle.clr_rules.proofs.Elements.{Among, among, among_either, contained}
 use Rattle.clr_finders.specs.Sharing.{may_serve_under}
 use Rattle.clr_needs.specs.declared.needs.Need.{Need}
 use Rattle.clr_needs.specs.declared.needs.VersionId.{VersionId}
-use Rattle.clr_foot.specs.declared.versions.Version.{Version}
-use Rattle.clr_foot.specs.Candidates.{IsNeedAmong, IsNeedAt, IsNeedBesideOld, IsNeedOf, IsNeedServedBy, IsNeedWith, may_be_paired}
-use Rattle.clr_foot.specs.Gains.{Gains, GainsSome, IsReached, OfSome, Reaches}
+use Rattle.clr_versions.specs.declared.versions.Version.{Version}
+use Rattle.clr_versions.specs.Candidates.{IsNeedAmong, IsNeedAt, IsNeedBesideOld, IsNeedOf, IsNeedServedBy, IsNeedWith, may_be_paired}
+use Rattle.clr_versions.specs.Gains.{Gains, GainsSome, IsListedOrPassed, OfSome, Reaches}
 use Rattle.clr_needs.specs.Broken.{is_living}
 use Rattle.clr_needs.specs.Members.{ChangesCell, changed_cells, setting}
-use Rattle.clr_needs.specs.Needs.{AreTouchedNeeds, IsBeside, IsBesideToo, IsChanged, IsTouched, IsTouchedBy, ask_of, held_too, is_fresh}
+use Rattle.clr_needs.specs.Needs.{AreTouchedNeeds, IsBeside, IsBesideIfAny, IsChanged, IsTouched, IsTouchedBy, ask_of, held_if_any, is_fresh}
 use Rattle.clr_needs.specs.Orders.{need_cmp}
 use Rattle.clr_needs.specs.Settings.{Setting, Lifetime, Always, With, Without, Lived, changer, held_row, new_version, old_life, old_version, version}
 use Rattle.clr_foot.specs.Serving.{MayBeServed}
-use Rattle.clr_foot.specs.NewPairs.{IsNeedOfTwo, Passes}
-use Rattle.clr_foot.specs.Touches.{IsInCells, IsNear, IsNeedOfChanged, IsNeedOfNew, IsNeedServedAmong, IsTouchedOf, ListsTouched}
-use Rattle.clr_foot.specs.Versions.{Finds, FindsAll, FitsSetting, HasVersion, IsAt, row_and_life, row_of, version_of}
-use Rattle.clr_foot.proofs.ChangerSteps.{changed_key}
-use Rattle.clr_foot.proofs.Gaining.{gains_as, gains_both, gains_none, gains_reach, reaches_as, reaches_both, some_as, then_none, then_some}
+use Rattle.clr_new_pairs.specs.NewPairs.{IsNeedOfTwo, Passes}
+use Rattle.clr_foot.specs.Touches.{IsInCells, IsNeighbour, IsNeedOfChanged, IsNeedOfNew, IsNeedServedAmong, IsTouchedOf, ListsTouched}
+use Rattle.clr_versions.specs.Versions.{Finds, FindsAll, FitsSetting, HasVersion, IsAt, row_and_life, row_of, version_of}
+use Rattle.clr_versions.proofs.ChangerSteps.{changed_key}
+use Rattle.clr_versions.proofs.Gaining.{gains_as, gains_both, gains_none, gains_reach, reaches_as, reaches_both, some_as, then_none, then_some}
 use Rattle.clr_needs.proofs.Lives.{new_is, old_is}
 use Rattle.clr_needs.proofs.Merges.{IsChanger, changer_is}
 use Rattle.clr_foot.proofs.NewRows.{brought_is_listed}
 use Rattle.clr_needs.proofs.PositionLaws.{range_has}
-use Rattle.clr_foot.proofs.SharedCells.{changed_is_listed}
+use Rattle.clr_versions.proofs.SharedCells.{changed_is_listed}
 use Rattle.clr_foot.proofs.TouchLaws.{alone_of_one, alone_with, among_served, among_with, need_between, not_served, pair_possible, served_found, with_found}
 
 -- ---- changed cells
@@ -114,7 +114,8 @@ module _ (rules : List Rule) (root : Content) (sets : List Changes) where
         both_new : (w : VersionId) (m : Lived ℕ) → n.second ≡ Some w → IsBeside c n.first a w m
             → calls c.rules (ask_of n) (held_row n.first a) (Some (held_row w m)) ≡ true → n.first.fresh ≡ true → w.fresh ≡ true → IsPlaced n
         both_new w m second beside called e f =
-            let (s, h, same) = found.every n.first.cell a (ap (version c) (sym (its_name n.first true e)) ∙ p.first_is) (new_is_listed n.first a e p.first_is) in
+            let (s, h, same) = found.every n.first.cell a (ap (version c) (sym (its_name n.first true e)) ∙ p.first_is)
+            (new_is_listed n.first a e p.first_is) in
             let (t, k, same_too) = found.every w.cell m (ap (version c) (sym (its_name w true f)) ∙ beside.is) (new_is_listed w m f beside.is) in
             inr (
               s,
@@ -131,8 +132,8 @@ module _ (rules : List Rule) (root : Content) (sets : List Changes) where
             let is = changed_is_old v l serve.is changed in
             inl (v.cell, is.1, inr (subst (λ u. IsNeedServedBy c n.rule u n) (its_name v false is.0) (refl, a, b, l, p, serve)))
 
-        by : (new : Bool) → n.first.fresh ≡ new → (w : Option VersionId) (m : Option (Lived ℕ)) → n.second ≡ w → IsBesideToo c n.first a w m
-            → calls c.rules (ask_of n) (held_row n.first a) (held_too {A = ℕ} w m) ≡ true → IsPlaced n
+        by : (new : Bool) → n.first.fresh ≡ new → (w : Option VersionId) (m : Option (Lived ℕ)) → n.second ≡ w → IsBesideIfAny c n.first a w m
+            → calls c.rules (ask_of n) (held_row n.first a) (held_if_any {A = ℕ} w m) ≡ true → IsPlaced n
         by true e None m is beside called = first_new e (ap is_fresh is)
         by true e (Some w) None is beside called = absurd beside
         by true e (Some w) (Some m) is beside called = elim (cases_Bool w.fresh) [
@@ -151,7 +152,7 @@ module _ (rules : List Rule) (root : Content) (sets : List Changes) where
 module _ (c : Setting ℕ) (number : ℕ) where
   -- a version's needs
   pub with_gains : (fits : FitsSetting c) (v : Version) (near : List Version) (first second last : List Need) → IsAt c v
-      → FindsAll c (IsNear false c.rules number (row_of v)) near
+      → FindsAll c (IsNeighbour false c.rules number (row_of v)) near
       → Gains (IsNeedOf c.rules number None v None) (IsNeedOf c.rules number None v None) first second
       → Gains (IsNeedAmong c.rules number None v near) (IsNeedAmong c.rules number None v near) second last
       → Gains (IsNeedWith c number v.id) (IsNeedWith c number v.id) first last
@@ -178,14 +179,14 @@ module _ (c : Setting ℕ) (number : ℕ) where
   first_old true y e f = absurd (false≢true (sym f ∙ e))
 
   pub beside_gains : (fits : FitsSetting c) (v : Version) (near : List Version) (first second last : List Need) → IsAt c v → v.id.fresh ≡ true
-      → Finds c false (IsNear false c.rules number (row_of v)) near
+      → Finds c false (IsNeighbour false c.rules number (row_of v)) near
       → Gains (IsNeedOf c.rules number None v None) (IsNeedOf c.rules number None v None) first second
       → Gains (IsNeedAmong c.rules number None v near) (IsNeedAmong c.rules number None v near) second last
       → Gains (IsNeedWith c number v.id) (IsNeedBesideOld c number v.id) first last
   beside_gains fits v near first second last at new found alone pairs =
       gains_both (IsNeedWith c number v.id) (IsNeedOf c.rules number None v None) (IsNeedAmong c.rules number None v near) (IsNeedBesideOld c number v.id) first
       second last
-      (λ n w. with_found c fits number v at near (λ id. id.fresh ≡ false) found.are (old_sought near (IsNear false c.rules number (row_of v)) found) n w.0
+      (λ n w. with_found c fits number v at near (λ id. id.fresh ≡ false) found.are (old_sought near (IsNeighbour false c.rules number (row_of v)) found) n w.0
       (λ u e f. sym (λ i. (ap (λ (x : VersionId). x.fresh) e ∙ new) i && is_fresh (f i)) ∙ w.1)
       (λ e. first_old n.first.fresh (is_fresh n.second) (ap is_fresh e ∙ new) w.1))
       (gains_as (IsNeedOf c.rules number None v None) (IsNeedOf c.rules number None v None) (IsNeedWith c number v.id) (IsNeedOf c.rules number None v None)
@@ -210,7 +211,7 @@ module _ (c : Setting ℕ) (number : ℕ) where
       (then_none (IsNeedOf c.rules number None v None) (IsNeedOf c.rules number None v None) first last new is alone)
 
   pub some_with : (v : Version) (near : List Version) (first second last : List Need) → IsAt c v
-      → FindsAll c (IsNear false c.rules number (row_of v)) near
+      → FindsAll c (IsNeighbour false c.rules number (row_of v)) near
       → Gains (IsNeedOf c.rules number None v None) (IsNeedOf c.rules number None v None) first second
       → GainsSome (IsNeedAmong c.rules number None v near) second last
       → GainsSome (IsNeedWith c number v.id) first last
@@ -291,7 +292,7 @@ module _ (c : Setting ℕ) (number : ℕ) where
   subject_there v n (rule, inl e, a, b, p) = (a, ap (version c) (sym e) ∙ p.first_is)
   subject_there v n (rule, inr e, a, b, p) = by n.second b e p.second_is
     where
-      by : (w : Option VersionId) (b : Option (Lived ℕ)) → w ≡ Some v → IsBesideToo c n.first a w b → (l : Lived ℕ) × (version c v ≡ Some l)
+      by : (w : Option VersionId) (b : Option (Lived ℕ)) → w ≡ Some v → IsBesideIfAny c n.first a w b → (l : Lived ℕ) × (version c v ≡ Some l)
       by None None e h = absurd (let f : None ≡ Some v = e in cc)
       by None (Some b) e h = absurd h
       by (Some w) None e h = absurd h
@@ -331,7 +332,8 @@ module _ (rules : List Rule) (root : Content) (sets : List Changes) where
       (gains_reach (Passes rules leaves_out) (IsTouched s) (IsPlacedAmong number fresh old) first third
       (gains_both (IsTouched s) (OfSome (IsNeedOfNew s number) fresh) (OfSome (IsNeedOfChanged s number) old) (IsPlacedAmong number fresh old) first second
       third (λ n w. w) g h))
-      (reaches_as (Passes rules leaves_out) (IsNeedOfTwo rules number fresh) (IsNeedOfTwo rules number fresh) (IsTouched s) (IsNeedOfTwo rules number fresh) third
+      (reaches_as (Passes rules leaves_out) (IsNeedOfTwo rules number fresh) (IsNeedOfTwo rules number fresh) (IsTouched s) (IsNeedOfTwo rules number fresh)
+      third
       last (two_touched number fresh (IsInCells (changed_cells sets)) found) (λ n w. w) pairs)
     where
       beside : (q : CellId) (n : Need) → Contains (changed_cells sets) q → IsNeedBesideOld s number (version_of true q) n
@@ -377,7 +379,8 @@ module _ (rules : List Rule) (root : Content) (sets : List Changes) where
         → Reaches (Passes rules leaves_out) (IsTouched s) (IsTouchedOf s number) middle new
         → Reaches (Passes rules leaves_out) (IsTouched s) (IsTouchedBelow (number + 1)) old new
     one_rule_more number old middle new g h =
-        reaches_both (Passes rules leaves_out) (IsTouched s) (IsTouchedBelow number) (IsTouchedOf s number) (IsTouchedBelow (number + 1)) old middle new split g h
+        reaches_both (Passes rules leaves_out) (IsTouched s) (IsTouchedBelow number) (IsTouchedOf s number) (IsTouchedBelow (number + 1)) old middle new split g
+        h
       where
         split : (n : Need) → IsTouchedBelow (number + 1) n → IsTouchedBelow number n ⊎ IsTouchedOf s number n
         split n w = elim (cases_lt n.rule number) [
@@ -401,17 +404,18 @@ module _ (rules : List Rule) (root : Content) (sets : List Changes) where
         only n (inl h) = absurd (among n [] (subst (λ ns. Contains ns n) none h))
         only n (inr t) = t
 
-        every : (n : Need) → IsReached (Passes rules leaves_out) new n → IsReached (Passes rules leaves_out) sorted n
+        every : (n : Need) → IsListedOrPassed (Passes rules leaves_out) new n → IsListedOrPassed (Passes rules leaves_out) sorted n
         every n (inl h) = inl ((same n).1 h)
         every n (inr (m, h, passes)) = inr (m, (same m).1 h, passes)
 
         below : (n : Need) → IsTouched s n → n.rule < number
-        below n (a, b, p, touched) = let less = rule_there rules (ask_of n) (held_row n.first a) (held_too n.second b) p.they_call in omega (arith, less, past)
+        below n (a, b, p, touched) = let less = rule_there rules (ask_of n) (held_row n.first a) (held_if_any n.second b) p.they_call in
+            omega (arith, less, past)
 
   -- where none is left out, they are all
   pub none_left_out : (needs : List Need) → ListsTouched s false needs → AreTouchedNeeds s needs
   none_left_out needs listed = record { ascending = listed.ascending; exactly = λ n. (listed.only n, λ t. by n (listed.every n t)) }
     where
-      by : (n : Need) → IsReached (Passes rules false) needs n → Contains needs n
+      by : (n : Need) → IsListedOrPassed (Passes rules false) needs n → Contains needs n
       by n (inl h) = h
       by n (inr (m, h, (breaking, less))) = absurd (false≢true breaking.allowed)

@@ -1,20 +1,24 @@
 -- The versions of some cells, one cell after another.
-use Rattle.std.proofs.Common.{◌≡◌, ◌∙◌, ◌<◌, ◌≤◌, ◌+◌, ℕ, Bool, true, false, List, [], ◌∷◌, ◌++◌, ◌⊎◌, inl, inr, Some, None, Contains, get_or, length, take}
+use Rattle.std.proofs.Common.{◌≡◌, ◌∙◌, ◌<◌, ◌≤◌, ◌+◌, ℕ, Bool, true, false, List, [], ◌∷◌, ◌++◌, ◌⊎◌, inl, inr, Option, Some, None, Bor, Contains, get_or}
+use Rattle.std.proofs.Common.{is_some, length, take}
 use Rattle.std.proofs.Common.{refl, sym, ap, subst}
 use Rattle.std.proofs.lemmas.List.Elements.{Contains-append_left, Contains-append_right, Contains-append_cases}
-use Rattle.std.specs.Option.{option_map}
+use Rattle.std.specs.FinMap as finite
+use Rattle.std.specs.Option.{option_copied, option_map}
 use Rattle.clr_rows.specs.declared.cells.CellId.{CellId}
 use Rattle.clr_rows.specs.Contents.{Changes, Content}
 use Rattle.clr_rows.specs.Held.{Held}
 use Rattle.clr_rules.specs.declared.rules.Rule.{Rule}
 use Rattle.clr_rules.proofs.Elements.{among, contained}
+use Rattle.clr_finders.specs.declared.row_spots.RuleSpots.{RuleSpots}
 use Rattle.clr_finders.specs.Sharing.{IsSettledFor, Settled, found_cells, row_spots, rule_spots}
-use Rattle.clr_foot.specs.declared.versions.Version.{Version}
+use Rattle.clr_versions.specs.declared.versions.Version.{Version}
 use Rattle.clr_needs.specs.declared.needs.VersionId.{VersionId}
 use Rattle.clr_needs.specs.Members.{setting}
 use Rattle.clr_needs.specs.Settings.{Setting, Lived, changer, held_row, version}
-use Rattle.clr_foot.specs.Touches.{IsInCells, IsNear}
-use Rattle.clr_foot.specs.Versions.{AreAt, AreNewRowsFiled, Finds, FindsAll, HasVersion, IsAt, IsNamed, version_of}
+use Rattle.clr_foot.specs.Touches.{IsInCells, IsNeighbour}
+use Rattle.clr_versions.specs.Versions.{AreAt, Finds, FindsAll, HasVersion, IsAt, IsNamed, row_and_life, row_of, version_of}
+use Rattle.clr_foot.specs.NewRows.{AreNewRowsFiled}
 use Rattle.clr_needs.proofs.Reading.{all_taken, none_taken, one_more}
 use Rattle.clr_needs.proofs.Lives.{old_is}
 use Rattle.clr_foot.proofs.SharingLaws.{found_near}
@@ -139,26 +143,56 @@ module _ (rules : List Rule) (root : Content) (sets : List Changes) (servers : B
   old_row q l is = (old_is c (changer c q) (c.root q) l is).0
 
   pub old_cell_found : (settled : Settled) (q : CellId) (l : Lived ℕ) → IsSettledFor settled rules root → version c (version_of false q) ≡ Some l
-      → IsNear servers rules number s (q, l.row)
+      → IsNeighbour servers rules number s (q, l.row)
       → Contains (found_cells servers settled number (rule_spots rules number s)) q
   old_cell_found settled q l holds is near =
       found_near servers rules number s q l.row settled below (holds q ∙ ap (option_map (λ row. row_spots rules (q, row))) (old_row q l is)) near
 
   pub new_cell_found : (settled : Settled) (q : CellId) (l : Lived ℕ) → AreNewRowsFiled settled rules sets → version c (version_of true q) ≡ Some l
-      → IsNear servers rules number s (q, l.row)
+      → IsNeighbour servers rules number s (q, l.row)
       → Contains (found_cells servers settled number (rule_spots rules number s)) q
   unfolding version
   new_cell_found settled q l holds is near =
       found_near servers rules number s q l.row settled below (holds q ∙ ap (option_map (λ (m : Lived ℕ). row_spots rules (q, m.row))) is) near
 
-  pub old_found : (settled : Settled) (cells : List CellId) (vs : List Version) → IsSettledFor settled rules root → cells
-      ≡ found_cells servers settled number (rule_spots rules number s)
-      → Finds c false (IsInCells cells) vs → Finds c false (IsNear servers rules number s) vs
-  old_found settled cells vs holds are = finds_as c false (IsInCells cells) (IsNear servers rules number s) vs
-      (λ q l is near. subst (λ cs. Contains cs q) (sym are) (old_cell_found settled q l holds is near))
+  -- of cells among which those are that a finder finds
+  abbrev HasFound : Settled → RuleSpots → List CellId → Type 0
+  HasFound settled x cells = (q : CellId) → Contains (found_cells servers settled number x) q → Contains cells q
 
-  pub new_found : (settled : Settled) (cells : List CellId) (vs : List Version) → AreNewRowsFiled settled rules sets → cells
-      ≡ found_cells servers settled number (rule_spots rules number s)
-      → Finds c true (IsInCells cells) vs → Finds c true (IsNear servers rules number s) vs
-  new_found settled cells vs holds are = finds_as c true (IsInCells cells) (IsNear servers rules number s) vs
-      (λ q l is near. subst (λ cs. Contains cs q) (sym are) (new_cell_found settled q l holds is near))
+  pub old_found : (settled : Settled) (x : RuleSpots) (cells : List CellId) (vs : List Version) → IsSettledFor settled rules root →
+      x ≡ rule_spots rules number s
+      → HasFound settled x cells → Finds c false (IsInCells cells) vs → Finds c false (IsNeighbour servers rules number s) vs
+  old_found settled x cells vs holds spots all = finds_as c false (IsInCells cells) (IsNeighbour servers rules number s) vs
+      (λ q l is near. all q (subst (λ y. Contains (found_cells servers settled number y) q) (sym spots) (old_cell_found settled q l holds is near)))
+
+  pub new_found : (settled : Settled) (x : RuleSpots) (cells : List CellId) (vs : List Version) → AreNewRowsFiled settled rules sets
+      → x ≡ rule_spots rules number s
+      → HasFound settled x cells → Finds c true (IsInCells cells) vs → Finds c true (IsNeighbour servers rules number s) vs
+  new_found settled x cells vs holds spots all = finds_as c true (IsInCells cells) (IsNeighbour servers rules number s) vs
+      (λ q l is near. all q (subst (λ y. Contains (found_cells servers settled number y) q) (sym spots) (new_cell_found settled q l holds is near)))
+
+-- ---- the spots that a finder keeps of a version
+
+module _ (rules : List Rule) (root : Content) (sets : List Changes) (v : Version) (is : IsAt (setting rules root sets) v) where
+  named : (fresh : Bool) → v.id.fresh ≡ fresh → version (setting rules root sets) (version_of fresh v.id.cell) ≡ Some (row_and_life v)
+  named fresh e = ap (version (setting rules root sets)) (λ i. record { cell = v.id.cell; fresh = sym e i }) ∙ is
+
+  pub old_spots : (settled : Settled) → IsSettledFor settled rules root → v.id.fresh ≡ false → finite.get settled v.id.cell ≡ Some (row_spots rules (row_of v))
+  unfolding version
+  old_spots settled holds e = holds v.id.cell ∙ ap (option_map (λ row. row_spots rules (v.id.cell, row)))
+      (old_is (setting rules root sets) (changer (setting rules root sets) v.id.cell) ((setting rules root sets).root v.id.cell) (row_and_life v)
+      (named false e)).0
+
+  pub new_spots : (settled : Settled) → AreNewRowsFiled settled rules sets → v.id.fresh ≡ true →
+      finite.get settled v.id.cell ≡ Some (row_spots rules (row_of v))
+  unfolding version
+  new_spots settled holds e = holds v.id.cell ∙ ap (option_map (λ (m : Lived ℕ). row_spots rules (v.id.cell, m.row))) (named true e)
+
+-- ---- what a reference in an option refers to
+
+pub copied_some : {X : Type 0} (o : Option (Bor X)) (x : X) → option_copied o ≡ Some x → is_some o ≡ true
+copied_some None x e = absurd (cc)
+copied_some (Some r) x e = refl
+
+pub copied_is : {X : Type 0} (o : Option (Bor X)) (r : Bor X) (x : X) → option_copied o ≡ Some x → o ≡ Some r → r.now ≡ x
+copied_is o r x e is = let same : Some r.now ≡ Some x = sym (ap option_copied is) ∙ e in cc

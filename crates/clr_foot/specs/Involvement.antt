@@ -3,27 +3,11 @@ use Rattle.std.specs.Prelude.{◌≡◌, ℕ, Bool, true, false, ◌==◌, ◌||
 use Rattle.clr_rows.specs.declared.cells.CellId.{CellId}
 use Rattle.clr_needs.specs.declared.needs.Need.{Need}
 use Rattle.clr_needs.specs.declared.needs.VersionId.{VersionId}
-use Rattle.clr_foot.specs.Candidates.{IsSubject}
+use Rattle.clr_versions.specs.Candidates.{IsSubject}
 use Rattle.clr_needs.specs.Independence.{Involves, Names}
 use Rattle.clr_needs.specs.Needs.{IsPossible, Serves}
 use Rattle.clr_needs.specs.Settings.{Setting, Lifetime, Always, With, Without, Lived, version}
-use Rattle.clr_foot.specs.Versions.{version_of}
-
--- a life names the member
-abbrev pub names : Lifetime ℕ → ℕ → Bool
-names Always x = false
-names (With n) x = n == x
-names (Without n) x = n == x
-
--- the life of a version that is there names the member
-abbrev pub names_at : ℕ → Option (Lived ℕ) → Bool
-names_at x None = false
-names_at x (Some l) = names l.life x
-
--- the life of the one version that is named, or of one of the two, names the member
-abbrev pub names_by : ℕ → Setting ℕ → VersionId → Option VersionId → Bool
-names_by x c v None = names_at x (version c v)
-names_by x c v (Some w) = names_at x (version c v) || names_at x (version c w)
+use Rattle.clr_versions.specs.Versions.{version_of}
 
 -- a possible need that involves the member
 abbrev pub IsInvolving : Setting ℕ → ℕ → Need → Type 0

@@ -1,10 +1,6 @@
-pub mod Candidates
-pub mod Changers
 pub mod FirstServers
-pub mod Gains
 pub mod Involvement
-pub mod NewPairs
+pub mod NewRows
 pub mod Scenes
 pub mod Serving
 pub mod Touches
-pub mod Versions

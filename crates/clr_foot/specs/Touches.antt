@@ -11,22 +11,22 @@ use Rattle.clr_spots.specs.Spots.{are_sharing}
 use Rattle.clr_finders.specs.Sharing.{may_serve_under}
 use Rattle.clr_needs.specs.declared.needs.Need.{Need}
 use Rattle.clr_needs.specs.declared.needs.VersionId.{VersionId}
-use Rattle.clr_foot.specs.declared.versions.Version.{Version}
-use Rattle.clr_foot.specs.Candidates.{IsNeedAmong, IsNeedBesideOld, IsNeedOf, IsNeedServedBy}
-use Rattle.clr_foot.specs.Gains.{IsReached}
-use Rattle.clr_foot.specs.NewPairs.{Passes}
+use Rattle.clr_versions.specs.declared.versions.Version.{Version}
+use Rattle.clr_versions.specs.Candidates.{IsNeedAmong, IsNeedBesideOld, IsNeedOf, IsNeedServedBy}
+use Rattle.clr_versions.specs.Gains.{IsListedOrPassed}
+use Rattle.clr_new_pairs.specs.NewPairs.{Passes}
 use Rattle.clr_needs.specs.Broken.{is_living}
 use Rattle.clr_needs.specs.Needs.{IsTouched}
 use Rattle.clr_needs.specs.Orders.{need_cmp}
 use Rattle.clr_needs.specs.Settings.{Setting, Lived, held_row, version}
-use Rattle.clr_foot.specs.Versions.{row_and_life, row_of}
+use Rattle.clr_versions.specs.Versions.{row_and_life, row_of}
 
 abbrev pub IsInCells : List CellId → Held → Type 0
 IsInCells cells s = Contains cells s.0
 
 -- the row shares with another one, and is of the side that serves where servers alone are looked for
-abbrev pub IsNear : Bool → List Rule → ℕ → Held → Held → Type 0
-IsNear servers rules number s t = (are_sharing rules number s t && (not servers || may_serve_under rules number t)) ≡ true
+abbrev pub IsNeighbour : Bool → List Rule → ℕ → Held → Held → Type 0
+IsNeighbour servers rules number s t = (are_sharing rules number s t && (not servers || may_serve_under rules number t)) ≡ true
 
 -- a need of one of some versions, alone or with another, that the server serves
 abbrev pub IsNeedServedAmong : List Rule → ℕ → Version → List Version → List Version → Need → Type 0
@@ -53,4 +53,4 @@ IsServerOf c ask s t v = (l : Lived ℕ) × (version c v ≡ Some l) × (serves 
 pub record ListsTouched (c : Setting ℕ) (leaves_out : Bool) (needs : List Need) : Type 0 where
   pub ascending : IsStrictlySortedBy need_cmp needs
   pub only : (n : Need) → Contains needs n → IsTouched c n
-  pub every : (n : Need) → IsTouched c n → IsReached (Passes c.rules leaves_out) needs n
+  pub every : (n : Need) → IsTouched c n → IsListedOrPassed (Passes c.rules leaves_out) needs n

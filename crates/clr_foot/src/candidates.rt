@@ -2,31 +2,19 @@
 //! list.
 
 ghost use Rattle.std.specs.Prelude.{◌≡◌, ◌<◌, length, None, Some, OnErr, OnOk};
-ghost use Rattle.clr_foot.specs.Candidates.{IsNeedAmong, IsNeedOf, IsNeedOfAsk, IsNeedOfPair, IsNeedOfPart, IsServerAmong, are_opposed, serves_too};
-ghost use Rattle.clr_foot.specs.Gains.{Gains, GainsSome};
-ghost use Rattle.clr_needs.specs.Members.{lifetime};
+ghost use Rattle.clr_versions.specs.Candidates.{IsNeedAmong, IsNeedOf, IsNeedOfAsk, IsNeedOfPair, IsNeedOfPart, IsServerAmong, serves_if_any};
+ghost use Rattle.clr_versions.specs.Gains.{Gains, GainsSome};
 ghost use Rattle.clr_foot.specs.Scenes.{setting_in};
-ghost use Rattle.clr_foot.specs.Versions.{AreAt, FitsSetting, IsAt, IsAtToo};
+ghost use Rattle.clr_versions.specs.Versions.{AreAt, FitsSetting, IsAt, IsAtIfAny};
 
 use crate::scenes::Scene;
-use crate::versions::{Version, held_if_any};
 use clr_finders::RowFinder;
-use clr_needs::{Life, Need, VersionId};
+use clr_needs::{Need, VersionId};
 use clr_rows::RowView;
 use clr_rules::Ask;
+use clr_versions::{Version, are_opposed, held_if_any};
 use std::alloc::AllocError;
 use std::cmp::Ordering;
-
-/// Whether of two versions one lives with a member and the other without it.
-pub(crate) fn are_opposed(first: Life, second: Life) -> bool
-    ensures { result ≡ are_opposed (lifetime first) (lifetime second) }
-{
-    match (first, second) {
-        (Life::With(with), Life::Without(without)) => with == without,
-        (Life::Without(without), Life::With(with)) => with == without,
-        _ => false,
-    }
-}
 
 impl<V: RowView, F: RowFinder> Scene<'_, V, F> {
     /// Whether the server, if one is given, serves what is asked of the subjects.
@@ -40,9 +28,9 @@ impl<V: RowView, F: RowFinder> Scene<'_, V, F> {
         requires number { ask.rule < length self.now.book.now }
         requires fit { FitsSetting (setting_in V.content self.now) }
         requires first { IsAt (setting_in V.content self.now) first }
-        requires second { IsAtToo (setting_in V.content self.now) second }
-        requires server { IsAtToo (setting_in V.content self.now) server }
-        ensures { result ≡ serves_too self.now.book.now ask first.entry second.entry server.entry }
+        requires second { IsAtIfAny (setting_in V.content self.now) second }
+        requires server { IsAtIfAny (setting_in V.content self.now) server }
+        ensures { result ≡ serves_if_any self.now.book.now ask first.entry second.entry server.entry }
     {
         match server {
             None => true,
@@ -63,7 +51,7 @@ impl<V: RowView, F: RowFinder> Scene<'_, V, F> {
     ) -> Result<(), AllocError>
         requires number { rule < length self.now.book.now }
         requires fit { FitsSetting (setting_in V.content self.now) }
-        requires server { IsAtToo (setting_in V.content self.now) server }
+        requires server { IsAtIfAny (setting_in V.content self.now) server }
         requires first { IsAt (setting_in V.content self.now) first }
         ensures ok { OnOk result (Gains (IsNeedOf self.now.book.now rule server.entry first.entry None)
             (IsNeedOf self.now.book.now rule server.entry first.entry None)
@@ -90,7 +78,7 @@ impl<V: RowView, F: RowFinder> Scene<'_, V, F> {
     ) -> Result<(), AllocError>
         requires number { ask.rule < length self.now.book.now }
         requires fit { FitsSetting (setting_in V.content self.now) }
-        requires server { IsAtToo (setting_in V.content self.now) server }
+        requires server { IsAtIfAny (setting_in V.content self.now) server }
         requires first { IsAt (setting_in V.content self.now) first }
         requires second { IsAt (setting_in V.content self.now) second }
         ensures ok { OnOk result (Gains (IsNeedOf self.now.book.now ask.rule server.entry first.entry (Some second.entry))
@@ -117,7 +105,7 @@ impl<V: RowView, F: RowFinder> Scene<'_, V, F> {
     ) -> Result<(), AllocError>
         requires number { rule < length self.now.book.now }
         requires fit { FitsSetting (setting_in V.content self.now) }
-        requires server { IsAtToo (setting_in V.content self.now) server }
+        requires server { IsAtIfAny (setting_in V.content self.now) server }
         requires first { IsAt (setting_in V.content self.now) first }
         requires second { IsAt (setting_in V.content self.now) second }
         ensures ok { OnOk result (Gains (IsNeedOf self.now.book.now rule server.entry first.entry (Some second.entry))
@@ -147,7 +135,7 @@ impl<V: RowView, F: RowFinder> Scene<'_, V, F> {
     ) -> Result<(), AllocError>
         requires number { rule < length self.now.book.now }
         requires fit { FitsSetting (setting_in V.content self.now) }
-        requires server { IsAtToo (setting_in V.content self.now) server }
+        requires server { IsAtIfAny (setting_in V.content self.now) server }
         requires first { IsAt (setting_in V.content self.now) first }
         requires second { IsAt (setting_in V.content self.now) second }
         ensures ok { OnOk result (Gains (IsNeedOf self.now.book.now rule server.entry first.entry (Some second.entry))
@@ -172,7 +160,7 @@ impl<V: RowView, F: RowFinder> Scene<'_, V, F> {
     ) -> Result<(), AllocError>
         requires number { rule < length self.now.book.now }
         requires fit { FitsSetting (setting_in V.content self.now) }
-        requires server { IsAtToo (setting_in V.content self.now) server }
+        requires server { IsAtIfAny (setting_in V.content self.now) server }
         requires one { IsAt (setting_in V.content self.now) one }
         requires other { IsAt (setting_in V.content self.now) other }
         ensures ok { OnOk result (Gains (IsNeedOfPair self.now.book.now rule server.entry one.entry other.entry)
@@ -204,7 +192,7 @@ impl<V: RowView, F: RowFinder> Scene<'_, V, F> {
     ) -> Result<(), AllocError>
         requires number { rule < length self.now.book.now }
         requires fit { FitsSetting (setting_in V.content self.now) }
-        requires server { IsAtToo (setting_in V.content self.now) server }
+        requires server { IsAtIfAny (setting_in V.content self.now) server }
         requires one { IsAt (setting_in V.content self.now) one }
         requires others { AreAt (setting_in V.content self.now) others.now }
         ensures ok { OnOk result (Gains (IsNeedAmong self.now.book.now rule server.entry one.entry others.now)
@@ -234,7 +222,7 @@ impl<V: RowView, F: RowFinder> Scene<'_, V, F> {
         requires number { ask.rule < length self.now.book.now }
         requires fit { FitsSetting (setting_in V.content self.now) }
         requires first { IsAt (setting_in V.content self.now) first }
-        requires second { IsAtToo (setting_in V.content self.now) second }
+        requires second { IsAtIfAny (setting_in V.content self.now) second }
         requires others { AreAt (setting_in V.content self.now) others.now }
         ensures ok { OnOk result (Gains (IsServerAmong self.now.book.now ask first.entry second.entry others.now)
             (IsServerAmong self.now.book.now ask first.entry second.entry others.now) names.old.items names.new.items) }

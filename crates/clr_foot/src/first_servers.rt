@@ -9,15 +9,13 @@ ghost use Rattle.clr_needs.specs.Picks.{IsLeastVersion};
 ghost use Rattle.clr_needs.specs.Witnesses.{lasts_at};
 ghost use Rattle.clr_foot.specs.FirstServers.{IsFirstAt, IsFoundCell, IsServerSought, IsServingSought, IsToldServer, is_sought};
 ghost use Rattle.clr_foot.specs.Scenes.{IsReady, model_of, setting_in, setting_of};
-ghost use Rattle.clr_foot.specs.Versions.{FitsSetting, IsAt, IsAtToo, row_of};
+ghost use Rattle.clr_versions.specs.Versions.{FitsSetting, IsAt, IsAtIfAny, row_of};
 
-use crate::blockers::are_same;
-use crate::breaks::is_living;
 use crate::scenes::Scene;
-use crate::versions::Version;
 use clr_finders::{RowFinder, RuleSpots, lesser_cell};
-use clr_needs::{Life, Need, VersionId};
+use clr_needs::{Need, VersionId};
 use clr_rows::{CellId, RowView};
+use clr_versions::{RootVersions, Version, is_living};
 use std::alloc::AllocError;
 
 /// How many cells are looked at one by one before a search ends. Where so many have no version that
@@ -38,17 +36,12 @@ impl<V: RowView, F: RowFinder> Scene<'_, V, F> {
         requires { IsAt (setting_in V.content self.now) version }
         ensures { result ≡ lasts_at (setting_in V.content self.now) need.now version.entry.id }
     {
-        are_same(version.life, Life::Always) || self.has_subject_with(need, version.life)
-    }
-
-    /// Whether the version of a name lives always, or as long as a subject of a possible need.
-    pub(crate) fn is_lasting(&self, need: &Need, id: VersionId) -> bool
-        ensures { result ≡ lasts_at (setting_in V.content self.now) need.now id }
-    {
-        match self.version(id) {
-            None => false,
-            Some(version) => self.lasts(need, version),
-        }
+        let versions = RootVersions {
+            book: self.book,
+            root: self.root,
+            members: &self.members,
+        };
+        versions.lasts(need, version)
     }
 
     /// Whether a version is looked for.
@@ -74,7 +67,7 @@ impl<V: RowView, F: RowFinder> Scene<'_, V, F> {
         requires number { need.now.rule < length self.now.book.now }
         requires fit { FitsSetting (setting_in V.content self.now) }
         requires first { IsAt (setting_in V.content self.now) first }
-        requires second { IsAtToo (setting_in V.content self.now) second }
+        requires second { IsAtIfAny (setting_in V.content self.now) second }
         ensures { IsToldServer sought (setting_in V.content self.now) need.now first.entry second.entry id result }
     {
         match self.version(id) {
@@ -100,7 +93,7 @@ impl<V: RowView, F: RowFinder> Scene<'_, V, F> {
         requires number { need.now.rule < length self.now.book.now }
         requires fit { FitsSetting (setting_in V.content self.now) }
         requires first { IsAt (setting_in V.content self.now) first }
-        requires second { IsAtToo (setting_in V.content self.now) second }
+        requires second { IsAtIfAny (setting_in V.content self.now) second }
         ensures { IsFirstAt sought (setting_in V.content self.now) need.now first.entry second.entry cell result }
     {
         let old = VersionId { cell, fresh: false };
@@ -136,7 +129,7 @@ impl<V: RowView, F: RowFinder> Scene<'_, V, F> {
         requires number { need.now.rule < length self.now.book.now }
         requires ready { IsReady F.settled (model_of V.content self.now) }
         requires first { IsAt (setting_in V.content self.now) first }
-        requires second { IsAtToo (setting_in V.content self.now) second }
+        requires second { IsAtIfAny (setting_in V.content self.now) second }
         requires called { calls self.now.book.now (ask_of need.now) (row_of first) (option_map row_of second) ≡ true }
         requires spots { spots.now ≡ rule_spots self.now.book.now need.now.rule (row_of first) }
         ensures { IfSome result (IsLeastVersion (IsServerSought sought (setting_in V.content self.now) need.now first.entry second.entry)) }
@@ -167,8 +160,8 @@ impl<V: RowView, F: RowFinder> Scene<'_, V, F> {
             None => Ok(None),
             Some(first) => {
                 let second = self.version_if_any(need.second);
-                let spots = RuleSpots::new(self.alloc, self.book, need.rule, first.as_held())?;
-                let found = self.first_sought(sought, need, first, second, &spots);
+                let spots = self.spots_of(need.rule, first);
+                let found = self.first_sought(sought, need, first, second, spots);
                 Ok(found)
             }
         }

@@ -36,12 +36,11 @@ mod asks;
 mod blockers;
 mod breaks;
 mod candidates;
-mod changers;
 mod first_servers;
 mod independence;
 mod involvement;
-mod members;
-mod new_pairs;
+mod near;
+mod new_rows;
 mod parts;
 mod picks;
 mod scene_versions;
@@ -49,7 +48,6 @@ mod scenes;
 mod servers;
 mod serving;
 mod touches;
-mod versions;
 
 pub use clr_needs::{
     Life, MOST_MEMBERS, Need, SceneFault, VersionId, covered_members_keep_rules,

@@ -1,39 +1,21 @@
 //! Scenes of change sets over a root, and their versions by name.
 
-ghost use Rattle.std.specs.Prelude.{◌≡◌, ◌≤◌, false, length, map, option_map, Some, None, IfOk, MatchOption, MatchResult};
-ghost use Rattle.std.specs.Option.{option_copied};
+ghost use Rattle.std.specs.Prelude.{◌≡◌, ◌≤◌, length, map, option_map, None, IfOk, MatchOption, MatchResult};
 ghost use Rattle.clr_needs.specs.declared.limits.TheConstants.{MOST_MEMBERS};
 ghost use Rattle.clr_needs.specs.Members.{AreApart, IsSceneFault, lifetime, setting};
 ghost use Rattle.clr_foot.specs.Scenes.{model_of, setting_in, setting_of};
-ghost use Rattle.clr_needs.specs.Settings.{old_version, version};
-ghost use Rattle.clr_foot.specs.Versions.{FitsSetting, IsNamed, row_and_life, version_of};
+ghost use Rattle.clr_needs.specs.Settings.{version};
+ghost use Rattle.clr_versions.specs.Versions.{FitsSetting, IsNamed};
 
-use crate::members::Members;
+use crate::new_rows::file_new_rows;
 use crate::scenes::Scene;
-use crate::versions::Version;
 use clr_change::ChangeSet;
 use clr_finders::RowFinder;
 use clr_needs::{Life, SceneFault, VersionId};
-use clr_rows::{CellId, Row, RowView};
+use clr_rows::RowView;
 use clr_rules::RuleBook;
+use clr_versions::{Members, RootVersions, Version};
 use std::alloc::Global;
-
-/// The old version of a cell, if the root has the row.
-fn old_version(cell: CellId, row: Option<&Row>, changer: Option<u16>) -> Option<Version<'_>>
-    ensures { MatchOption result (option_copied row.entry ≡ None)
-        (λ v. (v.id ≡ version_of false cell) × (old_version changer (option_copied row.entry) ≡ Some (row_and_life v))) }
-{
-    let row = row?;
-    let life = match changer {
-        None => Life::Always,
-        Some(position) => Life::Without(position),
-    };
-    Some(Version {
-        id: VersionId { cell, fresh: false },
-        row,
-        life,
-    })
-}
 
 impl<'a, V: RowView, F: RowFinder> Scene<'a, V, F> {
     /// Returns the scene of a book, a root, a finder that has settled the root's rows, and at most
@@ -64,7 +46,7 @@ impl<'a, V: RowView, F: RowFinder> Scene<'a, V, F> {
                 second: shared.second,
             }),
             None => {
-                let new_rows = members.file_new_rows(alloc, book)?;
+                let new_rows = file_new_rows(alloc, &members, book)?;
                 Ok(Scene {
                     alloc,
                     book,
@@ -78,19 +60,15 @@ impl<'a, V: RowView, F: RowFinder> Scene<'a, V, F> {
     }
 
     /// The version of a name, if there is one.
-    #[tactic(auto, unfolding(clr_needs::specs::Settings::version))]
     pub(crate) fn version(&self, id: VersionId) -> Option<Version<'_>>
         ensures { MatchOption result (version (setting_in V.content self.now) id ≡ None) (IsNamed (setting_in V.content self.now) id) }
     {
-        if id.fresh {
-            self.members.new_version(id.cell)
-        } else {
-            old_version(
-                id.cell,
-                self.root.row(id.cell),
-                self.members.changer(id.cell),
-            )
-        }
+        let versions = RootVersions {
+            book: self.book,
+            root: self.root,
+            members: &self.members,
+        };
+        versions.version(id)
     }
 
     /// Returns how long the version of a name lives, if there is one.

@@ -1,11 +1,11 @@
 //! Scenes: change sets over a root's rows.
 
 ghost use Rattle.std.specs.Prelude.{map};
-ghost use Rattle.clr_foot.specs.Versions.{AreNewRowsFiled};
+ghost use Rattle.clr_foot.specs.NewRows.{AreNewRowsFiled};
 
-use crate::members::Members;
 use clr_finders::RowFinder;
 use clr_rules::RuleBook;
+use clr_versions::Members;
 use std::alloc::Global;
 
 /// A root's rows with what each member changes there, and a finder of those rows. A scene copies no

@@ -6,21 +6,21 @@ ghost use Rattle.clr_needs.specs.Needs.{AreServers, IsPossibleNeed, IsServing, L
 ghost use Rattle.clr_needs.specs.Orders.{version_cmp};
 ghost use Rattle.clr_foot.specs.Scenes.{IsReady, model_of, setting_in, setting_of};
 ghost use Rattle.clr_foot.specs.Touches.{IsServerOf};
-ghost use Rattle.clr_foot.specs.Versions.{IsAt, IsAtToo, IsNamedToo, row_of};
+ghost use Rattle.clr_versions.specs.Versions.{IsAt, IsAtIfAny, IsNamedIfAny, row_of};
 
 use crate::scenes::Scene;
-use crate::versions::Version;
 use clr_finders::RowFinder;
 use clr_needs::{Need, VersionId};
 use clr_rows::RowView;
 use clr_rules::Ask;
 use clr_spots::put_in_order;
+use clr_versions::Version;
 use std::alloc::AllocError;
 
 impl<V: RowView, F: RowFinder> Scene<'_, V, F> {
     /// The version of a name, if one is given and there is one.
     pub(crate) fn version_if_any(&self, id: Option<VersionId>) -> Option<Version<'_>>
-        ensures { IsNamedToo (setting_in V.content self.now) id result }
+        ensures { IsNamedIfAny (setting_in V.content self.now) id result }
     {
         match id {
             None => None,
@@ -38,7 +38,7 @@ impl<V: RowView, F: RowFinder> Scene<'_, V, F> {
         requires number { ask.rule < length self.now.book.now }
         requires ready { IsReady F.settled (model_of V.content self.now) }
         requires first { IsAt (setting_in V.content self.now) first }
-        requires second { IsAtToo (setting_in V.content self.now) second }
+        requires second { IsAtIfAny (setting_in V.content self.now) second }
         requires called { calls self.now.book.now ask (row_of first) (option_map row_of second) ≡ true }
         ensures { IfOk result (λ names. Lists version_cmp (IsServerOf (setting_in V.content self.now) ask first.entry second.entry) names.items) }
     {

@@ -1,74 +1,17 @@
 //! The versions that a server may serve: under a crossing those alone on which it lies.
 
-ghost use Rattle.std.specs.Prelude.{◌≡◌, ◌<◌, ℕ, false, length, Some, IfOk, IfSome};
-ghost use Rattle.clr_rows.specs.Parts.{part_of};
-ghost use Rattle.clr_rows.specs.Places.{InRange};
-ghost use Rattle.clr_rules.specs.Fitting.{IsSound, IsSoundSegment};
+ghost use Rattle.std.specs.Prelude.{◌<◌, length, IfOk};
 ghost use Rattle.clr_foot.specs.Scenes.{IsReady, model_of, setting_in};
-ghost use Rattle.clr_foot.specs.Serving.{IsNeverServed, LiesOnNoPart, MayBeServed, is_on_part};
-ghost use Rattle.clr_foot.specs.Versions.{FindsAll, FitsSetting, IsAt, row_of};
+ghost use Rattle.clr_foot.specs.Serving.{MayBeServed};
+ghost use Rattle.clr_versions.specs.Versions.{FindsAll, IsAt, row_of};
 
 use crate::scenes::Scene;
-use crate::versions::Version;
 use clr_finders::RowFinder;
-use clr_rows::{Place, RowView, Shape};
-use clr_rules::{Rule, point_in};
-use clr_segments::{lies_on, part, parts};
+use clr_rows::RowView;
+use clr_versions::{RootVersions, Version};
 use std::alloc::AllocError;
 
-/// Whether a place is a point of a part, if there is one.
-fn is_on_part(place: Place, part: Option<(Place, Place)>) -> bool
-    requires place { InRange place }
-    requires part { IfSome part IsSoundSegment }
-    ensures { result ≡ is_on_part (Some place) part }
-{
-    match part {
-        None => false,
-        Some((first, second)) => lies_on(place, first, second),
-    }
-}
-
-/// Whether a place is a point of some part of a shape.
-fn is_on_shape(place: Place, shape: &Shape) -> bool
-    requires place { InRange place }
-    requires sound { IsSound shape.now }
-    ensures { result ≡ false → (number : ℕ) → is_on_part (Some place) (part_of shape.now number) ≡ false }
-{
-    for position in 0..parts(shape) {
-        if is_on_part(place, part(shape, position + 1)) {
-            return true;
-        }
-    }
-    false
-}
-
-/// Whether a shape is a point of some part of another one.
-fn lies_on_shape(server: &Shape, shape: &Shape) -> bool
-    requires server { IsSound server.now }
-    requires shape { IsSound shape.now }
-    ensures { result ≡ false → LiesOnNoPart server.now shape.now }
-{
-    match point_in(server) {
-        None => false,
-        Some(place) => is_on_shape(place, shape),
-    }
-}
-
 impl<V: RowView, F: RowFinder> Scene<'_, V, F> {
-    /// Whether a server may serve a need of which a version is a subject.
-    fn may_be_served(&self, rule: u16, server: Version, subject: Version) -> bool
-        requires number { rule < length self.now.book.now }
-        requires fit { FitsSetting (setting_in V.content self.now) }
-        requires server { IsAt (setting_in V.content self.now) server }
-        requires subject { IsAt (setting_in V.content self.now) subject }
-        ensures { result ≡ false → IsNeverServed self.now.book.now rule (row_of server.entry) (row_of subject.entry) }
-    {
-        match self.book.rule(rule) {
-            Rule::Crossing { .. } => lies_on_shape(&server.row.shape, &subject.row.shape),
-            _ => true,
-        }
-    }
-
     /// The versions that share with a server and that it may serve. It fails for want of memory
     /// alone.
     pub(crate) fn served_near(
@@ -82,9 +25,14 @@ impl<V: RowView, F: RowFinder> Scene<'_, V, F> {
         ensures { IfOk result (λ list. FindsAll (setting_in V.content self.now) (MayBeServed self.now.book.now rule (row_of server.entry)) list.items) }
     {
         let near = self.all_near(rule, server)?;
+        let versions = RootVersions {
+            book: self.book,
+            root: self.root,
+            members: &self.members,
+        };
         let mut list = Vec::new(self.alloc);
         for version in &near {
-            if self.may_be_served(rule, server, *version) {
+            if versions.may_be_served(rule, server, *version) {
                 list.push(*version)?;
             }
         }

@@ -1,112 +1,24 @@
 //! The needs that changes touch: each new version is held against the versions that share with it,
 //! and each changed one is tried as a server of versions that share with it.
 
-ghost use Rattle.std.specs.Prelude.{◌≡◌, ◌<◌, ◌∷◌, [], false, true, length, IfOk, OnErr, OnOk};
-ghost use Rattle.clr_finders.specs.Sharing.{found_cells, rule_spots};
-ghost use Rattle.clr_rows.specs.Held.{held_of};
-ghost use Rattle.clr_rules.specs.Books.{FitTogether};
-ghost use Rattle.clr_foot.specs.Candidates.{IsNeedBesideOld, IsNeedServedBy, IsNeedWith};
-ghost use Rattle.clr_foot.specs.Gains.{Gains, GainsSome, OfSome, Reaches};
-ghost use Rattle.clr_foot.specs.NewPairs.{Passes};
+ghost use Rattle.std.specs.Prelude.{◌≡◌, ◌<◌, false, true, length, IfOk, OnErr, OnOk};
+ghost use Rattle.clr_versions.specs.Candidates.{IsNeedBesideOld, IsNeedServedBy, IsNeedWith};
+ghost use Rattle.clr_versions.specs.Gains.{Gains, GainsSome, OfSome, Reaches};
+ghost use Rattle.clr_new_pairs.specs.NewPairs.{Passes};
 ghost use Rattle.clr_needs.specs.Needs.{AreTouchedNeeds, IsTouched};
 ghost use Rattle.clr_foot.specs.Scenes.{IsReady, model_of, setting_in, setting_of};
-ghost use Rattle.clr_foot.specs.Touches.{IsInCells, IsNear, IsNeedOfChanged, IsNeedOfNew, IsNeedServedAmong, IsTouchedOf, ListsTouched};
-ghost use Rattle.clr_foot.specs.Versions.{AreAt, Finds, FindsAll, FitsSetting, IsAt, row_of};
+ghost use Rattle.clr_foot.specs.Touches.{IsInCells, IsNeedOfChanged, IsNeedOfNew, IsNeedServedAmong, IsTouchedOf, ListsTouched};
+ghost use Rattle.clr_versions.specs.Versions.{AreAt, Finds, FitsSetting, IsAt};
 
-use crate::breaks::is_living;
 use crate::scenes::Scene;
-use crate::versions::Version;
 use clr_finders::RowFinder;
-use clr_needs::{Need, VersionId};
-use clr_rows::{CellId, Held, RowView};
-use clr_rules::RuleBook;
+use clr_needs::Need;
+use clr_rows::RowView;
 use clr_spots::put_in_order;
+use clr_versions::{Version, is_living};
 use std::alloc::AllocError;
 
-/// The cells that a finder finds for a row, servers alone or all.
-fn cells_near<T: RowFinder>(
-    finder: &T,
-    book: &RuleBook,
-    servers: bool,
-    rule: u16,
-    held: Held,
-) -> Result<Vec<CellId>, AllocError>
-    requires number { rule < length book.now }
-    requires fit { FitTogether book.now (held_of held ∷ []) }
-    ensures { IfOk result (λ cells. cells.items ≡ found_cells servers (T.settled finder.now) rule (rule_spots book.now rule (held_of held.entry))) }
-{
-    if servers {
-        finder.sharing_servers(book, rule, held)
-    } else {
-        finder.sharing(book, rule, held)
-    }
-}
-
 impl<V: RowView, F: RowFinder> Scene<'_, V, F> {
-    /// The old versions of some cells, or the new ones.
-    fn versions_at(&self, fresh: bool, cells: &[CellId]) -> Result<Vec<Version<'_>>, AllocError>
-        ensures { IfOk result (λ list. Finds (setting_in V.content self.now) fresh (IsInCells cells.now) list.items) }
-    {
-        let mut list = Vec::with_capacity(self.alloc, cells.len())?;
-        for cell in cells {
-            if let Some(version) = self.version(VersionId { cell: *cell, fresh }) {
-                list.push(version)?;
-            }
-        }
-        Ok(list)
-    }
-
-    /// The old versions whose rows share with that of a version, servers alone or all.
-    pub(crate) fn old_near(
-        &self,
-        rule: u16,
-        servers: bool,
-        version: Version,
-    ) -> Result<Vec<Version<'_>>, AllocError>
-        requires number { rule < length self.now.book.now }
-        requires ready { IsReady F.settled (model_of V.content self.now) }
-        requires at { IsAt (setting_in V.content self.now) version }
-        ensures { IfOk result (λ list. Finds (setting_in V.content self.now) false (IsNear servers self.now.book.now rule (row_of version.entry)) list.items) }
-    {
-        let cells = cells_near(self.finder, self.book, servers, rule, version.as_held())?;
-        let list = self.versions_at(false, cells.as_slice())?;
-        Ok(list)
-    }
-
-    /// The new versions whose rows share with that of a version, servers alone or all.
-    pub(crate) fn new_near(
-        &self,
-        rule: u16,
-        servers: bool,
-        version: Version,
-    ) -> Result<Vec<Version<'_>>, AllocError>
-        requires number { rule < length self.now.book.now }
-        requires fit { FitsSetting (setting_in V.content self.now) }
-        requires at { IsAt (setting_in V.content self.now) version }
-        ensures { IfOk result (λ list. Finds (setting_in V.content self.now) true (IsNear servers self.now.book.now rule (row_of version.entry)) list.items) }
-    {
-        let cells = cells_near(&self.new_rows, self.book, servers, rule, version.as_held())?;
-        let list = self.versions_at(true, cells.as_slice())?;
-        Ok(list)
-    }
-
-    /// The versions, old and new, whose rows share with that of a version.
-    pub(crate) fn all_near(
-        &self,
-        rule: u16,
-        version: Version,
-    ) -> Result<Vec<Version<'_>>, AllocError>
-        requires number { rule < length self.now.book.now }
-        requires ready { IsReady F.settled (model_of V.content self.now) }
-        requires at { IsAt (setting_in V.content self.now) version }
-        ensures { IfOk result (λ list. FindsAll (setting_in V.content self.now) (IsNear false self.now.book.now rule (row_of version.entry)) list.items) }
-    {
-        let mut list = self.old_near(rule, false, version)?;
-        let new = self.new_near(rule, false, version)?;
-        list.extend_from_slice(new.as_slice())?;
-        Ok(list)
-    }
-
     /// Adds the possible needs with a version among their subjects: alone, or beside a version that
     /// shares with it. If memory runs out, the list keeps what stood in it, and besides that it has
     /// only some of these needs.

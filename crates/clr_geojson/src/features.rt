@@ -3,9 +3,8 @@
 ghost use Rattle.std.specs.Prelude.{◌≡◌, IfOk};
 ghost use Rattle.clr_geojson.specs.Properties.{flag_property, number_property, text_property};
 
-use clr_rows::{Shape, Words};
+use clr_rows::{List, Shape, Words};
 use std::alloc::{AllocError, Global};
-use std::marker::Model;
 
 /// What a property says.
 #[derive(Drop)]
@@ -55,35 +54,7 @@ impl Property {
 }
 
 /// The properties of a feature, in the order in which they are written.
-#[derive(Drop)]
-pub struct Properties {
-    list: Vec<Property>,
-}
-
-impl Model for Properties {
-    ghost use Rattle.std.specs.Prelude.{List};
-    ghost use Rattle.clr_geojson.specs.declared.features.Property.{Property as OneProperty};
-
-    ghost Value = { List OneProperty };
-
-    ghost view = { λ a. a.list.items };
-}
-
-impl Properties {
-    /// Returns the properties of this list.
-    pub fn new(list: Vec<Property>) -> Properties
-        ensures { result ≡ list.items }
-    {
-        Properties { list }
-    }
-
-    /// Returns the properties as a slice.
-    pub fn as_slice(&self) -> &[Property]
-        ensures { result.now ≡ self.now }
-    {
-        self.list.as_slice()
-    }
-}
+pub type Properties = List<Property>;
 
 /// A feature: its properties, and its shape, in whole millimetres.
 #[derive(Drop)]

@@ -197,7 +197,8 @@ removed_hold f g s w is some hold x e = go (nat_eq s x) refl (sym (is x) ∙ e)
     go true t h = some (subst (λ y. g y ≡ Some set.empty) (sym (tied_number s x t)) e)
     go false t h = hold x h
 
-pub emptied_hold : (f g h : AtNumbers) (s : ℕ) (w : Option Cells) → ((x : ℕ) → g x ≡ cond (nat_eq s x) w (f x)) → ((x : ℕ) → h x ≡ cond (nat_eq s x) None (g x)) → Hold f → Hold h
+pub emptied_hold : (f g h : AtNumbers) (s : ℕ) (w : Option Cells) → ((x : ℕ) → g x ≡ cond (nat_eq s x) w (f x)) → ((x : ℕ) → h x ≡ cond (nat_eq s x) None (g x))
+    → Hold f → Hold h
 emptied_hold f g h s w is then hold x e = go (nat_eq s x) refl (sym (then x) ∙ e)
   where
     go : (b : Bool) → nat_eq s x ≡ b → cond b None (g x) ≡ Some set.empty → ⊥
@@ -206,11 +207,14 @@ emptied_hold f g h s w is then hold x e = go (nat_eq s x) refl (sym (then x) ∙
 
 -- ---- lists of spots
 -- one more spot
-pub any_more : (p : Spot → Bool) (xs : List Spot) (k : ℕ) (x : Spot) → k < length xs → x ≡ get_or xs k x → list_any p (take (k + 1) xs) ≡ (list_any p (take k xs) || p x)
+pub any_more : (p : Spot → Bool) (xs : List Spot) (k : ℕ) (x : Spot) → k < length xs → x ≡ get_or xs k x →
+    list_any p (take (k + 1) xs) ≡ (list_any p (take k xs) || p x)
 any_more p xs k x less is =
-    ap (list_any p) (take_more xs k x less ∙ ap (λ y. take k xs ++ y ∷ []) (sym is)) ∙ list_any-append p (take k xs) (x ∷ []) ∙ ap (λ b. list_any p (take k xs) || b) (sym (or_none (p x)))
+    ap (list_any p) (take_more xs k x less ∙ ap (λ y. take k xs ++ y ∷ []) (sym is)) ∙ list_any-append p (take k xs) (x ∷ [])
+    ∙ ap (λ b. list_any p (take k xs) || b) (sym (or_none (p x)))
 
-pub filed_more : (f g : AtNumbers) (cell : CellId) (xs : List Spot) (k : ℕ) (s : Spot) (n : ℕ) → k < length xs → s ≡ get_or xs k s → n ≡ number_of s → Keeps f g → has_cell (g n) cell ≡ true
+pub filed_more : (f g : AtNumbers) (cell : CellId) (xs : List Spot) (k : ℕ) (s : Spot) (n : ℕ) → k < length xs → s ≡ get_or xs k s → n ≡ number_of s → Keeps f g
+    → has_cell (g n) cell ≡ true
     → ((x : ℕ) → list_any (has_number x) (take k xs) ≡ true → has_cell (f x) cell ≡ true)
     → (x : ℕ) → list_any (has_number x) (take (k + 1) xs) ≡ true → has_cell (g x) cell ≡ true
 filed_more f g cell xs k s n less is same keeps here before x e =
@@ -236,7 +240,8 @@ gained_more f g h cell xs k s n less is same one before x q e = elim (one x q e)
 ]
 
 -- one more spot where the cell is gone, but for a row that keeps it
-pub gone_more : (f g : AtNumbers) (cell : CellId) (kept : Option RuleSpots) (xs : List Spot) (k : ℕ) (s : Spot) (n : ℕ) → k < length xs → s ≡ get_or xs k s → n ≡ number_of s → Keeps g f
+pub gone_more : (f g : AtNumbers) (cell : CellId) (kept : Option RuleSpots) (xs : List Spot) (k : ℕ) (s : Spot) (n : ℕ) → k < length xs → s ≡ get_or xs k s →
+    n ≡ number_of s → Keeps g f
     → (has_cell (g n) cell ≡ true → keeps_number kept n ≡ true)
     → ((x : ℕ) → list_any (has_number x) (take k xs) ≡ true → has_cell (f x) cell ≡ true → keeps_number kept x ≡ true)
     → (x : ℕ) → list_any (has_number x) (take (k + 1) xs) ≡ true → has_cell (g x) cell ≡ true → keeps_number kept x ≡ true
@@ -332,7 +337,8 @@ module _ (i : SideIndex) (x : RuleSpots) (m m' n : Cells) (list : List Spot) (wi
   near_keeps q e = spots q ∙ or_left _ _ (wide q ∙ or_left _ _ e)
 
 -- the cells of one more spot
-pub added_more : (p : Spot → Bool) (xs : List Spot) (k : ℕ) (x : Spot) (a b c : Bool) → k < length xs → x ≡ get_or xs k x → b ≡ (a || list_any p (take k xs)) → c ≡ (b || p x) → c ≡ (a || list_any p (take (k + 1) xs))
+pub added_more : (p : Spot → Bool) (xs : List Spot) (k : ℕ) (x : Spot) (a b c : Bool) → k < length xs → x ≡ get_or xs k x → b ≡ (a || list_any p (take k xs)) →
+    c ≡ (b || p x) → c ≡ (a || list_any p (take (k + 1) xs))
 added_more p xs k x a b c less is before now =
     now ∙ ap (λ e. e || p x) before ∙ or_group a (list_any p (take k xs)) (p x) ∙ ap (λ e. a || e) (sym (any_more p xs k x less is))
 

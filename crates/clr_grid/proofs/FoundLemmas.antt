@@ -17,7 +17,8 @@ use Rattle.clr_finders.specs.declared.row_spots.RuleSpots.{RuleSpots}
 use Rattle.clr_finders.proofs.EntryLemmas.{one_among, passing_rise, passes_in, in_passes}
 
 -- ---- a filter in a loop
-pub kept_more : {X : Type 0} (p : X → Bool) (xs : List X) (k : ℕ) (b : Bool) (old new : List X) (d : X) → k < length xs → b ≡ p (get_or xs k d) → new ≡ old ++ cond b (get_or xs k d ∷ []) [] → old ≡ filter p (take k xs) → new ≡ filter p (take (k + 1) xs)
+pub kept_more : {X : Type 0} (p : X → Bool) (xs : List X) (k : ℕ) (b : Bool) (old new : List X) (d : X) → k < length xs → b ≡ p (get_or xs k d) → new ≡ old
+    ++ cond b (get_or xs k d ∷ []) [] → old ≡ filter p (take k xs) → new ≡ filter p (take (k + 1) xs)
 kept_more p xs k b old new d less test push all =
     push ∙ ap (λ (ys : List _). ys ++ cond b (get_or xs k d ∷ []) []) all ∙ ap (λ (c : Bool). filter p (take k xs) ++ cond c (get_or xs k d ∷ []) []) test
     ∙ sym (filter-append p (take k xs) (get_or xs k d ∷ [])) ∙ ap (filter p) (sym (take_more xs k d less))
@@ -40,9 +41,11 @@ found_is servers settled number x cells rising all =
     let met : test q ≡ true = ap (is_met_at servers x number) e ∙ f in
     kept_among test q cells (one_among cells q (all q met)) met)
   where
-    there : (q : CellId) → is_met_at servers x number (finite.get settled q) ≡ true → Among q (map (λ (e : CellId × List RuleSpots). e.0) (filter (λ e. is_met_at servers x number (Some e.1)) (finite.entries settled)))
+    there : (q : CellId) → is_met_at servers x number (finite.get settled q) ≡ true →
+        Among q (map (λ (e : CellId × List RuleSpots). e.0) (filter (λ e. is_met_at servers x number (Some e.1)) (finite.entries settled)))
     there q h = go (finite.get settled q) refl h
       where
-        go : (o : Option (List RuleSpots)) → finite.get settled q ≡ o → is_met_at servers x number o ≡ true → Among q (map (λ (e : CellId × List RuleSpots). e.0) (filter (λ e. is_met_at servers x number (Some e.1)) (finite.entries settled)))
+        go : (o : Option (List RuleSpots)) → finite.get settled q ≡ o → is_met_at servers x number o ≡ true →
+            Among q (map (λ (e : CellId × List RuleSpots). e.0) (filter (λ e. is_met_at servers x number (Some e.1)) (finite.entries settled)))
         go None e f = absurd (false≢true f)
         go (Some ys) e f = passes_in (λ e. is_met_at servers x number (Some e.1)) settled q ys e f

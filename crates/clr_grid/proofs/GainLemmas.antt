@@ -49,32 +49,45 @@ gains_exact p m n is = record {
 abbrev pub IsAddedTo : Cells → List CellId → Cells → List CellId → Type 0
 IsAddedTo m all n left = (done : List CellId) × (n ≡ with_cells m done) × (done ++ left ≡ all)
 
-with_last : (m : Cells) (done : List CellId) (q : CellId) → with_cells m (done ++ q ∷ []) ≡ set.insert (with_cells m done) q
+pub with_last : (m : Cells) (done : List CellId) (q : CellId) → with_cells m (done ++ q ∷ []) ≡ set.insert (with_cells m done) q
 with_last m [] q = refl
 with_last m (c ∷ done) q = with_last (set.insert m c) done q
 
 pub added_none : (m : Cells) (all : List CellId) → IsAddedTo m all m all
 added_none m all = ([], refl, refl)
 
-pub added_next : (m : Cells) (all : List CellId) (n : Cells) (q : CellId) (left : List CellId) → IsAddedTo m all n (q ∷ left) → IsAddedTo m all (set.insert n q) left
-added_next m all n q left (done, is, whole) = (done ++ q ∷ [], ap (λ (o : Cells). set.insert o q) is ∙ sym (with_last m done q), append_assoc done (q ∷ []) left ∙ whole)
+pub added_next : (m : Cells) (all : List CellId) (n : Cells) (q : CellId) (left : List CellId) → IsAddedTo m all n (q ∷ left) →
+    IsAddedTo m all (set.insert n q) left
+added_next m all n q left (done, is, whole) = (
+  done ++ q ∷ [],
+  ap (λ (o : Cells). set.insert o q) is ∙ sym (with_last m done q),
+  append_assoc done (q ∷ []) left
+      ∙ whole,
+)
 
-pub added_gains : (m : Cells) (all : List CellId) (n : Cells) (left : List CellId) (p : CellId → Bool) → ((q : CellId) → is_one_of all q ≡ p q) → IsAddedTo m all n left → GainsCells (λ q. p q ≡ true) m n
+pub added_gains : (m : Cells) (all : List CellId) (n : Cells) (left : List CellId) (p : CellId → Bool) → ((q : CellId) → is_one_of all q ≡ p q) →
+    IsAddedTo m all n left → GainsCells (λ q. p q ≡ true) m n
 added_gains m all n left p told (done, is, whole) = gains_as (λ q. p q ≡ true) (λ q. is_one_of done q ≡ true) m n
-    (λ q e. sym (told q) ∙ ap (λ cells. is_one_of cells q) (sym whole) ∙ list_any-append (eq_by_cmp cell_cmp q) done left ∙ or_left (is_one_of done q) (is_one_of left q) e)
+    (λ q e. sym (told q) ∙ ap (λ cells. is_one_of cells q) (sym whole) ∙ list_any-append (eq_by_cmp cell_cmp q) done left
+    ∙ or_left (is_one_of done q) (is_one_of left q) e)
     (gains_exact (is_one_of done) m n (λ q. ap (λ (o : Cells). set.contains o q) is ∙ has_with_cells done m q))
 
 -- the cells of two lists, one after the other
-pub both_gain : (m n o : Cells) (xs ys : List CellId) (p : CellId → Bool) → n ≡ with_cells m xs → ((q : CellId) → is_one_of (xs ++ ys) q ≡ p q) → GainsCells (λ q. is_one_of ys q ≡ true) n o → GainsCells (λ q. p q ≡ true) m o
+pub both_gain : (m n o : Cells) (xs ys : List CellId) (p : CellId → Bool) → n ≡ with_cells m xs → ((q : CellId) → is_one_of (xs ++ ys) q ≡ p q) →
+    GainsCells (λ q. is_one_of ys q ≡ true) n o → GainsCells (λ q. p q ≡ true) m o
 both_gain m n o xs ys p is told g = gains_then (λ q. p q ≡ true) m n o
-    (gains_as (λ q. p q ≡ true) (λ q. is_one_of xs q ≡ true) m n (λ q e. sym (told q) ∙ list_any-append (eq_by_cmp cell_cmp q) xs ys ∙ or_left (is_one_of xs q) (is_one_of ys q) e)
+    (gains_as (λ q. p q ≡ true) (λ q. is_one_of xs q ≡ true) m n (λ q e. sym (told q) ∙ list_any-append (eq_by_cmp cell_cmp q) xs ys
+    ∙ or_left (is_one_of xs q) (is_one_of ys q) e)
     (gains_exact (is_one_of xs) m n (λ q. ap (λ (o : Cells). set.contains o q) is ∙ has_with_cells xs m q)))
-    (gains_as (λ q. p q ≡ true) (λ q. is_one_of ys q ≡ true) n o (λ q e. sym (told q) ∙ list_any-append (eq_by_cmp cell_cmp q) xs ys ∙ or_right (is_one_of xs q) (is_one_of ys q) e) g)
+    (gains_as (λ q. p q ≡ true) (λ q. is_one_of ys q ≡ true) n o (λ q e. sym (told q) ∙ list_any-append (eq_by_cmp cell_cmp q) xs ys
+    ∙ or_right (is_one_of xs q) (is_one_of ys q) e) g)
 
-pub both_has : (m n o : Cells) (xs ys : List CellId) (p : CellId → Bool) → n ≡ with_cells m xs → ((q : CellId) → is_one_of (xs ++ ys) q ≡ p q) → ((q : CellId) → set.contains o q ≡ (set.contains n q || is_one_of ys q))
+pub both_has : (m n o : Cells) (xs ys : List CellId) (p : CellId → Bool) → n ≡ with_cells m xs → ((q : CellId) → is_one_of (xs ++ ys) q ≡ p q) →
+    ((q : CellId) → set.contains o q ≡ (set.contains n q || is_one_of ys q))
     → (q : CellId) → set.contains o q ≡ (set.contains m q || p q)
 both_has m n o xs ys p is told has q =
-    has q ∙ ap (λ b. b || is_one_of ys q) (ap (λ (o : Cells). set.contains o q) is ∙ has_with_cells xs m q) ∙ or_group (set.contains m q) (is_one_of xs q) (is_one_of ys q)
+    has q ∙ ap (λ b. b || is_one_of ys q) (ap (λ (o : Cells). set.contains o q) is ∙ has_with_cells xs m q)
+    ∙ or_group (set.contains m q) (is_one_of xs q) (is_one_of ys q)
     ∙ ap (λ b. set.contains m q || b) (sym (list_any-append (eq_by_cmp cell_cmp q) xs ys) ∙ told q)
 
 -- ---- spot after spot
@@ -85,12 +98,14 @@ module _ (p : CellId → Spot → Bool) (xs : List Spot) where
       → GainsCells (λ q. p q x ≡ true) n o
       → GainsCells (λ q. list_any (p q) xs ≡ true) m o
   spots_gain k x m n o less read before here = gains_then (λ q. list_any (p q) xs ≡ true) m n o
-      (gains_as (λ q. list_any (p q) xs ≡ true) (λ q. list_any (p q) (take k xs) ≡ true) m n (λ q e. of_more q k e) (gains_exact (λ q. list_any (p q) (take k xs)) m n before))
+      (gains_as (λ q. list_any (p q) xs ≡ true) (λ q. list_any (p q) (take k xs) ≡ true) m n (λ q e. of_more q k e)
+      (gains_exact (λ q. list_any (p q) (take k xs)) m n before))
       (gains_as (λ q. list_any (p q) xs ≡ true) (λ q. p q x ≡ true) n o
       (λ q e. of_more q (k + 1) (any_more (p q) xs k x less read ∙ or_right (list_any (p q) (take k xs)) (p q x) e)) here)
     where
       of_more : (q : CellId) (j : ℕ) → list_any (p q) (take j xs) ≡ true → list_any (p q) xs ≡ true
-      of_more q j e = ap (list_any (p q)) (sym (take-append-drop j xs)) ∙ list_any-append (p q) (take j xs) (drop j xs) ∙ or_left (list_any (p q) (take j xs)) (list_any (p q) (drop j xs)) e
+      of_more q j e = ap (list_any (p q)) (sym (take-append-drop j xs)) ∙ list_any-append (p q) (take j xs) (drop j xs)
+          ∙ or_left (list_any (p q) (take j xs)) (list_any (p q) (drop j xs)) e
 
 -- ---- the cells that are found for a row: among the wide rows, at its spots
 

@@ -18,9 +18,10 @@ use Rattle.clr_spots.specs.Spots.{have_common_spot}
 use Rattle.clr_rules.proofs.Elements.{some_of, any_by}
 use Rattle.clr_grid.specs.CellSets.{is_one, is_one_of}
 use Rattle.clr_grid.specs.Filing.{Key, Wide, At, has_key, is_filed, is_filed_under, is_looked_at, side_of, keeps_number, keeps_wide, same_side, of_side}
-use Rattle.clr_grid.specs.Filing.{spots_at, stays, IsFiled, IsFiledToo, AreFiled, AreOfRows, AreGone, GainNone, GainOnly, HasRowFor, HoldCells, AllHoldCells}
+use Rattle.clr_grid.specs.Filing.{spots_at, stays, IsFiledRow, IsFiledIfAny, AreFiled, AreOfRows, AreGone, GainNone, GainOnly, HasRowFor, HoldCells}
+use Rattle.clr_grid.specs.Filing.{AllHoldCells}
 use Rattle.clr_grid.specs.Filing.{StayFiled, StayFiledBut, AreNear, has_key_of, has_key_under}
-use Rattle.clr_grid.specs.RowMaps.{Rows, RowOrNone, IsRowAt, no_rows, with_pending, with_row, with_settled, without_pending}
+use Rattle.clr_grid.specs.RowMaps.{FiledRows, RowOrNone, IsRowAt, no_rows, with_pending, with_row, with_settled, without_pending}
 use Rattle.clr_finders.specs.Sharing.{are_meeting, is_met, is_met_at}
 use Rattle.clr_finders.specs.declared.row_spots.RuleSpots.{RuleSpots}
 use Rattle.clr_grid.specs.declared.rule_index.RuleIndex.{RuleIndex}
@@ -142,7 +143,7 @@ stays_kept cell q y Wide e = nand (is_one cell q) y.spots.wide e
 stays_kept cell q y (At x) e = nand (is_one cell q) (list_any (has_number x) y.spots.list) e
 
 -- where the rows stay, but for one cell whose row is kept, they stay filed
-pub filed_kept : (rows rows' : Rows) (cell : CellId) (kept : RowOrNone) (xs ys : List RuleIndex) → AreFiled rows xs → StayFiledBut cell kept xs ys
+pub filed_kept : (rows rows' : FiledRows) (cell : CellId) (kept : RowOrNone) (xs ys : List RuleIndex) → AreFiled rows xs → StayFiledBut cell kept xs ys
     → ((q : CellId) (row : List RuleSpots) → IsRowAt rows' q row → IsRowAt rows q row) → ((row : List RuleSpots) → IsRowAt rows' cell row → kept ≡ Some row)
     → AreFiled rows' ys
 filed_kept rows rows' cell kept xs ys filed stay fewer same q row at number y k is key =
@@ -165,14 +166,14 @@ was_pending : (o : Option RowOrNone) (row : List RuleSpots) → option_flatten o
 was_pending None row e = absurd (cc)
 was_pending (Some r) row e = ap Some e
 
-left_at : (rows : Rows) (cell q : CellId) (row : List RuleSpots) → finite.get (finite.remove rows.pending cell) q ≡ Some (Some row)
+left_at : (rows : FiledRows) (cell q : CellId) (row : List RuleSpots) → finite.get (finite.remove rows.pending cell) q ≡ Some (Some row)
     → (eq_by_cmp cell_cmp q cell ≡ false) × (finite.get rows.pending q ≡ Some (Some row))
 left_at rows cell q row e = gone (eq_by_cmp cell_cmp q cell) (finite.get rows.pending q) row (sym (finite.get-remove cell_cmp_total rows.pending cell q) ∙ e)
 
-none_left : {A : Type 0} (rows : Rows) (cell : CellId) (row : List RuleSpots) → finite.get (finite.remove rows.pending cell) cell ≡ Some (Some row) → A
+none_left : {A : Type 0} (rows : FiledRows) (cell : CellId) (row : List RuleSpots) → finite.get (finite.remove rows.pending cell) cell ≡ Some (Some row) → A
 none_left rows cell row e = absurd (true≢false (sym (tied_self cell) ∙ (left_at rows cell cell row e).0))
 
-pub settled_fewer : (rows : Rows) (cell q : CellId) (row : List RuleSpots) → IsRowAt (with_settled rows cell) q row → IsRowAt rows q row
+pub settled_fewer : (rows : FiledRows) (cell q : CellId) (row : List RuleSpots) → IsRowAt (with_settled rows cell) q row → IsRowAt rows q row
 settled_fewer rows cell q row (inr e) = inr (left_at rows cell q row e).1
 settled_fewer rows cell q row (inl e) = go (eq_by_cmp cell_cmp q cell) refl
     (sym (get_set_at rows.settled cell (option_flatten (finite.get rows.pending cell)) q) ∙ e)
@@ -184,16 +185,16 @@ settled_fewer rows cell q row (inl e) = go (eq_by_cmp cell_cmp q cell) refl
         inr (ap (λ c. finite.get rows.pending c) same ∙ was_pending (finite.get rows.pending cell) row h)
     go false tie h = inl h
 
-pub settled_same : (rows : Rows) (cell : CellId) (kept : RowOrNone) (row : List RuleSpots) → kept ≡ finite.get (with_settled rows cell).settled cell
+pub settled_same : (rows : FiledRows) (cell : CellId) (kept : RowOrNone) (row : List RuleSpots) → kept ≡ finite.get (with_settled rows cell).settled cell
     → IsRowAt (with_settled rows cell) cell row → kept ≡ Some row
 settled_same rows cell kept row is (inl e) = is ∙ e
 settled_same rows cell kept row is (inr e) = none_left rows cell row e
 
-pub left_fewer : (rows : Rows) (cell q : CellId) (row : List RuleSpots) → IsRowAt (without_pending rows cell) q row → IsRowAt rows q row
+pub left_fewer : (rows : FiledRows) (cell q : CellId) (row : List RuleSpots) → IsRowAt (without_pending rows cell) q row → IsRowAt rows q row
 left_fewer rows cell q row (inl e) = inl e
 left_fewer rows cell q row (inr e) = inr (left_at rows cell q row e).1
 
-pub left_same : (rows : Rows) (cell : CellId) (kept : RowOrNone) (row : List RuleSpots) → kept ≡ finite.get rows.settled cell
+pub left_same : (rows : FiledRows) (cell : CellId) (kept : RowOrNone) (row : List RuleSpots) → kept ≡ finite.get rows.settled cell
     → IsRowAt (without_pending rows cell) cell row → kept ≡ Some row
 left_same rows cell kept row is (inl e) = is ∙ e
 left_same rows cell kept row is (inr e) = none_left rows cell row e
@@ -210,7 +211,7 @@ abbrev pub HoldsNear : (CellId → Type 0) → List RuleIndex → Bool → ℕ �
 HoldsNear P indexes servers number x = (serves : Bool) (k : Key) (q : CellId) → (servers ≡ true → serves ≡ true) → is_looked_at x k ≡ true
     → is_filed_under indexes number serves k q ≡ true → P q
 
-pub met_holds : (P : CellId → Type 0) (rows : Rows) (indexes : List RuleIndex) (servers : Bool) (x : RuleSpots) (number : ℕ) → AreFiled rows indexes
+pub met_holds : (P : CellId → Type 0) (rows : FiledRows) (indexes : List RuleIndex) (servers : Bool) (x : RuleSpots) (number : ℕ) → AreFiled rows indexes
     → x.spots.wide ≡ false → HoldsNear P indexes servers number x
     → (q : CellId) → is_met_at servers x number (finite.get rows.settled q) ≡ true → P q
 unfolding are_meeting
@@ -222,7 +223,8 @@ met_holds P rows indexes servers x number filed narrow near q met = row (finite.
     by_spots : (ys : List RuleSpots) (y : RuleSpots) → finite.get rows.settled q ≡ Some ys → slice_get ys number ≡ Some y → are_meeting x y ≡ true
         → (not servers || y.may_serve) ≡ true → P q
     by_spots ys y at of e s =
-        let found : (k : Key) → is_looked_at x k ≡ true → has_key y k ≡ true → P q = λ k looked key. near y.may_serve k q (sides y s) looked (filed q ys (inl at) number y k of key) in
+        let found : (k : Key) → is_looked_at x k ≡ true → has_key y k ≡ true → P q =
+        λ k looked key. near y.may_serve k q (sides y s) looked (filed q ys (inl at) number y k of key) in
         let p = and_parts x.has_role _ e in
         let r = and_parts y.has_role _ p.1 in
         elim (or_cases (x.spots.wide || y.spots.wide) (have_common_spot x.spots.list y.spots.list) r.1) [
@@ -240,38 +242,40 @@ met_holds P rows indexes servers x number filed narrow near q met = row (finite.
     row None at e = absurd (false≢true e)
     row (Some ys) at e = one ys (slice_get ys number) at refl e
 
-pub met_near : (rows : Rows) (indexes : List RuleIndex) (servers : Bool) (x : RuleSpots) (number : ℕ) (cells : List CellId) → AreFiled rows indexes
+pub met_near : (rows : FiledRows) (indexes : List RuleIndex) (servers : Bool) (x : RuleSpots) (number : ℕ) (cells : List CellId) → AreFiled rows indexes
     → x.spots.wide ≡ false → AreNear indexes servers number x cells
     → (q : CellId) → is_met_at servers x number (finite.get rows.settled q) ≡ true → is_one_of cells q ≡ true
 met_near rows indexes servers x number cells filed narrow near = met_holds (λ q. is_one_of cells q ≡ true) rows indexes servers x number filed narrow near
 
 -- ---- the rows of a finder
-pub none_filed : (rows : Rows) (xs : List RuleIndex) → rows ≡ no_rows → AreFiled rows xs
-none_filed rows xs is q ys (inl e) = absurd (cc (ap (λ (r : Rows). finite.get r.settled q) is, finite.get-empty {X = List RuleSpots} cell_cmp q))
-none_filed rows xs is q ys (inr e) = absurd (cc (ap (λ (r : Rows). finite.get r.pending q) is, finite.get-empty {X = RowOrNone} cell_cmp q))
+pub none_filed : (rows : FiledRows) (xs : List RuleIndex) → rows ≡ no_rows → AreFiled rows xs
+none_filed rows xs is q ys (inl e) = absurd (cc (ap (λ (r : FiledRows). finite.get r.settled q) is, finite.get-empty {X = List RuleSpots} cell_cmp q))
+none_filed rows xs is q ys (inr e) = absurd (cc (ap (λ (r : FiledRows). finite.get r.pending q) is, finite.get-empty {X = RowOrNone} cell_cmp q))
 
-pub filed_settled : (rows rows' : Rows) (cell : CellId) (kept : RowOrNone) (xs ys : List RuleIndex) → AreFiled rows xs → StayFiledBut cell kept xs ys → rows'
+pub filed_settled : (rows rows' : FiledRows) (cell : CellId) (kept : RowOrNone) (xs ys : List RuleIndex) → AreFiled rows xs → StayFiledBut cell kept xs ys →
+    rows'
     ≡ with_settled rows cell → kept ≡ finite.get rows'.settled cell → AreFiled rows' ys
-filed_settled rows rows' cell kept xs ys filed stay is same = subst (λ (r : Rows). AreFiled r ys) (sym is)
+filed_settled rows rows' cell kept xs ys filed stay is same = subst (λ (r : FiledRows). AreFiled r ys) (sym is)
     (filed_kept rows (with_settled rows cell) cell kept xs ys filed stay (settled_fewer rows cell) (λ row. settled_same rows cell kept row (same
-    ∙ ap (λ (r : Rows). finite.get r.settled cell) is)))
+    ∙ ap (λ (r : FiledRows). finite.get r.settled cell) is)))
 
-pub filed_left : (rows rows' : Rows) (cell : CellId) (kept : RowOrNone) (xs ys : List RuleIndex) → AreFiled rows xs → StayFiledBut cell kept xs ys → rows'
+pub filed_left : (rows rows' : FiledRows) (cell : CellId) (kept : RowOrNone) (xs ys : List RuleIndex) → AreFiled rows xs → StayFiledBut cell kept xs ys → rows'
     ≡ without_pending rows cell → kept ≡ finite.get rows'.settled cell → AreFiled rows' ys
-filed_left rows rows' cell kept xs ys filed stay is same = subst (λ (r : Rows). AreFiled r ys) (sym is)
+filed_left rows rows' cell kept xs ys filed stay is same = subst (λ (r : FiledRows). AreFiled r ys) (sym is)
     (filed_kept rows (without_pending rows cell) cell kept xs ys filed stay (left_fewer rows cell) (λ row. left_same rows cell kept row (same
-    ∙ ap (λ (r : Rows). finite.get r.settled cell) is)))
+    ∙ ap (λ (r : FiledRows). finite.get r.settled cell) is)))
 
-still_filed : (rows : Rows) (xs ys : List RuleIndex) → AreFiled rows xs → StayFiled xs ys → AreFiled rows ys
+still_filed : (rows : FiledRows) (xs ys : List RuleIndex) → AreFiled rows xs → StayFiled xs ys → AreFiled rows ys
 still_filed rows xs ys filed stay q row at number y k is key = stay number y.may_serve k q (filed q row at number y k is key)
 
-filed_row : (ys : List RuleIndex) (cell : CellId) (row : RowOrNone) (zs : List RuleSpots) → IsFiledToo ys cell row → row ≡ Some zs → IsFiled ys cell zs
+filed_row : (ys : List RuleIndex) (cell : CellId) (row : RowOrNone) (zs : List RuleSpots) → IsFiledIfAny ys cell row → row ≡ Some zs → IsFiledRow ys cell zs
 filed_row ys cell None zs h e = absurd (cc)
-filed_row ys cell (Some us) zs h e = let same : us ≡ zs = cc in subst (IsFiled ys cell) same h
+filed_row ys cell (Some us) zs h e = let same : us ≡ zs = cc in subst (IsFiledRow ys cell) same h
 
-pub filed_noted : (rows rows' : Rows) (cell : CellId) (row : RowOrNone) (xs ys : List RuleIndex) → AreFiled rows xs → StayFiled xs ys → IsFiledToo ys cell row
+pub filed_noted : (rows rows' : FiledRows) (cell : CellId) (row : RowOrNone) (xs ys : List RuleIndex) → AreFiled rows xs → StayFiled xs ys →
+    IsFiledIfAny ys cell row
     → rows' ≡ with_pending rows cell row → AreFiled rows' ys
-filed_noted rows rows' cell row xs ys filed stay here is = subst (λ (r : Rows). AreFiled r ys) (sym is) both
+filed_noted rows rows' cell row xs ys filed stay here is = subst (λ (r : FiledRows). AreFiled r ys) (sym is) both
   where
     old : AreFiled rows ys
     old = still_filed rows xs ys filed stay
@@ -280,24 +284,26 @@ filed_noted rows rows' cell row xs ys filed stay here is = subst (λ (r : Rows).
     both q zs (inl e) = old q zs (inl e)
     both q zs (inr e) = go (eq_by_cmp cell_cmp q cell) refl (sym (finite.get-insert cell_cmp_total rows.pending cell row q) ∙ e)
       where
-        go : (b : Bool) → eq_by_cmp cell_cmp q cell ≡ b → cond b (Some row) (finite.get rows.pending q) ≡ Some (Some zs) → IsFiled ys q zs
+        go : (b : Bool) → eq_by_cmp cell_cmp q cell ≡ b → cond b (Some row) (finite.get rows.pending q) ≡ Some (Some zs) → IsFiledRow ys q zs
         go true tie h =
             let same : q ≡ cell = cell_cmp_exact q cell ((Equal-is (cell_cmp q cell)).0 tie) in
             let is_row : row ≡ Some zs = cc in
-            subst (λ c. IsFiled ys c zs) (sym same) (filed_row ys cell row zs here is_row)
+            subst (λ c. IsFiledRow ys c zs) (sym same) (filed_row ys cell row zs here is_row)
         go false tie h = old q zs (inr h)
 
-pub filed_refused : (rows rows' : Rows) (cell : CellId) (kept : RowOrNone) (xs ys zs : List RuleIndex) → finite.get rows.pending cell ≡ None → AreFiled rows xs
+pub filed_refused : (rows rows' : FiledRows) (cell : CellId) (kept : RowOrNone) (xs ys zs : List RuleIndex) → finite.get rows.pending cell ≡ None →
+    AreFiled rows xs
     → StayFiled xs ys → StayFiledBut cell kept ys zs → rows' ≡ rows → kept ≡ finite.get rows'.settled cell → AreFiled rows' zs
-filed_refused rows rows' cell kept xs ys zs free filed stay but is same = subst (λ (r : Rows). AreFiled r zs) (sym is)
+filed_refused rows rows' cell kept xs ys zs free filed stay but is same = subst (λ (r : FiledRows). AreFiled r zs) (sym is)
     (filed_kept rows rows cell kept ys zs (still_filed rows xs ys filed stay) but (λ q row at. at) here)
   where
     here : (row : List RuleSpots) → IsRowAt rows cell row → kept ≡ Some row
-    here row (inl e) = same ∙ ap (λ (r : Rows). finite.get r.settled cell) is ∙ e
+    here row (inl e) = same ∙ ap (λ (r : FiledRows). finite.get r.settled cell) is ∙ e
     here row (inr e) = absurd (cc)
 
 -- a change that is dropped again leaves the rows as they were
-pub dropped_again : (rows : Rows) (cell : CellId) (row : RowOrNone) → finite.get rows.pending cell ≡ None → without_pending (with_pending rows cell row) cell
+pub dropped_again : (rows : FiledRows) (cell : CellId) (row : RowOrNone) → finite.get rows.pending cell ≡ None →
+    without_pending (with_pending rows cell row) cell
     ≡ rows
 dropped_again rows cell row free = λ i. record {
   settled = rows.settled;
@@ -366,16 +372,17 @@ filed_next xs ys cell row m s at stay here before n y k less is key = elim (case
       ≡ true) (sym s_is) (here k (subst (λ (z : RuleSpots). has_key z k ≡ true) s_is key))))
 ]
 
-pub noted_row : (rows rows' : Rows) (cell : CellId) (row : RowOrNone) → rows' ≡ with_pending rows cell row → option_flatten (finite.get rows'.pending cell)
+pub noted_row : (rows rows' : FiledRows) (cell : CellId) (row : RowOrNone) → rows' ≡ with_pending rows cell row → option_flatten (finite.get rows'.pending cell)
     ≡ row
 noted_row rows rows' cell row is =
-    ap (λ (r : Rows). option_flatten (finite.get r.pending cell)) is
+    ap (λ (r : FiledRows). option_flatten (finite.get r.pending cell)) is
     ∙ ap option_flatten (finite.get-insert cell_cmp_total rows.pending cell row cell
     ∙ ap (λ b. cond b (Some row) (finite.get rows.pending cell)) (tied_self cell))
 
-pub noted_dropped : (rows noted left : Rows) (cell : CellId) (row : RowOrNone) → finite.get rows.pending cell ≡ None → noted ≡ with_pending rows cell row → left
+pub noted_dropped : (rows noted left : FiledRows) (cell : CellId) (row : RowOrNone) → finite.get rows.pending cell ≡ None → noted ≡ with_pending rows cell row →
+    left
     ≡ without_pending noted cell → left ≡ rows
-noted_dropped rows noted left cell row free is gone = gone ∙ ap (λ (r : Rows). without_pending r cell) is ∙ dropped_again rows cell row free
+noted_dropped rows noted left cell row free is gone = gone ∙ ap (λ (r : FiledRows). without_pending r cell) is ∙ dropped_again rows cell row free
 
 -- ---- nothing else is filed
 by_cell : {A : Type 0} (cell q : CellId) → (q ≡ cell → A) → (eq_by_cmp cell_cmp q cell ≡ false → A) → A
@@ -384,12 +391,13 @@ by_cell cell q same apart = elim (cases_Bool (eq_by_cmp cell_cmp q cell)) [
   | inr differ ↦ apart differ
 ]
 
-kept_row : (rows : Rows) (cell : CellId) (kept : RowOrNone) (n : ℕ) (b : Bool) (k : Key) → kept ≡ finite.get rows.settled cell → has_key_under kept n b k ≡ true
+kept_row : (rows : FiledRows) (cell : CellId) (kept : RowOrNone) (n : ℕ) (b : Bool) (k : Key) → kept ≡ finite.get rows.settled cell →
+    has_key_under kept n b k ≡ true
     → HasRowFor rows cell n b k
 kept_row rows cell None n b k is key = absurd (false≢true key)
 kept_row rows cell (Some row) n b k is key = record { row = row; stands = inl (sym is); wanted = key }
 
-noted_key : (rows : Rows) (cell : CellId) (row : RowOrNone) (n : ℕ) (b : Bool) (k : Key) → has_key_under row n b k ≡ true
+noted_key : (rows : FiledRows) (cell : CellId) (row : RowOrNone) (n : ℕ) (b : Bool) (k : Key) → has_key_under row n b k ≡ true
     → HasRowFor (with_pending rows cell row) cell n b k
 noted_key rows cell None n b k key = absurd (false≢true key)
 noted_key rows cell (Some row) n b k key = record {
@@ -399,9 +407,9 @@ noted_key rows cell (Some row) n b k key = record {
   wanted = key;
 }
 
-pub others_noted : (rows rows' : Rows) (cell : CellId) (row : RowOrNone) (xs ys : List RuleIndex) → finite.get rows.pending cell ≡ None → AreOfRows rows xs
+pub others_noted : (rows rows' : FiledRows) (cell : CellId) (row : RowOrNone) (xs ys : List RuleIndex) → finite.get rows.pending cell ≡ None → AreOfRows rows xs
     → GainOnly cell row xs ys → rows' ≡ with_pending rows cell row → AreOfRows rows' ys
-others_noted rows rows' cell row xs ys free of gain is n b k q e = subst (λ (r : Rows). HasRowFor r q n b k) (sym is) (elim (gain n b k q e) [
+others_noted rows rows' cell row xs ys free of gain is n b k q e = subst (λ (r : FiledRows). HasRowFor r q n b k) (sym is) (elim (gain n b k q e) [
   | inl old ↦ stays (of n b k q old)
   | inr new ↦ subst (λ c. HasRowFor (with_pending rows cell row) c n b k) (sym new.0) (noted_key rows cell row n b k new.1)
 ])
@@ -417,24 +425,24 @@ others_noted rows rows' cell row xs ys free of gain is n b k q e = subst (λ (r 
       }
     ]
 
-pub others_refused : (rows rows' : Rows) (cell : CellId) (row kept : RowOrNone) (xs ys zs : List RuleIndex) → AreOfRows rows xs → GainOnly cell row xs ys
+pub others_refused : (rows rows' : FiledRows) (cell : CellId) (row kept : RowOrNone) (xs ys zs : List RuleIndex) → AreOfRows rows xs → GainOnly cell row xs ys
     → GainNone ys zs → AreGone cell row kept zs
     → rows' ≡ rows → kept ≡ finite.get rows'.settled cell → AreOfRows rows' zs
 others_refused rows rows' cell row kept xs ys zs of gain fewer gone is same n b k q e = elim (gain n b k q (fewer n b k q e)) [
-  | inl old ↦ subst (λ (r : Rows). HasRowFor r q n b k) (sym is) (of n b k q old)
+  | inl old ↦ subst (λ (r : FiledRows). HasRowFor r q n b k) (sym is) (of n b k q old)
   | inr new ↦ subst (λ c. HasRowFor rows' c n b k) (sym new.0) (kept_row rows' cell kept n b k same (gone n b k new.1 (subst (λ c. is_filed_under zs n b k c
       ≡ true) new.0 e)))
 ]
 
-pub others_settled : (rows rows' : Rows) (cell : CellId) (before kept : RowOrNone) (xs ys : List RuleIndex) → AreOfRows rows xs → GainNone xs ys
+pub others_settled : (rows rows' : FiledRows) (cell : CellId) (before kept : RowOrNone) (xs ys : List RuleIndex) → AreOfRows rows xs → GainNone xs ys
     → AreGone cell before kept ys
     → before ≡ finite.get rows.settled cell → rows' ≡ with_settled rows cell → kept ≡ finite.get rows'.settled cell → AreOfRows rows' ys
 others_settled rows rows' cell before kept xs ys
-    of fewer gone was is same n b k q e = subst (λ (r : Rows). HasRowFor r q n b k) (sym is) (go (of n b k q (fewer n b k q e)))
+    of fewer gone was is same n b k q e = subst (λ (r : FiledRows). HasRowFor r q n b k) (sym is) (go (of n b k q (fewer n b k q e)))
   where
     here : HasRowFor rows cell n b k → is_filed_under ys n b k cell ≡ true → HasRowFor (with_settled rows cell) cell n b k
     here h there = elim h.stands [
-      | inl settled ↦ kept_row (with_settled rows cell) cell kept n b k (same ∙ ap (λ (r : Rows). finite.get r.settled cell) is)
+      | inl settled ↦ kept_row (with_settled rows cell) cell kept n b k (same ∙ ap (λ (r : FiledRows). finite.get r.settled cell) is)
           (gone n b k (subst (λ o. has_key_under o n b k ≡ true) (sym (was ∙ settled)) h.wanted) there)
       | inr pending ↦ record {
         row = h.row;
@@ -465,16 +473,16 @@ others_settled rows rows' cell before kept xs ys
         (subst (λ c. is_filed_under ys n b k c ≡ true) tie e)))
         (λ differ. apart differ h)
 
-pub others_left : (rows rows' : Rows) (cell : CellId) (row kept : RowOrNone) (xs ys : List RuleIndex) → AreOfRows rows xs → GainNone xs ys
+pub others_left : (rows rows' : FiledRows) (cell : CellId) (row kept : RowOrNone) (xs ys : List RuleIndex) → AreOfRows rows xs → GainNone xs ys
     → AreGone cell row kept ys
     → row ≡ option_flatten (finite.get rows.pending cell) → rows' ≡ without_pending rows cell → kept ≡ finite.get rows'.settled cell → AreOfRows rows' ys
 others_left rows rows' cell row kept xs ys
-    of fewer gone was is same n b k q e = subst (λ (r : Rows). HasRowFor r q n b k) (sym is) (go (of n b k q (fewer n b k q e)))
+    of fewer gone was is same n b k q e = subst (λ (r : FiledRows). HasRowFor r q n b k) (sym is) (go (of n b k q (fewer n b k q e)))
   where
     here : HasRowFor rows cell n b k → is_filed_under ys n b k cell ≡ true → HasRowFor (without_pending rows cell) cell n b k
     here h there = elim h.stands [
       | inl settled ↦ record { row = h.row; stands = inl settled; wanted = h.wanted }
-      | inr pending ↦ kept_row (without_pending rows cell) cell kept n b k (same ∙ ap (λ (r : Rows). finite.get r.settled cell) is)
+      | inr pending ↦ kept_row (without_pending rows cell) cell kept n b k (same ∙ ap (λ (r : FiledRows). finite.get r.settled cell) is)
           (gone n b k (subst (λ o. has_key_under o n b k ≡ true) (sym (was ∙ ap option_flatten pending)) h.wanted) there)
     ]
 
@@ -495,13 +503,13 @@ others_left rows rows' cell row kept xs ys
         (λ differ. apart differ h)
 
 -- no index files nothing
-pub none_other : (rows : Rows) (xs : List RuleIndex) → xs ≡ [] → AreOfRows rows xs
+pub none_other : (rows : FiledRows) (xs : List RuleIndex) → xs ≡ [] → AreOfRows rows xs
 none_other rows xs is n b k q e = absurd (false≢true (sym (ap (λ ys. is_filed_under ys n b k q) is) ∙ e))
 
 -- ---- one more settled row
-pub filed_put : (rows rows' : Rows) (cell : CellId) (row : List RuleSpots) (xs ys : List RuleIndex) → AreFiled rows xs → StayFiled xs ys
-    → IsFiledToo ys cell (Some row) → rows' ≡ with_row rows cell row → AreFiled rows' ys
-filed_put rows rows' cell row xs ys filed stay here is = subst (λ (r : Rows). AreFiled r ys) (sym is) both
+pub filed_put : (rows rows' : FiledRows) (cell : CellId) (row : List RuleSpots) (xs ys : List RuleIndex) → AreFiled rows xs → StayFiled xs ys
+    → IsFiledIfAny ys cell (Some row) → rows' ≡ with_row rows cell row → AreFiled rows' ys
+filed_put rows rows' cell row xs ys filed stay here is = subst (λ (r : FiledRows). AreFiled r ys) (sym is) both
   where
     old : AreFiled rows ys
     old = still_filed rows xs ys filed stay
@@ -510,16 +518,17 @@ filed_put rows rows' cell row xs ys filed stay here is = subst (λ (r : Rows). A
     both q zs (inr e) = old q zs (inr e)
     both q zs (inl e) = go (eq_by_cmp cell_cmp q cell) refl (sym (finite.get-insert cell_cmp_total rows.settled cell row q) ∙ e)
       where
-        go : (b : Bool) → eq_by_cmp cell_cmp q cell ≡ b → cond b (Some row) (finite.get rows.settled q) ≡ Some zs → IsFiled ys q zs
+        go : (b : Bool) → eq_by_cmp cell_cmp q cell ≡ b → cond b (Some row) (finite.get rows.settled q) ≡ Some zs → IsFiledRow ys q zs
         go true tie h =
             let same : q ≡ cell = cell_cmp_exact q cell ((Equal-is (cell_cmp q cell)).0 tie) in
-            subst (λ c. IsFiled ys c zs) (sym same) (filed_row ys cell (Some row) zs here h)
+            subst (λ c. IsFiledRow ys c zs) (sym same) (filed_row ys cell (Some row) zs here h)
         go false tie h = old q zs (inl h)
 
-pub others_put : (rows rows' : Rows) (cell : CellId) (row : List RuleSpots) (xs ys : List RuleIndex) → finite.get rows.settled cell ≡ None → AreOfRows rows xs
+pub others_put : (rows rows' : FiledRows) (cell : CellId) (row : List RuleSpots) (xs ys : List RuleIndex) → finite.get rows.settled cell ≡ None →
+    AreOfRows rows xs
     → GainOnly cell (Some row) xs ys
     → rows' ≡ with_row rows cell row → AreOfRows rows' ys
-others_put rows rows' cell row xs ys free of gain is n b k q e = subst (λ (r : Rows). HasRowFor r q n b k) (sym is) (elim (gain n b k q e) [
+others_put rows rows' cell row xs ys free of gain is n b k q e = subst (λ (r : FiledRows). HasRowFor r q n b k) (sym is) (elim (gain n b k q e) [
   | inl old ↦ stays (of n b k q old)
   | inr new ↦ subst (λ c. HasRowFor (with_row rows cell row) c n b k) (sym new.0) (record {
     row = row;

@@ -15,7 +15,7 @@ use Rattle.clr_rows.specs.declared.cells.CellId.{CellId}
 use Rattle.clr_rows.specs.Cells.{cell_cmp}
 use Rattle.clr_rows.proofs.CellOrder.{cell_cmp_total, cell_cmp_exact}
 use Rattle.clr_grid.specs.CellSets.{is_one_of}
-use Rattle.clr_grid.specs.RowMaps.{RowOrNone, Rows, set_at, settled_of, pending_of, with_settled}
+use Rattle.clr_grid.specs.RowMaps.{RowOrNone, FiledRows, set_at, settled_of, pending_of, with_settled}
 use Rattle.clr_finders.specs.Sharing.{Settled, Pending, next_of, next_at}
 use Rattle.clr_finders.specs.declared.row_spots.RuleSpots.{RuleSpots}
 
@@ -38,10 +38,12 @@ flat_cond false row o = refl
 pub get_settled : (es : List (CellId × RowOrNone)) (q : CellId) → finite.get (settled_of es) q ≡ option_flatten (at_cell es q)
 get_settled [] q = finite.get-empty cell_cmp q
 get_settled (e ∷ es) q =
-    get_set_at (settled_of es) e.0 e.1 q ∙ ap (cond (eq_by_cmp cell_cmp q e.0) e.1) (get_settled es q) ∙ sym (flat_cond (is_at (cell_cmp q) e.0) e.1 (at_cell es q))
+    get_set_at (settled_of es) e.0 e.1 q ∙ ap (cond (eq_by_cmp cell_cmp q e.0) e.1) (get_settled es q)
+    ∙ sym (flat_cond (is_at (cell_cmp q) e.0) e.1 (at_cell es q))
 
 -- entries that have the same rows
-pub same_settled : (es fs : List (CellId × RowOrNone)) → ((q : CellId) → option_flatten (at_cell fs q) ≡ option_flatten (at_cell es q)) → settled_of fs ≡ settled_of es
+pub same_settled : (es fs : List (CellId × RowOrNone)) → ((q : CellId) → option_flatten (at_cell fs q) ≡ option_flatten (at_cell es q)) →
+    settled_of fs ≡ settled_of es
 same_settled es fs h = finite.same_map cell_cmp_total cell_cmp_exact _ _ (λ q. get_settled fs q ∙ h q ∙ sym (get_settled es q))
 
 flat_chosen : (b : Bool) (w o : Option RowOrNone) → option_flatten (cond b w o) ≡ cond b (option_flatten w) (option_flatten o)
@@ -49,9 +51,11 @@ flat_chosen true w o = refl
 flat_chosen false w o = refl
 
 -- entries that differ at one cell
-pub one_settled : (es fs : List (CellId × RowOrNone)) (k : CellId) (w : Option RowOrNone) → ((q : CellId) → at_cell fs q ≡ cond (is_at (cell_cmp k) q) w (at_cell es q)) → settled_of fs ≡ set_at (settled_of es) k (option_flatten w)
+pub one_settled : (es fs : List (CellId × RowOrNone)) (k : CellId) (w : Option RowOrNone) →
+    ((q : CellId) → at_cell fs q ≡ cond (is_at (cell_cmp k) q) w (at_cell es q)) → settled_of fs ≡ set_at (settled_of es) k (option_flatten w)
 one_settled es fs k w h = finite.same_map cell_cmp_total cell_cmp_exact _ _ (λ q.
-    get_settled fs q ∙ ap option_flatten (h q) ∙ flat_chosen (is_at (cell_cmp k) q) w (at_cell es q) ∙ ap (λ b. cond b (option_flatten w) (option_flatten (at_cell es q))) (same_tie k q)
+    get_settled fs q ∙ ap option_flatten (h q) ∙ flat_chosen (is_at (cell_cmp k) q) w (at_cell es q)
+    ∙ ap (λ b. cond b (option_flatten w) (option_flatten (at_cell es q))) (same_tie k q)
     ∙ ap (cond (eq_by_cmp cell_cmp q k) (option_flatten w)) (sym (get_settled es q)) ∙ sym (get_set_at (settled_of es) k (option_flatten w) q))
 
 -- ---- pending changes
@@ -62,38 +66,46 @@ find_at (e ∷ es) q = ap (cond (is_at (cell_cmp q) e.0) (Some e.1)) (find_at es
 pub get_pending : (es : List (CellId × RowOrNone)) (q : CellId) → finite.get (pending_of es) q ≡ at_cell es q
 get_pending es q = finite.get-from_entries cell_cmp_total es q ∙ find_at es q
 
-pub one_noted : (es fs : List (CellId × RowOrNone)) (k : CellId) (row : RowOrNone) → ((q : CellId) → at_cell fs q ≡ cond (is_at (cell_cmp k) q) (Some row) (at_cell es q)) → pending_of fs ≡ finite.insert (pending_of es) k row
+pub one_noted : (es fs : List (CellId × RowOrNone)) (k : CellId) (row : RowOrNone) →
+    ((q : CellId) → at_cell fs q ≡ cond (is_at (cell_cmp k) q) (Some row) (at_cell es q)) → pending_of fs ≡ finite.insert (pending_of es) k row
 one_noted es fs k row h = finite.same_map cell_cmp_total cell_cmp_exact _ _ (λ q.
     get_pending fs q ∙ h q ∙ ap (λ b. cond b (Some row) (at_cell es q)) (same_tie k q)
     ∙ ap (cond (eq_by_cmp cell_cmp q k) (Some row)) (sym (get_pending es q)) ∙ sym (finite.get-insert cell_cmp_total (pending_of es) k row q))
 
-pub one_taken : (es fs : List (CellId × RowOrNone)) (k : CellId) → ((q : CellId) → at_cell fs q ≡ cond (is_at (cell_cmp k) q) None (at_cell es q)) → pending_of fs ≡ finite.remove (pending_of es) k
+pub one_taken : (es fs : List (CellId × RowOrNone)) (k : CellId) → ((q : CellId) → at_cell fs q ≡ cond (is_at (cell_cmp k) q) None (at_cell es q)) →
+    pending_of fs ≡ finite.remove (pending_of es) k
 one_taken es fs k h = finite.same_map cell_cmp_total cell_cmp_exact _ _ (λ q.
     get_pending fs q ∙ h q ∙ ap (λ b. cond b None (at_cell es q)) (same_tie k q)
     ∙ ap (cond (eq_by_cmp cell_cmp q k) None) (sym (get_pending es q)) ∙ sym (finite.get-remove cell_cmp_total (pending_of es) k q))
 
 -- ---- both
-pub rows_alike : (s t : Settled) (p r : Pending) → s ≡ t → p ≡ r → ◌≡◌ {A = Rows} (record { settled = s; pending = p }) (record { settled = t; pending = r })
+pub rows_alike : (s t : Settled) (p r : Pending) → s ≡ t → p ≡ r →
+    ◌≡◌ {A = FiledRows} (record { settled = s; pending = p }) (record { settled = t; pending = r })
 rows_alike s t p r e f = λ i. record { settled = e i; pending = f i }
 
 -- a pending change that is taken over
-pub row_settled : (ses sfs pes pfs : List (CellId × RowOrNone)) (k : CellId) (w : Option RowOrNone) (row : RowOrNone) → option_flatten w ≡ row → at_cell pes k ≡ Some row
+pub row_settled : (ses sfs pes pfs : List (CellId × RowOrNone)) (k : CellId) (w : Option RowOrNone) (row : RowOrNone) → option_flatten w ≡ row →
+    at_cell pes k ≡ Some row
     → ((q : CellId) → at_cell sfs q ≡ cond (is_at (cell_cmp k) q) w (at_cell ses q))
     → ((q : CellId) → at_cell pfs q ≡ cond (is_at (cell_cmp k) q) None (at_cell pes q))
-    → ◌≡◌ {A = Rows} (record { settled = settled_of sfs; pending = pending_of pfs })
+    → ◌≡◌ {A = FiledRows} (record { settled = settled_of sfs; pending = pending_of pfs })
     (record { settled = set_at (settled_of ses) k (option_flatten (finite.get (pending_of pes) k)); pending = finite.remove (pending_of pes) k })
 row_settled ses sfs pes pfs k w row is was settled pending =
-    rows_alike _ _ _ _ (one_settled ses sfs k w settled ∙ ap (set_at (settled_of ses) k) (is ∙ sym (ap option_flatten (get_pending pes k ∙ was)))) (one_taken pes pfs k pending)
+    rows_alike _ _ _ _ (one_settled ses sfs k w settled ∙ ap (set_at (settled_of ses) k) (is ∙ sym (ap option_flatten (get_pending pes k ∙ was))))
+    (one_taken pes pfs k pending)
 
 -- what stands at each cell at the end stays, when a change is taken over
-pub next_kept : (r : Rows) (k : CellId) → is_some (finite.get r.pending k) ≡ true → (q : CellId) → next_at (with_settled r k).settled (with_settled r k).pending q ≡ next_at r.settled r.pending q
-next_kept r k some q = ap₂ next_of (get_set_at r.settled k (option_flatten (finite.get r.pending k)) q) (finite.get-remove cell_cmp_total r.pending k q) ∙ go (eq_by_cmp cell_cmp q k) refl
+pub next_kept : (r : FiledRows) (k : CellId) → is_some (finite.get r.pending k) ≡ true → (q : CellId) →
+    next_at (with_settled r k).settled (with_settled r k).pending q ≡ next_at r.settled r.pending q
+next_kept r k some q = ap₂ next_of (get_set_at r.settled k (option_flatten (finite.get r.pending k)) q) (finite.get-remove cell_cmp_total r.pending k q)
+    ∙ go (eq_by_cmp cell_cmp q k) refl
   where
     here : (o : Option RowOrNone) → is_some o ≡ true → (now : RowOrNone) → option_flatten o ≡ next_of now o
     here None e now = absurd (false≢true e)
     here (Some row) e now = refl
 
-    go : (b : Bool) → eq_by_cmp cell_cmp q k ≡ b → next_of (cond b (option_flatten (finite.get r.pending k)) (finite.get r.settled q)) (cond b None (finite.get r.pending q)) ≡ next_at r.settled r.pending q
+    go : (b : Bool) → eq_by_cmp cell_cmp q k ≡ b → next_of (cond b (option_flatten (finite.get r.pending k)) (finite.get r.settled q))
+        (cond b None (finite.get r.pending q)) ≡ next_at r.settled r.pending q
     go true e =
         let same : q ≡ k = cell_cmp_exact q k ((Equal-is (cell_cmp q k)).0 e) in
         here (finite.get r.pending k) some (finite.get r.settled q) ∙ ap (λ c. next_of (finite.get r.settled q) (finite.get r.pending c)) (sym same)
@@ -107,12 +119,14 @@ some_left : (m : Pending) (k : CellId) → is_some (finite.get m k) ≡ true →
 some_left m k some = elim (cases_lt 0 (finite.len m)) [
   | inl less ↦ less
   | inr none ↦ (let zero_is : finite.len m ≡ 0 = omega (arith, none) in
-      absurd (false≢true (ap is_some (sym (finite.get-empty cell_cmp k)) ∙ ap (λ (n : Pending). is_some (finite.get n k)) (sym (finite.empty_of_len m zero_is)) ∙ some)))
+      absurd (false≢true (ap is_some (sym (finite.get-empty cell_cmp k)) ∙ ap (λ (n : Pending). is_some (finite.get n k)) (sym (finite.empty_of_len m zero_is))
+      ∙ some)))
 ]
 
 -- one pending change less is left
 pub fewer_left : (m : Pending) (k : CellId) → is_some (finite.get m k) ≡ true → finite.len (finite.remove m k) < finite.len m
-fewer_left m k some = subst (λ n. n < finite.len m) (sym (finite.len-remove cell_cmp_total m k)) (fewer (finite.contains_key m k) (finite.len m) some (some_left m k some))
+fewer_left m k some = subst (λ n. n < finite.len m) (sym (finite.len-remove cell_cmp_total m k))
+    (fewer (finite.contains_key m k) (finite.len m) some (some_left m k some))
 
 -- ---- room
 tie_is_same : (k q : CellId) → is_at (cell_cmp k) q ≡ true → k ≡ q
@@ -123,14 +137,16 @@ flat_none None e = refl
 flat_none (Some row) e = absurd (true≢false e)
 
 -- room for a row changes no row
-pub room_made : (es fs : List (CellId × RowOrNone)) (k : CellId) → is_some (at_cell es k) ≡ false → ((q : CellId) → at_cell fs q ≡ cond (is_at (cell_cmp k) q) (Some None) (at_cell es q)) → settled_of fs ≡ settled_of es
+pub room_made : (es fs : List (CellId × RowOrNone)) (k : CellId) → is_some (at_cell es k) ≡ false →
+    ((q : CellId) → at_cell fs q ≡ cond (is_at (cell_cmp k) q) (Some None) (at_cell es q)) → settled_of fs ≡ settled_of es
 room_made es fs k none h = same_settled es fs (λ q. ap option_flatten (h q) ∙ go q (is_at (cell_cmp k) q) refl)
   where
     go : (q : CellId) (b : Bool) → is_at (cell_cmp k) q ≡ b → option_flatten (cond b (Some None) (at_cell es q)) ≡ option_flatten (at_cell es q)
     go q true e = sym (flat_none (at_cell es q) (subst (λ c. is_some (at_cell es c) ≡ false) (tie_is_same k q e) none))
     go q false e = refl
 
-pub room_gone : (es fs : List (CellId × RowOrNone)) (k : CellId) → at_cell es k ≡ Some None → ((q : CellId) → at_cell fs q ≡ cond (is_at (cell_cmp k) q) None (at_cell es q)) → settled_of fs ≡ settled_of es
+pub room_gone : (es fs : List (CellId × RowOrNone)) (k : CellId) → at_cell es k ≡ Some None →
+    ((q : CellId) → at_cell fs q ≡ cond (is_at (cell_cmp k) q) None (at_cell es q)) → settled_of fs ≡ settled_of es
 room_gone es fs k none h = same_settled es fs (λ q. ap option_flatten (h q) ∙ go q (is_at (cell_cmp k) q) refl)
   where
     go : (q : CellId) (b : Bool) → is_at (cell_cmp k) q ≡ b → option_flatten (cond b None (at_cell es q)) ≡ option_flatten (at_cell es q)
@@ -153,7 +169,8 @@ pub some_there : (es : List (CellId × RowOrNone)) (q : CellId) → is_some (fin
 some_there es q e = some_row (at_cell es q) (sym (ap is_some (get_settled es q)) ∙ e)
 
 -- a change that is noted at a cell with room has room, and so have the others
-pub room_for : (rows new old pending : List (CellId × RowOrNone)) (k : CellId) (row : RowOrNone) → ((q : CellId) → at_cell pending q ≡ cond (is_at (cell_cmp k) q) (Some row) (at_cell old q))
+pub room_for : (rows new old pending : List (CellId × RowOrNone)) (k : CellId) (row : RowOrNone) →
+    ((q : CellId) → at_cell pending q ≡ cond (is_at (cell_cmp k) q) (Some row) (at_cell old q))
     → is_some (at_cell new k) ≡ true
     → ((q : CellId) → is_some (at_cell rows q) ≡ true → is_some (at_cell new q) ≡ true)
     → ((q : CellId) → is_some (at_cell old q) ≡ true → is_some (at_cell rows q) ≡ true)
@@ -175,7 +192,8 @@ only_made k q w o e = go (is_at (cell_cmp k) q) refl e
     go true t h = inr (sym (tie_is_same k q t))
     go false t h = inl h
 
-pub lean_for : (old made pending noted : List (CellId × RowOrNone)) (k : CellId) (row : RowOrNone) → ((q : CellId) → at_cell noted q ≡ cond (is_at (cell_cmp k) q) (Some row) (at_cell pending q))
+pub lean_for : (old made pending noted : List (CellId × RowOrNone)) (k : CellId) (row : RowOrNone) →
+    ((q : CellId) → at_cell noted q ≡ cond (is_at (cell_cmp k) q) (Some row) (at_cell pending q))
     → ((q : CellId) → at_cell made q ≡ Some None → (at_cell old q ≡ Some None) ⊎ (q ≡ k))
     → ((q : CellId) → at_cell old q ≡ Some None → is_some (at_cell pending q) ≡ true)
     → (q : CellId) → at_cell made q ≡ Some None → is_some (at_cell noted q) ≡ true
@@ -184,7 +202,8 @@ lean_for old made pending noted k row h only had q e = elim (only q e) [
   | inr same ↦ ap is_some (h q) ∙ ap (λ b. is_some (cond b (Some row) (at_cell pending q))) (tie_itself k q same)
 ]
 
-pub lean_left : (rows new old pending : List (CellId × RowOrNone)) (k : CellId) → ((q : CellId) → at_cell pending q ≡ cond (is_at (cell_cmp k) q) None (at_cell old q))
+pub lean_left : (rows new old pending : List (CellId × RowOrNone)) (k : CellId) →
+    ((q : CellId) → at_cell pending q ≡ cond (is_at (cell_cmp k) q) None (at_cell old q))
     → ((q : CellId) → is_at (cell_cmp k) q ≡ false → at_cell new q ≡ at_cell rows q)
     → (at_cell new k ≡ Some None → ⊥)
     → ((q : CellId) → at_cell rows q ≡ Some None → is_some (at_cell old q) ≡ true)
@@ -195,7 +214,8 @@ lean_left rows new old pending k h others gone had q e = go (is_at (cell_cmp k) 
     go true t = absurd (gone (subst (λ c. at_cell new c ≡ Some None) (sym (tie_is_same k q t)) e))
     go false t = ap is_some (h q) ∙ ap (λ b. is_some (cond b None (at_cell old q))) t ∙ had q (sym (others q t) ∙ e)
 
-pub lean_settled : (rows new old pending : List (CellId × RowOrNone)) (k : CellId) (w : Option RowOrNone) → ((q : CellId) → at_cell new q ≡ cond (is_at (cell_cmp k) q) w (at_cell rows q)) → (w ≡ Some None → ⊥)
+pub lean_settled : (rows new old pending : List (CellId × RowOrNone)) (k : CellId) (w : Option RowOrNone) →
+    ((q : CellId) → at_cell new q ≡ cond (is_at (cell_cmp k) q) w (at_cell rows q)) → (w ≡ Some None → ⊥)
     → ((q : CellId) → at_cell pending q ≡ cond (is_at (cell_cmp k) q) None (at_cell old q))
     → ((q : CellId) → at_cell rows q ≡ Some None → is_some (at_cell old q) ≡ true)
     → (q : CellId) → at_cell new q ≡ Some None → is_some (at_cell pending q) ≡ true
@@ -219,7 +239,8 @@ lean_refused old made left pending k only others gone had q e = go (is_at (cell_
     ]
 
 -- where a pending change is gone, the others still have their room
-pub room_left : (rows new old pending : List (CellId × RowOrNone)) (k : CellId) → ((q : CellId) → at_cell pending q ≡ cond (is_at (cell_cmp k) q) None (at_cell old q))
+pub room_left : (rows new old pending : List (CellId × RowOrNone)) (k : CellId) →
+    ((q : CellId) → at_cell pending q ≡ cond (is_at (cell_cmp k) q) None (at_cell old q))
     → ((q : CellId) → is_at (cell_cmp k) q ≡ false → is_some (at_cell rows q) ≡ true → is_some (at_cell new q) ≡ true)
     → ((q : CellId) → is_some (at_cell old q) ≡ true → is_some (at_cell rows q) ≡ true)
     → (q : CellId) → is_some (at_cell pending q) ≡ true → is_some (at_cell new q) ≡ true
@@ -230,7 +251,8 @@ room_left rows new old pending k h kept had q some = go (is_at (cell_cmp k) q) r
     go false e f = kept q e (had q f)
 
 -- a row that is put leaves room to the pending changes alone
-pub lean_put : (old new pending : List (CellId × RowOrNone)) (k : CellId) (row : List RuleSpots) → ((q : CellId) → at_cell new q ≡ cond (is_at (cell_cmp k) q) (Some (Some row)) (at_cell old q))
+pub lean_put : (old new pending : List (CellId × RowOrNone)) (k : CellId) (row : List RuleSpots) →
+    ((q : CellId) → at_cell new q ≡ cond (is_at (cell_cmp k) q) (Some (Some row)) (at_cell old q))
     → ((q : CellId) → at_cell old q ≡ Some None → is_some (at_cell pending q) ≡ true)
     → (q : CellId) → at_cell new q ≡ Some None → is_some (at_cell pending q) ≡ true
 lean_put old new pending k row h had q e = go (is_at (cell_cmp k) q) (sym (h q) ∙ e)

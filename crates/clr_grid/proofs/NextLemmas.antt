@@ -27,7 +27,7 @@ use Rattle.clr_grid.specs.CellSets.{is_one_of}
 use Rattle.clr_grid.specs.Filing.{Wide, At, has_cell}
 use Rattle.clr_grid.specs.Gains.{IsFoundFor}
 use Rattle.clr_grid.specs.NextCells.{bound_behind}
-use Rattle.clr_grid.specs.RowMaps.{RowOrNone, Rows, settled_of}
+use Rattle.clr_grid.specs.RowMaps.{RowOrNone, FiledRows, settled_of}
 use Rattle.clr_grid.specs.SpotNumbers.{has_number, number_of}
 use Rattle.clr_grid.specs.declared.side_index.SideIndex.{SideIndex}
 use Rattle.clr_grid.proofs.FilingLemmas.{any_more, tied_number}
@@ -118,7 +118,8 @@ module _ (i : SideIndex) (after : Option CellId) (xs : List Spot) where
       → IsNextOf (λ q. has_cell (hash.get nat_eq i.by_spot number) q ≡ true) after here
       → IsNextOf (HasCellAtSome (take (k + 1) xs)) after next
   spot_next k x number before here next less read told is f g =
-      next_of_two after (HasCellAtSome (take k xs)) (λ q. has_cell (hash.get nat_eq i.by_spot number) q ≡ true) (HasCellAtSome (take (k + 1) xs)) before here next
+      next_of_two after (HasCellAtSome (take k xs)) (λ q. has_cell (hash.get nat_eq i.by_spot number) q ≡ true) (HasCellAtSome (take (k + 1) xs)) before here
+      next
       is split f g
     where
       split : (q : CellId) → HasCellAtSome (take (k + 1) xs) q → HasCellAtSome (take k xs) q ⊎ (has_cell (hash.get nat_eq i.by_spot number) q ≡ true)
@@ -157,9 +158,9 @@ module _ (i : SideIndex) (x : RuleSpots) (ys : List Spot) (same : ys ≡ x.spots
 -- ---- among all rows
 
 -- a cell that is past no row is past none that is found
-pub next_of_all : (rows same : Rows) (x : RuleSpots) (rule : ℕ) (after next : Option CellId) → rows ≡ same
+pub next_of_all : (rows same : FiledRows) (x : RuleSpots) (rule : ℕ) (after next : Option CellId) → rows ≡ same
     → IsNextOf (λ q. is_some (finite.get rows.settled q) ≡ true) after next
     → IsNextOf (Contains (found_cells true same.settled rule x)) after next
-next_of_all rows same x rule after next is f = subst (λ (r : Rows). IsNextOf (Contains (found_cells true r.settled rule x)) after next) is
+next_of_all rows same x rule after next is f = subst (λ (r : FiledRows). IsNextOf (Contains (found_cells true r.settled rule x)) after next) is
     (next_as after (λ q. is_some (finite.get rows.settled q) ≡ true) (Contains (found_cells true rows.settled rule x)) next
     (λ q found. met_there true x rule (finite.get rows.settled q) (found_met true rows.settled rule x q found)) f)

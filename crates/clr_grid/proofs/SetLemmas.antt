@@ -1,6 +1,7 @@
 -- Sets of cells, as the keys of trees make them.
 use Rattle.std.proofs.Common.{◌≡◌, Bool, true, false, cond, not, ◌&&◌, ◌||◌, List, [], ◌∷◌, ◌++◌, length, Option, Some, None, option_to_list, refl, ap, ap₂}
-use Rattle.std.proofs.Common.{sym, subst, ◌∙◌}
+use Rattle.std.proofs.Common.{Contains, sym, subst, ◌∙◌}
+use Rattle.std.specs.Prelude.{◌↔◌}
 use Rattle.std.proofs.lemmas.Bool.{true≢false, or_left}
 use Rattle.clr_rows.proofs.ChangeLemmas.{tied_self}
 use Rattle.std.specs.BTreeMap.{is_at}
@@ -12,6 +13,8 @@ use Rattle.std.specs.Ordering.{eq_by_cmp}
 use Rattle.clr_rows.specs.declared.cells.CellId.{CellId}
 use Rattle.clr_rows.specs.Cells.{cell_cmp}
 use Rattle.clr_rows.proofs.CellOrder.{cell_cmp_total, cell_cmp_exact}
+use Rattle.clr_rules.proofs.Elements.{among, any_by, contained}
+use Rattle.clr_finders.proofs.EntryLemmas.{one_among}
 use Rattle.clr_grid.specs.CellSets.{Cells, is_one_of, with_cells}
 
 or_cond : (b c : Bool) → cond b true c ≡ (b || c)
@@ -23,7 +26,8 @@ and_cond true c = refl
 and_cond false c = refl
 
 -- keys with one more make the set with it
-pub one_added : (ks ls : List CellId) (k : CellId) → ((q : CellId) → list_any (is_at (cell_cmp q)) ls ≡ cond (is_at (cell_cmp k) q) true (list_any (is_at (cell_cmp q)) ks))
+pub one_added : (ks ls : List CellId) (k : CellId) →
+    ((q : CellId) → list_any (is_at (cell_cmp q)) ls ≡ cond (is_at (cell_cmp k) q) true (list_any (is_at (cell_cmp q)) ks))
     → set.from_list {R = cell_cmp} ls ≡ set.insert (set.from_list ks) k
 one_added ks ls k h = set.same_set cell_cmp_total cell_cmp_exact _ _ (λ q.
     set.contains-from_list cell_cmp_total ls q ∙ h q ∙ or_cond (is_at (cell_cmp k) q) _
@@ -31,12 +35,14 @@ one_added ks ls k h = set.same_set cell_cmp_total cell_cmp_exact _ _ (λ q.
     ∙ sym (set.contains-insert cell_cmp_total (set.from_list ks) k q ∙ ap (λ b. eq_by_cmp cell_cmp q k || b) (set.contains-from_list cell_cmp_total ks q)))
 
 -- and with one less
-pub one_gone : (ks ls : List CellId) (k : CellId) → ((q : CellId) → list_any (is_at (cell_cmp q)) ls ≡ cond (is_at (cell_cmp k) q) false (list_any (is_at (cell_cmp q)) ks))
+pub one_gone : (ks ls : List CellId) (k : CellId) →
+    ((q : CellId) → list_any (is_at (cell_cmp q)) ls ≡ cond (is_at (cell_cmp k) q) false (list_any (is_at (cell_cmp q)) ks))
     → set.from_list {R = cell_cmp} ls ≡ set.remove (set.from_list ks) k
 one_gone ks ls k h = set.same_set cell_cmp_total cell_cmp_exact _ _ (λ q.
     set.contains-from_list cell_cmp_total ls q ∙ h q ∙ and_cond (is_at (cell_cmp k) q) _
     ∙ ap (λ b. not b && list_any (is_at (cell_cmp q)) ks) ((eq_by_cmp_equiv cell_cmp_total).symm k q)
-    ∙ sym (set.contains-remove cell_cmp_total (set.from_list ks) k q ∙ ap (λ b. not (eq_by_cmp cell_cmp q k) && b) (set.contains-from_list cell_cmp_total ks q)))
+    ∙ sym (set.contains-remove cell_cmp_total (set.from_list ks) k q
+    ∙ ap (λ b. not (eq_by_cmp cell_cmp q k) && b) (set.contains-from_list cell_cmp_total ks q)))
 
 -- keys that make the empty set are none
 pub no_keys : (ks : List CellId) → set.from_list {R = cell_cmp} ks ≡ set.empty → length ks ≡ 0
@@ -78,12 +84,14 @@ or_chosen true false b = refl
 or_chosen false true b = refl
 or_chosen false false b = refl
 
-pub more_added : (f k : CellId) (ks ls : List CellId) → ((q : CellId) → list_any (is_at (cell_cmp q)) ls ≡ cond (is_at (cell_cmp k) q) true (list_any (is_at (cell_cmp q)) ks))
+pub more_added : (f k : CellId) (ks ls : List CellId) →
+    ((q : CellId) → list_any (is_at (cell_cmp q)) ls ≡ cond (is_at (cell_cmp k) q) true (list_any (is_at (cell_cmp q)) ks))
     → set.from_list {R = cell_cmp} (f ∷ ls) ≡ set.insert (set.from_list (f ∷ ks)) k
 more_added f k ks ls h = one_added (f ∷ ks) (f ∷ ls) k (λ q.
     ap (λ b. is_at (cell_cmp q) f || b) (h q) ∙ or_chosen (is_at (cell_cmp q) f) (is_at (cell_cmp k) q) (list_any (is_at (cell_cmp q)) ks))
 
-pub first_there : (f k : CellId) (ks : List CellId) → eq_by_cmp cell_cmp f k ≡ true → set.from_list {R = cell_cmp} (f ∷ ks) ≡ set.insert (set.from_list (f ∷ ks)) k
+pub first_there : (f k : CellId) (ks : List CellId) → eq_by_cmp cell_cmp f k ≡ true →
+    set.from_list {R = cell_cmp} (f ∷ ks) ≡ set.insert (set.from_list (f ∷ ks)) k
 first_there f k ks tie = one_added (f ∷ ks) (f ∷ ks) k (λ q. go q (is_at (cell_cmp k) q) refl)
   where
     same : f ≡ k
@@ -91,7 +99,8 @@ first_there f k ks tie = one_added (f ∷ ks) (f ∷ ks) k (λ q. go q (is_at (c
 
     go : (q : CellId) (b : Bool) → is_at (cell_cmp k) q ≡ b → list_any (is_at (cell_cmp q)) (f ∷ ks) ≡ cond b true (list_any (is_at (cell_cmp q)) (f ∷ ks))
     go q false e = refl
-    go q true e = or_left (is_at (cell_cmp q) f) (list_any (is_at (cell_cmp q)) ks) (subst (λ c. is_at (cell_cmp q) c ≡ true) (sym same) ((eq_by_cmp_equiv cell_cmp_total).symm q k ∙ e))
+    go q true e = or_left (is_at (cell_cmp q) f) (list_any (is_at (cell_cmp q)) ks)
+        (subst (λ c. is_at (cell_cmp q) c ≡ true) (sym same) ((eq_by_cmp_equiv cell_cmp_total).symm q k ∙ e))
 
 and_or : (a b c : Bool) → ((a && b) || (a && c)) ≡ (a && (b || c))
 and_or true b c = refl
@@ -103,10 +112,12 @@ pub both_gone : (xs ys ks ls : List CellId) (k : CellId) → ((q : CellId) → i
     → set.from_list {R = cell_cmp} (ys ++ ls) ≡ set.remove (set.from_list (xs ++ ks)) k
 both_gone xs ys ks ls k first h = set.same_set cell_cmp_total cell_cmp_exact _ _ (λ q.
     set.contains-from_list cell_cmp_total (ys ++ ls) q ∙ list_any-append (eq_by_cmp cell_cmp q) ys ls
-    ∙ ap₂ (λ (a b : Bool). a || b) (first q) (h q ∙ and_cond (is_at (cell_cmp k) q) _ ∙ ap (λ b. not b && list_any (is_at (cell_cmp q)) ks) ((eq_by_cmp_equiv cell_cmp_total).symm k q))
+    ∙ ap₂ (λ (a b : Bool). a || b) (first q) (h q ∙ and_cond (is_at (cell_cmp k) q) _
+    ∙ ap (λ b. not b && list_any (is_at (cell_cmp q)) ks) ((eq_by_cmp_equiv cell_cmp_total).symm k q))
     ∙ and_or (not (eq_by_cmp cell_cmp q k)) (is_one_of xs q) (is_one_of ks q)
     ∙ ap (λ b. not (eq_by_cmp cell_cmp q k) && b) (sym (list_any-append (eq_by_cmp cell_cmp q) xs ks))
-    ∙ sym (set.contains-remove cell_cmp_total (set.from_list (xs ++ ks)) k q ∙ ap (λ b. not (eq_by_cmp cell_cmp q k) && b) (set.contains-from_list cell_cmp_total (xs ++ ks) q)))
+    ∙ sym (set.contains-remove cell_cmp_total (set.from_list (xs ++ ks)) k q
+    ∙ ap (λ b. not (eq_by_cmp cell_cmp q k) && b) (set.contains-from_list cell_cmp_total (xs ++ ks) q)))
 
 -- a cell that isn't another one
 pub one_left : (f k q : CellId) → eq_by_cmp cell_cmp f k ≡ false → is_one_of (f ∷ []) q ≡ (not (eq_by_cmp cell_cmp q k) && is_one_of (f ∷ []) q)
@@ -118,18 +129,21 @@ one_left f k q apart = go (eq_by_cmp cell_cmp q f) refl
 
 -- a cell that is gone
 pub none_left : (f k q : CellId) → eq_by_cmp cell_cmp f k ≡ true → false ≡ (not (eq_by_cmp cell_cmp q k) && is_one_of (f ∷ []) q)
-none_left f k q tie = go (eq_by_cmp cell_cmp q k) ∙ ap (λ c. not (eq_by_cmp cell_cmp q k) && (eq_by_cmp cell_cmp q c || false)) (sym (cell_cmp_exact f k ((Equal-is (cell_cmp f k)).0 tie)))
+none_left f k q tie = go (eq_by_cmp cell_cmp q k) ∙ ap (λ c. not (eq_by_cmp cell_cmp q k) && (eq_by_cmp cell_cmp q c || false))
+    (sym (cell_cmp_exact f k ((Equal-is (cell_cmp f k)).0 tie)))
   where
     go : (b : Bool) → false ≡ (not b && (b || false))
     go true = refl
     go false = refl
 
 -- a first cell that stands by itself, and the keys of a tree
-pub one_there : (o : Option CellId) (f k : CellId) (ks : List CellId) → o ≡ Some f → eq_by_cmp cell_cmp f k ≡ true → set.from_list {R = cell_cmp} (option_to_list o ++ ks) ≡ set.insert (set.from_list (option_to_list o ++ ks)) k
+pub one_there : (o : Option CellId) (f k : CellId) (ks : List CellId) → o ≡ Some f → eq_by_cmp cell_cmp f k ≡ true →
+    set.from_list {R = cell_cmp} (option_to_list o ++ ks) ≡ set.insert (set.from_list (option_to_list o ++ ks)) k
 one_there None f k ks is tie = absurd (cc)
 one_there (Some g) f k ks is tie = let same : g ≡ f = cc in first_there g k ks (ap (λ c. eq_by_cmp cell_cmp c k) same ∙ tie)
 
-pub one_more : (o : Option CellId) (f k : CellId) (ks ls : List CellId) → o ≡ Some f → ((q : CellId) → list_any (is_at (cell_cmp q)) ls ≡ cond (is_at (cell_cmp k) q) true (list_any (is_at (cell_cmp q)) ks))
+pub one_more : (o : Option CellId) (f k : CellId) (ks ls : List CellId) → o ≡ Some f →
+    ((q : CellId) → list_any (is_at (cell_cmp q)) ls ≡ cond (is_at (cell_cmp k) q) true (list_any (is_at (cell_cmp q)) ks))
     → set.from_list {R = cell_cmp} (option_to_list o ++ ls) ≡ set.insert (set.from_list (option_to_list o ++ ks)) k
 one_more None f k ks ls is h = absurd (cc)
 one_more (Some g) f k ks ls is h = more_added g k ks ls h
@@ -142,3 +156,23 @@ not_empty (Some g) f ks is e = absurd (cc (no_keys (g ∷ ks) e))
 pub no_others : (o : Option CellId) (ks : List CellId) → o ≡ None → set.from_list {R = cell_cmp} (option_to_list o ++ ks) ≡ set.empty → length ks ≡ 0
 no_others None ks is e = no_keys ks e
 no_others (Some g) ks is e = absurd (cc)
+
+-- ---- cells in a list
+
+same_told : (a b : Bool) → (a ≡ true → b ≡ true) → (b ≡ true → a ≡ true) → a ≡ b
+same_told true b f g = sym (f refl)
+same_told false true f g = g refl
+same_told false false f g = refl
+
+none_or : (b : Bool) (m : Bool) → m ≡ false → (m || b) ≡ b
+none_or b m e = ap (λ c. c || b) e
+
+-- a list that has the same cells as another one has those of the set that the other one makes
+pub listed_alike : (xs ys : List CellId) → ((q : CellId) → Contains ys q ↔ Contains xs q) → (q : CellId) →
+    is_one_of ys q ≡ set.contains (with_cells set.empty xs) q
+listed_alike xs ys same q = same_told (is_one_of ys q) (is_one_of xs q) (λ e. listed xs ((same q).0 (contained q ys (one_among ys q e))))
+    (λ e. listed ys ((same q).1 (contained q xs (one_among xs q e))))
+    ∙ sym (has_with_cells xs set.empty q ∙ none_or (is_one_of xs q) (set.contains {R = cell_cmp} set.empty q) (set.contains-empty cell_cmp q))
+  where
+    listed : (zs : List CellId) → Contains zs q → is_one_of zs q ≡ true
+    listed zs h = any_by (eq_by_cmp cell_cmp q) q zs (among q zs h) (tied_self q)

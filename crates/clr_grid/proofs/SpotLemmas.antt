@@ -8,7 +8,8 @@ use Rattle.clr_grid.specs.SpotNumbers.{has_number, number_of}
 use Rattle.clr_grid.proofs.FilingLemmas.{number_itself, tied_number}
 
 -- one more element of a list is mixed in
-pub mixed_more : {X : Type 0} (f : ℕ → X → ℕ) (n : ℕ) (xs : List X) (k : ℕ) (d x : X) (m : ℕ) → k < length xs → x ≡ get_or xs k d → m ≡ fold f n (take k xs) → f m x ≡ fold f n (take (k + 1) xs)
+pub mixed_more : {X : Type 0} (f : ℕ → X → ℕ) (n : ℕ) (xs : List X) (k : ℕ) (d x : X) (m : ℕ) → k < length xs → x ≡ get_or xs k d → m ≡ fold f n (take k xs) →
+    f m x ≡ fold f n (take (k + 1) xs)
 mixed_more f n xs k d x m less is before =
     ap (λ j. f j x) before ∙ sym (fold-append f n (take k xs) (x ∷ [])) ∙ ap (fold f n) (ap (λ y. take k xs ++ y ∷ []) is ∙ sym (take_more xs k d less))
 

@@ -10,7 +10,7 @@ use Rattle.clr_grid.specs.CellSets.{Cells, is_one, is_one_of}
 use Rattle.clr_finders.specs.declared.row_spots.RuleSpots.{RuleSpots}
 use Rattle.clr_grid.specs.declared.side_index.SideIndex.{SideIndex}
 use Rattle.clr_grid.specs.declared.rule_index.RuleIndex.{RuleIndex}
-use Rattle.clr_grid.specs.RowMaps.{Rows, IsRowAt}
+use Rattle.clr_grid.specs.RowMaps.{FiledRows, IsRowAt}
 use Rattle.clr_grid.specs.SpotNumbers.{has_number}
 
 -- where a cell is filed: among the wide rows, at the number of a spot
@@ -95,27 +95,27 @@ abbrev pub has_key_under : Option (List RuleSpots) → ℕ → Bool → Key → 
 has_key_under ys number serves k = has_key_of (of_side serves (spots_at ys number)) k
 
 -- a row is filed wherever it is to be
-abbrev pub IsFiled : List RuleIndex → CellId → List RuleSpots → Type 0
-IsFiled indexes q ys = (number : ℕ) (y : RuleSpots) (k : Key) → slice_get ys number ≡ Some y → has_key y k ≡ true
+abbrev pub IsFiledRow : List RuleIndex → CellId → List RuleSpots → Type 0
+IsFiledRow indexes q ys = (number : ℕ) (y : RuleSpots) (k : Key) → slice_get ys number ≡ Some y → has_key y k ≡ true
     → is_filed_under indexes number y.may_serve k q ≡ true
 
 -- a row, if there is one
-abbrev pub IsFiledToo : List RuleIndex → CellId → Option (List RuleSpots) → Type 0
-IsFiledToo indexes q None = ⊤
-IsFiledToo indexes q (Some ys) = IsFiled indexes q ys
+abbrev pub IsFiledIfAny : List RuleIndex → CellId → Option (List RuleSpots) → Type 0
+IsFiledIfAny indexes q None = ⊤
+IsFiledIfAny indexes q (Some ys) = IsFiledRow indexes q ys
 
 -- so is each row
-abbrev pub AreFiled : Rows → List RuleIndex → Type 0
-AreFiled rows indexes = (q : CellId) (ys : List RuleSpots) → IsRowAt rows q ys → IsFiled indexes q ys
+abbrev pub AreFiled : FiledRows → List RuleIndex → Type 0
+AreFiled rows indexes = (q : CellId) (ys : List RuleSpots) → IsRowAt rows q ys → IsFiledRow indexes q ys
 
 -- a row of the cell, which stands there or is to, is to be filed there under the rule of a number
-pub record HasRowFor (rows : Rows) (q : CellId) (number : ℕ) (serves : Bool) (k : Key) : Type 0 where
+pub record HasRowFor (rows : FiledRows) (q : CellId) (number : ℕ) (serves : Bool) (k : Key) : Type 0 where
   pub row : List RuleSpots
   pub stands : IsRowAt rows q row
   pub wanted : has_key_under (Some row) number serves k ≡ true
 
 -- nothing else is filed
-abbrev pub AreOfRows : Rows → List RuleIndex → Type 0
+abbrev pub AreOfRows : FiledRows → List RuleIndex → Type 0
 AreOfRows rows indexes = (number : ℕ) (serves : Bool) (k : Key) (q : CellId) → is_filed_under indexes number serves k q ≡ true
     → HasRowFor rows q number serves k
 
@@ -128,7 +128,7 @@ AllHoldCells indexes = (number : ℕ) (index : RuleIndex) (serves : Bool) → sl
     → HoldCells (side_of index serves).by_spot
 
 -- the rows that stand or are to stand are filed, and nothing else is kept
-pub record IsFiledExactly (rows : Rows) (indexes : List RuleIndex) : Type 0 where
+pub record IsFiledExactly (rows : FiledRows) (indexes : List RuleIndex) : Type 0 where
   pub filed : AreFiled rows indexes
   pub others : AreOfRows rows indexes
   pub lean : AllHoldCells indexes

@@ -14,18 +14,18 @@ use Rattle.clr_finders.specs.Sharing.{Settled, Pending}
 abbrev pub RowOrNone : Type 0
 RowOrNone = Option (List RuleSpots)
 
-pub record Rows : Type 0 where
+pub record FiledRows : Type 0 where
   pub settled : Settled
   pub pending : Pending
 
 abbrev pub coded_spots : Coded (List RuleSpots)
 coded_spots = coded_list spots_type.the_row.coded
 
-abbrev pub coded_rows : Coded Rows
+abbrev pub coded_rows : Coded FiledRows
 coded_rows = code_by (Settled × Pending) (coded× (finite.code coded_cell coded_spots) (finite.code coded_cell
     (coded_option coded_spots))) (λ r. (r.settled, r.pending)) (λ p. record { settled = p.0; pending = p.1 }) (λ _. refl)
 
-abbrev pub no_rows : Rows
+abbrev pub no_rows : FiledRows
 no_rows = record { settled = finite.empty; pending = finite.empty }
 
 -- a cell set to a row, or to none
@@ -34,22 +34,22 @@ set_at settled cell None = finite.remove settled cell
 set_at settled cell (Some row) = finite.insert settled cell row
 
 -- one more settled row
-abbrev pub with_row : Rows → CellId → List RuleSpots → Rows
+abbrev pub with_row : FiledRows → CellId → List RuleSpots → FiledRows
 with_row rows cell row = record { settled = finite.insert rows.settled cell row; pending = rows.pending }
 
 -- a pending change added
-abbrev pub with_pending : Rows → CellId → RowOrNone → Rows
+abbrev pub with_pending : FiledRows → CellId → RowOrNone → FiledRows
 with_pending rows cell row = record { settled = rows.settled; pending = finite.insert rows.pending cell row }
 
 -- the pending change of a cell taken over
-abbrev pub with_settled : Rows → CellId → Rows
+abbrev pub with_settled : FiledRows → CellId → FiledRows
 with_settled rows cell = record {
   settled = set_at rows.settled cell (option_flatten (finite.get rows.pending cell));
   pending = finite.remove rows.pending cell;
 }
 
 -- or dropped
-abbrev pub without_pending : Rows → CellId → Rows
+abbrev pub without_pending : FiledRows → CellId → FiledRows
 without_pending rows cell = record { settled = rows.settled; pending = finite.remove rows.pending cell }
 
 -- entries without a row are room for one
@@ -66,5 +66,5 @@ pub record HasRoom (settled pending : BTreeMap CellId RowOrNone) : Type 0 where
   pub lean : (q : CellId) → get cell_cmp settled q ≡ Some None → is_some (get cell_cmp pending q) ≡ true
 
 -- a row that stands at a cell, or is to
-abbrev pub IsRowAt : Rows → CellId → List RuleSpots → Type 0
+abbrev pub IsRowAt : FiledRows → CellId → List RuleSpots → Type 0
 IsRowAt rows q ys = (finite.get rows.settled q ≡ Some ys) ⊎ (finite.get rows.pending q ≡ Some (Some ys))

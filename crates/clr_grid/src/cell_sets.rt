@@ -1,14 +1,13 @@
 //! Sets of cells.
 
-ghost use Rattle.std.specs.Prelude.{◌≡◌, ◌⊎◌, ◌||◌, ◌&&◌, true, false, option_to_list, OnOk, OnErr, IfOk};
+ghost use Rattle.std.specs.Prelude.{◌≡◌, ◌⊎◌, ◌||◌, ◌&&◌, true, false, OnOk, OnErr};
 ghost use Rattle.std.specs.FinSet as set;
-ghost use Rattle.std.specs.List.Sorted.{IsStrictlySortedBy};
-ghost use Rattle.clr_rows.specs.Cells.{cell_cmp};
 ghost use Rattle.clr_rows.specs.declared.cells.CellId.{CellId as Cell};
 ghost use Rattle.clr_finders.specs.NextCells.{IsNextOf};
-ghost use Rattle.clr_grid.specs.CellSets.{is_one, is_one_of, with_cells};
+ghost use Rattle.clr_grid.specs.CellSets.{is_one};
 ghost use Rattle.clr_grid.specs.Gains.{GainsCells};
 
+use crate::cell_lists::CellList;
 use crate::next_cells::next_key;
 use clr_rows::CellId;
 use std::alloc::{AllocError, Global};
@@ -89,37 +88,14 @@ impl CellSet {
         self.cells.is_empty()
     }
 
-    /// Adds a cell, if there is one. It fails for want of memory alone, and changes nothing then.
-    pub(crate) fn add_some(&mut self, cell: Option<CellId>) -> Result<(), AllocError>
-        ensures ok { OnOk result (self.new ≡ with_cells self.old (option_to_list cell)) }
-        ensures err { OnErr result (self.new ≡ self.old) }
-    {
-        match cell {
-            Some(cell) => self.add(cell),
-            None => Ok(()),
-        }
-    }
-
-    /// Adds the keys of a tree. It fails for want of memory alone; then its own cells stay, and
-    /// besides them it has some of these keys alone.
-    pub(crate) fn add_keys(&mut self, cells: &BTreeSet<CellId>) -> Result<(), AllocError>
-        ensures ok { OnOk result ((q : Cell) → set.contains self.new q ≡ (set.contains self.old q || is_one_of cells.now.keys q)) }
-        ensures err { OnErr result (GainsCells (λ q. is_one_of cells.now.keys q ≡ true) self.old self.new) }
-    {
-        for cell in cells {
-            self.add(*cell)?;
-        }
-        Ok(())
-    }
-
-    /// Adds the cells of another set, where a test says so. If memory runs out, the set keeps its
-    /// own cells, and besides them it has only cells of the other set.
-    pub(crate) fn add_all(&mut self, test: bool, other: &CellSet) -> Result<(), AllocError>
-        ensures ok { OnOk result ((q : Cell) → set.contains self.new q ≡ (set.contains self.old q || (test && set.contains other.now q))) }
-        ensures err { OnErr result (GainsCells (λ q. (test && set.contains other.now q) ≡ true) self.old self.new) }
+    /// Adds the cells to a list, where a test says so. It fails for want of memory alone; then the
+    /// list's own cells stay, and besides them it has cells of this set alone.
+    pub(crate) fn add_to(&self, test: bool, cells: &mut CellList) -> Result<(), AllocError>
+        ensures ok { OnOk result ((q : Cell) → set.contains cells.new q ≡ (set.contains cells.old q || (test && set.contains self.now q))) }
+        ensures err { OnErr result (GainsCells (λ q. (test && set.contains self.now q) ≡ true) cells.old cells.new) }
     {
         if test {
-            self.add_keys(&other.cells)?;
+            cells.add_keys(&self.cells)?;
         }
         Ok(())
     }
@@ -133,17 +109,5 @@ impl CellSet {
         } else {
             None
         }
-    }
-
-    /// The cells, ascending.
-    pub(crate) fn to_vec(&self, alloc: Global) -> Result<Vec<CellId>, AllocError>
-        ensures exact { IfOk result (λ cells. (q : Cell) → is_one_of cells.items q ≡ set.contains self.now q) }
-        ensures rising { IfOk result (λ cells. IsStrictlySortedBy cell_cmp cells.items) }
-    {
-        let mut cells = Vec::new(alloc);
-        for cell in &self.cells {
-            cells.push(*cell)?;
-        }
-        Ok(cells)
     }
 }

@@ -9,6 +9,7 @@
 //!   all rows of a content.
 #![tactic(auto)]
 
+mod cell_lists;
 mod cell_sets;
 mod list_finder;
 mod next_cells;

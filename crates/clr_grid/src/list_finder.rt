@@ -7,7 +7,7 @@ ghost use Rattle.clr_grid.specs.RowMaps.{no_rows};
 ghost use Rattle.clr_finders.specs.Sharing.{found_cells, rule_spots};
 
 use crate::row_maps::RowMap;
-use clr_finders::{RowFinder, RuleSpots, row_spots_at};
+use clr_finders::{RowFinder, RowSpots, RuleSpots, row_spots_at};
 use clr_rows::{CellId, Held, Row};
 use clr_rules::RuleBook;
 use std::alloc::{AllocError, Global};
@@ -21,9 +21,9 @@ pub struct ListFinder {
 }
 
 impl Model for ListFinder {
-    ghost use Rattle.clr_grid.specs.RowMaps.{Rows, coded_rows};
+    ghost use Rattle.clr_grid.specs.RowMaps.{FiledRows, coded_rows};
 
-    ghost Value = { Rows };
+    ghost Value = { FiledRows };
 
     ghost coded = { coded_rows };
 
@@ -78,6 +78,20 @@ impl RowFinder for ListFinder {
         held: Held,
     ) -> Result<Vec<CellId>, AllocError> {
         self.find(book, rule, held, true)
+    }
+
+    fn spots_at(&self, cell: CellId) -> Option<&RowSpots> {
+        self.rows.settled_row(cell)
+    }
+
+    fn candidates(
+        &self,
+        servers: bool,
+        rule: u16,
+        spots: &RuleSpots,
+    ) -> Result<Vec<CellId>, AllocError> {
+        let cells = self.rows.find_all(self.alloc, servers, rule, spots)?;
+        Ok(cells)
     }
 
     fn next_server(&self, _rule: u16, _spots: &RuleSpots, after: Option<CellId>) -> Option<CellId> {

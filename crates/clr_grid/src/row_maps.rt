@@ -30,9 +30,9 @@ pub(crate) struct RowMap {
 }
 
 impl Model for RowMap {
-    ghost use Rattle.clr_grid.specs.RowMaps.{Rows, coded_rows, settled_of, pending_of, HasRoom};
+    ghost use Rattle.clr_grid.specs.RowMaps.{FiledRows, coded_rows, settled_of, pending_of, HasRoom};
 
-    ghost Value = { Rows };
+    ghost Value = { FiledRows };
 
     ghost coded = { coded_rows };
 

@@ -8,11 +8,11 @@ ghost use Rattle.clr_rows.specs.Cells.{cell_cmp};
 ghost use Rattle.clr_rows.specs.declared.cells.CellId.{CellId as Cell};
 ghost use Rattle.clr_finders.specs.NextCells.{IsNextOf};
 ghost use Rattle.clr_grid.specs.NextCells.{IsServerFoundFor};
-ghost use Rattle.clr_grid.specs.Filing.{AllHoldCells, AreGone, AreNear, GainNone, GainOnly, HoldCells, IsFiled};
-ghost use Rattle.clr_grid.specs.Filing.{IsFiledToo, Key, StayFiled, StayFiledBut, has_key, has_key_of};
+ghost use Rattle.clr_grid.specs.Filing.{AllHoldCells, AreGone, AreNear, GainNone, GainOnly, HoldCells, IsFiledRow};
+ghost use Rattle.clr_grid.specs.Filing.{IsFiledIfAny, Key, StayFiled, StayFiledBut, has_key, has_key_of};
 ghost use Rattle.clr_grid.specs.Filing.{is_filed, is_filed_under, is_looked_at, of_side, side_of, spots_at, stays};
 
-use crate::cell_sets::CellSet;
+use crate::cell_lists::CellList;
 use crate::side_index::SideIndex;
 use clr_finders::{RowSpots, RuleSpots};
 use clr_rows::CellId;
@@ -84,7 +84,7 @@ impl RuleIndex {
         &self,
         servers: bool,
         spots: &RuleSpots,
-        cells: &mut CellSet,
+        cells: &mut CellList,
     ) -> Result<(), AllocError>
         ensures near { OnOk result ((b : Bool) (k : Key) (q : Cell) → (servers ≡ true → b ≡ true) → is_looked_at spots.now k ≡ true
             → is_filed (side_of self.now b) k q ≡ true → set.contains cells.new q ≡ true) }
@@ -150,7 +150,7 @@ fn file_at_each(
     ensures kept { StayFiled rules.old.items rules.new.items }
     ensures only { GainOnly cell (Some row.now) rules.old.items rules.new.items }
     ensures lean { AllHoldCells rules.old.items → AllHoldCells rules.new.items }
-    ensures filed { OnOk result (IsFiled rules.new.items cell row.now) }
+    ensures filed { OnOk result (IsFiledRow rules.new.items cell row.now) }
 {
     let spots = row.as_slice();
     make_rules(rules, alloc, spots.len())?;
@@ -170,7 +170,7 @@ pub(crate) fn file_row(
     ensures kept { StayFiled rules.old.items rules.new.items }
     ensures only { GainOnly cell (option_copied row.entry) rules.old.items rules.new.items }
     ensures lean { AllHoldCells rules.old.items → AllHoldCells rules.new.items }
-    ensures filed { OnOk result (IsFiledToo rules.new.items cell (option_copied row.entry)) }
+    ensures filed { OnOk result (IsFiledIfAny rules.new.items cell (option_copied row.entry)) }
 {
     match row {
         Some(row) => file_at_each(rules, alloc, cell, row),
@@ -235,7 +235,7 @@ fn add_cells_near(
     servers: bool,
     rule: u16,
     spots: &RuleSpots,
-    cells: &mut CellSet,
+    cells: &mut CellList,
 ) -> Result<(), AllocError>
     ensures { OnOk result ((b : Bool) (k : Key) (q : Cell) → (servers ≡ true → b ≡ true) → is_looked_at spots.now k ≡ true
         → is_filed_under rules.now rule b k q ≡ true → set.contains cells.new q ≡ true) }
@@ -273,8 +273,7 @@ pub(crate) fn cells_near(
     ensures near { IfOk result (λ cells. AreNear rules.now servers rule spots.now cells.items) }
     ensures rising { IfOk result (λ cells. IsStrictlySortedBy cell_cmp cells.items) }
 {
-    let mut cells = CellSet::new(alloc);
+    let mut cells = CellList::new(alloc);
     add_cells_near(rules, servers, rule, spots, &mut cells)?;
-    let list = cells.to_vec(alloc)?;
-    Ok(list)
+    Ok(cells.into_vec())
 }

@@ -14,6 +14,7 @@ ghost use Rattle.clr_grid.specs.Filing.{HoldCells, Key, has_cell, has_key, has_k
 ghost use Rattle.clr_grid.specs.Filing.{keeps_number, keeps_wide, stays, without_cell};
 ghost use Rattle.clr_grid.specs.SpotNumbers.{has_number, number_of};
 
+use crate::cell_lists::CellList;
 use crate::cell_sets::CellSet;
 use crate::spot_cells::SpotCells;
 use crate::spot_numbers::{have_number, number_of};
@@ -188,7 +189,7 @@ impl SideIndex {
     }
 
     /// Adds the cells at a number.
-    fn add_cells_at(&self, number: u64, cells: &mut CellSet) -> Result<(), AllocError>
+    fn add_cells_at(&self, number: u64, cells: &mut CellList) -> Result<(), AllocError>
         ensures ok { OnOk result ((q : Cell) → set.contains cells.new q ≡ (set.contains cells.old q || has_cell (get nat_eq self.now.by_spot number) q)) }
         ensures err { OnErr result (GainsCells (λ q. has_cell (get nat_eq self.now.by_spot number) q ≡ true) cells.old cells.new) }
     {
@@ -199,7 +200,7 @@ impl SideIndex {
     }
 
     /// Adds the cells at the numbers of some spots.
-    fn add_cells_at_each(&self, spots: &[Spot], cells: &mut CellSet) -> Result<(), AllocError>
+    fn add_cells_at_each(&self, spots: &[Spot], cells: &mut CellList) -> Result<(), AllocError>
         ensures ok { OnOk result ((q : Cell) → set.contains cells.new q
             ≡ (set.contains cells.old q || list_any (λ x. has_cell (get nat_eq self.now.by_spot (number_of x)) q) spots.now)) }
         ensures err { OnErr result (GainsCells (λ q. list_any (λ x. has_cell (get nat_eq self.now.by_spot (number_of x)) q) spots.now ≡ true)
@@ -211,15 +212,15 @@ impl SideIndex {
         Ok(())
     }
 
-    /// Adds the cells that are looked at for a row that isn't wide. If memory runs out, the set keeps
+    /// Adds the cells that are looked at for a row that isn't wide. If memory runs out, the list keeps
     /// its own cells, and besides them it has only some of these.
-    pub(crate) fn add_near(&self, spots: &RuleSpots, cells: &mut CellSet) -> Result<(), AllocError>
+    pub(crate) fn add_near(&self, spots: &RuleSpots, cells: &mut CellList) -> Result<(), AllocError>
         ensures kept { OnOk result ((q : Cell) → set.contains cells.old q ≡ true → set.contains cells.new q ≡ true) }
         ensures near { OnOk result ((k : Key) (q : Cell) → is_looked_at spots.now k ≡ true → is_filed self.now k q ≡ true
             → set.contains cells.new q ≡ true) }
         ensures err { OnErr result (GainsCells (IsFoundFor self.now spots.now) cells.old cells.new) }
     {
-        cells.add_all(spots.has_role, &self.wide)?;
+        self.wide.add_to(spots.has_role, cells)?;
         self.add_cells_at_each(spots.spots.list.as_slice(), cells)?;
         Ok(())
     }

@@ -9,7 +9,7 @@ ghost use Rattle.clr_finders.specs.NextCells.{IsNextOf};
 ghost use Rattle.clr_grid.specs.CellSets.{is_one_of};
 ghost use Rattle.clr_grid.specs.Gains.{GainsCells};
 
-use crate::cell_sets::CellSet;
+use crate::cell_lists::CellList;
 use crate::next_cells::{next_key, next_one};
 use clr_finders::lesser_cell;
 use clr_rows::CellId;
@@ -99,9 +99,9 @@ impl SpotCells {
         lesser_cell(next_one(self.first, after), next_key(&self.others, after))
     }
 
-    /// Adds the cells to a set. It fails for want of memory alone; then the set's own cells stay,
+    /// Adds the cells to a list. It fails for want of memory alone; then the list's own cells stay,
     /// and besides them it has cells of these alone.
-    pub(crate) fn add_to(&self, cells: &mut CellSet) -> Result<(), AllocError>
+    pub(crate) fn add_to(&self, cells: &mut CellList) -> Result<(), AllocError>
         ensures ok { OnOk result ((q : Cell) → set.contains cells.new q ≡ (set.contains cells.old q || set.contains self.now q)) }
         ensures err { OnErr result (GainsCells (λ q. set.contains self.now q ≡ true) cells.old cells.new) }
     {

@@ -25,9 +25,9 @@ pub struct SpotIndex {
 }
 
 impl Model for SpotIndex {
-    ghost use Rattle.clr_grid.specs.RowMaps.{Rows, coded_rows};
+    ghost use Rattle.clr_grid.specs.RowMaps.{FiledRows, coded_rows};
 
-    ghost Value = { Rows };
+    ghost Value = { FiledRows };
 
     ghost coded = { coded_rows };
 
@@ -157,6 +157,24 @@ impl RowFinder for SpotIndex {
         held: Held,
     ) -> Result<Vec<CellId>, AllocError> {
         self.find(book, rule, held, true)
+    }
+
+    fn spots_at(&self, cell: CellId) -> Option<&RowSpots> {
+        self.rows.settled_row(cell)
+    }
+
+    fn candidates(
+        &self,
+        servers: bool,
+        rule: u16,
+        spots: &RuleSpots,
+    ) -> Result<Vec<CellId>, AllocError> {
+        if spots.spots.wide {
+            let cells = self.rows.find_all(self.alloc, servers, rule, spots)?;
+            return Ok(cells);
+        }
+        let cells = cells_near(self.rules.as_slice(), self.alloc, servers, rule, spots)?;
+        Ok(cells)
     }
 
     fn next_server(&self, rule: u16, spots: &RuleSpots, after: Option<CellId>) -> Option<CellId> {

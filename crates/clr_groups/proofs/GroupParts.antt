@@ -8,7 +8,7 @@ use Rattle.clr_finders.specs.Sharing.{Settled}
 use Rattle.clr_needs.specs.declared.limits.TheConstants.{MOST_MEMBERS}
 use Rattle.clr_needs.specs.Members.{AreApart}
 use Rattle.clr_foot.specs.Scenes.{model_at, IsReady, SceneModel, setting_of}
-use Rattle.clr_foot.specs.Versions.{FitsSetting}
+use Rattle.clr_versions.specs.Versions.{FitsSetting}
 use Rattle.clr_needs.proofs.BlockerLaws.{member_below}
 use Rattle.clr_needs.proofs.PartLaws.{IsPart, up}
 use Rattle.clr_needs.proofs.PartPositions.{StandsIn, is_part}
@@ -25,7 +25,8 @@ module _ {F : Type 0} (settled : F → Settled) (m : SceneModel F) (apart : AreA
 
   pub group_few : length m.sets ≤ MOST_MEMBERS → length g ≤ MOST_MEMBERS
   group_few few =
-      let fewer = length-le_from_below (length m.sets) g (are.ascending g there) (all_of (λ k. k < length m.sets) g (λ k h. group_within k (contained k g h))) in
+      let fewer = length-le_from_below (length m.sets) g (are.ascending g there)
+      (all_of (λ k. k < length m.sets) g (λ k h. group_within k (contained k g h))) in
       omega (arith, fewer, few)
 
   -- the rows of a group's versions are rows of all members' versions

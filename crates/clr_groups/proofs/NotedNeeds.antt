@@ -17,7 +17,7 @@ use Rattle.clr_foot.proofs.InvolvedLaws.{both_depend}
 use Rattle.clr_needs.proofs.NeedOrder.{need_exact, need_total}
 use Rattle.clr_needs.proofs.NeedSubjects.{involved_member}
 use Rattle.clr_groups.specs.Groups.{AreJoined, IsChain}
-use Rattle.clr_groups.specs.Labels.{AreBelow, AreLabels, AreNoted, AreNotedBelow, AreMoved, IsNoted, IsNotedBy, label, moved_label}
+use Rattle.clr_groups.specs.Labels.{AreBelow, AreLabels, AreLabelled, AreNotedBelow, AreMoved, IsNoted, IsNotedBy, label, moved_label}
 use Rattle.clr_groups.proofs.Chains.{joined_by, joined_itself, joined_through}
 
 -- one label in place of another ------------------------------------------------------------------
@@ -48,7 +48,7 @@ module _ (c : Setting ℕ) (count : ℕ) where
 
   -- nothing is noted yet
   pub none_noted : (first : First) (labels : List ℕ) → length labels ≡ count → ((k : ℕ) → k < count → label labels k ≡ k) → ((n : Need) → first n ≡ None)
-      → AreNoted c count (λ z n. (z < 0) × IsInvolving c z n) first labels
+      → AreLabelled c count (λ z n. (z < 0) × IsInvolving c z n) first labels
   none_noted first labels long own none = record {
     long = long;
     below = λ x less. (let is = own x less in omega (arith, is, less));
@@ -57,7 +57,7 @@ module _ (c : Setting ℕ) (count : ℕ) where
     noted = λ z n less h. (let below = h.0 in absurd (omega (arith, below)));
   }
 
-  module _ (seen : ℕ → Need → Type 0) (first : First) (labels : List ℕ) (are : AreNoted c count seen first labels) (x : ℕ) (n : Need) (less : x < count)
+  module _ (seen : ℕ → Need → Type 0) (first : First) (labels : List ℕ) (are : AreLabelled c count seen first labels) (x : ℕ) (n : Need) (less : x < count)
       (involves : IsInvolving c x n) where
     -- the need of the member is noted too
     abbrev pub SeenWith : ℕ → Need → Type 0
@@ -96,7 +96,7 @@ module _ (c : Setting ℕ) (count : ℕ) where
       other_noted z m within (inl h) = let (w, e, same) = are.noted z m within h in (w, there m w e, same)
       other_noted z m within (inr (member, need)) = (x, ap next need ∙ here, ap (label labels) (sym member))
 
-      first_noted : AreNoted c count SeenWith next labels
+      first_noted : AreLabelled c count SeenWith next labels
       first_noted = record {
         long = are.long;
         below = are.below;
@@ -159,7 +159,7 @@ module _ (c : Setting ℕ) (count : ℕ) where
       noted_again z m within (inl h) = let (v, e, same) = are.noted z m within h in (v, e, other_same v z (are.involved m v e).0 within same)
       noted_again z m within (inr (member, need)) = (w, ap first need ∙ some, other_one ∙ ap (label after) (sym member))
 
-      joined_noted : AreNoted c count SeenWith first after
+      joined_noted : AreLabelled c count SeenWith first after
       joined_noted = record {
         long = is.long ∙ are.long;
         below = other_below;
@@ -170,21 +170,21 @@ module _ (c : Setting ℕ) (count : ℕ) where
 
   -- one more need of a member
   pub one_noted : (seen : ℕ → Need → Type 0) (old new : BTreeMap Need ℕ) (labels after : List ℕ) (x : ℕ) (n : Need) → x < count → IsInvolving c x n
-      → AreNoted c count seen (get need_cmp old) labels
+      → AreLabelled c count seen (get need_cmp old) labels
       → IsNoted old new labels after n x
-      → AreNoted c count (λ z m. seen z m ⊎ ((z ≡ x) × (m ≡ n))) (get need_cmp new) after
+      → AreLabelled c count (λ z m. seen z m ⊎ ((z ≡ x) × (m ≡ n))) (get need_cmp new) after
   one_noted seen old new labels after x n less involves are is = by (get need_cmp old n) refl is
     where
       by : (o : Option ℕ) → get need_cmp old n ≡ o → IsNotedBy old new labels after n x o
-          → AreNoted c count (λ z m. seen z m ⊎ ((z ≡ x) × (m ≡ n))) (get need_cmp new) after
-      by None e (same, step) = subst (AreNoted c count (λ z m. seen z m ⊎ ((z ≡ x) × (m ≡ n))) (get need_cmp new)) (sym same)
+          → AreLabelled c count (λ z m. seen z m ⊎ ((z ≡ x) × (m ≡ n))) (get need_cmp new) after
+      by None e (same, step) = subst (AreLabelled c count (λ z m. seen z m ⊎ ((z ≡ x) × (m ≡ n))) (get need_cmp new)) (sym same)
           (first_noted seen (get need_cmp old) labels are x n less involves (get need_cmp new) e step)
-      by (Some w) e (same, step) = subst (λ f. AreNoted c count (λ z m. seen z m ⊎ ((z ≡ x) × (m ≡ n))) (get need_cmp f) after) (sym same)
+      by (Some w) e (same, step) = subst (λ f. AreLabelled c count (λ z m. seen z m ⊎ ((z ≡ x) × (m ≡ n))) (get need_cmp f) after) (sym same)
           (joined_noted seen (get need_cmp old) labels are x n less involves w e after step)
 
   -- what is noted may be told in other words
   pub noted_as : (seen other : ℕ → Need → Type 0) (first : First) (labels : List ℕ) → ((z : ℕ) (n : Need) → other z n → seen z n)
-      → AreNoted c count seen first labels → AreNoted c count other first labels
+      → AreLabelled c count seen first labels → AreLabelled c count other first labels
   noted_as seen other first labels fewer are = record {
     long = are.long;
     below = are.below;
@@ -202,7 +202,7 @@ module _ (c : Setting ℕ) (count : ℕ) where
 
   module _ (member : ℕ) (needs read : List Need) (are_needs : Lists need_cmp (IsInvolving c member) needs) (same : read ≡ needs) where
     pub first_seen : (first : BTreeMap Need ℕ) (labels : List ℕ) → AreNotedBelow c count member first labels
-        → AreNoted c count (IsSeenTo member read 0) (get need_cmp first) labels
+        → AreLabelled c count (IsSeenTo member read 0) (get need_cmp first) labels
     first_seen first labels are = noted_as (λ z n. (z < member) × IsInvolving c z n) (IsSeenTo member read 0) (get need_cmp first) labels by are
       where
         by : (z : ℕ) (n : Need) → IsSeenTo member read 0 z n → (z < member) × IsInvolving c z n
@@ -210,9 +210,9 @@ module _ (c : Setting ℕ) (count : ℕ) where
         by z n (inr h) = absurd (none_taken read n h.1)
 
     pub one_seen : (k : ℕ) (d : Need) (old new : BTreeMap Need ℕ) (labels after : List ℕ) → member < count → k < length read
-        → AreNoted c count (IsSeenTo member read k) (get need_cmp old) labels
+        → AreLabelled c count (IsSeenTo member read k) (get need_cmp old) labels
         → IsNoted old new labels after (get_or read k d) member
-        → AreNoted c count (IsSeenTo member read (k + 1)) (get need_cmp new) after
+        → AreLabelled c count (IsSeenTo member read (k + 1)) (get need_cmp new) after
     one_seen k d old new labels after within less are is =
         let n = get_or read k d in
         noted_as (λ z m. IsSeenTo member read k z m ⊎ ((z ≡ member) × (m ≡ n))) (IsSeenTo member read (k + 1)) (get need_cmp new) after by
@@ -225,7 +225,8 @@ module _ (c : Setting ℕ) (count : ℕ) where
           | inr last ↦ inr (is_it, last)
         ]
 
-    pub all_seen : (k : ℕ) (first : BTreeMap Need ℕ) (labels : List ℕ) → length read ≤ k → AreNoted c count (IsSeenTo member read k) (get need_cmp first) labels
+    pub all_seen : (k : ℕ) (first : BTreeMap Need ℕ) (labels : List ℕ) → length read ≤ k → AreLabelled c count (IsSeenTo member read k) (get need_cmp first)
+        labels
         → AreNotedBelow c count (member + 1) first labels
     all_seen k first labels past are = noted_as (IsSeenTo member read k) (λ z n. (z < member + 1) × IsInvolving c z n) (get need_cmp first) labels by are
       where
@@ -241,7 +242,7 @@ module _ (c : Setting ℕ) (count : ℕ) where
         ]
 
   -- the first members of needs are members
-  pub firsts_below : (seen : ℕ → Need → Type 0) (first : BTreeMap Need ℕ) (labels : List ℕ) → AreNoted c count seen (get need_cmp first) labels
+  pub firsts_below : (seen : ℕ → Need → Type 0) (first : BTreeMap Need ℕ) (labels : List ℕ) → AreLabelled c count seen (get need_cmp first) labels
       → AreBelow (length labels) first
   firsts_below seen first labels are n w e = let low = (are.involved n w e).0 in let long = are.long in omega (arith, low, long)
 

@@ -42,7 +42,7 @@ abbrev pub AreBelow : ℕ → BTreeMap Need ℕ → Type 0
 AreBelow count first = (n : Need) (w : ℕ) → get need_cmp first n ≡ Some w → w < count
 
 -- the needs of some members are noted: two members of one label are joined, and all that have a noted need have the label of its first member
-pub record AreNoted (c : Setting ℕ) (count : ℕ) (seen : ℕ → Need → Type 0) (first : Need → Option ℕ) (labels : List ℕ) : Type 0 where
+pub record AreLabelled (c : Setting ℕ) (count : ℕ) (seen : ℕ → Need → Type 0) (first : Need → Option ℕ) (labels : List ℕ) : Type 0 where
   pub long : length labels ≡ count
   pub below : (x : ℕ) → x < count → label labels x < count
   pub sound : (x y : ℕ) → x < count → y < count → label labels x ≡ label labels y → AreJoined c x y
@@ -51,7 +51,7 @@ pub record AreNoted (c : Setting ℕ) (count : ℕ) (seen : ℕ → Need → Typ
 
 -- the needs of the members below a number are noted
 abbrev pub AreNotedBelow : Setting ℕ → ℕ → ℕ → BTreeMap Need ℕ → List ℕ → Type 0
-AreNotedBelow c count end first labels = AreNoted c count (λ z n. (z < end) × IsInvolving c z n) (get need_cmp first) labels
+AreNotedBelow c count end first labels = AreLabelled c count (λ z n. (z < end) × IsInvolving c z n) (get need_cmp first) labels
 
 -- groups by labels ---------------------------------------------------------------------------
 

@@ -53,7 +53,8 @@ module _ (lists : List (List Need)) (first : ℕ) where
       → AddsPairsTo second old list
       → AddsPairsTo (second + 1) old new
   one_pair_with second needs others answer old list new from at other_at tells put are = record {
-    all = ap (map pair_members) put ∙ map-append pair_members list (pair second answer ∷ []) ∙ ap (λ (ps : List (ℕ × ℕ)). ps ++ beside first second ∷ []) are.all
+    all = ap (map pair_members) put ∙ map-append pair_members list (pair second answer ∷ [])
+        ∙ ap (λ (ps : List (ℕ × ℕ)). ps ++ beside first second ∷ []) are.all
         ∙ append_assoc (map pair_members old) (map (beside first) (range_with_len (first + 1) (second - (first + 1)))) (beside first second ∷ [])
         ∙ ap (λ ps. map pair_members old ++ ps) more;
     each = λ q h. by q (Contains-append_cases list (pair second answer ∷ []) q (subst (λ ps. Contains ps q) put h));

@@ -6,7 +6,7 @@ ghost use Rattle.clr_steps.specs.Offices.{Office};
 ghost use Rattle.clr_steps.specs.Quiet.{Site};
 ghost use Rattle.clr_clearance.specs.Sites.{change_sets};
 ghost use Rattle.clr_clearance.specs.Verdicts.{member_fault};
-ghost use Rattle.clr_sites.specs.Faults.{IsFault};
+ghost use Rattle.clr_sites.specs.Faults.{IsSiteFault};
 ghost use Rattle.clr_sites.specs.SiteNames.{site};
 ghost use Rattle.clr_sites.specs.Sites.{AreParts};
 ghost use Rattle.clr_independence.specs.Independences.{IsIndependenceOf};
@@ -29,7 +29,7 @@ pub enum Independence {
 
 /// Returns the answer where a test of members fails.
 fn of_fault(fault: Verdict) -> Result<Independence, AllocError>
-    ensures { IfOk result (λ said. (o : Office) (s : Site) → IsFault o s fault → IsIndependenceOf o s said) }
+    ensures { IfOk result (λ said. (o : Office) (s : Site) → IsSiteFault o s fault → IsIndependenceOf o s said) }
 {
     match fault {
         Verdict::OutOfMemory => Err(AllocError),

@@ -13,7 +13,7 @@ use Rattle.clr_rows.proofs.ChangeLemmas.{after_of, row-taken_over}
 use Rattle.clr_rules.specs.Books.{FitTogether, FitsCell, FitsContent}
 use Rattle.clr_rules.specs.declared.rules.Rule.{Rule}
 use Rattle.clr_finders.specs.declared.row_spots.RuleSpots.{RuleSpots}
-use Rattle.clr_grid.specs.RowMaps.{Rows}
+use Rattle.clr_grid.specs.RowMaps.{FiledRows}
 use Rattle.clr_finders.specs.Sharing.{next_of, row_spots, rows_at}
 use Rattle.clr_kept_finders.specs.Finders.{AreFinders, FitAfter, HasForgotten, HasNoted, HasSettled, IsChangedAt, IsFinderAt, IsFinderOf, spots_after}
 
@@ -47,7 +47,7 @@ module _ (book : List Rule) (changed : Changes) where
   abbrev pub once_changed : Option Content → Option Content
   once_changed = option_map (λ content. taken_over content changed)
 
-  next_is : (content : Content) (old mid new : Rows) → IsFinderOf book content old → HasNoted book changed (Some old) (Some mid)
+  next_is : (content : Content) (old mid new : FiledRows) → IsFinderOf book content old → HasNoted book changed (Some old) (Some mid)
       → HasSettled (Some mid) (Some new)
       → IsFinderOf book (taken_over content changed) new
   next_is content old mid new is noted settled = (λ q. at q, settled.1)
@@ -64,7 +64,7 @@ module _ (book : List Rule) (changed : Changes) where
           (is.0 q)
           ∙ by q (finite.get changed q) ∙ ap (option_map (λ row. row_spots book (q, row))) (sym (row-taken_over content changed q))
 
-  one_settled : (content : Option Content) (old mid new : Option Rows) → IsFinderAt book content old → HasNoted book changed old mid → HasSettled mid new
+  one_settled : (content : Option Content) (old mid new : Option FiledRows) → IsFinderAt book content old → HasNoted book changed old mid → HasSettled mid new
       → IsFinderAt book (once_changed content) new
   one_settled None None None None is noted settled = tt
   one_settled (Some content) (Some old) (Some mid) (Some new) is noted settled = next_is content old mid new is noted settled
@@ -75,7 +75,8 @@ module _ (book : List Rule) (changed : Changes) where
   one_settled (Some content) (Some old) None new is noted settled = absurd noted
   one_settled (Some content) (Some old) (Some mid) None is noted settled = absurd settled
 
-  one_forgotten : (content : Option Content) (old mid new : Option Rows) → IsFinderAt book content old → HasNoted book changed old mid → HasForgotten mid new
+  one_forgotten : (content : Option Content) (old mid new : Option FiledRows) → IsFinderAt book content old → HasNoted book changed old mid →
+      HasForgotten mid new
       → IsFinderAt book content new
   one_forgotten None None None None is noted forgotten = tt
   one_forgotten (Some content) (Some old) (Some mid) (Some new) is noted forgotten = (
@@ -95,7 +96,7 @@ abbrev pub one_at : {X : Type 0} → List (Option X) → ℕ → Option X
 one_at xs at = slice_index_or xs at None
 
 module _ (book : List Rule) where
-  pub finder_at : (contents : List (Option Content)) (finders : List (Option Rows)) → AreFinders book contents finders → (at : ℕ)
+  pub finder_at : (contents : List (Option Content)) (finders : List (Option FiledRows)) → AreFinders book contents finders → (at : ℕ)
       → IsFinderAt book (one_at contents at) (one_at finders at)
   finder_at [] [] are at = tt
   finder_at [] (f ∷ fs) are at = absurd are
@@ -103,21 +104,21 @@ module _ (book : List Rule) where
   finder_at (c ∷ cs) (f ∷ fs) are zero = are.0
   finder_at (c ∷ cs) (f ∷ fs) are (suc at) = finder_at cs fs are.1 at
 
-  pub as_many : (contents : List (Option Content)) (finders : List (Option Rows)) → AreFinders book contents finders → length finders ≡ length contents
+  pub as_many : (contents : List (Option Content)) (finders : List (Option FiledRows)) → AreFinders book contents finders → length finders ≡ length contents
   as_many [] [] are = refl
   as_many [] (f ∷ fs) are = absurd are
   as_many (c ∷ cs) [] are = absurd are
   as_many (c ∷ cs) (f ∷ fs) are = ap suc (as_many cs fs are.1)
 
-  pub one_more : (contents : List (Option Content)) (finders : List (Option Rows)) → AreFinders book contents finders
-      → (content : Option Content) (finder : Option Rows) → IsFinderAt book content finder
+  pub one_more : (contents : List (Option Content)) (finders : List (Option FiledRows)) → AreFinders book contents finders
+      → (content : Option Content) (finder : Option FiledRows) → IsFinderAt book content finder
       → AreFinders book (contents ++ content ∷ []) (finders ++ finder ∷ [])
   one_more [] [] are content finder is = (is, tt)
   one_more [] (f ∷ fs) are content finder is = absurd are
   one_more (c ∷ cs) [] are content finder is = absurd are
   one_more (c ∷ cs) (f ∷ fs) are content finder is = (are.0, one_more cs fs are.1 content finder is)
 
-  pub one_less : (contents : List (Option Content)) (finders : List (Option Rows)) → AreFinders book contents finders → (at : ℕ)
+  pub one_less : (contents : List (Option Content)) (finders : List (Option FiledRows)) → AreFinders book contents finders → (at : ℕ)
       → AreFinders book (remove contents at) (remove finders at)
   one_less [] [] are zero = tt
   one_less [] [] are (suc at) = tt
@@ -126,8 +127,8 @@ module _ (book : List Rule) where
   one_less (c ∷ cs) (f ∷ fs) are zero = are.1
   one_less (c ∷ cs) (f ∷ fs) are (suc at) = (are.0, one_less cs fs are.1 at)
 
-  pub one_set : (contents : List (Option Content)) (finders : List (Option Rows)) → AreFinders book contents finders
-      → (at : ℕ) (content : Option Content) (finder : Option Rows) → IsFinderAt book content finder
+  pub one_set : (contents : List (Option Content)) (finders : List (Option FiledRows)) → AreFinders book contents finders
+      → (at : ℕ) (content : Option Content) (finder : Option FiledRows) → IsFinderAt book content finder
       → AreFinders book (slice_set contents at content) (slice_set finders at finder)
   one_set [] [] are at content finder is = tt
   one_set [] (f ∷ fs) are at content finder is = absurd are
@@ -136,10 +137,10 @@ module _ (book : List Rule) where
   one_set (c ∷ cs) (f ∷ fs) are (suc at) content finder is = (are.0, one_set cs fs are.1 at content finder is)
 
   -- two steps of one of them
-  two_steps : (next : Option Content → Option Content) (before after : Option Rows → Option Rows → Type 0)
-      → ((content : Option Content) (old mid new : Option Rows) → IsFinderAt book content old → before old mid → after mid new
+  two_steps : (next : Option Content → Option Content) (before after : Option FiledRows → Option FiledRows → Type 0)
+      → ((content : Option Content) (old mid new : Option FiledRows) → IsFinderAt book content old → before old mid → after mid new
       → IsFinderAt book (next content) new)
-      → (contents : List (Option Content)) (finders : List (Option Rows)) → AreFinders book contents finders → (at : ℕ) (mid new : Option Rows)
+      → (contents : List (Option Content)) (finders : List (Option FiledRows)) → AreFinders book contents finders → (at : ℕ) (mid new : Option FiledRows)
       → before (one_at finders at) mid → after (one_at (slice_set finders at mid) at) new
       → AreFinders book (slice_set contents at (next (one_at contents at))) (slice_set (slice_set finders at mid) at new)
   two_steps next before after one [] [] are at mid new h k = tt
@@ -148,7 +149,7 @@ module _ (book : List Rule) where
   two_steps next before after one (c ∷ cs) (f ∷ fs) are zero mid new h k = (one c f mid new are.0 h k, are.1)
   two_steps next before after one (c ∷ cs) (f ∷ fs) are (suc at) mid new h k = (are.0, two_steps next before after one cs fs are.1 at mid new h k)
 
-  module _ (contents : List (Option Content)) (old mid new : List (Option Rows)) (changed : Changes) (at : ℕ) (are : AreFinders book contents old)
+  module _ (contents : List (Option Content)) (old mid new : List (Option FiledRows)) (changed : Changes) (at : ℕ) (are : AreFinders book contents old)
       (noted : IsChangedAt (HasNoted book changed) at old mid) where
     pub all_settled : IsChangedAt HasSettled at mid new → AreFinders book (slice_set contents at (once_changed book changed (one_at contents at))) new
     all_settled settled =

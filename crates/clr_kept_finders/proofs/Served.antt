@@ -11,7 +11,7 @@ use Rattle.clr_rows.specs.Contents.{no_rows, row_at}
 use Rattle.clr_rows.specs.declared.tables.TableDef.{TableDef}
 use Rattle.clr_rules.specs.Needs.{Holds}
 use Rattle.clr_rules.specs.declared.rules.Rule.{Rule}
-use Rattle.clr_grid.specs.RowMaps.{Rows}
+use Rattle.clr_grid.specs.RowMaps.{FiledRows}
 use Rattle.clr_workspaces.specs.Marks.{Name, find_mark}
 use Rattle.clr_workspaces.specs.Workspaces.{Workspace, find, workspace_at}
 use Rattle.clr_workspaces.specs.Operations.{after_create, after_mark, after_remove, after_unmark, at_position, save, set_kept, with_kept, with_marks}
@@ -41,7 +41,8 @@ module _ (schema : List TableDef) (book : List Rule) (ws : List Workspace) (soun
       subst (λ m. Holds book (row_at m)) (s.content ∙ ap (λ r. option_map_or (λ k. (workspace_at ws k).current) r no_rows) own)
       (admitted.holds name (s.kept ∙ ap (λ r. option_map_or (λ k. (workspace_at ws k).kept) r false) own ∙ flag))
 
-  pub served : IsAdmitted (office_of schema book ws) → (finders : List (Option Rows)) → AreFinders book (kept_contents ws) finders → IsServed book ws finders
+  pub served : IsAdmitted (office_of schema book ws) → (finders : List (Option FiledRows)) → AreFinders book (kept_contents ws) finders →
+      IsServed book ws finders
   served admitted finders are = record { sound = sound; fit = (schema, admitted.fit); holds = hold_in_kept admitted; are = are }
 
   -- ---- positions of an office
@@ -95,7 +96,7 @@ module _ (schema : List TableDef) (book : List Rule) (ws : List Workspace) (soun
       by (l ∷ vs) h zero = ap (λ b. cond b (Some l.current) None) h.held
       by (l ∷ vs) h (suc k) = later vs k
 
-  pub finder_in : (o : Office) → office_of schema book ws ≡ o → (at : ℕ) (finder : Option Rows) → IsFinderAt book (one_at (kept_contents ws) at) finder
+  pub finder_in : (o : Office) → office_of schema book ws ≡ o → (at : ℕ) (finder : Option FiledRows) → IsFinderAt book (one_at (kept_contents ws) at) finder
       → IsFinderAt o.book (kept_at o at) finder
   finder_in o is at finder h = subst (λ (o : Office). IsFinderAt o.book (kept_at o at) finder) is (subst (λ c. IsFinderAt book c finder) (kept_is at) h)
 
@@ -116,7 +117,8 @@ after_unmarking ws at name = by (find_mark (workspace_at ws at).marks name)
     by None = refl
     by (Some i) = same_content ws at (with_marks (λ ms. remove ms i)) refl
 
-pub after_holding : (book : List Rule) (ws : List Workspace) (at : ℕ) (old new : List (Option Rows)) (finder : Rows) → AreFinders book (kept_contents ws) old
+pub after_holding : (book : List Rule) (ws : List Workspace) (at : ℕ) (old new : List (Option FiledRows)) (finder : FiledRows) →
+    AreFinders book (kept_contents ws) old
     → IsFinderOf book (workspace_at ws at).current finder → new ≡ slice_set old at (Some finder) → AreFinders book (kept_contents (set_kept ws at true)) new
 after_holding book ws at old new finder are is e =
     let w = workspace_at ws at in
@@ -124,7 +126,7 @@ after_holding book ws at old new finder are is e =
     (subst (λ cs. AreFinders book cs (slice_set old at (Some finder))) (sym (map-set kept_content ws at (with_kept true w)))
     (one_set book (kept_contents ws) old are at (Some w.current) (Some finder) is))
 
-pub after_releasing : (ws : List Workspace) (at : ℕ) (old new : List (Option Rows)) → new ≡ slice_set old at None
+pub after_releasing : (ws : List Workspace) (at : ℕ) (old new : List (Option FiledRows)) → new ≡ slice_set old at None
     → StayFinders ws old (set_kept ws at false) new
 after_releasing ws at old new e book are =
     subst (AreFinders book (kept_contents (set_kept ws at false))) (sym e)
@@ -132,7 +134,7 @@ after_releasing ws at old new e book are =
     (one_set book (kept_contents ws) old are at None None tt))
 
 -- ---- one workspace after another
-pub one_found : (book : List Rule) (ws : List Workspace) (at : ℕ) (old new : List (Option Rows)) (finder : Option Rows) → at < length ws
+pub one_found : (book : List Rule) (ws : List Workspace) (at : ℕ) (old new : List (Option FiledRows)) (finder : Option FiledRows) → at < length ws
     → AreFinders book (take at (kept_contents ws)) old
     → IsFinderAt book (kept_content (workspace_at ws at)) finder → new ≡ old ++ finder ∷ [] → AreFinders book (take (at + 1) (kept_contents ws)) new
 one_found book ws at old new finder lt are is e =
@@ -142,7 +144,7 @@ one_found book ws at old new finder lt are is e =
     (subst (λ m. AreFinders book m (old ++ finder ∷ [])) (sym (take_more cs at None within))
     (one_more book (take at cs) old are (one_at cs at) finder (subst (λ c. IsFinderAt book c finder) (sym (content_at ws at)) is)))
 
-pub all_found : (book : List Rule) (ws : List Workspace) (at : ℕ) (finders : List (Option Rows)) → at ≡ length ws
+pub all_found : (book : List Rule) (ws : List Workspace) (at : ℕ) (finders : List (Option FiledRows)) → at ≡ length ws
     → AreFinders book (take at (kept_contents ws)) finders → AreFinders book (kept_contents ws) finders
 all_found book ws at finders all are =
     subst (λ cs. AreFinders book cs finders) (ap (λ n. take n (kept_contents ws)) (all ∙ sym (length-map ws kept_content)) ∙ take-length (kept_contents ws)) are
@@ -152,21 +154,21 @@ pub was_ok : {P : Type 0} (r : Result Unit AllocError) → is_err r ≡ false �
 was_ok (Ok u) e h = h
 was_ok (Err x) e h = absurd (true≢false e)
 
-pub after_adding : (ws : List Workspace) (name : Name) (at : ℕ) (old new : List (Option Rows)) → new ≡ old ++ None ∷ []
+pub after_adding : (ws : List Workspace) (name : Name) (at : ℕ) (old new : List (Option FiledRows)) → new ≡ old ++ None ∷ []
     → StayFinders ws old (after_create ws name at) new
 after_adding ws name at old new e book are =
     subst (AreFinders book (kept_contents (after_create ws name at))) (sym e)
     (subst (λ cs. AreFinders book cs (old ++ None ∷ [])) (sym (after_creating ws name at)) (one_more book (kept_contents ws) old are None None tt))
 
-pub undone : (old mid new : List (Option Rows)) → mid ≡ old ++ None ∷ [] → new ≡ take (length mid - 1) mid → new ≡ old
+pub undone : (old mid new : List (Option FiledRows)) → mid ≡ old ++ None ∷ [] → new ≡ take (length mid - 1) mid → new ≡ old
 undone old mid new e f = f ∙ ap (λ m. take (length m - 1) m) e ∙ by old
   where
-    by : (fs : List (Option Rows)) → take (length (fs ++ None ∷ []) - 1) (fs ++ None ∷ []) ≡ fs
+    by : (fs : List (Option FiledRows)) → take (length (fs ++ None ∷ []) - 1) (fs ++ None ∷ []) ≡ fs
     by fs =
         let n : length (fs ++ None ∷ []) - 1 ≡ length fs = omega (arith, length-append fs (None ∷ [])) in
         ap (λ k. take k (fs ++ None ∷ [])) n ∙ take-append-le (length fs) fs (None ∷ []) (omega arith) ∙ take-length fs
 
-pub after_taking : (ws : List Workspace) (at : ℕ) (old new : List (Option Rows)) → IsSound ws → 0 < at → at < length ws → new ≡ remove old at
+pub after_taking : (ws : List Workspace) (at : ℕ) (old new : List (Option FiledRows)) → IsSound ws → 0 < at → at < length ws → new ≡ remove old at
     → StayFinders ws old (after_remove ws at) new
 after_taking ws at old new sound some lt e book are =
     let p = sound.rooted.under at some lt in

@@ -10,23 +10,23 @@ use Rattle.clr_rules.specs.declared.rules.Rule.{Rule}
 use Rattle.clr_workspaces.specs.Marks.{Name}
 use Rattle.clr_workspaces.specs.Workspaces.{Workspace, workspace_at}
 use Rattle.clr_finders.specs.declared.row_spots.RuleSpots.{RuleSpots}
-use Rattle.clr_grid.specs.RowMaps.{Rows}
+use Rattle.clr_grid.specs.RowMaps.{FiledRows}
 use Rattle.clr_steps.specs.Offices.{Office, content_of, is_kept}
 use Rattle.clr_steps.specs.Readings.{name_at}
 use Rattle.clr_finders.specs.Sharing.{IsSettledFor, Pending, next_at, row_spots, rows_at}
 
 -- a finder has settled just the rows of a content, and nothing is pending
-abbrev pub IsFinderOf : List Rule → Content → Rows → Type 0
+abbrev pub IsFinderOf : List Rule → Content → FiledRows → Type 0
 IsFinderOf book content finder = IsSettledFor finder.settled book content × (finder.pending ≡ finite.empty)
 
 -- where there is a content
-abbrev pub IsFinderAt : List Rule → Option Content → Option Rows → Type 0
+abbrev pub IsFinderAt : List Rule → Option Content → Option FiledRows → Type 0
 IsFinderAt book None None = ⊤
 IsFinderAt book (Some content) (Some finder) = IsFinderOf book content finder
 IsFinderAt book _ _ = ⊥
 
 -- one for each position
-abbrev pub AreFinders : List Rule → List (Option Content) → List (Option Rows) → Type 0
+abbrev pub AreFinders : List Rule → List (Option Content) → List (Option FiledRows) → Type 0
 AreFinders book [] [] = ⊤
 AreFinders book (content ∷ contents) (finder ∷ finders) = IsFinderAt book content finder × AreFinders book contents finders
 AreFinders book _ _ = ⊥
@@ -46,26 +46,26 @@ abbrev pub ArePending : List Rule → Changes → Pending → Type 0
 ArePending book changed pending = (q : CellId) → finite.get pending q ≡ option_map (spots_after book q) (finite.get changed q)
 
 -- a finder, where there is one, has noted changes
-abbrev pub HasNoted : List Rule → Changes → Option Rows → Option Rows → Type 0
+abbrev pub HasNoted : List Rule → Changes → Option FiledRows → Option FiledRows → Type 0
 HasNoted book changed None None = ⊤
 HasNoted book changed (Some old) (Some new) = (new.settled ≡ old.settled) × ArePending book changed new.pending
 HasNoted book changed _ _ = ⊥
 
 -- it has taken over what it noted
-abbrev pub HasSettled : Option Rows → Option Rows → Type 0
+abbrev pub HasSettled : Option FiledRows → Option FiledRows → Type 0
 HasSettled None None = ⊤
 HasSettled (Some old) (Some new) = ((q : CellId) → finite.get new.settled q ≡ next_at old.settled old.pending q) × (new.pending ≡ finite.empty)
 HasSettled _ _ = ⊥
 
 -- it has dropped it
-abbrev pub HasForgotten : Option Rows → Option Rows → Type 0
+abbrev pub HasForgotten : Option FiledRows → Option FiledRows → Type 0
 HasForgotten None None = ⊤
 HasForgotten (Some old) (Some new) = (new.settled ≡ old.settled) × (new.pending ≡ finite.empty)
 HasForgotten _ _ = ⊥
 
 -- so has the one at a position, and the others are as they were
-abbrev pub IsChangedAt : (Option Rows → Option Rows → Type 0) → ℕ → List (Option Rows) → List (Option Rows) → Type 0
-IsChangedAt changed at old new = (finder : Option Rows) × changed (slice_index_or old at None) finder × (new ≡ slice_set old at finder)
+abbrev pub IsChangedAt : (Option FiledRows → Option FiledRows → Type 0) → ℕ → List (Option FiledRows) → List (Option FiledRows) → Type 0
+IsChangedAt changed at old new = (finder : Option FiledRows) × changed (slice_index_or old at None) finder × (new ≡ slice_set old at finder)
 
 -- of the workspaces of a tree ------------------------------------------------------------------------------------------
 
@@ -77,12 +77,12 @@ abbrev pub kept_contents : List Workspace → List (Option Content)
 kept_contents ws = map kept_content ws
 
 -- whatever the rules are, finders of workspaces go on being finders of what is left
-abbrev pub StayFinders : List Workspace → List (Option Rows) → List Workspace → List (Option Rows) → Type 0
+abbrev pub StayFinders : List Workspace → List (Option FiledRows) → List Workspace → List (Option FiledRows) → Type 0
 StayFinders ws old left new = (book : List Rule) → AreFinders book (kept_contents ws) old → AreFinders book (kept_contents left) new
 
 -- the finder of a workspace, if it has one, has noted changes that lead to a content
-pub record IsPrepared (book : List Rule) (ws : List Workspace) (at : ℕ) (next : Content) (finders : List (Option Rows)) : Type 0 where
-  pub before : List (Option Rows)
+pub record IsPrepared (book : List Rule) (ws : List Workspace) (at : ℕ) (next : Content) (finders : List (Option FiledRows)) : Type 0 where
+  pub before : List (Option FiledRows)
   pub were : AreFinders book (kept_contents ws) before
   pub changed : Changes
   pub leads : taken_over (workspace_at ws at).current changed ≡ next

@@ -11,7 +11,7 @@ use Rattle.std.specs.Prelude.{◌≡◌, ℕ, true, List, Option}
 use Rattle.clr_rows.specs.Contents.{Content, row_at}
 use Rattle.clr_rows.specs.Schemas.{FitsSchema}
 use Rattle.clr_rules.specs.Needs.{Holds}
-use Rattle.clr_grid.specs.RowMaps.{Rows}
+use Rattle.clr_grid.specs.RowMaps.{FiledRows}
 use Rattle.clr_workspaces.specs.Soundness.{IsSound}
 use Rattle.clr_workspaces.specs.Workspaces.{Workspace, workspace_at}
 use Rattle.clr_kept_finders.specs.Finders.{AreFinders, kept_contents}
@@ -44,7 +44,7 @@ abbrev pub HoldInKept : List Rule → List Workspace → Type 0
 HoldInKept book ws = (at : ℕ) → (workspace_at ws at).kept ≡ true → Holds book (row_at (workspace_at ws at).current)
 
 -- a tree as offices have it, with its finders
-pub record IsServed (book : List Rule) (ws : List Workspace) (finders : List (Option Rows)) : Type 0 where
+pub record IsServed (book : List Rule) (ws : List Workspace) (finders : List (Option FiledRows)) : Type 0 where
   pub sound : IsSound ws
   pub fit : FitSome book ws
   pub holds : HoldInKept book ws

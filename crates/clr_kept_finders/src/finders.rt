@@ -25,9 +25,9 @@ pub struct Finders {
 impl Model for Finders {
     ghost use Rattle.std.specs.Prelude.{List, Option};
     ghost use Rattle.std.specs.Coded.{coded_list, coded_option};
-    ghost use Rattle.clr_grid.specs.RowMaps.{Rows, coded_rows};
+    ghost use Rattle.clr_grid.specs.RowMaps.{FiledRows, coded_rows};
 
-    ghost Value = { List (Option Rows) };
+    ghost Value = { List (Option FiledRows) };
 
     ghost coded = { coded_list (coded_option coded_rows) };
 

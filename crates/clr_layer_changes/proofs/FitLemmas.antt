@@ -1,5 +1,6 @@
 -- The content that layers ask for fits the schema, if LIVE's content does.
-use Rattle.std.proofs.Common.{◌≡◌, ℕ, ℤ, pos, ◌+◌, ◌-◌, ◌<◌, ◌≤◌, ◌==◌, ◌&&◌, ◌++◌, Bool, true, false, cond, List, [], ◌∷◌, Option, Some, None, is_none, nat_le, nat_lt, Result, Ok, Err, unsigned_abs, refl, ap, subst, length, arith, zero, suc, take, is_some}
+use Rattle.std.proofs.Common.{◌≡◌, ℕ, ℤ, pos, ◌+◌, ◌-◌, ◌<◌, ◌≤◌, ◌==◌, ◌&&◌, ◌++◌, Bool, true, false, cond, List, [], ◌∷◌, Option, Some, None, is_none, nat_le}
+use Rattle.std.proofs.Common.{nat_lt, Result, Ok, Err, unsigned_abs, refl, ap, subst, length, arith, zero, suc, take, is_some}
 use Rattle.std.specs.FinMap as finite
 use Rattle.std.specs.Prelude.{slice_get}
 use Rattle.std.specs.List.{AllByRecursion, find, range_with_len}
@@ -84,7 +85,8 @@ unfolding keys_from
 free_is_key live rows table first key e =
     let found = found_within (is_free live rows table) first (unsigned_abs GREATEST_KEY + 1 - first) key e in
     let at = keys.cell_of table key in
-    let some = ltb-true 0 key (and_parts (nat_lt 0 key) (is_none (row_at live at)) (and_parts (nat_lt 0 key && is_none (row_at live at)) (is_none (row_at rows at)) found.0).0).0 in
+    let some = ltb-true 0 key (and_parts (nat_lt 0 key) (is_none (row_at live at))
+    (and_parts (nat_lt 0 key && is_none (row_at live at)) (is_none (row_at rows at)) found.0).0).0 in
     let low : 1 ≤ key = omega (arith, some) in
     let high : key ≤ unsigned_abs GREATEST_KEY = omega (arith, found.1, found.2) in
     and_from (nat_le 1 key) (nat_le key (unsigned_abs GREATEST_KEY)) (le-leb 1 key low) (le-leb key (unsigned_abs GREATEST_KEY) high)
@@ -175,7 +177,8 @@ module _ (tables : List TableDef) where
       → rows_at_keys live options table rows ≡ Ok all → FitsSchema tables all
   keyed_fit live options table rows all fit e =
       let own = both_read (numbered _ (own_rows table rows)) _ all e in
-      let own_fit = each_keeps (FitsSchema tables) (FitsAt tables table) (with_own table) (λ n s r next holds one is. own_fits table n s r.key r.row next holds one is) FIRST_RECORD no_rows rows own.0
+      let own_fit = each_keeps (FitsSchema tables) (FitsAt tables table) (with_own table)
+      (λ n s r next holds one is. own_fits table n s r.key r.row next holds one is) FIRST_RECORD no_rows rows own.0
       (none_fit tables) fit (unnumbered _ (own_rows table rows) own.0 own.1) in
       each_keeps (FitsSchema tables) (FitsAt tables table) (with_given live table options.first_key)
       (λ n s r next holds one is. given_fits live table options.first_key n s r.key r.row next holds one is)

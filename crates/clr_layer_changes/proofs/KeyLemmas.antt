@@ -1,5 +1,6 @@
 -- The least free key, looked for from one key to the next.
-use Rattle.std.proofs.Common.{◌≡◌, ℕ, zero, suc, ◌+◌, ◌-◌, ◌<◌, ◌≤◌, ◌&&◌, Bool, true, false, cond, Option, Some, None, is_none, is_some, Ok, Err, unsigned_abs, nat_lt, refl, sym, ap, ◌∙◌, ltb, arith}
+use Rattle.std.proofs.Common.{◌≡◌, ℕ, zero, suc, ◌+◌, ◌-◌, ◌<◌, ◌≤◌, ◌&&◌, Bool, true, false, cond, Option, Some, None, is_none, is_some, Ok, Err, unsigned_abs}
+use Rattle.std.proofs.Common.{nat_lt, refl, sym, ap, ◌∙◌, ltb, arith}
 use Rattle.std.proofs.lemmas.Bool.Decides.{nat_tests}
 use Rattle.std.specs.List.{find, range_with_len}
 use Rattle.clr_rows.specs.declared.limits.TheConstants.{GREATEST_KEY}

@@ -26,7 +26,8 @@ use Rattle.clr_rows.proofs.SchemaLemmas.{key_of as key_parts, row_fits}
 use Rattle.clr_records.specs.Records.{field_of, in_turn}
 use Rattle.clr_records.proofs.Decimals.{number_again}
 use Rattle.clr_layer_text.specs.declared.rows.LayerRow.{LayerRow}
-use Rattle.clr_layer_text.specs.Layers.{cell_of, header_of, key_of, key_text, row_fields, row_of, shape_fields, shape_in, shape_name, value_of, value_text, whole_row_of}
+use Rattle.clr_layer_text.specs.Layers.{cell_of, header_of, key_of, key_text, row_fields, row_of, shape_fields, shape_in, shape_name, value_of, value_text}
+use Rattle.clr_layer_text.specs.Layers.{whole_row_of}
 use Rattle.clr_layer_text.specs.Pieces.{is_empty}
 use Rattle.clr_layer_text.proofs.HeaderAgain.{columns_from, shape_behind, written_fields}
 use Rattle.clr_layer_text.proofs.ShapeAgain.{shape_again}
@@ -55,7 +56,8 @@ values_again fields front (column ∷ columns) (value ∷ values) rest n long of
     let m = and_parts (is_number value) (list_all is_number values) numbers in
     let text = value_text value in
     let at : field_of fields (length front) ≡ text = rw is (field_here front text (map value_text values ++ rest)) in
-    let next : fields ≡ (front ++ text ∷ []) ++ (map value_text values ++ rest) = rw is (sym (append_assoc front (text ∷ []) (map value_text values ++ rest))) in
+    let next : fields ≡ (front ++ text ∷ []) ++ (map value_text values ++ rest) =
+    rw is (sym (append_assoc front (text ∷ []) (map value_text values ++ rest))) in
     let more : length (front ++ text ∷ []) ≡ length front + 1 = length-append front (text ∷ []) in
     let others = values_again fields (front ++ text ∷ []) columns values rest (n + 1) (omega (arith, long)) o.1 m.1 next in
     rw (at, value_again column.1 value o.0 m.0, rw more at others) refl
@@ -140,7 +142,8 @@ unfolding field_at whole_row_of
 row_again tables at table rounded r is fit =
     let f = row_fits tables (cell_of at r.key) r.row fit table is in
     let front = key_text r.key ∷ map value_text r.row.values in
-    let wide : 1 + length (names_of table.columns) ≡ length front = omega (arith, f.count, length-map r.row.values value_text, length-map table.columns (λ c. c.0)) in
+    let wide : 1 + length (names_of table.columns) ≡ length front =
+    omega (arith, f.count, length-map r.row.values value_text, length-map table.columns (λ c. c.0)) in
     let shape : shape_in rounded (shape_behind (1 + length (names_of table.columns)) table.shape) (row_fields r) ≡ Ok r.row.shape =
     rw wide (shape_field rounded front table.shape r.row.shape f.form f.coordinates f.vertices) in
     rw (

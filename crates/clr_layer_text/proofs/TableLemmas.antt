@@ -28,7 +28,8 @@ fit_among tables at (e ∷ es) each = by (e.0.table == at) refl (fit_among table
         → AllByRecursion (FitsAt tables at) (rows_among at (e ∷ es))
     by true is rest =
         let same : e.0.table ≡ at = eqb-true e.0.table at is in
-        let fits : row_fault tables (cell_of at (Some e.0.key)) e.1 ≡ None = subst (λ n. row_fault tables (cell_of n (Some e.0.key)) e.1 ≡ None) same (each 0 e refl) in
+        let fits : row_fault tables (cell_of at (Some e.0.key)) e.1 ≡ None = subst (λ n. row_fault tables (cell_of n (Some e.0.key)) e.1 ≡ None) same
+        (each 0 e refl) in
         rw is (fits, rest)
     by false is rest = rw is rest
 

@@ -1,5 +1,6 @@
 -- The entries of an indexed map beside the layers that they stand for.
-use Rattle.std.proofs.Common.{◌≡◌, ℕ, suc, zero, ◌+◌, ◌<◌, true, not, cond, nat_lt, List, [], ◌∷◌, ◌++◌, Some, None, is_some, length, refl, ap, sym, ◌∙◌, subst, arith, string_bytes, String, Global, slice_get}
+use Rattle.std.proofs.Common.{◌≡◌, ℕ, suc, zero, ◌+◌, ◌<◌, true, not, cond, nat_lt, List, [], ◌∷◌, ◌++◌, Some, None, is_some, length, refl, ap, sym, ◌∙◌, subst}
+use Rattle.std.proofs.Common.{arith, string_bytes, String, Global, slice_get}
 use Rattle.std.specs.Prelude.{position, count_by, fold}
 use Rattle.std.specs.Str.{bytes_eq}
 use Rattle.std.specs.String.{string_eq}

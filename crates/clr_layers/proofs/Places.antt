@@ -1,5 +1,6 @@
 -- What becomes of the whole workspaces where one layer changes, comes or goes.
-use Rattle.std.proofs.Common.{◌≡◌, ℕ, suc, zero, ◌<◌, Bool, true, false, cond, List, [], ◌∷◌, ◌++◌, length, map, take, remove, Some, None, unwrap_or, refl, ap, sym, subst, ◌∙◌, arith, slice_set, append_assoc}
+use Rattle.std.proofs.Common.{◌≡◌, ℕ, suc, zero, ◌<◌, Bool, true, false, cond, List, [], ◌∷◌, ◌++◌, length, map, take, remove, Some, None, unwrap_or, refl, ap}
+use Rattle.std.proofs.Common.{sym, subst, ◌∙◌, arith, slice_set, append_assoc}
 use Rattle.std.proofs.lemmas.List.{append-nil}
 use Rattle.std.specs.declared.option.Option.{Option}
 use Rattle.std.specs.Option.{option_or}
@@ -91,8 +92,10 @@ moved_grow ws (l ∷ ls) zero m lt name parent new agree =
     let start : ws ++ [] ≡ ws = append-nil ws in
     let v = whole_of (above_in ws l) l in
     let w = whole_of (above_in ws m) m in
-    let above : above_in ws m ≡ above_in (ws ++ []) l = ap (λ n. unwrap_or (content_by_name ws n) no_rows) parent ∙ ap (λ (vs : List Workspace). above_in vs l) (sym start) in
-    let a = alike_here ws v w (ap (content_by_name ws) (name-whole (above_in ws l) l) ∙ ap (λ (vs : List Workspace). content_by_name vs l.name) (sym start) ∙ new) (name-whole (above_in ws m) m ∙ name ∙ sym (name-whole (above_in ws l) l)) in
+    let above : above_in ws m ≡ above_in (ws ++ []) l = ap (λ n. unwrap_or (content_by_name ws n) no_rows) parent
+    ∙ ap (λ (vs : List Workspace). above_in vs l) (sym start) in
+    let a = alike_here ws v w (ap (content_by_name ws) (name-whole (above_in ws l) l) ∙ ap (λ (vs : List Workspace). content_by_name vs l.name) (sym start)
+    ∙ new) (name-whole (above_in ws m) m ∙ name ∙ sym (name-whole (above_in ws l) l)) in
     let later : ChildrenAgree v.name v.current w.current ls =
     λ k k_lt under q none.
     ap (λ (c : Content). row_at (whole_of c m).current q) above
@@ -104,7 +107,8 @@ moved_grow ws (l ∷ ls) (suc at) m lt name parent new agree =
     let w = whole_of (above_in ws l) l in
     let start : (ws ++ w ∷ []) ++ take at (grow (ws ++ w ∷ []) ls) ≡ ws ++ w ∷ take at (grow (ws ++ w ∷ []) ls) = append_assoc ws (w ∷ []) _ in
     let l_at = layer_at ls at in
-    let same : above_in ((ws ++ w ∷ []) ++ take at (grow (ws ++ w ∷ []) ls)) l_at ≡ above_in (ws ++ w ∷ take at (grow (ws ++ w ∷ []) ls)) l_at = ap (λ (vs : List Workspace). above_in vs l_at) start in
+    let same : above_in ((ws ++ w ∷ []) ++ take at (grow (ws ++ w ∷ []) ls)) l_at ≡ above_in (ws ++ w ∷ take at (grow (ws ++ w ∷ []) ls)) l_at =
+    ap (λ (vs : List Workspace). above_in vs l_at) start in
     ap (λ rest. w ∷ rest) (moved_grow (ws ++ w ∷ []) ls at m (omega arith) name parent (ap (λ (vs : List Workspace). content_by_name vs l_at.name) start ∙ new)
     (λ k k_lt under q none. ap (λ (c : Content). row_at (whole_of c m).current q) same ∙ agree (suc k) (omega arith) under q none
     ∙ sym (ap (λ (c : Content). row_at (whole_of c l_at).current q) same))
@@ -162,7 +166,8 @@ unfolding grow
 after_gone name vs ws [] a free = refl
 after_gone name vs ws (l ∷ ls) a free =
     let v = whole_of (above_in vs l) l in
-    let same : whole_of (above_in ws l) l ≡ v = ap (λ o. whole_of (unwrap_or o no_rows) l) (a l.parent (not_from (bytes_eq name l.parent) (free 0 (omega arith)))) in
+    let same : whole_of (above_in ws l) l ≡ v =
+    ap (λ o. whole_of (unwrap_or o no_rows) l) (a l.parent (not_from (bytes_eq name l.parent) (free 0 (omega arith)))) in
     (λ i. same i ∷ grow (ws ++ same i ∷ []) ls)
     ∙ ap (λ rest. v ∷ rest) (after_gone name (vs ++ v ∷ []) (ws ++ v ∷ []) ls
     (λ n differs. named-append ws v n ∙ ap (λ o. option_or o (cond (bytes_eq n v.name) (Some v.current) None)) (a n differs) ∙ sym (named-append vs v n))

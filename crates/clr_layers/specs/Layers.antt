@@ -8,7 +8,8 @@ use Rattle.std.specs.Str.{bytes_eq}
 use Rattle.clr_rows.specs.declared.cells.CellId.{CellId}
 use Rattle.clr_rows.specs.declared.rows.Row.{Row}
 use Rattle.clr_rows.specs.Contents.{Content, no_rows}
-use Rattle.clr_differences.specs.Differences.{Differences, Rows, HasEntry, IsOwnOver, coded_differences, is_among, no_differences, put_each, seen_over}
+use Rattle.clr_differences.specs.Differences.{Differences, RowEntries, HasDifference, IsOwnOver, coded_differences, is_among, no_differences, put_each}
+use Rattle.clr_differences.specs.Differences.{seen_over}
 use Rattle.clr_differences.specs.Differences.{without_neutral, swept_at}
 use Rattle.clr_workspaces.specs.Marks.{Name, Mark, Saved, ChildMark, coded_name}
 use Rattle.clr_workspaces.specs.Workspaces.{Workspace, live_workspace}
@@ -130,7 +131,7 @@ abbrev pub entries_of_mark : StoredMark → ℕ
 entries_of_mark mark = length (finite.keys (saved_differences mark))
 
 abbrev pub MarkPins : CellId → StoredMark → Type 0
-MarkPins cell (stored.Saved name d) = HasEntry d cell
+MarkPins cell (stored.Saved name d) = HasDifference d cell
 MarkPins cell (stored.Child name) = Unit {0}
 
 -- each savepoint has an entry at a cell
@@ -139,7 +140,7 @@ EachMarkPins [] cell = Unit {0}
 EachMarkPins (m ∷ ms) cell = MarkPins cell m × EachMarkPins ms cell
 
 -- a layer whose base takes rows over, and whose current content is the base; the savepoints go
-abbrev pub rows_taken_over : Rows → Layer → Layer
+abbrev pub rows_taken_over : RowEntries → Layer → Layer
 rows_taken_over rows l = record l { base = put_each l.base rows; current = no_differences; marks = filter is_stored_child l.marks }
 
 -- a layer over the parent's content, with these differences; the savepoints go

@@ -6,7 +6,7 @@ ghost use Rattle.std.specs.Option.{option_copied};
 ghost use Rattle.std.specs.Str.{bytes_eq};
 ghost use Rattle.indexmap.specs.IndexMap.{values};
 ghost use Rattle.clr_rows.specs.Contents.{Content, row_at};
-ghost use Rattle.clr_differences.specs.Differences.{no_differences, put_each, cells_in, HasEntry, HasEntries};
+ghost use Rattle.clr_differences.specs.Differences.{no_differences, put_each, cells_in, HasDifference, HasEntries};
 ghost use Rattle.clr_layers.specs.Layers.{layer_at, layer_changed, find_layer, stored_in, whole_mark, is_stored_child};
 ghost use Rattle.clr_layers.specs.Layers.{stored_without_mark_of, EachMarkPins, StayOwnBeside, rows_taken_over, restarted_with};
 ghost use Rattle.clr_layers.specs.Entries.{layer_of};
@@ -296,7 +296,7 @@ impl WorkspaceMap {
     /// Takes the entry at a cell out of a base, and sets the one that the current content has.
     pub fn move_row(&mut self, at: usize, cell: CellId, row: Option<Row>)
         requires there { at < length self.old }
-        requires pinned { HasEntry (layer_at self.old at).current cell }
+        requires pinned { HasDifference (layer_at self.old at).current cell }
         ensures { self.new ≡ layer_changed self.old at (λ l. record l { base = finite.remove l.base cell; current = finite.insert l.current cell row }) }
     {
         let (_, layer) = self.map.pair_mut(at);

@@ -39,7 +39,7 @@ abbrev pub rows_writer : WriterBuilder
 rows_writer = with_flexible default_writer true
 
 -- a writer of rows that has ended its last record
-pub record IsBetween {W : Type 0} (writer : Writer W) : Type 0 where
+pub record IsBetweenRows {W : Type 0} (writer : Writer W) : Type 0 where
   pub ended : fields_written writer ≡ 0
   pub clean : has_written writer ≡ false
   pub setup : writer_setup writer ≡ rows_writer

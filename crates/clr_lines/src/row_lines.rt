@@ -6,7 +6,7 @@ ghost use Rattle.std.specs.List.{flat_map};
 ghost use Rattle.csv.specs.Records.{fields_of, partial_of};
 ghost use Rattle.csv.specs.Writing.{writer_pending, writer_under};
 ghost use Rattle.clr_rows.specs.Beginnings.{IsBegun};
-ghost use Rattle.clr_lines.specs.Rows.{IsBetween, place_fields, row_fields, row_line, rows_text, shape_fields, value_field};
+ghost use Rattle.clr_lines.specs.Rows.{IsBetweenRows, place_fields, row_fields, row_line, rows_text, shape_fields, value_field};
 
 use crate::pieces::add_count;
 use clr_rows::{CellId, Place, Row, Schema, Shape, Sheet, Value};
@@ -122,8 +122,8 @@ fn write_row(
     cell: CellId,
     row: &Row,
 ) -> Result<(), AllocError>
-    requires { IsBetween writer.old }
-    ensures between { OnOk result (IsBetween writer.new) }
+    requires { IsBetweenRows writer.old }
+    ensures between { OnOk result (IsBetweenRows writer.new) }
     ensures written { OnOk result ((writer_under writer.new).items ++ writer_pending writer.new
         ≡ (writer_under writer.old).items ++ writer_pending writer.old ++ row_line schema.now (cell, row.now)) }
 {

@@ -7,7 +7,7 @@ use Rattle.clr_needs.specs.Covers.{CoversAlone, CoverTogether, Entry, HasEntry, 
 use Rattle.clr_needs.specs.Independence.{Involves}
 use Rattle.clr_needs.specs.Needs.{AreOpposed, IsChanged, IsTouchedBy, Serves}
 use Rattle.clr_needs.specs.Picks.{HasBoth, IsLeastVersion, IsPickBy, ServesAs}
-use Rattle.clr_needs.specs.Renamings.{IsSameLife, IsSameVersion, IsSameVersionToo}
+use Rattle.clr_needs.specs.Renamings.{IsSameLife, IsSameVersion, IsSameVersionIfAny}
 use Rattle.clr_needs.specs.Settings.{Setting, Lifetime, Always, With, Without, Lived}
 use Rattle.clr_needs.proofs.PartLives.{IsSecondIn, IsVersionIn, names_up, second_in, second_names_up, version_in}
 
@@ -25,7 +25,7 @@ pub record IsInOneOrder {A B : Type 0} (before : A → A → Type 0) (earlier : 
 pub record Agree {A B : Type 0} (c : Setting A) (d : Setting B) (stands : A → B → Type 0) (n : Need) (a : Lived A) (b : Option (Lived A)) (p : Lived B)
     (q : Option (Lived B)) : Type 0 where
   pub first : IsSameVersion stands a p
-  pub second : IsSameVersionToo stands b q
+  pub second : IsSameVersionIfAny stands b q
   pub to : (v : VersionId) (l : Lived A) → Serves c n a b v l → (m : Lived B) × Serves d n p q v m × IsSameVersion stands l m
   pub back : (v : VersionId) (m : Lived B) → Serves d n p q v m → (l : Lived A) × Serves c n a b v l × IsSameVersion stands l m
 
@@ -44,7 +44,7 @@ module _ {A B : Type 0} (stands : A → B → Type 0) where
   pub turned_version : (l : Lived A) (m : Lived B) → IsSameVersion stands l m → IsSameVersion (other_way stands) m l
   turned_version l m same = record { row = sym same.row; life = turned_life l.life m.life same.life }
 
-  turned_second : (b : Option (Lived A)) (e : Option (Lived B)) → IsSameVersionToo stands b e → IsSameVersionToo (other_way stands) e b
+  turned_second : (b : Option (Lived A)) (e : Option (Lived B)) → IsSameVersionIfAny stands b e → IsSameVersionIfAny (other_way stands) e b
   turned_second None None same = tt
   turned_second None (Some m) same = absurd same
   turned_second (Some l) None same = absurd same
@@ -147,7 +147,7 @@ module _ {A B : Type 0} (c : Setting A) (d : Setting B) (stands : A → B → Ty
   life_of_to : (l : Lifetime A) (m : Lifetime B) → IsSameLife stands l m → IsLifeOf l b → IsLifeOf m q
   life_of_to l m same is = by b q agree.second is
     where
-      by : (b : Option (Lived A)) (q : Option (Lived B)) → IsSameVersionToo stands b q → IsLifeOf l b → IsLifeOf m q
+      by : (b : Option (Lived A)) (q : Option (Lived B)) → IsSameVersionIfAny stands b q → IsLifeOf l b → IsLifeOf m q
       by None q alike is = absurd is
       by (Some b) None alike is = absurd alike
       by (Some b) (Some q) alike is = life_to stands one l b.life m q.life same alike.life is
@@ -185,7 +185,7 @@ module _ {A B : Type 0} (c : Setting A) (d : Setting B) (stands : A → B → Ty
       (y, h, inl f)
   blocker_to x (inr (inl e)) = let (y, h, is) = by b q agree.second e in (y, h, inr (inl is))
     where
-      by : (b : Option (Lived A)) (q : Option (Lived B)) → IsSameVersionToo stands b q → IsLifeOf (With x) b → (y : B) × stands x y × IsLifeOf (With y) q
+      by : (b : Option (Lived A)) (q : Option (Lived B)) → IsSameVersionIfAny stands b q → IsLifeOf (With x) b → (y : B) × stands x y × IsLifeOf (With y) q
       by None q alike e = absurd e
       by (Some b) None alike e = absurd alike
       by (Some b) (Some k) alike e = let (y, f, h) = as_with stands x k.life (subst (λ o. IsSameLife stands o k.life) (sym e) alike.life) in (y, h, sym f)

@@ -1,5 +1,6 @@
 -- The members that are told to break a need are just those that do.
-use Rattle.std.proofs.Common.{◌≡◌, ◌∙◌, ◌<◌, ◌≤◌, ◌+◌, ◌==◌, ℕ, zero, suc, Bool, true, false, List, [], ◌∷◌, ◌++◌, ◌⊎◌, inl, inr, Option, Some, None, Contains, length, refl, sym, ap, subst, arith}
+use Rattle.std.proofs.Common.{◌≡◌, ◌∙◌, ◌<◌, ◌≤◌, ◌+◌, ◌==◌, ℕ, zero, suc, Bool, true, false, List, [], ◌∷◌, ◌++◌, ◌⊎◌, inl, inr, Option, Some, None, Contains}
+use Rattle.std.proofs.Common.{length, refl, sym, ap, subst, arith}
 use Rattle.std.specs.List.{range_with_len}
 use Rattle.std.specs.List.Sorted.{IsStrictlySortedBy}
 use Rattle.std.specs.Ordering.{nat_cmp}
@@ -13,11 +14,11 @@ use Rattle.clr_rules.proofs.AskLemmas.{less_number}
 use Rattle.clr_rules.proofs.Elements.{Among, among, contained, rising_joined}
 use Rattle.clr_needs.specs.declared.needs.Need.{Need}
 use Rattle.clr_needs.specs.declared.needs.VersionId.{VersionId}
-use Rattle.clr_needs.specs.Blocking.{IsBlockerOf, has_life, has_life_by, has_life_too, same_life}
+use Rattle.clr_needs.specs.Blocking.{IsBlockerOf, has_life, has_life_by, has_subject_of_life, same_life}
 use Rattle.clr_needs.specs.Covers.{IsBlocker, IsLifeOf}
 use Rattle.clr_needs.specs.Independence.{Names}
 use Rattle.clr_needs.specs.Members.{setting}
-use Rattle.clr_needs.specs.Needs.{AreServers, IsBesideToo, IsPossible, IsPossibleNeed, Lists}
+use Rattle.clr_needs.specs.Needs.{AreServers, IsBesideIfAny, IsPossible, IsPossibleNeed, Lists}
 use Rattle.clr_needs.specs.Picks.{Blocks}
 use Rattle.clr_needs.specs.Settings.{Setting, Lifetime, Always, With, Without, Lived, has, version}
 use Rattle.clr_needs.specs.Witnesses.{IsLeastPassing, IsPassing, has_life_at}
@@ -42,11 +43,12 @@ module _ (c : Setting ℕ) (n : Need) where
   life_at life v l is = ap (has_life life) is
 
   -- a subject with this life
-  pub subject_told : (life : Lifetime ℕ) (a : Lived ℕ) (b : Option (Lived ℕ)) → IsPossible c n a b → has_life_too life c n ≡ true → (a.life ≡ life)
+  pub subject_told : (life : Lifetime ℕ) (a : Lived ℕ) (b : Option (Lived ℕ)) → IsPossible c n a b → has_subject_of_life life c n ≡ true → (a.life ≡ life)
       ⊎ IsLifeOf life b
   subject_told life a b p e = by n.second b p.second_is e
     where
-      by : (w : Option VersionId) (b : Option (Lived ℕ)) → IsBesideToo c n.first a w b → has_life_by life c n.first w ≡ true → (a.life ≡ life) ⊎ IsLifeOf life b
+      by : (w : Option VersionId) (b : Option (Lived ℕ)) → IsBesideIfAny c n.first a w b → has_life_by life c n.first w ≡ true → (a.life ≡ life)
+          ⊎ IsLifeOf life b
       by None None is e = inl (same_told a.life life (sym (life_at life n.first a p.first_is) ∙ e))
       by None (Some b) is e = absurd is
       by (Some w) None is e = absurd is
@@ -55,11 +57,13 @@ module _ (c : Setting ℕ) (n : Need) where
         | inr h ↦ inr (sym (same_told b.life life (sym (life_at life w b is.is) ∙ h)))
       ]
 
-  pub told_subject : (life : Lifetime ℕ) (a : Lived ℕ) (b : Option (Lived ℕ)) → IsPossible c n a b → (a.life ≡ life) ⊎ IsLifeOf life b → has_life_too life c n
+  pub told_subject : (life : Lifetime ℕ) (a : Lived ℕ) (b : Option (Lived ℕ)) → IsPossible c n a b → (a.life ≡ life) ⊎ IsLifeOf life b →
+      has_subject_of_life life c n
       ≡ true
   told_subject life a b p h = by n.second b p.second_is h
     where
-      by : (w : Option VersionId) (b : Option (Lived ℕ)) → IsBesideToo c n.first a w b → (a.life ≡ life) ⊎ IsLifeOf life b → has_life_by life c n.first w ≡ true
+      by : (w : Option VersionId) (b : Option (Lived ℕ)) → IsBesideIfAny c n.first a w b → (a.life ≡ life) ⊎ IsLifeOf life b →
+          has_life_by life c n.first w ≡ true
       by None None is (inl h) = life_at life n.first a p.first_is ∙ lives_as life a h
       by None None is (inr h) = absurd h
       by None (Some b) is h = absurd is
@@ -69,7 +73,7 @@ module _ (c : Setting ℕ) (n : Need) where
       by (Some w) (Some b) is (inr h) = or_right (has_life life (version c n.first)) (has_life life (version c w)) (life_at life w b is.is
           ∙ lives_as life b (sym h))
 
-  pub brings_is_blocker : (told : Bool) (x : ℕ) → IsPossibleNeed c n → told ≡ has_life_too (With x) c n → told ≡ true → IsBlockerOf c n x
+  pub brings_is_blocker : (told : Bool) (x : ℕ) → IsPossibleNeed c n → told ≡ has_subject_of_life (With x) c n → told ≡ true → IsBlockerOf c n x
   brings_is_blocker told x (a, b, p) is e = (a, b, p, by (subject_told (With x) a b p (sym is ∙ e)))
     where
       by : (a.life ≡ With x) ⊎ IsLifeOf (With x) b → IsBlocker c n a b x
@@ -82,7 +86,7 @@ module _ (c : Setting ℕ) (n : Need) where
         let (a, b, l, p, serve) = (are.exactly v).0 h in
         (a, b, p, inr (inr (v, l, serve, same_told l.life (Without x) (sym (life_at (Without x) v l serve.is) ∙ e))))
 
-    pub neither_is_blocker : (told : Bool) → told ≡ has_life_too (With x) c n → told ≡ false → IsLeastPassing (has_life_at (Without x) c) servers None
+    pub neither_is_blocker : (told : Bool) → told ≡ has_subject_of_life (With x) c n → told ≡ false → IsLeastPassing (has_life_at (Without x) c) servers None
         → ¬ (IsBlockerOf c n x)
     neither_is_blocker told is e none (a, b, p, inl h) = true≢false (sym (told_subject (With x) a b p (inl h)) ∙ sym is ∙ e)
     neither_is_blocker told is e none (a, b, p, inr (inl h)) = true≢false (sym (told_subject (With x) a b p (inr h)) ∙ sym is ∙ e)

@@ -1,7 +1,7 @@
 -- The needs that the merge of one member breaks: just the touched ones whose subjects stand then, and no version that serves.
-use Rattle.std.proofs.Common.{◌≡◌, ◌∙◌, ◌<◌, ◌≤◌, ◌+◌, ◌==◌, ℕ, Bool, true, false, ◌&&◌, not, List, [], ◌∷◌, ◌⊎◌, inl, inr, Option, Some, None, Contains, get_or, length, take, refl, sym, ap, subst, unwrap_or}
+use Rattle.std.proofs.Common.{◌≡◌, ◌∙◌, ◌<◌, ◌≤◌, ◌+◌, ◌==◌, ℕ, Bool, true, false, ◌&&◌, not, List, [], ◌∷◌, ◌⊎◌, inl, inr, Option, Some, None, Contains}
+use Rattle.std.proofs.Common.{get_or, length, take, refl, sym, ap, subst, unwrap_or}
 use Rattle.std.specs.List.{range_with_len}
-use Rattle.std.specs.List.Sorted.{IsStrictlySortedBy}
 use Rattle.std.specs.Option.{option_cmp, option_map}
 use Rattle.std.specs.Ordering.{bool_cmp, is_gt, nat_cmp, ordering_then}
 use Rattle.std.specs.declared.cmp.Ordering.{Ordering}
@@ -12,31 +12,37 @@ use Rattle.clr_rows.specs.declared.cells.CellId.{CellId}
 use Rattle.clr_rows.specs.Cells.{cell_cmp}
 use Rattle.clr_rows.specs.Contents.{Changes, Content}
 use Rattle.clr_rows.specs.Held.{Held}
-use Rattle.std.specs.Cmp.{tied_itself}
 use Rattle.std.specs.Prelude.{⊤, if◌then◌else◌}
 use Rattle.clr_rows.proofs.CellOrder.{cell_cmp_exact}
 use Rattle.clr_rules.specs.declared.needs.Broken.{Broken}
 use Rattle.clr_rules.specs.declared.rules.Rule.{Rule}
 use Rattle.clr_rules.specs.Calls.{serves}
-use Rattle.clr_rules.proofs.BrokenOrder.{broken_total}
-use Rattle.clr_rules.specs.Needs.{Holds, IsBroken, IsMet, IsNeed, IsLeastBroken, broken_at, broken_cmp}
+use Rattle.clr_rules.specs.Needs.{Holds, IsBroken, IsMet, IsNeed, broken_at, broken_cmp}
 use Rattle.clr_rules.specs.Needs as audit
 use Rattle.clr_needs.specs.declared.needs.Need.{Need}
 use Rattle.clr_needs.specs.declared.needs.VersionId.{VersionId}
-use Rattle.clr_needs.specs.Broken.{HasLivingServer, IsJudged, IsServedAfterMerge, IsUnservedAfterMerge, are_living, broken_of, is_living, is_living_at, view_after_merge}
+use Rattle.clr_needs.specs.Broken.{HasLivingServer, IsJudged, IsServedAfterMerge, IsUnservedAfterMerge, are_living, broken_of, is_living, is_living_at}
+use Rattle.clr_needs.specs.Broken.{view_after_merge}
 use Rattle.clr_needs.specs.Covers.{IsLifeOf}
 use Rattle.clr_needs.specs.Independence.{Names}
 use Rattle.clr_needs.specs.Members.{setting}
-use Rattle.clr_needs.specs.Needs.{AreServers, AreTouchedNeeds, IsPossibleNeed, IsBesideToo, IsPossible, IsTouched, IsTouchedBy, ask_of, held_too, is_fresh, need_of}
+use Rattle.clr_needs.specs.Needs.{AreServers, AreTouchedNeeds, IsPossibleNeed, IsBesideIfAny, IsPossible, IsTouched, IsTouchedBy, ask_of, held_if_any, is_fresh}
+use Rattle.clr_needs.specs.Needs.{need_of}
 use Rattle.clr_needs.specs.Orders.{need_cmp, version_cmp}
-use Rattle.clr_needs.specs.Settings.{Setting, AreDisjoint, Lifetime, Always, With, Without, Lived, changer, has, held_row, new_version, old_version, view_with, version}
+use Rattle.clr_needs.specs.Settings.{Setting, AreDisjoint, Lifetime, Always, With, Without, Lived, changer, has, held_row, new_version, old_version, view_with}
+use Rattle.clr_needs.specs.Settings.{version}
 use Rattle.clr_needs.proofs.CoverLaws.{root_server}
 use Rattle.clr_needs.proofs.Lives.{has_version, lives, names_member, never_both, old_is}
 use Rattle.clr_needs.proofs.Meetings.{HasServer, IsStandingNeed, IsSubjectLife, holds_where_met, is_need, met_by, server_of}
-use Rattle.clr_needs.proofs.Placing.{PlaceOf, after, before, here, place_of}
-use Rattle.clr_needs.proofs.Reading.{all_taken, one_more}
+use Rattle.clr_needs.proofs.Placing.{after}
+use Rattle.clr_needs.proofs.Reading.{one_more}
 use Rattle.clr_needs.proofs.Merges.{IsMerge, root_is, taken_over}
 use Rattle.clr_needs.proofs.NeedSubjects.{subjects_once}
+
+pub less_not_gt : (o : Ordering) → o ≡ Less → is_gt o ≡ false
+less_not_gt Less e = refl
+less_not_gt Equal e = cc
+less_not_gt Greater e = cc
 
 module _ (rules : List Rule) (root : Content) (sets : List Changes) (one : length sets ≡ 1) where
   abbrev s : Setting ℕ
@@ -85,7 +91,7 @@ module _ (rules : List Rule) (root : Content) (sets : List Changes) (one : lengt
     it_stands : are_living a b ≡ true → IsStandingNeed s ts n a b
     it_stands living = record { possible = p; live = λ l h. by n.second b p.second_is living l h }
       where
-        by : (w : Option VersionId) (b : Option (Lived ℕ)) → IsBesideToo s n.first a w b → are_living a b ≡ true → (l : Lifetime ℕ) → IsSubjectLife s a b l
+        by : (w : Option VersionId) (b : Option (Lived ℕ)) → IsBesideIfAny s n.first a w b → are_living a b ≡ true → (l : Lifetime ℕ) → IsSubjectLife s a b l
             → lives s ts l ≡ true
         by None None is e l (inl f) = ap (lives s ts) f ∙ life_told n.first a p.first_is ∙ e
         by None None is e l (inr f) = absurd f
@@ -100,7 +106,7 @@ module _ (rules : List Rule) (root : Content) (sets : List Changes) (one : lengt
         first : is_living a.life ≡ true
         first = sym (life_told n.first a p.first_is) ∙ need.live a.life (inl refl)
 
-        by : (w : Option VersionId) (b : Option (Lived ℕ)) → IsBesideToo s n.first a w b → ((l : Lifetime ℕ) → IsLifeOf l b → lives s ts l ≡ true)
+        by : (w : Option VersionId) (b : Option (Lived ℕ)) → IsBesideIfAny s n.first a w b → ((l : Lifetime ℕ) → IsLifeOf l b → lives s ts l ≡ true)
             → are_living a b ≡ true
         by None None is live = first
         by None (Some b) is live = absurd is
@@ -147,14 +153,14 @@ module _ (rules : List Rule) (root : Content) (sets : List Changes) (one : lengt
   pub lost_is_broken : (n : Need) → IsUnservedAfterMerge s n → IsBroken rules (view_after_merge s) (broken_of n)
   lost_is_broken n (a, b, p, living, unserved) = subst (λ view. IsBroken rules view (broken_of n)) views (record {
     first = held_row n.first a;
-    second = held_too n.second b;
+    second = held_if_any n.second b;
     need = is_need s ts n a b merge (it_stands n a b p living);
     unmet = λ met. unserved (server_lives n a b (server_of s ts n a b merge met));
     named = same_names n.second b p.second_is;
   })
     where
-      same_names : (w : Option VersionId) (b : Option (Lived ℕ)) → IsBesideToo s n.first a w b
-          → broken_of (need_of (ask_of n) n.first w) ≡ broken_at (ask_of n) (held_row n.first a) (held_too w b)
+      same_names : (w : Option VersionId) (b : Option (Lived ℕ)) → IsBesideIfAny s n.first a w b
+          → broken_of (need_of (ask_of n) n.first w) ≡ broken_at (ask_of n) (held_row n.first a) (held_if_any w b)
       same_names None None is = refl
       same_names None (Some b) is = absurd is
       same_names (Some w) None is = absurd is
@@ -194,7 +200,8 @@ module _ (rules : List Rule) (root : Content) (sets : List Changes) (one : lengt
               let v = has_version s ts merge first.0 first.1 need.stands in
               let x : Lived ℕ = record { row = first.1; life = v.life } in
               let n = need_of (audit.ask_of b) (record { cell = first.0; fresh = v.fresh }) None in
-              let stand : IsStandingNeed s ts n x None = record { possible = record { first_is = v.is; second_is = tt; they_call = need.they_call }; live = λ l h. alone l x v.lives h } in
+              let stand : IsStandingNeed s ts n x None =
+              record { possible = record { first_is = v.is; second_is = tt; they_call = need.they_call }; live = λ l h. alone l x v.lives h } in
               break_of b n x None stand named (λ h. unmet (met_by s ts n x None merge h))
             where
               alone : (l : Lifetime ℕ) (x : Lived ℕ) → lives s ts x.life ≡ true → IsSubjectLife s x None l → lives s ts l ≡ true
@@ -274,13 +281,13 @@ module _ (rules : List Rule) (root : Content) (sets : List Changes) (one : lengt
   subjects_live : (n : Need) → IsUnservedAfterMerge s n → LivesAt n.first × LivesAtToo n.second
   subjects_live n (a, b, p, living, unserved) = by n.second b p.second_is living
     where
-      by : (w : Option VersionId) (b : Option (Lived ℕ)) → IsBesideToo s n.first a w b → are_living a b ≡ true → LivesAt n.first × LivesAtToo w
+      by : (w : Option VersionId) (b : Option (Lived ℕ)) → IsBesideIfAny s n.first a w b → are_living a b ≡ true → LivesAt n.first × LivesAtToo w
       by None None is e = ((a, p.first_is, e), tt)
       by None (Some b) is e = absurd is
       by (Some w) None is e = absurd is
       by (Some w) (Some b) is e = let both = and_parts (is_living a.life) (is_living b.life) e in ((a, p.first_is, both.0), (b, is.is, both.1))
 
-  need_order : (m n : Need) → IsUnservedAfterMerge s m → IsUnservedAfterMerge s n → need_cmp m n ≡ broken_cmp (broken_of m) (broken_of n)
+  pub need_order : (m n : Need) → IsUnservedAfterMerge s m → IsUnservedAfterMerge s n → need_cmp m n ≡ broken_cmp (broken_of m) (broken_of n)
   unfolding broken_cmp
   need_order m n lost lost_too =
       let first = subjects_live m lost in
@@ -288,54 +295,6 @@ module _ (rules : List Rule) (root : Content) (sets : List Changes) (one : lengt
       λ i. ordering_then (nat_cmp m.rule n.rule) (ordering_then (version_order m.first n.first first.0 second.0 i)
       (ordering_then (second_order m.second n.second first.1 second.1 i) (ordering_then (nat_cmp m.first_part n.first_part)
       (nat_cmp m.second_part n.second_part))))
-
-  less_not_gt : (o : Ordering) → o ≡ Less → is_gt o ≡ false
-  less_not_gt Less e = refl
-  less_not_gt Equal e = cc
-  less_not_gt Greater e = cc
-
-  tie_not_gt : (b : Broken) → is_gt (broken_cmp b b) ≡ false
-  tie_not_gt b = ap is_gt (tied_itself broken_total b)
-
-  -- ---- the first lost one of the touched needs
-
-  pub least_lost : Holds rules s.root → (needs : List Need) (k : ℕ) (n d : Need) → k < length needs → n ≡ get_or needs k d
-      → IsStrictlySortedBy need_cmp needs
-      → ((m : Need) → IsTouched s m → Contains needs m)
-      → ((m : Need) → Contains (take k needs) m → IsServedAfterMerge s m)
-      → IsUnservedAfterMerge s n
-      → IsLeastBroken rules (view_after_merge s) (broken_of n)
-  least_lost holds needs k n d less is ascending every kept lost = record { broken = lost_is_broken n lost; least = least }
-    where
-      later : (m : Need) → IsUnservedAfterMerge s m → PlaceOf need_cmp needs m k n → is_gt (broken_cmp (broken_of n) (broken_of m)) ≡ false
-      later m lost_too (before h) = let (a, b, p, living, unserved) = lost_too in absurd (unserved (kept m h a b p living))
-      later m lost_too (here e) = subst (λ j. is_gt (broken_cmp (broken_of n) (broken_of j)) ≡ false) e (tie_not_gt (broken_of n))
-      later m lost_too (after e) = less_not_gt _ (sym (need_order n m lost lost_too) ∙ e)
-
-      least : (b : Broken) → IsBroken rules (view_after_merge s) b → is_gt (broken_cmp (broken_of n) b) ≡ false
-      least b broken =
-          let (m, h) = broken_by holds b broken in
-          subst (λ x. is_gt (broken_cmp (broken_of n) x)
-          ≡ false) (sym h.named) (later m h.lost (place_of need_cmp needs k n d m less is ascending (every m h.touched)))
-
-  -- the first is read from a list of the touched needs
-  pub first_is_least : Holds rules s.root → (needs read : List Need) (k : ℕ) (n d : Need) (lost : Bool) (b : Broken) → AreTouchedNeeds s needs → read ≡ needs
-      → k < length read → n ≡ get_or read k d
-      → ((m : Need) → Contains (take k read) m → IsServedAfterMerge s m)
-      → IsJudged s n lost
-      → lost ≡ true
-      → b ≡ broken_of n
-      → IsLeastBroken rules (view_after_merge s) b
-  first_is_least holds needs read k n d lost b touched same less is kept judged told named =
-      subst (IsLeastBroken rules (view_after_merge s)) (sym named)
-      (least_lost holds read k n d less is (subst (IsStrictlySortedBy need_cmp) (sym same) touched.ascending) (λ m t. subst (λ ms. Contains ms m) (sym same)
-      ((touched.exactly m).1 t)) kept
-      (subst (IsJudged s n) told judged))
-
-  pub none_is_lost : Holds rules s.root → (needs read : List Need) (k : ℕ) → AreTouchedNeeds s needs → read ≡ needs → length read ≤ k
-      → ((m : Need) → Contains (take k read) m → IsServedAfterMerge s m) → Holds rules (view_after_merge s)
-  none_is_lost holds needs read k touched same past kept = holds_after holds
-      (λ m t. kept m (all_taken read k m past (subst (λ ms. Contains ms m) (sym same) ((touched.exactly m).1 t))))
 
 -- ---- one need
 
@@ -359,7 +318,7 @@ module _ (c : Setting ℕ) (n : Need) where
           l,
           record {
             is = serve.is;
-            it_serves = sym (λ i. serves c.rules (ask_of n) (held_row n.first (once.0 i)) (held_too n.second (once.1 i)) (held_row v l))
+            it_serves = sym (λ i. serves c.rules (ask_of n) (held_row n.first (once.0 i)) (held_if_any n.second (once.1 i)) (held_row v l))
                 ∙ serve.it_serves;
           },
           sym (ap is_living_at serve.is) ∙ living,

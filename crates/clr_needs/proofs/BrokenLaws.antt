@@ -6,7 +6,7 @@ use Rattle.clr_needs.specs.declared.needs.Need.{Need}
 use Rattle.clr_needs.specs.declared.needs.VersionId.{VersionId}
 use Rattle.clr_needs.specs.Covers.{AreBlockers, IsBlocker, IsLifeOf, IsUncovered}
 use Rattle.clr_needs.specs.Independence.{Names}
-use Rattle.clr_needs.specs.Needs.{AreOpposed, IsBesideToo, IsPossible, Serves}
+use Rattle.clr_needs.specs.Needs.{AreOpposed, IsBesideIfAny, IsPossible, Serves}
 use Rattle.clr_needs.specs.Settings.{Setting, AreDisjoint, Lifetime, Always, With, Without, Lived, has, view_with}
 use Rattle.clr_needs.proofs.Merges.{IsMerge}
 use Rattle.clr_needs.proofs.Lives.{lives, names_member, opposed_too}
@@ -23,7 +23,8 @@ module _ {A : Type 0} (c : Setting A) where
     subjects_agree : (l m : Lifetime A) → IsSubjectLife c a b l → IsSubjectLife c a b m → AreOpposed l m → ⊥
     subjects_agree l m h k opposed = by n.second b possible.second_is h k
       where
-        by : (w : Option VersionId) (second : Option (Lived A)) → IsBesideToo c n.first a w second → IsSubjectLife c a second l → IsSubjectLife c a second m → ⊥
+        by : (w : Option VersionId) (second : Option (Lived A)) → IsBesideIfAny c n.first a w second → IsSubjectLife c a second l → IsSubjectLife c a second m →
+            ⊥
         by w second is (inl e) (inl f) = itself a.life (subst (λ x. AreOpposed x a.life) e (subst (AreOpposed l) f opposed))
         by None None is (inl e) (inr f) = absurd f
         by None None is (inr e) k = absurd e
@@ -40,7 +41,7 @@ module _ {A : Type 0} (c : Setting A) where
     subject_names_member l x (inl e) names = names_member c n.first a x possible.first_is (subst (λ k. Names k x) e names)
     subject_names_member l x (inr h) names = by n.second b possible.second_is h
       where
-        by : (w : Option VersionId) (second : Option (Lived A)) → IsBesideToo c n.first a w second → IsLifeOf l second → has c.same c.members x ≡ true
+        by : (w : Option VersionId) (second : Option (Lived A)) → IsBesideIfAny c n.first a w second → IsLifeOf l second → has c.same c.members x ≡ true
         by None None is e = absurd e
         by None (Some d) is e = absurd is
         by (Some w) None is e = absurd e

@@ -6,7 +6,7 @@ use Rattle.clr_rules.specs.Needs.{Holds}
 use Rattle.clr_needs.specs.declared.needs.Need.{Need}
 use Rattle.clr_needs.specs.declared.needs.VersionId.{VersionId}
 use Rattle.clr_needs.specs.Covers.{AreCovered, Entry, IsLifeOf}
-use Rattle.clr_needs.specs.Needs.{IsBesideToo, IsPossible, IsTouchedBy, is_fresh}
+use Rattle.clr_needs.specs.Needs.{IsBesideIfAny, IsPossible, IsTouchedBy, is_fresh}
 use Rattle.clr_needs.specs.Settings.{Setting, AreDisjoint, AreAmong, Lifetime, Always, With, Without, Lived, view_with}
 use Rattle.clr_needs.proofs.Merges.{IsMerge, none_merged, root_is}
 use Rattle.clr_needs.proofs.Lives.{lives, old_lives}
@@ -25,7 +25,7 @@ module _ {A : Type 0} (c : Setting A) where
     old_subjects_live first second l (inl e) = ap (lives c []) e ∙ old_lives c n.first a possible.first_is first
     old_subjects_live first second l (inr h) = beside n.second b possible.second_is second h
       where
-        beside : (w : Option VersionId) (m : Option (Lived A)) → IsBesideToo c n.first a w m → is_fresh w ≡ false → IsLifeOf l m → lives c [] l ≡ true
+        beside : (w : Option VersionId) (m : Option (Lived A)) → IsBesideIfAny c n.first a w m → is_fresh w ≡ false → IsLifeOf l m → lives c [] l ≡ true
         beside None None is old e = absurd e
         beside None (Some m) is old e = absurd is
         beside (Some w) None is old e = absurd e

@@ -6,7 +6,8 @@ use Rattle.clr_rows.specs.declared.rows.Row.{Row}
 use Rattle.clr_needs.specs.declared.needs.VersionId.{VersionId}
 use Rattle.clr_needs.specs.Independence.{Names}
 use Rattle.clr_needs.specs.Needs.{AreOpposed}
-use Rattle.clr_needs.specs.Settings.{Setting, Lifetime, Always, With, Without, Lived, changer, has, new_row, new_version, old_life, old_version, view_with, version}
+use Rattle.clr_needs.specs.Settings.{Setting, Lifetime, Always, With, Without, Lived, changer, has, new_row, new_version, old_life, old_version, view_with}
+use Rattle.clr_needs.specs.Settings.{version}
 use Rattle.clr_needs.proofs.Merges.{IsChanger, IsMerge, changer_is, merged_row, standing_row, taken_is, unmerged_row}
 
 module _ {A : Type 0} (c : Setting A) where

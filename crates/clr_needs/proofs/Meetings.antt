@@ -5,7 +5,7 @@ use Rattle.clr_rules.specs.Needs.{Holds, IsMet, IsNeed, StandsBeside}
 use Rattle.clr_needs.specs.declared.needs.Need.{Need}
 use Rattle.clr_needs.specs.declared.needs.VersionId.{VersionId}
 use Rattle.clr_needs.specs.Covers.{CoversAlone, CoverTogether, Entry, HasEntry, IsLifeOf, Lasts, WitnessesCover}
-use Rattle.clr_needs.specs.Needs.{IsBesideToo, IsPossible, Serves, ask_of, held_too, need_of}
+use Rattle.clr_needs.specs.Needs.{IsBesideIfAny, IsPossible, Serves, ask_of, held_if_any, need_of}
 use Rattle.clr_needs.specs.Settings.{Setting, Lifetime, Lived, held_row, view_with}
 use Rattle.clr_needs.proofs.Merges.{IsMerge}
 use Rattle.clr_needs.proofs.Lives.{has_version, lives, never_both, one_of_both, living_stands}
@@ -22,20 +22,20 @@ module _ {A : Type 0} (c : Setting A) where
 
   -- a row that stands there serves the need
   abbrev pub IsMetIn : List A → Need → Lived A → Option (Lived A) → Type 0
-  IsMetIn ts n a b = IsMet c.rules (view_with c ts) (ask_of n) (held_row n.first a) (held_too n.second b)
+  IsMetIn ts n a b = IsMet c.rules (view_with c ts) (ask_of n) (held_row n.first a) (held_if_any n.second b)
 
   -- ---- standing needs are the needs of the merged rows
 
   pub is_need : (ts : List A) (n : Need) (a : Lived A) (b : Option (Lived A)) → IsMerge c ts → IsStandingNeed ts n a b
-      → IsNeed c.rules (view_with c ts) (ask_of n) (held_row n.first a) (held_too n.second b)
+      → IsNeed c.rules (view_with c ts) (ask_of n) (held_row n.first a) (held_if_any n.second b)
   is_need ts n a b merge need = record {
     stands = living_stands c ts merge n.first a need.possible.first_is (need.live a.life (inl refl));
     beside = beside n.second b need.possible.second_is (λ l h. need.live l (inr h));
     they_call = need.possible.they_call;
   }
     where
-      beside : (w : Option VersionId) (m : Option (Lived A)) → IsBesideToo c n.first a w m → ((l : Lifetime A) → IsLifeOf l m → lives c ts l ≡ true)
-          → StandsBeside (view_with c ts) (held_row n.first a) (held_too w m)
+      beside : (w : Option VersionId) (m : Option (Lived A)) → IsBesideIfAny c n.first a w m → ((l : Lifetime A) → IsLifeOf l m → lives c ts l ≡ true)
+          → StandsBeside (view_with c ts) (held_row n.first a) (held_if_any w m)
       beside None None is live = tt
       beside None (Some m) is live = absurd is
       beside (Some w) None is live = absurd is

@@ -4,8 +4,8 @@ use Rattle.std.proofs.lemmas.Bool.{or_cases}
 use Rattle.clr_needs.specs.declared.needs.Need.{Need}
 use Rattle.clr_needs.specs.declared.needs.VersionId.{VersionId}
 use Rattle.clr_needs.specs.Covers.{IsBlocker, IsLifeOf}
-use Rattle.clr_needs.specs.Independence.{Involves, Names, NamesToo}
-use Rattle.clr_needs.specs.Needs.{IsBesideToo, IsChanged, IsPossible, IsTouchedBy, is_fresh}
+use Rattle.clr_needs.specs.Independence.{Involves, Names, NamesIfAny}
+use Rattle.clr_needs.specs.Needs.{IsBesideIfAny, IsChanged, IsPossible, IsTouchedBy, is_fresh}
 use Rattle.clr_needs.specs.Settings.{Setting, Lifetime, Always, With, Without, Lived, changer, has, version}
 use Rattle.clr_needs.proofs.Lives.{names_member, new_is, version_by, version_by_changer}
 
@@ -14,7 +14,7 @@ module _ {A : Type 0} (c : Setting A) (n : Need) where
   pub subjects_once : (a x : Lived A) (b y : Option (Lived A)) → IsPossible c n a b → IsPossible c n x y → (x ≡ a) × (y ≡ b)
   subjects_once a x b y p q = (let e : Some x ≡ Some a = sym q.first_is ∙ p.first_is in cc, by n.second b y p.second_is q.second_is)
     where
-      by : (w : Option VersionId) (b y : Option (Lived A)) → IsBesideToo c n.first a w b → IsBesideToo c n.first x w y → y ≡ b
+      by : (w : Option VersionId) (b y : Option (Lived A)) → IsBesideIfAny c n.first a w b → IsBesideIfAny c n.first x w y → y ≡ b
       by None None None h k = refl
       by None None (Some y) h k = absurd k
       by None (Some b) y h k = absurd h
@@ -28,7 +28,7 @@ module _ {A : Type 0} (c : Setting A) (n : Need) where
   each_involved P named a b x possible (inl e) = named n.first a possible.first_is x e
   each_involved P named a b x possible (inr (inl e)) = by n.second b possible.second_is e
     where
-      by : (w : Option VersionId) (m : Option (Lived A)) → IsBesideToo c n.first a w m → NamesToo m x → P x
+      by : (w : Option VersionId) (m : Option (Lived A)) → IsBesideIfAny c n.first a w m → NamesIfAny m x → P x
       by w None is e = absurd e
       by None (Some m) is e = absurd is
       by (Some w) (Some m) is e = named w m is.is x e
@@ -42,7 +42,7 @@ module _ {A : Type 0} (c : Setting A) (n : Need) where
   blocker_involves a b x (inl e) = inl (subst (λ l. Names l x) (sym e) refl)
   blocker_involves a b x (inr (inl e)) = inr (inl (by b e))
     where
-      by : (b : Option (Lived A)) → IsLifeOf (With x) b → NamesToo b x
+      by : (b : Option (Lived A)) → IsLifeOf (With x) b → NamesIfAny b x
       by None e = absurd e
       by (Some m) e = subst (λ l. Names l x) e refl
   blocker_involves a b x (inr (inr (v, l, serve, e))) = inr (inr (v, l, serve, subst (λ k. Names k x) (sym e) refl))
@@ -65,7 +65,7 @@ module _ {A : Type 0} (c : Setting A) (n : Need) where
   touched_involves a b possible (inr (v, l, serve, changed)) = let (x, e) = changed_names l.life changed in (x, inr (inr (v, l, serve, e)))
   touched_involves a b possible (inl fresh) = by (or_cases n.first.fresh (is_fresh n.second) fresh)
     where
-      second : (w : Option VersionId) (m : Option (Lived A)) → IsBesideToo c n.first a w m → is_fresh w ≡ true → (x : A) × NamesToo m x
+      second : (w : Option VersionId) (m : Option (Lived A)) → IsBesideIfAny c n.first a w m → is_fresh w ≡ true → (x : A) × NamesIfAny m x
       second None m is new = cc
       second (Some w) None is new = absurd is
       second (Some w) (Some m) is new = new_names w m is.is new

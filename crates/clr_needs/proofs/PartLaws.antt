@@ -6,9 +6,9 @@ use Rattle.clr_rows.specs.declared.rows.Row.{Row}
 use Rattle.clr_rules.specs.Calls.{calls, serves}
 use Rattle.clr_needs.specs.declared.needs.Need.{Need}
 use Rattle.clr_needs.specs.declared.needs.VersionId.{VersionId}
-use Rattle.clr_needs.specs.Independence.{AreDependent, Involves, NamesToo}
-use Rattle.clr_needs.specs.Needs.{AreOpposed, IsBesideToo, IsPossible, IsTouchedBy, Serves, ask_of, held_too}
-use Rattle.clr_needs.specs.Renamings.{IsSameVersion, IsSameVersionToo}
+use Rattle.clr_needs.specs.Independence.{AreDependent, Involves, NamesIfAny}
+use Rattle.clr_needs.specs.Needs.{AreOpposed, IsBesideIfAny, IsPossible, IsTouchedBy, Serves, ask_of, held_if_any}
+use Rattle.clr_needs.specs.Renamings.{IsSameVersion, IsSameVersionIfAny}
 use Rattle.clr_needs.specs.Settings.{Setting, Lifetime, Always, With, Without, Lived, changer, held_row, new_row, new_version, old_life, old_version, version}
 use Rattle.clr_needs.proofs.Agreement.{Agree, IsOneToOne, involves_up, opposed_to}
 use Rattle.clr_needs.proofs.Lives.{opposed_too, version_by, version_by_changer}
@@ -133,7 +133,7 @@ module _ {A B : Type 0} (c : Setting B) (d : Setting A) (stands : A → B → Ty
         by (version d v) refl (same_version stands (version d v) (Some m) (subst (IsVersionOfPart stands (version d v)) e (part.versions v))
         (λ k same. (let one : m ≡ k = cc in subst (λ j. AreInside stands j.life) one inside)))
       where
-        by : (o : Option (Lived A)) → version d v ≡ o → IsSameVersionToo stands o (Some m) → (l : Lived A) × (version d v ≡ Some l) × IsSameVersion stands l m
+        by : (o : Option (Lived A)) → version d v ≡ o → IsSameVersionIfAny stands o (Some m) → (l : Lived A) × (version d v ≡ Some l) × IsSameVersion stands l m
         by None is h = absurd h
         by (Some l) is h = (l, is, h)
 
@@ -148,7 +148,7 @@ module _ {A B : Type 0} (c : Setting B) (d : Setting A) (stands : A → B → Ty
     AreSameRows (Some l) None = ⊥
     AreSameRows (Some l) (Some m) = l.row ≡ m.row
 
-    same_second : (w : Option VersionId) (q : Option (Lived A)) (b : Option (Lived B)) → AreSameRows q b → held_too w q ≡ held_too w b
+    same_second : (w : Option VersionId) (q : Option (Lived A)) (b : Option (Lived B)) → AreSameRows q b → held_if_any w q ≡ held_if_any w b
     same_second None q b same = refl
     same_second (Some w) None None same = refl
     same_second (Some w) None (Some m) same = absurd same
@@ -161,7 +161,7 @@ module _ {A B : Type 0} (c : Setting B) (d : Setting A) (stands : A → B → Ty
     rows_in (Some l) None h = absurd h
     rows_in (Some l) (Some m) h = h.row
 
-    rows_same : (q : Option (Lived A)) (b : Option (Lived B)) → IsSameVersionToo stands q b → AreSameRows q b
+    rows_same : (q : Option (Lived A)) (b : Option (Lived B)) → IsSameVersionIfAny stands q b → AreSameRows q b
     rows_same q b same = rows_in q b (second_in stands q b same)
 
     -- ---- needs
@@ -185,8 +185,8 @@ module _ {A B : Type 0} (c : Setting B) (d : Setting A) (stands : A → B → Ty
           in_second = others;
         }
       where
-        second : (a : Lived B) → IsVersionIn stands p a → (w : Option VersionId) (q : Option (Lived A)) → IsBesideToo d n.first p w q
-            → (b : Option (Lived B)) × IsBesideToo c n.first a w b × IsSecondIn stands q b
+        second : (a : Lived B) → IsVersionIn stands p a → (w : Option VersionId) (q : Option (Lived A)) → IsBesideIfAny d n.first p w q
+            → (b : Option (Lived B)) × IsBesideIfAny c n.first a w b × IsSecondIn stands q b
         second a same None None is = (None, tt, tt)
         second a same None (Some l) is = absurd is
         second a same (Some w) None is = absurd is
@@ -205,8 +205,8 @@ module _ {A B : Type 0} (c : Setting B) (d : Setting A) (stands : A → B → Ty
     -- what serves in the part serves in the whole, and what serves there with a life that names nobody outside serves in the part
     module _ (n : Need) (p : Lived A) (q : Option (Lived A)) (a : Lived B) (b : Option (Lived B)) (first : p.row ≡ a.row) (second : AreSameRows q b) where
       same_serves : (v : VersionId) (l : Lived A) (m : Lived B) → l.row ≡ m.row
-          → serves d.rules (ask_of n) (held_row n.first p) (held_too n.second q) (held_row v l)
-          ≡ serves c.rules (ask_of n) (held_row n.first a) (held_too n.second b) (held_row v m)
+          → serves d.rules (ask_of n) (held_row n.first p) (held_if_any n.second q) (held_row v l)
+          ≡ serves c.rules (ask_of n) (held_row n.first a) (held_if_any n.second b) (held_row v m)
       same_serves v l m row = λ i. serves (part.rules i) (ask_of n) (same_held n.first p a first i) (same_second n.second q b second i) (same_held v l m row i)
 
       pub serves_up : (v : VersionId) (l : Lived A) → Serves d n p q v l → (m : Lived B) × Serves c n a b v m × IsVersionIn stands l m
@@ -245,9 +245,9 @@ module _ {A B : Type 0} (c : Setting B) (d : Setting A) (stands : A → B → Ty
           };
         }
       where
-        second : (p : Lived A) → IsSameVersion stands p a → (w : Option VersionId) (b : Option (Lived B)) → IsBesideToo c n.first a w b
-            → ((y : B) → NamesToo b y → IsInside stands y)
-            → (q : Option (Lived A)) × IsBesideToo d n.first p w q × IsSameVersionToo stands q b
+        second : (p : Lived A) → IsSameVersion stands p a → (w : Option VersionId) (b : Option (Lived B)) → IsBesideIfAny c n.first a w b
+            → ((y : B) → NamesIfAny b y → IsInside stands y)
+            → (q : Option (Lived A)) × IsBesideIfAny d n.first p w q × IsSameVersionIfAny stands q b
         second p same None None is names = (None, tt, tt)
         second p same None (Some l) is names = absurd is
         second p same (Some w) None is names = absurd is

@@ -1,8 +1,8 @@
 -- Lives where some of the members are left out: what one of them changes lives always there, and what it brings isn't there.
 use Rattle.std.proofs.Common.{◌≡◌, refl, subst, Option, Some, None}
 use Rattle.std.specs.Prelude.{⊤}
-use Rattle.clr_needs.specs.Independence.{Names, NamesToo}
-use Rattle.clr_needs.specs.Renamings.{IsSameLife, IsSameVersion, IsSameVersionToo}
+use Rattle.clr_needs.specs.Independence.{Names, NamesIfAny}
+use Rattle.clr_needs.specs.Renamings.{IsSameLife, IsSameVersion, IsSameVersionIfAny}
 use Rattle.clr_needs.specs.Settings.{Lifetime, Always, With, Without, Lived}
 
 -- members of the part, and those of the whole for whom they stand
@@ -59,7 +59,7 @@ module _ {A B : Type 0} (stands : A → B → Type 0) where
   not_hidden _ h inside = h
 
   pub same_version : (l : Option (Lived A)) (m : Option (Lived B)) → IsVersionOfPart l m → ((k : Lived B) → m ≡ Some k → AreInside k.life)
-      → IsSameVersionToo stands l m
+      → IsSameVersionIfAny stands l m
   same_version None None h inside = tt
   same_version None (Some m) h inside = absurd (not_hidden m.life h (inside m refl))
   same_version (Some l) None h inside = absurd h
@@ -76,7 +76,7 @@ module _ {A B : Type 0} (stands : A → B → Type 0) where
   pub version_in : (l : Lived A) (m : Lived B) → IsSameVersion stands l m → IsVersionIn l m
   version_in l m same = record { row = same.row; life = life_in l.life m.life same.life }
 
-  pub second_in : (b : Option (Lived A)) (q : Option (Lived B)) → IsSameVersionToo stands b q → IsSecondIn b q
+  pub second_in : (b : Option (Lived A)) (q : Option (Lived B)) → IsSameVersionIfAny stands b q → IsSecondIn b q
   second_in None None same = tt
   second_in None (Some m) same = absurd same
   second_in (Some l) None same = absurd same
@@ -91,7 +91,7 @@ module _ {A B : Type 0} (stands : A → B → Type 0) where
   names_up (With k) _ x h e = absurd h
   names_up (Without k) _ x h e = absurd h
 
-  pub second_names_up : (b : Option (Lived A)) (q : Option (Lived B)) (x : A) → IsSecondIn b q → NamesToo b x → (y : B) × stands x y × NamesToo q y
+  pub second_names_up : (b : Option (Lived A)) (q : Option (Lived B)) (x : A) → IsSecondIn b q → NamesIfAny b x → (y : B) × stands x y × NamesIfAny q y
   second_names_up None q x h e = absurd e
   second_names_up (Some l) None x h e = absurd h
   second_names_up (Some l) (Some m) x h e = names_up l.life m.life x h.life e

@@ -5,7 +5,7 @@ use Rattle.clr_rows.specs.Contents.{Changes, Content}
 use Rattle.clr_rules.specs.declared.rules.Rule.{Rule}
 use Rattle.clr_needs.specs.declared.needs.Need.{Need}
 use Rattle.clr_needs.specs.declared.needs.VersionId.{VersionId}
-use Rattle.clr_needs.specs.Blocking.{has_life_too, same_life}
+use Rattle.clr_needs.specs.Blocking.{has_subject_of_life, same_life}
 use Rattle.clr_needs.specs.Covers.{CoversAlone, IsLifeOf, Lasts}
 use Rattle.clr_needs.specs.Members.{setting}
 use Rattle.clr_needs.specs.Needs.{AreServers, IsPossible, Serves}
@@ -34,20 +34,20 @@ module _ (c : Setting ℕ) (n : Need) (servers : List VersionId) (are : AreServe
   -- ---- those that last
 
   told_lasting : (l : Lived ℕ) → lasts c n (Some l) ≡ true → Lasts l.life a b
-  told_lasting l e = by (or_cases (same_life l.life Always) (has_life_too l.life c n) e)
+  told_lasting l e = by (or_cases (same_life l.life Always) (has_subject_of_life l.life c n) e)
     where
       either : (a.life ≡ l.life) ⊎ IsLifeOf l.life b → Lasts l.life a b
       either (inl h) = inr (inl (sym h))
       either (inr h) = inr (inr h)
 
-      by : (same_life l.life Always ≡ true) ⊎ (has_life_too l.life c n ≡ true) → Lasts l.life a b
+      by : (same_life l.life Always ≡ true) ⊎ (has_subject_of_life l.life c n ≡ true) → Lasts l.life a b
       by (inl h) = inl (same_told l.life Always h)
       by (inr h) = either (subject_told c n l.life a b p h)
 
   lasting_told : (l : Lived ℕ) → Lasts l.life a b → lasts c n (Some l) ≡ true
-  lasting_told l (inl h) = or_left (same_life l.life Always) (has_life_too l.life c n) (lives_as Always l h)
-  lasting_told l (inr (inl h)) = or_right (same_life l.life Always) (has_life_too l.life c n) (told_subject c n l.life a b p (inl (sym h)))
-  lasting_told l (inr (inr h)) = or_right (same_life l.life Always) (has_life_too l.life c n) (told_subject c n l.life a b p (inr h))
+  lasting_told l (inl h) = or_left (same_life l.life Always) (has_subject_of_life l.life c n) (lives_as Always l h)
+  lasting_told l (inr (inl h)) = or_right (same_life l.life Always) (has_subject_of_life l.life c n) (told_subject c n l.life a b p (inl (sym h)))
+  lasting_told l (inr (inr h)) = or_right (same_life l.life Always) (has_subject_of_life l.life c n) (told_subject c n l.life a b p (inr h))
 
   covers : (v : VersionId) → IsPassing (lasts_at c n) servers v → CoversAlone c n a b v
   covers v (h, e) = let (l, serve) = listed_serves v h in (l, serve, told_lasting l (sym (ap (lasts c n) serve.is) ∙ e))

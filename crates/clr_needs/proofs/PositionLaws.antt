@@ -1,5 +1,6 @@
 -- The setting by the positions of members says the same as the setting by their names.
-use Rattle.std.proofs.Common.{◌≡◌, ◌∙◌, ℕ, zero, suc, ◌+◌, ◌<◌, ◌≤◌, ◌==◌, Bool, true, false, ◌||◌, cond, List, [], ◌∷◌, inl, inr, refl, sym, ap, subst, arith, Option, Some, None, Contains, slice_get, length, is_some}
+use Rattle.std.proofs.Common.{◌≡◌, ◌∙◌, ℕ, zero, suc, ◌+◌, ◌<◌, ◌≤◌, ◌==◌, Bool, true, false, ◌||◌, cond, List, [], ◌∷◌, inl, inr, refl, sym, ap, subst, arith}
+use Rattle.std.proofs.Common.{Option, Some, None, Contains, slice_get, length, is_some}
 use Rattle.std.specs.List.Sorted.{IsStrictlySortedBy}
 use Rattle.std.specs.Ordering.{nat_cmp}
 use Rattle.std.specs.declared.cmp.Ordering.TheVariants.{Less}
@@ -15,13 +16,14 @@ use Rattle.clr_needs.specs.declared.needs.VersionId.{VersionId}
 use Rattle.clr_needs.specs.Laws.{SayTheSame}
 use Rattle.clr_needs.specs.Picks.{Blocks, IsLesser}
 use Rattle.clr_needs.specs.Positions.{AreInOrder, BlocksInOrder, ComesBefore, StandAt, StandsAt, after_member, by_position}
-use Rattle.clr_needs.specs.Renamings.{IsSameVersionToo}
+use Rattle.clr_needs.specs.Renamings.{IsSameVersionIfAny}
 use Rattle.clr_needs.specs.Settings.{Setting, AreDisjoint, Lived, changer, first_changer, has, version}
 use Rattle.clr_needs.proofs.Agreement.{IsInOneOrder, blocker_at, blocker_to, other_way, turned_order, turned_round}
 use Rattle.clr_needs.proofs.Lives.{names_changer}
 use Rattle.clr_needs.proofs.PartLaws.{IsChangerIn, IsPart, versions_of_part}
 use Rattle.clr_needs.proofs.PartLives.{AreInside, IsInside, same_version}
-use Rattle.clr_needs.proofs.RenamingLaws.{AreAlike, alike_by_part, blocker_of_to, covered_to, dependent_to, picks_to, possible_to, serving_to, touched_need_to, turned_alike, uncovered_to}
+use Rattle.clr_needs.proofs.RenamingLaws.{AreAlike, alike_by_part, blocker_of_to, covered_to, dependent_to, picks_to, possible_to, serving_to, touched_need_to}
+use Rattle.clr_needs.proofs.RenamingLaws.{turned_alike, uncovered_to}
 
 -- numbers -----------------------------------------------------------------------------------------------
 
@@ -154,7 +156,7 @@ module _ {A : Type 0} (c : Setting A) where
       by None same = absurd same
       by (Some n) same = (n, same)
 
-  same_versions : (v : VersionId) → IsSameVersionToo (StandsAt c) (version c v) (version d v)
+  same_versions : (v : VersionId) → IsSameVersionIfAny (StandsAt c) (version c v) (version d v)
   same_versions v = same_version (StandsAt c) (version c v) (version d v) (by_positions.versions v) (all_stand v)
 
   there : AreAlike c d (StandsAt c)

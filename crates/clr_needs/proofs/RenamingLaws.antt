@@ -8,7 +8,8 @@ use Rattle.clr_needs.specs.Independence.{AreDependent, Involves}
 use Rattle.clr_needs.specs.Needs.{IsPossible, IsPossibleNeed, IsServing, IsTouched}
 use Rattle.clr_needs.specs.Picks.{PicksBy}
 use Rattle.clr_needs.specs.Settings.{Setting, Lived, version}
-use Rattle.clr_needs.proofs.Agreement.{Agree, IsInOneOrder, IsOneToOne, alone_to, blocker_at, entry_to, involves_to, other_way, pick_to, together_to, touched_to, turned_one, turned_order, turned_round}
+use Rattle.clr_needs.proofs.Agreement.{Agree, IsInOneOrder, IsOneToOne, alone_to, blocker_at, entry_to, involves_to, other_way, pick_to, together_to}
+use Rattle.clr_needs.proofs.Agreement.{touched_to, turned_one, turned_order, turned_round}
 use Rattle.clr_needs.proofs.NeedSubjects.{each_involved}
 use Rattle.clr_needs.proofs.PartLaws.{AllInside, IsPart, agreeing, matched, possible_up}
 use Rattle.clr_needs.proofs.PartLives.{AreInside, IsInside}

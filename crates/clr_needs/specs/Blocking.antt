@@ -23,8 +23,8 @@ has_life_by life c v None = has_life life (version c v)
 has_life_by life c v (Some w) = has_life life (version c v) || has_life life (version c w)
 
 -- a subject of a need has the life
-abbrev pub has_life_too : Lifetime ℕ → Setting ℕ → Need → Bool
-has_life_too life c n = has_life_by life c n.first n.second
+abbrev pub has_subject_of_life : Lifetime ℕ → Setting ℕ → Need → Bool
+has_subject_of_life life c n = has_life_by life c n.first n.second
 
 -- the member breaks the possible need
 abbrev pub IsBlockerOf : {A : Type 0} → Setting A → Need → A → Type 0

@@ -11,13 +11,13 @@ Names Always x = ⊥
 Names (With n) x = n ≡ x
 Names (Without n) x = n ≡ x
 
-abbrev pub NamesToo : {A : Type 0} → Option (Lived A) → A → Type 0
-NamesToo None x = ⊥
-NamesToo (Some b) x = Names b.life x
+abbrev pub NamesIfAny : {A : Type 0} → Option (Lived A) → A → Type 0
+NamesIfAny None x = ⊥
+NamesIfAny (Some b) x = Names b.life x
 
 -- the life of a subject, or of a version that serves, names the member
 abbrev pub Involves : {A : Type 0} → Setting A → Need → Lived A → Option (Lived A) → A → Type 0
-Involves {A} c n a b x = Names a.life x ⊎ (NamesToo b x ⊎ ((v : VersionId) × (l : Lived A) × Serves c n a b v l × Names l.life x))
+Involves {A} c n a b x = Names a.life x ⊎ (NamesIfAny b x ⊎ ((v : VersionId) × (l : Lived A) × Serves c n a b v l × Names l.life x))
 
 -- some possible need involves both members
 abbrev pub AreDependent : {A : Type 0} → Setting A → A → A → Type 0

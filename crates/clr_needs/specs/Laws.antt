@@ -14,7 +14,7 @@ use Rattle.clr_needs.specs.Members.{setting}
 use Rattle.clr_needs.specs.Needs.{IsPossibleNeed, IsServing, IsTouched}
 use Rattle.clr_needs.specs.Picks.{Blocks, Picks, PicksBy}
 use Rattle.clr_needs.specs.Positions.{BlocksInOrder, ComesBefore, StandAt, StandsAt}
-use Rattle.clr_needs.specs.Renamings.{IsSameVersionToo}
+use Rattle.clr_needs.specs.Renamings.{IsSameVersionIfAny}
 use Rattle.clr_needs.specs.Settings.{Setting, Lived, AreDisjoint, AreAmong, view_with, version}
 
 -- where each touched need is covered and every rule holds in the root, every rule holds in the root with the changes of any of the members over it
@@ -51,7 +51,7 @@ UncoveredByName = (c : Setting (List ℕ)) → UncoveredBreaks c
 -- the members of one setting say the same as their first positions in another: there are the same versions and needs; the same entries cover, the
 -- same members break and are involved, and the same witnesses are picked
 pub record SayTheSame {A : Type 0} (c : Setting A) (d : Setting ℕ) : Type 0 where
-  pub versions : (v : VersionId) → IsSameVersionToo (StandsAt c) (version c v) (version d v)
+  pub versions : (v : VersionId) → IsSameVersionIfAny (StandsAt c) (version c v) (version d v)
   pub possible : (n : Need) → IsPossibleNeed c n ↔ IsPossibleNeed d n
   pub servers : (n : Need) (v : VersionId) → IsServing c n v ↔ IsServing d n v
   pub touched : (n : Need) → IsTouched c n ↔ IsTouched d n

@@ -39,22 +39,22 @@ pub record IsBeside {A : Type 0} (c : Setting A) (first : VersionId) (a : Lived 
   pub not_opposed : ¬ (AreOpposed a.life b.life)
 
 -- the second subject, where the need has one
-abbrev pub IsBesideToo : {A : Type 0} → Setting A → VersionId → Lived A → Option VersionId → Option (Lived A) → Type 0
-IsBesideToo c first a None None = ⊤
-IsBesideToo c first a None (Some b) = ⊥
-IsBesideToo c first a (Some v) None = ⊥
-IsBesideToo c first a (Some v) (Some b) = IsBeside c first a v b
+abbrev pub IsBesideIfAny : {A : Type 0} → Setting A → VersionId → Lived A → Option VersionId → Option (Lived A) → Type 0
+IsBesideIfAny c first a None None = ⊤
+IsBesideIfAny c first a None (Some b) = ⊥
+IsBesideIfAny c first a (Some v) None = ⊥
+IsBesideIfAny c first a (Some v) (Some b) = IsBeside c first a v b
 
-abbrev pub held_too : {A : Type 0} → Option VersionId → Option (Lived A) → Option Held
-held_too None _ = None
-held_too (Some v) None = None
-held_too (Some v) (Some b) = Some (held_row v b)
+abbrev pub held_if_any : {A : Type 0} → Option VersionId → Option (Lived A) → Option Held
+held_if_any None _ = None
+held_if_any (Some v) None = None
+held_if_any (Some v) (Some b) = Some (held_row v b)
 
 -- a possible need, whose subjects have these rows and lives
 pub record IsPossible {A : Type 0} (c : Setting A) (n : Need) (a : Lived A) (b : Option (Lived A)) : Type 0 where
   pub first_is : version c n.first ≡ Some a
-  pub second_is : IsBesideToo c n.first a n.second b
-  pub they_call : calls c.rules (ask_of n) (held_row n.first a) (held_too n.second b) ≡ true
+  pub second_is : IsBesideIfAny c n.first a n.second b
+  pub they_call : calls c.rules (ask_of n) (held_row n.first a) (held_if_any n.second b) ≡ true
 
 abbrev pub IsPossibleNeed : {A : Type 0} → Setting A → Need → Type 0
 IsPossibleNeed {A} c n = (a : Lived A) × (b : Option (Lived A)) × IsPossible c n a b
@@ -62,7 +62,7 @@ IsPossibleNeed {A} c n = (a : Lived A) × (b : Option (Lived A)) × IsPossible c
 -- a version serves the need
 pub record Serves {A : Type 0} (c : Setting A) (n : Need) (a : Lived A) (b : Option (Lived A)) (v : VersionId) (l : Lived A) : Type 0 where
   pub is : version c v ≡ Some l
-  pub it_serves : serves c.rules (ask_of n) (held_row n.first a) (held_too n.second b) (held_row v l) ≡ true
+  pub it_serves : serves c.rules (ask_of n) (held_row n.first a) (held_if_any n.second b) (held_row v l) ≡ true
 
 -- touched needs ------------------------------------------------------------------------------
 

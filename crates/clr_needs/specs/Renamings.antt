@@ -15,8 +15,8 @@ pub record IsSameVersion {A B : Type 0} (stands : A → B → Type 0) (l : Lived
   pub life : IsSameLife stands l.life m.life
 
 -- two versions with the same row and the same life, or neither is there
-abbrev pub IsSameVersionToo : {A B : Type 0} → (A → B → Type 0) → Option (Lived A) → Option (Lived B) → Type 0
-IsSameVersionToo stands None None = ⊤
-IsSameVersionToo stands None (Some m) = ⊥
-IsSameVersionToo stands (Some l) None = ⊥
-IsSameVersionToo stands (Some l) (Some m) = IsSameVersion stands l m
+abbrev pub IsSameVersionIfAny : {A B : Type 0} → (A → B → Type 0) → Option (Lived A) → Option (Lived B) → Type 0
+IsSameVersionIfAny stands None None = ⊤
+IsSameVersionIfAny stands None (Some m) = ⊥
+IsSameVersionIfAny stands (Some l) None = ⊥
+IsSameVersionIfAny stands (Some l) (Some m) = IsSameVersion stands l m

@@ -2,7 +2,7 @@
 use Rattle.std.specs.Prelude.{◌≡◌, ℕ, ◌<◌, Bool, true, false, ◌||◌, List, Option, Some, None, Contains}
 use Rattle.clr_needs.specs.declared.needs.Need.{Need}
 use Rattle.clr_needs.specs.declared.needs.VersionId.{VersionId}
-use Rattle.clr_needs.specs.Blocking.{has_life, has_life_too, same_life}
+use Rattle.clr_needs.specs.Blocking.{has_life, has_subject_of_life, same_life}
 use Rattle.clr_needs.specs.Picks.{IsLeastVersion}
 use Rattle.clr_needs.specs.Settings.{Setting, Lifetime, Always, With, Without, Lived, version}
 
@@ -22,7 +22,7 @@ has_life_at life c v = has_life life (version c v)
 -- the version lives always, or as long as a subject of the need
 abbrev pub lasts : Setting ℕ → Need → Option (Lived ℕ) → Bool
 lasts c n None = false
-lasts c n (Some l) = same_life l.life Always || has_life_too l.life c n
+lasts c n (Some l) = same_life l.life Always || has_subject_of_life l.life c n
 
 abbrev pub lasts_at : Setting ℕ → Need → VersionId → Bool
 lasts_at c n v = lasts c n (version c v)

@@ -1,6 +1,7 @@
 //! Laws of covered and uncovered needs, each proved by a function that does nothing.
 
-ghost use Rattle.clr_needs.specs.Laws.{CoveredByName, CoveredByPosition, UncoveredByName, UncoveredByPosition, FirstBrokenAfter, FirstBrokenIsListed, SayTheSame};
+ghost use Rattle.clr_needs.specs.Laws.{CoveredByName, CoveredByPosition, UncoveredByName, UncoveredByPosition, FirstBrokenAfter, FirstBrokenIsListed};
+ghost use Rattle.clr_needs.specs.Laws.{SayTheSame};
 ghost use Rattle.clr_needs.specs.Positions.{by_position};
 ghost use Rattle.clr_needs.specs.Settings.{Setting};
 

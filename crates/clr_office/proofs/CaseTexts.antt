@@ -25,12 +25,12 @@ use Rattle.clr_reports.specs.declared.outputs.Output.{Output}
 use Rattle.clr_office.specs.Clearances.{AreMerged, IsMergeOutcome, IsPrintOfCase, IsVerdictOutcome, fault_print, is_clear, is_without_memory}
 use Rattle.clr_office.specs.Clearances.{merge_outcome, merge_text, of_merges, of_verdict as of_verdict_alone, verdict_outcome}
 use Rattle.clr_reports.specs.Outcomes.{Outcome, is_refused, outcome, outcome_of}
-use Rattle.clr_reports.specs.Printing.{IsMade, IsTextFault, Printed, print_of}
+use Rattle.clr_reports.specs.Printing.{IsOutput, IsTextFault, Printed, print_of}
 use Rattle.clr_reports.proofs.Outcomes.{parts_are}
 use Rattle.clr_office.proofs.Prints.{weaker_made}
 
 -- want of memory may come in place of what is made for any print
-lost_made : (P : Printed → Type 0) (answer : Result Output RunFault) → IsMade (λ print. print ≡ Err run_fault.OutOfMemory) answer → IsMade P answer
+lost_made : (P : Printed → Type 0) (answer : Result Output RunFault) → IsOutput (λ print. print ≡ Err run_fault.OutOfMemory) answer → IsOutput P answer
 lost_made P (Ok output) h = absurd cc
 lost_made P (Err (run_fault.BadOffice e)) h = absurd cc
 lost_made P (Err (run_fault.BadScript number e)) h = absurd cc
@@ -43,13 +43,13 @@ lost_made P (Err run_fault.NoSeparator) h = h
 
 module _ (IsRight : Office → Certificate → Outcome → Type 0) (given : Case) where
   -- the texts don't give both
-  why_made : (why : CaseFault) → given ≡ Err why → (answer : Result Output RunFault) → IsMade (λ print. print ≡ fault_print why) answer
-      → IsMade (IsPrintOfCase IsRight given) answer
+  why_made : (why : CaseFault) → given ≡ Err why → (answer : Result Output RunFault) → IsOutput (λ print. print ≡ fault_print why) answer
+      → IsOutput (IsPrintOfCase IsRight given) answer
   why_made why is answer =
       weaker_made (λ print. print ≡ fault_print why) (IsPrintOfCase IsRight given) (λ print h. subst (λ g. IsPrintOfCase IsRight g print) (sym is) h) answer
 
-  pub fault_made : (why : CaseFault) → IsCaseFault given why → (answer : Result Output RunFault) → IsMade (λ print. print ≡ fault_print why) answer
-      → IsMade (IsPrintOfCase IsRight given) answer
+  pub fault_made : (why : CaseFault) → IsCaseFault given why → (answer : Result Output RunFault) → IsOutput (λ print. print ≡ fault_print why) answer
+      → IsOutput (IsPrintOfCase IsRight given) answer
   fault_made (no_case.BadOffice e) is = why_made (no_case.BadOffice e) is
   fault_made (no_case.Unheld o position need) is = why_made (no_case.Unheld o position need) is
   fault_made (no_case.BadCertificate number e) is = why_made (no_case.BadCertificate number e) is
@@ -57,7 +57,7 @@ module _ (IsRight : Office → Certificate → Outcome → Type 0) (given : Case
 
   -- they give both
   pub case_made : (o left : Office) (c : Certificate) (output : Output) → given ≡ Ok (o, c) → IsRight o c (outcome_of output left)
-      → IsMade (IsPrintOfCase IsRight given) (Ok output)
+      → IsOutput (IsPrintOfCase IsRight given) (Ok output)
   case_made o left c output is h =
       subst (λ g. IsPrintOfCase IsRight g (print_of output.lines.items output.refused output.lost)) (sym is) (outcome_of output left, h, refl)
 

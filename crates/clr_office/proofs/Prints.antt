@@ -6,7 +6,7 @@ use Rattle.clr_rule_text.specs.declared.faults.TextFault.{TextFault}
 use Rattle.clr_reports.specs.declared.faults.RunFault.{RunFault}
 use Rattle.clr_reports.specs.declared.faults.RunFault.TheVariants as run_fault
 use Rattle.clr_reports.specs.declared.outputs.Output.{Output}
-use Rattle.clr_reports.specs.Printing.{IsMade, IsPrintIn, IsPrintWhereHeld, IsTextFault, Printed}
+use Rattle.clr_reports.specs.Printing.{IsOutput, IsPrintIn, IsPrintWhereHeld, IsTextFault, Printed}
 
 module _ (P Q : Printed → Type 0) (leads : (print : Printed) → P print → Q print) where
   weaker_fault : (e : RunFault) → IsTextFault P e → IsTextFault Q e
@@ -20,7 +20,7 @@ module _ (P Q : Printed → Type 0) (leads : (print : Printed) → P print → Q
   weaker_fault run_fault.NoSeparator h = h
 
   -- what is made for one print is made for another to which it leads
-  pub weaker_made : (answer : Result Output RunFault) → IsMade P answer → IsMade Q answer
+  pub weaker_made : (answer : Result Output RunFault) → IsOutput P answer → IsOutput Q answer
   weaker_made (Ok output) h = leads _ h
   weaker_made (Err e) h = weaker_fault e h
 
@@ -29,5 +29,5 @@ module _ (P : Office → Printed → Type 0) (meant : Result Office TextFault) (
   opened print h = subst (λ m. IsPrintIn P m print) (sym is) (subst (λ first. IsPrintWhereHeld P o first print) (sym held) h)
 
   -- an office in which the rules hold
-  pub held_made : (answer : Result Output RunFault) → IsMade (P o) answer → IsMade (IsPrintIn P meant) answer
+  pub held_made : (answer : Result Output RunFault) → IsOutput (P o) answer → IsOutput (IsPrintIn P meant) answer
   held_made answer = weaker_made (P o) (IsPrintIn P meant) opened answer

@@ -11,7 +11,7 @@ use Rattle.clr_reports.specs.declared.outputs.Output.{Output}
 use Rattle.clr_office.specs.Outcomes.{nothing, followed_by, IsOutcome, IsScriptOutcome}
 use Rattle.clr_reports.specs.Outcomes.{Outcome, outcome, outcome_of}
 use Rattle.clr_office.specs.Scripts.{ArePrinted}
-use Rattle.clr_reports.specs.Printing.{IsMade, print_of}
+use Rattle.clr_reports.specs.Printing.{IsOutput, print_of}
 
 -- whatever the rest prints makes with this the whole
 abbrev pub Leads : Office → List Step → Outcome → List Step → Type 0
@@ -29,7 +29,8 @@ goes_on start before after steps i s lines line refused also lost now_lost lt is
     let first = outcome line also now_lost after in
     let next : s ∷ drop (i + 1) steps ≡ drop i steps = rw (add-one i) (sym (drop-cons steps i s lt ∙ ap (λ x. x ∷ drop (suc i) steps) (sym is))) in
     let both : IsScriptOutcome before (s ∷ drop (i + 1) steps) (followed_by first later) = (first, later, now, rest, refl) in
-    let regrouped : followed_by (outcome lines refused lost before) (followed_by first later) ≡ followed_by (outcome (lines ++ line) (refused || also) (lost || now_lost) after) later =
+    let regrouped : followed_by (outcome lines refused lost before) (followed_by first later) ≡ followed_by
+    (outcome (lines ++ line) (refused || also) (lost || now_lost) after) later =
     rw (append_assoc, sym (or_assoc refused also later.refused), sym (or_assoc lost now_lost later.lost)) refl in
     subst (IsScriptOutcome start steps) regrouped (so_far (followed_by first later) (subst (λ xs. IsScriptOutcome before xs (followed_by first later)) next
     both))
@@ -39,13 +40,14 @@ pub ends : (start o : Office) (steps : List Step) (i : ℕ) (lines : List ℕ) (
     → Leads start steps (outcome lines refused lost o) (drop i steps)
     → IsScriptOutcome start steps (outcome lines refused lost o)
 ends start o steps i lines refused lost le so_far =
-    let none : followed_by (outcome lines refused lost o) (nothing o) ≡ outcome lines refused lost o = rw (append-nil lines, or-false refused, or-false lost) refl in
+    let none : followed_by (outcome lines refused lost o) (nothing o) ≡ outcome lines refused lost o =
+    rw (append-nil lines, or-false refused, or-false lost) refl in
     subst (IsScriptOutcome start steps) none (so_far (nothing o) (subst (λ xs. IsScriptOutcome o xs (nothing o)) (sym (drop_all i steps le)) refl))
 
 -- texts --------------------------------------------------------------------------------------
 
 -- the output of the script of a text
 pub script_made : (o after : Office) (read : Result (List Step) (ℕ × RecordFault)) (steps : List Step) (output : Output) → read ≡ Ok steps
-    → IsScriptOutcome o steps (outcome_of output after) → IsMade (ArePrinted o read) (Ok output)
+    → IsScriptOutcome o steps (outcome_of output after) → IsOutput (ArePrinted o read) (Ok output)
 script_made o after read steps output is h =
     subst (λ m. ArePrinted o m (print_of output.lines.items output.refused output.lost)) (sym is) (outcome_of output after, h, refl)

@@ -58,6 +58,6 @@ IsNoAnswer IsPrint failed run_fault.TooLong = IsPrint (Err run_fault.TooLong)
 IsNoAnswer IsPrint failed e = IsTextFault IsPrint e
 
 -- the answer to what is asked: its lines went out, or it has this fault
-abbrev pub IsAnswer : (Printed → Type 0) → Option (List ℕ) → Option (List ℕ) → Bool → Result ℕ RunFault → Type 0
-IsAnswer IsPrint held holds failed (Ok status) = (failed ≡ false) × ((lines : List ℕ) × IsPrint (Ok (lines, status)) × Appends held holds lines)
-IsAnswer IsPrint held holds failed (Err e) = IsNoAnswer IsPrint failed e
+abbrev pub IsPrintedAnswer : (Printed → Type 0) → Option (List ℕ) → Option (List ℕ) → Bool → Result ℕ RunFault → Type 0
+IsPrintedAnswer IsPrint held holds failed (Ok status) = (failed ≡ false) × ((lines : List ℕ) × IsPrint (Ok (lines, status)) × Appends held holds lines)
+IsPrintedAnswer IsPrint held holds failed (Err e) = IsNoAnswer IsPrint failed e

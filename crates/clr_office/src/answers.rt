@@ -4,8 +4,8 @@ ghost use Rattle.std.specs.Prelude.{◌≡◌, ◌≢◌, false, IfOk, IfErr};
 ghost use Rattle.clr_sites.specs.SiteNames.{site};
 ghost use Rattle.clr_command_line.specs.declared.asks.Ask.TheVariants as ask;
 ghost use Rattle.clr_drafts.specs.Drafts.{draft_in};
-ghost use Rattle.clr_office.specs.Answers.{IsAnswer, IsAnswerTo, IsAnswerWithin, IsPlanPrint, audit_of, audit_print};
-ghost use Rattle.clr_reports.specs.Printing.{IsMade, IsPrintIn, print_of};
+ghost use Rattle.clr_office.specs.Answers.{IsPrintedAnswer, IsAnswerTo, IsAnswerWithin, IsPlanPrint, audit_of, audit_print};
+ghost use Rattle.clr_reports.specs.Printing.{IsOutput, IsPrintIn, print_of};
 ghost use Rattle.clr_reports.specs.declared.faults.RunFault.TheVariants as run_fault;
 
 use crate::certificates::{check_output, fault_output};
@@ -37,7 +37,7 @@ fn audit_draft(alloc: Global, draft: &Draft) -> Result<Output, AllocError>
 /// Returns the lines of an audit of LIVE in an office text.
 #[tactic(auto, unfolding(crate::specs::Answers::audit_of))]
 fn answer_audit(alloc: Global, office: &[u8]) -> Result<Output, RunFault>
-    ensures { IsMade (λ print. print ≡ audit_of (draft_in office.now)) result }
+    ensures { IsOutput (λ print. print ≡ audit_of (draft_in office.now)) result }
 {
     let draft = match draft_of(alloc, office) {
         Ok(draft) => draft,
@@ -48,7 +48,7 @@ fn answer_audit(alloc: Global, office: &[u8]) -> Result<Output, RunFault>
 
 /// Returns what the script of a text prints over the office of another.
 pub fn answer_run(alloc: Global, office: &[u8], script: &[u8]) -> Result<Output, RunFault>
-    ensures { IsMade (IsAnswerWithin ask.Run office.now script.now) result }
+    ensures { IsOutput (IsAnswerWithin ask.Run office.now script.now) result }
 {
     match open_office(alloc, office) {
         Ok(mut office) => run_text(alloc, &mut office, script),
@@ -63,7 +63,7 @@ fn answer_plan(
     root: &str,
     names: &[Words],
 ) -> Result<Output, RunFault>
-    ensures { IsMade (IsPrintIn (IsPlanPrint (site root.now names.now)) (draft_in office.now)) result }
+    ensures { IsOutput (IsPrintIn (IsPlanPrint (site root.now names.now)) (draft_in office.now)) result }
 {
     match open_office(alloc, office) {
         Ok(office) => Ok(plan_members(alloc, &office, root, names)?),
@@ -78,7 +78,7 @@ fn answer_merge(
     certificate: &[u8],
     names: &[Words],
 ) -> Result<Output, RunFault>
-    ensures { IsMade (IsAnswerWithin (ask.Merge names.now) office.now certificate.now) result }
+    ensures { IsOutput (IsAnswerWithin (ask.Merge names.now) office.now certificate.now) result }
 {
     match read_case(alloc, office, certificate) {
         Ok((mut office, certificate)) => {
@@ -90,7 +90,7 @@ fn answer_merge(
 
 /// Returns what is printed for what is asked of two texts.
 fn answer_texts(alloc: Global, ask: &Ask, office: &[u8], second: &[u8]) -> Result<Output, RunFault>
-    ensures { IsMade (IsAnswerWithin ask.now office.now second.now) result }
+    ensures { IsOutput (IsAnswerWithin ask.now office.now second.now) result }
 {
     match ask {
         Ask::Audit => answer_audit(alloc, office),
@@ -123,7 +123,7 @@ pub fn answer<W: Sink>(
     writer: &mut W,
 ) -> Result<u8, RunFault>
     requires { W.failed writer.old ≡ false }
-    ensures answers { IsAnswer (IsAnswerTo ask.now office.now second.now) (W.contents writer.old) (W.contents writer.new) (W.failed writer.new) result }
+    ensures answers { IsPrintedAnswer (IsAnswerTo ask.now office.now second.now) (W.contents writer.old) (W.contents writer.new) (W.failed writer.new) result }
     ensures keeps { IfErr result (λ e. e ≢ run_fault.WriteFailed → writer.new ≡ writer.old) }
 {
     if office.len() > MOST_INPUT_BYTES || second.len() > MOST_INPUT_BYTES {

@@ -3,7 +3,7 @@ ghost use Rattle.std.specs.Prelude.{◌≡◌, not, IfOk};
 ghost use Rattle.clr_check_texts.specs.Cases.{case_of};
 ghost use Rattle.clr_verdict_lines.specs.Verdicts.{verdict_text};
 ghost use Rattle.clr_office.specs.Clearances.{IsCheckPrint, fault_print, is_clear as is_clear_verdict, is_without_memory as is_lost_verdict};
-ghost use Rattle.clr_reports.specs.Printing.{IsMade};
+ghost use Rattle.clr_reports.specs.Printing.{IsOutput};
 
 use clr_cert::Certificate;
 use clr_check::Verdict;
@@ -55,7 +55,7 @@ pub fn verdict_output(
 /// says which rule doesn't hold. Otherwise it fails, with `BadOffice`, `BadCertificate` or
 /// `OutOfMemory`.
 pub fn fault_output(alloc: Global, fault: CaseFault) -> Result<Output, RunFault>
-    ensures { IsMade (λ print. print ≡ fault_print fault) result }
+    ensures { IsOutput (λ print. print ≡ fault_print fault) result }
 {
     match fault {
         CaseFault::BadOffice(fault) => Err(RunFault::BadOffice(fault)),
@@ -72,7 +72,7 @@ pub fn fault_output(alloc: Global, fault: CaseFault) -> Result<Output, RunFault>
 /// Returns the line of the verdict on a certificate in an office, both given as texts, as
 /// `check_texts` says it. Where the texts don't give both, the answer is that of `fault_output`.
 pub fn check_output(alloc: Global, office: &[u8], certificate: &[u8]) -> Result<Output, RunFault>
-    ensures { IsMade (IsCheckPrint (case_of office.now certificate.now)) result }
+    ensures { IsOutput (IsCheckPrint (case_of office.now certificate.now)) result }
 {
     match judge_texts(alloc, office, certificate) {
         Ok(check) => Ok(verdict_output(

@@ -4,7 +4,7 @@ ghost use Rattle.clr_scripts.specs.Scripts.{script_in_text};
 ghost use Rattle.clr_office.specs.Outcomes.{IsCommandOutcome, IsOutcome, IsScriptOutcome, first_name as first_of_names};
 ghost use Rattle.clr_reports.specs.Outcomes.{outcome_of};
 ghost use Rattle.clr_office.specs.Scripts.{IsScriptFault, IsScriptPrint};
-ghost use Rattle.clr_reports.specs.Printing.{IsMade};
+ghost use Rattle.clr_reports.specs.Printing.{IsOutput};
 
 use crate::plans::plan_members;
 use clr_engine::Office;
@@ -98,7 +98,7 @@ fn steps_of(alloc: Global, schema: &Schema, script: &[u8]) -> Result<Vec<Step>, 
 /// where it is none, and with `OutOfMemory` where no memory is found for it, for a line, or for what a
 /// report other than a plan shows.
 pub fn run_text(alloc: Global, office: &mut Office, script: &[u8]) -> Result<Output, RunFault>
-    ensures { IsMade (IsScriptPrint script.now office.old) result }
+    ensures { IsOutput (IsScriptPrint script.now office.old) result }
 {
     let steps = match steps_of(alloc, office.schema(), script) {
         Ok(steps) => steps,

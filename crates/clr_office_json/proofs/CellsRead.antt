@@ -19,17 +19,20 @@ use Rattle.clr_rows.specs.Contents.{Content}
 use Rattle.clr_rows.specs.Numbers.{is_i64}
 use Rattle.clr_rows.specs.Parts.{vertices_of}
 use Rattle.clr_rows.specs.Ranges.{is_place_within}
-use Rattle.clr_rows.specs.Schemas.{FitsSchema, is_number, has_coordinates, is_coordinate, is_of_form, is_place, row_fault, schema_fault, table_named, name_of_table}
+use Rattle.clr_rows.specs.Schemas.{FitsSchema, is_number, has_coordinates, is_coordinate, is_of_form, is_place, row_fault, schema_fault, table_named}
+use Rattle.clr_rows.specs.Schemas.{name_of_table}
 use Rattle.clr_rows.proofs.SchemaLemmas.{cell_parts, fits_table, table_of_name}
 use Rattle.clr_differences.specs.Differences.{Differences}
 use Rattle.clr_office_text.specs.declared.cells.NamedRow.{NamedRow}
 use Rattle.clr_office_text.specs.declared.named_cells.NamedCell.{NamedCell}
-use Rattle.clr_office_text.specs.Cells.{cell_of, has_paths, is_path_form, named_row_of, place_of, places_of, row_of, shape_of, shape_with, values_of, with_row, with_rows}
+use Rattle.clr_office_text.specs.Cells.{cell_of, has_paths, is_path_form, named_row_of, place_of, places_of, row_of, shape_of, shape_with, values_of, with_row}
+use Rattle.clr_office_text.specs.Cells.{with_rows}
 use Rattle.clr_rule_text.specs.Values.{value_of}
 use Rattle.clr_rule_text.specs.Fields.{each}
 use Rattle.clr_office_text.specs.Fits.{FitsDifferences}
 use Rattle.clr_office_text.specs.Patches.{named_cell_of, put_fault, with_cell, with_cells}
-use Rattle.clr_office_json.specs.CellData.{coordinates_of, named_cell, named_cell_data, named_cells, named_row, named_row_data, named_rows, row_data, row_or_gone_data}
+use Rattle.clr_office_json.specs.CellData.{coordinates_of, named_cell, named_cell_data, named_cells, named_row, named_row_data, named_rows, row_data}
+use Rattle.clr_office_json.specs.CellData.{row_or_gone_data}
 use Rattle.clr_office_json.specs.Values.{number_data, value_data}
 use Rattle.clr_office_json.proofs.ListsRead.{all_mapped, all_pass, each_read, key_within, number_read, value_read}
 use Rattle.clr_rows.proofs.Tests.{first, second}

@@ -1,5 +1,6 @@
 -- Rules that are written are read back, and stand over the schema again.
-use Rattle.std.proofs.Common.{◌≡◌, ℕ, zero, suc, ◌+◌, ◌<◌, ◌^◌, ℤ, pos, negsuc, Bool, true, false, List, [], ◌∷◌, length, map, Option, Some, None, Ok, refl, ap, ◌∙◌, arith}
+use Rattle.std.proofs.Common.{◌≡◌, ℕ, zero, suc, ◌+◌, ◌<◌, ◌^◌, ℤ, pos, negsuc, Bool, true, false, List, [], ◌∷◌, length, map, Option, Some, None, Ok, refl, ap}
+use Rattle.std.proofs.Common.{◌∙◌, arith}
 use Rattle.std.specs.Prelude.{slice_get, option_map, if◌then◌else◌}
 use Rattle.std.specs.List.{AllByRecursion}
 use Rattle.std.proofs.lemmas.Bool.{and_parts, not-true, leb-true, lt-ltb, ltb-true, false≢true}
@@ -21,17 +22,21 @@ use Rattle.clr_rules.specs.declared.rules.Rule.TheVariants as rule
 use Rattle.clr_rules.specs.declared.rules.Tip.{Tip}
 use Rattle.clr_rules.specs.declared.rules.Tip.TheVariants as tip
 use Rattle.clr_rules.specs.declared.sides.Side.{Side}
-use Rattle.clr_rules.specs.Books.{FitsBook, are_columns_of, book_fault, fault_or_later, first_fault, has_columns, has_distance, has_filter, has_filters, has_forms, has_same_kinds, has_table, has_tables}
+use Rattle.clr_rules.specs.Books.{FitsBook, are_columns_of, book_fault, fault_or_later, first_fault, has_columns, has_distance, has_filter, has_filters}
+use Rattle.clr_rules.specs.Books.{has_forms, has_same_kinds, has_table, has_tables}
 use Rattle.clr_rules.specs.Books.{is_column_of, is_distance, is_literal_of, is_some_kind, kind_in, kind_of, rule_fault}
 use Rattle.clr_rule_text.specs.declared.faults.TextFault.TheVariants.{BadRule}
 use Rattle.clr_rule_text.specs.declared.named_rules.NamedRule.{NamedRule}
 use Rattle.clr_rule_text.specs.declared.named_rules.NamedRule.TheVariants.{Unique, Partner, EndNode, Crossing, Near}
 use Rattle.clr_rule_text.specs.declared.named_sides.NamedSide.{NamedSide}
 use Rattle.clr_rule_text.specs.Fields.{each, each_in, or_fault, words_of}
-use Rattle.clr_rule_text.specs.Rules.{column_number, column_over, columns_over, crossing_of, end_node_of, filter_of, literal_of, literal_over, literal_pair, named_rule_of, names_at, near_of, partner_of}
-use Rattle.clr_rule_text.specs.Rules.{crossing_over, end_node_over, near_over, partner_over, rule_over, side_at, side_of, side_over, tip_named, tip_of, unique_of, unique_over}
+use Rattle.clr_rule_text.specs.Rules.{column_number, column_over, columns_over, crossing_of, end_node_of, filter_of, literal_of, literal_over, literal_pair}
+use Rattle.clr_rule_text.specs.Rules.{named_rule_of, names_at, near_of, partner_of}
+use Rattle.clr_rule_text.specs.Rules.{crossing_over, end_node_over, near_over, partner_over, rule_over, side_at, side_of, side_over, tip_named, tip_of}
+use Rattle.clr_rule_text.specs.Rules.{unique_of, unique_over}
 use Rattle.clr_rules.proofs.FittingLemmas.{literal_within, no_fault}
-use Rattle.clr_office_json.specs.RuleData.{literal_data, name_of_column, name_of_number, named_columns, named_literal, named_rule, named_rule_data, named_side, side_data, tip_word}
+use Rattle.clr_office_json.specs.RuleData.{literal_data, name_of_column, name_of_number, named_columns, named_literal, named_rule, named_rule_data, named_side}
+use Rattle.clr_office_json.specs.RuleData.{side_data, tip_word}
 use Rattle.clr_office_json.proofs.ListsRead.{all_mapped, all_pass, any_read, each_found, each_read, number_read, value_read}
 
 -- with names ---------------------------------------------------------------------------------
@@ -122,12 +127,13 @@ module _ (tables : List TableDef) where
       (all_pass (λ f. is_literal_of (kind_of tables s.table (column.At f.0)) f.1) s.filter h)
 
   rule_within : (r : Rule) → Passes tables r → IsRuleWithin (named_rule tables r)
-  rule_within (rule.Unique subject columns) p = side_within subject p.filters
+  rule_within (rule.Unique subject columns) p = side_within subject (and_parts _ _ p.filters).0
   rule_within (rule.Partner subject columns server server_columns) p = let f = and_parts _ _ p.filters in (side_within subject f.0, side_within server f.1)
   rule_within (rule.EndNode subject t server) p = let f = and_parts _ _ p.filters in (side_within subject f.0, side_within server f.1)
   rule_within (rule.Crossing a b server) p = let f = and_parts _ _ p.filters in let g = and_parts _ _ f.1 in
       (side_within a f.0, (side_within b g.0, side_within server g.1))
-  rule_within (rule.Near a b d) p = let f = and_parts _ _ p.filters in (side_within a f.0, (side_within b f.1, distance_within d p.distance))
+  rule_within (rule.Near a b d) p = let f = and_parts _ _ p.filters in
+      (side_within a f.0, (side_within b (and_parts _ _ f.1).0, distance_within d p.distance))
 
   pub rules_within : (rules : List Rule) → FitsBook tables rules → AllByRecursion IsRuleWithin (map (named_rule tables) rules)
   rules_within rules book = all_mapped (Passes tables) IsRuleWithin (named_rule tables) rule_within rules (all_pass_in tables rules book)
@@ -191,7 +197,8 @@ module _ (tables : List TableDef) (schema : schema_fault tables ≡ None) where
 
   rule_found : (r : Rule) → Passes tables r → rule_over tables (named_rule tables r) ≡ Ok r
   unfolding unique_over partner_over end_node_over crossing_over near_over
-  rule_found (rule.Unique subject columns) p = rw (side_found subject p.sides p.filters, columns_found subject columns (and_parts _ _ p.columns).0) refl
+  rule_found (rule.Unique subject columns) p =
+      rw (side_found subject (and_parts _ _ p.sides).0 (and_parts _ _ p.filters).0, columns_found subject columns (and_parts _ _ p.columns).0) refl
   rule_found (rule.Partner subject columns server server_columns) p =
       let t = and_parts _ _ p.sides in let c = and_parts _ _ p.columns in let f = and_parts _ _ p.filters in
       rw (side_found subject t.0 f.0, columns_found subject columns c.0, side_found server t.1 f.1, columns_found server server_columns c.1) refl
@@ -203,7 +210,7 @@ module _ (tables : List TableDef) (schema : schema_fault tables ≡ None) where
       rw (side_found a t.0 f.0, side_found b u.0 g.0, side_found server u.1 g.1) refl
   rule_found (rule.Near a b d) p =
       let t = and_parts _ _ p.sides in let f = and_parts _ _ p.filters in
-      rw (side_found a t.0 f.0, side_found b t.1 f.1) refl
+      rw (side_found a t.0 f.0, side_found b (and_parts _ _ t.1).0 (and_parts _ _ f.1).0) refl
 
   pub rules_found : (rules : List Rule) → FitsBook tables rules → each_in (rule_over tables) (map (named_rule tables) rules) ≡ Ok rules
   rules_found rules book = each_found (Passes tables) (rule_over tables) (named_rule tables) rule_found rules (all_pass_in tables rules book)

@@ -8,6 +8,7 @@ use Rattle.serde_json.specs.Data.{Data, Items, no_items, item}
 use Rattle.serde_json.specs.Find.{get}
 use Rattle.clr_rows.specs.declared.tables.TableDef.{TableDef}
 use Rattle.clr_rows.specs.Names.{live_name}
+use Rattle.clr_differences.specs.Differences.{Differences}
 use Rattle.clr_layers.specs.Layers.{Layer}
 use Rattle.clr_workspaces.specs.Marks.{Name}
 use Rattle.clr_layers.specs.declared.stored_marks.StoredMark.{StoredMark}
@@ -74,6 +75,14 @@ HasNames names earlier = (name : Name) → contains_text names name ≡ list_any
 
 abbrev pub under_one_of : List Layer → Head → Result Head TextFault
 under_one_of earlier head = if stands_in earlier head.parent then Ok head else Err BadPart
+
+-- what a workspace has beside its head: its base, its rows and its marks
+unfoldable pub contents_of : List TableDef → Data → Result (Differences × Differences × List StoredMark) TextFault
+contents_of tables d = do
+  base ← differences_at (codes "base") tables d
+  rows ← differences_at (codes "rows") tables d
+  marks ← marks_of tables d
+  Ok (base, rows, marks)
 
 -- a workspace whose parent is LIVE or an earlier one
 unfoldable pub layer_of : Format → List TableDef → List Layer → Data → Result Layer TextFault

@@ -26,7 +26,7 @@ pub struct NamedRow {
 fn each_value<J: JsonValue>(alloc: Global, items: &[J]) -> Result<Vec<Value>, TextFault>
     ensures { Gives (λ v. v.items) result (each value_of (items_seen J.stands_for items.now)) }
 {
-    let mut values = Vec::new(alloc);
+    let mut values = Vec::with_capacity(alloc, items.len())?;
     for item in items {
         let one = value(alloc, item)?;
         values.push(one)?;
@@ -48,7 +48,7 @@ fn place<J: JsonValue>(x: &J, y: &J) -> Result<Place, TextFault>
 fn places<J: JsonValue>(alloc: Global, numbers: &[J]) -> Result<Vec<Place>, TextFault>
     ensures { Gives (λ v. v.items) result (places_of (items_seen J.stands_for numbers.now)) }
 {
-    let mut places = Vec::new(alloc);
+    let mut places = Vec::with_capacity(alloc, numbers.len() / 2)?;
     let mut rest = numbers;
     while let [x, y, more @ ..] = rest {
         let one = place(x, y)?;

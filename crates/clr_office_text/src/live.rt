@@ -1,7 +1,7 @@
 //! The content of LIVE in an office text.
 
-ghost use Rattle.std.specs.Prelude.{◌≡◌, IfOk, OnErr};
-ghost use Rattle.clr_rows.specs.Contents.{no_rows};
+ghost use Rattle.std.specs.Prelude.{◌≡◌, IfOk, OnErr, Some};
+ghost use Rattle.clr_rows.specs.Contents.{no_rows, set_cell};
 ghost use Rattle.clr_rows.specs.Schemas.{FitsSchema};
 ghost use Rattle.clr_rule_text.specs.Fields.{Gives};
 ghost use Rattle.clr_office_text.specs.Cells.{cell_of, live_of, with_row, with_rows};
@@ -24,11 +24,11 @@ pub fn cell(schema: &Schema, table: &Words, key: i64) -> Result<CellId, TextFaul
     }
 }
 
-/// Puts a row whose table is named into a sheet. Where it fails, the sheet stays as it is.
+/// Returns the cell of a row whose table is named. Fails with `BadRow` where there is no such table or
+/// the row doesn't fit it, and with `RepeatedCell` where the sheet has a row there.
 #[tactic(auto, unfolding(crate::specs::Cells::with_row))]
-pub fn put_row(schema: &Schema, sheet: &mut Sheet, named: NamedRow) -> Result<(), TextFault>
-    ensures value { Gives (λ _. sheet.new) result (with_row schema.now sheet.old named) }
-    ensures err { OnErr result (sheet.new ≡ sheet.old) }
+fn free_cell(schema: &Schema, sheet: &Sheet, named: &NamedRow) -> Result<CellId, TextFault>
+    ensures { Gives (λ c. set_cell sheet.now c (Some named.now.row)) result (with_row schema.now sheet.now named.now) }
 {
     let cell = cell(schema, &named.table, named.key)?;
     if schema.fits(cell, &named.row).is_err() {
@@ -37,6 +37,15 @@ pub fn put_row(schema: &Schema, sheet: &mut Sheet, named: NamedRow) -> Result<()
     if sheet.get(cell).is_some() {
         return Err(TextFault::RepeatedCell);
     }
+    Ok(cell)
+}
+
+/// Puts a row whose table is named into a sheet. Where it fails, the sheet stays as it is.
+pub fn put_row(schema: &Schema, sheet: &mut Sheet, named: NamedRow) -> Result<(), TextFault>
+    ensures value { Gives (λ _. sheet.new) result (with_row schema.now sheet.old named) }
+    ensures err { OnErr result (sheet.new ≡ sheet.old) }
+{
+    let cell = free_cell(schema, sheet, &named)?;
     sheet.put(cell, named.row)?;
     Ok(())
 }

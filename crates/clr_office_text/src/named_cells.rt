@@ -6,12 +6,11 @@ ghost use Rattle.clr_rule_text.specs.Seen.{items_seen};
 ghost use Rattle.clr_office_text.specs.Patches.{named_cell_of, named_cells_at, row_unless_gone as row_meant};
 
 use crate::cells::{has_paths, row};
-use clr_rows::{Row, Schema, Words};
+use clr_rows::{List, Row, Schema, Words};
 use clr_rule_text::TextFault;
 use clr_rule_text::fields::{number_in, optional_flag, optional_list, words_in};
 use clr_rule_text::json_values::JsonValue;
 use std::alloc::Global;
-use std::marker::Model;
 
 /// A cell that is put over a content, with the row that stands there then, or none. The name of its
 /// table may be unknown.
@@ -23,28 +22,7 @@ pub struct NamedCell {
 }
 
 /// Cells that are put over a content.
-#[derive(Debug, Drop)]
-pub struct NamedCells {
-    list: Vec<NamedCell>,
-}
-
-impl Model for NamedCells {
-    ghost use Rattle.std.specs.Prelude.{List};
-    ghost use Rattle.clr_office_text.specs.declared.named_cells.NamedCell.{NamedCell as OneCell};
-
-    ghost Value = { List OneCell };
-
-    ghost view = { λ a. a.list.items };
-}
-
-impl NamedCells {
-    /// Returns the list of these cells.
-    pub fn into_vec(self) -> Vec<NamedCell>
-        ensures { result.items ≡ self }
-    {
-        self.list
-    }
-}
+pub type NamedCells = List<NamedCell>;
 
 fn row_unless_gone<J: JsonValue>(
     alloc: Global,
@@ -105,5 +83,5 @@ pub fn named_cells<J: JsonValue>(
     ensures { Gives (λ v. v) result (named_cells_at key.now schema.now (J.stands_for json.now)) }
 {
     let list = each_named_cell(alloc, optional_list(json, key)?, schema)?;
-    Ok(NamedCells { list })
+    Ok(NamedCells::new(list))
 }

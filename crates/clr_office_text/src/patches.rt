@@ -1,7 +1,7 @@
 //! Differences, made of cells that are put over a content.
 
 ghost use Rattle.std.specs.Prelude.{◌≡◌, is_none, OnErr};
-ghost use Rattle.std.specs.Option.{option_copied};
+ghost use Rattle.std.specs.FinMap as finite;
 ghost use Rattle.clr_differences.specs.Differences.{no_differences};
 ghost use Rattle.clr_rule_text.specs.Fields.{Gives};
 ghost use Rattle.clr_office_text.specs.Patches.{differences_at, differences_of, put_fault, with_cell, with_cells};
@@ -24,16 +24,16 @@ fn can_put(schema: &Schema, cell: CellId, row: &Option<Row>) -> bool
     }
 }
 
-/// Puts a cell whose table is named into the differences. Where it fails, the differences stay as
-/// they are.
+/// Returns the cell that a name and a key are. Fails with `BadRow` where there is no such table, the
+/// row doesn't fit it, or no row could stand there, and with `RepeatedCell` where the differences have
+/// the cell.
 #[tactic(auto, unfolding(crate::specs::Patches::with_cell))]
-pub fn put_cell(
+fn free_cell(
     schema: &Schema,
-    differences: &mut Differences,
-    named: NamedCell,
-) -> Result<(), TextFault>
-    ensures value { Gives (λ _. differences.new) result (with_cell schema.now differences.old named) }
-    ensures err { OnErr result (differences.new ≡ differences.old) }
+    differences: &Differences,
+    named: &NamedCell,
+) -> Result<CellId, TextFault>
+    ensures { Gives (λ c. finite.insert differences.now c named.now.row) result (with_cell schema.now differences.now named.now) }
 {
     let cell = cell(schema, &named.table, named.key)?;
     if !can_put(schema, cell, &named.row) {
@@ -42,6 +42,20 @@ pub fn put_cell(
     if differences.get(cell).is_some() {
         return Err(TextFault::RepeatedCell);
     }
+    Ok(cell)
+}
+
+/// Puts a cell whose table is named into the differences. Where it fails, the differences stay as
+/// they are.
+pub fn put_cell(
+    schema: &Schema,
+    differences: &mut Differences,
+    named: NamedCell,
+) -> Result<(), TextFault>
+    ensures value { Gives (λ _. differences.new) result (with_cell schema.now differences.old named) }
+    ensures err { OnErr result (differences.new ≡ differences.old) }
+{
+    let cell = free_cell(schema, differences, &named)?;
     differences.put(cell, named.row)?;
     Ok(())
 }

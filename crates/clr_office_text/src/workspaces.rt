@@ -4,13 +4,14 @@ ghost use Rattle.std.specs.Prelude.{◌≡◌, [], map};
 ghost use Rattle.clr_layers.specs.Entries.{stored_layer};
 ghost use Rattle.clr_rule_text.specs.Fields.{Gives};
 ghost use Rattle.clr_rule_text.specs.Seen.{items_seen};
-ghost use Rattle.clr_office_text.specs.Workspaces.{HasNames, head_of, kept_of, layer_of, layers_after, layers_of, under_one_of};
+ghost use Rattle.clr_office_text.specs.Workspaces.{HasNames, contents_of, head_of, kept_of, layer_of, layers_after, layers_of, under_one_of};
 
 use crate::earlier_names::{note_name, stands};
 use crate::formats::Format;
 use crate::named_marks::marks;
 use crate::patches::differences_in;
-use clr_layers::{Layer, StoredPart};
+use clr_differences::Differences;
+use clr_layers::{Layer, StoredMark, StoredPart};
 use clr_rows::{Schema, Words};
 use clr_rule_text::TextFault;
 use clr_rule_text::fields::{optional_flag, optional_list, words_in};
@@ -63,6 +64,21 @@ fn head_under(
     }
 }
 
+/// What a workspace has beside its head: its base, its rows and its marks.
+#[tactic(auto, unfolding(crate::specs::Workspaces::contents_of))]
+fn contents<J: JsonValue>(
+    alloc: Global,
+    json: &J,
+    schema: &Schema,
+) -> Result<(Differences, Differences, Vec<StoredMark>), TextFault>
+    ensures { Gives (λ c. (c.0, c.1, c.2.items)) result (contents_of schema.now (J.stands_for json.now)) }
+{
+    let base = differences_in(alloc, json, "base", schema)?;
+    let current = differences_in(alloc, json, "rows", schema)?;
+    let marks = marks(alloc, json, schema)?;
+    Ok((base, current, marks))
+}
+
 /// A workspace, behind earlier ones of these names. Fails as `stored_parts` does at one workspace.
 #[tactic(auto, unfolding(crate::specs::Workspaces::layer_of))]
 pub fn workspace<J: JsonValue>(
@@ -77,14 +93,12 @@ pub fn workspace<J: JsonValue>(
     ensures { Gives stored_layer result (layer_of format schema.now (map stored_layer earlier.now) (J.stands_for json.now)) }
 {
     let head = head_under(earlier, names, read_head(alloc, json, format)?)?;
-    let base = differences_in(alloc, json, "base", schema)?;
-    let current = differences_in(alloc, json, "rows", schema)?;
-    let marks = marks(alloc, json, schema)?;
+    let contents = contents(alloc, json, schema)?;
     let layer = Layer {
         parent: head.parent,
-        base,
-        current,
-        marks,
+        base: contents.0,
+        current: contents.1,
+        marks: contents.2,
         kept: head.kept,
     };
     Ok(StoredPart {

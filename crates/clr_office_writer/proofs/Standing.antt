@@ -107,7 +107,8 @@ module _ (ws : List Workspace) (r : IsRooted ws) (n : ℕ) (some : 0 < n) (withi
       let p = r.under (suc at) (omega arith) (omega (arith, lt, within)) in
       let q = p.2 in
       let less : p.0 < n = omega (arith, q, lt) in
-      let here : parent_of (take n ws) (suc at) ≡ Some p.0 = ap (λ (w : Workspace). find (take n ws) w.parent) (at_take ws n (suc at) lt) ∙ find_front ws (workspace_at ws (suc at)).parent p.0 n p.1 less within in
+      let here : parent_of (take n ws) (suc at) ≡ Some p.0 = ap (λ (w : Workspace). find (take n ws) w.parent) (at_take ws n (suc at) lt)
+      ∙ find_front ws (workspace_at ws (suc at)).parent p.0 n p.1 less within in
       ap (one_above (depth_within (take n ws) k)) here ∙ ap (λ d. d + 1) (front_depth k p.0 less) ∙ sym (ap (one_above (depth_within ws k)) p.1)
 
 -- counts -------------------------------------------------------------------------------------
@@ -173,7 +174,8 @@ module _ (live : Content) (rest : List Workspace) (sound : IsSound (live_workspa
       → is_under ws (workspace_at ws j).name (find ws name) ≡ true
   child_found j some lt name marked =
       let w = workspace_at ws j in
-      let same : tally (is_mark_of name) w.marks ≡ tally (is_child_named w.name name) ws = sym (count-tally (is_mark_of name) w.marks) ∙ sound.marked j some lt name ∙ count-tally (is_child_named w.name name) ws in
+      let same : tally (is_mark_of name) w.marks ≡ tally (is_child_named w.name name) ws = sym (count-tally (is_mark_of name) w.marks)
+      ∙ sound.marked j some lt name ∙ count-tally (is_child_named w.name name) ws in
       let k = one_passes (is_child_named w.name name) ws no_workspace (subst (λ n. 0 < n) same marked) in
       let both = and_parts (bytes_eq w.name (workspace_at ws k.0).parent) (bytes_eq name (workspace_at ws k.0).name) k.2 in
       let named : name ≡ (workspace_at ws k.0).name = (bytes_decides name (workspace_at ws k.0).name).0 both.1 in
@@ -201,7 +203,8 @@ module _ (live : Content) (rest : List Workspace) (sound : IsSound (live_workspa
       let j = suc i in
       let within : suc i < length ws = omega (arith, lt) in
       let w = workspace_at ws (suc i) in
-      let good : has_good_marks ws w ≡ true = and_from _ _ (sound.saved (suc i) within) (and_from _ _ (childs_found ws w.name w.marks (child_found (suc i) (omega arith) within))
+      let good : has_good_marks ws w ≡ true = and_from _ _ (sound.saved (suc i) within)
+      (and_from _ _ (childs_found ws w.name w.marks (child_found (suc i) (omega arith) within))
       (all_at (is_marked_once w.name w.marks) ws no_workspace (marked_once (suc i) (omega arith) within))) in
       ap (λ b. cond b None (Some fault.BadMarks)) good
 

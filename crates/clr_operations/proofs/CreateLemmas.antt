@@ -1,5 +1,6 @@
 -- A leaf is made, and a workspace refreshed: the parts put together.
-use Rattle.std.proofs.Common.{◌≡◌, ℕ, suc, zero, ◌<◌, true, false, List, [], ◌∷◌, ◌++◌, length, filter, Some, None, unwrap_or, refl, ap, sym, subst, ◌∙◌, arith, slice_set}
+use Rattle.std.proofs.Common.{◌≡◌, ℕ, suc, zero, ◌<◌, true, false, List, [], ◌∷◌, ◌++◌, length, filter, Some, None, unwrap_or, refl, ap, sym, subst, ◌∙◌, arith}
+use Rattle.std.proofs.Common.{slice_set}
 use Rattle.std.proofs.lemmas.List.{length-append, set-append_left}
 use Rattle.std.proofs.Math.ListN.{get_or-append}
 use Rattle.std.proofs.Math.Seq.{take-length}
@@ -7,7 +8,7 @@ use Rattle.std.specs.FinMap as finite
 use Rattle.std.specs.Prelude.{remove}
 use Rattle.clr_rows.specs.Contents.{Content, Changes, no_rows, over, rows_after}
 use Rattle.clr_rows.specs.Names.{is_good_name}
-use Rattle.clr_differences.specs.Differences.{Rows, no_differences, seen_over, put_each, cells_in}
+use Rattle.clr_differences.specs.Differences.{RowEntries, no_differences, seen_over, put_each, cells_in}
 use Rattle.clr_differences.proofs.DifferenceLemmas.{seen_over-none}
 use Rattle.clr_workspaces.specs.Marks.{Name, without_saved, mark_last}
 use Rattle.clr_workspaces.specs.Workspaces.{Workspace, no_workspace, workspace_at, find, parent_of}
@@ -56,7 +57,8 @@ module _ (live : Content) (ls : List Layer) (name : Name) (p : ℕ) (r : IsRoote
   leaf_made =
       let parent = (layer_at ls p).name in
       let found : find ws parent ≡ Some p = ap (find ws) (sym (name-wholes live ls p)) ∙ r.own p p_in in
-      let above : content_by_name ws parent ≡ Some (workspace_at ws p).current = ap (λ (vs : List Workspace). content_by_name vs parent) (sym (take-length ws)) ∙ named_found ws parent p (length ws) found p_in in
+      let above : content_by_name ws parent ≡ Some (workspace_at ws p).current = ap (λ (vs : List Workspace). content_by_name vs parent) (sym (take-length ws))
+      ∙ named_found ws parent p (length ws) found p_in in
       wholes-push live ls (leaf name parent) (omega (arith, lt))
       ∙ ap (λ o. ws ++ whole_of (unwrap_or o no_rows) (leaf name parent) ∷ []) above
       ∙ ap (λ w. ws ++ w ∷ []) (whole_leaf (workspace_at ws p).current name parent
@@ -104,7 +106,8 @@ moved_extends ls zero child lt = extends_itself ls
 moved_extends ls (suc q) child lt = extends_marks ls (suc q) _ lt
 
 -- REFRESH: the children hold, and the mark was moved
-pub refreshed_is : (live : Content) (ls gs : List Layer) (at p : ℕ) (rows : Rows) (changed : Changes) → IsRooted (wholes live ls) → 0 < at → at < length ls
+pub refreshed_is : (live : Content) (ls gs : List Layer) (at p : ℕ) (rows : RowEntries) (changed : Changes) → IsRooted (wholes live ls) → 0 < at →
+    at < length ls
     → at < length gs → parent_of (wholes live ls) at ≡ Some p → p < at
     → wholes live gs ≡ change_marks (wholes live ls) p (mark_last (workspace_at (wholes live ls) at).name)
     → ChildrenPin gs (layer_at gs at).name (cells_in rows) → ChildrenPin gs (layer_at gs at).name (finite.keys (layer_at ls at).base)
@@ -122,7 +125,8 @@ refreshed_is live ls gs at p rows changed r some lt lt_new parent up end held_ro
     let move = mark_last w.name in
     let p_in = within_wholes live ls p (omega (arith, up, lt)) in
     let same : workspace_at vs at ≡ w = ap (λ (xs : List Workspace). workspace_at xs at) end ∙ below_stays ws at p move up in
-    let content : (workspace_at vs p).current ≡ (workspace_at ws p).current = ap (λ (xs : List Workspace). (workspace_at xs p).current) end ∙ below_current ws at p move up p_in in
+    let content : (workspace_at vs p).current ≡ (workspace_at ws p).current = ap (λ (xs : List Workspace). (workspace_at xs p).current) end
+    ∙ below_current ws at p move up p_in in
     let rooted : IsRooted vs = subst IsRooted (sym end) (below_rooted ws p move r) in
     let parent_new : parent_of vs at ≡ Some p = ap (λ (xs : List Workspace). parent_of xs at) end ∙ below_parent ws p move at ∙ parent in
     restarted live gs at rooted some lt_new p parent_new up rows (layer_at ls at).base (layer_at ls at).current

@@ -1,5 +1,6 @@
 -- A leaf has no children, and goes.
-use Rattle.std.proofs.Common.{◌≡◌, ℕ, suc, zero, ◌+◌, ◌-◌, ◌<◌, ◌≤◌, Bool, true, false, cond, List, [], ◌∷◌, length, map, Some, refl, ap, sym, subst, ◌∙◌, arith, remove}
+use Rattle.std.proofs.Common.{◌≡◌, ℕ, suc, zero, ◌+◌, ◌-◌, ◌<◌, ◌≤◌, Bool, true, false, cond, List, [], ◌∷◌, length, map, Some, refl, ap, sym, subst, ◌∙◌}
+use Rattle.std.proofs.Common.{arith, remove}
 use Rattle.std.proofs.lemmas.List.Edits.{length-remove}
 use Rattle.std.specs.Prelude.{count_by, fold}
 use Rattle.std.specs.Str.{bytes_eq}
@@ -35,7 +36,8 @@ none_counted : (name : Name) (ls : List Layer) → fold (λ a (l : Layer). a + c
     → IsUnder name (layer_at ls k) → ⊥
 none_counted name [] none k lt under = absurd (omega arith)
 none_counted name (l ∷ ls) none zero lt under =
-    let one : fold (λ a (m : Layer). a + cond (bytes_eq name m.parent) 1 0) 1 ls ≡ 0 = ap (λ (b : Bool). fold (λ a (m : Layer). a + cond (bytes_eq name m.parent) 1 0) (0 + cond b 1 0) ls) (sym under) ∙ none in
+    let one : fold (λ a (m : Layer). a + cond (bytes_eq name m.parent) 1 0) 1 ls ≡ 0 =
+    ap (λ (b : Bool). fold (λ a (m : Layer). a + cond (bytes_eq name m.parent) 1 0) (0 + cond b 1 0) ls) (sym under) ∙ none in
     let more = fold_grows name ls 1 in
     absurd (omega (arith, one, more))
 none_counted name (l ∷ ls) none (suc k) lt under = none_counted name ls (by (bytes_eq name l.parent) none) k (omega arith) under
@@ -87,7 +89,8 @@ module _ (live : Content) (ls : List Layer) (at p : ℕ) (r : IsRooted (wholes l
       ≡ after_remove (wholes live ls) at
   removed_is parent =
       let child = (workspace_at (wholes live ls) at).name in
-      let rooted : IsRooted (wholes live (remove ls at)) = subst IsRooted (sym gone) (rooted_removed (wholes live ls) at r some (within_wholes live ls at lt) (no_child_whole live ls at none)) in
+      let rooted : IsRooted (wholes live (remove ls at)) =
+      subst IsRooted (sym gone) (rooted_removed (wholes live ls) at r some (within_wholes live ls at lt) (no_child_whole live ls at none)) in
       any_dropped live (remove ls at) p child rooted parent_left
       ∙ ap (λ (vs : List Workspace). change_at vs p (with_marks (without_mark_of child))) gone
       ∙ ap (λ o. at_position (wholes live ls) o (after_remove_under (wholes live ls) at)) (sym parent)

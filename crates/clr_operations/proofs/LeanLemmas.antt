@@ -1,5 +1,6 @@
 -- What keeps layers without neutral entries.
-use Rattle.std.proofs.Common.{◌≡◌, ◌≢◌, ℕ, suc, zero, ◌+◌, ◌<◌, ⊎_elim, Bool, true, false, cond, List, [], ◌∷◌, length, Some, None, unwrap_or, refl, ap, sym, subst, ◌∙◌, slice_set, filter, not, nat_lt, ◌++◌, arith, remove, take}
+use Rattle.std.proofs.Common.{◌≡◌, ◌≢◌, ℕ, suc, zero, ◌+◌, ◌<◌, ⊎_elim, Bool, true, false, cond, List, [], ◌∷◌, length, Some, None, unwrap_or, refl, ap, sym}
+use Rattle.std.proofs.Common.{subst, ◌∙◌, slice_set, filter, not, nat_lt, ◌++◌, arith, remove, take}
 use Rattle.std.specs.declared.option.Option.{Option}
 use Rattle.std.specs.FinMap as finite
 use Rattle.std.specs.FinMap.Entries.{find as find_entry}
@@ -11,13 +12,14 @@ use Rattle.clr_rows.specs.declared.rows.Row.{Row}
 use Rattle.clr_rows.specs.Cells.{cell_cmp}
 use Rattle.clr_rows.specs.Contents.{Content, no_rows, row_at, set_cell, over, rows_after}
 use Rattle.clr_rows.proofs.ChangeLemmas.{row-set_cell}
-use Rattle.clr_differences.specs.Differences.{Differences, Rows, no_differences, put_each, cells_in, is_among, IsOwnOver}
+use Rattle.clr_differences.specs.Differences.{Differences, RowEntries, no_differences, put_each, cells_in, is_among, IsOwnOver}
 use Rattle.clr_differences.proofs.DifferenceLemmas.{row-seen_over, not_among, put_elsewhere, put_each_elsewhere, taken_elsewhere}
 use Rattle.clr_workspaces.specs.Marks.{Name, Mark, is_saved, mark_at, saved_content, mark_last, without_mark_of}
 use Rattle.clr_contents.proofs.MarkLemmas.{saved_there}
 use Rattle.clr_workspaces.proofs.FindLemmas.{find_more}
 use Rattle.clr_workspaces.specs.Workspaces.{Workspace, no_workspace, workspace_at, find, parent_of, children_of}
-use Rattle.clr_layers.specs.Layers.{Layer, no_layer, leaf, layer_at, layer_changed, stored_at, saved_differences, stored_without_mark_of, is_stored_mark_of, whole_mark, wholes, is_stored_child, restarted_with, rows_taken_over, AreOwnOver, IsUnder}
+use Rattle.clr_layers.specs.Layers.{Layer, no_layer, leaf, layer_at, layer_changed, stored_at, saved_differences, stored_without_mark_of, is_stored_mark_of}
+use Rattle.clr_layers.specs.Layers.{whole_mark, wholes, is_stored_child, restarted_with, rows_taken_over, AreOwnOver, IsUnder}
 use Rattle.clr_layers.specs.declared.stored_marks.StoredMark.{StoredMark}
 use Rattle.clr_layers.specs.declared.stored_marks.StoredMark.TheVariants as kinds
 use Rattle.clr_layers.proofs.Meaning.{length-wholes, name-wholes, parent-wholes}
@@ -25,7 +27,8 @@ use Rattle.clr_contents.specs.Pinning.{StaysOwnAt, StayOwnBut, StayOwnButChildre
 use Rattle.clr_contents.proofs.PinLemmas.{but_itself, but_marks, but_set, own_both}
 use Rattle.std.proofs.Math.ListN.{get_or, get_or-map, get_or-append}
 use Rattle.std.proofs.Math.Seq.{map-set_same, get_or-append_seam}
-use Rattle.clr_workspaces.specs.Operations.{own_changes, with_base_merged, after_merge, after_write, with_kept, with_marks, roll_all, new_leaf, keep_row, refresh, roll_to, change_marks, after_refresh, after_resolve, after_roll_to}
+use Rattle.clr_workspaces.specs.Operations.{own_changes, with_base_merged, after_merge, after_write, with_kept, with_marks, roll_all, new_leaf, keep_row}
+use Rattle.clr_workspaces.specs.Operations.{refresh, roll_to, change_marks, after_refresh, after_resolve, after_roll_to}
 use Rattle.clr_workspaces.specs.declared.rebases.Keep.{Keep}
 use Rattle.clr_workspaces.specs.declared.rebases.Keep.TheVariants as keeps
 use Rattle.clr_operations.proofs.OperationLemmas.{kept_set, mark_removed, mark_pushed, all_rolled}
@@ -93,7 +96,7 @@ lean_still live next ls ms w cells r lt is stay =
     (λ k. ap (λ (ws : List Workspace). parent_of ws k) is) (λ p q apart. ap (λ (ws : List Workspace). row_at (workspace_at ws p).current q) is) stay
 
 -- rows put into one
-over_elsewhere : (rows : Rows) (m : Content) (q : CellId) → is_among (cells_in rows) q ≡ false → row_at (over m rows) q ≡ row_at m q
+over_elsewhere : (rows : RowEntries) (m : Content) (q : CellId) → is_among (cells_in rows) q ≡ false → row_at (over m rows) q ≡ row_at m q
 unfolding over
 over_elsewhere [] m q apart = refl
 over_elsewhere (e ∷ es) m q apart =
@@ -108,10 +111,10 @@ rows_set ws w x cells lt same p q apart = ⊎_elim
     (λ (n : p ≢ w). ap (λ (v : Workspace). row_at v.current q) (get_or-set_other ws w p x no_workspace n))
     (cases_eq p w)
 
-pub rows_put : (ws : List Workspace) (w : ℕ) (rows : Rows) → w < length ws → RowsStay w (cells_in rows) ws (put_into ws w rows)
+pub rows_put : (ws : List Workspace) (w : ℕ) (rows : RowEntries) → w < length ws → RowsStay w (cells_in rows) ws (put_into ws w rows)
 rows_put ws w rows lt = rows_set ws w _ (cells_in rows) lt (λ q apart. over_elsewhere rows (workspace_at ws w).current q apart)
 
-pub lean_put : (live next : Content) (ls ms : List Layer) (w : ℕ) (rows : Rows) → IsRooted (wholes live ls) → w < length ls → length ms ≡ length ls
+pub lean_put : (live next : Content) (ls ms : List Layer) (w : ℕ) (rows : RowEntries) → IsRooted (wholes live ls) → w < length ls → length ms ≡ length ls
     → wholes next ms ≡ put_into (wholes live ls) w rows → StayOwnButNear w (cells_in rows) ls ms
     → IsLean live ls → IsLeanBut w (cells_in rows) next ms
 lean_put live next ls ms w rows r lt long is stay =
@@ -146,7 +149,8 @@ marks_left p row q (m ∷ ms) own = by (p m) (own.0, tt) (marks_left p row q ms 
     by true one rest = (one.0, rest)
     by false one rest = rest
 
-pub but_taken_over : (ls : List Layer) (at : ℕ) (rows : Rows) → at < length ls → StayOwnBut at (cells_in rows) ls (layer_changed ls at (rows_taken_over rows))
+pub but_taken_over : (ls : List Layer) (at : ℕ) (rows : RowEntries) → at < length ls →
+    StayOwnBut at (cells_in rows) ls (layer_changed ls at (rows_taken_over rows))
 but_taken_over ls at rows lt = but_set ls at _ (cells_in rows) lt (λ q apart. record {
   base = put_each_elsewhere rows (layer_at ls at).base q apart;
   current = λ row own. own_none row q;
@@ -201,7 +205,8 @@ lean_one : (live : Content) (ls : List Layer) (at : ℕ) (m : Layer) (w : Worksp
 lean_one live ls at m w lt is name parent same keep lean k some k_lt q =
     let ws = wholes live ls in
     let k_in : k < length ls = subst (λ n. k < n) (length-set ls at m) k_lt in
-    let row = ap (λ (vs : List Workspace). row_above vs k q) is ∙ rows_same ws (slice_set ws at w) k q (parent_set ws at w name parent k) (λ p e. same k p some k_in e) in
+    let row = ap (λ (vs : List Workspace). row_above vs k q) is ∙ rows_same ws (slice_set ws at w) k q (parent_set ws at w name parent k)
+    (λ p e. same k p some k_in e) in
     subst (λ (v : Option Row). IsLeanAt v (layer_at (slice_set ls at m) k) q) (sym row)
     (⊎_elim
     (λ (e : k ≡ at). subst (λ j. IsLeanAt (row_above ws k q) (layer_at (slice_set ls at m) j) q) (sym e)
@@ -385,7 +390,7 @@ among_neither (cell ∷ first) others q apart =
 pub no_entry : (d : Differences) (q : CellId) → is_among (finite.keys d) q ≡ false → finite.get d q ≡ None
 no_entry d q apart = finite.get-entries d q ∙ by (finite.entries d) apart
   where
-    by : (es : Rows) → is_among (cells_in es) q ≡ false → find_entry cell_cmp q es ≡ None
+    by : (es : RowEntries) → is_among (cells_in es) q ≡ false → find_entry cell_cmp q es ≡ None
     by [] apart = refl
     by (e ∷ es) apart = let both = not_among e.0 (cells_in es) q apart in ap (λ b. cond b (Some e.1) (find_entry cell_cmp q es)) both.0 ∙ by es both.1
 
@@ -461,7 +466,8 @@ near_set at cells ls gs m lt stay one k q other under = ⊎_elim
     (λ (n : k ≢ at). subst (StaysOwnAt q (layer_at ls k)) (sym (get_or-set_other gs at k m no_layer n)) (stay k q other under))
     (cases_eq k at)
 
-pub near_restarted : (at : ℕ) (cells : List CellId) (ls gs : List Layer) (d : Differences) (rows : Rows) → at < length gs → StayOwnButNear at cells ls gs → d
+pub near_restarted : (at : ℕ) (cells : List CellId) (ls gs : List Layer) (d : Differences) (rows : RowEntries) → at < length gs → StayOwnButNear at cells ls gs
+    → d
     ≡ put_each no_differences rows
     → ((q : CellId) → is_among cells q ≡ false → (is_among (cells_in rows) q ≡ false) × (finite.get (layer_at ls at).base q ≡ None))
     → StayOwnButNear at cells ls (layer_changed gs at (restarted_with d))

@@ -1,5 +1,6 @@
 -- What each change of a layer does to the whole workspaces.
-use Rattle.std.proofs.Common.{◌≡◌, ℕ, suc, zero, ◌+◌, ◌<◌, Bool, true, false, cond, not, List, [], ◌∷◌, ◌++◌, length, map, take, drop, filter, Some, refl, ap, sym, subst, ◌∙◌, slice_set}
+use Rattle.std.proofs.Common.{◌≡◌, ℕ, suc, zero, ◌+◌, ◌<◌, Bool, true, false, cond, not, List, [], ◌∷◌, ◌++◌, length, map, take, drop, filter, Some, refl, ap}
+use Rattle.std.proofs.Common.{sym, subst, ◌∙◌, slice_set}
 use Rattle.std.proofs.lemmas.List.{append-nil, map-append}
 use Rattle.std.specs.declared.option.Option.{Option}
 use Rattle.std.specs.FinMap as finite
@@ -10,18 +11,22 @@ use Rattle.clr_rows.specs.declared.cells.CellId.{CellId}
 use Rattle.clr_rows.specs.declared.rows.Row.{Row}
 use Rattle.clr_rows.specs.Contents.{Content, Changes, row_at, set_cell, over, rows_after, taken_over}
 use Rattle.clr_rows.proofs.ChangeLemmas.{taken_over-own}
-use Rattle.clr_differences.specs.Differences.{Differences, Rows, no_differences, seen_over, put_each, cells_in, HasEntry, HasEntries}
-use Rattle.clr_differences.proofs.DifferenceLemmas.{seen_over-none, seen_over-fresh, seen_over-insert, seen_over-put_each, seen_over-remove, seen_outside, over_outside, hidden, set_outside}
-use Rattle.clr_workspaces.specs.Marks.{Name, Mark, Saved, ChildMark, mark_at, is_child_mark, is_saved, is_mark_of, saved_content, is_held, without_saved, without_mark_of, mark_last}
+use Rattle.clr_differences.specs.Differences.{Differences, RowEntries, no_differences, seen_over, put_each, cells_in, HasDifference, HasEntries}
+use Rattle.clr_differences.proofs.DifferenceLemmas.{seen_over-none, seen_over-fresh, seen_over-insert, seen_over-put_each, seen_over-remove, seen_outside}
+use Rattle.clr_differences.proofs.DifferenceLemmas.{over_outside, hidden, set_outside}
+use Rattle.clr_workspaces.specs.Marks.{Name, Mark, Saved, ChildMark, mark_at, is_child_mark, is_saved, is_mark_of, saved_content, is_held, without_saved}
+use Rattle.clr_workspaces.specs.Marks.{without_mark_of, mark_last}
 use Rattle.clr_workspaces.specs.Workspaces.{Workspace, workspace_at, parent_of}
-use Rattle.clr_layers.specs.Layers.{Layer, layer_at, layer_changed, whole_of, whole_mark, wholes, top, above_at, IsUnder, stored_at, saved_differences, is_stored_child, is_stored_mark_of, stored_without_mark_of, EachMarkPins}
+use Rattle.clr_layers.specs.Layers.{Layer, layer_at, layer_changed, whole_of, whole_mark, wholes, top, above_at, IsUnder, stored_at, saved_differences}
+use Rattle.clr_layers.specs.Layers.{is_stored_child, is_stored_mark_of, stored_without_mark_of, EachMarkPins}
 use Rattle.clr_layers.specs.declared.stored_marks.StoredMark.{StoredMark}
 use Rattle.clr_layers.specs.declared.stored_marks.StoredMark.TheVariants as stored
 use Rattle.clr_layers.proofs.Meaning.{wholes-live}
 use Rattle.clr_layers.proofs.Places.{moved_live}
 use Rattle.clr_contents.specs.Pinning.{ChildrenPin}
 use Rattle.clr_operations.specs.Moves.{put_into, row_moved}
-use Rattle.clr_workspaces.specs.Operations.{change_at, with_marks, with_current, with_kept, roll_all, own_changes, with_base_merged, after_mark, after_unmark, after_roll_to, after_roll_all, set_kept, after_write, after_merge, after_resolve}
+use Rattle.clr_workspaces.specs.Operations.{change_at, with_marks, with_current, with_kept, roll_all, own_changes, with_base_merged, after_mark, after_unmark}
+use Rattle.clr_workspaces.specs.Operations.{after_roll_to, after_roll_all, set_kept, after_write, after_merge, after_resolve}
 use Rattle.clr_workspaces.specs.Roots.{IsRooted}
 use Rattle.clr_workspaces.specs.declared.rebases.Keep.TheVariants as keeps
 use Rattle.clr_workspaces.proofs.RootLemmas.{later_stays}
@@ -128,7 +133,8 @@ module _ (above : Content) (l : Layer) where
       ≡ with_marks (mark_last child) (whole_of above l)
   unfolding whole_of
   whole_last child =
-      let marks = map-append (whole_mark b) (stored_without_mark_of child l.marks) (stored.Child child ∷ []) ∙ ap (λ (ms : List Mark). ms ++ ChildMark child ∷ []) (child_dropped child b l.marks) in
+      let marks = map-append (whole_mark b) (stored_without_mark_of child l.marks) (stored.Child child ∷ [])
+      ∙ ap (λ (ms : List Mark). ms ++ ChildMark child ∷ []) (child_dropped child b l.marks) in
       λ i. record { name = l.name; parent = l.parent; base = b; current = seen_over b l.current; marks = marks i; kept = l.kept }
 
   whole_rolled_all : whole_of above (record l { current = no_differences; marks = filter is_stored_child l.marks }) ≡ roll_all (whole_of above l)
@@ -156,14 +162,15 @@ module _ (above : Content) (l : Layer) where
         l.kept;
   }
 
-  whole_put : (rows : Rows) → whole_of above (record l { current = put_each l.current rows })
+  whole_put : (rows : RowEntries) → whole_of above (record l { current = put_each l.current rows })
       ≡ (let w = whole_of above l in record w { current = over w.current rows })
   unfolding whole_of
   whole_put rows = ap (λ (c : Content).
       let w : Workspace = record { name = l.name; parent = l.parent; base = b; current = c; marks = map (whole_mark b) l.marks; kept = l.kept } in w)
       (seen_over-put_each b rows l.current)
 
-  whole_taken_over : (rows : Rows) → whole_of above (record l { base = put_each l.base rows; current = no_differences; marks = filter is_stored_child l.marks })
+  whole_taken_over : (rows : RowEntries) → whole_of above
+      (record l { base = put_each l.base rows; current = no_differences; marks = filter is_stored_child l.marks })
       ≡ (let w = whole_of above l in record w { base = over w.base rows; current = over w.base rows; marks = without_saved w.marks })
   unfolding whole_of
   whole_taken_over rows =
@@ -172,7 +179,7 @@ module _ (above : Content) (l : Layer) where
       let current = seen_over-none a ∙ base in
       λ i. record { name = l.name; parent = l.parent; base = base i; current = current i; marks = children_kept a b l.marks i; kept = l.kept }
 
-  whole_restarted : (rows : Rows)
+  whole_restarted : (rows : RowEntries)
       → whole_of above (record l { base = no_differences; current = put_each no_differences rows; marks = filter is_stored_child l.marks })
       ≡ (let w = whole_of above l in record w { base = above; current = over above rows; marks = without_saved w.marks })
   unfolding whole_of
@@ -182,7 +189,7 @@ module _ (above : Content) (l : Layer) where
       let current = seen_over-fresh a rows ∙ ap (λ m. over m rows) base in
       λ i. record { name = l.name; parent = l.parent; base = base i; current = current i; marks = children_kept a b l.marks i; kept = l.kept }
 
-  whole_base_taken : (k : CellId) → HasEntry l.current k → EachMarkPins l.marks k → whole_of above (record l { base = finite.remove l.base k })
+  whole_base_taken : (k : CellId) → HasDifference l.current k → EachMarkPins l.marks k → whole_of above (record l { base = finite.remove l.base k })
       ≡ (let w = whole_of above l in record w { base = set_cell w.base k (row_at above k) })
   unfolding whole_of
   whole_base_taken k entry held =
@@ -192,7 +199,7 @@ module _ (above : Content) (l : Layer) where
       let marks = ap (λ (m : Content). map (whole_mark m) l.marks) base ∙ marks_hidden b k v l.marks held in
       λ i. record { name = l.name; parent = l.parent; base = base i; current = current i; marks = marks i; kept = l.kept }
 
-  whole_row_moved : (k : CellId) (v : Option Row) → HasEntry l.current k → EachMarkPins l.marks k
+  whole_row_moved : (k : CellId) (v : Option Row) → HasDifference l.current k → EachMarkPins l.marks k
       → whole_of above (record l { base = finite.remove l.base k; current = finite.insert l.current k v })
       ≡ (let w = whole_of above l in record w { base = set_cell w.base k (row_at above k); current = set_cell w.current k v })
   unfolding whole_of
@@ -263,13 +270,13 @@ module _ (live : Content) (ls : List Layer) (at : ℕ) (r : IsRooted (wholes liv
       seen_outside (layer_at ls k).base here.base d (held_new k k_some k_lt under) q none
       ∙ sym (ap (λ (c : Content). row_at c q) was ∙ seen_outside (layer_at ls k).base here.base old (held_old k k_some k_lt under) q none))
 
-  pub put : (rows : Rows) → ChildrenPin ls (layer_at ls at).name (cells_in rows)
+  pub put : (rows : RowEntries) → ChildrenPin ls (layer_at ls at).name (cells_in rows)
       → wholes live (layer_changed ls at (λ l. record l { current = put_each l.current rows })) ≡ put_into (wholes live ls) at rows
   put rows held = becomes live ls at r some lt _ (λ w. with_current (over w.current rows) w) refl refl (whole_put above l_at rows)
       (rows_agree ls l_at.name here.current rows held)
 
   -- the base takes rows over that make it the current content
-  pub based : (rows : Rows) → over (workspace_at (wholes live ls) at).base rows ≡ (workspace_at (wholes live ls) at).current
+  pub based : (rows : RowEntries) → over (workspace_at (wholes live ls) at).base rows ≡ (workspace_at (wholes live ls) at).current
       → wholes live (layer_changed ls at (λ l. record l { base = put_each l.base rows; current = no_differences; marks = filter is_stored_child l.marks }))
       ≡ change_at (wholes live ls) at (λ w. record w { base = over w.base rows; marks = without_saved w.marks })
   based rows own =
@@ -282,7 +289,7 @@ module _ (live : Content) (ls : List Layer) (at : ℕ) (r : IsRooted (wholes liv
     over_it = (workspace_at (wholes live ls) p).current
 
     -- a base that starts anew from the parent's content
-    pub restarted : (rows : Rows) (base old : Differences)
+    pub restarted : (rows : RowEntries) (base old : Differences)
         → (workspace_at (wholes live ls) at).base ≡ seen_over (workspace_at (wholes live ls) p).current base → (workspace_at (wholes live ls) at).current
         ≡ seen_over (workspace_at (wholes live ls) at).base old
         → ChildrenPin ls (layer_at ls at).name (cells_in rows) → ChildrenPin ls (layer_at ls at).name (finite.keys base)
@@ -309,14 +316,14 @@ module _ (live : Content) (ls : List Layer) (at : ℕ) (r : IsRooted (wholes liv
         ∙ sym (ap (λ (m : Content). row_at m q) was_current ∙ seen_outside (layer_at ls k).base here.base old (held_old k k_some k_lt under) q none
         ∙ ap (λ (m : Content). row_at m q) was_base ∙ seen_outside (layer_at ls k).base over_it base (pinned_base k k_some k_lt under) q none))
 
-    pub base_taken : (k : CellId) → HasEntry (layer_at ls at).current k → EachMarkPins (layer_at ls at).marks k
+    pub base_taken : (k : CellId) → HasDifference (layer_at ls at).current k → EachMarkPins (layer_at ls at).marks k
         → wholes live (layer_changed ls at (λ l. record l { base = finite.remove l.base k })) ≡ after_resolve (wholes live ls) at p k keeps.Child
     base_taken k entry held =
         becomes_still live ls at r some lt _ (λ w. record w { base = set_cell w.base k (row_at over_it k) }) refl refl
         (whole_base_taken above l_at k entry held ∙ ap (λ (m : Content). let w = whole_of above l_at in record w { base = set_cell w.base k (row_at m k) })
         (above_parent live ls at p parent up)) refl
 
-    pub row_set : (k : CellId) (v : Option Row) → ChildrenPin ls (layer_at ls at).name (k ∷ []) → HasEntry (layer_at ls at).current k
+    pub row_set : (k : CellId) (v : Option Row) → ChildrenPin ls (layer_at ls at).name (k ∷ []) → HasDifference (layer_at ls at).current k
         → EachMarkPins (layer_at ls at).marks k
         → wholes live (layer_changed ls at (λ l. record l { base = finite.remove l.base k; current = finite.insert l.current k v }))
         ≡ row_moved (wholes live ls) at p k v
@@ -341,11 +348,11 @@ children_both ls name first others held = (
 )
 
 -- rows put into LIVE
-top_put : (live : Content) (l : Layer) (rows : Rows) → top (over live rows) l ≡ (let w = top live l in record w { current = over w.current rows })
+top_put : (live : Content) (l : Layer) (rows : RowEntries) → top (over live rows) l ≡ (let w = top live l in record w { current = over w.current rows })
 unfolding top
 top_put live l rows = refl
 
-pub live_put : (live : Content) (ls : List Layer) (rows : Rows) → 0 < length ls → ChildrenPin ls (layer_at ls 0).name (cells_in rows)
+pub live_put : (live : Content) (ls : List Layer) (rows : RowEntries) → 0 < length ls → ChildrenPin ls (layer_at ls 0).name (cells_in rows)
     → wholes (over live rows) ls ≡ put_into (wholes live ls) 0 rows
 live_put live ls rows lt held =
     moved_live live (over live rows) ls lt (rows_agree ls (layer_at ls 0).name live rows held)

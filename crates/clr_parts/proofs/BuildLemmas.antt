@@ -5,21 +5,22 @@ use Rattle.std.specs.Option.{option_or}
 use Rattle.std.proofs.Math.Seq.{take-length}
 use Rattle.clr_rows.specs.Contents.{Content, no_rows, over, rows_after, changes}
 use Rattle.clr_rows.proofs.ChangeLemmas.{taken_over-own}
-use Rattle.clr_differences.specs.Differences.{Differences, Rows, no_differences, seen_over, put_each}
+use Rattle.clr_differences.specs.Differences.{Differences, RowEntries, no_differences, seen_over, put_each}
 use Rattle.clr_differences.proofs.DifferenceLemmas.{seen_over-fresh}
 use Rattle.clr_layers.specs.Layers.{Layer, find_layer, whole_of, whole_mark, wholes, content_by_name}
 use Rattle.clr_workspaces.specs.Workspaces.{Workspace, live_workspace, workspace_at, find}
 use Rattle.clr_workspaces.proofs.FindLemmas.{find_within}
 use Rattle.clr_layers.proofs.Meaning.{length-wholes, name-whole, find-wholes, named_found}
 use Rattle.clr_layers.proofs.Places.{wholes-push}
-use Rattle.clr_parts.specs.Parts.{marks_of, workspace_of, marks_fault_at, first_below, first_name_fault, first_marks_fault, workspaces_fault, number_of, IsFault, IsRefused}
+use Rattle.clr_parts.specs.Parts.{marks_of, workspace_of, marks_fault_at, first_below, first_name_fault, first_marks_fault, workspaces_fault, number_of}
+use Rattle.clr_parts.specs.Parts.{IsPartFault, IsFirstPartFault}
 use Rattle.clr_workspaces.specs.Soundness.{IsSound}
 use Rattle.clr_parts.specs.declared.parts.Part.{Part}
 use Rattle.clr_parts.specs.declared.parts.PartFault.{PartFault}
 use Rattle.clr_parts.specs.declared.parts.PartFault.TheVariants as fault
 use Rattle.clr_parts.proofs.FaultLemmas.{below_found, sound_spaces}
 
-pub all_differences : (below above : Content) (rows : Rows) (d : Differences) → rows ≡ rows_after (changes below above) → d ≡ put_each no_differences rows
+pub all_differences : (below above : Content) (rows : RowEntries) (d : Differences) → rows ≡ rows_after (changes below above) → d ≡ put_each no_differences rows
     → seen_over below d ≡ above
 all_differences below above rows d rows_is is = ap (seen_over below) is ∙ seen_over-fresh below rows ∙ ap (over below) rows_is ∙ taken_over-own below above
 
@@ -58,7 +59,7 @@ few_taken (w ∷ ws) (suc n) = let few = few_taken ws n in omega (arith, few)
 
 -- faults -----------------------------------------------------------------------------------------------
 
-pub is_fault : (found : Option PartFault) (why : PartFault) → found ≡ Some why → IsFault found why
+pub is_fault : (found : Option PartFault) (why : PartFault) → found ≡ Some why → IsPartFault found why
 is_fault found fault.OutOfMemory e = tt
 is_fault found fault.BadName e = e
 is_fault found fault.NameTaken e = e
@@ -66,8 +67,8 @@ is_fault found fault.NoParent e = e
 is_fault found fault.TooMany e = e
 is_fault found fault.BadMarks e = e
 
-pub refused_at : (wrong : ℕ → Option PartFault) (at n : ℕ) (why : PartFault) → at < n → first_below wrong at ≡ None → IsFault (wrong at) why
-    → IsRefused (first_below wrong n) (number_of at why, why)
+pub refused_at : (wrong : ℕ → Option PartFault) (at n : ℕ) (why : PartFault) → at < n → first_below wrong at ≡ None → IsPartFault (wrong at) why
+    → IsFirstPartFault (first_below wrong n) (number_of at why, why)
 refused_at wrong at n fault.OutOfMemory lt before e = refl
 refused_at wrong at n fault.BadName lt before e = below_found wrong at n fault.BadName lt before e
 refused_at wrong at n fault.NameTaken lt before e = below_found wrong at n fault.NameTaken lt before e
@@ -95,11 +96,12 @@ module _ (live : Content) (ls : List Layer) (rest : List Workspace) (is : wholes
   pub none_wrong : first_name_fault live rest ≡ None → first_below (marks_fault_at (wholes live ls)) (length ls - 1) ≡ None → workspaces_fault live rest ≡ None
   none_wrong names marks = λ i. option_or (names i) ((sym marks_in ∙ marks) i)
 
-  pub marks_wrong : first_name_fault live rest ≡ None → (e : ℕ × PartFault) → IsRefused (first_below (marks_fault_at (wholes live ls)) (length ls - 1)) e
-      → IsRefused (workspaces_fault live rest) e
-  marks_wrong names e r = subst (λ o. IsRefused o e) (marks_in ∙ sym (ap (λ o. option_or o (first_marks_fault live rest)) names)) r
+  pub marks_wrong : first_name_fault live rest ≡ None → (e : ℕ × PartFault) → IsFirstPartFault (first_below (marks_fault_at (wholes live ls)) (length ls - 1)) e
+      → IsFirstPartFault (workspaces_fault live rest) e
+  marks_wrong names e r = subst (λ o. IsFirstPartFault o e) (marks_in ∙ sym (ap (λ o. option_or o (first_marks_fault live rest)) names)) r
 
-pub names_wrong : (live : Content) (ws : List Workspace) (e : ℕ × PartFault) → IsRefused (first_name_fault live ws) e → IsRefused (workspaces_fault live ws) e
+pub names_wrong : (live : Content) (ws : List Workspace) (e : ℕ × PartFault) → IsFirstPartFault (first_name_fault live ws) e →
+    IsFirstPartFault (workspaces_fault live ws) e
 names_wrong live ws (n, fault.OutOfMemory) r = r
 names_wrong live ws (n, fault.BadName) r = ap (λ o. option_or o (first_marks_fault live ws)) r
 names_wrong live ws (n, fault.NameTaken) r = ap (λ o. option_or o (first_marks_fault live ws)) r

@@ -1,5 +1,6 @@
 -- The first fault of parts, and what follows where there is none.
-use Rattle.std.proofs.Common.{◌≡◌, ℕ, suc, zero, ◌+◌, ◌<◌, ◌≤◌, ⊎_elim, Bool, true, false, cond, not, nat_le, nat_lt, ◌&&◌, ◌||◌, ◌==◌, List, [], ◌∷◌, ◌++◌, length, take, get_or, Some, None, is_some, refl, ap, sym, ◌∙◌, subst, arith, ◌⊎◌, inl, inr}
+use Rattle.std.proofs.Common.{◌≡◌, ℕ, suc, zero, ◌+◌, ◌<◌, ◌≤◌, ⊎_elim, Bool, true, false, cond, not, nat_le, nat_lt, ◌&&◌, ◌||◌, ◌==◌, List, [], ◌∷◌, ◌++◌}
+use Rattle.std.proofs.Common.{length, take, get_or, Some, None, is_some, refl, ap, sym, ◌∙◌, subst, arith, ◌⊎◌, inl, inr}
 use Rattle.std.specs.declared.option.Option.{Option}
 use Rattle.std.specs.Option.{option_or, option_map}
 use Rattle.std.specs.List.{list_all}
@@ -15,7 +16,8 @@ use Rattle.clr_workspaces.specs.Marks.{Name, Mark, Saved, ChildMark, is_mark_of,
 use Rattle.clr_workspaces.specs.Workspaces.{Workspace, no_workspace, live_workspace, workspace_at, find, parent_of, is_child_named, child_count, depth_of}
 use Rattle.clr_workspaces.proofs.FindLemmas.{find_more, find_named, find_within}
 use Rattle.clr_workspaces.proofs.FindLemmas.{not_from}
-use Rattle.clr_parts.specs.Parts.{workspace_of, list_of, name_fault, parent_fault, is_under, is_childs, is_marked_once, has_child_marks, has_good_marks, name_fault_at, marks_fault_at, first_below, first_name_fault, first_marks_fault}
+use Rattle.clr_parts.specs.Parts.{workspace_of, list_of, name_fault, parent_fault, is_under, is_childs, is_marked_once, has_child_marks, has_good_marks}
+use Rattle.clr_parts.specs.Parts.{name_fault_at, marks_fault_at, first_below, first_name_fault, first_marks_fault}
 use Rattle.clr_workspaces.specs.Roots.{IsRooted}
 use Rattle.clr_workspaces.specs.Soundness.{IsSound, HasChildMarks, are_good_savepoints}
 use Rattle.clr_workspaces.specs.declared.limits.TheConstants.{MOST_WORKSPACES, MOST_LEVELS}
@@ -133,8 +135,10 @@ shaped_more ws w s clear =
     let r = rooted_more ws w p.above p.absent p.good p.found s.rooted in
     let up = find_within ws w.parent p.above p.found in
     let last : length ws < length (ws ++ w ∷ []) = omega (arith, more) in
-    let parent : parent_of (ws ++ w ∷ []) (length ws) ≡ Some p.above = ap (λ (v : Workspace). find (ws ++ w ∷ []) v.parent) (at_last ws w p.above p.absent p.good p.found s.rooted) ∙ find_more ws w w.parent p.above p.found in
-    let deep : depth_of (ws ++ w ∷ []) (length ws) ≡ depth_of ws p.above + 1 = depth_step (ws ++ w ∷ []) (length ws) p.above r last parent up ∙ ap (λ d. d + 1) (depth_more ws w p.above p.above s.rooted r up) in
+    let parent : parent_of (ws ++ w ∷ []) (length ws) ≡ Some p.above = ap (λ (v : Workspace). find (ws ++ w ∷ []) v.parent)
+    (at_last ws w p.above p.absent p.good p.found s.rooted) ∙ find_more ws w w.parent p.above p.found in
+    let deep : depth_of (ws ++ w ∷ []) (length ws) ≡ depth_of ws p.above + 1 = depth_step (ws ++ w ∷ []) (length ws) p.above r last parent up
+    ∙ ap (λ d. d + 1) (depth_more ws w p.above p.above s.rooted r up) in
     let shallow = p.shallow in
     let few = p.few in
     record {
@@ -211,7 +215,8 @@ marks_right ws j r lt all n = by (find ws n) refl
         under true child =
             let k_lt = find_within ws n k e in
             let named : n ≡ (workspace_at ws k).name = find_named ws n k e in
-            let once = is_one (mark_count w.marks (workspace_at ws k).name) (bytes_eq w.name (workspace_at ws k).parent) child (all_each (is_marked_once w.name w.marks) ws k no_workspace parts.1 k_lt) in
+            let once = is_one (mark_count w.marks (workspace_at ws k).name) (bytes_eq w.name (workspace_at ws k).parent) child
+            (all_each (is_marked_once w.name w.marks) ws k no_workspace parts.1 k_lt) in
             let parent : parent_of ws k ≡ Some j = ap (find ws) (sym ((bytes_decides w.name (workspace_at ws k).parent).0 child)) ∙ r.own j lt in
             ap (mark_count w.marks) named ∙ once ∙ sym (ap (child_count ws w.name) named ∙ one_child ws k j r k_lt parent)
 
@@ -241,8 +246,10 @@ module _ (live : Content) (rest : List Workspace) (names : first_name_fault live
   pub sound_spaces : first_marks_fault live rest ≡ None → IsSound (live_workspace live ∷ rest)
   sound_spaces marks =
       let s = shaped_spaces in
-      let good : (k : ℕ) → suc k < length ws → has_good_marks ws (workspace_at ws (suc k)) ≡ true = λ k lt. clear_marks ws k (none_at (marks_fault_at ws) (length rest) k marks (omega (arith, lt))) in
-      let halves : (k : ℕ) → suc k < length ws → (let w = workspace_at ws (suc k) in (are_good_savepoints (saved_names w.marks) ≡ true) × (has_child_marks ws w.name w.marks ≡ true)) =
+      let good : (k : ℕ) → suc k < length ws → has_good_marks ws (workspace_at ws (suc k)) ≡ true =
+      λ k lt. clear_marks ws k (none_at (marks_fault_at ws) (length rest) k marks (omega (arith, lt))) in
+      let halves : (k : ℕ) → suc k < length ws → (let w = workspace_at ws (suc k) in (are_good_savepoints (saved_names w.marks) ≡ true)
+      × (has_child_marks ws w.name w.marks ≡ true)) =
       λ k lt. and_parts (are_good_savepoints (saved_names (workspace_at ws (suc k)).marks)) (has_child_marks ws (workspace_at ws (suc k)).name
       (workspace_at ws (suc k)).marks) (good k lt) in
       record {

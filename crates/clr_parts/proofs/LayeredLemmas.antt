@@ -8,7 +8,7 @@ use Rattle.clr_layers.specs.Layers.{Layer, above_in, grow, leaf, whole_of, whole
 use Rattle.clr_workspaces.specs.Workspaces.{Workspace, live_workspace, workspace_at}
 use Rattle.clr_layers.proofs.Meaning.{length-wholes, name-whole}
 use Rattle.clr_workspaces.specs.Roots.{IsRooted}
-use Rattle.clr_parts.specs.Parts.{place_fault, name_fault_at, first_below, first_name_fault, number_of, IsFault, IsRefused}
+use Rattle.clr_parts.specs.Parts.{place_fault, name_fault_at, first_below, first_name_fault, number_of, IsPartFault, IsFirstPartFault}
 use Rattle.clr_parts.specs.declared.parts.PartFault.{PartFault}
 use Rattle.clr_layers.proofs.Meaning.{root_made}
 use Rattle.clr_parts.proofs.FaultLemmas.{below_none, below_next, below_all, shaped_take}
@@ -103,10 +103,10 @@ module _ (live : Content) (rest : List Workspace) (ls : List Layer) where
               ∙ none));
         }
 
-    pub pushed_not : (why : PartFault) → IsFault (place_fault ws l.name l.parent) why
-        → IsRefused (first_name_fault live rest) (number_of (length ls - 1) why, why)
+    pub pushed_not : (why : PartFault) → IsPartFault (place_fault ws l.name l.parent) why
+        → IsFirstPartFault (first_name_fault live rest) (number_of (length ls - 1) why, why)
     pushed_not why e =
         let all = room (l ∷ others) p in
         let here = position (l ∷ others) p in
         let one : length (grow ws (l ∷ others)) ≡ suc (length (grow (ws ++ next_whole ws l ∷ []) others)) = ap length (grow-next ws l others) in
-        refused_at wrong (length ls - 1) (length rest) why (omega (arith, all, here, one)) p.clear (subst (λ f. IsFault f why) (sym next_wrong) e)
+        refused_at wrong (length ls - 1) (length rest) why (omega (arith, all, here, one)) p.clear (subst (λ f. IsPartFault f why) (sym next_wrong) e)

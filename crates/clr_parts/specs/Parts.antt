@@ -112,22 +112,22 @@ abbrev pub first_fault : Content → List Part → Option (ℕ × PartFault)
 first_fault live parts = workspaces_fault live (map workspace_of parts)
 
 -- a refusal names the first workspace with a fault, or is 0 for want of memory
-abbrev pub IsRefused : Option (ℕ × PartFault) → ℕ × PartFault → Type 0
-IsRefused first (n, fault.OutOfMemory) = n ≡ 0
-IsRefused first (n, fault.BadName) = first ≡ Some (n, fault.BadName)
-IsRefused first (n, fault.NameTaken) = first ≡ Some (n, fault.NameTaken)
-IsRefused first (n, fault.NoParent) = first ≡ Some (n, fault.NoParent)
-IsRefused first (n, fault.TooMany) = first ≡ Some (n, fault.TooMany)
-IsRefused first (n, fault.BadMarks) = first ≡ Some (n, fault.BadMarks)
+abbrev pub IsFirstPartFault : Option (ℕ × PartFault) → ℕ × PartFault → Type 0
+IsFirstPartFault first (n, fault.OutOfMemory) = n ≡ 0
+IsFirstPartFault first (n, fault.BadName) = first ≡ Some (n, fault.BadName)
+IsFirstPartFault first (n, fault.NameTaken) = first ≡ Some (n, fault.NameTaken)
+IsFirstPartFault first (n, fault.NoParent) = first ≡ Some (n, fault.NoParent)
+IsFirstPartFault first (n, fault.TooMany) = first ≡ Some (n, fault.TooMany)
+IsFirstPartFault first (n, fault.BadMarks) = first ≡ Some (n, fault.BadMarks)
 
 -- the fault of one part, in place of which want of memory may come
-abbrev pub IsFault : Option PartFault → PartFault → Type 0
-IsFault found fault.OutOfMemory = Unit {0}
-IsFault found fault.BadName = found ≡ Some fault.BadName
-IsFault found fault.NameTaken = found ≡ Some fault.NameTaken
-IsFault found fault.NoParent = found ≡ Some fault.NoParent
-IsFault found fault.TooMany = found ≡ Some fault.TooMany
-IsFault found fault.BadMarks = found ≡ Some fault.BadMarks
+abbrev pub IsPartFault : Option PartFault → PartFault → Type 0
+IsPartFault found fault.OutOfMemory = Unit {0}
+IsPartFault found fault.BadName = found ≡ Some fault.BadName
+IsPartFault found fault.NameTaken = found ≡ Some fault.NameTaken
+IsPartFault found fault.NoParent = found ≡ Some fault.NoParent
+IsPartFault found fault.TooMany = found ≡ Some fault.TooMany
+IsPartFault found fault.BadMarks = found ≡ Some fault.BadMarks
 
 -- the number in the answer to the fault of the workspace at a position
 abbrev pub number_of : ℕ → PartFault → ℕ

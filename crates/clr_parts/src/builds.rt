@@ -6,7 +6,7 @@ ghost use Rattle.clr_differences.specs.Differences.{seen_over};
 ghost use Rattle.clr_layers.specs.Entries.{layer_of};
 ghost use Rattle.clr_layers.specs.Layers.{leaf, whole_mark, whole_of, wholes};
 ghost use Rattle.clr_workspaces.specs.Workspaces.{workspace_at, find};
-ghost use Rattle.clr_parts.specs.Parts.{mark_of, marks_of, workspace_of, list_of, name_fault_at, first_name_fault, IsFault, IsRefused, number_of};
+ghost use Rattle.clr_parts.specs.Parts.{mark_of, marks_of, workspace_of, list_of, name_fault_at, first_name_fault, IsPartFault, IsFirstPartFault, number_of};
 ghost use Rattle.clr_parts.specs.declared.parts.PartFault.TheVariants.{OutOfMemory};
 ghost use Rattle.clr_workspaces.specs.Roots.{IsRooted};
 
@@ -125,7 +125,7 @@ fn push_part(
     requires before { wholes live.now map.old ≡ take (suc at) (list_of live.now parts.now) }
     ensures ok { OnOk result (wholes live.now map.new ≡ take (suc (suc at)) (list_of live.now parts.now)) }
     ensures passed { OnOk result (name_fault_at (list_of live.now parts.now) at ≡ None) }
-    ensures refused { IfErr result (IsFault (name_fault_at (list_of live.now parts.now) at)) }
+    ensures refused { IfErr result (IsPartFault (name_fault_at (list_of live.now parts.now) at)) }
 {
     let part = &parts[at];
     let above = match judge_place(live, map, part.name.as_str(), part.parent.as_str()) {
@@ -171,7 +171,7 @@ pub fn push_parts(
 ) -> Result<WorkspaceMap, (usize, PartFault)>
     ensures made { IfOk result (λ map. wholes live.now map ≡ list_of live.now parts.now) }
     ensures passed { OnOk result (first_name_fault live.now (map workspace_of parts.now) ≡ None) }
-    ensures refused { IfErr result (IsRefused (first_name_fault live.now (map workspace_of parts.now))) }
+    ensures refused { IfErr result (IsFirstPartFault (first_name_fault live.now (map workspace_of parts.now))) }
 {
     let mut map = start(alloc)?;
     for at in 0..parts.len() {

@@ -4,7 +4,7 @@ ghost use Rattle.std.specs.Prelude.{◌≡◌, ◌++◌, [], ◌∷◌, None, On
 ghost use Rattle.clr_layers.specs.Entries.{stored_layer};
 ghost use Rattle.clr_layers.specs.Layers.{above_in, whole_of, wholes};
 ghost use Rattle.clr_workspaces.specs.Workspaces.{live_workspace};
-ghost use Rattle.clr_parts.specs.Parts.{spaces_of, place_fault, first_name_fault, IsFault, IsRefused};
+ghost use Rattle.clr_parts.specs.Parts.{spaces_of, place_fault, first_name_fault, IsPartFault, IsFirstPartFault};
 ghost use Rattle.clr_workspaces.specs.Roots.{IsRooted};
 
 use crate::builds::{number_of, start};
@@ -21,7 +21,7 @@ fn push_layer(live: &Sheet, map: &mut WorkspaceMap, part: StoredPart) -> Result<
     ensures ok { OnOk result (wholes live.now map.new
         ≡ wholes live.now map.old ++ whole_of (above_in (wholes live.now map.old) (stored_layer part)) (stored_layer part) ∷ []) }
     ensures passed { OnOk result (place_fault (wholes live.now map.old) part.name part.layer.parent ≡ None) }
-    ensures refused { IfErr result (IsFault (place_fault (wholes live.now map.old) part.name part.layer.parent)) }
+    ensures refused { IfErr result (IsPartFault (place_fault (wholes live.now map.old) part.name part.layer.parent)) }
 {
     let StoredPart { name, layer } = part;
     if let Err(fault) = judge_place(live, map, name.as_str(), layer.parent.as_str()) {
@@ -43,7 +43,7 @@ pub fn push_layers(
 ) -> Result<WorkspaceMap, (usize, PartFault)>
     ensures made { IfOk result (λ made. wholes live.now made ≡ live_workspace live.now ∷ spaces_of live.now parts.items) }
     ensures passed { OnOk result (first_name_fault live.now (spaces_of live.now parts.items) ≡ None) }
-    ensures refused { IfErr result (IsRefused (first_name_fault live.now (spaces_of live.now parts.items))) }
+    ensures refused { IfErr result (IsFirstPartFault (first_name_fault live.now (spaces_of live.now parts.items))) }
 {
     let mut map = start(alloc)?;
     for part in parts {

@@ -7,7 +7,7 @@ ghost use Rattle.clr_layers.specs.Layers.{wholes};
 ghost use Rattle.clr_workspaces.specs.Marks.{saved_names};
 ghost use Rattle.clr_workspaces.specs.Workspaces.{workspace_at, find};
 ghost use Rattle.clr_parts.specs.Parts.{bare_mark, bare_marks, place_fault, has_new_name, is_childs, is_marked_once};
-ghost use Rattle.clr_parts.specs.Parts.{has_good_marks, marks_fault_at, first_below, IsRefused};
+ghost use Rattle.clr_parts.specs.Parts.{has_good_marks, marks_fault_at, first_below, IsFirstPartFault};
 ghost use Rattle.clr_workspaces.specs.Roots.{IsRooted};
 ghost use Rattle.clr_workspaces.specs.Soundness.{are_good_savepoints};
 
@@ -156,7 +156,7 @@ fn has_good_marks(live: &Sheet, map: &WorkspaceMap, at: usize) -> bool
 pub fn judge_marks(live: &Sheet, map: &WorkspaceMap) -> Result<(), (usize, PartFault)>
     requires { 0 < length map.now }
     ensures passed { OnOk result (first_below (marks_fault_at (wholes live.now map.now)) (length map.now - 1) ≡ None) }
-    ensures refused { IfErr result (IsRefused (first_below (marks_fault_at (wholes live.now map.now)) (length map.now - 1))) }
+    ensures refused { IfErr result (IsFirstPartFault (first_below (marks_fault_at (wholes live.now map.now)) (length map.now - 1))) }
 {
     let count = map.len() - 1;
     for at in 0..count {

@@ -16,7 +16,7 @@ use Rattle.clr_clearance.specs.declared.verdicts.Verdict.TheVariants as verdict
 use Rattle.clr_clearance.specs.Plans.{IsBlocked, IsUnfit, of_conflict, of_shared, of_unpicked}
 use Rattle.clr_clearance.specs.Sites.{change_sets, setting_by_position}
 use Rattle.clr_clearance.specs.Verdicts.{first_conflict, first_repeated, member_fault, missing_member, name_fault, repeated_member, root_fault, stray_member}
-use Rattle.clr_sites.specs.Faults.{IsFault, of_member, without_memory}
+use Rattle.clr_sites.specs.Faults.{IsSiteFault, of_member, without_memory}
 use Rattle.clr_plan.specs.declared.plans.Plan.{Plan}
 use Rattle.clr_plan.specs.declared.plans.Plan.TheVariants as plan
 use Rattle.clr_plan.specs.Plans.{IsBlockedIn, IsPlan, IsScenePlan}
@@ -103,7 +103,7 @@ module _ (o : Office) (s : Site) where
       by (inr f) = inr (f, each_is OfConflicts (first_conflict o 0 s.members) v (of_conflicts o 0 s.members) f.1)
 
   -- want of memory is no test that fails
-  pub memory_fault : IsFault o s verdict.OutOfMemory → name_fault o s ≡ None
+  pub memory_fault : IsSiteFault o s verdict.OutOfMemory → name_fault o s ≡ None
   memory_fault (of_member e) = by (found verdict.OutOfMemory e)
     where
       by : (IsUnfit o s verdict.OutOfMemory × ⊥) ⊎ (((name_fault o s ≡ None) × (first_conflict o 0 s.members ≡ Some verdict.OutOfMemory)) × ⊥) → name_fault o s
@@ -113,7 +113,7 @@ module _ (o : Office) (s : Site) where
   memory_fault (without_memory none same) = none
 
   -- a member in conflict is an order of its own
-  conflict_blocks : (at : ℕ) (cell : CellId) (count : ℕ) → IsFault o s (verdict.Conflict at cell count) → (name_fault o s ≡ None)
+  conflict_blocks : (at : ℕ) (cell : CellId) (count : ℕ) → IsSiteFault o s (verdict.Conflict at cell count) → (name_fault o s ≡ None)
       × IsBlocked o s (at ∷ []) (verdict.Conflict at cell count)
   conflict_blocks at cell count (of_member e) = by (found (verdict.Conflict at cell count) e)
     where
@@ -131,13 +131,14 @@ module _ (o : Office) (s : Site) where
   blocked_plan order cause (plan.Cleared c) h none blocks = absurd h
   blocked_plan order cause plan.OutOfMemory h none blocks = none
 
-  pub conflict_plan : (at : ℕ) (cell : CellId) (count : ℕ) (p : Plan) → IsFault o s (verdict.Conflict at cell count)
+  pub conflict_plan : (at : ℕ) (cell : CellId) (count : ℕ) (p : Plan) → IsSiteFault o s (verdict.Conflict at cell count)
       → IsBlockedIn (at ∷ []) (verdict.Conflict at cell count) p → IsPlan o s p
   conflict_plan at cell count p fault h = let (none, blocks) = conflict_blocks at cell count fault in blocked_plan (at ∷ []) (verdict.Conflict at cell count) p
       h none blocks
 
   -- each other fault is one of names
-  pub unfit_plan : (v : Verdict) → ¬ (v ≡ verdict.OutOfMemory) → ((at : ℕ) (cell : CellId) (count : ℕ) → ¬ (v ≡ verdict.Conflict at cell count)) → IsFault o s v
+  pub unfit_plan : (v : Verdict) → ¬ (v ≡ verdict.OutOfMemory) → ((at : ℕ) (cell : CellId) (count : ℕ) → ¬ (v ≡ verdict.Conflict at cell count)) →
+      IsSiteFault o s v
       → IsUnfit o s v
   unfit_plan v not_memory not_conflict (without_memory none same) = absurd (not_memory same)
   unfit_plan v not_memory not_conflict (of_member e) = by (found v e)

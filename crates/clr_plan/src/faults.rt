@@ -6,7 +6,7 @@ ghost use Rattle.clr_steps.specs.Offices.{Office};
 ghost use Rattle.clr_steps.specs.Quiet.{Site};
 ghost use Rattle.clr_clearance.specs.Sites.{change_sets};
 ghost use Rattle.clr_clearance.specs.Verdicts.{member_fault};
-ghost use Rattle.clr_sites.specs.Faults.{IsFault};
+ghost use Rattle.clr_sites.specs.Faults.{IsSiteFault};
 ghost use Rattle.clr_plan.specs.Plans.{IsBlockedIn, IsPlan};
 
 use crate::plans::Plan;
@@ -27,7 +27,7 @@ fn blocked_plan(alloc: Global, order: &[usize], cause: Verdict) -> Plan
 /// Returns the plan where a test of names or the test for conflicts fails: the member in conflict is
 /// an order of its own.
 pub(crate) fn plan_fault(alloc: Global, fault: Verdict) -> Plan
-    ensures { (o : Office) (s : Site) → IsFault o s fault → IsPlan o s result }
+    ensures { (o : Office) (s : Site) → IsSiteFault o s fault → IsPlan o s result }
 {
     match fault {
         Verdict::OutOfMemory => Plan::OutOfMemory,

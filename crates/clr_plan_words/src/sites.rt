@@ -1,5 +1,9 @@
 //! The place that the rows of a need have in common.
 
+ghost use Rattle.std.specs.Option.{option_copied};
+ghost use Rattle.std.specs.Prelude.{◌≡◌};
+ghost use Rattle.clr_rules.specs.Sides.{sides};
+
 use crate::members::Members;
 use clr_engine::Office;
 use clr_needs::Need;
@@ -60,12 +64,8 @@ pub fn site_of(office: &Office, members: &Members<'_>, need: &Need) -> Meeting {
 }
 
 /// Returns the side whose rows serve under a rule, if any can.
-pub fn server_side(rule: &Rule) -> Option<&Side> {
-    match rule {
-        Rule::Partner { server, .. } => Some(server),
-        Rule::EndNode { server, .. } => Some(server),
-        Rule::Crossing { server, .. } => Some(server),
-        Rule::Unique { .. } => None,
-        Rule::Near { .. } => None,
-    }
+pub fn server_side(rule: &Rule) -> Option<&Side>
+    ensures { option_copied result ≡ (sides rule.now).server }
+{
+    rule.sides().server
 }

@@ -8,7 +8,7 @@ use Rattle.clr_check_texts.specs.declared.cases.CaseFault.TheVariants as no_case
 use Rattle.clr_rule_text.specs.declared.faults.TextFault.{TextFault}
 use Rattle.clr_office.specs.Clearances.{fault_print}
 use Rattle.clr_reports.specs.Printing.{IsNoPrint}
-use Rattle.clr_reports.specs.Printing.{IsMade as AreLinesMade, IsPrintIn as IsLinesIn, IsTextFault as IsLinesFault, Printed as Lines}
+use Rattle.clr_reports.specs.Printing.{IsOutput as AreLinesMade, IsPrintIn as IsLinesIn, IsTextFault as IsLinesFault, Printed as Lines}
 use Rattle.clr_reports.specs.declared.faults.RunFault.{RunFault}
 use Rattle.clr_reports.specs.declared.faults.RunFault.TheVariants as run_fault
 use Rattle.clr_reports.specs.declared.outputs.Output.{Output}
@@ -33,7 +33,8 @@ module _ (Q : Lines → Type 0) (P : PrintoutOrFault → Type 0) (leads : (lines
   fault_noted run_fault.NoSeparator h = absurd h
 
   -- lines that are made of one are notes that are made of the other
-  pub noted : (answer : Result Output RunFault) (result : Result Print RunFault) → AreLinesMade Q answer → AreLinesAsNotes answer result → IsMadePrintout P result
+  pub noted : (answer : Result Output RunFault) (result : Result Print RunFault) → AreLinesMade Q answer → AreLinesAsNotes answer result →
+      IsMadePrintout P result
   noted (Ok output) (Ok print) made are = rw (are, no_text output.lost) (leads _ made)
   noted (Ok output) (Err f) made are = absurd are
   noted (Err e) (Ok print) made are = absurd are

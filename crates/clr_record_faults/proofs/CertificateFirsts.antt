@@ -14,7 +14,7 @@ use Rattle.clr_cert.specs.declared.faults.CertFault.{CertFault}
 use Rattle.clr_cert.specs.declared.faults.CertFault.TheVariants as fault
 use Rattle.clr_cert.specs.Certificates.{certificate_from, certificate_in, is_root, item_of, name_of, root_of, with_item}
 use Rattle.clr_cert.specs.Versions.{entry_of}
-use Rattle.clr_record_faults.specs.FirstFaults.{Fields, IsFirstFault, readable}
+use Rattle.clr_record_faults.specs.FirstFaults.{RecordFields, IsFirstFault, readable}
 use Rattle.clr_record_faults.specs.CertificateFaults.{CertificateFaultLaw, IsFaultOfCertificate, has_root, names_root}
 use Rattle.clr_record_faults.proofs.Firsts.{at_once, fault_of_first, later, same_fault, within}
 
@@ -33,7 +33,7 @@ root_by_word is root member need true false false true found name None item so r
 root_by_word is root member need true false false true found name (Some x) item so r m n = let same : need x ≡ item = cc in rw (← same) (n x)
 root_by_word is root member need true false false false found name entry item so r m n = absurd cc
 
-abbrev says : Fields → List ℕ → Bool
+abbrev says : RecordFields → List ℕ → Bool
 says fields word = bytes_eq (field_of fields 0) word
 
 -- one record is read, and then those behind it, of which the first fault is told
@@ -44,10 +44,11 @@ one_record (Err g) next f n m e is = let same = same_fault (n, g) (m, e) is in i
 one_record (Ok item) next f n m e is = inr (item, refl, fault_of_first (next item) (f item) (m, e) is)
 
 -- a record behind others, where a root record stands before them or none does
-abbrev reads_from : List TableDef → Bool → List Fields → Fields → Result (Unit {0}) CertFault
+abbrev reads_from : List TableDef → Bool → List RecordFields → RecordFields → Result (Unit {0}) CertFault
 reads_from tables rooted before fields = readable (item_of tables (rooted || has_root before) fields)
 
-records_fault : (tables : List TableDef) (rows : List Fields) (rooted : Bool) (n m : ℕ) (e : CertFault) → certificate_from tables rooted n rows ≡ Err (m, e)
+records_fault : (tables : List TableDef) (rows : List RecordFields) (rooted : Bool) (n m : ℕ) (e : CertFault) →
+    certificate_from tables rooted n rows ≡ Err (m, e)
     → (at : ℕ) × (m ≡ n + at) × IsFirstFault (reads_from tables rooted) rows at e
 unfolding certificate_from item_of
 records_fault tables [] rooted n m e is = absurd cc
@@ -58,7 +59,7 @@ records_fault tables (r ∷ rest) rooted n m e is =
           let found = records_fault tables rest (rooted || is_root done.0) (n + 1) m e done.2 in
           let named : is_root done.0 ≡ names_root r = root_by_word is_root _ _ _ (length r == 6) (names_root r) (says r (codes "member")) (says r (codes
           "need")) (root_of rooted r) (name_of r) (entry_of tables r) done.0 done.1 (λ x. refl) (λ x. refl) (λ x. refl) in
-          let next : (before : List Fields) → (rooted || has_root (r ∷ before)) ≡ ((rooted || is_root done.0) || has_root before) =
+          let next : (before : List RecordFields) → (rooted || has_root (r ∷ before)) ≡ ((rooted || is_root done.0) || has_root before) =
           λ before. sym (or_assoc rooted (names_root r) (has_root before)) ∙ ap (λ b. (rooted || b) || has_root before) (sym named) in (
             suc (found.0),
             omega (arith, found.1),
@@ -70,7 +71,7 @@ records_fault tables (r ∷ rest) rooted n m e is =
 pub certificate_faults_first : CertificateFaultLaw
 certificate_faults_first tables bytes number e is = by (records_in bytes) refl is
   where
-    by : (found : Option (List Fields)) → records_in bytes ≡ found → (or_fault (1, fault.NotCsv) found >>= λ rows. certificate_from tables false 1 rows) ≡
+    by : (found : Option (List RecordFields)) → records_in bytes ≡ found → (or_fault (1, fault.NotCsv) found >>= λ rows. certificate_from tables false 1 rows) ≡
         Err (number, e) → (rooted : Bool) × IsFaultOfCertificate tables found rooted number e
     by None was failed = let same = same_fault (1, fault.NotCsv) (number, e) failed in (false, (refl, sym same.0, sym same.1))
     by (Some rows) was failed =
@@ -78,25 +79,27 @@ certificate_faults_first tables bytes number e is = by (records_in bytes) refl i
         (has_root (take found.0 rows), (found.0, omega (arith, found.1), refl, found.2))
 
 -- what is told of the number and the fault of a certificate, with whether a root record stands before the record
-pub found_among : (tables : List TableDef) (bytes : List ℕ) (rows : List Fields) (number : ℕ) (e : CertFault) → Some rows ≡ records_in bytes → certificate_in
+pub found_among : (tables : List TableDef) (bytes : List ℕ) (rows : List RecordFields) (number : ℕ) (e : CertFault) → Some rows ≡ records_in bytes →
+    certificate_in
     tables bytes ≡ Err (number, e)
     → (0 < number) × (number ≤ length rows) × IsFaultOfCertificate tables (Some rows) (has_root (take (number - 1) rows)) number e
 found_among tables bytes rows number e found failed =
     let law = certificate_faults_first tables bytes number e failed in
-    let told = subst (λ (o : Option (List Fields)). IsFaultOfCertificate tables o law.0 number e) (sym found) law.1 in
+    let told = subst (λ (o : Option (List RecordFields)). IsFaultOfCertificate tables o law.0 number e) (sym found) law.1 in
     let number_is = within rows told.0 number told.3.there.0 told.1 told.3.there.1 in
     let place : number - 1 ≡ told.0 = omega (arith, told.1) in
     (number_is.0, number_is.1, (told.0, told.1, ap (λ at. has_root (take at rows)) place, told.3))
 
-pub found_as : (tables : List TableDef) (bytes : List ℕ) (rows : List Fields) (number : ℕ) (e : CertFault) (r : Bool) (n : ℕ) (f : CertFault) → Some rows ≡
+pub found_as : (tables : List TableDef) (bytes : List ℕ) (rows : List RecordFields) (number : ℕ) (e : CertFault) (r : Bool) (n : ℕ) (f : CertFault) →
+    Some rows ≡
     records_in bytes
     → certificate_in tables bytes ≡ Err (number, e) → r ≡ has_root (take (number - 1) rows) → n ≡ number → f ≡ e → IsFaultOfCertificate tables (records_in
     bytes) r n f
 found_as tables bytes rows number e r n f found failed is_r is_n is_f =
-    subst (λ (o : Option (List Fields)). IsFaultOfCertificate tables o r n f) found (rw (is_r, is_n, is_f) (found_among tables bytes rows number e found
+    subst (λ (o : Option (List RecordFields)). IsFaultOfCertificate tables o r n f) found (rw (is_r, is_n, is_f) (found_among tables bytes rows number e found
     failed).2)
 
-any_of_map : (test : Fields → Bool) (rows : List Row) → list_any test (map fields_of rows) ≡ list_any (λ r. test (fields_of r)) rows
+any_of_map : (test : RecordFields → Bool) (rows : List Row) → list_any test (map fields_of rows) ≡ list_any (λ r. test (fields_of r)) rows
 any_of_map test [] = refl
 any_of_map test (r ∷ rest) = ap (λ b. test (fields_of r) || b) (any_of_map test rest)
 

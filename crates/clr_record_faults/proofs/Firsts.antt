@@ -4,28 +4,31 @@ use Rattle.std.specs.Prelude.{option_map, slice_get}
 use Rattle.std.proofs.lemmas.Option.{slice_get-map, slice_get_read, slice_get_within}
 use Rattle.csv.specs.Records.{Row, fields_of}
 use Rattle.clr_records.specs.Records.{◌>>=◌}
-use Rattle.clr_record_faults.specs.FirstFaults.{Fields, IsFirstFault, Reading, numbered}
+use Rattle.clr_record_faults.specs.FirstFaults.{RecordFields, IsFirstFault, Reading, numbered}
 
 -- the first of records has the fault
-pub at_once : {E : Type 0} (reads : Reading E) (r : Fields) (rest : List Fields) (e : E) → reads [] r ≡ Err e → IsFirstFault reads (r ∷ rest) 0 e
+pub at_once : {E : Type 0} (reads : Reading E) (r : RecordFields) (rest : List RecordFields) (e : E) → reads [] r ≡ Err e → IsFirstFault reads (r ∷ rest) 0 e
 at_once reads r rest e was = record { there = (r, refl, was); earlier = λ k x lt found. absurd (omega (arith, lt)) }
 
 -- the first of records can be read, and so can all behind it
-pub all_later : {E : Type 0} (reads others : Reading E) (r : Fields) (rest : List Fields) → reads [] r ≡ Ok tt → ((before : List Fields) (x : Fields) → reads
+pub all_later : {E : Type 0} (reads others : Reading E) (r : RecordFields) (rest : List RecordFields) → reads [] r ≡ Ok tt →
+    ((before : List RecordFields) (x : RecordFields) → reads
     (r ∷ before) x ≡ others before x)
-    → ((k : ℕ) (x : Fields) → slice_get rest k ≡ Some x → others (take k rest) x ≡ Ok tt) → (k : ℕ) (x : Fields) → slice_get (r ∷ rest) k ≡ Some x → reads
+    → ((k : ℕ) (x : RecordFields) → slice_get rest k ≡ Some x → others (take k rest) x ≡ Ok tt) → (k : ℕ) (x : RecordFields) → slice_get (r ∷ rest) k ≡ Some x →
+    reads
     (take k (r ∷ rest)) x ≡ Ok tt
 all_later reads others r rest was next all zero x found = let same : r ≡ x = cc in rw (← same) was
 all_later reads others r rest was next all (suc k) x found = next (take k rest) x ∙ all k x found
 
 -- the first of records can be read, and one behind it has the fault
-pub later : {E : Type 0} (reads others : Reading E) (r : Fields) (rest : List Fields) (at : ℕ) (e : E) → reads [] r ≡ Ok tt → ((before : List Fields) (x :
-    Fields) → reads (r ∷ before) x ≡ others before x)
+pub later : {E : Type 0} (reads others : Reading E) (r : RecordFields) (rest : List RecordFields) (at : ℕ) (e : E) → reads [] r ≡ Ok tt →
+    ((before : List RecordFields) (x :
+    RecordFields) → reads (r ∷ before) x ≡ others before x)
     → IsFirstFault others rest at e → IsFirstFault reads (r ∷ rest) (suc at) e
 later reads others r rest at e was next first =
     record { there = (first.there.0, first.there.1, next (take at rest) first.there.0 ∙ first.there.2); earlier = before }
   where
-    before : (k : ℕ) (x : Fields) → k < suc at → slice_get (r ∷ rest) k ≡ Some x → reads (take k (r ∷ rest)) x ≡ Ok tt
+    before : (k : ℕ) (x : RecordFields) → k < suc at → slice_get (r ∷ rest) k ≡ Some x → reads (take k (r ∷ rest)) x ≡ Ok tt
     before zero x lt found = let same : r ≡ x = cc in rw (← same) was
     before (suc k) x lt found = next (take k rest) x ∙ first.earlier k x (omega (arith, lt)) found
 
@@ -39,10 +42,10 @@ pub same_fault : {A E : Type 0} (p q : ℕ × E) → ◌≡◌ {A = Result A (�
 same_fault {A} {E} p q is = let same : p ≡ q = cc in (ap (λ (x : ℕ × E). x.0) same, ap (λ (x : ℕ × E). x.1) same)
 
 -- a number from 1 of one of these records
-abbrev pub is_number_of : List Fields → ℕ → Type 0
+abbrev pub is_number_of : List RecordFields → ℕ → Type 0
 is_number_of rows number = (0 < number) × (number ≤ length rows)
 
-pub within : (rows : List Fields) (at number : ℕ) (x : Fields) → number ≡ at + 1 → slice_get rows at ≡ Some x → is_number_of rows number
+pub within : (rows : List RecordFields) (at number : ℕ) (x : RecordFields) → number ≡ at + 1 → slice_get rows at ≡ Some x → is_number_of rows number
 within rows at number x is found = let lt = slice_get_within rows at x found in (omega (arith, is), omega (arith, is, lt))
 
 -- one of these records, with its number

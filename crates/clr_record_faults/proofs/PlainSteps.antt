@@ -13,7 +13,7 @@ use Rattle.clr_scripts.specs.declared.steps.Step.TheVariants.{Act, Report}
 use Rattle.clr_scripts.specs.declared.steps.Word.{Word}
 use Rattle.clr_scripts.specs.Scripts.{can_have_fields, cell_of, command_of, command_word_of, create_of, edits_in, keep_of, mark_of, merge_of, only_name_of}
 use Rattle.clr_scripts.specs.Scripts.{plain_step_of, removal_of, report_word_of, resolve_of, roll_to_of, step_by_words, two_names_of, unmark_of}
-use Rattle.clr_record_faults.specs.FirstFaults.{Fields}
+use Rattle.clr_record_faults.specs.FirstFaults.{RecordFields}
 
 abbrev HasNoEdits : Result Command RecordFault → Type 0
 HasNoEdits read = (command : Command) → read ≡ Ok command → edits_in (Act command) ≡ 0
@@ -57,35 +57,37 @@ unfolding reading_of
 choose f true x y is_x is_y = is_x
 choose f false x y is_x is_y = is_y
 
-abbrev says : Fields → List ℕ → Bool
+abbrev says : RecordFields → List ℕ → Bool
 says fields word = bytes_eq (field_of fields 0) word
 
 -- the last two arguments before the first of the three
 abbrev with_last : {A B C D : Type 0} → (A → B → C → D) → B → C → A → D
 with_last f b c a = f a b c
 
-one_name : (fields : Fields) (make : List ℕ → Command) → ((name : List ℕ) → edits_in (Act (make name)) ≡ 0) → HasNoEdits (only_name_of fields >>= λ name. Ok
+one_name : (fields : RecordFields) (make : List ℕ → Command) → ((name : List ℕ) → edits_in (Act (make name)) ≡ 0) →
+    HasNoEdits (only_name_of fields >>= λ name. Ok
     (make name))
 one_name fields make none = behind_reading (only_name_of fields) (λ name. Ok (make name)) (λ name. no_edits (make name) (none name))
 
-two_names : (fields : Fields) (make : List ℕ → List ℕ → Command) → ((a b : List ℕ) → edits_in (Act (make a b)) ≡ 0) → HasNoEdits (two_names_of fields >>= λ
+two_names : (fields : RecordFields) (make : List ℕ → List ℕ → Command) → ((a b : List ℕ) → edits_in (Act (make a b)) ≡ 0) →
+    HasNoEdits (two_names_of fields >>= λ
     names. Ok (make names.0 names.1))
 two_names fields make none = behind_reading (two_names_of fields) (λ names. Ok (make names.0 names.1)) (λ names. no_edits (make names.0 names.1) (none
     names.0 names.1))
 
-merge_has_none : (fields : Fields) → HasNoEdits (merge_of fields)
+merge_has_none : (fields : RecordFields) → HasNoEdits (merge_of fields)
 merge_has_none fields =
     if_counted (length fields == 3) _ (behind_reading (removal_of (field_of fields 2)) (λ remove. Ok (Merge (field_of fields 1) remove)) (λ remove. no_edits
     (Merge (field_of fields 1) remove) refl))
 
-resolve_has_none : (tables : List TableDef) (fields : Fields) → HasNoEdits (resolve_of tables fields)
+resolve_has_none : (tables : List TableDef) (fields : RecordFields) → HasNoEdits (resolve_of tables fields)
 resolve_has_none tables fields =
     if_counted (length fields == 5) _ (behind_reading (cell_of tables (field_of fields 2) (field_of fields 3)) (λ cell. keep_of (field_of fields 4) >>= λ
     keep. Ok (Resolve (field_of fields 1) cell keep))
     (λ cell. behind_reading (keep_of (field_of fields 4)) (λ keep. Ok (Resolve (field_of fields 1) cell keep)) (λ keep. no_edits (Resolve (field_of fields 1)
     cell keep) refl)))
 
-report_is_bare : (fields : Fields) (report : Option Word) → ((step : Step) → step_by_words [] None report fields ≡ Ok step → edits_in step ≡ 0)
+report_is_bare : (fields : RecordFields) (report : Option Word) → ((step : Step) → step_by_words [] None report fields ≡ Ok step → edits_in step ≡ 0)
 report_is_bare fields None step is = absurd cc
 report_is_bare fields (Some word) step is = by (can_have_fields word (length fields)) is
   where
@@ -93,7 +95,7 @@ report_is_bare fields (Some word) step is = by (can_have_fields word (length fie
     by true so = let same : Report word (drop 1 fields) ≡ step = cc in rw (← same) refl
     by false so = absurd cc
 
-word_is_bare : (tables : List TableDef) (fields : Fields) (report : Option Word) → IsBare (reading_of (with_last (step_by_words tables) report fields)
+word_is_bare : (tables : List TableDef) (fields : RecordFields) (report : Option Word) → IsBare (reading_of (with_last (step_by_words tables) report fields)
     (command_word_of (field_of fields 0)))
 unfolding command_of
 word_is_bare tables fields report =
@@ -113,7 +115,7 @@ word_is_bare tables fields report =
     (choose read (says fields (codes "release")) _ _ (acts (only_name_of fields >>= λ ws. Ok (Release ws)) (one Release (λ name. refl)))
     (folded read None (report_is_bare fields report))))))))))))
 
-pub plain_has_none : (tables : List TableDef) (fields : Fields) (step : Step) → plain_step_of tables fields ≡ Ok step → edits_in step ≡ 0
+pub plain_has_none : (tables : List TableDef) (fields : RecordFields) (step : Step) → plain_step_of tables fields ≡ Ok step → edits_in step ≡ 0
 unfolding plain_step_of
 plain_has_none tables fields = unfolded (with_last (step_by_words tables) (report_word_of (field_of fields 0)) fields) (command_word_of (field_of fields 0))
     (word_is_bare tables fields (report_word_of (field_of fields 0)))

@@ -16,36 +16,37 @@ use Rattle.clr_scripts.specs.Edits.{edit_of, edits_from}
 use Rattle.clr_scripts.specs.Scripts.{apply_of, edit_count, edits_in, plain_step_of, script_in_text, step_of, steps_from}
 use Rattle.clr_record_faults.specs.declared.roles.Role.{Role}
 use Rattle.clr_record_faults.specs.declared.roles.Role.TheVariants as role
-use Rattle.clr_record_faults.specs.FirstFaults.{Fields, IsFirstFault, readable}
+use Rattle.clr_record_faults.specs.FirstFaults.{RecordFields, IsFirstFault, readable}
 use Rattle.clr_record_faults.specs.ScriptFaults.{IsFaultAs, IsFaultOfScript, ScriptFaultLaw, edits_asked, edits_left, is_apply, reads_as, role_in}
 use Rattle.clr_record_faults.proofs.PlainSteps.{plain_has_none}
 use Rattle.clr_record_faults.proofs.Firsts.{all_later, at_once, fault_of_first, later, same_fault, within}
 
 -- records of which the first k are edits ----------------------------------------------------------
 
-abbrev pub reads_from : List TableDef → ℕ → List Fields → Fields → Result (Unit {0}) RecordFault
+abbrev pub reads_from : List TableDef → ℕ → List RecordFields → RecordFields → Result (Unit {0}) RecordFault
 reads_from tables k before fields = reads_as tables (edits_left before k) fields
 
-abbrev AllRead : List TableDef → ℕ → List Fields → Type 0
-AllRead tables k rows = (j : ℕ) (x : Fields) → slice_get rows j ≡ Some x → reads_from tables k (take j rows) x ≡ Ok tt
+abbrev AllRead : List TableDef → ℕ → List RecordFields → Type 0
+AllRead tables k rows = (j : ℕ) (x : RecordFields) → slice_get rows j ≡ Some x → reads_from tables k (take j rows) x ≡ Ok tt
 
-pub record IsShortFrom (tables : List TableDef) (k : ℕ) (rows : List Fields) (at : ℕ) : Type 0 where
-  pub there : (fields : Fields) × (slice_get rows at ≡ Some fields) × (length rows < at + 1 + edits_asked fields)
+pub record IsShortFrom (tables : List TableDef) (k : ℕ) (rows : List RecordFields) (at : ℕ) : Type 0 where
+  pub there : (fields : RecordFields) × (slice_get rows at ≡ Some fields) × (length rows < at + 1 + edits_asked fields)
   pub step : edits_left (take at rows) k ≡ 0
   pub others : AllRead tables k rows
 
-abbrev pub IsTold : List TableDef → ℕ → List Fields → ℕ → RecordFault → Type 0
+abbrev pub IsTold : List TableDef → ℕ → List RecordFields → ℕ → RecordFault → Type 0
 IsTold tables k rows at e = IsFirstFault (reads_from tables k) rows at e ⊎ ((e ≡ FieldCount) × IsShortFrom tables k rows at)
 
 -- there are k records, and each is an edit that can be read
-abbrev EditsRead : List TableDef → List Fields → ℕ → Type 0
+abbrev EditsRead : List TableDef → List RecordFields → ℕ → Type 0
 EditsRead tables rows zero = Unit {0}
 EditsRead tables [] (suc k) = ⊥
 EditsRead tables (r ∷ rest) (suc k) = (readable (edit_of tables r) ≡ Ok tt) × EditsRead tables rest k
 
 -- behind a record that can be read
-behind : (tables : List TableDef) (k j : ℕ) (r : Fields) (rest : List Fields) (at : ℕ) (e : RecordFault) → reads_as tables k r ≡ Ok tt → ((before : List
-    Fields) → edits_left (r ∷ before) k ≡ edits_left before j)
+behind : (tables : List TableDef) (k j : ℕ) (r : RecordFields) (rest : List RecordFields) (at : ℕ) (e : RecordFault) → reads_as tables k r ≡ Ok tt →
+    ((before : List
+    RecordFields) → edits_left (r ∷ before) k ≡ edits_left before j)
     → IsTold tables j rest at e → IsTold tables k (r ∷ rest) (suc at) e
 behind tables k j r rest at e ok next (inl first) = inl (later (reads_from tables k) (reads_from tables j) r rest at e ok (λ before x. ap (λ i. reads_as
     tables i x) (next before)) first)
@@ -63,7 +64,7 @@ behind tables k j r rest at e ok next (inr short) =
 -- edits of an `apply` -----------------------------------------------------------------------------
 
 -- the fault of an edit is its own
-edits_fault : (tables : List TableDef) (rows : List Fields) (count n m : ℕ) (e : RecordFault) → edits_from tables n (take count rows) ≡ Err (m, e)
+edits_fault : (tables : List TableDef) (rows : List RecordFields) (count n m : ℕ) (e : RecordFault) → edits_from tables n (take count rows) ≡ Err (m, e)
     → (at : ℕ) × (m ≡ n + at) × IsFirstFault (reads_from tables count) rows at e
 unfolding in_turn
 edits_fault tables rows zero n m e is = absurd cc
@@ -86,7 +87,7 @@ edits_fault tables (r ∷ rest) (suc count) n m e is = by (edits_fault tables re
         )
 
 -- edits that can be read, as many as there are records or as are asked for
-edits_read : (tables : List TableDef) (rows : List Fields) (count n : ℕ) (edits : List Edit) → edits_from tables n (take count rows) ≡ Ok edits → count ≤
+edits_read : (tables : List TableDef) (rows : List RecordFields) (count n : ℕ) (edits : List Edit) → edits_from tables n (take count rows) ≡ Ok edits → count ≤
     length rows → EditsRead tables rows count × (length edits ≡ count)
 unfolding in_turn
 edits_read tables rows zero n edits is le = let none : [] ≡ edits = cc in (tt, rw (← none) refl)
@@ -104,7 +105,8 @@ edits_read tables (r ∷ rest) (suc count) n edits is le = by (λ more were. edi
         let others = again more were in
         ((rw was refl, others.0), rw (← all) (ap (λ k. suc k) others.1))
 
-all_edits_read : (tables : List TableDef) (rows : List Fields) (count n : ℕ) (edits : List Edit) → edits_from tables n (take count rows) ≡ Ok edits → length
+all_edits_read : (tables : List TableDef) (rows : List RecordFields) (count n : ℕ) (edits : List Edit) → edits_from tables n (take count rows) ≡ Ok edits →
+    length
     rows ≤ count → AllRead tables count rows
 unfolding in_turn
 all_edits_read tables [] count n edits is le = λ j x found. absurd cc
@@ -125,10 +127,11 @@ all_edits_read tables (r ∷ rest) (suc count) n edits is le =
 -- an `apply` --------------------------------------------------------------------------------------
 
 -- an `apply` of edits that are read, where there are enough
-abbrev applied : Bool → ℕ → Fields → List Edit → Result Step (ℕ × RecordFault)
+abbrev applied : Bool → ℕ → RecordFields → List Edit → Result Step (ℕ × RecordFault)
 applied b n r edits = cond {A = Result Step (ℕ × RecordFault)} b (Ok (Act (Apply (field_of r 1) edits))) (Err (n, FieldCount))
 
-apply_fault : (tables : List TableDef) (n : ℕ) (r : Fields) (rest : List Fields) (m : ℕ) (e : RecordFault) → is_apply r ≡ true → apply_of tables n r rest ≡
+apply_fault : (tables : List TableDef) (n : ℕ) (r : RecordFields) (rest : List RecordFields) (m : ℕ) (e : RecordFault) → is_apply r ≡ true →
+    apply_of tables n r rest ≡
     Err (m, e) → (at : ℕ) × (m ≡ n + at) × IsTold tables 0 (r ∷ rest) at e
 unfolding apply_of
 apply_fault tables n r rest m e word is = by (edit_count r) refl is
@@ -165,12 +168,13 @@ apply_fault tables n r rest m e word is = by (edit_count r) refl is
                 (0, omega (arith, same.0), inr (sym same.1, record { there = (r, refl, omega (arith, asked, lt)); step = refl; others = all }))
 
 -- what is known of a record that is read as a step
-record IsDone (tables : List TableDef) (r : Fields) (rest : List Fields) (step : Step) : Type 0 where
+record IsDone (tables : List TableDef) (r : RecordFields) (rest : List RecordFields) (step : Step) : Type 0 where
   pub asked : edits_asked r ≡ edits_in step
   pub read : EditsRead tables rest (edits_in step)
   pub ok : reads_as tables 0 r ≡ Ok tt
 
-apply_done : (tables : List TableDef) (n : ℕ) (r : Fields) (rest : List Fields) (step : Step) → is_apply r ≡ true → apply_of tables n r rest ≡ Ok step →
+apply_done : (tables : List TableDef) (n : ℕ) (r : RecordFields) (rest : List RecordFields) (step : Step) → is_apply r ≡ true →
+    apply_of tables n r rest ≡ Ok step →
     IsDone tables r rest step
 unfolding apply_of
 apply_done tables n r rest step word is = by (edit_count r) refl is
@@ -192,7 +196,8 @@ apply_done tables n r rest step word is = by (edit_count r) refl is
 
 -- a step ------------------------------------------------------------------------------------------
 
-step_fault : (tables : List TableDef) (n : ℕ) (r : Fields) (rest : List Fields) (m : ℕ) (e : RecordFault) → step_of tables n r rest ≡ Err (m, e) → (at : ℕ) ×
+step_fault : (tables : List TableDef) (n : ℕ) (r : RecordFields) (rest : List RecordFields) (m : ℕ) (e : RecordFault) → step_of tables n r rest ≡ Err (m, e) →
+    (at : ℕ) ×
     (m ≡ n + at) × IsTold tables 0 (r ∷ rest) at e
 unfolding step_of
 step_fault tables n r rest m e is = by (is_apply r) refl is
@@ -209,7 +214,8 @@ step_fault tables n r rest m e is = by (is_apply r) refl is
     by true word failed = apply_fault tables n r rest m e word failed
     by false word failed = plain word (plain_step_of tables r) refl failed
 
-step_done : (tables : List TableDef) (n : ℕ) (r : Fields) (rest : List Fields) (step : Step) → step_of tables n r rest ≡ Ok step → IsDone tables r rest step
+step_done : (tables : List TableDef) (n : ℕ) (r : RecordFields) (rest : List RecordFields) (step : Step) → step_of tables n r rest ≡ Ok step →
+    IsDone tables r rest step
 unfolding step_of
 step_done tables n r rest step is = by (is_apply r) refl is
   where
@@ -226,7 +232,8 @@ step_done tables n r rest step is = by (is_apply r) refl is
 
 -- a script ----------------------------------------------------------------------------------------
 
-steps_fault : (tables : List TableDef) (rows : List Fields) (k n m : ℕ) (e : RecordFault) → EditsRead tables rows k → steps_from tables k n rows ≡ Err (m, e)
+steps_fault : (tables : List TableDef) (rows : List RecordFields) (k n m : ℕ) (e : RecordFault) → EditsRead tables rows k →
+    steps_from tables k n rows ≡ Err (m, e)
     → (at : ℕ) × (m ≡ n + at) × IsTold tables k rows at e
 unfolding steps_from
 steps_fault tables [] zero n m e read is = absurd cc
@@ -250,7 +257,8 @@ steps_fault tables (r ∷ rest) zero n m e read is = by (λ k others failed. ste
               found.2,
         )
 
-role_told : (tables : List TableDef) (rows : List Fields) (at : ℕ) (e : RecordFault) → IsTold tables 0 rows at e → (r : Role) × IsFaultAs r tables rows at e
+role_told : (tables : List TableDef) (rows : List RecordFields) (at : ℕ) (e : RecordFault) → IsTold tables 0 rows at e → (r : Role)
+    × IsFaultAs r tables rows at e
 role_told tables rows at e (inr short) = (role.ShortApply, (short.0, record { there = short.1.there; step = short.1.step; others = short.1.others }))
 role_told tables rows at e (inl first) = by (edits_left (take at rows) 0) refl
   where
@@ -261,7 +269,8 @@ role_told tables rows at e (inl first) = by (edits_left (take at rows) 0) refl
 pub script_faults_first : ScriptFaultLaw
 script_faults_first tables bytes number e is = by (records_in bytes) refl is
   where
-    by : (found : Option (List Fields)) → records_in bytes ≡ found → (or_fault (1, NotCsv) found >>= λ rows. steps_from tables 0 1 rows) ≡ Err (number, e) →
+    by : (found : Option (List RecordFields)) → records_in bytes ≡ found → (or_fault (1, NotCsv) found >>= λ rows. steps_from tables 0 1 rows) ≡ Err (number, e)
+        →
         (r : Role) × IsFaultOfScript tables found r number e
     by None was failed = let same = same_fault (1, NotCsv) (number, e) failed in (role.Text, (refl, sym same.0, sym same.1))
     by (Some rows) was failed =
@@ -272,7 +281,8 @@ script_faults_first tables bytes number e is = by (records_in bytes) refl is
 -- what a call answers -----------------------------------------------------------------------------
 
 -- the number that is told is that of a record
-pub number_told : (tables : List TableDef) (rows : List Fields) (r : Role) (number : ℕ) (e : RecordFault) → IsFaultOfScript tables (Some rows) r number e →
+pub number_told : (tables : List TableDef) (rows : List RecordFields) (r : Role) (number : ℕ) (e : RecordFault) → IsFaultOfScript tables (Some rows) r number e
+    →
     (0 < number) × (number ≤ length rows)
 number_told tables rows role.Text number e told = absurd told.2
 number_told tables rows role.Step number e told = within rows told.0 number told.2.1.there.0 told.1 told.2.1.there.1
@@ -280,7 +290,7 @@ number_told tables rows role.Edit number e told = within rows told.0 number told
 number_told tables rows role.ShortApply number e told = within rows told.0 number told.2.1.there.0 told.1 told.2.1.there.1
 
 -- a record that has a fault of its own asks for no edits
-asks_none : (tables : List TableDef) (r : Fields) (e : RecordFault) → reads_as tables 0 r ≡ Err e → edits_asked r ≡ 0
+asks_none : (tables : List TableDef) (r : RecordFields) (e : RecordFault) → reads_as tables 0 r ≡ Err e → edits_asked r ≡ 0
 asks_none tables r e is = by (is_apply r) refl
   where
     counted : is_apply r ≡ true → (x : Result ℕ RecordFault) → edit_count r ≡ x → edits_asked r ≡ 0
@@ -292,7 +302,7 @@ asks_none tables r e is = by (is_apply r) refl
     by false word = rw word refl
 
 -- the role that is found is that of the record
-role_found : (tables : List TableDef) (rows : List Fields) (r : Role) (at : ℕ) (e : RecordFault) → IsFaultAs r tables rows at e → role_in rows at ≡ r
+role_found : (tables : List TableDef) (rows : List RecordFields) (r : Role) (at : ℕ) (e : RecordFault) → IsFaultAs r tables rows at e → role_in rows at ≡ r
 role_found tables rows role.Text at e told = absurd told
 role_found tables rows role.Step at e told =
     let first = told.1 in
@@ -309,18 +319,20 @@ role_found tables rows role.ShortApply at e told =
     rw (short.step, item, lt-ltb _ _ more) refl
 
 -- what is told of the number and the fault of a script, with the role of the record
-pub found_among : (tables : List TableDef) (bytes : List ℕ) (rows : List Fields) (number : ℕ) (e : RecordFault) → Some rows ≡ records_in bytes →
+pub found_among : (tables : List TableDef) (bytes : List ℕ) (rows : List RecordFields) (number : ℕ) (e : RecordFault) → Some rows ≡ records_in bytes →
     script_in_text tables bytes ≡ Err (number, e)
     → (0 < number) × (number ≤ length rows) × IsFaultOfScript tables (Some rows) (role_in rows (number - 1)) number e
 found_among tables bytes rows number e found failed =
     let law = script_faults_first tables bytes number e failed in
-    let told = subst (λ (o : Option (List Fields)). IsFaultOfScript tables o law.0 number e) (sym found) law.1 in
+    let told = subst (λ (o : Option (List RecordFields)). IsFaultOfScript tables o law.0 number e) (sym found) law.1 in
     let number_is = number_told tables rows law.0 number e told in
     let place : number - 1 ≡ told.0 = omega (arith, told.1) in
     (number_is.0, number_is.1, rw (place, role_found tables rows law.0 told.0 e told.2) told)
 
-pub found_as : (tables : List TableDef) (bytes : List ℕ) (rows : List Fields) (number : ℕ) (e : RecordFault) (r : Role) (n : ℕ) (f : RecordFault) → Some rows
+pub found_as : (tables : List TableDef) (bytes : List ℕ) (rows : List RecordFields) (number : ℕ) (e : RecordFault) (r : Role) (n : ℕ) (f : RecordFault) →
+    Some rows
     ≡ records_in bytes
     → script_in_text tables bytes ≡ Err (number, e) → r ≡ role_in rows (number - 1) → n ≡ number → f ≡ e → IsFaultOfScript tables (records_in bytes) r n f
 found_as tables bytes rows number e r n f found failed is_r is_n is_f =
-    subst (λ (o : Option (List Fields)). IsFaultOfScript tables o r n f) found (rw (is_r, is_n, is_f) (found_among tables bytes rows number e found failed).2)
+    subst (λ (o : Option (List RecordFields)). IsFaultOfScript tables o r n f) found
+    (rw (is_r, is_n, is_f) (found_among tables bytes rows number e found failed).2)

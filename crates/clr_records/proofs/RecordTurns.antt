@@ -1,5 +1,6 @@
 -- The records that a reader gives in turn are the records of the text: as many turns as the text has bytes are enough.
-use Rattle.std.proofs.Common.{◌≡◌, ℕ, zero, suc, ◌≤◌, ◌<◌, ◌==◌, ◌&&◌, Bool, true, false, cond, List, [], ◌∷◌, length, Option, Some, None, refl, sym, ap, subst, arith}
+use Rattle.std.proofs.Common.{◌≡◌, ℕ, zero, suc, ◌≤◌, ◌<◌, ◌==◌, ◌&&◌, Bool, true, false, cond, List, [], ◌∷◌, length, Option, Some, None, refl, sym, ap, subst}
+use Rattle.std.proofs.Common.{arith}
 use Rattle.csv.specs.Machine.{Read, next_record, step, start_record, start_field, in_field, after_end, is_end, ends_at_end, ends_with, is_byte, line_feed}
 use Rattle.csv.specs.Reading.{AreRecords, Reached, records, records_from}
 use Rattle.csv.specs.declared.parser.Config.{Config}

@@ -70,9 +70,9 @@ IsTextFault IsPrint run_fault.TooLong = ⊥
 IsTextFault IsPrint run_fault.NoSeparator = ⊥
 
 -- an output is what is to be printed; or a fault
-abbrev pub IsMade : (Printed → Type 0) → Result Output RunFault → Type 0
-IsMade IsPrint (Ok output) = IsPrint (print_of output.lines.items output.refused output.lost)
-IsMade IsPrint (Err e) = IsTextFault IsPrint e
+abbrev pub IsOutput : (Printed → Type 0) → Result Output RunFault → Type 0
+IsOutput IsPrint (Ok output) = IsPrint (print_of output.lines.items output.refused output.lost)
+IsOutput IsPrint (Err e) = IsTextFault IsPrint e
 
 -- why an office text gives no draft, or want of memory
 abbrev pub IsOfficeFault : Result Office TextFault → RunFault → Type 0

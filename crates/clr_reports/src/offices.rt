@@ -2,7 +2,7 @@
 ghost use Rattle.std.specs.Prelude.{◌≡◌, None, Ok, IfOk, IfErr};
 ghost use Rattle.clr_engine.specs.Drafts.{unheld_in};
 ghost use Rattle.clr_drafts.specs.Drafts.{draft_in};
-ghost use Rattle.clr_reports.specs.Printing.{IsMade, IsNoPrint, IsOfficeFault, IsPrintIn, print_of, unheld_print};
+ghost use Rattle.clr_reports.specs.Printing.{IsOutput, IsNoPrint, IsOfficeFault, IsPrintIn, print_of, unheld_print};
 
 use crate::faults::RunFault;
 use crate::outputs::Output;
@@ -50,7 +50,7 @@ pub fn unheld_output(
 pub fn open_office(alloc: Global, office: &[u8]) -> Result<Office, Result<Output, RunFault>>
     ensures meant { IfOk result (λ opened. draft_in office.now ≡ Ok opened) }
     ensures held { IfOk result (λ opened. unheld_in opened ≡ None) }
-    ensures answer { IfErr result (IsMade (IsPrintIn IsNoPrint (draft_in office.now))) }
+    ensures answer { IfErr result (IsOutput (IsPrintIn IsNoPrint (draft_in office.now))) }
 {
     let draft = match draft_of(alloc, office) {
         Ok(draft) => draft,

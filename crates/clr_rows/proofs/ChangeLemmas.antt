@@ -1,5 +1,6 @@
 -- What changes between two contents, a content taken over by changes, and conflicts, cell by cell.
-use Rattle.std.proofs.Common.{◌≡◌, Bool, true, false, cond, not, ◌&&◌, ◌||◌, T, List, [], ◌∷◌, ◌++◌, map, filter, Option, Some, None, is_some, unwrap_or, if◌then◌else◌, refl, sym, ap, ◌∙◌}
+use Rattle.std.proofs.Common.{◌≡◌, Bool, true, false, cond, not, ◌&&◌, ◌||◌, T, List, [], ◌∷◌, ◌++◌, map, filter, Option, Some, None, is_some, unwrap_or}
+use Rattle.std.proofs.Common.{if◌then◌else◌, refl, sym, ap, ◌∙◌}
 use Rattle.std.specs.FinMap as finite
 use Rattle.std.specs.FinMap.Entries.{find, is_sorted, below_all}
 use Rattle.std.specs.List.{list_any, AllByRecursion}
@@ -15,7 +16,8 @@ use Rattle.clr_rows.specs.declared.rows.Row.{Row}
 use Rattle.clr_rows.specs.declared.cells.Change.{Change}
 use Rattle.clr_rows.specs.Cells.{cell_cmp}
 use Rattle.clr_rows.specs.Same.{same}
-use Rattle.clr_rows.specs.Contents.{Content, Changes, row_at, cells_of, set_cell, over, is_changed, change_at, change_of, changes, rows_after, taken_over, is_conflict, conflicts}
+use Rattle.clr_rows.specs.Contents.{Content, Changes, row_at, cells_of, set_cell, over, is_changed, change_at, change_of, changes, rows_after, taken_over}
+use Rattle.clr_rows.specs.Contents.{is_conflict, conflicts}
 use Rattle.clr_rows.proofs.CellOrder.{cell_cmp_total, cell_cmp_exact}
 use Rattle.clr_rows.proofs.RowLemmas.{tied_cells}
 use Rattle.clr_rows.proofs.SameLemmas.{same_is, same_itself}

@@ -10,7 +10,8 @@ use Rattle.std.specs.Cmp.{IsTotalOrder, eq_by_cmp_equiv, tied_itself}
 use Rattle.std.specs.BTreeMap.{is_at}
 use Rattle.std.specs.Map.{lookup, keys_of}
 use Rattle.std.specs.FinMap.Entries.{find, below_all, is_sorted}
-use Rattle.std.specs.FinMap.{FinMap, IsAntisymmetric, get, keys, insert, remove, empty, get-empty, from_sorted, get-from_sorted, get-insert, get-remove, same_map, contains_key-keys, entries-from_sorted}
+use Rattle.std.specs.FinMap.{FinMap, IsAntisymmetric, get, keys, insert, remove, empty, get-empty, from_sorted, get-from_sorted, get-insert, get-remove}
+use Rattle.std.specs.FinMap.{same_map, contains_key-keys, entries-from_sorted}
 use Rattle.std.specs.List.{list_any, slice_get}
 use Rattle.std.specs.Option.{IfSome, IsSome, is_some}
 use Rattle.clr_rows.proofs.Tests.{both}

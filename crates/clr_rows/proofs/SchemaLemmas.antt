@@ -1,5 +1,6 @@
 -- What follows of tables that make a schema, and of a row that fits one.
-use Rattle.std.proofs.Common.{◌≡◌, ℕ, ◌+◌, ◌<◌, ◌≤◌, Bool, true, false, not, ◌&&◌, ◌||◌, List, [], ◌∷◌, length, ℤ, pos, negsuc, map, drop, get_or, refl, ap, subst, suc, zero, add-one, arith, Option, Some, None}
+use Rattle.std.proofs.Common.{◌≡◌, ℕ, ◌+◌, ◌<◌, ◌≤◌, Bool, true, false, not, ◌&&◌, ◌||◌, List, [], ◌∷◌, length, ℤ, pos, negsuc, map, drop, get_or, refl, ap}
+use Rattle.std.proofs.Common.{subst, suc, zero, add-one, arith, Option, Some, None}
 use Rattle.std.specs.Prelude.{if◌then◌else◌, slice_get, position, nat_le, ◌==◌, unsigned_abs}
 use Rattle.std.proofs.Math.Seq.{drop-cons}
 use Rattle.std.proofs.lemmas.Bool.{not-true, not-false, lt-ltb, and_parts, and_from, or_parts, leb-true, eqb-true, both_ways}
@@ -13,7 +14,8 @@ use Rattle.clr_rows.proofs.PartLemmas.{path_part, length-path_parts}
 use Rattle.clr_rows.specs.declared.cells.CellId.{CellId}
 use Rattle.clr_rows.specs.declared.faults.SchemaFault.TheVariants as unfit
 use Rattle.clr_rows.specs.declared.faults.RowFault.TheVariants.{WrongCount, WrongKind, WordsTooLong, WrongShape, OutOfRange, ZeroSegment, BadPath}
-use Rattle.clr_rows.specs.declared.limits.TheConstants.{MOST_TABLES, MOST_COLUMNS, MOST_TEXT_BYTES, GREATEST_KEY, GREATEST_COORDINATE, LEAST_VERTICES, MOST_VERTICES}
+use Rattle.clr_rows.specs.declared.limits.TheConstants.{MOST_TABLES, MOST_COLUMNS, MOST_TEXT_BYTES, GREATEST_KEY, GREATEST_COORDINATE, LEAST_VERTICES}
+use Rattle.clr_rows.specs.declared.limits.TheConstants.{MOST_VERTICES}
 use Rattle.clr_rows.specs.declared.places.Place.{Place}
 use Rattle.clr_rows.specs.declared.places.Shape.{Shape}
 use Rattle.clr_rows.specs.declared.places.Shape.TheVariants.{Bare, At, Line, Chain}
@@ -27,7 +29,9 @@ use Rattle.clr_rows.specs.Numbers.{is_i64}
 use Rattle.clr_rows.specs.Parts.{path_parts, parts_of}
 use Rattle.clr_rows.specs.Places.{InRange, Differ}
 use Rattle.clr_rows.specs.Same.{same_place}
-use Rattle.clr_rows.specs.Schemas.{are_distinct, schema_fault, has_room, has_good_names, has_distinct_columns, is_column_name, table_named, column_named, is_of_kind, are_of_kinds, is_short, is_of_form, is_key, is_place, is_coordinate, has_coordinates, is_number, is_in_range, has_zero_part, is_bad_path, fault_in, fault_at, row_fault, key_fault, cell_fault}
+use Rattle.clr_rows.specs.Schemas.{are_distinct, schema_fault, has_room, has_good_names, has_distinct_columns, is_column_name, table_named, column_named}
+use Rattle.clr_rows.specs.Schemas.{is_of_kind, are_of_kinds, is_short, is_of_form, is_key, is_place, is_coordinate, has_coordinates, is_number, is_in_range}
+use Rattle.clr_rows.specs.Schemas.{has_zero_part, is_bad_path, fault_in, fault_at, row_fault, key_fault, cell_fault}
 
 -- names that differ --------------------------------------------------------------------------
 

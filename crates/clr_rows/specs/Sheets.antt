@@ -12,7 +12,7 @@ abbrev pub content_of : List (CellId × Row) → Content
 content_of entries = finite.from_sorted entries
 
 -- entries in the order of cells, each with a row whose numbers are within 64 bits
-pub record IsSound (entries : List (CellId × Row)) : Type 0 where
+pub record IsSoundSheet (entries : List (CellId × Row)) : Type 0 where
   pub ascending : T (finite.is_sorted cell_cmp entries)
   pub within : AreWithin (content_of entries)
 

@@ -12,8 +12,9 @@
 //!   row that stands it can't fail. `put_all` puts all rows or none, and copies no sheet. Neither
 //!   asks anything of its rows; `iter` [`within`] tells that each number in a sheet is within 64
 //!   bits.
-//! - `Names::push` [`ok`, `err`, `given_back`] adds a name behind the others; where it finds no
-//!   memory the names stay as they are, and the name comes back.
+//! - `List` is a `Vec` of which a contract sees the elements alone; `Names` and `Columns` are lists.
+//!   `push` [`ok`, `err`, `given_back`] adds an element behind the others; where it finds no memory
+//!   the list stays as it is, and the element comes back.
 //! - `changes_law` and `over_law`: the changes of two contents, and a content with changes over it,
 //!   told cell by cell.
 #![tactic(auto)]
@@ -22,6 +23,7 @@ mod cells;
 mod faults;
 mod laws;
 mod limits;
+mod lists;
 mod names;
 mod numbers;
 mod places;
@@ -40,6 +42,7 @@ pub use limits::{
     GREATEST_COORDINATE, GREATEST_KEY, KEY, LEAST_VERTICES, LIVE, MOST_COLUMNS, MOST_NAME_BYTES,
     MOST_TABLES, MOST_TEXT_BYTES, MOST_VERTICES,
 };
+pub use lists::List;
 pub use names::{Names, good_name};
 pub use places::{Place, Shape};
 pub use rows::{Row, Value, Values};

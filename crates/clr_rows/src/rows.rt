@@ -79,7 +79,7 @@ impl Values {
         ensures { IfOk result (λ values. values ≡ self.now) }
     {
         let alloc: Global = *self.list.allocator();
-        let mut list = Vec::new(alloc);
+        let mut list = Vec::with_capacity(alloc, self.list.len())?;
         for value in &self.list {
             list.push(value.copy()?)?;
         }

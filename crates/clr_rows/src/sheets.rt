@@ -35,11 +35,11 @@ impl Model for Sheet {
 
     ghost coded = { coded_content };
 
-    ghost use Rattle.clr_rows.specs.Sheets.{content_of, IsSound};
+    ghost use Rattle.clr_rows.specs.Sheets.{content_of, IsSoundSheet};
 
     ghost view = { λ a. content_of a.rows.entries };
 
-    ghost invariant = { λ a. IsSound a.rows.entries };
+    ghost invariant = { λ a. IsSoundSheet a.rows.entries };
 }
 
 fn key_at(rows: &BTreeMap<CellId, Row>, at: usize) -> Option<&CellId>

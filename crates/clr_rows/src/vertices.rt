@@ -48,7 +48,7 @@ impl Vertices {
         ensures { IfOk result (λ vertices. vertices ≡ self.now) }
     {
         let alloc: Global = *self.list.allocator();
-        let mut list = Vec::new(alloc);
+        let mut list = Vec::with_capacity(alloc, self.list.len())?;
         for vertex in &self.list {
             list.push(*vertex)?;
         }

@@ -19,7 +19,8 @@ use Rattle.serde_json.specs.Read.{number_of, of_json, of_items, of_members, read
 use Rattle.serde_json.proofs.Views.{get_member-put, get_member-put_other}
 use Rattle.clr_rule_text.specs.declared.faults.TextFault.{TextFault}
 use Rattle.clr_rule_text.specs.declared.faults.TextFault.TheVariants.{NotJson}
-use Rattle.clr_rule_text.specs.Seen.{data_of, has_numbers, items_data, items_have_numbers, items_seen, members_data, members_have_numbers, number_or_null, seen, value_if_read}
+use Rattle.clr_rule_text.specs.Seen.{data_of, has_numbers, items_data, items_have_numbers, items_seen, members_data, members_have_numbers, number_or_null, seen}
+use Rattle.clr_rule_text.specs.Seen.{value_if_read}
 
 -- looked into ---------------------------------------------------------------------------------
 

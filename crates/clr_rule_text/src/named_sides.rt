@@ -9,56 +9,14 @@ use crate::faults::TextFault;
 use crate::fields::{field, list, list_in, optional_list, words, words_from, words_in};
 use crate::json_values::JsonValue;
 use crate::values::value;
-use clr_rows::{Value, Words};
+use clr_rows::{List, Value, Words};
 use std::alloc::Global;
-use std::marker::Model;
 
 /// Literals beside the names of their columns, which may be unknown.
-#[derive(Debug, Drop)]
-pub struct NamedFilter {
-    list: Vec<(Words, Value)>,
-}
-
-impl Model for NamedFilter {
-    ghost use Rattle.std.specs.Prelude.{List, ℕ};
-    ghost use Rattle.clr_rows.specs.declared.rows.Value.{Value as OneValue};
-
-    ghost Value = { List (List ℕ × OneValue) };
-
-    ghost view = { λ a. a.list.items };
-}
-
-impl NamedFilter {
-    /// Returns the list of these literals.
-    pub fn into_vec(self) -> Vec<(Words, Value)>
-        ensures { result.items ≡ self }
-    {
-        self.list
-    }
-}
+pub type NamedFilter = List<(Words, Value)>;
 
 /// Names of columns, which may be unknown.
-#[derive(Debug, Drop)]
-pub struct ColumnNames {
-    list: Vec<Words>,
-}
-
-impl Model for ColumnNames {
-    ghost use Rattle.std.specs.Prelude.{List, ℕ};
-
-    ghost Value = { List (List ℕ) };
-
-    ghost view = { λ a. a.list.items };
-}
-
-impl ColumnNames {
-    /// Returns the names as a slice.
-    pub fn as_slice(&self) -> &[Words]
-        ensures { result.now ≡ self.now }
-    {
-        self.list.as_slice()
-    }
-}
+pub type ColumnNames = List<Words>;
 
 /// A side of a rule with the name of its table, which may be unknown.
 #[derive(Debug, Drop)]
@@ -103,7 +61,7 @@ fn filter<J: JsonValue>(alloc: Global, json: &J) -> Result<NamedFilter, TextFaul
     ensures { Gives (λ f. f) result (filter_of (J.stands_for json.now)) }
 {
     let list = each_literal(alloc, optional_list(json, "where")?)?;
-    Ok(NamedFilter { list })
+    Ok(NamedFilter::new(list))
 }
 
 #[tactic(auto, unfolding(crate::specs::Rules::side_of))]
@@ -146,5 +104,5 @@ pub fn names_in<J: JsonValue>(alloc: Global, json: &J, key: &str) -> Result<Colu
     ensures { Gives (λ v. v) result (names_at key.now (J.stands_for json.now)) }
 {
     let list = each_name(alloc, list_in(json, key)?)?;
-    Ok(ColumnNames { list })
+    Ok(ColumnNames::new(list))
 }

@@ -13,9 +13,10 @@ use Rattle.clr_rows.specs.Held.{Held}
 use Rattle.clr_rows.specs.Parts.{parts_of, part_of}
 use Rattle.clr_rules.specs.declared.needs.Ask.{Ask}
 use Rattle.clr_rules.specs.declared.rules.Rule.{Rule}
-use Rattle.clr_rules.specs.declared.rules.Rule.TheVariants.{Unique, Partner, EndNode, Crossing, Near}
-use Rattle.clr_rules.specs.Calls.{ask_of_parts, is_plain, part_count, part_count_by, asks_up_to, asks, have_meeting, are_subjects, are_subjects_of, calls}
-use Rattle.clr_rules.specs.Sides.{Segment}
+use Rattle.clr_rules.specs.declared.rules.Rule.TheVariants.{Unique, Crossing, Near}
+use Rattle.clr_rules.specs.Calls.{ask_of_parts, is_plain, part_count, part_count_by, asks_up_to, asks, have_meeting, are_related, are_subjects, are_subjects_of}
+use Rattle.clr_rules.specs.Calls.{calls}
+use Rattle.clr_rules.specs.Sides.{Segment, is_of, are_of, sides}
 use Rattle.clr_rules.proofs.Elements.{Among, mapped_among, among_mapped, flat_among, among_flat, all_by, rising_mapped, rising_flat}
 
 -- the numbers of parts -------------------------------------------------------------------------
@@ -81,47 +82,76 @@ up_to_has number m n i j low high left right = flat_among (λ i. map (λ j. ask_
     (in_range 1 m i low (omega (arith, high)))
     (mapped_among (λ j. ask_of_parts number i j) j (range_with_len 1 n) (in_range 1 n j left (omega (arith, right))))
 
-plain_parts : (ask : Ask) → is_plain ask ≡ true → (ask.first_part ≡ 1) × (ask.second_part ≡ 1)
+pub plain_parts : (ask : Ask) → is_plain ask ≡ true → (ask.first_part ≡ 1) × (ask.second_part ≡ 1)
 plain_parts ask e = let p = and_parts _ _ e in (eqb-true _ _ p.0, eqb-true _ _ p.1)
 
-plain_has : (number m n : ℕ) (ask : Ask) → is_plain ask ≡ true → ask.rule ≡ number → 1 ≤ m → 1 ≤ n → Among ask (asks_up_to number m n)
-plain_has number m n ask e same left right =
-    let p = plain_parts ask e in
-    let is : ask_of_parts number 1 1 ≡ ask = λ k. ask_of_parts (sym same k) (sym p.0 k) (sym p.1 k) in
-    subst (λ (a : Ask). Among a (asks_up_to number m n)) is (up_to_has number m n 1 1 (omega arith) left (omega arith) right)
-
 -- parts that have a common point are there
-pub part_there : (s : Held) (n : ℕ) (e : Segment) → part_of s.1.shape n ≡ Some e → (1 ≤ n) × (n ≤ length (parts_of s.1.shape))
+part_there : (s : Held) (n : ℕ) (e : Segment) → part_of s.1.shape n ≡ Some e → (1 ≤ n) × (n ≤ length (parts_of s.1.shape))
 part_there s zero e is = absurd (cc)
 part_there s (suc n) e is = let h = slice_get_within (parts_of s.1.shape) n e is in (omega arith, omega (arith, h))
 
-pub both_there : (o p : Option Segment) → have_meeting o p ≡ true → (a : Segment) × (b : Segment) × (o ≡ Some a) × (p ≡ Some b)
+both_there : (o p : Option Segment) → have_meeting o p ≡ true → (a : Segment) × (b : Segment) × (o ≡ Some a) × (p ≡ Some b)
 both_there None p e = absurd (false≢true e)
 both_there (Some a) None e = absurd (false≢true e)
 both_there (Some a) (Some b) e = (a, b, refl, refl)
 
-asked_by : (r : Option Rule) (ask : Ask) (s t : Held) → are_subjects_of r ask s (Some t) ≡ true
-    → Among ask (asks_up_to ask.rule (part_count_by r s) (part_count_by r t))
-unfolding are_subjects
-asked_by None ask s t e = absurd (false≢true e)
-asked_by (Some (Unique subject columns)) ask s t e = plain_has ask.rule 1 1 ask (and_parts (is_plain ask) _ e).0 refl (omega arith) (omega arith)
-asked_by (Some (Partner subject columns server server_columns)) ask s t e = absurd (false≢true e)
-asked_by (Some (EndNode subject tip server)) ask s t e = absurd (false≢true e)
-asked_by (Some (Crossing a b server)) ask s t e =
-    let (p, q, is_p, is_q) = both_there (part_of s.1.shape ask.first_part) (part_of t.1.shape ask.second_part) (and_parts _ _ e).1 in
+-- the number of a part that is there
+abbrev pub IsPart : ℕ → ℕ → Type 0
+IsPart count n = (k : ℕ) × (k < count) × (n ≡ suc k)
+
+counted : (count n : ℕ) → 1 ≤ n → n ≤ count → IsPart count n
+counted count zero low high = absurd (omega (arith, low))
+counted count (suc k) low high = (k, omega (arith, high), refl)
+
+up_to_count : (count n : ℕ) → IsPart count n → (1 ≤ n) × (n ≤ count)
+up_to_count count n h = let (k, less, is) = h in (omega (arith, is), omega (arith, less, is))
+
+plain_there : (ask : Ask) → is_plain ask ≡ true → IsPart 1 ask.first_part × IsPart 1 ask.second_part
+plain_there ask e = let p = plain_parts ask e in ((0, omega arith, p.0), (0, omega arith, p.1))
+
+-- the parts of two rows that call are there
+parts_there : (rule : Rule) (ask : Ask) (s t : Held) → are_related rule ask s t ≡ true
+    → IsPart (part_count_by (Some rule) s) ask.first_part × IsPart (part_count_by (Some rule) t) ask.second_part
+parts_there (Unique subject columns) ask s t e = plain_there ask (and_parts (is_plain ask) _ e).0
+parts_there (Crossing a b server) ask s t e =
+    let (p, q, is_p, is_q) = both_there (part_of s.1.shape ask.first_part) (part_of t.1.shape ask.second_part) e in
     let one = part_there s ask.first_part p is_p in
     let other = part_there t ask.second_part q is_q in
-    up_to_has ask.rule (length (parts_of s.1.shape)) (length (parts_of t.1.shape)) ask.first_part ask.second_part one.0 one.1 other.0 other.1
-asked_by (Some (Near a b d)) ask s t e = plain_has ask.rule 1 1 ask (and_parts (is_plain ask) _ e).0 refl (omega arith) (omega arith)
+    (counted (length (parts_of s.1.shape)) ask.first_part one.0 one.1, counted (length (parts_of t.1.shape)) ask.second_part other.0 other.1)
+parts_there (Near a b d) ask s t e = plain_there ask (and_parts (is_plain ask) _ e).0
+parts_there _ ask s t e = absurd (false≢true e)
 
-alone_plain : (r : Option Rule) (ask : Ask) (s : Held) → are_subjects_of r ask s None ≡ true → is_plain ask ≡ true
+-- a rule that is asked of one row is asked of it as a whole
+whole_alone : (rule : Rule) (s : Held) → is_of (sides rule).alone s ≡ true → part_count_by (Some rule) s ≡ 1
+whole_alone (Crossing a b server) s e = absurd (false≢true e)
+whole_alone _ s e = refl
+
+pub first_part_by : (rule : Rule) (ask : Ask) (s : Held) (t : Option Held) → are_subjects rule ask s t ≡ true →
+    IsPart (part_count_by (Some rule) s) ask.first_part
+unfolding are_subjects
+first_part_by rule ask s None e =
+    let p = and_parts (is_plain ask) _ e in
+    subst (λ n. IsPart n ask.first_part) (sym (whole_alone rule s p.1)) (plain_there ask p.0).0
+first_part_by rule ask s (Some t) e = (parts_there rule ask s t (and_parts (are_of (sides rule).first (sides rule).second s t) _ e).1).0
+
+pub second_part_by : (rule : Rule) (ask : Ask) (s t : Held) → are_subjects rule ask s (Some t) ≡ true → IsPart (part_count_by (Some rule) t) ask.second_part
+unfolding are_subjects
+second_part_by rule ask s t e = (parts_there rule ask s t (and_parts (are_of (sides rule).first (sides rule).second s t) _ e).1).1
+
+asked_by : (r : Option Rule) (ask : Ask) (s t : Held) → are_subjects_of r ask s (Some t) ≡ true
+    → Among ask (asks_up_to ask.rule (part_count_by r s) (part_count_by r t))
+asked_by None ask s t e = absurd (false≢true e)
+asked_by (Some rule) ask s t e =
+    let m = part_count_by (Some rule) s in
+    let n = part_count_by (Some rule) t in
+    let one = up_to_count m ask.first_part (first_part_by rule ask s (Some t) e) in
+    let other = up_to_count n ask.second_part (second_part_by rule ask s t e) in
+    up_to_has ask.rule m n ask.first_part ask.second_part one.0 one.1 other.0 other.1
+
+pub alone_plain : (r : Option Rule) (ask : Ask) (s : Held) → are_subjects_of r ask s None ≡ true → is_plain ask ≡ true
 unfolding are_subjects
 alone_plain None ask s e = absurd (false≢true e)
-alone_plain (Some (Unique subject columns)) ask s e = absurd (false≢true e)
-alone_plain (Some (Partner subject columns server server_columns)) ask s e = (and_parts (is_plain ask) _ e).0
-alone_plain (Some (EndNode subject tip server)) ask s e = (and_parts (is_plain ask) _ e).0
-alone_plain (Some (Crossing a b server)) ask s e = absurd (false≢true e)
-alone_plain (Some (Near a b d)) ask s e = absurd (false≢true e)
+alone_plain (Some rule) ask s e = (and_parts (is_plain ask) _ e).0
 
 pub asked : (rules : List Rule) (ask : Ask) (s : Held) (t : Option Held) → calls rules ask s t ≡ true → Among ask (asks rules ask.rule s t)
 unfolding calls part_count

@@ -1,5 +1,6 @@
 -- The broken needs that are listed for a content are exactly those that its rows have, in order.
-use Rattle.std.proofs.Common.{◌≡◌, ◌⊎◌, inl, inr, ℕ, zero, suc, ◌<◌, Bool, true, false, cond, not, T, List, [], ◌∷◌, length, map, filter, Option, Some, None, slice_get, refl, sym, ap, subst, ◌∙◌, arith, All}
+use Rattle.std.proofs.Common.{◌≡◌, ◌⊎◌, inl, inr, ℕ, zero, suc, ◌<◌, Bool, true, false, cond, not, T, List, [], ◌∷◌, length, map, filter, Option, Some, None}
+use Rattle.std.proofs.Common.{slice_get, refl, sym, ap, subst, ◌∙◌, arith, All}
 use Rattle.std.proofs.lemmas.Bool.{and_parts, false≢true, cases_lt}
 use Rattle.std.proofs.lemmas.Cmp.{nat_cmp_total}
 use Rattle.std.proofs.lemmas.List.Elements.{All-nil, All-cons}
@@ -27,10 +28,12 @@ use Rattle.clr_rules.specs.declared.needs.Ask.{Ask}
 use Rattle.clr_rules.specs.Calls.{asks, calls, serves}
 use Rattle.clr_rules.specs.Books.{FitsCell, FitTogether, FitsContent}
 use Rattle.clr_rules.specs.Laws.{BrokenLaw}
-use Rattle.clr_rules.specs.Needs.{ask_of, broken_between, Stands, StandsBeside, IsNeed, IsMet, broken_cmp, broken_at, is_after, choices, is_broken, broken_from, broken_of, broken_below, rows_in, broken_needs, IsBroken, IsFirstBroken}
+use Rattle.clr_rules.specs.Needs.{ask_of, broken_between, Stands, StandsBeside, IsNeed, IsMet, broken_cmp, broken_at, is_after, choices, is_broken, broken_from}
+use Rattle.clr_rules.specs.Needs.{broken_of, broken_below, rows_in, broken_needs, IsBroken, IsFirstBroken}
 use Rattle.clr_rules.proofs.AskLemmas.{ask_cmp, less_number, asks_rise, asked, asked_rule, rule_there}
 use Rattle.clr_rules.proofs.BrokenOrder.{broken_total}
-use Rattle.clr_rules.proofs.Elements.{clash, Among, among_left, among_right, among_either, kept_among, among_kept, any_by, some_of, contained, among, each_of, all_by, mapped_among, among_mapped, flat_among, among_flat, AllBelow, rising_joined, rising_flat, rising_mapped}
+use Rattle.clr_rules.proofs.Elements.{clash, Among, among_left, among_right, among_either, kept_among, among_kept, any_by, some_of, contained, among, each_of}
+use Rattle.clr_rules.proofs.Elements.{all_by, mapped_among, among_mapped, flat_among, among_flat, AllBelow, rising_joined, rising_flat, rising_mapped}
 
 -- the rows of a content, as a list and by cell ------------------------------------------------
 found : (q : CellId) (r : Row) (es : List Held) → find cell_cmp q es ≡ Some r → Among (q, r) es

@@ -34,8 +34,10 @@ unfolding broken_cmp
 broken_exact a b e =
     let parts = exact_pairs nat_cmp nat_cmp exact_unsigned exact_unsigned in
     let seconds = exact_pairs (option_cmp cell_cmp) (λ (x y : ℕ × ℕ). ordering_then (nat_cmp x.0 y.0) (nat_cmp x.1 y.1)) second_exact parts in
-    let firsts = exact_pairs cell_cmp (λ (x y : Option CellId × (ℕ × ℕ)). ordering_then (option_cmp cell_cmp x.0 y.0) (ordering_then (nat_cmp x.1.0 y.1.0) (nat_cmp x.1.1 y.1.1))) cell_cmp_exact seconds in
-    let whole = exact_pairs nat_cmp (λ (x y : CellId × (Option CellId × (ℕ × ℕ))). ordering_then (cell_cmp x.0 y.0) (ordering_then (option_cmp cell_cmp x.1.0 y.1.0) (ordering_then (nat_cmp x.1.1.0 y.1.1.0) (nat_cmp x.1.1.1 y.1.1.1)))) exact_unsigned firsts in
+    let firsts = exact_pairs cell_cmp (λ (x y : Option CellId × (ℕ × ℕ)). ordering_then (option_cmp cell_cmp x.0 y.0)
+    (ordering_then (nat_cmp x.1.0 y.1.0) (nat_cmp x.1.1 y.1.1))) cell_cmp_exact seconds in
+    let whole = exact_pairs nat_cmp (λ (x y : CellId × (Option CellId × (ℕ × ℕ))). ordering_then (cell_cmp x.0 y.0)
+    (ordering_then (option_cmp cell_cmp x.1.0 y.1.0) (ordering_then (nat_cmp x.1.1.0 y.1.1.0) (nat_cmp x.1.1.1 y.1.1.1)))) exact_unsigned firsts in
     let same : fields a ≡ fields b = whole (fields a) (fields b) e in
     ap made same
   where

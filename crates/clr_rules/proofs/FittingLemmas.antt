@@ -1,8 +1,8 @@
 -- What a book and rows that fit one schema have: sound rows, and distances that `near` takes.
-use Rattle.std.proofs.Common.{◌≡◌, ℕ, zero, suc, ◌+◌, ◌≤◌, Bool, true, false, ◌&&◌, List, [], ◌∷◌, Option, Some, None, refl, subst, arith}
+use Rattle.std.proofs.Common.{◌≡◌, ℕ, zero, suc, ◌+◌, ◌≤◌, Bool, true, false, List, [], ◌∷◌, Option, Some, None, refl, subst, arith}
 use Rattle.std.proofs.lemmas.Bool.{and_parts, and_from, false≢true}
 use Rattle.std.specs.List.{list_all}
-use Rattle.std.specs.Prelude.{if◌then◌else◌, slice_get, length, min, nat_le}
+use Rattle.std.specs.Prelude.{if◌then◌else◌, slice_get, length, min, nat_le, option_map, option_to_list, IfSome}
 use Rattle.std.proofs.Math.Nat.{min-eq_left}
 use Rattle.clr_rows.specs.declared.places.Shape.{Shape}
 use Rattle.clr_rows.specs.declared.rows.Value.{Value}
@@ -16,12 +16,13 @@ use Rattle.clr_rules.specs.declared.books.faults.RuleFault.TheVariants.{NoTable,
 use Rattle.clr_rules.specs.declared.limits.TheConstants.{MOST_RULES}
 use Rattle.clr_rules.specs.declared.columns.Col.TheVariants as column
 use Rattle.clr_rules.specs.declared.rules.Rule.{Rule}
-use Rattle.clr_rules.specs.declared.rules.Rule.TheVariants.{Unique, Partner, EndNode, Crossing, Near}
 use Rattle.clr_rules.specs.declared.sides.Side.{Side}
-use Rattle.clr_rows.specs.Held.{Held}
-use Rattle.clr_rules.specs.Books.{kind_of, is_literal_of, has_filter, has_filters, is_side_within, is_rule_within, IsBook, has_tables, has_columns, has_same_kinds, has_forms, has_distance, rule_fault, fault_or_later, first_fault, book_fault, FitsBook, FitsCell, FitTogether}
-use Rattle.clr_rules.specs.Fitting.{IsSound, IsSoundSegment}
-use Rattle.clr_rules.specs.Sides.{Segment}
+use Rattle.clr_rows.specs.declared.cells.Held.{Held as Borrowed}
+use Rattle.clr_rows.specs.Held.{Held, held_of}
+use Rattle.clr_rules.specs.Books.{kind_of, is_literal_of, has_filter, has_filters, is_side_within, is_rule_within, IsBook, has_tables, has_columns}
+use Rattle.clr_rules.specs.Books.{has_same_kinds, has_forms, has_distance, rule_fault, fault_or_later, first_fault, book_fault, FitsBook, FitsCell, FitTogether}
+use Rattle.clr_rules.specs.Fitting.{IsSoundShape, IsSoundSegment}
+use Rattle.clr_rules.specs.Sides.{Segment, if_any, sides}
 
 segment_of_row : (tables : List TableDef) (s : Held) (n : ℕ) (e : Segment) → FitsCell tables s → slice_get (parts_of s.1.shape) n ≡ Some e → IsSoundSegment e
 segment_of_row tables s n e fit is = let ends = row_part tables s.0 s.1 fit n e.0 e.1 is in record { first = ends.0; second = ends.1; differ = ends.2 }
@@ -31,7 +32,7 @@ pub sound_part : (tables : List TableDef) (s : Held) (n : ℕ) (e : Segment) →
 sound_part tables s zero e fit is = absurd (cc)
 sound_part tables s (suc n) e fit is = segment_of_row tables s n e fit is
 
-sound_row : (tables : List TableDef) (s : Held) → FitsCell tables s → IsSound s.1.shape
+sound_row : (tables : List TableDef) (s : Held) → FitsCell tables s → IsSoundShape s.1.shape
 sound_row tables s fit = record {
   coordinates = (fits_table tables s.0 s.1 fit).2.coordinates;
   parts = λ n e is. segment_of_row tables s n e fit is;
@@ -39,23 +40,25 @@ sound_row tables s fit = record {
 }
 
 -- a part of a sound shape is sound
-pub part_is_sound : (shape : Shape) (n : ℕ) (e : Segment) → IsSound shape → part_of shape n ≡ Some e → IsSoundSegment e
+pub part_is_sound : (shape : Shape) (n : ℕ) (e : Segment) → IsSoundShape shape → part_of shape n ≡ Some e → IsSoundSegment e
 part_is_sound shape zero e h is = absurd (cc)
 part_is_sound shape (suc n) e h is = h.parts n e is
 
 -- each part of a sound shape has a number
-pub counted_parts : (shape : Shape) → IsSound shape → min (length (parts_of shape)) 65535 ≡ length (parts_of shape)
+pub counted_parts : (shape : Shape) → IsSoundShape shape → min (length (parts_of shape)) 65535 ≡ length (parts_of shape)
 counted_parts shape h = min-eq_left (omega (arith, h.few))
 
 -- the rows that fit beside a book are sound
-pub first_sound : (rules : List Rule) (s : Held) (rest : List Held) → FitTogether rules (s ∷ rest) → IsSound s.1.shape
+pub first_sound : (rules : List Rule) (s : Held) (rest : List Held) → FitTogether rules (s ∷ rest) → IsSoundShape s.1.shape
 first_sound rules s rest h = sound_row h.tables s (h.each 0 s (omega arith))
 
-pub second_sound : (rules : List Rule) (s t : Held) (rest : List Held) → FitTogether rules (s ∷ t ∷ rest) → IsSound t.1.shape
+pub second_sound : (rules : List Rule) (s t : Held) (rest : List Held) → FitTogether rules (s ∷ t ∷ rest) → IsSoundShape t.1.shape
 second_sound rules s t rest h = sound_row h.tables t (h.each 1 t (omega arith))
 
-pub third_sound : (rules : List Rule) (s t u : Held) (rest : List Held) → FitTogether rules (s ∷ t ∷ u ∷ rest) → IsSound u.1.shape
-third_sound rules s t u rest h = sound_row h.tables u (h.each 2 u (omega arith))
+pub third_if_any : (rules : List Rule) (s t : Held) (u : Option Borrowed) → FitTogether rules (s ∷ t ∷ option_to_list (option_map held_of u))
+    → IfSome u (λ held. IsSoundShape held.row.now.shape)
+third_if_any rules s t None h = tt
+third_if_any rules s t (Some u) h = sound_row h.tables (held_of u) (h.each 2 (held_of u) (omega arith))
 
 distance_without_fault : (tables : List TableDef) (rule : Rule) → rule_fault tables rule ≡ None → has_distance rule ≡ true
 unfolding rule_fault
@@ -110,16 +113,18 @@ side_within tables side h = go side.filter h
     go (f ∷ fs) h = let p = and_parts (is_literal_of (kind_of tables side.table (column.At f.0)) f.1) _ h in and_from _ _
         (literal_within (kind_of tables side.table (column.At f.0)) f.1 p.0) (go fs p.1)
 
-sides_within : (tables : List TableDef) (a b : Side) → (has_filter tables a && has_filter tables b) ≡ true → (is_side_within a && is_side_within b) ≡ true
-sides_within tables a b h = let p = and_parts _ _ h in and_from _ _ (side_within tables a p.0) (side_within tables b p.1)
+within_if_any : (tables : List TableDef) (side : Option Side) → if_any (has_filter tables) side ≡ true → if_any is_side_within side ≡ true
+within_if_any tables None h = refl
+within_if_any tables (Some side) h = side_within tables side h
 
 rule_within : (tables : List TableDef) (rule : Rule) → has_filters tables rule ≡ true → is_rule_within rule ≡ true
 unfolding is_rule_within
-rule_within tables (Unique subject columns) h = side_within tables subject h
-rule_within tables (Partner subject columns server server_columns) h = sides_within tables subject server h
-rule_within tables (EndNode subject tip server) h = sides_within tables subject server h
-rule_within tables (Crossing a b server) h = let p = and_parts _ _ h in and_from _ _ (side_within tables a p.0) (sides_within tables b server p.1)
-rule_within tables (Near a b d) h = sides_within tables a b h
+rule_within tables rule h =
+    let p = and_parts (if_any (has_filter tables) (sides rule).alone) _ h in
+    let q = and_parts (if_any (has_filter tables) (sides rule).first) _ p.1 in
+    let r = and_parts (if_any (has_filter tables) (sides rule).second) _ q.1 in
+    and_from _ _ (within_if_any tables (sides rule).alone p.0) (and_from _ _ (within_if_any tables (sides rule).first q.0)
+    (and_from _ _ (within_if_any tables (sides rule).second r.0) (within_if_any tables (sides rule).server r.1)))
 
 filters_without_fault : (tables : List TableDef) (rule : Rule) → rule_fault tables rule ≡ None → has_filters tables rule ≡ true
 unfolding rule_fault

@@ -21,6 +21,7 @@ use Rattle.clr_rules.specs.declared.limits.TheConstants.{MOST_RULES, LEAST_DISTA
 use Rattle.clr_rules.specs.declared.rules.Rule.{Rule}
 use Rattle.clr_rules.specs.declared.rules.Rule.TheVariants.{Unique, Partner, EndNode, Crossing, Near}
 use Rattle.clr_rules.specs.declared.sides.Side.{Side}
+use Rattle.clr_rules.specs.Sides.{each_side}
 
 -- tables -------------------------------------------------------------------------------------
 
@@ -28,11 +29,7 @@ abbrev pub has_table : List TableDef → Side → Bool
 has_table tables side = nat_lt side.table (length tables)
 
 abbrev pub has_tables : List TableDef → Rule → Bool
-has_tables tables (Unique subject columns) = has_table tables subject
-has_tables tables (Partner subject columns server server_columns) = has_table tables subject && has_table tables server
-has_tables tables (EndNode subject tip server) = has_table tables subject && has_table tables server
-has_tables tables (Crossing a b server) = has_table tables a && (has_table tables b && has_table tables server)
-has_tables tables (Near a b d) = has_table tables a && has_table tables b
+has_tables tables rule = each_side (has_table tables) rule
 
 -- columns ------------------------------------------------------------------------------------
 
@@ -119,11 +116,7 @@ abbrev pub has_filter : List TableDef → Side → Bool
 has_filter tables side = list_all (λ f. is_literal_of (kind_of tables side.table (column.At f.0)) f.1) side.filter
 
 abbrev pub has_filters : List TableDef → Rule → Bool
-has_filters tables (Unique subject columns) = has_filter tables subject
-has_filters tables (Partner subject columns server server_columns) = has_filter tables subject && has_filter tables server
-has_filters tables (EndNode subject tip server) = has_filter tables subject && has_filter tables server
-has_filters tables (Crossing a b server) = has_filter tables a && (has_filter tables b && has_filter tables server)
-has_filters tables (Near a b d) = has_filter tables a && has_filter tables b
+has_filters tables rule = each_side (has_filter tables) rule
 
 -- a literal that is a number is within 64 bits
 abbrev pub is_side_within : Side → Bool
@@ -131,11 +124,7 @@ is_side_within side = list_all (λ f. is_number f.1) side.filter
 
 -- each literal of a rule that is a number is within 64 bits
 unfoldable pub is_rule_within : Rule → Bool
-is_rule_within (Unique subject columns) = is_side_within subject
-is_rule_within (Partner subject columns server server_columns) = is_side_within subject && is_side_within server
-is_rule_within (EndNode subject tip server) = is_side_within subject && is_side_within server
-is_rule_within (Crossing a b server) = is_side_within a && (is_side_within b && is_side_within server)
-is_rule_within (Near a b d) = is_side_within a && is_side_within b
+is_rule_within rule = each_side is_side_within rule
 
 -- books --------------------------------------------------------------------------------------
 

@@ -10,7 +10,7 @@ use Rattle.clr_segments.specs.Turns.{squared_distance}
 use Rattle.clr_rules.specs.declared.needs.Ask.{Ask}
 use Rattle.clr_rules.specs.declared.rules.Rule.{Rule}
 use Rattle.clr_rules.specs.declared.rules.Rule.TheVariants.{Unique, Partner, EndNode, Crossing, Near}
-use Rattle.clr_rules.specs.Sides.{Segment, is_of_side, are_of_sides, are_equal_in, point_of, end_of}
+use Rattle.clr_rules.specs.Sides.{Segment, is_of_side, is_of, are_of, sides, are_equal_in, point_of, end_of}
 
 -- asks ---------------------------------------------------------------------------------------
 
@@ -63,25 +63,29 @@ abbrev pub is_crossing_at : Option Segment → Option Segment → Option Place �
 is_crossing_at (Some a) (Some b) (Some p) = not (have_two_common_points a.0 a.1 b.0 b.1) && (lies_on p a.0 a.1 && lies_on p b.0 b.1)
 is_crossing_at _ _ _ = false
 
--- whether a row, or two of different cells, call a rule: a row that serves them must stand. Under a crossing
--- the parts of the ask call, and none calls that isn't there; another rule is asked of whole rows
+-- whether two rows are such that they call a rule where they are of its sides. Under a crossing the parts of
+-- the ask call, and none calls that isn't there; another rule is asked of whole rows
+abbrev pub are_related : Rule → Ask → Held → Held → Bool
+are_related (Unique subject columns) ask s t = is_plain ask && are_equal_in s columns t columns
+are_related (Crossing a b server) ask s t = have_meeting (part_of s.1.shape ask.first_part) (part_of t.1.shape ask.second_part)
+are_related (Near a b d) ask s t = is_plain ask && are_nearer d (point_of s) (point_of t)
+are_related _ _ _ _ = false
+
+-- whether a row, or two of different cells, call a rule: a row that serves them must stand
 unfoldable pub are_subjects : Rule → Ask → Held → Option Held → Bool
-are_subjects (Unique subject columns) ask s (Some t) = is_plain ask && (is_of_side subject s && (is_of_side subject t && are_equal_in s columns t columns))
-are_subjects (Partner subject columns server server_columns) ask s None = is_plain ask && is_of_side subject s
-are_subjects (EndNode subject tip server) ask s None = is_plain ask && is_of_side subject s
-are_subjects (Crossing a b server) ask s (Some t) = are_of_sides a b s t && have_meeting (part_of s.1.shape ask.first_part) (part_of t.1.shape ask.second_part)
-are_subjects (Near a b d) ask s (Some t) = is_plain ask && (are_of_sides a b s t && are_nearer d (point_of s) (point_of t))
-are_subjects _ _ _ _ = false
+are_subjects rule ask s None = is_plain ask && is_of (sides rule).alone s
+are_subjects rule ask s (Some t) = are_of (sides rule).first (sides rule).second s t && are_related rule ask s t
+
+-- whether a row is such that it serves the subjects of a rule where it is of the server's side
+abbrev pub suits : Rule → Ask → Held → Option Held → Held → Bool
+suits (Partner subject columns server server_columns) ask s None r = is_plain ask && (is_of_side subject s && are_equal_in s columns r server_columns)
+suits (EndNode subject tip server) ask s None r = is_plain ask && (is_of_side subject s && are_one_point (end_of tip s) (point_of r))
+suits (Crossing a b server) ask s (Some t) r = is_crossing_at (part_of s.1.shape ask.first_part) (part_of t.1.shape ask.second_part) (point_of r)
+suits _ _ _ _ _ = false
 
 -- whether a row serves the subjects of a rule
 unfoldable pub is_server : Rule → Ask → Held → Option Held → Held → Bool
-is_server (Partner subject columns server server_columns) ask s None r =
-    is_plain ask && (is_of_side subject s && (is_of_side server r && are_equal_in s columns r server_columns))
-is_server (EndNode subject tip server) ask s None r =
-    is_plain ask && (is_of_side subject s && (is_of_side server r && are_one_point (end_of tip s) (point_of r)))
-is_server (Crossing a b server) ask s (Some t) r =
-    is_of_side server r && is_crossing_at (part_of s.1.shape ask.first_part) (part_of t.1.shape ask.second_part) (point_of r)
-is_server _ _ _ _ _ = false
+is_server rule ask s t r = is_of (sides rule).server r && suits rule ask s t r
 
 abbrev pub are_subjects_of : Option Rule → Ask → Held → Option Held → Bool
 are_subjects_of None ask s t = false

@@ -14,7 +14,7 @@ pub record IsSoundSegment (e : Segment) : Type 0 where
   pub differ : Differ e.0 e.1
 
 -- all coordinates of a shape are within the plane, and it has a few sound parts
-pub record IsSound (shape : Shape) : Type 0 where
+pub record IsSoundShape (shape : Shape) : Type 0 where
   pub coordinates : has_coordinates shape ≡ true
   pub parts : (n : ℕ) (e : Segment) → slice_get (parts_of shape) n ≡ Some e → IsSoundSegment e
   pub few : length (parts_of shape) < MOST_VERTICES

@@ -30,19 +30,47 @@ passes filter row = list_all (λ f. same_field (slice_get row.values f.0) (Some 
 unfoldable pub is_of_side : Side → Held → Bool
 is_of_side side s = s.0.table == side.table && passes side.filter s.1
 
+-- there is a side, and the row is of it
+abbrev pub is_of : Option Side → Held → Bool
+is_of None s = false
+is_of (Some side) s = is_of_side side s
+
 -- one row is of the one side and one of the other, in either arrangement
+abbrev pub are_of : Option Side → Option Side → Held → Held → Bool
+are_of a b s t = if is_of a s && is_of b t then true else is_of a t && is_of b s
+
 abbrev pub are_of_sides : Side → Side → Held → Held → Bool
-are_of_sides a b s t = if is_of_side a s && is_of_side b t then true else is_of_side a t && is_of_side b s
+are_of_sides a b s t = are_of (Some a) (Some b) s t
 
 -- roles --------------------------------------------------------------------------------------
 
+-- the sides of a rule by the roles of their rows: a subject alone, the first or the second of two subjects, a server
+pub record RuleSides : Type 0 where
+  pub alone : Option Side
+  pub first : Option Side
+  pub second : Option Side
+  pub server : Option Side
+
+abbrev pub sides : Rule → RuleSides
+sides (Unique subject columns) = record { alone = None; first = Some subject; second = Some subject; server = None }
+sides (Partner subject columns server server_columns) = record { alone = Some subject; first = None; second = None; server = Some server }
+sides (EndNode subject tip server) = record { alone = Some subject; first = None; second = None; server = Some server }
+sides (Crossing a b server) = record { alone = None; first = Some a; second = Some b; server = Some server }
+sides (Near a b d) = record { alone = None; first = Some a; second = Some b; server = None }
+
+-- a side passes a test, if there is one
+abbrev pub if_any : (Side → Bool) → Option Side → Bool
+if_any test None = true
+if_any test (Some side) = test side
+
+-- each side of the rule passes a test
+abbrev pub each_side : (Side → Bool) → Rule → Bool
+each_side test rule =
+    if_any test (sides rule).alone && (if_any test (sides rule).first && (if_any test (sides rule).second && if_any test (sides rule).server))
+
 -- the row is of some side of the rule
 unfoldable pub has_role_in : Rule → Held → Bool
-has_role_in (Unique subject columns) s = is_of_side subject s
-has_role_in (Partner subject columns server server_columns) s = is_of_side subject s || is_of_side server s
-has_role_in (EndNode subject tip server) s = is_of_side subject s || is_of_side server s
-has_role_in (Crossing a b server) s = is_of_side a s || is_of_side b s || is_of_side server s
-has_role_in (Near a b d) s = is_of_side a s || is_of_side b s
+has_role_in rule s = is_of (sides rule).alone s || is_of (sides rule).first s || is_of (sides rule).second s || is_of (sides rule).server s
 
 abbrev pub has_role_by : Option Rule → Held → Bool
 has_role_by None s = false

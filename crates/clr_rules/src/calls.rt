@@ -10,7 +10,7 @@ mod servers;
 mod subjects;
 
 use crate::books::RuleBook;
-use crate::calls::servers::{serves_one, serves_two};
+use crate::calls::servers::is_server;
 use crate::calls::subjects::{are_subjects, is_subject};
 use crate::needs::Ask;
 use crate::rules::Rule;
@@ -70,9 +70,6 @@ impl RuleBook {
         requires fit { FitTogether self.now (held_of first ∷ held_of server ∷ option_to_list (option_map held_of second)) }
         ensures { result ≡ serves self.now ask (held_of first.entry) (option_map held_of second.entry) (held_of server.entry) }
     {
-        match second {
-            None => serves_one(self.rule(ask.rule), ask, first, server),
-            Some(second) => serves_two(self.rule(ask.rule), ask, first, second, server),
-        }
+        is_server(self.rule(ask.rule), ask, first, second, server)
     }
 }

@@ -6,8 +6,8 @@
 //!   exactly the definitions: which rows a rule speaks of, part by part where it is asked of paths,
 //!   and which row serves them, by common points of segments and equal values. None takes memory.
 //!   `rule`, `rules`, `len` and `part_count`.
-//! - `roles_of`: which sides of a rule a row is of; `is_of_side`, `point_in` and `end_in` look at
-//!   one side and one shape. Laws, among them `crossing_subjects_have_common_points` and
+//! - `roles_of`: which sides of a rule a row is of, by `sides`; `is_of`, `is_of_side`, `point_in`
+//!   and `end_in` look at one side and one shape. Laws, among them `crossing_subjects_have_common_points` and
 //!   `crossing_servers_are_common_points`: a CROSSING is what its definition with shares of
 //!   segments says.
 #![tactic(auto)]
@@ -32,6 +32,6 @@ pub use laws::{
 pub use limits::{LEAST_DISTANCE, MOST_RULES};
 pub use needs::{Ask, Broken};
 pub use roles::Roles;
-pub use rules::{Rule, Tip};
+pub use rules::{Rule, Sides, Tip};
 pub use shapes::{end_in, point_in};
-pub use sides::{Filter, Side, is_of_side};
+pub use sides::{Filter, Side, is_of, is_of_side};

@@ -6,7 +6,7 @@ ghost use Rattle.clr_rules.specs.Roles.{roles, roles_under};
 
 use crate::books::RuleBook;
 use crate::rules::Rule;
-use crate::sides::is_of_side;
+use crate::sides::is_of;
 use clr_rows::Held;
 
 /// Which sides of a rule a row is of: it may be a subject alone, the first or the second of two
@@ -24,41 +24,12 @@ pub struct Roles {
 fn roles_by_rule(rule: &Rule, held: Held) -> Roles
     ensures { result ≡ roles rule.now (held_of held.entry) }
 {
-    let (alone, first, second, server) = match rule {
-        Rule::Unique { subject, .. } => {
-            let has = is_of_side(subject, held);
-            (false, has, has, false)
-        }
-        Rule::Partner {
-            subject,
-            server,
-            ..
-        }
-        | Rule::EndNode {
-            subject,
-            server,
-            ..
-        } => (
-            is_of_side(subject, held),
-            false,
-            false,
-            is_of_side(server, held),
-        ),
-        Rule::Crossing { a, b, server } => {
-            (
-                false,
-                is_of_side(a, held),
-                is_of_side(b, held),
-                is_of_side(server, held),
-            )
-        }
-        Rule::Near { a, b, .. } => (false, is_of_side(a, held), is_of_side(b, held), false),
-    };
+    let sides = rule.sides();
     Roles {
-        alone,
-        first,
-        second,
-        server,
+        alone: is_of(sides.alone, held),
+        first: is_of(sides.first, held),
+        second: is_of(sides.second, held),
+        server: is_of(sides.server, held),
     }
 }
 

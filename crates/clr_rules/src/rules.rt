@@ -1,4 +1,8 @@
-//! The kinds of rules.
+//! The kinds of rules, and their sides.
+
+ghost use Rattle.std.specs.Prelude.{◌≡◌};
+ghost use Rattle.std.specs.Option.{option_copied};
+ghost use Rattle.clr_rules.specs.Sides.{sides};
 
 use crate::columns::ColumnList;
 use crate::sides::Side;
@@ -47,4 +51,46 @@ pub enum Rule {
         b: Side,
         d: i64,
     },
+}
+
+/// The sides of a rule by the roles of their rows: a subject alone, the first or the second of two
+/// subjects in either arrangement, and a server.
+#[derive(Clone, Copy, Debug)]
+pub struct Sides<'a> {
+    pub alone: Option<&'a Side>,
+    pub first: Option<&'a Side>,
+    pub second: Option<&'a Side>,
+    pub server: Option<&'a Side>,
+}
+
+impl Rule {
+    /// Returns the sides of the rule.
+    pub fn sides(&self) -> Sides<'_>
+        ensures alone { option_copied result.alone ≡ (sides self.now).alone }
+        ensures first { option_copied result.first ≡ (sides self.now).first }
+        ensures second { option_copied result.second ≡ (sides self.now).second }
+        ensures server { option_copied result.server ≡ (sides self.now).server }
+    {
+        let (alone, first, second, server) = match self {
+            Rule::Unique { subject, .. } => (None, Some(subject), Some(subject), None),
+            Rule::Partner {
+                subject,
+                server,
+                ..
+            }
+            | Rule::EndNode {
+                subject,
+                server,
+                ..
+            } => (Some(subject), None, None, Some(server)),
+            Rule::Crossing { a, b, server } => (None, Some(a), Some(b), Some(server)),
+            Rule::Near { a, b, .. } => (None, Some(a), Some(b), None),
+        };
+        Sides {
+            alone,
+            first,
+            second,
+            server,
+        }
+    }
 }

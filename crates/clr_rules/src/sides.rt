@@ -2,51 +2,16 @@
 
 ghost use Rattle.std.specs.Prelude.{◌≡◌, Some, slice_get, option_map};
 ghost use Rattle.std.specs.List.{list_all, zip};
+ghost use Rattle.std.specs.Option.{option_copied};
 ghost use Rattle.clr_rows.specs.Held.{held_of};
-ghost use Rattle.clr_rules.specs.Sides.{same_field, passes, is_of_side, field, are_equal_in};
+ghost use Rattle.clr_rules.specs.Sides.{same_field, passes, is_of_side, is_of, field, are_equal_in};
 
 use crate::columns::Col;
-use clr_rows::{Held, Row, Value};
-use std::marker::Model;
+use clr_rows::{Held, List, Row, Value};
 
 /// What a side asks of its rows: for each pair of the list, the row has the literal in the column.
 /// Columns are numbered from 0.
-#[derive(Debug, Drop)]
-pub struct Filter {
-    list: Vec<(u16, Value)>,
-}
-
-impl Model for Filter {
-    ghost use Rattle.std.specs.Prelude.{List, ℕ};
-    ghost use Rattle.clr_rows.specs.declared.rows.Value.{Value as OneValue};
-
-    ghost Value = { List (ℕ × OneValue) };
-
-    ghost view = { λ a. a.list.items };
-}
-
-impl Filter {
-    /// Returns the filter of these columns with their literals.
-    pub fn new(list: Vec<(u16, Value)>) -> Filter
-        ensures { result ≡ list.items }
-    {
-        Filter { list }
-    }
-
-    /// Returns the columns with their literals as a slice.
-    pub fn as_slice(&self) -> &[(u16, Value)]
-        ensures { result.now ≡ self.now }
-    {
-        self.list.as_slice()
-    }
-
-    /// Returns the underlying list.
-    pub fn into_vec(self) -> Vec<(u16, Value)>
-        ensures { result.items ≡ self }
-    {
-        self.list
-    }
-}
+pub type Filter = List<(u16, Value)>;
 
 /// A side of a rule: the rows of a table that pass a filter. Tables are numbered as in the schema.
 #[derive(Debug, Drop)]
@@ -89,6 +54,16 @@ pub fn is_of_side(side: &Side, held: Held) -> bool
     ensures { result ≡ is_of_side side.now (held_of held.entry) }
 {
     held.cell.table == side.table && passes(&side.filter, held.row)
+}
+
+/// Returns whether there is a side and a row is of it.
+pub fn is_of(side: Option<&Side>, held: Held) -> bool
+    ensures { result ≡ is_of (option_copied side.entry) (held_of held.entry) }
+{
+    match side {
+        Some(side) => is_of_side(side, held),
+        None => false,
+    }
 }
 
 /// Returns whether one row has in a column what another row has in another column.

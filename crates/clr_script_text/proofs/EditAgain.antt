@@ -1,5 +1,6 @@
 -- The record of an edit that fits the schema is read as the edit.
-use Rattle.std.proofs.Common.{◌≡◌, ℕ, suc, ◌+◌, ◌-◌, ◌*◌, ◌/◌, ◌%◌, ◌^◌, ◌==◌, ◌&&◌, true, false, List, [], ◌∷◌, ◌++◌, length, map, Ok, None, ℤ, pos, negsuc, refl, sym, arith, append_assoc}
+use Rattle.std.proofs.Common.{◌≡◌, ℕ, suc, ◌+◌, ◌-◌, ◌*◌, ◌/◌, ◌%◌, ◌^◌, ◌==◌, ◌&&◌, true, false, List, [], ◌∷◌, ◌++◌, length, map, Ok, None, ℤ, pos, negsuc}
+use Rattle.std.proofs.Common.{refl, sym, arith, append_assoc}
 use Rattle.std.specs.Prelude.{codes, nat_le}
 use Rattle.std.specs.Fmt.{signed_decimal}
 use Rattle.std.specs.List.{flat_map, list_all}
@@ -21,14 +22,16 @@ use Rattle.clr_rows.specs.declared.tables.Kind.{Kind}
 use Rattle.clr_rows.specs.declared.tables.Kind.TheVariants as kind
 use Rattle.clr_rows.specs.declared.tables.TableDef.{TableDef}
 use Rattle.clr_rows.specs.Numbers.{is_i64}
-use Rattle.clr_rows.specs.Schemas.{are_of_kinds, cell_fault, has_coordinates, is_bad_path, is_coordinate, is_key, is_number, is_of_form, is_of_kind, is_place, row_fault, schema_fault}
+use Rattle.clr_rows.specs.Schemas.{are_of_kinds, cell_fault, has_coordinates, is_bad_path, is_coordinate, is_key, is_number, is_of_form, is_of_kind, is_place}
+use Rattle.clr_rows.specs.Schemas.{row_fault, schema_fault}
 use Rattle.clr_rows.proofs.SchemaLemmas as schema
 use Rattle.clr_change.specs.declared.edits.Edit.{Edit}
 use Rattle.clr_change.specs.declared.edits.Edit.TheVariants as edit
 use Rattle.clr_records.specs.Records.{field_of, in_turn}
 use Rattle.clr_records.proofs.Decimals.{number_again}
 use Rattle.clr_lines.specs.Rows.{place_fields, shape_fields, value_field}
-use Rattle.clr_scripts.specs.Edits.{can_have_coordinates, edit_in, edit_of, place_in, place_of, row_can_have_fields, row_of, shape_of, value_of, values_of, vertices_of, whole_number}
+use Rattle.clr_scripts.specs.Edits.{can_have_coordinates, edit_in, edit_of, place_in, place_of, row_can_have_fields, row_of, shape_of, value_of, values_of}
+use Rattle.clr_scripts.specs.Edits.{vertices_of, whole_number}
 use Rattle.clr_script_text.specs.Scripts.{edit_fields}
 use Rattle.clr_script_text.specs.ReadBack.{Fits}
 
@@ -79,7 +82,8 @@ values_again fields front (column ∷ columns) (value ∷ values) rest long of n
     let m = and_parts (is_number value) (list_all is_number values) numbers in
     let text = value_field value in
     let here : field_of fields (length front) ≡ text = rw is (at front (text ∷ (map value_field values ++ rest)) (length front) 0 (omega arith)) in
-    let next : fields ≡ (front ++ text ∷ []) ++ (map value_field values ++ rest) = rw is (sym (append_assoc front (text ∷ []) (map value_field values ++ rest))) in
+    let next : fields ≡ (front ++ text ∷ []) ++ (map value_field values ++ rest) =
+    rw is (sym (append_assoc front (text ∷ []) (map value_field values ++ rest))) in
     let more : length (front ++ text ∷ []) ≡ length front + 1 = length-append front (text ∷ []) in
     let others = values_again fields (front ++ text ∷ []) columns values rest (omega (arith, long)) o.1 m.1 next in
     rw (here, value_again column.1 value o.0 m.0, rw more at others) refl

@@ -166,7 +166,8 @@ script_again tables name root edits is =
     let fit = recursion_from_All (Fits tables) edits is.fit in
     let texts = recursion_from_All HasTexts edits is.texts in
     let records = design_records tables name root edits in
-    let plain : AllByRecursion (IsPlain IsUtf8) records = (create_plain name root is.named is.rooted, (apply_plain name (length edits) is.named is.few, edits_plain tables edits is.sound fit texts)) in
+    let plain : AllByRecursion (IsPlain IsUtf8) records =
+    (create_plain name root is.named is.rooted, (apply_plain name (length edits) is.named is.few, edits_plain tables edits is.sound fit texts)) in
     rw (
       records_same records,
       records_again records plain (no_mark name root (apply_fields name (length edits) ∷ map (edit_fields tables) edits)),

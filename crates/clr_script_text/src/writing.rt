@@ -4,7 +4,7 @@ ghost use Rattle.std.specs.Prelude.{◌≡◌, ◌++◌, ◌∷◌, [], Ok, IfOk
 ghost use Rattle.std.specs.List.{All};
 ghost use Rattle.csv.specs.Records.{fields_of, partial_of};
 ghost use Rattle.csv.specs.Writing.{row_text};
-ghost use Rattle.clr_lines.specs.Rows.{IsBetween, row_fields, rows_writer};
+ghost use Rattle.clr_lines.specs.Rows.{IsBetweenRows, row_fields, rows_writer};
 ghost use Rattle.clr_scripts.specs.Scripts.{script_in_text};
 ghost use Rattle.clr_records.specs.Writing.{written_by};
 ghost use Rattle.clr_script_text.specs.Scripts.{cell_fields, design_script, design_steps, edit_fields, script_text};
@@ -63,8 +63,8 @@ fn edit_record(alloc: Global, schema: &Schema, edit: &Edit) -> Result<ByteRecord
 
 /// Writes a record by a writer that is between two records.
 fn add_record(writer: &mut Writer<Vec<u8>>, fields: &ByteRecord) -> Result<(), AllocError>
-    requires { IsBetween writer.old }
-    ensures between { OnOk result (IsBetween writer.new) }
+    requires { IsBetweenRows writer.old }
+    ensures between { OnOk result (IsBetweenRows writer.new) }
     ensures written { OnOk result (written_by writer.new ≡ written_by writer.old ++ row_text rows_writer (fields_of fields.now)) }
 {
     match writer.write_byte_record(fields) {
@@ -81,8 +81,8 @@ fn add_command(
     first: &str,
     second: &str,
 ) -> Result<(), AllocError>
-    requires { IsBetween writer.old }
-    ensures between { OnOk result (IsBetween writer.new) }
+    requires { IsBetweenRows writer.old }
+    ensures between { OnOk result (IsBetweenRows writer.new) }
     ensures written { OnOk result (written_by writer.new ≡ written_by writer.old ++ row_text rows_writer (command.now ∷ first.now ∷ second.now ∷ [])) }
 {
     let mut fields = ByteRecord::new(alloc);
@@ -98,8 +98,8 @@ fn add_edits(
     schema: &Schema,
     edits: &[Edit],
 ) -> Result<(), AllocError>
-    requires { IsBetween writer.old }
-    ensures between { OnOk result (IsBetween writer.new) }
+    requires { IsBetweenRows writer.old }
+    ensures between { OnOk result (IsBetweenRows writer.new) }
     ensures written { OnOk result (written_by writer.new ≡ written_by writer.old ++ script_text (map (edit_fields schema.now) edits.now)) }
     ensures texts { OnOk result (All HasTexts edits.now) }
 {

@@ -61,7 +61,8 @@ pub left_over : (front : List Place) (fields : List (List ℕ)) (at : ℕ) (tota
     → with_front front (vertices_of (drop at fields)) ≡ total → total ≡ Err fault.FieldCount
 unfolding vertices_of
 left_over front fields at total is so_far =
-    let last : drop at fields ≡ field_of fields at ∷ [] = begins fields at (omega arith) ∙ ap (λ (fs : List (List ℕ)). field_of fields at ∷ fs) (drop_all (at + 1) fields (omega arith)) in
+    let last : drop at fields ≡ field_of fields at ∷ [] = begins fields at (omega arith)
+    ∙ ap (λ (fs : List (List ℕ)). field_of fields at ∷ fs) (drop_all (at + 1) fields (omega arith)) in
     sym so_far ∙ rw last refl
 
 -- no field is left

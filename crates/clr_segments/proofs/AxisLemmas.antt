@@ -1,9 +1,11 @@
 -- Points of segments in one coordinate, and the ranges of two segments of one line.
-use Rattle.std.proofs.Common.{◌≡◌, ◌≢◌, ℕ, ℤ, pos, ◌+ℤ◌, ◌-ℤ◌, ◌*ℤ◌, ◌-◌, ◌*◌, ◌<◌, ◌≤◌, ◌≤ℤ◌, ◌<ℤ◌, ◌∙◌, unsigned_abs, arith, ap, ap₂, mul-pos, mul-le-mul_right, mul_comm}
+use Rattle.std.proofs.Common.{◌≡◌, ◌≢◌, ℕ, ℤ, pos, ◌+ℤ◌, ◌-ℤ◌, ◌*ℤ◌, ◌-◌, ◌*◌, ◌<◌, ◌≤◌, ◌≤ℤ◌, ◌<ℤ◌, ◌∙◌, unsigned_abs, arith, ap, ap₂, mul-pos}
+use Rattle.std.proofs.Common.{mul-le-mul_right, mul_comm}
 use Rattle.std.proofs.lemmas.Int.{by_lt_z, int_min_is, int_max_is}
 use Rattle.std.specs.Int.{int_min, int_max}
 use borrow.Author.Differences.{up}
-use Rattle.clr_segments.proofs.Integers.{linear, expand, times_le, cancel, cancel_eq, cancel_le, natural, up_le, up_positive, difference_apart, up_is_size, size-turned}
+use Rattle.clr_segments.proofs.Integers.{linear, expand, times_le, cancel, cancel_eq, cancel_le, natural, up_le, up_positive, difference_apart, up_is_size}
+use Rattle.clr_segments.proofs.Integers.{size-turned}
 use Rattle.clr_segments.specs.Segments.{part_way}
 use Rattle.clr_segments.specs.Bounding.{Between}
 use Rattle.clr_segments.specs.Axis.{CommonNumber, TwoCommonNumbers, RangesMeet, greater_low, lesser_high}
@@ -115,7 +117,8 @@ common x p q r u d s d' t h k = record {
     scaled =
         let by_d' = simp expand at (ap (λ (z : ℤ). pos d' *ℤ z) h.equal) in
         let by_d = simp expand at (ap (λ (z : ℤ). pos d *ℤ z) k.equal) in
-        let products : (pos d *ℤ pos d') *ℤ p +ℤ (pos s *ℤ pos d') *ℤ (q -ℤ p) ≡ (pos d *ℤ pos d') *ℤ r +ℤ (pos t *ℤ pos d) *ℤ (u -ℤ r) = simp expand (omega (arith, linear, by_d', by_d)) in
+        let products : (pos d *ℤ pos d') *ℤ p +ℤ (pos s *ℤ pos d') *ℤ (q -ℤ p) ≡ (pos d *ℤ pos d') *ℤ r +ℤ (pos t *ℤ pos d) *ℤ (u -ℤ r) =
+        simp expand (omega (arith, linear, by_d', by_d)) in
         products
 
 scaled_number : (x p q : ℤ) (d s k : ℕ) → 0 < k → NumberAt x p q d s → NumberAt x p q (d * k) (s * k)
@@ -154,7 +157,8 @@ common_between p q r u d s t h =
 pub ranges_apart : (p q r u : ℤ) → lesser_high p q r u <ℤ greater_low p q r u → RangesMeet Apart p q r u
 ranges_apart p q r u less d s t h =
     let b = common_between p q r u d s t h in
-    let at_most : greater_low p q r u ≤ℤ lesser_high p q r u = cancel_le d (greater_low p q r u) (lesser_high p q r u) h.positive (omega (arith, linear, b.0, b.1)) in
+    let at_most : greater_low p q r u ≤ℤ lesser_high p q r u = cancel_le d (greater_low p q r u) (lesser_high p q r u) h.positive
+    (omega (arith, linear, b.0, b.1)) in
     omega (arith, linear)
 
 same_product : (a b c d : ℕ) → a ≡ c → b ≡ d → a * b ≡ c * d
@@ -238,6 +242,7 @@ two_from_two p q r u n m h = by_lt_z (greater_low p q r u) (lesser_high p q r u)
     one_at_most : lesser_high p q r u ≤ℤ greater_low p q r u → h.s * h.d' ≡ h.s' * h.d
     one_at_most at_most =
         let b = common_between p q r u h.d h.s h.t h.one in
-        let at_least : greater_low p q r u ≤ℤ lesser_high p q r u = cancel_le h.d (greater_low p q r u) (lesser_high p q r u) h.one.positive (omega (arith, linear, b.0, b.1)) in
+        let at_least : greater_low p q r u ≤ℤ lesser_high p q r u = cancel_le h.d (greater_low p q r u) (lesser_high p q r u) h.one.positive
+        (omega (arith, linear, b.0, b.1)) in
         let once = ranges_once p q r u n m (omega (arith, linear)) in
         once.1 h.d h.s h.t h.d' h.s' h.t' h.one h.another

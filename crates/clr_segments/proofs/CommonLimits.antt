@@ -8,7 +8,8 @@ use Rattle.clr_segments.proofs.Integers.{linear, expand, *ℤ-zero, cancel_eq, b
 use Rattle.clr_segments.proofs.Shares.{det, det-swap, Shares, SomeShares, first_share, second_share, shares_up, shares_down, slanted_once}
 use Rattle.clr_segments.proofs.AxisLemmas.{TwoBounded, some_bounded, two_from_two}
 use Rattle.clr_segments.proofs.PointLemmas.{between_ends}
-use Rattle.clr_segments.proofs.Crossings.{slant, second_turn, to_shares, from_shares, second_long_x, common_x, from_common_x, two_from_common_x, mirror_of, mirrored_both, common_mirrored, mirrored_common, two_mirrored}
+use Rattle.clr_segments.proofs.Crossings.{slant, second_turn, to_shares, from_shares, second_long_x, common_x, from_common_x, two_from_common_x, mirror_of}
+use Rattle.clr_segments.proofs.Crossings.{mirrored_both, common_mirrored, mirrored_common, two_mirrored}
 use Rattle.clr_segments.specs.Segments.{CommonPoint, TwoCommonPoints}
 use Rattle.clr_segments.specs.Turns.{cross_product, AreCollinear}
 use Rattle.clr_segments.specs.Axis.{TwoCommonNumbers}

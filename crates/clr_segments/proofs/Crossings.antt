@@ -4,7 +4,8 @@ use Rattle.std.proofs.lemmas.Int.{by_lt_z}
 use Rattle.clr_rows.specs.declared.places.Place.{Place}
 use Rattle.clr_rows.specs.Places.{Differ}
 use Rattle.clr_segments.proofs.Integers.{linear, expand, difference_apart}
-use Rattle.clr_segments.proofs.Shares.{det, Shares, shares_from_ways, ways_from_shares, slanted_once, slanted_meet, ends_of_first, ends_of_second, other_coordinate, second_long}
+use Rattle.clr_segments.proofs.Shares.{det, Shares, shares_from_ways, ways_from_shares, slanted_once, slanted_meet, ends_of_first, ends_of_second}
+use Rattle.clr_segments.proofs.Shares.{other_coordinate, second_long}
 use Rattle.clr_segments.specs.Segments.{CommonPoint, NoCommonPoint, TwoCommonPoints, MeetIs}
 use Rattle.clr_segments.specs.Turns.{cross_product, SameSign, OnOneSide, AreParted, AreCollinear}
 use Rattle.clr_segments.specs.Axis.{CommonNumber, TwoCommonNumbers, RangesMeet}
@@ -75,9 +76,12 @@ not_parallel m D h n z = by_lt_z m (pos 0)
 
 pub crossing_once : (a b c d : Place) → ¬ (AreParted a b c d) → ¬ (AreCollinear a b c d) → MeetIs Once a b c d
 crossing_once a b c d f n =
-    let first : ¬ (SameSign (cross_product a b c) (cross_product a b c +ℤ slant a b c d)) = subst (λ (z : ℤ). ¬ (SameSign (cross_product a b c) z)) (second_turn a b c d) (λ h. f (inl h)) in
-    let second : ¬ (SameSign (offset a b c d) (offset a b c d -ℤ slant a b c d)) = subst₂ (λ (y z : ℤ). ¬ (SameSign y z)) (third_turn a b c d) (fourth_turn a b c d) (λ h. f (inr h)) in
-    let line : ¬ (cross_product a b c ≡ pos 0 × (cross_product a b c +ℤ slant a b c d) ≡ pos 0) = subst (λ (z : ℤ). ¬ (cross_product a b c ≡ pos 0 × z ≡ pos 0)) (second_turn a b c d) n in
+    let first : ¬ (SameSign (cross_product a b c) (cross_product a b c +ℤ slant a b c d)) =
+    subst (λ (z : ℤ). ¬ (SameSign (cross_product a b c) z)) (second_turn a b c d) (λ h. f (inl h)) in
+    let second : ¬ (SameSign (offset a b c d) (offset a b c d -ℤ slant a b c d)) =
+    subst₂ (λ (y z : ℤ). ¬ (SameSign y z)) (third_turn a b c d) (fourth_turn a b c d) (λ h. f (inr h)) in
+    let line : ¬ (cross_product a b c ≡ pos 0 × (cross_product a b c +ℤ slant a b c d) ≡ pos 0) = subst (λ (z : ℤ). ¬ (cross_product a b c ≡ pos 0 × z ≡ pos 0))
+    (second_turn a b c d) n in
     let slanted : slant a b c d ≢ pos 0 = not_parallel (cross_product a b c) (slant a b c d) first line in
     let w = slanted_meet (b.x -ℤ a.x) (b.y -ℤ a.y) (d.x -ℤ c.x) (d.y -ℤ c.y) (c.x -ℤ a.x) (c.y -ℤ a.y) slanted first second in (
       (w.0, w.1, w.2, from_shares a b c d w.0 w.1 w.2 w.3),

@@ -1,8 +1,10 @@
 -- The searches of shares find what the relations speak of.
-use Rattle.std.proofs.Common.{◌≡◌, ◌≢◌, ◌⊎◌, inl, inr, ℕ, zero, suc, pos, ◌*ℤ◌, ◌*◌, ◌≤◌, Bool, true, false, not, ◌&&◌, ◌||◌, nat_lt, nat_le, nat_eq, true≢false, arith, refl, subst, ◌∙◌, sym}
+use Rattle.std.proofs.Common.{◌≡◌, ◌≢◌, ◌⊎◌, inl, inr, ℕ, zero, suc, pos, ◌*ℤ◌, ◌*◌, ◌≤◌, Bool, true, false, not, ◌&&◌, ◌||◌, nat_lt, nat_le, nat_eq}
+use Rattle.std.proofs.Common.{true≢false, arith, refl, subst, ◌∙◌, sym}
 use Rattle.std.specs.Bool.{Decides}
 use Rattle.std.specs.Ordering.{int_eq}
-use Rattle.std.proofs.lemmas.Bool.{leb-true, le-leb, eq-eqb, ne_eqb, cases_eq, and_parts, and_from, or_cases, or_left, or_right, not-true, not_from_false, false_from_ne_true}
+use Rattle.std.proofs.lemmas.Bool.{leb-true, le-leb, eq-eqb, ne_eqb, cases_eq, and_parts, and_from, or_cases, or_left, or_right, not-true, not_from_false}
+use Rattle.std.proofs.lemmas.Bool.{false_from_ne_true}
 use Rattle.std.proofs.lemmas.Bool.Decides.{Decides-and, Decides-ltb, Decides-int_eq}
 use Rattle.clr_rows.specs.declared.places.Place.{Place}
 use Rattle.clr_rows.specs.Places.{Differ}
@@ -11,7 +13,8 @@ use Rattle.clr_segments.proofs.CommonLimits.{some_within, two_within}
 use Rattle.clr_segments.specs.declared.meeting.Meet.{Meet}
 use Rattle.clr_segments.specs.declared.meeting.Meet.TheVariants.{Apart, Once, Overlap}
 use Rattle.clr_segments.specs.Segments.{part_way, PointAt, LiesOn, CommonPoint, SomeCommonPoint, TwoCommonPoints, MeetIs}
-use Rattle.clr_segments.specs.Searches.{any_up_to, axis_distance, is_point_at, lies_on, is_common_point, any_common_point, have_common_point, have_two_common_points}
+use Rattle.clr_segments.specs.Searches.{any_up_to, axis_distance, is_point_at, lies_on, is_common_point, any_common_point, have_common_point}
+use Rattle.clr_segments.specs.Searches.{have_two_common_points}
 
 -- ---- a search up to a number
 found_up_to : (most : ℕ) (test : ℕ → Bool) → any_up_to most test ≡ true → (k : ℕ) × (k ≤ most) × (test k ≡ true)
@@ -45,7 +48,8 @@ unfolding is_point_at
 point_decides x p q d s =
     let in_x = Decides-int_eq (part_way d s p.x q.x) (pos d *ℤ x.x) in
     let in_y = Decides-int_eq (part_way d s p.y q.y) (pos d *ℤ x.y) in
-    let parts = all_four (nat_lt 0 d) (nat_le s d) (int_eq (part_way d s p.x q.x) (pos d *ℤ x.x)) (int_eq (part_way d s p.y q.y) (pos d *ℤ x.y)) (Decides-ltb 0 d) (Decides-leb s d) in_x in_y in (
+    let parts = all_four (nat_lt 0 d) (nat_le s d) (int_eq (part_way d s p.x q.x) (pos d *ℤ x.x)) (int_eq (part_way d s p.y q.y) (pos d *ℤ x.y))
+    (Decides-ltb 0 d) (Decides-leb s d) in_x in_y in (
       λ e. let h = parts.0 e in record { positive = h.0.0.0; on_segment = h.0.0.1; equal_x = h.0.1; equal_y = h.1 },
       λ h. parts.1 (((h.positive, h.on_segment), h.equal_x), h.equal_y),
     )
@@ -55,8 +59,10 @@ unfolding is_common_point
 common_decides p q r u d s t =
     let in_x = Decides-int_eq (part_way d s p.x q.x) (part_way d t r.x u.x) in
     let in_y = Decides-int_eq (part_way d s p.y q.y) (part_way d t r.y u.y) in
-    let most = all_four (nat_lt 0 d) (nat_le s d) (nat_le t d) (int_eq (part_way d s p.x q.x) (part_way d t r.x u.x)) (Decides-ltb 0 d) (Decides-leb s d) (Decides-leb t d) in_x in
-    let parts = Decides-and (nat_lt 0 d && nat_le s d && nat_le t d && int_eq (part_way d s p.x q.x) (part_way d t r.x u.x)) (int_eq (part_way d s p.y q.y) (part_way d t r.y u.y)) most in_y in (
+    let most = all_four (nat_lt 0 d) (nat_le s d) (nat_le t d) (int_eq (part_way d s p.x q.x) (part_way d t r.x u.x)) (Decides-ltb 0 d) (Decides-leb s d)
+    (Decides-leb t d) in_x in
+    let parts = Decides-and (nat_lt 0 d && nat_le s d && nat_le t d && int_eq (part_way d s p.x q.x) (part_way d t r.x u.x))
+    (int_eq (part_way d s p.y q.y) (part_way d t r.y u.y)) most in_y in (
       λ e. let h = parts.0 e in record { positive = h.0.0.0.0; on_first = h.0.0.0.1; on_second = h.0.0.1; equal_x = h.0.1; equal_y = h.1 },
       λ h. parts.1 ((((h.positive, h.on_first), h.on_second), h.equal_x), h.equal_y),
     )

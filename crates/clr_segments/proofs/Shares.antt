@@ -1,6 +1,7 @@
 -- Common points as shares of vectors. For segments p-q and r-u the vectors are u = q - p, v = u - r and w = r - p,
 -- and the point s / d of the way along the first is the one t / d of the way along the second where s u = d w + t v.
-use Rattle.std.proofs.Common.{◌≡◌, ◌≢◌, ◌⊎◌, inl, inr, ℕ, ℤ, pos, negsuc, neg_ℤ, ◌+ℤ◌, ◌-ℤ◌, ◌*ℤ◌, ◌+◌, ◌-◌, ◌*◌, ◌<◌, ◌≤◌, ◌≤ℤ◌, ◌<ℤ◌, ◌∙◌, unsigned_abs, arith, ap, sym}
+use Rattle.std.proofs.Common.{◌≡◌, ◌≢◌, ◌⊎◌, inl, inr, ℕ, ℤ, pos, negsuc, neg_ℤ, ◌+ℤ◌, ◌-ℤ◌, ◌*ℤ◌, ◌+◌, ◌-◌, ◌*◌, ◌<◌, ◌≤◌, ◌≤ℤ◌, ◌<ℤ◌, ◌∙◌, unsigned_abs}
+use Rattle.std.proofs.Common.{arith, ap, sym}
 use Rattle.std.proofs.lemmas.Int.{by_lt_z}
 use borrow.Author.Differences.{up, product_is}
 use Rattle.clr_segments.proofs.Integers.{linear, expand, *ℤ-add, *ℤ-neg, neg-*ℤ, add-*ℤ, times_le, cancel, natural, up_le, up_positive, up_is_size, size-neg}

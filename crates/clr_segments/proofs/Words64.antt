@@ -1,5 +1,6 @@
 -- Numbers that went into words of 64 bits and came back: those of the sizes met here are kept.
-use Rattle.std.proofs.Common.{◌≡◌, ◌≢◌, ℤ, pos, negsuc, ◌≤◌, ◌<ℤ◌, ◌↔◌, Bool, true, false, IsTrue, inl, inr, subst₂, ◌*◌, ◌*ℤ◌, ◌-ℤ◌, ◌+ℤ◌, unsigned_abs, mul-le-mul, lit<, lit≤, le_trans, lt_of_le_of_lt, ◌∙◌, arith, ap, ap₂, sym, refl, to_z, of_z, SFits, w64, to_z-of_z}
+use Rattle.std.proofs.Common.{◌≡◌, ◌≢◌, ℤ, pos, negsuc, ◌≤◌, ◌<ℤ◌, ◌↔◌, Bool, true, false, IsTrue, inl, inr, subst₂, ◌*◌, ◌*ℤ◌, ◌-ℤ◌, ◌+ℤ◌, unsigned_abs}
+use Rattle.std.proofs.Common.{mul-le-mul, lit<, lit≤, le_trans, lt_of_le_of_lt, ◌∙◌, arith, ap, ap₂, sym, refl, to_z, of_z, SFits, w64, to_z-of_z}
 use lib.Signed.{lt_z}
 use Rattle.std.proofs.lemmas.Int.{ints, fits_signed_from_abs, unsigned_abs-mul}
 use Rattle.std.specs.Int.{int_signum}

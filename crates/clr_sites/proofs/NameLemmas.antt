@@ -126,7 +126,8 @@ module _ (p : Name → Bool) (names : List Name) where
   pub none_passes : (at : ℕ) → length names ≤ at → NonePasses at → None ≡ position p names
   none_passes at past before =
       let whole = length names in
-      let past_end : (n : Name) → slice_get names whole ≡ Some n → p n ≡ true = λ n e. absurd (let within = slice_get_within names whole n e in omega (arith, within)) in
+      let past_end : (n : Name) → slice_get names whole ≡ Some n → p n ≡ true =
+      λ n e. absurd (let within = slice_get_within names whole n e in omega (arith, within)) in
       sym (position_at whole (first_at whole (omega arith) (λ k n less e. before k n (omega (arith, less, past)) e) past_end)
       ∙ ap (λ b. cond b (Some whole) None) (le-ltb whole whole (omega arith)))
 

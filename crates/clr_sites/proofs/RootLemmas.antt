@@ -4,7 +4,7 @@ use Rattle.std.specs.Option.{IfSome, IsSome, is_some, option_copied}
 use Rattle.std.proofs.lemmas.Bool.{false≢true}
 use Rattle.clr_rows.specs.Contents.{Content}
 use Rattle.clr_workspaces.specs.Marks.{Name}
-use Rattle.clr_grid.specs.RowMaps.{Rows}
+use Rattle.clr_grid.specs.RowMaps.{FiledRows}
 use Rattle.clr_finders.specs.Sharing.{IsSettledFor}
 use Rattle.clr_steps.specs.Offices.{Office, content_of, is_kept, stands}
 use Rattle.clr_kept_finders.specs.Finders.{IsFinderAt, IsPositionOf, current_at, kept_at}
@@ -30,18 +30,19 @@ module _ (o : Office) (name : Name) where
         by false e = absurd (false≢true (sym (not_kept o name e) ∙ kept))
 
     -- a finder that has settled the rows
-    abbrev pub IsOfRows : Option (Bor Rows) → Type 0
+    abbrev pub IsOfRows : Option (Bor FiledRows) → Type 0
     IsOfRows None = ⊥
     IsOfRows (Some finder) = IsSettledFor finder.now.settled o.book (content_of o name)
 
-    pub finder_is : (at : ℕ) (finder : Option (Bor Rows)) → IsPositionOf o name at → IsFinderAt o.book (kept_at o at) (option_copied finder) → IsOfRows finder
+    pub finder_is : (at : ℕ) (finder : Option (Bor FiledRows)) → IsPositionOf o name at → IsFinderAt o.book (kept_at o at) (option_copied finder) →
+        IsOfRows finder
     finder_is at finder is e = by finder (subst (λ content. IsFinderAt o.book content (option_copied finder)) (is.kept
         ∙ ap (λ b. cond b (Some (content_of o name)) None) kept) e)
       where
-        by : (r : Option (Bor Rows)) → IsFinderAt o.book (Some (content_of o name)) (option_copied r) → IsOfRows r
+        by : (r : Option (Bor FiledRows)) → IsFinderAt o.book (Some (content_of o name)) (option_copied r) → IsOfRows r
         by None h = absurd h
         by (Some f) h = h.0
 
-    pub finder_there : (finder : Option (Bor Rows)) → IsOfRows finder → IsSome finder
+    pub finder_there : (finder : Option (Bor FiledRows)) → IsOfRows finder → IsSome finder
     finder_there None h = absurd h
     finder_there (Some f) h = refl

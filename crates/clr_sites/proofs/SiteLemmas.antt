@@ -17,7 +17,7 @@ use Rattle.clr_workspaces.specs.Operations.{own_changes}
 use Rattle.clr_needs.specs.declared.needs.VersionId.{VersionId}
 use Rattle.clr_needs.specs.Members.{after_in, after_of, positions}
 use Rattle.clr_needs.specs.Settings.{Lived, first_changer, held_row, new_version, old_version, version}
-use Rattle.clr_foot.specs.Versions.{FitsSetting}
+use Rattle.clr_versions.specs.Versions.{FitsSetting}
 use Rattle.clr_needs.proofs.Lives.{new_is, old_is}
 use Rattle.clr_steps.specs.Names.{is_live}
 use Rattle.clr_steps.specs.Offices.{Office, content_of, current_of, find_name, is_kept, stands, workspace}
@@ -29,7 +29,7 @@ use Rattle.clr_clearance.specs.declared.verdicts.Verdict.{Verdict}
 use Rattle.clr_clearance.specs.declared.verdicts.Verdict.TheVariants as verdict
 use Rattle.clr_clearance.specs.Sites.{RootHolds, change_sets, setting_by_position}
 use Rattle.clr_clearance.specs.Verdicts.{first_conflict, member_fault, name_fault}
-use Rattle.clr_sites.specs.Faults.{IsFault, of_member, without_memory}
+use Rattle.clr_sites.specs.Faults.{IsSiteFault, of_member, without_memory}
 use Rattle.clr_sites.proofs.NameLemmas.{nowhere, shown, unshown}
 
 -- lists --------------------------------------------------------------------------------------------
@@ -157,16 +157,16 @@ module _ (o : Office) (admitted : IsAdmitted o) where
 -- answers ------------------------------------------------------------------------------------------------
 
 module _ (o : Office) (s : Site) where
-  pub name_fails : (v : Verdict) → Some v ≡ name_fault o s → IsFault o s v
+  pub name_fails : (v : Verdict) → Some v ≡ name_fault o s → IsSiteFault o s v
   name_fails v e = of_member (ap (λ r. option_or r (first_conflict o 0 s.members)) (sym e))
 
-  pub conflict_fails : (v : Verdict) → None ≡ name_fault o s → Some v ≡ first_conflict o 0 s.members → IsFault o s v
+  pub conflict_fails : (v : Verdict) → None ≡ name_fault o s → Some v ≡ first_conflict o 0 s.members → IsSiteFault o s v
   conflict_fails v e f = of_member (λ i. option_or (sym e i) (sym f i))
 
   pub no_fault : None ≡ name_fault o s → None ≡ first_conflict o 0 s.members → member_fault o s ≡ None
   no_fault e f = λ i. option_or (sym e i) (sym f i)
 
-  pub memory_fails : None ≡ name_fault o s → IsFault o s verdict.OutOfMemory
+  pub memory_fails : None ≡ name_fault o s → IsSiteFault o s verdict.OutOfMemory
   memory_fails e = without_memory (sym e) refl
 
   pub names_free : member_fault o s ≡ None → name_fault o s ≡ None

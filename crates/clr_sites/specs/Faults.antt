@@ -7,6 +7,6 @@ use Rattle.clr_clearance.specs.declared.verdicts.Verdict.TheVariants as verdict
 use Rattle.clr_clearance.specs.Verdicts.{member_fault, name_fault}
 
 -- the first that fails of the tests that look at one member at a time
-pub data IsFault (o : Office) (s : Site) (v : Verdict) : Type 0 where
-  of_member : member_fault o s ≡ Some v → IsFault o s v
-  without_memory : name_fault o s ≡ None → v ≡ verdict.OutOfMemory → IsFault o s v
+pub data IsSiteFault (o : Office) (s : Site) (v : Verdict) : Type 0 where
+  of_member : member_fault o s ≡ Some v → IsSiteFault o s v
+  without_memory : name_fault o s ≡ None → v ≡ verdict.OutOfMemory → IsSiteFault o s v

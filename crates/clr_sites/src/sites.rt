@@ -12,7 +12,7 @@ ghost use Rattle.clr_steps.specs.Readings.{changes_in};
 ghost use Rattle.clr_kept_finders.specs.Fitting.{IsAdmitted};
 ghost use Rattle.clr_clearance.specs.Sites.{change_sets};
 ghost use Rattle.clr_clearance.specs.Verdicts.{first_conflict, member_fault};
-ghost use Rattle.clr_sites.specs.Faults.{IsFault};
+ghost use Rattle.clr_sites.specs.Faults.{IsSiteFault};
 ghost use Rattle.clr_sites.specs.SiteNames.{site};
 ghost use Rattle.clr_sites.specs.Sites.{AreOfSite, AreParts, IsSceneOf};
 
@@ -133,7 +133,7 @@ pub fn read_site<'a, N: NameList>(
     members: &N,
 ) -> Result<SiteParts<'a>, Verdict>
     ensures parts { IfOk result (AreParts office.entry.now (site root.now (N.names members.now))) }
-    ensures fault { IfErr result (IsFault office.entry.now (site root.now (N.names members.now))) }
+    ensures fault { IfErr result (IsSiteFault office.entry.now (site root.now (N.names members.now))) }
     ensures admitted { IsAdmitted office.entry.now }
 {
     if let Some(fault) = name_fault(alloc, office, root, members) {

@@ -12,7 +12,7 @@ use Rattle.clr_spots.specs.Spots.{unless_many, are_many}
 use Rattle.clr_rules.proofs.Elements.{Among, among, among_left, among_right, contained, flat_among, some_of}
 use Rattle.clr_spots.proofs.SharedSpots.{Common, Listed}
 use Rattle.clr_spot_maps.specs.declared.spot_maps.FiledPart.{FiledPart}
-use Rattle.clr_spot_maps.specs.Filing.{Filed, EntriesBySpot, IsFiled, entries_at, filed_at, filed_at_all, filed_entry, near}
+use Rattle.clr_spot_maps.specs.Filing.{Filed, EntriesBySpot, IsEntered, entries_at, filed_at, filed_at_all, filed_entry, near}
 
 spot_itself : (x : Spot) → eq_by_cmp spot_cmp x x ≡ true
 spot_itself x = (Equal-is (spot_cmp x x)).1 (tied_itself spot_cmp_total x)
@@ -47,14 +47,14 @@ in_wide : (b : Bool) (wide : List FiledPart) (e q : FiledPart) → Among q wide 
 in_wide true wide e q h = among_left q wide (e ∷ []) h
 in_wide false wide e q h = h
 
-pub entry_stays : (m : Filed) (e q : FiledPart) (xs ys : List Spot) (wide : Bool) → IsFiled m q ys → IsFiled (filed_entry m e xs wide) q ys
+pub entry_stays : (m : Filed) (e q : FiledPart) (xs ys : List Spot) (wide : Bool) → IsEntered m q ys → IsEntered (filed_entry m e xs wide) q ys
 entry_stays m e q xs ys wide h = record {
   wide = λ many. contained q (cond wide (m.wide ++ e ∷ []) m.wide) (in_wide wide m.wide e q (among q m.wide (h.wide many)));
   at = λ x k. contained q (entries_at (filed_at_all m.by_spot xs e) x) (stays_at_all m.by_spot xs x e q (among q (entries_at m.by_spot x) (h.at x k)));
   all = contained q (m.all ++ e ∷ []) (among_left q m.all (e ∷ []) (among q m.all h.all));
 }
 
-pub entry_filed : (m : Filed) (e : FiledPart) (xs : List Spot) → IsFiled (filed_entry m e (unless_many xs) (are_many xs)) e xs
+pub entry_filed : (m : Filed) (e : FiledPart) (xs : List Spot) → IsEntered (filed_entry m e (unless_many xs) (are_many xs)) e xs
 entry_filed m e xs = record {
   wide = λ many. contained e (cond (are_many xs) (m.wide ++ e ∷ []) m.wide) (subst (λ b. Among e (cond b (m.wide ++ e ∷ []) m.wide)) (sym many)
       (among_right e m.wide (e ∷ []) (inl refl)));
@@ -70,7 +70,7 @@ few_kept : (xs : List Spot) (x : Spot) → are_many xs ≡ false → Among x xs 
 few_kept xs x few h = subst (λ b. Among x (cond b [] xs)) (sym few) h
 
 -- an entry is near the spots that its row shares
-pub found_near : (m : Filed) (e : FiledPart) (xs ys : List Spot) → IsFiled m e ys → Common xs ys → Contains (near m (unless_many xs) (are_many xs)) e
+pub found_near : (m : Filed) (e : FiledPart) (xs ys : List Spot) → IsEntered m e ys → Common xs ys → Contains (near m (unless_many xs) (are_many xs)) e
 found_near m e xs ys h w = contained e (near m (unless_many xs) (are_many xs)) (elim (cases_Bool (are_many xs)) [
   | inl many ↦ subst (λ b. Among e (cond b m.all (m.wide ++ flat_map (entries_at m.by_spot) (unless_many xs)))) (sym many) (among e m.all h.all)
   | inr few ↦ subst (λ b. Among e (cond b m.all (m.wide ++ flat_map (entries_at m.by_spot) (unless_many xs)))) (sym few) (elim (cases_Bool (are_many ys)) [

@@ -18,7 +18,8 @@ module _ {X : Type 0} where
   get_entry es q = finite.get-from_entries spot_cmp_total es q ∙ find_row spot_cmp es q ∙ λ i. lookup (λ x. sym (spots_tie q x) i) es
 
   -- entries that differ at one spot make maps that differ there
-  pub one_entry : (es fs : List (Spot × X)) (k : Spot) (x : X) → ((q : Spot) → lookup (same_spot q) fs ≡ cond (same_spot k q) (Some x) (lookup (same_spot q) es))
+  pub one_entry : (es fs : List (Spot × X)) (k : Spot) (x : X) →
+      ((q : Spot) → lookup (same_spot q) fs ≡ cond (same_spot k q) (Some x) (lookup (same_spot q) es))
       → finite.from_entries {R = spot_cmp} fs ≡ finite.insert (finite.from_entries es) k x
   one_entry es fs k x h = finite.same_map spot_cmp_total spot_cmp_exact _ _ (λ q.
       get_entry fs q ∙ h q ∙ ap (λ b. cond b (Some x) (lookup (same_spot q) es)) (same_spot_equiv.symm k q ∙ spots_tie q k)

@@ -66,7 +66,7 @@ abbrev pub HasMore : Spot → FiledPart → (Spot → Option (List FiledPart)) �
 HasMore x e before after = (y : Spot) → after y ≡ (if same_spot x y then Some (unwrap_or (before x) [] ++ e ∷ []) else before y)
 
 -- the entry of a row of these spots is filed
-pub record IsFiled (m : Filed) (e : FiledPart) (xs : List Spot) : Type 0 where
+pub record IsEntered (m : Filed) (e : FiledPart) (xs : List Spot) : Type 0 where
   pub wide : are_many xs ≡ true → Contains m.wide e
   pub at : (x : Spot) → Contains (unless_many xs) x → Contains (entries_at m.by_spot x) e
   pub all : Contains m.all e

@@ -26,12 +26,13 @@ use Rattle.clr_rules.specs.declared.sides.Side.{Side}
 use Rattle.clr_spots.specs.declared.spots.Spot.{Spot}
 use Rattle.clr_spots.specs.declared.spots.Spot.TheVariants.{Square, Values}
 use Rattle.clr_rules.specs.Books.{has_distance, is_distance}
-use Rattle.clr_rules.specs.Calls.{have_meeting, are_nearer, are_one_point, is_crossing_at, are_subjects, is_server}
+use Rattle.clr_rules.specs.Calls.{have_meeting, are_nearer, are_one_point, is_crossing_at, is_plain, are_subjects, is_server, suits}
 use Rattle.clr_spots.specs.Laws.{SharesBeside}
-use Rattle.clr_rules.proofs.RoleLemmas.{both_have_roles}
+use Rattle.clr_spots.specs.RoleSpots.{squares_of_part, subject_spots, server_spots}
+use Rattle.clr_rules.proofs.RoleLemmas.{both_have_roles, both_of_one}
 use Rattle.clr_rows.specs.Held.{Held}
 use Rattle.clr_rows.specs.Parts.{parts_of, part_of}
-use Rattle.clr_rules.specs.Sides.{Segment, same_field, field, is_of_side, are_of_sides, are_equal_in, point_in, end_of, point_of}
+use Rattle.clr_rules.specs.Sides.{Segment, same_field, field, is_of_side, is_of, are_of_sides, are_equal_in, point_in, end_of, point_of, sides}
 use Rattle.clr_spots.specs.SpotOrderLaws.{same_spot_equiv}
 use Rattle.clr_spots.specs.Spots.{square_of, squares_of, squares_of_all, squares_near, boxes_in, square_at, values_in, in_role, union, all_spots, share}
 use Rattle.clr_rules.proofs.Elements.{Among}
@@ -179,11 +180,12 @@ unique_common : (subject : Side) (columns : List Col) (ask : Ask) (s t : Held) �
     → HaveCommon (Unique subject columns) s t
 unfolding are_subjects all_spots
 unique_common subject columns ask s t e =
-    let sides = and_parts (is_of_side subject s) _ (and_parts _ _ e).1 in
-    let rest = and_parts (is_of_side subject t) (are_equal_in s columns t columns) sides.1 in
+    let both = and_parts (are_of_sides subject subject s t) _ e in
+    let have = both_of_one subject s t both.0 in
+    let equal = (and_parts (is_plain ask) (are_equal_in s columns t columns) both.1).1 in
     let x = values_in s columns in
-    in_roles (Unique subject columns) s t (is_of_side subject s) (is_of_side subject t) (x ∷ []) (values_in t columns ∷ []) refl refl sides.0 rest.0
-    (x, listed_alone x, subst (λ y. Listed x (y ∷ [])) (equal_values s t columns columns rest.1) (listed_alone x))
+    in_roles (Unique subject columns) s t (is_of_side subject s) (is_of_side subject t) (x ∷ []) (values_in t columns ∷ []) refl refl have.0 have.1
+    (x, listed_alone x, subst (λ y. Listed x (y ∷ [])) (equal_values s t columns columns equal) (listed_alone x))
 
 crossing_common : (a b server : Side) (ask : Ask) (s t : Held) → are_subjects (Crossing a b server) ask s (Some t) ≡ true → HaveCommon (Crossing a b server) s t
 unfolding are_subjects all_spots
@@ -199,20 +201,19 @@ near_common : (a b : Side) (d : ℤ) (ask : Ask) (s t : Held) → is_distance d 
     → HaveCommon (Near a b d) s t
 unfolding are_subjects all_spots
 near_common a b d ask s t k e =
-    let parts = and_parts (are_of_sides a b s t) _ (and_parts _ _ e).1 in
+    let parts = and_parts (are_of_sides a b s t) _ e in
     let roles = both_have_roles a b s t parts.0 in
     in_roles (Near a b d) s t (is_of_side a s || is_of_side b s) (is_of_side a t || is_of_side b t) _ _ refl refl roles.0 roles.1
-    (nearness d (point_of s) (point_of t) k parts.1)
+    (nearness d (point_of s) (point_of t) k (and_parts (is_plain ask) _ parts.1).1)
 
 pub subjects_meet : (rule : Rule) (ask : Ask) (s : Held) (t : Option Held) → has_distance rule ≡ true → are_subjects rule ask s t ≡ true
     → HaveCommonToo rule s t
 unfolding are_subjects
 subjects_meet rule ask s None k e = tt
 subjects_meet (Unique subject columns) ask s (Some t) k e = unique_common subject columns ask s t e
-subjects_meet (Partner subject columns server server_columns) ask s (Some t) k e = absurd (false≢true e)
-subjects_meet (EndNode subject tip server) ask s (Some t) k e = absurd (false≢true e)
 subjects_meet (Crossing a b server) ask s (Some t) k e = crossing_common a b server ask s t e
 subjects_meet (Near a b d) ask s (Some t) k e = near_common a b d ask s t k e
+subjects_meet _ ask s (Some t) k e = absurd (false≢true e)
 
 -- ---- servers
 -- a spot of one row's first role and of the other's second is common
@@ -234,21 +235,21 @@ partner_common : (subject server : Side) (columns server_columns : List Col) (as
     → HaveCommon (Partner subject columns server server_columns) s r
 unfolding is_server all_spots
 partner_common subject server columns server_columns ask s r e =
-    let sides = and_parts (is_of_side subject s) _ (and_parts _ _ e).1 in
-    let rest = and_parts (is_of_side server r) (are_equal_in s columns r server_columns) sides.1 in
+    let both = and_parts (is_of_side server r) _ e in
+    let rest = and_parts (is_of_side subject s) (are_equal_in s columns r server_columns) (and_parts (is_plain ask) _ both.1).1 in
     let x = values_in s columns in
     across_roles (Partner subject columns server server_columns) s r (is_of_side subject s) (is_of_side server s) (is_of_side subject r) (is_of_side server r) _
-    _ _ _ refl refl sides.0 rest.0
+    _ _ _ refl refl rest.0 both.0
     (x, listed_alone x, subst (λ y. Listed x (y ∷ [])) (equal_values s r columns server_columns rest.1) (listed_alone x))
 
 end_common : (subject server : Side) (tip : Tip) (ask : Ask) (s r : Held) → is_server (EndNode subject tip server) ask s None r ≡ true
     → HaveCommon (EndNode subject tip server) s r
 unfolding is_server all_spots
 end_common subject server tip ask s r e =
-    let sides = and_parts (is_of_side subject s) _ (and_parts _ _ e).1 in
-    let rest = and_parts (is_of_side server r) _ sides.1 in
+    let both = and_parts (is_of_side server r) _ e in
+    let rest = and_parts (is_of_side subject s) _ (and_parts (is_plain ask) _ both.1).1 in
     across_roles (EndNode subject tip server) s r (is_of_side subject s) (is_of_side server s) (is_of_side subject r) (is_of_side server r) _ _ _ _ refl refl
-    sides.0 rest.0
+    rest.0 both.0
     (one_square (end_of tip s) (point_of r) rest.1)
 
 crossing_served : (a b server : Side) (ask : Ask) (s t r : Held) → are_subjects (Crossing a b server) ask s (Some t) ≡ true
@@ -270,14 +271,74 @@ crossing_served a b server ask s t r e f =
 pub servers_meet : (rule : Rule) (ask : Ask) (s : Held) (t : Option Held) (r : Held) → are_subjects rule ask s t ≡ true → is_server rule ask s t r ≡ true
     → HaveCommon rule s r × HaveCommonToo rule r t
 unfolding is_server
-servers_meet (Unique subject columns) ask s t r e f = absurd (false≢true f)
 servers_meet (Partner subject columns server server_columns) ask s None r e f = (partner_common subject server columns server_columns ask s r f, tt)
-servers_meet (Partner subject columns server server_columns) ask s (Some t) r e f = absurd (false≢true f)
 servers_meet (EndNode subject tip server) ask s None r e f = (end_common subject server tip ask s r f, tt)
-servers_meet (EndNode subject tip server) ask s (Some t) r e f = absurd (false≢true f)
-servers_meet (Crossing a b server) ask s None r e f = absurd (false≢true f)
 servers_meet (Crossing a b server) ask s (Some t) r e f = crossing_served a b server ask s t r e f
-servers_meet (Near a b d) ask s t r e f = absurd (false≢true f)
+servers_meet rule ask s t r e f = absurd (false≢true (and_parts (is_of (sides rule).server r) (suits rule ask s t r) f).1)
+
+-- ---- of their roles
+-- a spot of what both rows have in their roles is common to them
+in_both : (m n : Bool) (xs ys : List Spot) → m ≡ true → n ≡ true → Common xs ys → Common (in_role m xs) (in_role n ys)
+in_both m n xs ys h k w = (w.0, listed_in_role w.0 m xs h w.1, listed_in_role w.0 n ys k w.2)
+
+same_alone : (x y : Spot) → x ≡ y → Common (x ∷ []) (y ∷ [])
+same_alone x y e = (x, listed_alone x, subst (λ z. Listed x (z ∷ [])) e (listed_alone x))
+
+parts_meet : (o p : Option Segment) → have_meeting o p ≡ true → Common (squares_of_part o) (squares_of_part p)
+parts_meet None p e = absurd (false≢true e)
+parts_meet (Some a) None e = absurd (false≢true e)
+parts_meet (Some a) (Some b) e = segments_meet a b e
+
+-- a point of a part is in one of its squares
+point_on : (p : Place) (a : Segment) → lies_on p a.0 a.1 ≡ true → Common (squares_of (box_between a.0 a.1)) (square_at (Some p))
+point_on p a e =
+    let x = Square (square_of p.x) (square_of p.y) in (
+      x,
+      list_any-from_Contains same_spot_equiv x (squares_of (box_between a.0 a.1))
+          (place_listed p (box_between a.0 a.1) (point_boxed p a.0 a.1 (on_from_search p a.0 a.1 e))),
+      listed_alone x,
+    )
+
+point_meets : (o p : Option Segment) (q : Option Place) → is_crossing_at o p q ≡ true → Common (squares_of_part o) (square_at q)
+point_meets None p q e = absurd (false≢true e)
+point_meets (Some a) None q e = absurd (false≢true e)
+point_meets (Some a) (Some b) None e = absurd (false≢true e)
+point_meets (Some a) (Some b) (Some x) e = point_on x a (and_parts (lies_on x a.0 a.1) (lies_on x b.0 b.1) (and_parts _ _ e).1).0
+
+pub pair_meets : (rule : Rule) (ask : Ask) (s t : Held) → has_distance rule ≡ true → are_subjects rule ask s (Some t) ≡ true
+    → Common (subject_spots rule ask.first_part s) (subject_spots rule ask.second_part t)
+unfolding are_subjects subject_spots
+pair_meets (Unique subject columns) ask s t k e =
+    let both = and_parts (are_of_sides subject subject s t) _ e in
+    let have = both_of_one subject s t both.0 in
+    in_both _ _ _ _ have.0 have.1
+    (same_alone (values_in s columns) (values_in t columns) (equal_values s t columns columns (and_parts (is_plain ask) _ both.1).1))
+pair_meets (Crossing a b server) ask s t k e =
+    let both = and_parts (are_of_sides a b s t) _ e in
+    let have = both_have_roles a b s t both.0 in
+    in_both _ _ _ _ have.0 have.1 (parts_meet (part_of s.1.shape ask.first_part) (part_of t.1.shape ask.second_part) both.1)
+pair_meets (Near a b d) ask s t k e =
+    let both = and_parts (are_of_sides a b s t) _ e in
+    let have = both_have_roles a b s t both.0 in
+    in_both _ _ _ _ have.0 have.1 (nearness d (point_of s) (point_of t) k (and_parts (is_plain ask) _ both.1).1)
+pair_meets _ ask s t k e = absurd (false≢true e)
+
+pub server_meets : (rule : Rule) (ask : Ask) (s : Held) (t : Option Held) (r : Held) → are_subjects rule ask s t ≡ true → is_server rule ask s t r ≡ true
+    → Common (subject_spots rule ask.first_part s) (server_spots rule r)
+unfolding are_subjects is_server subject_spots server_spots
+server_meets (Partner subject columns server server_columns) ask s None r e f =
+    let both = and_parts (is_of_side server r) _ f in
+    let rest = and_parts (is_of_side subject s) _ (and_parts (is_plain ask) _ both.1).1 in
+    in_both _ _ _ _ rest.0 both.0 (same_alone (values_in s columns) (values_in r server_columns) (equal_values s r columns server_columns rest.1))
+server_meets (EndNode subject tip server) ask s None r e f =
+    let both = and_parts (is_of_side server r) _ f in
+    let rest = and_parts (is_of_side subject s) _ (and_parts (is_plain ask) _ both.1).1 in
+    in_both _ _ _ _ rest.0 both.0 (one_square (end_of tip s) (point_of r) rest.1)
+server_meets (Crossing a b server) ask s (Some t) r e f =
+    let have = both_have_roles a b s t (and_parts (are_of_sides a b s t) _ e).0 in
+    let both = and_parts (is_of_side server r) _ f in
+    in_both _ _ _ _ have.0 both.0 (point_meets (part_of s.1.shape ask.first_part) (part_of t.1.shape ask.second_part) (point_of r) both.1)
+server_meets rule ask s t r e f = absurd (false≢true (and_parts (is_of (sides rule).server r) (suits rule ask s t r) f).1)
 
 -- ---- so they share
 pub common_share : (rule : Rule) (s t : Held) → HaveCommon rule s t → share rule s t ≡ true

@@ -2,7 +2,7 @@
 
 ghost use Rattle.std.specs.Prelude.{◌≡◌, ◌<◌, Some, length, slice_get, IfOk};
 ghost use Rattle.clr_rows.specs.Parts.{parts_of};
-ghost use Rattle.clr_rules.specs.Fitting.{IsSound, IsSoundSegment};
+ghost use Rattle.clr_rules.specs.Fitting.{IsSoundShape, IsSoundSegment};
 ghost use Rattle.clr_spots.specs.Listing.{AddsSquares};
 ghost use Rattle.clr_spots.specs.Reach.{IsNear};
 ghost use Rattle.clr_spots.specs.Spots.{boxes_of_parts, squares_of_all, union, are_many, unless_many};
@@ -43,7 +43,7 @@ fn add_squares(alloc: Global, list: &mut Vec<Spot>, bounds: Bounds) -> Result<bo
 
 /// The part at a position, from 0, which is there.
 fn part_at(shape: &Shape, position: u16) -> (Place, Place)
-    requires sound { IsSound shape.now }
+    requires sound { IsSoundShape shape.now }
     requires there { position < length (parts_of shape.now) }
     ensures value { slice_get (parts_of shape.now) position ≡ Some result }
     ensures sound { IsSoundSegment result }
@@ -53,7 +53,7 @@ fn part_at(shape: &Shape, position: u16) -> (Place, Place)
 
 /// The squares that meet the box of some part of a shape. Too many are not listed.
 pub(crate) fn spots_of_parts(alloc: Global, shape: &Shape) -> Result<Spots, AllocError>
-    requires { IsSound shape.now }
+    requires { IsSoundShape shape.now }
     ensures list { IfOk result (λ spots. spots.list ≡ unless_many (squares_of_all (boxes_of_parts shape.now))) }
     ensures wide { IfOk result (λ spots. spots.wide ≡ are_many (squares_of_all (boxes_of_parts shape.now))) }
 {

@@ -4,7 +4,7 @@ ghost use Rattle.std.specs.Prelude.{◌≡◌, ◌∷◌, [], ◌<◌, ◌||◌,
 ghost use Rattle.clr_rows.specs.Held.{held_of};
 ghost use Rattle.clr_rows.specs.Parts.{part_of};
 ghost use Rattle.clr_rules.specs.Books.{FitTogether, has_distance};
-ghost use Rattle.clr_rules.specs.Fitting.{IsSound};
+ghost use Rattle.clr_rules.specs.Fitting.{IsSoundShape};
 ghost use Rattle.clr_spots.specs.RoleSpots.{squares_of_part, subject_spots, subject_spots_under, server_spots, server_spots_under};
 ghost use Rattle.clr_spots.specs.Spots.{are_many, in_role, unless_many};
 
@@ -20,7 +20,7 @@ use std::alloc::{AllocError, Global};
 
 /// The squares that meet the box of a part of a row, where the row has a role.
 fn part_spots(alloc: Global, has_role: bool, number: u16, held: Held) -> Result<Spots, AllocError>
-    requires { IsSound held.row.now.shape }
+    requires { IsSoundShape held.row.now.shape }
     ensures list { IfOk result (λ s. s.list ≡ unless_many (in_role has_role (squares_of_part (part_of held.entry.row.now.shape number)))) }
     ensures wide { IfOk result (λ s. s.wide ≡ are_many (in_role has_role (squares_of_part (part_of held.entry.row.now.shape number)))) }
 {
@@ -39,7 +39,7 @@ fn subject_spots_by_rule(
     held: Held,
 ) -> Result<Spots, AllocError>
     requires distance { has_distance rule.now ≡ true }
-    requires sound { IsSound held.row.now.shape }
+    requires sound { IsSoundShape held.row.now.shape }
     ensures list { IfOk result (λ s. s.list ≡ unless_many (subject_spots rule.now number (held_of held.entry))) }
     ensures wide { IfOk result (λ s. s.wide ≡ are_many (subject_spots rule.now number (held_of held.entry))) }
 {
@@ -71,7 +71,7 @@ fn subject_spots_by_rule(
 /// The spots of a row as a server of this rule.
 #[tactic(auto, unfolding(crate::specs::RoleSpots::server_spots))]
 fn server_spots_by_rule(alloc: Global, rule: &Rule, held: Held) -> Result<Spots, AllocError>
-    requires { IsSound held.row.now.shape }
+    requires { IsSoundShape held.row.now.shape }
     ensures list { IfOk result (λ s. s.list ≡ unless_many (server_spots rule.now (held_of held.entry))) }
     ensures wide { IfOk result (λ s. s.wide ≡ are_many (server_spots rule.now (held_of held.entry))) }
 {

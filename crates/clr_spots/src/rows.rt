@@ -5,7 +5,7 @@ ghost use Rattle.clr_rows.specs.Held.{held_of};
 ghost use Rattle.clr_rows.specs.Places.{InRange};
 ghost use Rattle.clr_rows.specs.Schemas.{has_coordinates};
 ghost use Rattle.clr_rules.specs.Books.{FitTogether, is_distance, has_distance};
-ghost use Rattle.clr_rules.specs.Fitting.{IsSound};
+ghost use Rattle.clr_rules.specs.Fitting.{IsSoundShape};
 ghost use Rattle.clr_rules.specs.Sides.{is_of_side, point_of};
 ghost use Rattle.clr_spots.specs.Spots.{boxes_in, boxes_of, square_at, squares_near, squares_of_all, in_role, union, are_many, unless_many};
 ghost use Rattle.clr_spots.specs.Spots.{spots, is_wide, spots_under, is_wide_under};
@@ -53,7 +53,8 @@ pub(crate) fn spots_of_roles(
     ensures list { IfOk result (λ spots. spots.list ≡ unless_many (union (option_to_list first) (option_to_list second))) }
     ensures wide { IfOk result (λ spots. spots.wide ≡ are_many (union (option_to_list first) (option_to_list second))) }
 {
-    let mut list = Vec::new(alloc);
+    let count = first.is_some() as usize + second.is_some() as usize;
+    let mut list = Vec::with_capacity(alloc, count)?;
     add_spot(&mut list, first)?;
     add_spot(&mut list, second)?;
     Ok(Spots {
@@ -75,7 +76,7 @@ pub(crate) fn no_spots(alloc: Global) -> Spots
 
 /// The squares that meet some box of a shape.
 fn squares_of_shape(alloc: Global, shape: &Shape) -> Result<Spots, AllocError>
-    requires { IsSound shape.now }
+    requires { IsSoundShape shape.now }
     ensures list { IfOk result (λ spots. spots.list ≡ unless_many (squares_of_all (boxes_in shape.now))) }
     ensures wide { IfOk result (λ spots. spots.wide ≡ are_many (squares_of_all (boxes_in shape.now))) }
 {
@@ -100,7 +101,7 @@ fn squares_near(alloc: Global, d: i64, point: Option<Place>) -> Result<Spots, Al
 
 /// The spots of a row under `Crossing`, where it has a role.
 fn crossing_spots(alloc: Global, has_role: bool, held: Held) -> Result<Spots, AllocError>
-    requires { IsSound held.row.now.shape }
+    requires { IsSoundShape held.row.now.shape }
     ensures list { IfOk result (λ spots. spots.list ≡ unless_many (in_role has_role (squares_of_all (boxes_of (held_of held.entry))))) }
     ensures wide { IfOk result (λ spots. spots.wide ≡ are_many (in_role has_role (squares_of_all (boxes_of (held_of held.entry))))) }
 {
@@ -134,7 +135,7 @@ pub(crate) fn near_spots(
 #[tactic(auto, unfolding(crate::specs::Spots::spots, crate::specs::Spots::is_wide, crate::specs::Spots::all_spots))]
 fn spots_by_rule(alloc: Global, rule: &Rule, held: Held) -> Result<Spots, AllocError>
     requires distance { has_distance rule.now ≡ true }
-    requires sound { IsSound held.row.now.shape }
+    requires sound { IsSoundShape held.row.now.shape }
     ensures list { IfOk result (λ s. s.list ≡ spots rule.now (held_of held.entry)) }
     ensures wide { IfOk result (λ s. s.wide ≡ is_wide rule.now (held_of held.entry)) }
 {

@@ -57,7 +57,7 @@ fn list_grid(alloc: Global, i: i64, j: i64, m: u64, n: u64) -> Result<Vec<Spot>,
     requires low { n ≤ MOST_SQUARES_ACROSS }
     ensures { IfOk result (λ list. list.items ≡ grid_of_squares i j m n) }
 {
-    let mut list = Vec::new(alloc);
+    let mut list = Vec::with_capacity(alloc, (m * n) as usize)?;
     for k in 0..m {
         add_column(&mut list, i + k as i64, j, n)?;
     }

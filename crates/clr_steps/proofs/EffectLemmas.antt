@@ -18,14 +18,17 @@ use Rattle.clr_workspaces.specs.Workspaces.{Workspace, workspace_at, find, paren
 use Rattle.clr_workspaces.specs.Operations as tree
 use Rattle.clr_workspaces.specs.declared.rebases.Rebase.TheVariants as rebase_as
 use Rattle.clr_workspaces.specs.Soundness.{IsSound}
-use Rattle.clr_workspaces.specs.Operations.{change_at, without_at, with_marks, with_current, with_kept, with_mark_of, new_leaf, save, roll_to, roll_all, refresh, with_base_merged, keep_row, own_changes, at_position, under_parent}
+use Rattle.clr_workspaces.specs.Operations.{change_at, without_at, with_marks, with_current, with_kept, with_mark_of, new_leaf, save, roll_to, roll_all}
+use Rattle.clr_workspaces.specs.Operations.{refresh, with_base_merged, keep_row, own_changes, at_position, under_parent}
 use Rattle.clr_steps.specs.Names.{same_name, is_live}
 use Rattle.clr_steps.specs.Offices.{Office, with_workspaces, office_of, workspace, content_of, set_content, modify, modify_marks, below_live}
-use Rattle.clr_steps.specs.Effects.{edited_content, merged_content, after_create, after_remove, after_apply, after_mark, after_unmark, after_roll_to, after_roll_all, after_refresh, after_merge, after_resolve, set_kept, effect}
+use Rattle.clr_steps.specs.Effects.{edited_content, merged_content, after_create, after_remove, after_apply, after_mark, after_unmark, after_roll_to}
+use Rattle.clr_steps.specs.Effects.{after_roll_all, after_refresh, after_merge, after_resolve, set_kept, effect}
 use Rattle.clr_steps.specs.Positions.{merge_at, edit_at}
 use Rattle.clr_steps.proofs.MarkLemmas.{only_savepoint}
 use Rattle.clr_steps.proofs.FirstLemmas.{IsOnly, remove_only, position_of_only, some_is}
-use Rattle.clr_steps.proofs.ModifyLemmas.{has_name, changed_is, only_modify, part_modify, below_modify, modify_below, modify_both, modified_below, modified_marks, modified_content, removed_is, appended_is}
+use Rattle.clr_steps.proofs.ModifyLemmas.{has_name, changed_is, only_modify, part_modify, below_modify, modify_below, modify_both, modified_below}
+use Rattle.clr_steps.proofs.ModifyLemmas.{modified_marks, modified_content, removed_is, appended_is}
 use Rattle.clr_steps.proofs.SeenLemmas.{seen, within, name_is, own_position, only_at}
 
 module _ (schema : List TableDef) (book : List Rule) (ws : List Workspace) (sound : IsSound ws) where
@@ -243,11 +246,14 @@ module _ (schema : List TableDef) (book : List Rule) (ws : List Workspace) (soun
       let us = modify w.parent f ws in
       let vs = modify w.name with_base_merged us in
       let is = merged_by_name k above mine under in
-      let stays : (m : Name) (at : ℕ) → IsOnly (has_name m) ws at → IsOnly (has_name m) vs at = λ m at h. only_modify m w.name with_base_merged (λ v. refl) us at (only_modify m w.parent f (λ v. refl) ws at h) in
-      let part : (p : Workspace → Name) → ((v : Workspace) → p (with_base_merged v) ≡ p v) → ((v : Workspace) → p (f v) ≡ p v) → (i : ℕ) → p (workspace_at vs i) ≡ p (workspace_at ws i) = λ p a b i. part_modify p w.name with_base_merged a us i ∙ part_modify p w.parent f b ws i in
+      let stays : (m : Name) (at : ℕ) → IsOnly (has_name m) ws at → IsOnly (has_name m) vs at = λ m at h. only_modify m w.name with_base_merged (λ v. refl) us
+      at (only_modify m w.parent f (λ v. refl) ws at h) in
+      let part : (p : Workspace → Name) → ((v : Workspace) → p (with_base_merged v) ≡ p v) → ((v : Workspace) → p (f v) ≡ p v) → (i : ℕ) →
+      p (workspace_at vs i) ≡ p (workspace_at ws i) = λ p a b i. part_modify p w.name with_base_merged a us i ∙ part_modify p w.parent f b ws i in
       let name : (workspace_at vs (suc k)).name ≡ w.name = part (λ v. v.name) (λ v. refl) (λ v. refl) (suc k) in
       let parent : (workspace_at vs (suc k)).parent ≡ w.parent = part (λ v. v.parent) (λ v. refl) (λ v. refl) (suc k) in
-      let up : parent_of vs (suc k) ≡ Some above = ap (find vs) parent ∙ position_of_only (has_name w.parent) vs above (stays w.parent above (only w.parent above under)) in
+      let up : parent_of vs (suc k) ≡ Some above = ap (find vs) parent
+      ∙ position_of_only (has_name w.parent) vs above (stays w.parent above (only w.parent above under)) in
       ap (λ (xs : List Workspace). office_of schema book (tree.after_remove xs (suc k))) is
       ∙ ap (λ r. office_of schema book (at_position vs r (tree.after_remove_under vs (suc k)))) up
       ∙ ap (λ m. office_of schema book (change_at (without_at vs (suc k)) above (with_marks (without_mark_of m)))) name

@@ -22,12 +22,15 @@ use Rattle.clr_workspaces.specs.declared.rebases.Keep.{Keep}
 use Rattle.clr_workspaces.specs.declared.rebases.Keep.TheVariants as keeps
 use Rattle.clr_steps.specs.declared.commands.Reply.{Reply}
 use Rattle.clr_steps.specs.declared.commands.Reply.TheVariants.{NoWorkspace}
-use Rattle.clr_workspaces.specs.Marks.{Name, Mark, Saved, ChildMark, find_mark, mark_at, saved_content, is_child_mark, is_mark_of, is_saved_as, without_mark_of, mark_last}
+use Rattle.clr_workspaces.specs.Marks.{Name, Mark, Saved, ChildMark, find_mark, mark_at, saved_content, is_child_mark, is_mark_of, is_saved_as, without_mark_of}
+use Rattle.clr_workspaces.specs.Marks.{mark_last}
 use Rattle.clr_workspaces.specs.Workspaces.{Workspace, no_workspace, workspace_at}
-use Rattle.clr_workspaces.specs.Operations.{with_mark_of, new_leaf, with_marks, with_current, with_kept, save, roll_to, roll_all, refresh, with_base_merged, keep_row}
+use Rattle.clr_workspaces.specs.Operations.{with_mark_of, new_leaf, with_marks, with_current, with_kept, save, roll_to, roll_all, refresh, with_base_merged}
+use Rattle.clr_workspaces.specs.Operations.{keep_row}
 use Rattle.clr_steps.specs.Names.{same_name, is_live}
 use Rattle.clr_steps.specs.Offices.{Office, with_workspaces, find_name, workspace, stands, content_of, current_of, set_content, modify, modify_marks, without}
-use Rattle.clr_steps.specs.Effects.{edited_content, merged_content, after_create, after_remove, after_apply, after_mark, after_unmark, after_roll_to, after_roll_all, after_refresh, after_merge, after_resolve, set_kept, effect}
+use Rattle.clr_steps.specs.Effects.{edited_content, merged_content, after_create, after_remove, after_apply, after_mark, after_unmark, after_roll_to}
+use Rattle.clr_steps.specs.Effects.{after_roll_all, after_refresh, after_merge, after_resolve, set_kept, effect}
 use Rattle.clr_steps.specs.Refusals.{when, bad_edit, edit_refusal, breaks, refusal}
 use Rattle.clr_steps.specs.Steps.{refused_or_done, step}
 use Rattle.clr_steps.specs.Invariants.{WorkspaceFits, OfficeFits}
@@ -281,7 +284,8 @@ module _ (o : Office) (g : OfficeFits o) where
 fits_remove : (o : Office) → OfficeFits o → (w : Workspace) → OfficeFits (after_remove o w)
 unfolding after_remove
 fits_remove o g w =
-    let rest = fits_with o g (without w.name o.workspaces) (each_filter (WorkspaceFits o.schema) no_workspace (no_fits o.schema) (λ v. not (same_name w.name v.name)) o.workspaces g.workspaces) in
+    let rest = fits_with o g (without w.name o.workspaces)
+    (each_filter (WorkspaceFits o.schema) no_workspace (no_fits o.schema) (λ v. not (same_name w.name v.name)) o.workspaces g.workspaces) in
     fits_marks (with_workspaces o (without w.name o.workspaces)) rest w.parent (without_mark_of w.name)
     (λ marks h. saved_filter o.schema (λ m. not (is_mark_of w.name m)) marks h)
 

@@ -12,7 +12,8 @@ use Rattle.clr_workspaces.specs.Workspaces.{Workspace}
 use Rattle.clr_steps.specs.Names.{is_live}
 use Rattle.clr_steps.specs.Offices.{Office, workspace, stands}
 use Rattle.clr_steps.specs.Effects.{edited_content, effect}
-use Rattle.clr_steps.specs.Refusals.{is_full, is_deep, when, first_of, bad_edit, in_conflict, edit_refusal, conflict, first_broken, broken_where, breaks, name_in, refusals_of, refusal}
+use Rattle.clr_steps.specs.Refusals.{is_full, is_deep, when, first_of, bad_edit, in_conflict, edit_refusal, conflict, first_broken, broken_where, breaks}
+use Rattle.clr_steps.specs.Refusals.{name_in, refusals_of, refusal}
 use Rattle.clr_steps.specs.Steps.{refused_or_done, step, is_lost}
 use Rattle.clr_steps.specs.Laws.{MemoryLaw}
 

@@ -15,12 +15,14 @@ use Rattle.clr_workspaces.specs.Workspaces.{Workspace}
 use Rattle.clr_workspaces.specs.Operations.{with_mark_of, new_leaf, with_current, with_kept, save, roll_to, roll_all, refresh, with_base_merged, keep_row}
 use Rattle.clr_steps.specs.Names.{same_name, is_live}
 use Rattle.clr_steps.specs.Offices.{Office, with_workspaces, find_name, workspace, content_of, set_content, modify, modify_marks, without}
-use Rattle.clr_steps.specs.Effects.{edited_content, merged_content, after_create, after_remove, after_apply, after_mark, after_unmark, after_roll_to, after_roll_all, after_refresh, after_merge, after_resolve, set_kept, effect}
+use Rattle.clr_steps.specs.Effects.{edited_content, merged_content, after_create, after_remove, after_apply, after_mark, after_unmark, after_roll_to}
+use Rattle.clr_steps.specs.Effects.{after_roll_all, after_refresh, after_merge, after_resolve, set_kept, effect}
 use Rattle.clr_steps.specs.Refusals.{refusal}
 use Rattle.clr_steps.specs.Steps.{refused_or_done, step}
 use Rattle.clr_steps.specs.Quiet.{Site, is_root, is_member, is_other, is_under_other, is_quiet, is_of_member, root_content, IsRootKept, member_of, LeavesSite}
 use Rattle.clr_steps.specs.Laws.{QuietLaw}
-use Rattle.clr_steps.proofs.FindLemmas.{same_is, same_itself, other_way, has_apart, seen_by, seen_modify, seen_other, seen_marks, seen_without, seen_append, seen_behind, find_modify, found_name}
+use Rattle.clr_steps.proofs.FindLemmas.{same_is, same_itself, other_way, has_apart, seen_by, seen_modify, seen_other, seen_marks, seen_without, seen_append}
+use Rattle.clr_steps.proofs.FindLemmas.{seen_behind, find_modify, found_name}
 use Rattle.clr_steps.proofs.KeptLemmas.{Root, root_of, content_seen, kept_seen, or_false}
 use Rattle.clr_steps.proofs.ModifyLemmas.{LeavesName}
 

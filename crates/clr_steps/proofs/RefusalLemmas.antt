@@ -15,7 +15,8 @@ use Rattle.clr_workspaces.specs.Operations.{keep_row}
 use Rattle.clr_steps.specs.Names.{is_live}
 use Rattle.clr_steps.specs.Offices.{Office, office_of, workspace, content_of, is_kept, below_live}
 use Rattle.clr_steps.specs.Effects.{edited_content, rolled_content, merged_content, resolved_content}
-use Rattle.clr_steps.specs.Refusals.{when, first_of, has_child, edit_refusal, conflict, is_in_conflict_with, is_in_conflict, broken_where, breaks, name_in, refusals_of, refusal}
+use Rattle.clr_steps.specs.Refusals.{when, first_of, has_child, edit_refusal, conflict, is_in_conflict_with, is_in_conflict, broken_where, breaks, name_in}
+use Rattle.clr_steps.specs.Refusals.{refusals_of, refusal}
 use Rattle.clr_steps.specs.Positions.{is_top, below_top, content_at, kept_at, has_child_at, refusals_at, refusal_below, refusal_at}
 use Rattle.clr_steps.specs.Laws.{RefusalLaw}
 use Rattle.clr_steps.proofs.SeenLemmas.{Seen, seen, within, own_position, kept_is, child_is, depth_is, length_is}

@@ -17,7 +17,8 @@ use Rattle.clr_workspaces.specs.Workspaces.{Workspace}
 use Rattle.clr_workspaces.specs.Operations.{with_mark_of, new_leaf, with_current, with_kept, save, roll_to, roll_all, refresh, with_base_merged, keep_row}
 use Rattle.clr_steps.specs.Names.{same_name, is_live}
 use Rattle.clr_steps.specs.Offices.{Office, with_workspaces, find_name, workspace, stands, content_of, is_kept, set_content, modify, modify_marks, without}
-use Rattle.clr_steps.specs.Effects.{edited_content, rolled_content, merged_content, resolved_content, after_create, after_remove, after_apply, after_mark, after_unmark, after_roll_to, after_roll_all, after_refresh, after_merge, after_resolve, set_kept, effect}
+use Rattle.clr_steps.specs.Effects.{edited_content, rolled_content, merged_content, resolved_content, after_create, after_remove, after_apply, after_mark}
+use Rattle.clr_steps.specs.Effects.{after_unmark, after_roll_to, after_roll_all, after_refresh, after_merge, after_resolve, set_kept, effect}
 use Rattle.clr_steps.specs.Refusals.{when, first_of, edit_refusal, first_broken, broken_where, breaks, name_in, refusals_of, refusal}
 use Rattle.clr_steps.specs.Steps.{refused_or_done, step}
 use Rattle.clr_steps.specs.Invariants.{HoldsWhereKept}
@@ -46,8 +47,10 @@ good_of o h = record {
     by : (n : Name) → is_live n ≡ false → (r : Option Root) → seen_by root_of n o.workspaces ≡ r → IsGood o.book r
     by n e None is = tt
     by n e (Some r) is = λ kept.
-        let flag : is_kept o n ≡ true = kept_seen o n ∙ ap (λ x. is_live n || option_map_or (λ (r : Root). r.kept) x false) is ∙ ap (λ b. b || r.kept) e ∙ kept in
-        let content : content_of o n ≡ r.current = content_seen o n ∙ ap (λ x. cond (is_live n) o.live (option_map_or (λ (r : Root). r.current) x no_rows)) is ∙ ap (λ b. cond b o.live r.current) e in
+        let flag : is_kept o n ≡ true = kept_seen o n ∙ ap (λ x. is_live n || option_map_or (λ (r : Root). r.kept) x false) is ∙ ap (λ b. b || r.kept) e
+        ∙ kept in
+        let content : content_of o n ≡ r.current = content_seen o n ∙ ap (λ x. cond (is_live n) o.live (option_map_or (λ (r : Root). r.current) x no_rows)) is
+        ∙ ap (λ b. cond b o.live r.current) e in
         subst (λ c. Holds o.book (row_at c)) content (h n flag)
 
 holds_of : (o : Office) → Good o → HoldsWhereKept o

@@ -10,7 +10,8 @@ use Rattle.clr_workspaces.specs.Workspaces.{Workspace}
 use Rattle.clr_workspaces.specs.Operations.{with_current, roll_to}
 use Rattle.clr_steps.specs.Names.{is_live}
 use Rattle.clr_steps.specs.Offices.{Office, workspace, set_content, modify}
-use Rattle.clr_steps.specs.Effects.{edited_content, merged_content, after_create, after_remove, after_apply, after_mark, after_unmark, after_roll_to, after_roll_all, after_refresh, after_merge, after_resolve, set_kept, effect}
+use Rattle.clr_steps.specs.Effects.{edited_content, merged_content, after_create, after_remove, after_apply, after_mark, after_unmark, after_roll_to}
+use Rattle.clr_steps.specs.Effects.{after_roll_all, after_refresh, after_merge, after_resolve, set_kept, effect}
 use Rattle.clr_steps.specs.Refusals.{refusal}
 use Rattle.clr_steps.specs.Steps.{refused_or_done, step}
 use Rattle.clr_steps.specs.Laws.{SchemaLaw}

@@ -49,7 +49,8 @@ module _ (schema : List TableDef) (book : List Rule) (ws : List Workspace) (soun
       by None e k = absurd (false≢true k)
       by (Some at) e k =
           let w = workspace_at ws at in
-          let free : first_broken book w.current ≡ None = sym (ap (λ b. cond b (first_broken book w.current) None) k) ∙ each_none book 0 ws none at (within schema book ws sound n at e) in
+          let free : first_broken book w.current ≡ None = sym (ap (λ b. cond b (first_broken book w.current) None) k)
+          ∙ each_none book 0 ws none at (within schema book ws sound n at e) in
           subst (λ c. Holds book (row_at c)) (sym ((seen schema book ws sound n).content ∙ ap (content_at ws) e)) (holds_if_none book w.current free)
 
   free : HoldsWhereKept o → first_unheld book ws ≡ None

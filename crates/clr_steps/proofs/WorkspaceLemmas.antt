@@ -7,20 +7,21 @@ use Rattle.clr_rows.specs.declared.cells.Change.{Change}
 use Rattle.clr_rows.specs.declared.rows.Row.{Row}
 use Rattle.clr_rows.specs.Contents.{Content, row_at, set_cell, is_changed, change_at, change_of, conflicts, least_and_count}
 use Rattle.clr_rows.specs.Same.{same}
-use Rattle.clr_rows.proofs.ChangeLemmas.{get-changes, row-merged, row-set_cell, taken_over-own, tied_self, IsUntouched, untouched_from_none, none_from_untouched}
+use Rattle.clr_rows.proofs.ChangeLemmas.{get-changes, row-merged, row-set_cell, taken_over-own, tied_self, IsUntouched, untouched_from_none}
+use Rattle.clr_rows.proofs.ChangeLemmas.{none_from_untouched}
 use Rattle.clr_rows.proofs.SameLemmas.{same_is, same_itself}
 use Rattle.clr_workspaces.specs.Workspaces.{Workspace}
 use Rattle.clr_workspaces.specs.declared.rebases.Keep.{Keep}
 use Rattle.clr_workspaces.specs.declared.rebases.Keep.TheVariants as keeps
 use Rattle.clr_workspaces.specs.Operations.{own_changes, keep_row}
 use Rattle.clr_steps.specs.Refusals.{in_conflict, conflict_with, is_in_conflict_with}
-use Rattle.clr_steps.specs.WorkspaceLaws.{ConflictLaw, MergeLaw, RollAllLaw, RefreshLaw, ResolveLaw}
+use Rattle.clr_steps.specs.WorkspaceLaws.{ConflictLaw, ChangesAfterMergeLaw, RollAllLaw, ChangesAfterRefreshLaw, ResolveLaw}
 
 -- a content isn't changed over itself
 unchanged : (content : Content) (cell : CellId) → change_at content content cell ≡ None
 unchanged content cell = rw (same_itself (row_at content cell)) refl
 
-pub merge_law : MergeLaw
+pub merge_law : ChangesAfterMergeLaw
 merge_law w cell = ap (λ base. change_at base w.current cell) (taken_over-own w.base w.current) ∙ unchanged w.current cell
 
 pub roll_all_law : RollAllLaw
@@ -64,7 +65,7 @@ conflict_law above w = (no_cell above w, none_of_cells above w)
 
 -- a refresh ---------------------------------------------------------------------------------------------------------
 
-pub refresh_law : RefreshLaw
+pub refresh_law : ChangesAfterRefreshLaw
 refresh_law above w none cell =
     ap (λ r. cond (not (same (row_at above cell) r)) (Some r) None) (row-merged above w.base w.current cell) ∙ by (is_changed w.base w.current cell) refl
   where

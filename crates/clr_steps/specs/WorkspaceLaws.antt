@@ -17,15 +17,16 @@ abbrev pub ConflictLaw : Type 0
 ConflictLaw = (above : Content) (w : Workspace) → (conflict_with above w ≡ None) ↔ ((cell : CellId) → is_in_conflict_with above w cell ≡ false)
 
 -- a merge, and a rollback to the base, leave no changes
-abbrev pub MergeLaw : Type 0
-MergeLaw = (w : Workspace) (cell : CellId) → own_change (with_base_merged w) cell ≡ None
+abbrev pub ChangesAfterMergeLaw : Type 0
+ChangesAfterMergeLaw = (w : Workspace) (cell : CellId) → own_change (with_base_merged w) cell ≡ None
 
 abbrev pub RollAllLaw : Type 0
 RollAllLaw = (w : Workspace) (cell : CellId) → own_change (roll_all w) cell ≡ None
 
 -- a refresh without a conflict leaves the changes as they are
-abbrev pub RefreshLaw : Type 0
-RefreshLaw = (above : Content) (w : Workspace) → conflict_with above w ≡ None → (cell : CellId) → own_change (refresh above w) cell ≡ own_change w cell
+abbrev pub ChangesAfterRefreshLaw : Type 0
+ChangesAfterRefreshLaw = (above : Content) (w : Workspace) → conflict_with above w ≡ None → (cell : CellId) →
+    own_change (refresh above w) cell ≡ own_change w cell
 
 -- a cell that was resolved is in conflict no longer, whatever row was kept
 abbrev pub ResolveLaw : Type 0

@@ -3,7 +3,7 @@
 ghost use Rattle.clr_steps.specs.Examples.{LevelExample, NameExample, RollExample, SavepointExample};
 ghost use Rattle.clr_steps.specs.Laws.{AnswerLaw, EffectLaw, FitLaw, MemoryLaw, MoreLaw, NameLaw};
 ghost use Rattle.clr_steps.specs.Laws.{QuietLaw, RefusalLaw, RulesLaw, RunLaw, SchemaLaw, StepLaw, UnheldLaw};
-ghost use Rattle.clr_steps.specs.WorkspaceLaws.{ConflictLaw, MergeLaw, RefreshLaw, ResolveLaw, RollAllLaw};
+ghost use Rattle.clr_steps.specs.WorkspaceLaws.{ConflictLaw, ChangesAfterMergeLaw, ChangesAfterRefreshLaw, ResolveLaw, RollAllLaw};
 
 /// A command by name does to an office what it does by position to the list of workspaces of the
 /// office's tree. A name is found at a position that says the same of it, the command is refused
@@ -40,9 +40,9 @@ pub fn steps_keep_offices_sound()
 /// that it had. A cell that was resolved is in conflict no longer.
 pub fn changes_after_commands()
     ensures conflict { ConflictLaw }
-    ensures merge { MergeLaw }
+    ensures merge { ChangesAfterMergeLaw }
     ensures roll_all { RollAllLaw }
-    ensures refresh { RefreshLaw }
+    ensures refresh { ChangesAfterRefreshLaw }
     ensures resolve { ResolveLaw }
 {}
 

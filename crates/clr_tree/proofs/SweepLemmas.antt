@@ -6,7 +6,7 @@ use Rattle.clr_rows.specs.Cells.{cell_cmp}
 use Rattle.clr_rows.specs.Contents.{Content}
 use Rattle.clr_rows.proofs.CellOrder.{cell_cmp_total, cell_cmp_exact}
 use Rattle.clr_rows.proofs.Entries.{from_no_entries}
-use Rattle.clr_differences.specs.Differences.{Differences, Rows, no_differences, without_neutral}
+use Rattle.clr_differences.specs.Differences.{Differences, RowEntries, no_differences, without_neutral}
 use Rattle.clr_differences.proofs.SweepLemmas.{count-swept}
 use Rattle.clr_workspaces.specs.Marks.{Mark}
 use Rattle.clr_workspaces.specs.Workspaces.{Workspace, workspace_at}
@@ -22,7 +22,7 @@ use Rattle.clr_tree.specs.Trees.{change_count, needed, needed_of_mark, needed_of
 no_entries : length (finite.keys no_differences) ≡ 0
 no_entries =
     ap (λ (d : Differences). length (finite.keys d)) (sym (from_no_entries cell_cmp_total cell_cmp_exact))
-    ∙ ap (λ (es : Rows). length (map (λ e. e.0) es)) (finite.entries-from_sorted cell_cmp [] tt)
+    ∙ ap (λ (es : RowEntries). length (map (λ e. e.0) es)) (finite.entries-from_sorted cell_cmp [] tt)
 
 count-swept_marks : (b : Content) (ms : List StoredMark) → map entries_of_mark (swept_marks b ms) ≡ map (needed_of_mark b) (map (whole_mark b) ms)
 count-swept_marks b [] = refl

@@ -9,7 +9,7 @@ ghost use Rattle.clr_workspaces.specs.Marks.{find_mark, is_held, is_saved, mark_
 ghost use Rattle.clr_workspaces.specs.Workspaces.{workspace_at, find, parent_of as position_of_parent, children_of, depth_of, live_workspace};
 ghost use Rattle.clr_workspaces.specs.Operations.{after_create, after_remove, after_write, after_mark, after_unmark};
 ghost use Rattle.clr_workspaces.specs.Operations.{after_roll_to, after_roll_all, after_rebase, own_changes, set_kept};
-ghost use Rattle.clr_parts.specs.Parts.{workspace_of, list_of, spaces_of, first_fault, workspaces_fault, IsRefused};
+ghost use Rattle.clr_parts.specs.Parts.{workspace_of, list_of, spaces_of, first_fault, workspaces_fault, IsFirstPartFault};
 ghost use Rattle.clr_workspaces.specs.Soundness.{IsSound};
 ghost use Rattle.clr_workspaces.specs.declared.rebases.Rebase.TheVariants as rebase;
 ghost use Rattle.clr_tree.specs.Trees.{tree_of, stored_at, saved_at, needed, needed_layer, needed_of_marks};
@@ -89,7 +89,7 @@ impl Tree {
     pub fn build(alloc: Global, live: Sheet, parts: Vec<Part>) -> Result<Tree, (usize, PartFault)>
         ensures made { IfOk result (λ tree. tree.list ≡ list_of live parts.items) }
         ensures passed { OnOk result (first_fault live parts.items ≡ None) }
-        ensures refused { IfErr result (IsRefused (first_fault live parts.items)) }
+        ensures refused { IfErr result (IsFirstPartFault (first_fault live parts.items)) }
     {
         let map = push_parts(alloc, &live, parts.as_slice())?;
         judge_marks(&live, &map)?;
@@ -108,7 +108,7 @@ impl Tree {
     ) -> Result<Tree, (usize, PartFault)>
         ensures made { IfOk result (λ tree. tree.list ≡ live_workspace live ∷ spaces_of live parts.items) }
         ensures passed { OnOk result (workspaces_fault live (spaces_of live parts.items) ≡ None) }
-        ensures refused { IfErr result (IsRefused (workspaces_fault live (spaces_of live parts.items))) }
+        ensures refused { IfErr result (IsFirstPartFault (workspaces_fault live (spaces_of live parts.items))) }
     {
         let map = push_layers(alloc, &live, parts)?;
         judge_marks(&live, &map)?;

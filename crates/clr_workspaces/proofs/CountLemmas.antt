@@ -1,5 +1,6 @@
 -- How many elements of a list pass a test.
-use Rattle.std.proofs.Common.{◌≡◌, ℕ, suc, zero, ◌+◌, ◌<◌, Bool, true, false, cond, List, [], ◌∷◌, ◌++◌, length, filter, get_or, refl, ap, sym, ◌∙◌, arith, slice_set, remove}
+use Rattle.std.proofs.Common.{◌≡◌, ℕ, suc, zero, ◌+◌, ◌<◌, Bool, true, false, cond, List, [], ◌∷◌, ◌++◌, length, filter, get_or, refl, ap, sym, ◌∙◌, arith}
+use Rattle.std.proofs.Common.{slice_set, remove}
 use Rattle.std.specs.Prelude.{count_by}
 use Rattle.std.proofs.lemmas.List.Sums.{length-filter}
 
@@ -13,13 +14,18 @@ module _ {A : Type 0} (p : A → Bool) where
     where
       by : (xs : List A) → length (filter p xs) ≡ tally xs
       by [] = refl
-      by (x ∷ xs) = elim (p x) as (λ b. length (cond b (x ∷ filter p xs) (filter p xs)) ≡ cond b (suc (tally xs)) (tally xs)) [ true ↦ ap suc (by xs) | false ↦ by xs ]
+      by (x ∷ xs) = elim (p x) as (λ b. length (cond b (x ∷ filter p xs) (filter p xs)) ≡ cond b (suc (tally xs)) (tally xs)) [
+        | true ↦ ap suc (by xs)
+        | false ↦
+            by xs
+      ]
 
   pub tally-append : (xs ys : List A) → tally (xs ++ ys) ≡ tally xs + tally ys
   tally-append [] ys = omega arith
   tally-append (x ∷ xs) ys = by (p x) (tally-append xs ys)
     where
-      by : (b : Bool) → tally (xs ++ ys) ≡ tally xs + tally ys → cond b (suc (tally (xs ++ ys))) (tally (xs ++ ys)) ≡ cond b (suc (tally xs)) (tally xs) + tally ys
+      by : (b : Bool) → tally (xs ++ ys) ≡ tally xs + tally ys → cond b (suc (tally (xs ++ ys))) (tally (xs ++ ys)) ≡ cond b (suc (tally xs)) (tally xs) + tally
+          ys
       by true e = omega (arith, e)
       by false e = e
 
@@ -50,7 +56,8 @@ module _ {A : Type 0} (p : A → Bool) where
       by false = omega arith
   tally-remove (x ∷ xs) (suc at) d lt = by (p x) (p (get_or xs at d)) (tally-remove xs at d (omega arith))
     where
-      by : (b c : Bool) → tally xs ≡ tally (remove xs at) + cond c 1 0 → cond b (suc (tally xs)) (tally xs) ≡ cond b (suc (tally (remove xs at))) (tally (remove xs at)) + cond c 1 0
+      by : (b c : Bool) → tally xs ≡ tally (remove xs at) + cond c 1 0 → cond b (suc (tally xs)) (tally xs) ≡ cond b (suc (tally (remove xs at)))
+          (tally (remove xs at)) + cond c 1 0
       by true c e = omega (arith, e)
       by false c e = e
 
@@ -62,7 +69,8 @@ module _ {A : Type 0} (p : A → Bool) where
   tally-none [] d none = refl
   tally-none (x ∷ xs) d none = ap (λ b. cond b (suc (tally xs)) (tally xs)) (none 0 (omega arith)) ∙ tally-none xs d (λ i lt. none (suc i) (omega arith))
 
-  pub tally-one : (xs : List A) (d : A) (at : ℕ) → at < length xs → p (get_or xs at d) ≡ true → ((i : ℕ) → i < length xs → p (get_or xs i d) ≡ true → i ≡ at) → tally xs ≡ 1
+  pub tally-one : (xs : List A) (d : A) (at : ℕ) → at < length xs → p (get_or xs at d) ≡ true → ((i : ℕ) → i < length xs → p (get_or xs i d) ≡ true → i ≡ at) →
+      tally xs ≡ 1
   tally-one [] d at lt here only = absurd (omega arith)
   tally-one (x ∷ xs) d zero lt here only =
       ap (λ b. cond b (suc (tally xs)) (tally xs)) here

@@ -55,6 +55,7 @@ depth_more ws w (suc n) at r r_more lt = ⊎_elim
     ∙ depth_top ws (suc n) r))
     (λ (some : 0 < at).
     let q = r.under at some lt in
-    let same : parent_of (ws ++ w ∷ []) at ≡ Some q.0 = ap (λ (v : Workspace). find (ws ++ w ∷ []) v.parent) (get_or-append ws (w ∷ []) no_workspace at lt) ∙ find_more ws w _ q.0 q.1 in
+    let same : parent_of (ws ++ w ∷ []) at ≡ Some q.0 = ap (λ (v : Workspace). find (ws ++ w ∷ []) v.parent) (get_or-append ws (w ∷ []) no_workspace at lt)
+    ∙ find_more ws w _ q.0 q.1 in
     depth_next (ws ++ w ∷ []) n at q.0 same ∙ ap (λ d. d + 1) (depth_more ws w n q.0 r r_more (omega (arith, q.2, lt))) ∙ sym (depth_next ws n at q.0 q.1))
     (split at)

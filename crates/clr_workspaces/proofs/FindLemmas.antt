@@ -1,5 +1,6 @@
 -- Where a name stands among workspaces.
-use Rattle.std.proofs.Common.{◌≡◌, ℕ, ◌<◌, ◌≤◌, Bool, true, false, not, cond, nat_lt, List, [], ◌∷◌, ◌++◌, Some, None, length, refl, ap, sym, ◌∙◌, subst, arith, slice_set}
+use Rattle.std.proofs.Common.{◌≡◌, ℕ, ◌<◌, ◌≤◌, Bool, true, false, not, cond, nat_lt, List, [], ◌∷◌, ◌++◌, Some, None, length, refl, ap, sym, ◌∙◌, subst, arith}
+use Rattle.std.proofs.Common.{slice_set}
 use Rattle.std.specs.Str.{bytes_eq}
 use Rattle.std.specs.List.{position_or_len}
 use Rattle.std.specs.Cmp.Lexicographic.{bytes_decides}
@@ -61,7 +62,8 @@ find_last ws w none =
     let missing = missing_is ws w.name none in
     let itself : bytes_eq w.name w.name ≡ true = (bytes_decides w.name w.name).1 refl in
     let whole : position_or_len (has_name w.name) ws ≡ length ws = let most = prefix_len-le-length (λ v. not (has_name w.name v)) ws in omega arith in
-    let at_end : position_or_len (has_name w.name) (ws ++ w ∷ []) ≡ length ws = position_or_len_push (has_name w.name) ws w ∙ rw (eq-eqb _ _ whole, itself) (omega arith) in
+    let at_end : position_or_len (has_name w.name) (ws ++ w ∷ []) ≡ length ws = position_or_len_push (has_name w.name) ws w
+    ∙ rw (eq-eqb _ _ whole, itself) (omega arith) in
     first_of (ws ++ w ∷ []) w.name (length ws) at_end (let more = length-append ws (w ∷ []) in omega (arith, more))
 
 -- names that differ ------------------------------------------------------------------------------

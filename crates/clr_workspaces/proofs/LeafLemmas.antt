@@ -1,5 +1,6 @@
 -- A leaf goes, and the positions after it close up.
-use Rattle.std.proofs.Common.{◌≡◌, ℕ, suc, zero, ◌+◌, ◌-◌, ◌<◌, ◌≤◌, ◌≢◌, Bool, true, false, cond, not, nat_lt, List, [], ◌∷◌, length, get_or, Some, refl, ap, sym, ◌∙◌, arith, remove}
+use Rattle.std.proofs.Common.{◌≡◌, ℕ, suc, zero, ◌+◌, ◌-◌, ◌<◌, ◌≤◌, ◌≢◌, Bool, true, false, cond, not, nat_lt, List, [], ◌∷◌, length, get_or, Some, refl, ap}
+use Rattle.std.proofs.Common.{sym, ◌∙◌, arith, remove}
 use Rattle.std.proofs.lemmas.List.Edits.{length-remove, get_or-remove_below, get_or-remove_above}
 use Rattle.std.proofs.lemmas.Grind.{common_steps}
 use Rattle.std.proofs.lemmas.Bool.{false≢true}
@@ -79,10 +80,12 @@ closed-below at p i a other = grind (arith, common_steps)
 
 -- the first that passes, where the one that goes doesn't
 module _ {X : Type 0} (p : X → Bool) where
-  first_removed : (xs : List X) (at : ℕ) (d : X) → at < length xs → p (get_or xs at d) ≡ false → position_or_len p (remove xs at) ≡ closed_at at (position_or_len p xs)
+  first_removed : (xs : List X) (at : ℕ) (d : X) → at < length xs → p (get_or xs at d) ≡ false →
+      position_or_len p (remove xs at) ≡ closed_at at (position_or_len p xs)
   unfolding closed_at
   first_removed [] at d lt e = absurd (omega arith)
-  first_removed (x ∷ xs) zero d lt e = sym (ap (λ (b : Bool). cond (nat_lt 0 (cond (not b) (1 + position_or_len p xs) 0)) (cond (not b) (1 + position_or_len p xs) 0 - 1) (cond (not b) (1 + position_or_len p xs) 0)) e ∙ step (position_or_len p xs))
+  first_removed (x ∷ xs) zero d lt e = sym (ap (λ (b : Bool). cond (nat_lt 0 (cond (not b) (1 + position_or_len p xs) 0))
+      (cond (not b) (1 + position_or_len p xs) 0 - 1) (cond (not b) (1 + position_or_len p xs) 0)) e ∙ step (position_or_len p xs))
     where
       step : (n : ℕ) → cond (nat_lt 0 (1 + n)) (1 + n - 1) (1 + n) ≡ n
       step n = grind (arith, common_steps)
@@ -92,22 +95,27 @@ module _ {X : Type 0} (p : X → Bool) where
       more n = grind (arith, common_steps)
 
       by : (b : Bool) → position_or_len p (remove xs at) ≡ cond (nat_lt at (position_or_len p xs)) (position_or_len p xs - 1) (position_or_len p xs)
-          → cond (not b) (1 + position_or_len p (remove xs at)) 0 ≡ cond (nat_lt (suc at) (cond (not b) (1 + position_or_len p xs) 0)) (cond (not b) (1 + position_or_len p xs) 0 - 1) (cond (not b) (1 + position_or_len p xs) 0)
+          → cond (not b) (1 + position_or_len p (remove xs at)) 0 ≡ cond (nat_lt (suc at) (cond (not b) (1 + position_or_len p xs) 0))
+          (cond (not b) (1 + position_or_len p xs) 0 - 1) (cond (not b) (1 + position_or_len p xs) 0)
       by true rest = grind (arith, common_steps)
       by false rest = ap (λ n. 1 + n) rest ∙ more (position_or_len p xs)
 
 other_position : (ws : List Workspace) (name : Name) (at i : ℕ) → bytes_eq name (workspace_at ws at).name ≡ false → find ws name ≡ Some i → i ≢ at
-other_position ws name at i differs e = λ same. false≢true (sym differs ∙ (bytes_decides name _).1 (find_named ws name i e ∙ ap (λ k. (workspace_at ws k).name) same))
+other_position ws name at i differs e = λ same. false≢true
+    (sym differs ∙ (bytes_decides name _).1 (find_named ws name i e ∙ ap (λ k. (workspace_at ws k).name) same))
 
-find_removed : (ws : List Workspace) (at : ℕ) (name : Name) (i : ℕ) → at < length ws → bytes_eq name (workspace_at ws at).name ≡ false → find ws name ≡ Some i → find (remove ws at) name ≡ Some (closed_at at i)
+find_removed : (ws : List Workspace) (at : ℕ) (name : Name) (i : ℕ) → at < length ws → bytes_eq name (workspace_at ws at).name ≡ false → find ws name ≡ Some i →
+    find (remove ws at) name ≡ Some (closed_at at i)
 find_removed ws at name i lt differs e =
     let first = first_is ws name i e in
     let less = length-remove ws at lt in
     let within = closed-in at i (length ws) first.1 lt (other_position ws name at i differs e) in
-    first_of (remove ws at) name (closed_at at i) (first_removed (λ w. bytes_eq name w.name) ws at no_workspace lt differs ∙ ap (closed_at at) first.0) (omega (arith, within, less))
+    first_of (remove ws at) name (closed_at at i) (first_removed (λ w. bytes_eq name w.name) ws at no_workspace lt differs ∙ ap (closed_at at) first.0)
+    (omega (arith, within, less))
 
 -- rooted workspaces without a leaf
-module _ (ws : List Workspace) (at : ℕ) (r : IsRooted ws) (some : 0 < at) (lt : at < length ws) (free : (k : ℕ) → 0 < k → k < length ws → bytes_eq (workspace_at ws at).name (workspace_at ws k).parent ≡ true → ⊥) where
+module _ (ws : List Workspace) (at : ℕ) (r : IsRooted ws) (some : 0 < at) (lt : at < length ws) (free : (k : ℕ) → 0 < k → k < length ws →
+    bytes_eq (workspace_at ws at).name (workspace_at ws k).parent ≡ true → ⊥) where
   abbrev new : List Workspace
   new = remove ws at
 
@@ -119,13 +127,21 @@ module _ (ws : List Workspace) (at : ℕ) (r : IsRooted ws) (some : 0 < at) (lt 
 
   -- the parent of one that is left
   pub parent_removed : (i : ℕ) → 0 < i → i < length (remove ws at)
-      → (p : ℕ) × (parent_of ws (opened at i) ≡ Some p) × (p < opened at i) × (p ≢ at) × (parent_of (remove ws at) i ≡ Some (closed_at at p)) × (closed_at at p < i)
+      → (p : ℕ) × (parent_of ws (opened at i) ≡ Some p) × (p < opened at i) × (p ≢ at) × (parent_of (remove ws at) i ≡ Some (closed_at at p))
+      × (closed_at at p < i)
   parent_removed i later i_lt =
       let j = opened at i in
       let q = r.under j (opened-later at i later) (was_in i i_lt) in
-      let differs : bytes_eq (workspace_at ws j).parent (workspace_at ws at).name ≡ false = differ_back (workspace_at ws at).name (workspace_at ws j).parent (not_from (bytes_eq (workspace_at ws at).name (workspace_at ws j).parent) (free j (opened-later at i later) (was_in i i_lt))) in
-      let other = other_position ws (workspace_at ws j).parent at q.0 differs q.1 in
-      (q.0, q.1, q.2, other, ap (λ (w : Workspace). find new w.parent) (was_at i) ∙ find_removed ws at (workspace_at ws j).parent q.0 lt differs q.1, closed-below at q.0 i q.2 other)
+      let differs : bytes_eq (workspace_at ws j).parent (workspace_at ws at).name ≡ false = differ_back (workspace_at ws at).name (workspace_at ws j).parent
+      (not_from (bytes_eq (workspace_at ws at).name (workspace_at ws j).parent) (free j (opened-later at i later) (was_in i i_lt))) in
+      let other = other_position ws (workspace_at ws j).parent at q.0 differs q.1 in (
+        q.0,
+        q.1,
+        q.2,
+        other,
+        ap (λ (w : Workspace). find new w.parent) (was_at i) ∙ find_removed ws at (workspace_at ws j).parent q.0 lt differs q.1,
+        closed-below at q.0 i q.2 other,
+      )
 
   pub rooted_removed : IsRooted (remove ws at)
   rooted_removed =
@@ -138,8 +154,10 @@ module _ (ws : List Workspace) (at : ℕ) (r : IsRooted ws) (some : 0 < at) (lt 
         own = λ i i_lt.
             let j = opened at i in
             let found = r.own j (was_in i i_lt) in
-            let differs : bytes_eq (workspace_at ws j).name (workspace_at ws at).name ≡ false = not_from (bytes_eq (workspace_at ws j).name (workspace_at ws at).name)
-            (λ h. opened-other at i (same_Some j at (sym found ∙ ap (find ws) ((bytes_decides (workspace_at ws j).name (workspace_at ws at).name).0 h) ∙ r.own at lt))) in
+            let differs : bytes_eq (workspace_at ws j).name (workspace_at ws at).name ≡ false =
+            not_from (bytes_eq (workspace_at ws j).name (workspace_at ws at).name)
+            (λ h. opened-other at i (same_Some j at (sym found ∙ ap (find ws) ((bytes_decides (workspace_at ws j).name (workspace_at ws at).name).0 h)
+            ∙ r.own at lt))) in
             ap (λ (w : Workspace). find new w.name) (was_at i) ∙ find_removed ws at (workspace_at ws j).name j lt differs found ∙ ap Some (closed-opened at i);
         under = λ i later i_lt. let q = parent_removed i later i_lt in (closed_at at q.0, q.4, q.5);
       }

@@ -1,5 +1,6 @@
 -- The names of savepoints.
-use Rattle.std.proofs.Common.{◌≡◌, ℕ, suc, zero, ◌+◌, ◌<◌, ◌≤◌, Bool, true, false, cond, not, nat_le, nat_lt, ◌&&◌, ◌||◌, List, [], ◌∷◌, ◌++◌, length, take, drop, Some, None, refl, ap, sym, ◌∙◌, arith, remove, ◌⊎◌, inl, inr}
+use Rattle.std.proofs.Common.{◌≡◌, ℕ, suc, zero, ◌+◌, ◌<◌, ◌≤◌, Bool, true, false, cond, not, nat_le, nat_lt, ◌&&◌, ◌||◌, List, [], ◌∷◌, ◌++◌, length, take}
+use Rattle.std.proofs.Common.{drop, Some, None, refl, ap, sym, ◌∙◌, arith, remove, ◌⊎◌, inl, inr}
 use Rattle.std.specs.List.{list_all, list_any, position_or_len}
 use Rattle.std.specs.Str.{bytes_eq}
 use Rattle.std.proofs.lemmas.Grind.{common_steps}
@@ -8,7 +9,8 @@ use Rattle.std.proofs.lemmas.Option.{none-some}
 use Rattle.clr_rows.specs.Contents.{Content}
 use Rattle.clr_rows.specs.Names.{is_good_name}
 use Rattle.clr_rows.specs.Schemas.{are_distinct}
-use Rattle.clr_workspaces.specs.Marks.{Name, Mark, Saved, ChildMark, is_saved, is_saved_as, saved_count, saved_names, find_mark, without_saved, without_mark_of, mark_last}
+use Rattle.clr_workspaces.specs.Marks.{Name, Mark, Saved, ChildMark, is_saved, is_saved_as, saved_count, saved_names, find_mark, without_saved, without_mark_of}
+use Rattle.clr_workspaces.specs.Marks.{mark_last}
 use Rattle.clr_workspaces.proofs.FindLemmas.{differ_back}
 use Rattle.clr_workspaces.specs.Soundness.{are_good_savepoints}
 use Rattle.clr_workspaces.proofs.CountLemmas.{tally, count-tally}
@@ -69,7 +71,8 @@ at_most_is a b le = grind (arith, common_steps)
 split_good : (names : List Name) → are_good_savepoints names ≡ true → AreGood names
 split_good names e = by (list_all is_good_name names) (are_distinct names) (nat_le (length names) MOST_SAVEPOINTS) refl refl refl e
   where
-    by : (a b c : Bool) → list_all is_good_name names ≡ a → are_distinct names ≡ b → nat_le (length names) MOST_SAVEPOINTS ≡ c → (a && b && c) ≡ true → AreGood names
+    by : (a b c : Bool) → list_all is_good_name names ≡ a → are_distinct names ≡ b → nat_le (length names) MOST_SAVEPOINTS ≡ c → (a && b && c) ≡ true →
+        AreGood names
     by true true true ea eb ec e = record { good = ea; distinct = eb; few = at_most _ _ ec }
     by true true false ea eb ec e = absurd (cc)
     by true false c ea eb ec e = absurd (cc)
@@ -82,7 +85,12 @@ good_part : (xs ys : List Name) → IsSubsequence xs ys → are_good_savepoints 
 good_part xs ys part e =
     let g = split_good ys e in
     let less = length_part xs ys part in
-    join_good xs (record { good = all_part is_good_name xs ys part g.good; distinct = distinct_part xs ys part g.distinct; few = let few = g.few in omega (arith, less, few) })
+    join_good xs (record {
+      good = all_part is_good_name xs ys part g.good;
+      distinct = distinct_part xs ys part g.distinct;
+      few = let few = g.few in
+          omega (arith, less, few);
+    })
 
 -- marks that stay ------------------------------------------------------------------------------------
 
@@ -127,7 +135,8 @@ names_dropped child [] = refl
 names_dropped child (Saved name content ∷ ms) = ap (λ names. name ∷ names) (names_dropped child ms)
 names_dropped child (ChildMark name ∷ ms) = by (bytes_eq child name) (names_dropped child ms)
   where
-    by : (b : Bool) → saved_names (without_mark_of child ms) ≡ saved_names ms → saved_names (cond (not b) (ChildMark name ∷ without_mark_of child ms) (without_mark_of child ms)) ≡ saved_names ms
+    by : (b : Bool) → saved_names (without_mark_of child ms) ≡ saved_names ms →
+        saved_names (cond (not b) (ChildMark name ∷ without_mark_of child ms) (without_mark_of child ms)) ≡ saved_names ms
     by true e = e
     by false e = e
 
@@ -143,9 +152,11 @@ good_none ms = ap are_good_savepoints (none_saved ms)
 pub good_removed : (ms : List Mark) (i : ℕ) → are_good_savepoints (saved_names ms) ≡ true → are_good_savepoints (saved_names (remove ms i)) ≡ true
 good_removed ms i e = good_part _ _ (part_remove ms i) e
 
-pub good_cut : (ms : List Mark) (i : ℕ) → are_good_savepoints (saved_names ms) ≡ true → are_good_savepoints (saved_names (take i ms ++ without_saved (drop i ms))) ≡ true
+pub good_cut : (ms : List Mark) (i : ℕ) → are_good_savepoints (saved_names ms) ≡ true →
+    are_good_savepoints (saved_names (take i ms ++ without_saved (drop i ms))) ≡ true
 good_cut ms i e =
-    ap are_good_savepoints (names-append (take i ms) (without_saved (drop i ms)) ∙ ap (λ (names : List Name). saved_names (take i ms) ++ names) (none_saved (drop i ms)) ∙ append-none (saved_names (take i ms)))
+    ap are_good_savepoints (names-append (take i ms) (without_saved (drop i ms)) ∙ ap (λ (names : List Name). saved_names (take i ms) ++ names)
+    (none_saved (drop i ms)) ∙ append-none (saved_names (take i ms)))
     ∙ good_part _ _ (part_take ms i) e
 
 -- a new name -------------------------------------------------------------------------------------------
@@ -169,7 +180,8 @@ length_more : (xs : List Name) (x : Name) → length (xs ++ x ∷ []) ≡ length
 length_more [] x = refl
 length_more (y ∷ xs) x = let more = length_more xs x in omega (arith, more)
 
-pub good_more : (ms : List Mark) (name : Name) → are_good_savepoints (saved_names ms) ≡ true → is_good_name name ≡ true → list_any (bytes_eq name) (saved_names ms) ≡ false → length (saved_names ms) < MOST_SAVEPOINTS
+pub good_more : (ms : List Mark) (name : Name) → are_good_savepoints (saved_names ms) ≡ true → is_good_name name ≡ true →
+    list_any (bytes_eq name) (saved_names ms) ≡ false → length (saved_names ms) < MOST_SAVEPOINTS
     → (content : Content) → are_good_savepoints (saved_names (ms ++ Saved name content ∷ [])) ≡ true
 good_more ms name e good absent room content =
     let g = split_good (saved_names ms) e in
@@ -184,7 +196,8 @@ not_among : (name : Name) (ms : List Mark) → length ms ≤ position_or_len (is
 not_among name [] le = refl
 not_among name (Saved other content ∷ ms) le = by (bytes_eq name other) le (λ less. not_among name ms less)
   where
-    by : (b : Bool) → suc (length ms) ≤ cond (not b) (1 + position_or_len (is_saved_as name) ms) 0 → (length ms ≤ position_or_len (is_saved_as name) ms → list_any (bytes_eq name) (saved_names ms) ≡ false) → (b || list_any (bytes_eq name) (saved_names ms)) ≡ false
+    by : (b : Bool) → suc (length ms) ≤ cond (not b) (1 + position_or_len (is_saved_as name) ms) 0 → (length ms ≤ position_or_len (is_saved_as name) ms →
+        list_any (bytes_eq name) (saved_names ms) ≡ false) → (b || list_any (bytes_eq name) (saved_names ms)) ≡ false
     by true le rest = absurd (omega arith)
     by false le rest = rest (omega arith)
 not_among name (ChildMark other ∷ ms) le = not_among name ms (omega arith)

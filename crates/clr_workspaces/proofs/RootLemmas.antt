@@ -1,5 +1,6 @@
 -- What keeps workspaces rooted.
-use Rattle.std.proofs.Common.{◌≡◌, ℕ, suc, zero, ◌<◌, true, List, [], Some, None, length, refl, ap, ◌∙◌, arith, ◌⊎◌, inl, inr, ◌≢◌, Bool, false, ◌∷◌, ◌++◌, sym, subst, slice_set, get_or-set_other, nat_lt, is_some}
+use Rattle.std.proofs.Common.{◌≡◌, ℕ, suc, zero, ◌<◌, true, List, [], Some, None, length, refl, ap, ◌∙◌, arith, ◌⊎◌, inl, inr, ◌≢◌, Bool, false, ◌∷◌, ◌++◌, sym}
+use Rattle.std.proofs.Common.{subst, slice_set, get_or-set_other, nat_lt, is_some}
 use Rattle.std.specs.declared.option.Option.{Option}
 use Rattle.std.proofs.lemmas.Bool.{false≢true, ltb-true, ltb-false}
 use Rattle.clr_rows.specs.Names.{is_good_name}
@@ -37,9 +38,11 @@ split (suc n) = inr (omega arith)
 -- one workspace replaced, or one more -------------------------------------------------------------
 
 -- a field that a new workspace shares with the one that it replaces is as it was everywhere
-pub stays_at : (f : Workspace → Name) (ws : List Workspace) (at : ℕ) (w : Workspace) → f w ≡ f (workspace_at ws at) → (i : ℕ) → f (workspace_at (slice_set ws at w) i) ≡ f (workspace_at ws i)
+pub stays_at : (f : Workspace → Name) (ws : List Workspace) (at : ℕ) (w : Workspace) → f w ≡ f (workspace_at ws at) → (i : ℕ) →
+    f (workspace_at (slice_set ws at w) i) ≡ f (workspace_at ws i)
 stays_at f ws at w e i =
-    sym (get_or-map f (slice_set ws at w) i no_workspace) ∙ ap (λ (fs : List Name). get_or fs i (f no_workspace)) (map-set_same f ws at w no_workspace e) ∙ get_or-map f ws i no_workspace
+    sym (get_or-map f (slice_set ws at w) i no_workspace) ∙ ap (λ (fs : List Name). get_or fs i (f no_workspace)) (map-set_same f ws at w no_workspace e)
+    ∙ get_or-map f ws i no_workspace
 
 -- a workspace replaced by one of the same name and parent
 module _ (ws : List Workspace) (at : ℕ) (w : Workspace) (name : w.name ≡ (workspace_at ws at).name) (parent : w.parent ≡ (workspace_at ws at).parent) where
@@ -61,15 +64,18 @@ module _ (ws : List Workspace) (at : ℕ) (w : Workspace) (name : w.name ≡ (wo
       }
 
 -- each position is an old one or the last
-pub placed : {P : ℕ → Type 0} (ws : List Workspace) (w : Workspace) → ((i : ℕ) → i < length ws → P i) → P (length ws) → (i : ℕ) → i < length (ws ++ w ∷ []) → P i
+pub placed : {P : ℕ → Type 0} (ws : List Workspace) (w : Workspace) → ((i : ℕ) → i < length ws → P i) → P (length ws) → (i : ℕ) → i < length (ws ++ w ∷ []) →
+    P i
 placed {P} ws w old last i lt = by (nat_lt i (length ws)) refl
   where
     by : (b : Bool) → nat_lt i (length ws) ≡ b → P i
     by true e = old i (ltb-true i (length ws) e)
-    by false e = let le = ltb-false i (length ws) e in let more = length-append ws (w ∷ []) in let same : i ≡ length ws = omega (arith, le, more, lt) in subst P (sym same) last
+    by false e = let le = ltb-false i (length ws) e in let more = length-append ws (w ∷ []) in let same : i ≡ length ws = omega (arith, le, more, lt) in
+        subst P (sym same) last
 
 -- a workspace of a new good name whose parent stands
-module _ (ws : List Workspace) (w : Workspace) (p : ℕ) (none : find ws w.name ≡ None) (good : is_good_name w.name ≡ true) (parent : find ws w.parent ≡ Some p) (r : IsRooted ws) where
+module _ (ws : List Workspace) (w : Workspace) (p : ℕ) (none : find ws w.name ≡ None) (good : is_good_name w.name ≡ true) (parent : find ws w.parent ≡ Some p)
+    (r : IsRooted ws) where
   pub at_old : (i : ℕ) → i < length ws → workspace_at (ws ++ w ∷ []) i ≡ workspace_at ws i
   at_old i lt = get_or-append ws (w ∷ []) no_workspace i lt
 
@@ -103,7 +109,11 @@ pub parent_found : (ws : List Workspace) (at : ℕ) → IsRooted ws → at < len
 parent_found ws at r lt = by (split at)
   where
     by : (at ≡ 0) ⊎ (0 < at) → IsSome (parent_of ws at) ↔ (0 < at)
-    by (inl first) = (λ some. absurd (let none : parent_of ws at ≡ None = ap (parent_of ws) first ∙ no_parent ws r in false≢true (sym (ap is_some none) ∙ some)), λ later. absurd (omega arith))
+    by (inl first) = (
+      λ some. absurd (let none : parent_of ws at ≡ None = ap (parent_of ws) first ∙ no_parent ws r in
+          false≢true (sym (ap is_some none) ∙ some)),
+      λ later. absurd (omega arith),
+    )
     by (inr later) = let q = r.under at later lt in (λ some. later, λ above. ap is_some q.1)
 
 -- marks of a workspace changed, where it isn't LIVE ---------------------------------------------------

@@ -1,5 +1,6 @@
 -- What keeps a tree sound.
-use Rattle.std.proofs.Common.{◌≡◌, ℕ, suc, zero, ◌+◌, ◌<◌, ◌≢◌, ⊎_elim, Bool, true, false, cond, not, ◌&&◌, List, [], ◌∷◌, ◌++◌, length, take, drop, refl, ap, sym, ◌∙◌, subst, arith, slice_set, remove}
+use Rattle.std.proofs.Common.{◌≡◌, ℕ, suc, zero, ◌+◌, ◌<◌, ◌≢◌, ⊎_elim, Bool, true, false, cond, not, ◌&&◌, List, [], ◌∷◌, ◌++◌, length, take, drop, refl, ap}
+use Rattle.std.proofs.Common.{sym, ◌∙◌, subst, arith, slice_set, remove}
 use Rattle.std.specs.Str.{bytes_eq}
 use Rattle.std.specs.Cmp.Lexicographic.{bytes_decides}
 use Rattle.std.proofs.lemmas.Bool.{cases_eq}
@@ -56,9 +57,11 @@ module _ (n : Name) where
   tally-child child (Saved name content ∷ ms) e = tally-child child ms e
   tally-child child (ChildMark name ∷ ms) e = by (bytes_eq child name) refl (tally-child child ms e)
     where
-      by : (c : Bool) → bytes_eq child name ≡ c → tally (is_mark_of n) (without_mark_of child ms) ≡ 0 → tally (is_mark_of n) (cond (not c) (ChildMark name ∷ without_mark_of child ms) (without_mark_of child ms)) ≡ 0
+      by : (c : Bool) → bytes_eq child name ≡ c → tally (is_mark_of n) (without_mark_of child ms) ≡ 0 →
+          tally (is_mark_of n) (cond (not c) (ChildMark name ∷ without_mark_of child ms) (without_mark_of child ms)) ≡ 0
       by true d rest = rest
-      by false d rest = ap (λ t. cond t (suc (tally (is_mark_of n) (without_mark_of child ms))) (tally (is_mark_of n) (without_mark_of child ms))) (other_child child name e d) ∙ rest
+      by false d rest = ap (λ t. cond t (suc (tally (is_mark_of n) (without_mark_of child ms))) (tally (is_mark_of n) (without_mark_of child ms)))
+          (other_child child name e d) ∙ rest
 
   tally-others : (child : Name) (ms : List Mark) → bytes_eq n child ≡ false → tally (is_mark_of n) (without_mark_of child ms) ≡ tally (is_mark_of n) ms
   tally-others child [] e = refl
@@ -66,7 +69,8 @@ module _ (n : Name) where
   tally-others child (ChildMark name ∷ ms) e = by (bytes_eq child name) refl (tally-others child ms e)
     where
       by : (c : Bool) → bytes_eq child name ≡ c → tally (is_mark_of n) (without_mark_of child ms) ≡ tally (is_mark_of n) ms
-          → tally (is_mark_of n) (cond (not c) (ChildMark name ∷ without_mark_of child ms) (without_mark_of child ms)) ≡ cond (bytes_eq n name) (suc (tally (is_mark_of n) ms)) (tally (is_mark_of n) ms)
+          → tally (is_mark_of n) (cond (not c) (ChildMark name ∷ without_mark_of child ms) (without_mark_of child ms)) ≡ cond (bytes_eq n name)
+          (suc (tally (is_mark_of n) ms)) (tally (is_mark_of n) ms)
       by true d rest = rest ∙ sym (ap (λ t. cond t (suc (tally (is_mark_of n) ms)) (tally (is_mark_of n) ms)) (same_child child name d ∙ e))
       by false d rest = ap (λ k. cond (bytes_eq n name) (suc k) k) rest
 
@@ -80,7 +84,8 @@ module _ (n : Name) where
 -- one workspace replaced ---------------------------------------------------------------------------
 
 -- what holds of the new one, and of each other, holds at each position
-pub each_set : (P : Workspace → Type 0) (ws : List Workspace) (at : ℕ) (w : Workspace) (i : ℕ) → at < length ws → (i ≡ at → P w) → (i ≢ at → P (workspace_at ws i)) → P (workspace_at (slice_set ws at w) i)
+pub each_set : (P : Workspace → Type 0) (ws : List Workspace) (at : ℕ) (w : Workspace) (i : ℕ) → at < length ws → (i ≡ at → P w) →
+    (i ≢ at → P (workspace_at ws i)) → P (workspace_at (slice_set ws at w) i)
 each_set P ws at w i lt here there = ⊎_elim
     (λ (same : i ≡ at). subst P (sym (ap (workspace_at (slice_set ws at w)) same ∙ get_or-set_same ws at w no_workspace lt)) (here same))
     (λ (other : i ≢ at). subst P (sym (get_or-set_other ws at i w no_workspace other)) (there other))
@@ -90,21 +95,24 @@ each_set P ws at w i lt here there = ⊎_elim
 abbrev pub IsLive : Workspace → Type 0
 IsLive w = (w.base ≡ no_rows) × (w.marks ≡ []) × (w.kept ≡ true)
 
-module _ (ws : List Workspace) (at : ℕ) (w : Workspace) (s : IsSound ws) (lt : at < length ws) (name : w.name ≡ (workspace_at ws at).name) (parent : w.parent ≡ (workspace_at ws at).parent) where
+module _ (ws : List Workspace) (at : ℕ) (w : Workspace) (s : IsSound ws) (lt : at < length ws) (name : w.name ≡ (workspace_at ws at).name)
+    (parent : w.parent ≡ (workspace_at ws at).parent) where
   abbrev new : List Workspace
   new = slice_set ws at w
 
   children_set : (p n : Name) → child_count (slice_set ws at w) p n ≡ child_count ws p n
   children_set p n = count-set (is_child_named p n) ws at w no_workspace (λ i. bytes_eq p (parent i) && bytes_eq n (name i))
 
-  pub sound_set : (at ≡ 0 → IsLive w) → are_good_savepoints (saved_names w.marks) ≡ true → ((n : Name) → mark_count w.marks n ≡ mark_count (workspace_at ws at).marks n) → IsSound (slice_set ws at w)
+  pub sound_set : (at ≡ 0 → IsLive w) → are_good_savepoints (saved_names w.marks) ≡ true →
+      ((n : Name) → mark_count w.marks n ≡ mark_count (workspace_at ws at).marks n) → IsSound (slice_set ws at w)
   sound_set live saved marks =
       let before : (i : ℕ) → i < length new → i < length ws = λ i i_lt. subst (λ n. i < n) (length-set ws at w) i_lt in
       let top = each_set IsLive ws at w 0 lt (λ same. live (sym same)) (λ other. (s.base, s.bare, s.held)) in
       record {
         rooted = rooted_set ws at w name parent s.rooted;
         few = let few = s.few in let same = length-set ws at w in omega (arith, few, same);
-        shallow = λ i i_lt. let was = s.shallow i (before i i_lt) in let same = depth_same ws new i i (parent_set ws at w name parent) in omega (arith, was, same);
+        shallow = λ i i_lt. let was = s.shallow i (before i i_lt) in let same = depth_same ws new i i (parent_set ws at w name parent) in
+            omega (arith, was, same);
         base = top.0;
         bare = top.1;
         held = top.2;

@@ -2,11 +2,13 @@
 
 ghost use Rattle.std.specs.Prelude.{◌≡◌, ◌≤◌, not, length};
 ghost use Rattle.std.specs.List.{list_all, zip};
+ghost use Rattle.std.specs.Option.{option_copied};
 ghost use Rattle.clr_rows.specs.Schemas.{Answers};
 ghost use Rattle.clr_rules.specs.declared.limits.TheConstants.{MOST_RULES};
 ghost use Rattle.clr_rules.specs.Books.{has_table, has_tables, kind_of, is_column_of, are_columns_of, is_primary_key, has_columns};
 ghost use Rattle.clr_rules.specs.Books.{same_kind, has_same_kinds, is_point_form, is_line_form, has_form, has_forms};
 ghost use Rattle.clr_rules.specs.Books.{is_distance, has_distance, is_literal_of, has_filter, has_filters, rule_fault, first_fault};
+ghost use Rattle.clr_rules.specs.Sides.{if_any};
 
 use crate::books::RuleFault;
 use crate::columns::{Col, ColumnList};
@@ -16,33 +18,25 @@ use crate::sides::Side;
 use clr_rows::{Form, Kind, Schema, Value};
 use clr_segments::GREATEST_DISTANCE;
 
-fn has_table(schema: &Schema, side: &Side) -> bool
-    ensures { result ≡ has_table schema.now side.now }
+/// Returns whether the schema has the table of a side, if there is one.
+fn has_table(schema: &Schema, side: Option<&Side>) -> bool
+    ensures { result ≡ if_any (has_table schema.now) (option_copied side.entry) }
 {
-    schema.def(side.table).is_some()
+    match side {
+        Some(side) => schema.def(side.table).is_some(),
+        None => true,
+    }
 }
 
 /// Returns whether the schema has the table of each side of a rule.
 fn has_tables(schema: &Schema, rule: &Rule) -> bool
     ensures { result ≡ has_tables schema.now rule.now }
 {
-    match rule {
-        Rule::Unique { subject, .. } => has_table(schema, subject),
-        Rule::Partner {
-            subject,
-            server,
-            ..
-        } => has_table(schema, subject) && has_table(schema, server),
-        Rule::EndNode {
-            subject,
-            server,
-            ..
-        } => has_table(schema, subject) && has_table(schema, server),
-        Rule::Crossing { a, b, server } => {
-            has_table(schema, a) && has_table(schema, b) && has_table(schema, server)
-        }
-        Rule::Near { a, b, .. } => has_table(schema, a) && has_table(schema, b),
-    }
+    let sides = rule.sides();
+    has_table(schema, sides.alone)
+        && has_table(schema, sides.first)
+        && has_table(schema, sides.second)
+        && has_table(schema, sides.server)
 }
 
 /// Returns the kind of a column of a table, or none where there is no such column.
@@ -255,7 +249,7 @@ fn is_literal_of(kind: Option<Kind>, value: &Value) -> bool
 }
 
 /// Returns whether each literal of a side's filter is of its column's kind.
-fn has_filter(schema: &Schema, side: &Side) -> bool
+fn has_filter_of(schema: &Schema, side: &Side) -> bool
     ensures { result ≡ has_filter schema.now side.now }
 {
     side.filter.as_slice().iter().all(|part| is_literal_of(
@@ -264,27 +258,25 @@ fn has_filter(schema: &Schema, side: &Side) -> bool
     ))
 }
 
+/// Returns whether each literal of a side's filter is of its column's kind, if there is a side.
+fn has_filter(schema: &Schema, side: Option<&Side>) -> bool
+    ensures { result ≡ if_any (has_filter schema.now) (option_copied side.entry) }
+{
+    match side {
+        Some(side) => has_filter_of(schema, side),
+        None => true,
+    }
+}
+
 /// Returns whether each literal of a rule's filters is of its column's kind.
 fn has_filters(schema: &Schema, rule: &Rule) -> bool
     ensures { result ≡ has_filters schema.now rule.now }
 {
-    match rule {
-        Rule::Unique { subject, .. } => has_filter(schema, subject),
-        Rule::Partner {
-            subject,
-            server,
-            ..
-        } => has_filter(schema, subject) && has_filter(schema, server),
-        Rule::EndNode {
-            subject,
-            server,
-            ..
-        } => has_filter(schema, subject) && has_filter(schema, server),
-        Rule::Crossing { a, b, server } => {
-            has_filter(schema, a) && has_filter(schema, b) && has_filter(schema, server)
-        }
-        Rule::Near { a, b, .. } => has_filter(schema, a) && has_filter(schema, b),
-    }
+    let sides = rule.sides();
+    has_filter(schema, sides.alone)
+        && has_filter(schema, sides.first)
+        && has_filter(schema, sides.second)
+        && has_filter(schema, sides.server)
 }
 
 /// Tests whether a rule can stand over the schema. Fails with the fault of the first test that it

@@ -18,14 +18,14 @@ const NETWORK: &str = r#"{"format":1,"tables":[
 
 /// What each rule is by its number, and that there is none beyond the last.
 const RULES: &str =
-    "rule 0 => Unique { subject: Side { table: 1, filter: Filter { list: [] } }, columns: ColumnList { list: [At(1), At(0)] } }
-rule 1 => Partner { subject: Side { table: 2, filter: Filter { list: [] } }, columns: ColumnList { list: [At(0)] }, \
-     server: Side { table: 1, filter: Filter { list: [] } }, server_columns: ColumnList { list: [Key] } }
-rule 2 => EndNode { subject: Side { table: 1, filter: Filter { list: [(1, Int(3))] } }, tip: Second, \
-     server: Side { table: 0, filter: Filter { list: [] } } }
-rule 3 => Crossing { a: Side { table: 1, filter: Filter { list: [] } }, b: Side { table: 1, filter: Filter { list: [] } }, \
-     server: Side { table: 0, filter: Filter { list: [(0, Words(Words { text: \"tee\" })), (1, Int(2))] } } }
-rule 4 => Near { a: Side { table: 2, filter: Filter { list: [] } }, b: Side { table: 0, filter: Filter { list: [] } }, d: 1000000 }
+    "rule 0 => Unique { subject: Side { table: 1, filter: List { list: [] } }, columns: List { list: [At(1), At(0)] } }
+rule 1 => Partner { subject: Side { table: 2, filter: List { list: [] } }, columns: List { list: [At(0)] }, \
+     server: Side { table: 1, filter: List { list: [] } }, server_columns: List { list: [Key] } }
+rule 2 => EndNode { subject: Side { table: 1, filter: List { list: [(1, Int(3))] } }, tip: Second, \
+     server: Side { table: 0, filter: List { list: [] } } }
+rule 3 => Crossing { a: Side { table: 1, filter: List { list: [] } }, b: Side { table: 1, filter: List { list: [] } }, \
+     server: Side { table: 0, filter: List { list: [(0, Words(Words { text: \"tee\" })), (1, Int(2))] } } }
+rule 4 => Near { a: Side { table: 2, filter: List { list: [] } }, b: Side { table: 0, filter: List { list: [] } }, d: 1000000 }
 rule 5 => None";
 
 /// The rule of a number.

@@ -6,7 +6,7 @@ use Rattle.clr_rows.specs.Held.{Held, held_of}
 use Rattle.clr_rules.specs.Needs.{IsAudit, broken_cmp}
 use Rattle.clr_rules.proofs.BrokenLemmas.{rows_fit, lists_broken}
 use Rattle.clr_rules.proofs.BrokenOrder.{broken_exact}
-use Rattle.clr_audit.specs.Searches.{Gains, IsOfRule}
+use Rattle.clr_audit.specs.Searches.{GainsBroken, IsOfRule}
 use Rattle.clr_audit.proofs.AuditLaws.{audit_is}
 use Rattle.clr_audit.proofs.Gaining.{gains_more}
 use Rattle.clr_audit.proofs.audits.audit.Goals as goal
@@ -21,7 +21,7 @@ loop-rule-preserved c =
     gains_more c.args.book.now (map held_of c.in_ok-rows.rows.items) (λ b h. b.rule < c.loop-rule.rule) (IsOfRule c.loop-rule.rule)
     (λ b h. b.rule < c.loop-rule.rule + 1)
     [] c.loop-rule.list.items c.add_of_rule.new.list.items c.loop-rule.invariant
-    (subst (λ (rows : List Held). Gains c.args.book.now rows (IsOfRule c.loop-rule.rule) c.loop-rule.list.items c.add_of_rule.new.list.items)
+    (subst (λ (rows : List Held). GainsBroken c.args.book.now rows (IsOfRule c.loop-rule.rule) c.loop-rule.list.items c.add_of_rule.new.list.items)
     (ap (map held_of) c.as_slice.ensures.value) c.in_ok-add_of_rule.ensures)
     (λ b h w. elim (cases_lt b.rule c.loop-rule.rule) [
       | inl l ↦ inl l

@@ -7,7 +7,7 @@ use Rattle.clr_rules.specs.declared.needs.Broken.{Broken}
 use Rattle.clr_rules.specs.Needs.{broken_cmp}
 use Rattle.clr_rules.proofs.BrokenLemmas.{rows_fit, rows_rise}
 use Rattle.clr_rules.proofs.BrokenOrder.{broken_exact}
-use Rattle.clr_audit.specs.Searches.{AreInOrder, Gains, IsLeastAmong, IsOfRule}
+use Rattle.clr_audit.specs.Searches.{AreInCellOrder, GainsBroken, IsLeastAmong, IsOfRule}
 use Rattle.clr_audit.proofs.AuditLaws.{audit_is}
 use Rattle.clr_audit.proofs.Gaining.{gains_more}
 use Rattle.clr_audit.proofs.LeastLaws.{first_is}
@@ -20,16 +20,16 @@ add_of_rule_until_least-requires-clause-fit c =
 
 pub add_of_rule_until_least-requires-clause-in_order : goal.add_of_rule_until_least-requires-clause-in_order
 add_of_rule_until_least-requires-clause-in_order c =
-    subst (λ (rows : List Held). AreInOrder rows) (sym (ap (map held_of) c.as_slice.ensures.value ∙ c.in_ok-rows.ensures)) (rows_rise c.args.sheet.now)
+    subst (λ (rows : List Held). AreInCellOrder rows) (sym (ap (map held_of) c.as_slice.ensures.value ∙ c.in_ok-rows.ensures)) (rows_rise c.args.sheet.now)
 
 pub loop-rule-preserved : goal.loop-rule-preserved
 loop-rule-preserved c =
     gains_more c.args.book.now (map held_of c.in_ok-rows.rows.items) (λ b h. b.rule < c.loop-rule.rule) (IsOfRule c.loop-rule.rule)
     (λ b h. b.rule < c.loop-rule.rule + 1)
     [] c.loop-rule.list.items c.add_of_rule_until_least.new.list.items c.loop-rule.invariant
-    (subst (λ (rows : List Held). Gains c.args.book.now rows (IsOfRule c.loop-rule.rule) c.loop-rule.list.items c.add_of_rule_until_least.new.list.items)
+    (subst (λ (rows : List Held). GainsBroken c.args.book.now rows (IsOfRule c.loop-rule.rule) c.loop-rule.list.items c.add_of_rule_until_least.new.list.items)
     (ap (map held_of) c.as_slice.ensures.value)
-    (subst (λ (o : Option Broken). MatchOption o (Gains c.args.book.now (map held_of c.as_slice.result.now) (IsOfRule c.loop-rule.rule)
+    (subst (λ (o : Option Broken). MatchOption o (GainsBroken c.args.book.now (map held_of c.as_slice.result.now) (IsOfRule c.loop-rule.rule)
     c.loop-rule.list.items c.add_of_rule_until_least.new.list.items)
     (IsLeastAmong c.args.book.now (map held_of c.as_slice.result.now) c.loop-rule.rule c.loop-rule.list.items)) c.in_default.is c.in_ok-need.ensures))
     (λ b h w. elim (cases_lt b.rule c.loop-rule.rule) [
@@ -43,7 +43,7 @@ returns-in-Some c =
     c.loop-rule.invariant
     (subst (λ (rows : List Held). IsLeastAmong c.args.book.now rows c.loop-rule.rule c.loop-rule.list.items c.in-Some.need)
     (ap (map held_of) c.as_slice.ensures.value)
-    (subst (λ (o : Option Broken). MatchOption o (Gains c.args.book.now (map held_of c.as_slice.result.now) (IsOfRule c.loop-rule.rule)
+    (subst (λ (o : Option Broken). MatchOption o (GainsBroken c.args.book.now (map held_of c.as_slice.result.now) (IsOfRule c.loop-rule.rule)
     c.loop-rule.list.items c.add_of_rule_until_least.new.list.items)
     (IsLeastAmong c.args.book.now (map held_of c.as_slice.result.now) c.loop-rule.rule c.loop-rule.list.items)) c.in-Some.is c.in_ok-need.ensures))
 

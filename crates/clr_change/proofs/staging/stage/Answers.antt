@@ -1,6 +1,6 @@
 use Rattle.std.proofs.Common.{sym, subst, arith}
 use Rattle.clr_rows.specs.Contents.{Changes}
-use Rattle.clr_change.specs.Edits.{IsRefused, first_bad_edit}
+use Rattle.clr_change.specs.Edits.{IsFirstEditFault, first_bad_edit}
 use Rattle.clr_change.proofs.EditLemmas.{IsStagedTo, none_staged, one_staged, one_refused, all_staged}
 use Rattle.clr_change.proofs.staging.stage.Goals as goal
 
@@ -14,7 +14,7 @@ pub returns-in-Err-clause-refused : goal.returns-in-Err-clause-refused
 returns-in-Err-clause-refused g c =
     let content = g.V.RowView.content c.args.view.now in
     let first = first_bad_edit c.args.schema.now content 1 c.args.edits.now in
-    subst (λ n. IsRefused first (n, c.in-Err.fault)) (sym c.number.ensures)
+    subst (λ n. IsFirstEditFault first (n, c.in-Err.fault)) (sym c.number.ensures)
     (one_refused c.args.schema.now content c.args.edits.now c.loop-at.at c.index-edits-at.result c.loop-at.staged c.in-Err.fault (omega arith)
     c.index-edits-at.is c.loop-at.invariant c.in-Err.ensures.refused)
 

@@ -1,6 +1,6 @@
 use Rattle.std.proofs.Common.{subst}
 use Rattle.clr_check.specs.Answers.{IsCheckAnswer}
-use Rattle.clr_sites.specs.Faults.{IsFault}
+use Rattle.clr_sites.specs.Faults.{IsSiteFault}
 use Rattle.clr_sites.specs.Certificates.{entries_in, site_of}
 use Rattle.clr_sites.specs.SiteNames.{site}
 use Rattle.clr_sites.specs.Sites.{AreParts}
@@ -50,14 +50,14 @@ pub returns-in-Err-clause-answer : goal.returns-in-Err-clause-answer
 returns-in-Err-clause-answer c =
     let o = c.args.office.now in
     let certificate = c.args.certificate.now in
-    let fault = subst (λ root. IsFault o (site root certificate.members) c.in-Err.verdict) c.as_str.ensures c.in-Err.ensures.fault in
+    let fault = subst (λ root. IsSiteFault o (site root certificate.members) c.in-Err.verdict) c.as_str.ensures c.in-Err.ensures.fault in
     fault_answers o (site_of certificate) (entries_in certificate.entries) c.in-Err.verdict fault
 
 pub returns-in-Err-clause-free : goal.returns-in-Err-clause-free
 returns-in-Err-clause-free c e =
     let o = c.args.office.now in
     let certificate = c.args.certificate.now in
-    let fault = subst (λ root. IsFault o (site root certificate.members) c.in-Err.verdict) c.as_str.ensures c.in-Err.ensures.fault in
+    let fault = subst (λ root. IsSiteFault o (site root certificate.members) c.in-Err.verdict) c.as_str.ensures c.in-Err.ensures.fault in
     let answer = fault_answers o (site_of certificate) (entries_in certificate.entries) c.in-Err.verdict fault in
     (clear_promises o (site_of certificate) (entries_in certificate.entries) c.in-Err.ensures.admitted c.in-Err.verdict answer e).0
 
@@ -65,7 +65,7 @@ pub returns-in-Err-clause-safe : goal.returns-in-Err-clause-safe
 returns-in-Err-clause-safe c e =
     let o = c.args.office.now in
     let certificate = c.args.certificate.now in
-    let fault = subst (λ root. IsFault o (site root certificate.members) c.in-Err.verdict) c.as_str.ensures c.in-Err.ensures.fault in
+    let fault = subst (λ root. IsSiteFault o (site root certificate.members) c.in-Err.verdict) c.as_str.ensures c.in-Err.ensures.fault in
     let answer = fault_answers o (site_of certificate) (entries_in certificate.entries) c.in-Err.verdict fault in
     (clear_promises o (site_of certificate) (entries_in certificate.entries) c.in-Err.ensures.admitted c.in-Err.verdict answer e).1
 
@@ -73,7 +73,7 @@ pub returns-in-Err-clause-headline : goal.returns-in-Err-clause-headline
 returns-in-Err-clause-headline c e =
     let o = c.args.office.now in
     let certificate = c.args.certificate.now in
-    let fault = subst (λ root. IsFault o (site root certificate.members) c.in-Err.verdict) c.as_str.ensures c.in-Err.ensures.fault in
+    let fault = subst (λ root. IsSiteFault o (site root certificate.members) c.in-Err.verdict) c.as_str.ensures c.in-Err.ensures.fault in
     let answer = fault_answers o (site_of certificate) (entries_in certificate.entries) c.in-Err.verdict fault in
     (clear_promises o (site_of certificate) (entries_in certificate.entries) c.in-Err.ensures.admitted c.in-Err.verdict answer e).2
 
@@ -81,6 +81,6 @@ pub returns-in-Err-clause-runs : goal.returns-in-Err-clause-runs
 returns-in-Err-clause-runs c e =
     let o = c.args.office.now in
     let certificate = c.args.certificate.now in
-    let fault = subst (λ root. IsFault o (site root certificate.members) c.in-Err.verdict) c.as_str.ensures c.in-Err.ensures.fault in
+    let fault = subst (λ root. IsSiteFault o (site root certificate.members) c.in-Err.verdict) c.as_str.ensures c.in-Err.ensures.fault in
     let answer = fault_answers o (site_of certificate) (entries_in certificate.entries) c.in-Err.verdict fault in
     (clear_promises o (site_of certificate) (entries_in certificate.entries) c.in-Err.ensures.admitted c.in-Err.verdict answer e).3

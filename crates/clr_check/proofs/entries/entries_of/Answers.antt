@@ -34,7 +34,8 @@ returns c =
     (λ a r f' k. search rules) in
     let within = c.partition_point-to.ensures.bound in
     let le = in_turn need_total entries c.requires n need_exact low high before after c.partition_point-from.ensures.bound no_entry in
-    let whole : c.split_at-2.result.0.now ≡ take (high - low) (drop low entries) = c.split_at-2.ensures.front ∙ ap (take (high - low)) c.split_at.ensures.back in
+    let whole : c.split_at-2.result.0.now ≡ take (high - low) (drop low entries) = c.split_at-2.ensures.front
+    ∙ ap (take (high - low)) c.split_at.ensures.back in
     λ k. (
       λ h. part_is need_total entries c.requires n need_exact low high before after within le k (subst (λ xs. Contains xs k) whole h),
       λ h. subst (λ xs. Contains xs k) (sym whole) (is_part need_total entries c.requires n need_exact low high before after within le k h),

@@ -19,10 +19,13 @@ loop-command-preserved c =
     let left = c.perform-reply.new.self in
     let all = c.loop-command.replies.items ++ c.perform-reply.result ∷ [] in
     let quiet : _ ≡ true = sym c.is_quiet.ensures ∙ c.if-not-is_quiet.false in
-    let more = one_more first site (take at commands) c.loop-command.replies.items c.loop-command.office c.command-item.result c.perform-reply.result left c.loop-command.invariant.answers c.loop-command.invariant.quiet quiet
+    let more = one_more first site (take at commands) c.loop-command.replies.items c.loop-command.office c.command-item.result c.perform-reply.result left
+    c.loop-command.invariant.answers c.loop-command.invariant.quiet quiet
     c.perform-reply.ensures.answer in
-    let performed : take at commands ++ c.command-item.result ∷ [] ≡ take (at + 1) commands = ap (λ command. take at commands ++ command ∷ []) c.command-item.is ∙ sym (take_more commands at c.command-item.result c.loop-command-test.true) in
-    let pushed : c.push.new.self.items ≡ all = c.push.ensures.items ∙ ap (λ (made : Bool). cond made all c.loop-command.replies.items) (ap is_ok c.unwrap.ensures) in
+    let performed : take at commands ++ c.command-item.result ∷ [] ≡ take (at + 1) commands = ap (λ command. take at commands ++ command ∷ []) c.command-item.is
+    ∙ sym (take_more commands at c.command-item.result c.loop-command-test.true) in
+    let pushed : c.push.new.self.items ≡ all = c.push.ensures.items ∙ ap (λ (made : Bool). cond made all c.loop-command.replies.items)
+    (ap is_ok c.unwrap.ensures) in
     record {
       answers = subst (λ (replies : List Reply). AreAnswers first (take (at + 1) commands) replies left) (sym pushed)
           (subst (λ (cs : List Command). AreAnswers first cs all left) performed more.0);

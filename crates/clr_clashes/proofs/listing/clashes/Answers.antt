@@ -23,7 +23,8 @@ note_need-requires-clause-possible g c =
 pub loop-need-preserved : goal.loop-need-preserved
 loop-need-preserved g c = one_noted (setting_of (model_of g.V.RowView.content c.args.scene.now)) c.in_ok-needs.needs.items c.deref-need-items.result.now
     c.in_ok-needs.ensures c.deref-need-items.ensures.value
-    c.loop-need.need-index unread c.loop-need-test.true (map listed_clash_of c.loop-need.list.items) (map listed_clash_of c.note_need.new.clashes.items) c.loop-need.invariant
+    c.loop-need.need-index unread c.loop-need-test.true (map listed_clash_of c.loop-need.list.items) (map listed_clash_of c.note_need.new.clashes.items)
+    c.loop-need.invariant
     c.in_ok-note_need.ensures
 
 pub returns : goal.returns

@@ -18,5 +18,6 @@ noted c n old new members none blocks (Err e) h = tt
 pub returns-in_ok-members-in-None : goal.returns-in_ok-members-in-None
 returns-in_ok-members-in-None g c =
     let s = setting_of (model_of g.V.RowView.content c.args.scene.now) in
-    noted s c.args.need.now (map listed_clash_of c.args.clashes.now.items) (map listed_clash_of c.add_clash.new.clashes.items) c.in_ok-members-in-None.members.items
+    noted s c.args.need.now (map listed_clash_of c.args.clashes.now.items) (map listed_clash_of c.add_clash.new.clashes.items)
+    c.in_ok-members-in-None.members.items
     (subst (Picks s c.args.need.now) c.in-None.is c.in_ok-pick.ensures) c.in_ok-members-in-None.ensures c.add_clash.result c.add_clash.ensures

@@ -23,7 +23,8 @@ returns c =
     let l : Layer = layer_at c.args.map.now c.args.at in
     let d = saved_differences (stored_at l.marks c.args.mark) in
     let cells = c.as_slice.ensures.value ∙ c.in_ok-cells.ensures in
-    let agree : (q : CellId) → is_among (finite.keys l.current ++ finite.keys d) q ≡ false → row_at w.current q ≡ row_at (saved_content (mark_at w.marks c.args.mark)) q = λ q e.
+    let agree : (q : CellId) → is_among (finite.keys l.current ++ finite.keys d) q ≡ false →
+    row_at w.current q ≡ row_at (saved_content (mark_at w.marks c.args.mark)) q = λ q e.
     let parts = among_neither (finite.keys l.current) (finite.keys d) q e in
     sym (none_current c.args.live.now c.args.map.now c.args.at c.requires.child c.requires.within q (no_entry l.current q parts.0))
     ∙ sym (row-saved c.args.live.now c.args.map.now c.args.at c.requires.child c.requires.within c.args.mark c.requires.saved q

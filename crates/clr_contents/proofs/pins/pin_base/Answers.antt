@@ -1,6 +1,6 @@
 use Rattle.std.proofs.Common.{ap, sym, subst, ◌∙◌, ◌∷◌, [], List}
 use Rattle.std.specs.FinMap as finite
-use Rattle.clr_differences.specs.Differences.{Differences, HasEntry}
+use Rattle.clr_differences.specs.Differences.{Differences, HasDifference}
 use Rattle.clr_differences.proofs.DifferenceLemmas.{nothing_found}
 use Rattle.clr_layers.specs.Layers.{Layer, wholes, layer_at}
 use Rattle.clr_contents.specs.Pinning.{Extends, StayOwnBut}
@@ -9,7 +9,8 @@ use Rattle.clr_contents.proofs.pins.pin_base.Goals as goal
 
 pub returns-clause-seen : goal.returns-clause-seen
 returns-clause-seen c =
-    let none = ap (λ (d : Differences). finite.get d c.args.cell) (sym c.base.ensures) ∙ sym c.get.ensures ∙ nothing_found c.get.result (sym c.is_some.ensures ∙ c.if-is_some.false) in
+    let none = ap (λ (d : Differences). finite.get d c.args.cell) (sym c.base.ensures) ∙ sym c.get.ensures
+    ∙ nothing_found c.get.result (sym c.is_some.ensures ∙ c.if-is_some.false) in
     ap (wholes c.args.live.now) c.in_ok-put_base.ensures.ok
     ∙ base_pinned c.args.live.now c.args.map.now c.args.at c.requires.rooted c.requires.child c.requires.within c.parent_of-above.result c.args.cell
     c.in_ok-row.row c.parent_of-above.ensures.found c.parent_of-above.ensures.earlier none (c.in_ok-row.ensures ∙ c.row_of.ensures)
@@ -19,7 +20,7 @@ returns-clause-extends c = subst (Extends c.args.map.now) (sym c.in_ok-put_base.
     c.requires.within)
 
 pub returns-clause-pinned : goal.returns-clause-pinned
-returns-clause-pinned c = subst (λ (ls : List Layer). HasEntry (layer_at ls c.args.at).base c.args.cell) (sym c.in_ok-put_base.ensures.ok)
+returns-clause-pinned c = subst (λ (ls : List Layer). HasDifference (layer_at ls c.args.at).base c.args.cell) (sym c.in_ok-put_base.ensures.ok)
     (pinned_base c.args.map.now c.args.at c.args.cell c.in_ok-row.row c.requires.within)
 
 pub returns-clause-elsewhere : goal.returns-clause-elsewhere

@@ -10,7 +10,8 @@ loop-at-preserved c =
     let ws = wholes c.args.live.now c.args.map.now in
     let up = c.parent_of-at.ensures.earlier in
     let here = c.loop-at.invariant.within in
-    let step = depth_step ws c.loop-at.at c.parent_of-at.result c.requires.rooted (within_wholes c.args.live.now c.args.map.now c.loop-at.at here) c.parent_of-at.ensures.found up in
+    let step = depth_step ws c.loop-at.at c.parent_of-at.result c.requires.rooted (within_wholes c.args.live.now c.args.map.now c.loop-at.at here)
+    c.parent_of-at.ensures.found up in
     let few = c.loop-at.invariant.few in
     let rest = c.loop-at.invariant.rest in
     record { within = omega (arith, up, here); few = omega (arith, few, up); rest = omega (arith, step, rest) }

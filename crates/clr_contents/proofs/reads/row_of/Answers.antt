@@ -26,7 +26,8 @@ returns-in-Some-get c =
 pub loop-at-preserved : goal.loop-at-preserved
 loop-at-preserved c =
     let none = ap (λ (d : Differences). finite.get d c.args.cell) (sym c.current.ensures) ∙ sym c.get.ensures ∙ ap option_copied c.in_default.is in
-    let none_below = ap (λ (d : Differences). finite.get d c.args.cell) (sym c.base.ensures) ∙ sym c.get-in-loop-at.ensures ∙ ap option_copied c.in_default-get.is in
+    let none_below = ap (λ (d : Differences). finite.get d c.args.cell) (sym c.base.ensures) ∙ sym c.get-in-loop-at.ensures
+    ∙ ap option_copied c.in_default-get.is in
     record {
       within = let up = c.parent_of-at.ensures.earlier in let here = c.loop-at.invariant.within in omega arith;
       same = none_base c.args.live.now c.args.map.now c.loop-at.at (omega arith) c.loop-at.invariant.within _ c.parent_of-at.ensures.found

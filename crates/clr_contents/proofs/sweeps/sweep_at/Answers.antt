@@ -30,14 +30,17 @@ loop-one-preserved c =
     let cells = c.args.cells.now in
     let i = c.loop-one.invariant in
     let e = c.sweep_near.ensures in
-    let other : (j : ℕ) → j ≢ k → layer_at new j ≡ layer_at old j = λ j n. ap (λ (ns : List Layer). layer_at ns j) e.others ∙ get_or-set_other old k j _ no_layer n in
+    let other : (j : ℕ) → j ≢ k → layer_at new j ≡ layer_at old j = λ j n. ap (λ (ns : List Layer). layer_at ns j) e.others
+    ∙ get_or-set_other old k j _ no_layer n in
     record {
       seen = e.seen ∙ i.seen;
       long = ap (λ (ms : List Layer). length ms) e.others ∙ length-set old k _ ∙ i.long;
       lean = λ j some lt beside. ⊎_elim
           (λ (same : j ≡ k).
-          let here : IsLeanBeside (wholes live ls) at cells k (layer_at ls k) = subst (λ n. IsLeanBeside (wholes live ls) at cells n (layer_at ls n)) same beside in
-          let was : IsLeanBeside (wholes live old) at cells k (layer_at old k) = subst (λ (ws : List Workspace). IsLeanBeside ws at cells k (layer_at old k)) (sym i.seen) (subst (IsLeanBeside (wholes live ls) at cells k) (sym (i.later k (omega arith))) here) in
+          let here : IsLeanBeside (wholes live ls) at cells k (layer_at ls k) = subst (λ n. IsLeanBeside (wholes live ls) at cells n (layer_at ls n)) same
+          beside in
+          let was : IsLeanBeside (wholes live old) at cells k (layer_at old k) = subst (λ (ws : List Workspace). IsLeanBeside ws at cells k (layer_at old k))
+          (sym i.seen) (subst (IsLeanBeside (wholes live ls) at cells k) (sym (i.later k (omega arith))) here) in
           subst (λ n. IsLeanOver (wholes live ls) n (layer_at new n)) (sym same) (subst (λ (ws : List Workspace). IsLeanOver ws k (layer_at new k)) i.seen
           (e.lean was)))
           (λ (n : j ≢ k). subst (IsLeanOver (wholes live ls) j) (sym (other j n)) (i.lean j some (omega (arith, n, lt)) beside))

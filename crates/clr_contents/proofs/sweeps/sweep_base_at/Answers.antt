@@ -27,7 +27,8 @@ returns c =
     c.new.ensures ∙ ap (λ (ms : List Layer). (workspace_at (wholes live ms) c.parent_of-above.result).current) c.replace_base-base.ensures.new
     ∙ parent_stays live ls at c.requires.rooted c.requires.child c.requires.within c.new-none.result c.parent_of-above.result c.parent_of-above.ensures.found
     c.parent_of-above.ensures.earlier in
-    let is : c.sweep_at.new.self ≡ swept_at above c.args.cells.now stored.base = c.sweep_at.ensures ∙ (λ i. swept_at (seen i) c.args.cells.now (c.replace_base-base.ensures.before i)) in
+    let is : c.sweep_at.new.self ≡ swept_at above c.args.cells.now stored.base = c.sweep_at.ensures
+    ∙ (λ i. swept_at (seen i) c.args.cells.now (c.replace_base-base.ensures.before i)) in
     c.replace_base-none.ensures.new
     ∙ ap (λ (ms : List Layer). layer_changed ms at (λ l. record l { base = c.sweep_at.new.self })) c.replace_base-base.ensures.new
     ∙ set_again ls at out c.requires.within (λ l. record l { base = c.sweep_at.new.self })

@@ -25,7 +25,8 @@ returns c =
     let seen : c.new.result ≡ base =
     c.new.ensures ∙ ap (λ (ms : List Layer). (workspace_at (wholes live ms) at).base) c.replace_current-current.ensures.new
     ∙ base_stays live ls at c.requires.rooted c.requires.child c.requires.within out refl refl in
-    let is : c.sweep.new.self ≡ without_neutral base stored.current = c.sweep.ensures ∙ (λ i. without_neutral (seen i) (c.replace_current-current.ensures.before i)) in
+    let is : c.sweep.new.self ≡ without_neutral base stored.current = c.sweep.ensures
+    ∙ (λ i. without_neutral (seen i) (c.replace_current-current.ensures.before i)) in
     c.replace_current-none.ensures.new
     ∙ ap (λ (ms : List Layer). layer_changed ms at (λ l. record l { current = c.sweep.new.self })) c.replace_current-current.ensures.new
     ∙ set_again ls at out c.requires.within (λ l. record l { current = c.sweep.new.self })

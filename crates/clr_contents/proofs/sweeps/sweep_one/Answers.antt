@@ -27,7 +27,8 @@ returns-clause-seen c =
 
 pub returns-clause-lean : goal.returns-clause-lean
 returns-clause-lean c =
-    let here = here_three without_neutral swept_marks seen-swept seen-swept_marks c.args.live.now c.args.map.now c.args.at c.requires.rooted c.requires.child c.requires.within c.sweep_base.new.map c.sweep_base.ensures
+    let here = here_three without_neutral swept_marks seen-swept seen-swept_marks c.args.live.now c.args.map.now c.args.at c.requires.rooted c.requires.child
+    c.requires.within c.sweep_base.new.map c.sweep_base.ensures
     c.sweep_current.new.map c.sweep_current.ensures c.sweep_saved.new.map c.sweep_saved.ensures in
     subst (IsLeanOver (wholes c.args.live.now c.args.map.now) c.args.at) (sym here) (lean_swept c.args.live.now c.args.map.now c.args.at c.requires.rooted
     c.requires.child c.requires.within)

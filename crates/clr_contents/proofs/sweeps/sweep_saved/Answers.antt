@@ -26,7 +26,8 @@ returns c =
     let seen : c.new.result ≡ base =
     c.new.ensures ∙ ap (λ (ms : List Layer). (workspace_at (wholes live ms) at).base) c.replace_marks-marks.ensures.new
     ∙ base_stays live ls at c.requires.rooted c.requires.child c.requires.within out refl refl in
-    let is : c.sweep_each.new.marks.items ≡ swept_marks base stored.marks = c.sweep_each.ensures ∙ (λ i. swept_marks (seen i) (c.replace_marks-marks.ensures.before i)) in
+    let is : c.sweep_each.new.marks.items ≡ swept_marks base stored.marks = c.sweep_each.ensures
+    ∙ (λ i. swept_marks (seen i) (c.replace_marks-marks.ensures.before i)) in
     c.replace_marks-none.ensures.new
     ∙ ap (λ (ms : List Layer). layer_changed ms at (λ l. record l { marks = c.sweep_each.new.marks.items })) c.replace_marks-marks.ensures.new
     ∙ set_again ls at out c.requires.within (λ l. record l { marks = c.sweep_each.new.marks.items })

@@ -12,7 +12,8 @@ use Rattle.clr_contents.proofs.wholes.+whole_rows.Goals as goal
 pub returns-then-at-eq0 : goal.returns-then-at-eq0
 returns-then-at-eq0 n c =
     let zero : c.args.at ≡ 0 = omega arith in
-    let is = ap (λ k. (workspace_at (wholes c.args.live.now c.args.map.now) k).current) zero ∙ live-wholes c.args.live.now c.args.map.now (omega (arith, c.requires.within)) in
+    let is = ap (λ k. (workspace_at (wholes c.args.live.now c.args.map.now) k).current) zero
+    ∙ live-wholes c.args.live.now c.args.map.now (omega (arith, c.requires.within)) in
     subst (λ (m : Content). IfOk c.copy.result (λ sheet. sheet ≡ m)) (sym is) c.copy.ensures
 
 pub returns : goal.returns

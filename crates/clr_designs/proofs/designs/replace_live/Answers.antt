@@ -5,7 +5,7 @@ use Rattle.clr_rows.specs.Names.{live_name}
 use Rattle.clr_change.specs.declared.edits.Edit.{Edit}
 use Rattle.clr_steps.specs.declared.commands.Command.TheVariants as command
 use Rattle.clr_layer_changes.specs.Changes.{edits_between}
-use Rattle.clr_designs.specs.Designs.{IsPerformed}
+use Rattle.clr_designs.specs.Designs.{IsCommandAnswer}
 use Rattle.clr_designs.proofs.LiveLemmas.{live_replaced}
 use Rattle.clr_designs.proofs.designs.replace_live.Goals as goal
 
@@ -18,5 +18,5 @@ returns-clause-replaced c =
     IfOk-weaker c.apply_edits.result _ _
     (λ refused performed.
     live_replaced o content c.live.ensures.admitted.fit.rows c.requires left refused
-    (subst (λ (es : List Edit). IsPerformed o (command.Apply live_name es) refused left) edits performed))
+    (subst (λ (es : List Edit). IsCommandAnswer o (command.Apply live_name es) refused left) edits performed))
     c.apply_edits.ensures.performed

@@ -12,5 +12,6 @@ returns c =
     let root = c.args.root.now in
     let names = c.args.names.now in
     let asked : c.as_slice.result.now ≡ members_or_children o root names = search rules in
-    let given : map (λ text. text.now) c.as_slice-2.result.now ≡ members_or_children o root names = rw c.as_slice-2.ensures.value (c.in_ok-members.ensures ∙ asked) in
+    let given : map (λ text. text.now) c.as_slice-2.result.now ≡ members_or_children o root names =
+    rw c.as_slice-2.ensures.value (c.in_ok-members.ensures ∙ asked) in
     subst (λ (members : List Name). IfOk c.print_of_site.result (λ print. IsSitePrint (site root members) o (printed print))) given c.print_of_site.ensures

@@ -9,7 +9,8 @@ returns-in-Some c =
     let second = c.args.second.now in
     let line = c.in-Some.line in
     let tables = c.schema.result.now in
-    let told = of_found c.in_ok-line.field-0 line (λ l. IsShortCertificateFault tables second c.file_name.result.now l.items) c.in-Some.is c.in_ok-line.ensures.line in
+    let told = of_found c.in_ok-line.field-0 line (λ l. IsShortCertificateFault tables second c.file_name.result.now l.items) c.in-Some.is
+    c.in_ok-line.ensures.line in
     let named = subst (λ file. IsShortCertificateFault tables second file line.items) c.file_name.ensures told in
     in_certificate c.in-Ok.draft c.in-Ok.ensures (subst (λ t. IsShortCertificateFault t second (file_name c.args.files.now 1) line.items) c.schema.ensures.value
     named)

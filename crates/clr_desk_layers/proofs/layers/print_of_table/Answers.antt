@@ -5,5 +5,6 @@ use Rattle.clr_desk_layers.proofs.layers.print_of_table.Goals as goal
 
 pub returns-in-Some : goal.returns-in-Some
 returns-in-Some c =
-    let layer = subst (λ layer. IsTableLayer c.args.schema.now c.args.at c.args.content.now (option_map (λ text. text.items) layer)) c.in-Some.is c.in_ok-text.ensures in
+    let layer = subst (λ layer. IsTableLayer c.args.schema.now c.args.at c.args.content.now (option_map (λ text. text.items) layer)) c.in-Some.is
+    c.in_ok-text.ensures in
     of_layer c.in-Some.text.items layer c.of_text.ensures

@@ -12,7 +12,8 @@ abbrev second : Cell
 second = record { table = 1; key = pos 2 }
 
 -- where nothing was pending, a change of one cell leaves another without one
-still_free : {X : Type 0} (before after : finite.FinMap cell_cmp X) (x : X) → before ≡ finite.empty → after ≡ finite.insert before first x → finite.get after second ≡ None
+still_free : {X : Type 0} (before after : finite.FinMap cell_cmp X) (x : X) → before ≡ finite.empty → after ≡ finite.insert before first x →
+    finite.get after second ≡ None
 still_free before after x empty inserted = ap (λ pending. finite.get pending second) (inserted ∙ ap (λ pending. finite.insert pending first x) empty)
     ∙ finite.get-insert cell_cmp_total finite.empty first x second
     ∙ finite.get-empty cell_cmp second

@@ -11,11 +11,13 @@ returns-then-contains c =
     let spot = c.spot-item.result in
     let first = c.args.first.now in
     let second = c.args.second.now in
-    sym (any_by (λ x. list_any (λ y. same_spot y x) second) spot first (among spot first (c.loop-spot.spot-index, c.loop-spot-test.true, sym c.spot-item.is)) (sym c.contains.ensures.value ∙ c.if-contains.true))
+    sym (any_by (λ x. list_any (λ y. same_spot y x) second) spot first (among spot first (c.loop-spot.spot-index, c.loop-spot-test.true, sym c.spot-item.is))
+    (sym c.contains.ensures.value ∙ c.if-contains.true))
     ∙ common_turned first second
 
 pub returns : goal.returns
 returns c =
     let first = c.args.first.now in
     let second = c.args.second.now in
-    sym (subst (λ xs. some_in second xs ≡ false) (take_all c.loop-spot.spot-index first c.loop-spot-test.false) c.loop-spot.invariant) ∙ common_turned first second
+    sym (subst (λ xs. some_in second xs ≡ false) (take_all c.loop-spot.spot-index first c.loop-spot-test.false) c.loop-spot.invariant)
+    ∙ common_turned first second

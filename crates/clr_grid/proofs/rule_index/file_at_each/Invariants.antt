@@ -10,5 +10,6 @@ invariant-loop-rule l = record {
   only : GainOnly l.cell (Some l.spots) l.fn.rules.items l.rules.items;
   lean : AllHoldCells l.fn.rules.items → AllHoldCells l.rules.items;
   enough : length l.spots ≤ length l.rules.items;
-  filed : (n : ℕ) (y : RuleSpots) (k : Key) → n < l.rule → slice_get l.spots n ≡ Some y → has_key y k ≡ true → is_filed_under l.rules.items n y.may_serve k l.cell ≡ true;
+  filed : (n : ℕ) (y : RuleSpots) (k : Key) → n < l.rule → slice_get l.spots n ≡ Some y → has_key y k ≡ true →
+      is_filed_under l.rules.items n y.may_serve k l.cell ≡ true;
 }

@@ -11,14 +11,17 @@ pub loop-alloc-preserved : goal.loop-alloc-preserved
 loop-alloc-preserved c = record {
   kept = λ number serves k q e. subst (λ (xs : List RuleIndex). is_filed_under xs number serves k q ≡ true) (sym c.in_ok-push.ensures.items)
       (filed_append c.loop-alloc.rules.items c.new.result number serves k q (c.loop-alloc.invariant.kept number serves k q e));
-  only = λ number serves k q e. c.loop-alloc.invariant.only number serves k q (append_only c.loop-alloc.rules.items c.new.result c.new.ensures.none number serves k q
+  only = λ number serves k q e. c.loop-alloc.invariant.only number serves k q
+      (append_only c.loop-alloc.rules.items c.new.result c.new.ensures.none number serves k q
       (subst (λ (xs : List RuleIndex). is_filed_under xs number serves k q ≡ true) c.in_ok-push.ensures.items e));
-  lean = λ h. subst AllHoldCells (sym c.in_ok-push.ensures.items) (append_lean c.loop-alloc.rules.items c.new.result c.new.ensures.lean (c.loop-alloc.invariant.lean h));
+  lean = λ h. subst AllHoldCells (sym c.in_ok-push.ensures.items)
+      (append_lean c.loop-alloc.rules.items c.new.result c.new.ensures.lean (c.loop-alloc.invariant.lean h));
 }
 
 pub returns-in_err-push-clause-kept : goal.returns-in_err-push-clause-kept
 returns-in_err-push-clause-kept c number serves k q e =
-    subst (λ (xs : List RuleIndex). is_filed_under xs number serves k q ≡ true) (sym c.in_err-push.ensures.items) (c.loop-alloc.invariant.kept number serves k q e)
+    subst (λ (xs : List RuleIndex). is_filed_under xs number serves k q ≡ true) (sym c.in_err-push.ensures.items)
+    (c.loop-alloc.invariant.kept number serves k q e)
 
 pub returns-in_err-push-clause-only : goal.returns-in_err-push-clause-only
 returns-in_err-push-clause-only c number serves k q e =

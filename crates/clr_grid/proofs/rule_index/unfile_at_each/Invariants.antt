@@ -8,6 +8,7 @@ abbrev pub invariant-loop-rule : goal.invariant-loop-rule
 invariant-loop-rule l = record {
   kept : StayFiledBut l.cell (option_copied l.kept) l.fn.rules.items l.rules.items;
   fewer : GainNone l.fn.rules.items l.rules.items;
-  gone : (n : ℕ) (b : Bool) (k : Key) → n < l.rule → has_key_under (Some l.spots) n b k ≡ true → is_filed_under l.rules.items n b k l.cell ≡ true → has_key_under (option_copied l.kept) n b k ≡ true;
+  gone : (n : ℕ) (b : Bool) (k : Key) → n < l.rule → has_key_under (Some l.spots) n b k ≡ true → is_filed_under l.rules.items n b k l.cell ≡ true →
+      has_key_under (option_copied l.kept) n b k ≡ true;
   lean : AllHoldCells l.fn.rules.items → AllHoldCells l.rules.items;
 }

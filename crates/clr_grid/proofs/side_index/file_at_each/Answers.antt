@@ -46,4 +46,5 @@ pub returns-clause-kept : goal.returns-clause-kept
 returns-clause-kept c = c.loop-spot.invariant.kept
 
 pub returns-clause-filed : goal.returns-clause-filed
-returns-clause-filed c x e = c.loop-spot.invariant.filed x (ap (list_any (has_number x)) (take_all c.loop-spot.spot-index c.args.spots.now c.loop-spot-test.false) ∙ e)
+returns-clause-filed c x e = c.loop-spot.invariant.filed x
+    (ap (list_any (has_number x)) (take_all c.loop-spot.spot-index c.args.spots.now c.loop-spot-test.false) ∙ e)

@@ -23,10 +23,12 @@ loop-spot-preserved c =
     elim c.if-not-keeps_number.branch [
       | then-not-keeps_number w ↦ (let h : AtNumbers = get nat_eq w.take_at.new.by_spot in record {
         kept = λ x q p e. subst (λ (m : ByNumber). has_cell (get nat_eq m x) q ≡ true) (sym w.by_spot-is)
-            (taken_more f g h c.args.cell kept c.number_of-number.result (sym c.keeps_number.ensures ∙ w.if-not-keeps_number.true) w.take_at.ensures.kept before.kept x q p e);
+            (taken_more f g h c.args.cell kept c.number_of-number.result (sym c.keeps_number.ensures ∙ w.if-not-keeps_number.true) w.take_at.ensures.kept
+            before.kept x q p e);
         fewer = λ x q e. before.fewer x q (w.take_at.ensures.fewer x q (subst (λ (m : ByNumber). has_cell (get nat_eq m x) q ≡ true) w.by_spot-is e));
         lean = λ hold. subst HoldCells (sym w.by_spot-is) (w.take_at.ensures.lean (before.lean hold));
-        gone = λ x among e. gone_more g h c.args.cell kept c.args.spots.now c.loop-spot.spot-index s c.number_of-number.result c.loop-spot-test.true c.spot-item.is c.number_of-number.ensures w.take_at.ensures.fewer
+        gone = λ x among e. gone_more g h c.args.cell kept c.args.spots.now c.loop-spot.spot-index s c.number_of-number.result c.loop-spot-test.true
+            c.spot-item.is c.number_of-number.ensures w.take_at.ensures.fewer
             (λ there. absurd (false≢true (sym w.take_at.ensures.gone ∙ there))) before.gone x among
             (subst (λ (m : ByNumber). has_cell (get nat_eq m x) c.args.cell ≡ true) w.by_spot-is e);
       })
@@ -34,7 +36,8 @@ loop-spot-preserved c =
         kept = λ x q p e. subst (λ (m : ByNumber). has_cell (get nat_eq m x) q ≡ true) (sym w.by_spot-is) (before.kept x q p e);
         fewer = λ x q e. before.fewer x q (subst (λ (m : ByNumber). has_cell (get nat_eq m x) q ≡ true) w.by_spot-is e);
         lean = λ hold. subst HoldCells (sym w.by_spot-is) (before.lean hold);
-        gone = λ x among e. gone_more g g c.args.cell kept c.args.spots.now c.loop-spot.spot-index s c.number_of-number.result c.loop-spot-test.true c.spot-item.is c.number_of-number.ensures (λ y q there. there)
+        gone = λ x among e. gone_more g g c.args.cell kept c.args.spots.now c.loop-spot.spot-index s c.number_of-number.result c.loop-spot-test.true
+            c.spot-item.is c.number_of-number.ensures (λ y q there. there)
             (λ there. sym c.keeps_number.ensures ∙ w.if-not-keeps_number.false) before.gone x among
             (subst (λ (m : ByNumber). has_cell (get nat_eq m x) c.args.cell ≡ true) w.by_spot-is e);
       }
@@ -47,7 +50,8 @@ pub returns-clause-fewer : goal.returns-clause-fewer
 returns-clause-fewer c = c.loop-spot.invariant.fewer
 
 pub returns-clause-gone : goal.returns-clause-gone
-returns-clause-gone c x among = c.loop-spot.invariant.gone x (ap (list_any (has_number x)) (take_all c.loop-spot.spot-index c.args.spots.now c.loop-spot-test.false) ∙ among)
+returns-clause-gone c x among = c.loop-spot.invariant.gone x
+    (ap (list_any (has_number x)) (take_all c.loop-spot.spot-index c.args.spots.now c.loop-spot-test.false) ∙ among)
 
 pub returns-clause-lean : goal.returns-clause-lean
 returns-clause-lean c = c.loop-spot.invariant.lean

@@ -3,7 +3,7 @@ use Rattle.std.specs.FinMap as finite
 use Rattle.std.specs.Option.{option_map}
 use Rattle.std.specs.Map.Iter.{deref_pair}
 use Rattle.std.proofs.lemmas.Map.Iter.{rest_all, rest_more}
-use Rattle.clr_grid.specs.RowMaps.{Rows}
+use Rattle.clr_grid.specs.RowMaps.{FiledRows}
 use Rattle.clr_kept_finders.proofs.Indexes.{content_row, row_kept}
 use Rattle.clr_kept_finders.proofs.Noting.{AreLeft, all_left, next_among, next_free, none_left, one_noted}
 use Rattle.clr_kept_finders.proofs.finders.finder_of.Goals as goal
@@ -13,9 +13,9 @@ loop-cell-init c =
     let all = finite.entries c.args.rows.now in
     let same = c.into_iter-cell-iterator.ensures.into_iter_gives ∙ c.iter-cell-items.ensures.rest in
     record {
-      pending = ap (λ (r : Rows). r.pending) c.new-finder.ensures;
+      pending = ap (λ (r : FiledRows). r.pending) c.new-finder.ensures;
       left = all_left (row_kept c.args.book.now) all c.into_iter-cell-iterator.result c.new-finder.result.settled (finite.entries_sorted c.args.rows.now) same
-          (ap (λ (r : Rows). r.settled) c.new-finder.ensures);
+          (ap (λ (r : FiledRows). r.settled) c.new-finder.ensures);
     }
 
 pub with_row-requires-clause-fit : goal.with_row-requires-clause-fit
@@ -24,7 +24,8 @@ with_row-requires-clause-fit c =
     let rest = rest_more deref_pair c.loop-cell.cell-iterator left c.next.result (c.in-Some.cell, c.in-Some.row) c.in-Some.is c.next.ensures.steps in
     let all = finite.entries c.args.rows.now in
     let kept = row_kept c.args.book.now in
-    let is = next_among kept all left c.in-Some.cell.now c.in-Some.row.now c.loop-cell.finder.settled (subst (λ es. AreLeft kept all es c.loop-cell.finder.settled) rest c.loop-cell.invariant.left) in
+    let is = next_among kept all left c.in-Some.cell.now c.in-Some.row.now c.loop-cell.finder.settled
+    (subst (λ es. AreLeft kept all es c.loop-cell.finder.settled) rest c.loop-cell.invariant.left) in
     content_row c.args.book.now c.args.rows.now c.requires c.in-Some.cell.now c.in-Some.row.now (finite.get-entries c.args.rows.now c.in-Some.cell.now ∙ is)
 
 pub with_row-requires-clause-free : goal.with_row-requires-clause-free
@@ -43,10 +44,10 @@ loop-cell-preserved c =
     let all = finite.entries c.args.rows.now in
     let kept = row_kept c.args.book.now in
     record {
-      pending = ap (λ (r : Rows). r.pending) c.in_ok-finder.ensures ∙ c.loop-cell.invariant.pending;
+      pending = ap (λ (r : FiledRows). r.pending) c.in_ok-finder.ensures ∙ c.loop-cell.invariant.pending;
       left = one_noted kept all left c.in-Some.cell.now c.in-Some.row.now c.loop-cell.finder.settled
           (subst (λ es. AreLeft kept all es c.loop-cell.finder.settled) rest c.loop-cell.invariant.left)
-          _ (ap (λ (r : Rows). r.settled) c.in_ok-finder.ensures);
+          _ (ap (λ (r : FiledRows). r.settled) c.in_ok-finder.ensures);
     }
 
 pub returns : goal.returns

@@ -26,7 +26,8 @@ note-requires-clause-fit c =
     let rest = rest_more deref_pair c.loop-cell.cell-iterator left c.next.result (c.in-Some.cell, c.in-Some.change) c.in-Some.is c.next.ensures.steps in
     let all = finite.entries c.args.changed.now in
     let noted = spots_after c.args.book.now in
-    let is = next_among noted all left c.in-Some.cell.now c.in-Some.change.now c.loop-cell.finder.pending (subst (λ es. AreLeft noted all es c.loop-cell.finder.pending) rest c.loop-cell.invariant.left) in
+    let is = next_among noted all left c.in-Some.cell.now c.in-Some.change.now c.loop-cell.finder.pending
+    (subst (λ es. AreLeft noted all es c.loop-cell.finder.pending) rest c.loop-cell.invariant.left) in
     subst (λ row. FitTogether c.args.book.now (rows_at c.in-Some.cell.now row)) (sym c.as_ref.ensures.value)
     (c.requires.fit c.in-Some.cell.now c.in-Some.change.now (finite.get-entries c.args.changed.now c.in-Some.cell.now ∙ is))
 

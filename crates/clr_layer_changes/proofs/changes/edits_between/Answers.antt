@@ -28,5 +28,6 @@ returns-clause-leads c =
     let base = c.args.base.now in
     let current = c.args.current.now in
     let items = c.loop-cell.edits.items in
-    let edits : items ≡ edits_between base current = sym (append-nil items) ∙ ap (λ (es : List (CellId × Change)). items ++ map edit_of es) (sym c.in-None.ensures.steps.0) ∙ c.loop-cell.invariant in
+    let edits : items ≡ edits_between base current = sym (append-nil items) ∙ ap (λ (es : List (CellId × Change)). items ++ map edit_of es)
+    (sym c.in-None.ensures.steps.0) ∙ c.loop-cell.invariant in
     subst (λ (es : List Edit). after_edits base es ≡ current) (sym (c.new.ensures ∙ edits)) (edits_lead base current)

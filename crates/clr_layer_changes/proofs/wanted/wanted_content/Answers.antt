@@ -38,7 +38,8 @@ returns-in-Err c =
     let same : c.loop-i.i ≡ 0 + c.loop-i.i = omega arith in
     let why : FaultyLayer = record { layer = c.loop-i.i; number = c.in-Err.number; fault = c.in-Err.fault } in
     let refused : f c.loop-i.i c.loop-i.content layer ≡ Err why = ap (at_layer c.loop-i.i) (rw c.in-Err.is at c.in_ok-put.ensures) in
-    let read = sym (stops f 0 c.loop-i.i c.loop-i.content why layer layers (wanted c.args.schema.now c.args.live.now c.args.options layers) c.loop-i-test.true c.index-layers-i.is
+    let read = sym (stops f 0 c.loop-i.i c.loop-i.content why layer layers (wanted c.args.schema.now c.args.live.now c.args.options layers) c.loop-i-test.true
+    c.index-layers-i.is
     (subst (λ n. f n c.loop-i.content layer ≡ Err why) same refused) c.loop-i.invariant) in
     record { content = read; fit = λ fits. tt }
 
@@ -46,5 +47,6 @@ pub returns : goal.returns
 returns c =
     let layers = c.args.layers.now in
     let f = with_layer_at c.args.schema.now c.args.live.now c.args.options layers in
-    let read = ends f 0 c.loop-i.i c.loop-i.content layers (wanted c.args.schema.now c.args.live.now c.args.options layers) c.loop-i-test.false c.loop-i.invariant in
+    let read = ends f 0 c.loop-i.i c.loop-i.content layers (wanted c.args.schema.now c.args.live.now c.args.options layers) c.loop-i-test.false
+    c.loop-i.invariant in
     record { content = sym read; fit = λ fits. wanted_fits c.args.schema.now c.args.live.now c.args.options layers c.loop-i.content fits read }

@@ -27,7 +27,8 @@ returns-in_err-add_counts-clause-begun c =
     let names = names_text c.args.name.now c.args.parent.now in
     let counts = counts_text c.args.changes c.args.conflicts in
     let kept = kept_text c.args.is_kept in
-    let counted = begun_behind old names counts c.add_names.new.lines.items c.add_counts.new.lines.items c.in_ok-add_names.ensures.ok c.in_err-add_counts.ensures.begun in
+    let counted = begun_behind old names counts c.add_names.new.lines.items c.add_counts.new.lines.items c.in_ok-add_names.ensures.ok
+    c.in_err-add_counts.ensures.begun in
     begun_before old (names ++ counts ++ kept) (codes "\n") _ (begun_before old (names ++ counts) kept _ counted)
 
 pub returns-in_err-extend_from_slice-clause-begun : goal.returns-in_err-extend_from_slice-clause-begun

@@ -11,7 +11,8 @@ returns-in_ok-verdict_output-in-Ok c =
     let check = c.in-Ok.check in
     let output = c.in_ok-verdict_output-in-Ok.field-0 in
     let made = c.in_ok-verdict_output-in-Ok.ensures in
-    let lines : output.lines.items ≡ verdict_text check.office.schema check.certificate.members check.certificate.root check.verdict = rw (← c.schema.ensures.value) made.lines in
+    let lines : output.lines.items ≡ verdict_text check.office.schema check.certificate.members check.certificate.root check.verdict =
+    rw (← c.schema.ensures.value) made.lines in
     case_made IsVerdictOutcome given check.office check.office check.certificate output c.in-Ok.ensures.case
     (checked check.office check.certificate check.verdict output lines made.refused made.lost c.in-Ok.ensures.verdict)
 

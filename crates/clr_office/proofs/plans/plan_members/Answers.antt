@@ -23,6 +23,8 @@ returns c =
       exact = subst (λ (members : List Name). IsExact o (site root members) p) given c.plan-plan.ensures.exact;
     } in
     let lines = c.in_ok-lines.lines.items in
-    let named : lines ≡ plan_text c.schema.result.now names root p = subst (λ (members : List Name). lines ≡ plan_text c.schema.result.now members root p) again c.in_ok-lines.ensures in
-    let shown : lines ≡ plan_text o.schema names root p = subst (λ (tables : List TableDef). lines ≡ plan_text tables names root p) c.schema.ensures.value named in
+    let named : lines ≡ plan_text c.schema.result.now names root p = subst (λ (members : List Name). lines ≡ plan_text c.schema.result.now members root p) again
+    c.in_ok-lines.ensures in
+    let shown : lines ≡ plan_text o.schema names root p = subst (λ (tables : List TableDef). lines ≡ plan_text tables names root p) c.schema.ensures.value
+    named in
     (p, all, parts_are o _ _ _ _ _ _ shown (ap not c.is_cleared.ensures) c.is_out_of_memory.ensures)

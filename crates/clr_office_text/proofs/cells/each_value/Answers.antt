@@ -7,7 +7,7 @@ use Rattle.clr_office_text.proofs.cells.each_value.Goals as goal
 
 pub returns-in_err-one : goal.returns-in_err-one
 returns-in_err-one g c =
-    let p = err_from_is_err_and c.from_residual.result c.from_residual.ensures.1 in
+    let p = err_from_is_err_and c.from_residual-in_err-one.result c.from_residual-in_err-one.ensures.1 in
     rw (p.1, p.2) (ends g.J.JsonValue.stands_for value_of c.in_err-one.field-0.0 c.loop-item.values.items c.args.items.now c.loop-item.item-index _
     (each value_of (items_seen g.J.JsonValue.stands_for c.args.items.now)) c.loop-item-test.true c.item-item.is c.in_err-one.ensures c.loop-item.invariant)
 

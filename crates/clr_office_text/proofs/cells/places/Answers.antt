@@ -5,7 +5,7 @@ use Rattle.clr_office_text.proofs.cells.places.Goals as goal
 
 pub returns-in_err-one : goal.returns-in_err-one
 returns-in_err-one g c =
-    let e = err_from_is_err_and c.from_residual.result c.from_residual.ensures.1 in
+    let e = err_from_is_err_and c.from_residual-in_err-one.result c.from_residual-in_err-one.ensures.1 in
     let two : 2 ≤ length c.loop-rest.rest.now = omega (arith, c.in-len2-up.len_at_least) in
     rw (e.1, e.2) (stops g.J.JsonValue.stands_for c.in_err-one.field-0.0 c.loop-rest.places.items c.loop-rest.rest.now _ _ _ two c.x-item.is c.y-item.is
     c.in_err-one.ensures c.loop-rest.invariant)

@@ -33,5 +33,6 @@ returns-in_default-clause-value c = of_no_text c.args.bytes.now c.in_default.ens
 pub returns-clause-value : goal.returns-clause-value
 returns-clause-value c =
     let text = c.in-Ok.ensures.cases in
-    let found : value_if_read (read c.args.bytes.now) ≡ Ok (seen c.in_ok-json.json) = subst (λ s. value_if_read (read s) ≡ Ok (seen c.in_ok-json.json)) text.0 c.in_ok-json.ensures in
+    let found : value_if_read (read c.args.bytes.now) ≡ Ok (seen c.in_ok-json.json) = subst (λ s. value_if_read (read s) ≡ Ok (seen c.in_ok-json.json)) text.0
+    c.in_ok-json.ensures in
     rw (of_text c.args.bytes.now text.1, found) c.office.ensures.value

@@ -29,7 +29,8 @@ returns-clause-ok c =
     let all = extends_both ls bs hs d.extends later in
     let rooted = subst IsRooted (sym seen) c.requires.rooted in
     let parent = subst (λ (vs : List Workspace). parent_of vs at ≡ Some c.args.above) (sym seen) c.requires.parent in
-    let children = subst (λ n. ChildrenPin hs n (c.args.cell ∷ [])) (sym (all.each at).name) (children_keep bs hs (layer_at ls at).name (c.args.cell ∷ []) later d.children) in
+    let children = subst (λ n. ChildrenPin hs n (c.args.cell ∷ [])) (sym (all.each at).name)
+    (children_keep bs hs (layer_at ls at).name (c.args.cell ∷ []) later d.children) in
     ap (wholes live) c.move_row.ensures
     ∙ row_set live hs at rooted c.requires.child (omega (arith, c.requires.within, all.long)) c.args.above parent c.requires.earlier c.args.cell c.args.row
     children ((f.extends.each at).current c.args.cell e.pinned) f.pinned

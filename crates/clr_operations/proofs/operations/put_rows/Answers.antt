@@ -53,7 +53,8 @@ returns-clause-ok c =
     let both = extends_both ls gs hs e.extends f.extends in
     let cells = c.as_slice-2.ensures.value ∙ c.in_ok-cells.ensures ∙ ap cells_in c.as_slice.ensures.value in
     let held : ChildrenPin gs name (cells_in rows) = subst (λ (qs : List CellId). ChildrenPin gs name qs) cells e.children in
-    let more : ChildrenPin hs (layer_at hs c.args.at).name (cells_in rows) = subst (λ n. ChildrenPin hs n (cells_in rows)) (sym (both.each c.args.at).name) (children_keep gs hs name (cells_in rows) f.extends held) in
+    let more : ChildrenPin hs (layer_at hs c.args.at).name (cells_in rows) = subst (λ n. ChildrenPin hs n (cells_in rows)) (sym (both.each c.args.at).name)
+    (children_keep gs hs name (cells_in rows) f.extends held) in
     ap (wholes c.args.live.now) c.set_current.ensures
     ∙ put c.args.live.now hs c.args.at (subst IsRooted (sym seen) c.requires.rooted) (omega arith) (omega (arith, c.requires.within, both.long)) rows more
     ∙ ap (λ ws. put_into ws c.args.at rows) seen
@@ -111,7 +112,8 @@ returns-clause-elsewhere c =
     let hs = c.pin_own.new.map in
     let rows = c.args.rows.items in
     let both = extends_both ls gs hs c.in_ok-pin_children.ensures.extends c.in_ok-pin_own.ensures.extends in
-    let put = subst (StayOwnBut c.args.at (cells_in rows) hs) (sym c.set_current.ensures) (but_put hs c.args.at rows (omega (arith, c.requires.within, both.long))) in
+    let put = subst (StayOwnBut c.args.at (cells_in rows) hs) (sym c.set_current.ensures)
+    (but_put hs c.args.at rows (omega (arith, c.requires.within, both.long))) in
     near_own c.args.at (cells_in rows) (cells_in rows) ls hs c.set_current.new.self refl
     (near_own c.args.at (cells_in rows) _ ls gs hs again (near_children c.args.at (cells_in rows) _ ls gs cells c.pin_children.ensures.elsewhere)
     c.pin_own.ensures.elsewhere) put

@@ -26,7 +26,8 @@ refresh_base-done-requires-clause-cells c =
     let new = c.in_ok-new.ensures ∙ ap cells_in c.as_slice.ensures.value in
     let base = c.in_ok-base.ensures ∙ ap (λ (d : Differences). finite.keys d) c.base.ensures in
     let old = c.in_ok-old.ensures ∙ ap (λ (d : Differences). finite.keys d) c.current.ensures in
-    let held : c.as_slice-2.result.now ++ c.as_slice-3.result.now ≡ finite.keys under ++ finite.keys now = λ i. (c.as_slice-2.ensures.value ∙ base) i ++ (c.as_slice-3.ensures.value ∙ old) i in
+    let held : c.as_slice-2.result.now ++ c.as_slice-3.result.now ≡ finite.keys under ++ finite.keys now = λ i. (c.as_slice-2.ensures.value ∙ base) i
+    ++ (c.as_slice-3.ensures.value ∙ old) i in
     let rest = c.as_slice-5.ensures.value ∙ c.in_ok-held.ensures ∙ held in
     c.as_slice-6.ensures.value ∙ c.in_ok-cells.ensures ∙ (λ i. (c.as_slice-4.ensures.value ∙ new) i ++ rest i)
 
@@ -64,13 +65,15 @@ returns-clause-lean c = λ lean.
     let new = c.in_ok-new.ensures ∙ ap cells_in (c.as_slice.ensures.value ∙ after) in
     let base = c.in_ok-base.ensures ∙ ap (λ (d : Differences). finite.keys d) c.base.ensures in
     let old = c.in_ok-old.ensures ∙ ap (λ (d : Differences). finite.keys d) c.current.ensures in
-    let held : c.as_slice-2.result.now ++ c.as_slice-3.result.now ≡ finite.keys under ++ finite.keys now = λ i. (c.as_slice-2.ensures.value ∙ base) i ++ (c.as_slice-3.ensures.value ∙ old) i in
+    let held : c.as_slice-2.result.now ++ c.as_slice-3.result.now ≡ finite.keys under ++ finite.keys now = λ i. (c.as_slice-2.ensures.value ∙ base) i
+    ++ (c.as_slice-3.ensures.value ∙ old) i in
     let rest = c.as_slice-5.ensures.value ∙ c.in_ok-held.ensures ∙ held in
     let joined : c.as_slice-4.result.now ++ c.as_slice-5.result.now ≡ all = λ i. (c.as_slice-4.ensures.value ∙ new) i ++ rest i in
     let cells = c.as_slice-7.ensures.value ∙ c.in_ok-cells.ensures ∙ joined in
     let moved = c.as_slice-6.ensures.value ∙ c.in_ok-cells.ensures ∙ joined in
     let stay = subst (λ (qs : List CellId). StayOwnButNear at qs ls ms) moved e.elsewhere in
-    let none : (q : CellId) → is_among all q ≡ false → (is_among (cells_in rows) q ≡ false) × ((finite.get under q ≡ None) × (finite.get now q ≡ None)) = λ q apart.
+    let none : (q : CellId) → is_among all q ≡ false → (is_among (cells_in rows) q ≡ false) × ((finite.get under q ≡ None) × (finite.get now q ≡ None)) =
+    λ q apart.
     let one = among_neither (cells_in rows) (finite.keys under ++ finite.keys now) q apart in
     let two = among_neither (finite.keys under) (finite.keys now) q one.1 in (one.0, (no_entry under q two.0, no_entry now q two.1)) in
     let but : IsLeanBut at all live ms = either c.refresh_base-done.result _ _ _

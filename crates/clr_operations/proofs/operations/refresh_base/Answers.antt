@@ -45,7 +45,8 @@ returns-clause-ok c =
     let named = c.new-name.ensures ∙ c.in_ok-from_str.ensures.ok ∙ c.name_at.ensures ∙ sym (name-wholes live ls at) in
     let end = ap (wholes live) c.in_ok-move_mark.ensures.ok ∙ moved_is live hs p child rooted p_in ∙ (λ i. change_marks (h.seen i) p (mark_last (named i))) in
     let same_name = (more.each at).name ∙ (h.extends.each at).name in
-    let keep = λ (qs : List CellId). λ (held : ChildrenPin hs (layer_at ls at).name qs). subst (λ n. ChildrenPin gs n qs) (sym same_name) (children_keep hs gs (layer_at ls at).name qs more held) in
+    let keep = λ (qs : List CellId). λ (held : ChildrenPin hs (layer_at ls at).name qs). subst (λ n. ChildrenPin gs n qs) (sym same_name)
+    (children_keep hs gs (layer_at ls at).name qs more held) in
     let name = (layer_at ls at).name in
     let base = finite.keys (layer_at ls at).base in
     let old = finite.keys (layer_at ls at).current in
@@ -116,7 +117,8 @@ returns-clause-elsewhere c =
     let p_in : p < length hs = omega (arith, c.requires.within, c.requires.earlier, long) in
     let more : Extends hs gs = subst (Extends hs) (sym c.in_ok-move_mark.ensures.ok) (moved_extends hs p c.new-name.result p_in) in
     let moved : StayOwnBut p [] hs gs = subst (StayOwnBut p [] hs) (sym c.in_ok-move_mark.ensures.ok) (but_mark_moved hs p c.new-name.result p_in) in
-    let none : (q : CellId) → is_among all q ≡ false → (is_among (cells_in c.args.rows.items) q ≡ false) × (finite.get (layer_at ls at).base q ≡ None) = λ q apart.
+    let none : (q : CellId) → is_among all q ≡ false → (is_among (cells_in c.args.rows.items) q ≡ false) × (finite.get (layer_at ls at).base q ≡ None) =
+    λ q apart.
     let base = finite.keys (layer_at ls at).base in
     let old = finite.keys (layer_at ls at).current in
     let both = among_neither (cells_in c.args.rows.items) (base ++ old) q (ap (λ (qs : List CellId). is_among qs q) (sym c.requires.cells) ∙ apart) in

@@ -41,7 +41,8 @@ returns-clause-lean c = λ lean.
     let none = c.requires.leaf in
     let up = c.parent_of-above.ensures.earlier in
     let left = c.remove-name.ensures.gone in
-    let rooted : IsRooted (wholes live (remove ls at)) = subst IsRooted (sym (gone live ls at p r some lt none up)) (rooted_removed ws at r some (within_wholes live ls at lt) (no_child_whole live ls at none)) in
+    let rooted : IsRooted (wholes live (remove ls at)) = subst IsRooted (sym (gone live ls at p r some lt none up))
+    (rooted_removed ws at r some (within_wholes live ls at lt) (no_child_whole live ls at none)) in
     let one = lean_dropped live (remove ls at) p _ rooted (parent_left live ls at p r some lt none up) (lean_removed live ls at p r some lt none up lean) in
     subst (IsLean live) (sym (c.drop_mark_of.ensures
     ∙ ap (λ (ms : List Layer). layer_changed ms p (λ l. record l { marks = stored_without_mark_of c.as_str.result.now l.marks })) left)) one

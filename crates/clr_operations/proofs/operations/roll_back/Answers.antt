@@ -40,10 +40,13 @@ returns-clause-ok c =
     let old = (layer_at ls at).current in
     let name = (layer_at hs at).name in
     let cells = c.requires.cells ∙ ap (λ (x : Differences). finite.keys x ++ finite.keys old) c.requires.differences in
-    let held : ChildrenPin hs name (finite.keys d ++ finite.keys old) = subst (λ n. ChildrenPin hs n (finite.keys d ++ finite.keys old)) (sym (e.extends.each at).name) (subst (λ (qs : List CellId). ChildrenPin hs (layer_at ls at).name qs) cells e.children) in
+    let held : ChildrenPin hs name (finite.keys d ++ finite.keys old) = subst (λ n. ChildrenPin hs n (finite.keys d ++ finite.keys old))
+    (sym (e.extends.each at).name) (subst (λ (qs : List CellId). ChildrenPin hs (layer_at ls at).name qs) cells e.children) in
     let both = children_both hs name (finite.keys d) (finite.keys old) held in
     let rooted = subst IsRooted (sym e.seen) c.requires.rooted in
-    let was : (workspace_at (wholes live hs) at).current ≡ seen_over (workspace_at (wholes live hs) at).base old = subst (λ (vs : List Workspace). (workspace_at vs at).current ≡ seen_over (workspace_at vs at).base old) (sym e.seen) (current-wholes live ls at c.requires.child lt) in
+    let was : (workspace_at (wholes live hs) at).current ≡ seen_over (workspace_at (wholes live hs) at).base old =
+    subst (λ (vs : List Workspace). (workspace_at vs at).current ≡ seen_over (workspace_at vs at).base old) (sym e.seen)
+    (current-wholes live ls at c.requires.child lt) in
     let marks = marks-wholes live ls at c.requires.child lt in
     ap (wholes live) c.roll_to.ensures
     ∙ (λ k. wholes live (layer_changed hs at (λ l. record l { current = c.requires.differences k; marks = take (suc i) l.marks })))

@@ -1,7 +1,7 @@
 use Rattle.std.proofs.Common.{◌≡◌, ℕ, suc, ◌+◌, ◌<◌, take, length, map, ap, sym, ◌∙◌, subst, arith}
 use Rattle.std.proofs.lemmas.List.{length-map}
 use Rattle.clr_layers.specs.Layers.{wholes}
-use Rattle.clr_parts.specs.Parts.{workspace_of, list_of, name_fault_at, first_name_fault, IsRefused}
+use Rattle.clr_parts.specs.Parts.{workspace_of, list_of, name_fault_at, first_name_fault, IsFirstPartFault}
 use Rattle.clr_workspaces.specs.Roots.{IsRooted}
 use Rattle.clr_layers.proofs.Meaning.{root_made}
 use Rattle.clr_parts.proofs.FaultLemmas.{below_none, below_next, below_all, length-parts, shaped_take}
@@ -28,7 +28,7 @@ returns-in-Err-clause-refused c =
     let wrong = name_fault_at (list_of c.args.live.now parts) in
     let many = length-map parts workspace_of in
     let lt : c.loop-at.at < length (map workspace_of parts) = omega (arith, many) in
-    subst (λ n. IsRefused (first_name_fault c.args.live.now (map workspace_of parts)) (n, c.in-Err.fault)) (sym c.number_of.ensures)
+    subst (λ n. IsFirstPartFault (first_name_fault c.args.live.now (map workspace_of parts)) (n, c.in-Err.fault)) (sym c.number_of.ensures)
     (refused_at wrong c.loop-at.at (length (map workspace_of parts)) c.in-Err.fault lt c.loop-at.invariant.clear c.in-Err.ensures.refused)
 
 pub loop-at-preserved : goal.loop-at-preserved

@@ -22,6 +22,7 @@ pub returns-in-Ok-clause-ok : goal.returns-in-Ok-clause-ok
 returns-in-Ok-clause-ok c =
     let live = c.args.live.now in
     let ls = c.args.map.now in
-    let layer : layer_of (c.into_string.result, c.args.part.layer) ≡ stored_layer c.args.part = ap (λ (name : Name). layer_under name c.args.part.layer) c.into_string.ensures in
+    let layer : layer_of (c.into_string.result, c.args.part.layer) ≡ stored_layer c.args.part =
+    ap (λ (name : Name). layer_under name c.args.part.layer) c.into_string.ensures in
     ap (wholes live) c.in-Ok.ensures.ok ∙ ap (λ (l : Layer). wholes live (ls ++ l ∷ [])) layer
     ∙ wholes-push live ls (stored_layer c.args.part) (let some = c.requires.filled in let same = length-wholes live ls in omega (arith, some, same))

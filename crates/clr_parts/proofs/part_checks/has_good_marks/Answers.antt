@@ -31,7 +31,8 @@ pub returns-then-not-has_good_savepoints : goal.returns-then-not-has_good_savepo
 returns-then-not-has_good_savepoints c =
     let ws = wholes c.args.live.now c.args.map.now in
     let l = layer_at c.args.map.now c.args.at in
-    let saved = ap (λ (ms : List StoredMark). are_good_savepoints (saved_names (bare_marks ms))) (sym c.marks-marks.ensures) ∙ sym c.has_good_savepoints.ensures ∙ c.if-not-has_good_savepoints.true in
+    let saved = ap (λ (ms : List StoredMark). are_good_savepoints (saved_names (bare_marks ms))) (sym c.marks-marks.ensures) ∙ sym c.has_good_savepoints.ensures
+    ∙ c.if-not-has_good_savepoints.true in
     sym (bare c.args.live.now c.args.map.now c.args.at c.requires.child c.requires.within ∙ ap (λ b. b && has_child_marks ws l.name (bare_marks l.marks)) saved)
 
 pub returns-then-not-are_childrens : goal.returns-then-not-are_childrens
@@ -49,7 +50,8 @@ pub returns : goal.returns
 returns c =
     let ws = wholes c.args.live.now c.args.map.now in
     let l = layer_at c.args.map.now c.args.at in
-    let saved = ap (λ (ms : List StoredMark). are_good_savepoints (saved_names (bare_marks ms))) (sym c.marks-marks.ensures) ∙ sym c.has_good_savepoints.ensures ∙ c.if-not-has_good_savepoints.false in
+    let saved = ap (λ (ms : List StoredMark). are_good_savepoints (saved_names (bare_marks ms))) (sym c.marks-marks.ensures) ∙ sym c.has_good_savepoints.ensures
+    ∙ c.if-not-has_good_savepoints.false in
     let childs = all_map bare_mark (is_childs ws l.name) l.marks
     ∙ sym (λ i. list_all (λ m. is_childs ws (c.name_at-name.ensures i) (bare_mark m)) (c.marks-marks.ensures i)) ∙ sym c.are_childrens.ensures
     ∙ c.if-not-are_childrens.false in

@@ -26,8 +26,10 @@ returns-then-not-has_new_name c =
     let m = c.index-marks-i.result in
     let next : i + 1 ≡ suc i = omega arith in
     let left = drop_at ms i m (omega arith) ∙ ap (λ x. x ∷ drop (suc i) ms) (sym c.index-marks-i.is) in
-    let new = ap (λ (xs : List StoredMark). has_new_name (bare_mark m) (bare_marks xs)) (ap (λ n. drop n ms) (sym next) ∙ sym (rest_is ms (i + 1))) ∙ sym c.has_new_name.ensures ∙ c.if-not-has_new_name.true in
-    let none : are_new (bare_marks ms) ≡ false = sym c.loop-i.invariant ∙ ap (λ (xs : List StoredMark). are_new (bare_marks xs)) left ∙ not_new (bare_mark m) (bare_marks (drop (suc i) ms)) new in
+    let new = ap (λ (xs : List StoredMark). has_new_name (bare_mark m) (bare_marks xs)) (ap (λ n. drop n ms) (sym next) ∙ sym (rest_is ms (i + 1)))
+    ∙ sym c.has_new_name.ensures ∙ c.if-not-has_new_name.true in
+    let none : are_new (bare_marks ms) ≡ false = sym c.loop-i.invariant ∙ ap (λ (xs : List StoredMark). are_new (bare_marks xs)) left
+    ∙ not_new (bare_mark m) (bare_marks (drop (suc i) ms)) new in
     sym (good_from (bare_marks ms) ∙ ap (λ b. b && nat_le (saved_count (bare_marks ms)) MOST_SAVEPOINTS) none)
 
 pub loop-i-preserved : goal.loop-i-preserved
@@ -37,7 +39,8 @@ loop-i-preserved c =
     let m = c.index-marks-i.result in
     let next : i + 1 ≡ suc i = omega arith in
     let left = drop_at ms i m (omega arith) ∙ ap (λ x. x ∷ drop (suc i) ms) (sym c.index-marks-i.is) in
-    let new = ap (λ (xs : List StoredMark). has_new_name (bare_mark m) (bare_marks xs)) (ap (λ n. drop n ms) (sym next) ∙ sym (rest_is ms (i + 1))) ∙ sym c.has_new_name.ensures ∙ c.if-not-has_new_name.false in
+    let new = ap (λ (xs : List StoredMark). has_new_name (bare_mark m) (bare_marks xs)) (ap (λ n. drop n ms) (sym next) ∙ sym (rest_is ms (i + 1)))
+    ∙ sym c.has_new_name.ensures ∙ c.if-not-has_new_name.false in
     ap (λ n. are_new (bare_marks (drop n ms))) next ∙ sym (new_skip (bare_mark m) (bare_marks (drop (suc i) ms)) new)
     ∙ ap (λ (xs : List StoredMark). are_new (bare_marks xs)) (sym left) ∙ c.loop-i.invariant
 
@@ -51,7 +54,8 @@ returns-then-count_saved-gt-MOST_SAVEPOINTS c =
 pub returns : goal.returns
 returns c =
     let ms = c.args.marks.now in
-    let all : are_new (bare_marks ms) ≡ true = sym c.loop-i.invariant ∙ ap (λ (xs : List StoredMark). are_new (bare_marks xs)) (past_all ms c.loop-i.i (omega arith)) in
+    let all : are_new (bare_marks ms) ≡ true = sym c.loop-i.invariant
+    ∙ ap (λ (xs : List StoredMark). are_new (bare_marks xs)) (past_all ms c.loop-i.i (omega arith)) in
     let count = c.count_saved.ensures ∙ sym (saved_as_stored no_rows ms) in
     let few = c.if-count_saved-gt-MOST_SAVEPOINTS.false in
     sym (good_from (bare_marks ms) ∙ (λ i. all i && within_few (saved_count (bare_marks ms)) MOST_SAVEPOINTS (omega (arith, count, few)) i))

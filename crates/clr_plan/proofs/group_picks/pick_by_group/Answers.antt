@@ -33,7 +33,8 @@ index-requires g c =
     let groups = map positions c.args.groups.now in
     let parts = c.in_ok-parts.parts.items in
     let read = c.deref-touched-items.result.now in
-    let are = grouped_by (model_of g.V.RowView.content) model groups parts c.as_slice.result.now c.in_ok-needs.needs.items read c.requires.apart c.requires.groups c.in_ok-parts.ensures c.as_slice.ensures.value c.in_ok-needs.ensures c.deref-touched-items.ensures.value in
+    let are = grouped_by (model_of g.V.RowView.content) model groups parts c.as_slice.result.now c.in_ok-needs.needs.items read c.requires.apart
+    c.requires.groups c.in_ok-parts.ensures c.as_slice.ensures.value c.in_ok-needs.ensures c.deref-touched-items.ensures.value in
     let models = map (model_of g.V.RowView.content) parts in
     let k = c.loop-touched.touched-index in
     let inside = within model groups models read are k c.loop-touched-test.true in
@@ -46,7 +47,8 @@ pick-requires-clause-ready g c =
     let groups = map positions c.args.groups.now in
     let parts = c.in_ok-parts.parts.items in
     let read = c.deref-touched-items.result.now in
-    let are = grouped_by (model_of g.V.RowView.content) model groups parts c.as_slice.result.now c.in_ok-needs.needs.items read c.requires.apart c.requires.groups c.in_ok-parts.ensures c.as_slice.ensures.value c.in_ok-needs.ensures c.deref-touched-items.ensures.value in
+    let are = grouped_by (model_of g.V.RowView.content) model groups parts c.as_slice.result.now c.in_ok-needs.needs.items read c.requires.apart
+    c.requires.groups c.in_ok-parts.ensures c.as_slice.ensures.value c.in_ok-needs.ensures c.deref-touched-items.ensures.value in
     let models = map (model_of g.V.RowView.content) parts in
     let k = c.loop-touched.touched-index in
     let less = c.loop-touched-test.true in
@@ -61,7 +63,8 @@ pick-requires-clause-possible g c =
     let groups = map positions c.args.groups.now in
     let parts = c.in_ok-parts.parts.items in
     let read = c.deref-touched-items.result.now in
-    let are = grouped_by (model_of g.V.RowView.content) model groups parts c.as_slice.result.now c.in_ok-needs.needs.items read c.requires.apart c.requires.groups c.in_ok-parts.ensures c.as_slice.ensures.value c.in_ok-needs.ensures c.deref-touched-items.ensures.value in
+    let are = grouped_by (model_of g.V.RowView.content) model groups parts c.as_slice.result.now c.in_ok-needs.needs.items read c.requires.apart
+    c.requires.groups c.in_ok-parts.ensures c.as_slice.ensures.value c.in_ok-needs.ensures c.deref-touched-items.ensures.value in
     let models = map (model_of g.V.RowView.content) parts in
     let k = c.loop-touched.touched-index in
     let less = c.loop-touched-test.true in
@@ -76,7 +79,8 @@ returns-in-None g c =
     let groups = map positions c.args.groups.now in
     let parts = c.in_ok-parts.parts.items in
     let read = c.deref-touched-items.result.now in
-    let are = grouped_by (model_of g.V.RowView.content) model groups parts c.as_slice.result.now c.in_ok-needs.needs.items read c.requires.apart c.requires.groups c.in_ok-parts.ensures c.as_slice.ensures.value c.in_ok-needs.ensures c.deref-touched-items.ensures.value in
+    let are = grouped_by (model_of g.V.RowView.content) model groups parts c.as_slice.result.now c.in_ok-needs.needs.items read c.requires.apart
+    c.requires.groups c.in_ok-parts.ensures c.as_slice.ensures.value c.in_ok-needs.ensures c.deref-touched-items.ensures.value in
     let models = map (model_of g.V.RowView.content) parts in
     let k = c.loop-touched.touched-index in
     let less = c.loop-touched-test.true in
@@ -85,7 +89,8 @@ returns-in-None g c =
     let at = part_at (model_of g.V.RowView.content) parts x.group part (within model groups models read are k less) c.index.ensures in
     let s = setting_of model in
     let named = get_or-map need_in read k unread in
-    let none = picked_at model groups models read are k less (model_of g.V.RowView.content part) at None (subst (Picks (setting_of (model_of g.V.RowView.content part)) x.need) c.in-None.is c.in_ok-pick.ensures) in
+    let none = picked_at model groups models read are k less (model_of g.V.RowView.content part) at None
+    (subst (Picks (setting_of (model_of g.V.RowView.content part)) x.need) c.in-None.is c.in_ok-pick.ensures) in
     subst (IsFirstUnpicked s) named
     (first_unpicked s (map need_in read) k (need_in unread) (subst (λ n. k < n) (sym (length-map read need_in)) less) c.loop-touched.list.items
     (all_touched model groups models read are) c.loop-touched.invariant
@@ -97,7 +102,8 @@ loop-touched-preserved g c =
     let groups = map positions c.args.groups.now in
     let parts = c.in_ok-parts.parts.items in
     let read = c.deref-touched-items.result.now in
-    let are = grouped_by (model_of g.V.RowView.content) model groups parts c.as_slice.result.now c.in_ok-needs.needs.items read c.requires.apart c.requires.groups c.in_ok-parts.ensures c.as_slice.ensures.value c.in_ok-needs.ensures c.deref-touched-items.ensures.value in
+    let are = grouped_by (model_of g.V.RowView.content) model groups parts c.as_slice.result.now c.in_ok-needs.needs.items read c.requires.apart
+    c.requires.groups c.in_ok-parts.ensures c.as_slice.ensures.value c.in_ok-needs.ensures c.deref-touched-items.ensures.value in
     let models = map (model_of g.V.RowView.content) parts in
     let k = c.loop-touched.touched-index in
     let less = c.loop-touched-test.true in
@@ -107,7 +113,8 @@ loop-touched-preserved g c =
     let s = setting_of model in
     let named = get_or-map need_in read k unread in
     let two = Some (c.in-Some.one, c.in-Some.two) in
-    let picks = picked_at model groups models read are k less (model_of g.V.RowView.content part) at two (subst (Picks (setting_of (model_of g.V.RowView.content part)) x.need) c.in-Some.is c.in_ok-pick.ensures) in
+    let picks = picked_at model groups models read are k less (model_of g.V.RowView.content part) at two
+    (subst (Picks (setting_of (model_of g.V.RowView.content part)) x.need) c.in-Some.is c.in_ok-pick.ensures) in
     one_entry s (map need_in read) k (need_in unread) (subst (λ n. k < n) (sym (length-map read need_in)) less) c.loop-touched.list.items c.push.new.self.items
     (record { need = x.need; one = c.in-Some.one; two = c.in-Some.two })
     c.in_ok-push-in-Some.ensures.items (sym named) (subst (λ n. Picks s n two) (sym named) picks) c.loop-touched.invariant
@@ -118,7 +125,8 @@ returns g c =
     let groups = map positions c.args.groups.now in
     let parts = c.in_ok-parts.parts.items in
     let read = c.deref-touched-items.result.now in
-    let are = grouped_by (model_of g.V.RowView.content) model groups parts c.as_slice.result.now c.in_ok-needs.needs.items read c.requires.apart c.requires.groups c.in_ok-parts.ensures c.as_slice.ensures.value c.in_ok-needs.ensures c.deref-touched-items.ensures.value in
+    let are = grouped_by (model_of g.V.RowView.content) model groups parts c.as_slice.result.now c.in_ok-needs.needs.items read c.requires.apart
+    c.requires.groups c.in_ok-parts.ensures c.as_slice.ensures.value c.in_ok-needs.ensures c.deref-touched-items.ensures.value in
     let models = map (model_of g.V.RowView.content) parts in
     let k = c.loop-touched.touched-index in
     let s = setting_of model in

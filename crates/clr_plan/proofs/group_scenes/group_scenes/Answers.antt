@@ -1,7 +1,7 @@
 use Rattle.std.proofs.Common.{◌≡◌, ◌∙◌, ◌<◌, ◌≤◌, ◌++◌, ◌∷◌, [], ℕ, Global, List, Vec, Contains, ap, length, map, subst, sym, take}
 use Rattle.std.proofs.lemmas.List.{map-append, take_all, take_more}
 use Rattle.clr_foot.specs.Scenes.{model_at, model_of, setting_of}
-use Rattle.clr_foot.specs.Versions.{FitsSetting}
+use Rattle.clr_versions.specs.Versions.{FitsSetting}
 use Rattle.clr_groups.proofs.GroupParts.{group_few, group_fits, group_within}
 use Rattle.clr_plan.specs.GroupNeeds.{models_at}
 use Rattle.clr_plan.proofs.GroupNeedLaws.{mapped_contains, one_scene}

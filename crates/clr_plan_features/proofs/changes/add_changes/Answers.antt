@@ -18,7 +18,8 @@ loop-at-preserved c =
     let so_far = flat_map f (take at (zip names sets)) in
     let low : at < length c.args.names.now = omega (arith, c.min-count.ensures) in
     let is : name ≡ get_or names at name = sym (get_or-map (λ n. n.now) c.args.names.now at _ name low) in
-    let more = flat_map_one_more names sets f at name set (omega (arith, length-map c.args.names.now (λ n. n.now))) (omega (arith, c.min-count.ensures)) is c.index-sets-at.is in
+    let more = flat_map_one_more names sets f at name set (omega (arith, length-map c.args.names.now (λ n. n.now))) (omega (arith, c.min-count.ensures)) is
+    c.index-sets-at.is in
     c.in_ok-add_member.ensures ∙ ap (λ t. t ++ flat_map next_text (f (name, set))) c.loop-at.invariant
     ∙ append_assoc c.args.text.now.items (flat_map next_text so_far) (flat_map next_text (f (name, set)))
     ∙ ap (λ t. c.args.text.now.items ++ t) (sym (flat_map-append next_text so_far (f (name, set))) ∙ ap (flat_map next_text) (sym more))

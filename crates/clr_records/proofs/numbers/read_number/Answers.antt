@@ -10,7 +10,8 @@ pub returns-in-Ok : goal.returns-in-Ok
 returns-in-Ok c =
     let fits : FitsSigned w64 c.in-Ok.number = search rules in
     let same : c.format.result.now ≡ c.args.text.now = (bytes_eq-Decides c.format.result.now c.args.text.now).0 (sym c.if-eq.ensures) in
-    let written : signed_decimal c.in-Ok.number ≡ c.args.text.now = ap signed_decimal (sym (to_z-of_z w64 c.in-Ok.number fits)) ∙ (sym c.format.ensures.text ∙ same) in
+    let written : signed_decimal c.in-Ok.number ≡ c.args.text.now = ap signed_decimal (sym (to_z-of_z w64 c.in-Ok.number fits))
+    ∙ (sym c.format.ensures.text ∙ same) in
     rw (to_z-of_z w64 c.in-Ok.number fits, ← written) (sym (number_again c.in-Ok.number (is_within _ fits)))
 
 pub returns-in_default : goal.returns-in_default

@@ -18,4 +18,5 @@ need_line-requires-clause-possible g c =
     let needs = c.in_ok-needs.needs.items in
     let read = c.deref-need-items.result.now in
     let k = c.loop-need.need-index in
-    touched_possible (setting_of (model_of g.V.RowView.content c.args.scene.now)) (get_or read k no_need) needs c.in_ok-needs.ensures (read_of read needs k no_need c.deref-need-items.ensures.value c.loop-need-test.true)
+    touched_possible (setting_of (model_of g.V.RowView.content c.args.scene.now)) (get_or read k no_need) needs c.in_ok-needs.ensures
+    (read_of read needs k no_need c.deref-need-items.ensures.value c.loop-need-test.true)

@@ -9,7 +9,8 @@ pub loop-edit-preserved : goal.loop-edit-preserved
 loop-edit-preserved c =
     record {
       between = c.in_ok-add_record.ensures.between;
-      written = texts_more (row_text rows_writer) (edit_fields c.args.schema.now) c.args.edits.now c.loop-edit.edit-index _ _ _ _ c.loop-edit-test.true c.edit-item.is
+      written = texts_more (row_text rows_writer) (edit_fields c.args.schema.now) c.args.edits.now c.loop-edit.edit-index _ _ _ _ c.loop-edit-test.true
+          c.edit-item.is
           c.loop-edit.invariant.written
           (rw c.in_ok-fields.ensures.fields at c.in_ok-add_record.ensures.written);
       texts = each_more HasTexts c.args.edits.now c.loop-edit.edit-index _ c.loop-edit-test.true c.edit-item.is c.in_ok-fields.ensures.texts

@@ -19,7 +19,8 @@ loop-list-preserved c =
 
 pub returns-then-at-len : goal.returns-then-at-len
 returns-then-at-len c =
-    let one : c.loop-list.at + 1 ≡ length (fields_of c.args.fields.now) = omega (arith, c.loop-list-test.false, c.saturating_sub.ensures, c.len.ensures, c.if-at-len.true, c.len-2.ensures) in
+    let one : c.loop-list.at + 1 ≡ length (fields_of c.args.fields.now) =
+    omega (arith, c.loop-list-test.false, c.saturating_sub.ensures, c.len.ensures, c.if-at-len.true, c.len-2.ensures) in
     left_over c.loop-list.list.items (fields_of c.args.fields.now) c.loop-list.at _ one c.loop-list.invariant
 
 pub returns : goal.returns

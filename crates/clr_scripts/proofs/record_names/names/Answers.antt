@@ -22,5 +22,6 @@ loop-at-preserved c =
 pub returns : goal.returns
 returns c =
     let fields = fields_of c.args.fields.now in
-    let whole = ap (λ (ns : List (List ℕ)). c.loop-at.list.items ++ ns) (drop_all c.loop-at.at fields (omega (arith, c.len-at-end.ensures))) ∙ append-nil c.loop-at.list.items in
+    let whole = ap (λ (ns : List (List ℕ)). c.loop-at.list.items ++ ns) (drop_all c.loop-at.at fields (omega (arith, c.len-at-end.ensures)))
+    ∙ append-nil c.loop-at.list.items in
     ap (λ (ns : List (List ℕ)). Ok ns) (sym c.loop-at.invariant ∙ whole ∙ sym c.new.ensures)

@@ -21,7 +21,8 @@ pub loop-position-preserved : goal.loop-position-preserved
 loop-position-preserved g c =
     let names = g.N.NameList.names c.args.names.now in
     let at = c.loop-position.position in
-    let new = told_new names at c.loop-position.earlier c.name_at.result c.in-Ok-true.field-0 c.name_at.ensures c.in-Ok-true.ensures.added c.loop-position.invariant.held ∙ ap not c.in-Ok-true.field-0-test in
+    let new = told_new names at c.loop-position.earlier c.name_at.result c.in-Ok-true.field-0 c.name_at.ensures c.in-Ok-true.ensures.added
+    c.loop-position.invariant.held ∙ ap not c.in-Ok-true.field-0-test in
     record {
       held = one_name names at c.loop-position.earlier c.insert.new.self c.name_at.result c.name_at.ensures c.in-Ok-true.ensures.updates
           c.loop-position.invariant.held;

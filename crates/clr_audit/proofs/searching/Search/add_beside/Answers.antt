@@ -16,7 +16,8 @@ add_two_if_broken-requires-clause-fit c = fit_beside c.args.self.now.book.now (h
 
 pub returns-in-Some-clause-ok : goal.returns-in-Some-clause-ok
 returns-in-Some-clause-ok c =
-    let is = beside_is c.args.self.now c.args.servers.now (held_of c.args.first) c.args.part c.args.entry.position c.args.entry.part (option_map held_of c.row_at.result) (held_of c.in-Some.second)
+    let is = beside_is c.args.self.now c.args.servers.now (held_of c.args.first) c.args.part c.args.entry.position c.args.entry.part
+    (option_map held_of c.row_at.result) (held_of c.in-Some.second)
     c.row_at.ensures (ap (option_map held_of) c.in-Some.is) (sym (c.is_lt.ensures ∙ ap is_lt c.cmp.ensures) ∙ c.if-is_lt.true) in
     subst (λ (more : List Broken). OnOk c.add_two_if_broken.result (c.add_two_if_broken.new.list.items ≡ c.args.list.now.items ++ more))
     (sym is) c.add_two_if_broken.ensures.ok

@@ -30,8 +30,10 @@ returns-clause-ok c =
     let found : c.add_partners.new.list.items ≡ near = c.in_ok-add_partners.ensures.ok ∙ ap (λ (xs : List FiledPart). xs ++ near) c.new-beside.ensures.items in
     let all = λ (e : FiledPart) (h : Among e near). subst (Among e) (sym c.as_slice-2.ensures.value)
     (among e c.put_in_order.new.list.items ((c.put_in_order.ensures.same e).1 (contained e c.add_partners.new.list.items (subst (Among e) (sym found) h)))) in
-    let ready : IsReady search spots c.args.part (held_of c.args.first) = record { fit = c.requires.fit; filed = c.requires.filed; list = c.in_ok-spots.ensures.list; wide = c.in_ok-spots.ensures.wide } in
-    let alike = subst (FindAll search c.args.part (held_of c.args.first)) (sym (c.as_slice.ensures.value ∙ c.in_ok-servers.ensures)) (part_alike search spots c.args.part (held_of c.args.first) ready) in
+    let ready : IsReady search spots c.args.part (held_of c.args.first) =
+    record { fit = c.requires.fit; filed = c.requires.filed; list = c.in_ok-spots.ensures.list; wide = c.in_ok-spots.ensures.wide } in
+    let alike = subst (FindAll search c.args.part (held_of c.args.first)) (sym (c.as_slice.ensures.value ∙ c.in_ok-servers.ensures))
+    (part_alike search spots c.args.part (held_of c.args.first) ready) in
     part_gains search spots c.as_slice.result.now c.args.part (held_of c.args.first) c.args.roles c.as_slice-2.result.now c.args.list.now.items
     c.add_beside_all.new.list.items ready alike c.requires.one c.requires.roles all c.in_ok-add_beside_all.ensures.ok
 
@@ -48,7 +50,9 @@ pub returns-in_err-add_beside_all-clause-err : goal.returns-in_err-add_beside_al
 returns-in_err-add_beside_all-clause-err c =
     let search = c.args.self.now in
     let spots = c.in_ok-spots.spots in
-    let ready : IsReady search spots c.args.part (held_of c.args.first) = record { fit = c.requires.fit; filed = c.requires.filed; list = c.in_ok-spots.ensures.list; wide = c.in_ok-spots.ensures.wide } in
-    let alike = subst (FindAll search c.args.part (held_of c.args.first)) (sym (c.as_slice.ensures.value ∙ c.in_ok-servers.ensures)) (part_alike search spots c.args.part (held_of c.args.first) ready) in
+    let ready : IsReady search spots c.args.part (held_of c.args.first) =
+    record { fit = c.requires.fit; filed = c.requires.filed; list = c.in_ok-spots.ensures.list; wide = c.in_ok-spots.ensures.wide } in
+    let alike = subst (FindAll search c.args.part (held_of c.args.first)) (sym (c.as_slice.ensures.value ∙ c.in_ok-servers.ensures))
+    (part_alike search spots c.args.part (held_of c.args.first) ready) in
     on_err _ (part_some search c.as_slice.result.now c.args.part (held_of c.args.first) c.as_slice-2.result.now c.args.list.now.items
     c.add_beside_all.new.list.items alike c.requires.one c.in_err-add_beside_all.ensures.err)

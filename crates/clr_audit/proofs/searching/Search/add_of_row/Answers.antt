@@ -1,7 +1,7 @@
 use Rattle.std.proofs.Common.{ap, map, sym, subst, List}
 use Rattle.clr_rows.specs.Held.{held_of}
 use Rattle.clr_rules.specs.declared.needs.Broken.{Broken}
-use Rattle.clr_audit.specs.Searches.{Gains, IsAlone}
+use Rattle.clr_audit.specs.Searches.{GainsBroken, IsAlone}
 use Rattle.clr_audit.proofs.Beginnings.{on_err}
 use Rattle.clr_audit.proofs.Gaining.{gains_no_more, gains_until}
 use Rattle.clr_audit.proofs.NeedLaws.{none_alone, none_paired, row_gains}
@@ -15,10 +15,10 @@ returns-in_ok-add_pairs-clause-ok c =
     let n = c.args.self.now.rule in
     let s = held_of c.args.first in
     let before = c.args.list.now.items in
-    let alone : Gains book rows (IsAlone n s) before c.if-roles.list.items = elim c.if-roles.branch [
-      | then-roles+in_ok-add_alone w ↦ subst (λ (xs : List Broken). Gains book rows (IsAlone n s) before xs) (sym (ap (λ v. v.items) w.list-is))
+    let alone : GainsBroken book rows (IsAlone n s) before c.if-roles.list.items = elim c.if-roles.branch [
+      | then-roles+in_ok-add_alone w ↦ subst (λ (xs : List Broken). GainsBroken book rows (IsAlone n s) before xs) (sym (ap (λ v. v.items) w.list-is))
           w.in_ok-add_alone.ensures.ok
-      | else-roles w ↦ subst (λ (xs : List Broken). Gains book rows (IsAlone n s) before xs) (sym (ap (λ v. v.items) w.list-is))
+      | else-roles w ↦ subst (λ (xs : List Broken). GainsBroken book rows (IsAlone n s) before xs) (sym (ap (λ v. v.items) w.list-is))
           (none_alone book rows n s c.roles_of-roles.result before c.roles_of-roles.ensures w.if-roles.false)
     ] in
     row_gains book rows n s before c.if-roles.list.items c.add_pairs.new.list.items alone c.in_ok-add_pairs.ensures.ok
@@ -30,10 +30,10 @@ returns-else-roles-3-clause-ok c =
     let n = c.args.self.now.rule in
     let s = held_of c.args.first in
     let before = c.args.list.now.items in
-    let alone : Gains book rows (IsAlone n s) before c.if-roles.list.items = elim c.if-roles.branch [
-      | then-roles+in_ok-add_alone w ↦ subst (λ (xs : List Broken). Gains book rows (IsAlone n s) before xs) (sym (ap (λ v. v.items) w.list-is))
+    let alone : GainsBroken book rows (IsAlone n s) before c.if-roles.list.items = elim c.if-roles.branch [
+      | then-roles+in_ok-add_alone w ↦ subst (λ (xs : List Broken). GainsBroken book rows (IsAlone n s) before xs) (sym (ap (λ v. v.items) w.list-is))
           w.in_ok-add_alone.ensures.ok
-      | else-roles w ↦ subst (λ (xs : List Broken). Gains book rows (IsAlone n s) before xs) (sym (ap (λ v. v.items) w.list-is))
+      | else-roles w ↦ subst (λ (xs : List Broken). GainsBroken book rows (IsAlone n s) before xs) (sym (ap (λ v. v.items) w.list-is))
           (none_alone book rows n s c.roles_of-roles.result before c.roles_of-roles.ensures w.if-roles.false)
     ] in
     row_gains book rows n s before c.if-roles.list.items c.if-roles.list.items alone
@@ -50,10 +50,10 @@ returns-in_err-add_pairs-clause-err c =
     let n = c.args.self.now.rule in
     let s = held_of c.args.first in
     let before = c.args.list.now.items in
-    let alone : Gains book rows (IsAlone n s) before c.if-roles.list.items = elim c.if-roles.branch [
-      | then-roles+in_ok-add_alone w ↦ subst (λ (xs : List Broken). Gains book rows (IsAlone n s) before xs) (sym (ap (λ v. v.items) w.list-is))
+    let alone : GainsBroken book rows (IsAlone n s) before c.if-roles.list.items = elim c.if-roles.branch [
+      | then-roles+in_ok-add_alone w ↦ subst (λ (xs : List Broken). GainsBroken book rows (IsAlone n s) before xs) (sym (ap (λ v. v.items) w.list-is))
           w.in_ok-add_alone.ensures.ok
-      | else-roles w ↦ subst (λ (xs : List Broken). Gains book rows (IsAlone n s) before xs) (sym (ap (λ v. v.items) w.list-is))
+      | else-roles w ↦ subst (λ (xs : List Broken). GainsBroken book rows (IsAlone n s) before xs) (sym (ap (λ v. v.items) w.list-is))
           (none_alone book rows n s c.roles_of-roles.result before c.roles_of-roles.ensures w.if-roles.false)
     ] in
     on_err _ (gains_until book rows (IsAlone n s) before c.if-roles.list.items c.add_pairs.new.list.items alone c.in_err-add_pairs.ensures.err)

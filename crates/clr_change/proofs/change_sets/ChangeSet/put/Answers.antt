@@ -14,7 +14,8 @@ invariant_of-self-2 c =
     let es = c.self.inside.changes.entries in
     let fs = c.insert.new.self.entries in
     let ascending = sorted_from_ordered cell_cmp fs c.in_ok-insert.ensures.ordered in
-    let put = sym (one_put cell_cmp_total cell_cmp_exact es fs c.args.cell c.args.change c.self.invariant.ascending ascending c.in_ok-insert.ensures.updates.0) in
+    let put = sym (one_put cell_cmp_total cell_cmp_exact es fs c.args.cell c.args.change c.self.invariant.ascending ascending
+    c.in_ok-insert.ensures.updates.0) in
     record {
       ascending = ascending;
       differ = subst AreDifferent put (put_keeps is_different _ c.args.cell c.args.change c.self.invariant.differ c.requires);

@@ -1,11 +1,11 @@
 use Rattle.std.proofs.Common.{ap, subst, sym, ◌∙◌}
 use Rattle.clr_rows.proofs.CellOrder.{cell_cmp_total, cell_cmp_exact}
 use Rattle.clr_rows.proofs.Entries.{from_no_entries}
-use Rattle.clr_differences.specs.Differences.{IsSound, differences_of}
+use Rattle.clr_differences.specs.Differences.{AreSorted, differences_of}
 use Rattle.clr_differences.proofs.differences.Differences.new.Goals as goal
 
 pub invariant_of-result : goal.invariant_of-result
-invariant_of-result c = subst IsSound (sym c.new.ensures.empty) tt
+invariant_of-result c = subst AreSorted (sym c.new.ensures.empty) tt
 
 pub returns : goal.returns
 returns c = ap differences_of c.new.ensures.empty ∙ from_no_entries cell_cmp_total cell_cmp_exact

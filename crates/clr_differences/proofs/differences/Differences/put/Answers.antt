@@ -9,7 +9,8 @@ use Rattle.clr_differences.proofs.differences.Differences.put.Goals as goal
 
 pub returns-in_err-insert-clause-pinned : goal.returns-in_err-insert-clause-pinned
 returns-in_err-insert-clause-pinned c =
-    let none = ap (λ (d : Differences). finite.get d c.args.cell) (sym c.self.view_is) ∙ get_sorted cell_cmp c.self.inside.rows.entries c.args.cell c.self.invariant ∙ c.in_err-insert.ensures.absent in
+    let none = ap (λ (d : Differences). finite.get d c.args.cell) (sym c.self.view_is)
+    ∙ get_sorted cell_cmp c.self.inside.rows.entries c.args.cell c.self.invariant ∙ c.in_err-insert.ensures.absent in
     λ some. absurd (false≢true (sym (ap is_some none) ∙ some))
 
 pub invariant_of-self-2 : goal.invariant_of-self-2

@@ -2,7 +2,7 @@ use Rattle.std.proofs.Common.{◌≡◌, ◌∙◌, ◌++◌, ◌∷◌, [], Lis
 use Rattle.clr_rows.specs.Contents.{Changes, row_at}
 use Rattle.clr_change.specs.declared.change_sets.ChangeSet.{ChangeSet}
 use Rattle.clr_workspaces.specs.Workspaces.{workspace_at}
-use Rattle.clr_grid.specs.RowMaps.{Rows}
+use Rattle.clr_grid.specs.RowMaps.{FiledRows}
 use Rattle.clr_rules.specs.Needs.{Holds}
 use Rattle.clr_foot.specs.Scenes.{IsReady, SceneModel}
 use Rattle.clr_engine.proofs.Scenes.{fits_scene, listed, ready}
@@ -20,7 +20,7 @@ new-requires-clause-fit c =
 pub first_broken-requires-clause-ready : goal.first_broken-requires-clause-ready
 first_broken-requires-clause-ready c =
     let current = (workspace_at c.args.tree.now.list c.args.at).current in
-    subst (λ (m : SceneModel Rows). IsReady {F = Rows} (λ f. f.settled) m) (sym c.in-Ok.ensures.model)
+    subst (λ (m : SceneModel FiledRows). IsReady {F = FiledRows} (λ f. f.settled) m) (sym c.in-Ok.ensures.model)
     (ready c.args.self.now _ current _ c.args.changed.now _ c.requires.fit c.self.view_is c.view-root.ensures
     (one_set c.new-sets.result.items c.push.new.self.items c.args.changed c.new-sets.ensures.items c.in_ok-push.ensures.items) c.args.finder.now
     c.requires.finder)

@@ -15,7 +15,8 @@ returns-in-Some-clause-first c =
     let at = c.loop-at.at in
     let w = workspace_at ws at in
     let lt : at < length ws = subst (λ n. at < n) c.len-at-end.ensures.count c.loop-at-test.true in
-    let need = need_is w.kept book w.current c.in_ok-need.field-0 (c.in_ok-need.ensures ∙ ap (λ b. broken_where b book w.current) c.kept.ensures) ∙ c.in-Some.is in
+    let need = need_is w.kept book w.current c.in_ok-need.field-0 (c.in_ok-need.ensures ∙ ap (λ b. broken_where b book w.current) c.kept.ensures)
+    ∙ c.in-Some.is in
     sym (c.loop-at.invariant ∙ unheld_here book ws at (Some c.in-Some.need) lt need)
 
 pub loop-at-preserved : goal.loop-at-preserved
@@ -25,7 +26,8 @@ loop-at-preserved c =
     let at = c.loop-at.at in
     let w = workspace_at ws at in
     let lt : at < length ws = subst (λ n. at < n) c.len-at-end.ensures.count c.loop-at-test.true in
-    let need = need_is w.kept book w.current c.in_ok-need.field-0 (c.in_ok-need.ensures ∙ ap (λ b. broken_where b book w.current) c.kept.ensures) ∙ c.in_default.is in
+    let need = need_is w.kept book w.current c.in_ok-need.field-0 (c.in_ok-need.ensures ∙ ap (λ b. broken_where b book w.current) c.kept.ensures)
+    ∙ c.in_default.is in
     c.loop-at.invariant ∙ unheld_here book ws at None lt need
 
 pub returns-clause-first : goal.returns-clause-first

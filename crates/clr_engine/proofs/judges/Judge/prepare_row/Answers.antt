@@ -19,18 +19,21 @@ returns-then-not-kept-clause-prepared c =
 pub prepare-requires-clause-fit : goal.prepare-requires-clause-fit
 prepare-requires-clause-fit c =
     let w = workspace_at c.args.tree.now.list c.args.at in
-    let is = set_one w.current c.args.cell (option_copied c.args.row) c.set.new.self (c.in_ok-set.ensures.ok ∙ (λ i. set_change (c.new-changed.ensures i) c.args.cell (c.read.ensures i) (option_copied c.args.row))) in
+    let is = set_one w.current c.args.cell (option_copied c.args.row) c.set.new.self (c.in_ok-set.ensures.ok
+    ∙ (λ i. set_change (c.new-changed.ensures i) c.args.cell (c.read.ensures i) (option_copied c.args.row))) in
     subst (FitBoth c.args.self.now w.current) (sym is) c.requires.fit
 
 pub returns-clause-judged : goal.returns-clause-judged
 returns-clause-judged c =
     let w = workspace_at c.args.tree.now.list c.args.at in
-    let is = set_one w.current c.args.cell (option_copied c.args.row) c.set.new.self (c.in_ok-set.ensures.ok ∙ (λ i. set_change (c.new-changed.ensures i) c.args.cell (c.read.ensures i) (option_copied c.args.row))) in
+    let is = set_one w.current c.args.cell (option_copied c.args.row) c.set.new.self (c.in_ok-set.ensures.ok
+    ∙ (λ i. set_change (c.new-changed.ensures i) c.args.cell (c.read.ensures i) (option_copied c.args.row))) in
     subst (λ (m : Content). IfOk c.prepare.result (λ need. option_map RuleBroken need ≡ broken_where w.kept c.args.self.now m)) is c.prepare.ensures.judged
 
 pub returns-clause-prepared : goal.returns-clause-prepared
 returns-clause-prepared c =
     let w = workspace_at c.args.tree.now.list c.args.at in
-    let is = set_one w.current c.args.cell (option_copied c.args.row) c.set.new.self (c.in_ok-set.ensures.ok ∙ (λ i. set_change (c.new-changed.ensures i) c.args.cell (c.read.ensures i) (option_copied c.args.row))) in
+    let is = set_one w.current c.args.cell (option_copied c.args.row) c.set.new.self (c.in_ok-set.ensures.ok
+    ∙ (λ i. set_change (c.new-changed.ensures i) c.args.cell (c.read.ensures i) (option_copied c.args.row))) in
     subst (λ (m : Content). IfOk c.prepare.result (λ need. MatchOption need (IsPrepared c.args.self.now c.args.tree.now.list c.args.at m c.prepare.new.finders)
     (λ _. c.prepare.new.finders ≡ c.args.finders.now))) is c.prepare.ensures.prepared

@@ -18,5 +18,6 @@ put-requires c = within c.args.self.now c.args.tree.now.list c.args.finders.now 
 pub returns-clause-ok : goal.returns-clause-ok
 returns-clause-ok c =
     let ws = c.args.tree.now.list in
-    let is = subst (λ m. IsFinderOf c.args.self.now m c.in_ok-finder.finder) c.in_ok-rows.ensures (subst (λ book. IsFinderOf book c.in_ok-rows.rows c.in_ok-finder.finder) c.self.view_is c.in_ok-finder.ensures) in
+    let is = subst (λ m. IsFinderOf c.args.self.now m c.in_ok-finder.finder) c.in_ok-rows.ensures
+    (subst (λ book. IsFinderOf book c.in_ok-rows.rows c.in_ok-finder.finder) c.self.view_is c.in_ok-finder.ensures) in
     after_holding c.args.self.now ws c.args.at c.args.finders.now c.put.new.self c.in_ok-finder.finder c.requires.served.are is c.put.ensures

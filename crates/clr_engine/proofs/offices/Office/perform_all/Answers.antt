@@ -14,9 +14,13 @@ loop-command-preserved c =
     let at = c.loop-command.command-index in
     let commands = c.args.commands.now in
     let left = c.perform-reply.new.self in
-    let more = more_law c.args.self.now (take at commands) c.loop-command.replies.items c.loop-command.self c.command-item.result c.perform-reply.result left c.loop-command.invariant.answers c.perform-reply.ensures.answer in
-    let performed : take at commands ++ c.command-item.result ∷ [] ≡ take (at + 1) commands = ap (λ command. take at commands ++ command ∷ []) c.command-item.is ∙ sym (take_more commands at c.command-item.result c.loop-command-test.true) in
-    let pushed : c.push.new.self.items ≡ c.loop-command.replies.items ++ c.perform-reply.result ∷ [] = c.push.ensures.items ∙ ap (λ (made : Bool). cond made (c.loop-command.replies.items ++ c.perform-reply.result ∷ []) c.loop-command.replies.items) (ap is_ok c.unwrap.ensures) in
+    let more = more_law c.args.self.now (take at commands) c.loop-command.replies.items c.loop-command.self c.command-item.result c.perform-reply.result left
+    c.loop-command.invariant.answers c.perform-reply.ensures.answer in
+    let performed : take at commands ++ c.command-item.result ∷ [] ≡ take (at + 1) commands = ap (λ command. take at commands ++ command ∷ []) c.command-item.is
+    ∙ sym (take_more commands at c.command-item.result c.loop-command-test.true) in
+    let pushed : c.push.new.self.items ≡ c.loop-command.replies.items ++ c.perform-reply.result ∷ [] = c.push.ensures.items
+    ∙ ap (λ (made : Bool). cond made (c.loop-command.replies.items ++ c.perform-reply.result ∷ []) c.loop-command.replies.items)
+    (ap is_ok c.unwrap.ensures) in
     record {
       answers = subst (λ (replies : List Reply). AreAnswers c.args.self.now (take (at + 1) commands) replies left) (sym pushed)
           (subst (λ (cs : List Command). AreAnswers c.args.self.now cs (c.loop-command.replies.items ++ c.perform-reply.result ∷ []) left) performed more);

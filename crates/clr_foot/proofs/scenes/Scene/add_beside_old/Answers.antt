@@ -1,7 +1,7 @@
 use Rattle.std.proofs.Common.{false, subst, sym}
 use Rattle.clr_foot.specs.Scenes.{setting_in}
-use Rattle.clr_foot.specs.Touches.{IsNear}
-use Rattle.clr_foot.specs.Versions.{AreAt, Finds, row_of}
+use Rattle.clr_foot.specs.Touches.{IsNeighbour}
+use Rattle.clr_versions.specs.Versions.{AreAt, Finds, row_of}
 use Rattle.clr_foot.proofs.TouchSteps.{alone_beside_old, beside_gains}
 use Rattle.clr_foot.proofs.scenes.Scene.add_beside_old.Goals as goal
 
@@ -17,5 +17,5 @@ pub returns : goal.returns
 returns g c =
     let s = setting_in g.V.RowView.content c.args.self.now in
     beside_gains s c.args.rule c.requires.ready.fit c.args.version _ _ _ _ c.requires.at c.requires.new
-    (subst (Finds s false (IsNear false s.rules c.args.rule (row_of c.args.version))) (sym c.as_slice.ensures.value) c.in_ok-near.ensures)
+    (subst (Finds s false (IsNeighbour false s.rules c.args.rule (row_of c.args.version))) (sym c.as_slice.ensures.value) c.in_ok-near.ensures)
     c.in_ok-add_alone.ensures.ok c.in_ok-add_pairs.ensures.ok

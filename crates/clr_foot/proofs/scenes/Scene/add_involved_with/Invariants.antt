@@ -1,4 +1,4 @@
-use Rattle.clr_foot.specs.Gains.{Gains}
+use Rattle.clr_versions.specs.Gains.{Gains}
 use Rattle.clr_foot.specs.Involvement.{IsInvolving}
 use Rattle.clr_foot.specs.Scenes.{setting_in}
 use Rattle.clr_foot.proofs.InvolvedLaws.{IsInvolvedBelow}

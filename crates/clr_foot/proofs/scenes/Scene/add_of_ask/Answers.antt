@@ -1,9 +1,9 @@
 use Rattle.std.proofs.Common.{◌∙◌, Some}
 use Rattle.clr_rules.specs.Calls.{calls}
-use Rattle.clr_foot.specs.Candidates.{serves_too}
+use Rattle.clr_versions.specs.Candidates.{serves_if_any}
 use Rattle.clr_foot.specs.Scenes.{setting_in}
-use Rattle.clr_foot.proofs.CandidateLaws.{add_asked, both_told, none_asked, asked_without_call, asked_without_server}
-use Rattle.clr_foot.proofs.VersionFits.{fit_two}
+use Rattle.clr_new_pairs.proofs.CandidateLaws.{add_asked, both_told, none_asked, asked_without_call, asked_without_server}
+use Rattle.clr_versions.proofs.VersionFits.{fit_two}
 use Rattle.clr_foot.proofs.scenes.Scene.add_of_ask.Goals as goal
 use Rattle.clr_foot.proofs.scenes.Scene.add_of_ask.Goals.{else-serves_if_any-via-then-serves_if_any+else-calls_two, else-serves_if_any-via-else-serves_if_any}
 
@@ -24,7 +24,7 @@ returns-else-serves_if_any-clause-ok g c =
     let rules = c.args.self.now.book.now in
     elim c.else-serves_if_any.branch [
       | else-serves_if_any-via-then-serves_if_any+else-calls_two w ↦ none_asked rules c.args.ask c.args.server c.args.first c.args.second c.args.needs.now.items
-          (asked_without_call (serves_too rules c.args.ask c.args.first (Some c.args.second) c.args.server) _ _
+          (asked_without_call (serves_if_any rules c.args.ask c.args.first (Some c.args.second) c.args.server) _ _
           (w.calls_two.ensures ∙ (λ i. calls rules c.args.ask (w.as_held.ensures i) (Some (w.as_held-then-serves_if_any.ensures i)))) w.if-calls_two.false)
       | else-serves_if_any-via-else-serves_if_any w ↦ none_asked rules c.args.ask c.args.server c.args.first c.args.second c.args.needs.now.items
           (asked_without_server _ _ _ c.serves_if_any.ensures w.if-serves_if_any.false)

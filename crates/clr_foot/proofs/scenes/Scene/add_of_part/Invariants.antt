@@ -1,7 +1,7 @@
-use Rattle.clr_foot.specs.Candidates.{IsNeedOf}
-use Rattle.clr_foot.specs.Gains.{Gains}
+use Rattle.clr_versions.specs.Candidates.{IsNeedOf}
+use Rattle.clr_versions.specs.Gains.{Gains}
 use Rattle.std.proofs.Common.{Some}
-use Rattle.clr_foot.proofs.CandidateLaws.{IsUpTo}
+use Rattle.clr_new_pairs.proofs.CandidateLaws.{IsUpTo}
 use Rattle.clr_foot.proofs.scenes.Scene.add_of_part.Given as goal
 
 -- the needs with the other parts so far were added

@@ -1,8 +1,8 @@
 use Rattle.std.proofs.Common.{subst, true, false}
 use Rattle.clr_foot.specs.Scenes.{setting_in}
 use Rattle.clr_foot.specs.Touches.{IsInCells}
-use Rattle.clr_foot.specs.Versions.{Finds}
-use Rattle.clr_foot.proofs.Searches.{sets_of}
+use Rattle.clr_versions.specs.Versions.{Finds}
+use Rattle.clr_versions.proofs.Searches.{sets_of}
 use Rattle.clr_foot.proofs.TouchSteps.{rule_gains}
 use Rattle.clr_foot.proofs.scenes.Scene.add_of_rule.Goals as goal
 
@@ -16,7 +16,8 @@ pub returns : goal.returns
 returns g c =
     let scene = c.args.self.now in
     let s = setting_in g.V.RowView.content scene in
-    rule_gains scene.book.now (g.V.RowView.content scene.root.now) (sets_of scene.members.sets.items) c.args.leaves_out c.args.rule c.args.fresh.now c.args.old.now
+    rule_gains scene.book.now (g.V.RowView.content scene.root.now) (sets_of scene.members.sets.items) c.args.leaves_out c.args.rule c.args.fresh.now
+    c.args.old.now
     _ _ _ _
     (subst (λ cells. Finds s true (IsInCells cells) c.args.fresh.now) scene.members.all c.requires.fresh)
     (subst (λ cells. Finds s false (IsInCells cells) c.args.old.now) scene.members.all c.requires.old)

@@ -2,9 +2,9 @@ use Rattle.std.proofs.Common.{◌∙◌, ◌≤◌, ◌+◌, ap, refl, subst}
 use Rattle.clr_rules.specs.Calls.{part_count}
 use Rattle.clr_spot_maps.proofs.Beginnings.{on_err}
 use Rattle.clr_foot.specs.Scenes.{setting_in}
-use Rattle.clr_foot.proofs.CandidateLaws.{all_firsts, no_first_yet, one_first_more}
-use Rattle.clr_foot.proofs.Gaining.{then_some}
-use Rattle.clr_foot.proofs.VersionFits.{fit_one}
+use Rattle.clr_new_pairs.proofs.CandidateLaws.{all_firsts, no_first_yet, one_first_more}
+use Rattle.clr_versions.proofs.Gaining.{then_some}
+use Rattle.clr_versions.proofs.VersionFits.{fit_one}
 use Rattle.clr_foot.proofs.scenes.Scene.add_of_two.Goals as goal
 
 pub part_count-part-end-requires-clause-fit : goal.part_count-part-end-requires-clause-fit

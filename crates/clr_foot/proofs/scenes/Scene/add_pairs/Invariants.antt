@@ -1,6 +1,6 @@
 use Rattle.std.proofs.Common.{take}
-use Rattle.clr_foot.specs.Candidates.{IsNeedAmong}
-use Rattle.clr_foot.specs.Gains.{Gains}
+use Rattle.clr_versions.specs.Candidates.{IsNeedAmong}
+use Rattle.clr_versions.specs.Gains.{Gains}
 use Rattle.clr_foot.proofs.scenes.Scene.add_pairs.Given as goal
 
 -- the needs with the others so far were added

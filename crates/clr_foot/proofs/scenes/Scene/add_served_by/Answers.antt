@@ -2,9 +2,9 @@ use Rattle.std.proofs.Common.{refl, subst, sym}
 use Rattle.clr_spot_maps.proofs.Beginnings.{on_err}
 use Rattle.clr_foot.specs.Scenes.{setting_in}
 use Rattle.clr_foot.specs.Serving.{MayBeServed}
-use Rattle.clr_foot.specs.Versions.{AreAt, FindsAll, row_of}
+use Rattle.clr_versions.specs.Versions.{AreAt, FindsAll, row_of}
 use Rattle.clr_foot.proofs.TouchSteps.{none_served_by, served_gains, some_served}
-use Rattle.clr_foot.proofs.Gaining.{none_gained}
+use Rattle.clr_versions.proofs.Gaining.{none_gained}
 use Rattle.clr_foot.proofs.scenes.Scene.add_served_by.Goals as goal
 
 pub add_served-requires-clause-near : goal.add_served-requires-clause-near

@@ -1,9 +1,9 @@
 use Rattle.std.proofs.Common.{◌∙◌, ◌+◌, ap, sym, subst, take}
 use Rattle.clr_spot_maps.proofs.Beginnings.{on_err}
-use Rattle.clr_foot.specs.Candidates.{IsServerAmong}
-use Rattle.clr_foot.specs.Gains.{Gains}
-use Rattle.clr_foot.proofs.CandidateLaws.{all_servers, no_server_yet, not_one_server, one_server_more}
-use Rattle.clr_foot.proofs.Gaining.{then_none}
+use Rattle.clr_versions.specs.Candidates.{IsServerAmong}
+use Rattle.clr_versions.specs.Gains.{Gains}
+use Rattle.clr_new_pairs.proofs.CandidateLaws.{all_servers, no_server_yet, not_one_server, one_server_more}
+use Rattle.clr_versions.proofs.Gaining.{then_none}
 use Rattle.clr_foot.proofs.scenes.Scene.add_servers.Goals as goal
 use Rattle.clr_foot.proofs.scenes.Scene.add_servers.Goals.{else-serves_if_any, then-serves_if_any+in_ok-push}
 

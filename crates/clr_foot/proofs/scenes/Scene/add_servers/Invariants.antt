@@ -1,6 +1,6 @@
 use Rattle.std.proofs.Common.{take}
-use Rattle.clr_foot.specs.Candidates.{IsServerAmong}
-use Rattle.clr_foot.specs.Gains.{Gains}
+use Rattle.clr_versions.specs.Candidates.{IsServerAmong}
+use Rattle.clr_versions.specs.Gains.{Gains}
 use Rattle.clr_foot.proofs.scenes.Scene.add_servers.Given as goal
 
 -- the servers among the others so far were added

@@ -1,10 +1,10 @@
 use Rattle.std.proofs.Common.{false, refl, subst, sym}
 use Rattle.clr_spot_maps.proofs.Beginnings.{on_err}
 use Rattle.clr_foot.specs.Scenes.{setting_in}
-use Rattle.clr_foot.specs.Touches.{IsNear}
-use Rattle.clr_foot.specs.Versions.{AreAt, FindsAll, row_of}
+use Rattle.clr_foot.specs.Touches.{IsNeighbour}
+use Rattle.clr_versions.specs.Versions.{AreAt, FindsAll, row_of}
 use Rattle.clr_foot.proofs.TouchSteps.{alone_gains, none_with, some_with, with_gains}
-use Rattle.clr_foot.proofs.Gaining.{none_gained}
+use Rattle.clr_versions.proofs.Gaining.{none_gained}
 use Rattle.clr_foot.proofs.scenes.Scene.add_with.Goals as goal
 
 pub add_pairs-requires-clause-others : goal.add_pairs-requires-clause-others
@@ -19,7 +19,7 @@ pub returns-clause-ok : goal.returns-clause-ok
 returns-clause-ok g c =
     let s = setting_in g.V.RowView.content c.args.self.now in
     with_gains s c.args.rule c.requires.ready.fit c.args.version _ _ _ _ c.requires.at
-    (subst (FindsAll s (IsNear false s.rules c.args.rule (row_of c.args.version))) (sym c.as_slice.ensures.value) c.in_ok-near.ensures)
+    (subst (FindsAll s (IsNeighbour false s.rules c.args.rule (row_of c.args.version))) (sym c.as_slice.ensures.value) c.in_ok-near.ensures)
     c.in_ok-add_alone.ensures.ok c.in_ok-add_pairs.ensures.ok
 
 pub returns-in_err-add_alone-clause-err : goal.returns-in_err-add_alone-clause-err
@@ -33,5 +33,5 @@ pub returns-in_err-add_pairs-clause-err : goal.returns-in_err-add_pairs-clause-e
 returns-in_err-add_pairs-clause-err g c =
     let s = setting_in g.V.RowView.content c.args.self.now in
     on_err _ (some_with s c.args.rule c.args.version _ _ _ _ c.requires.at
-    (subst (FindsAll s (IsNear false s.rules c.args.rule (row_of c.args.version))) (sym c.as_slice.ensures.value) c.in_ok-near.ensures)
+    (subst (FindsAll s (IsNeighbour false s.rules c.args.rule (row_of c.args.version))) (sym c.as_slice.ensures.value) c.in_ok-near.ensures)
     c.in_ok-add_alone.ensures.ok c.in_err-add_pairs.ensures.err)

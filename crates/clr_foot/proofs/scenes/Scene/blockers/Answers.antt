@@ -4,7 +4,7 @@ use Rattle.clr_needs.specs.Blocking.{IsToldBlocker}
 use Rattle.clr_needs.specs.Needs.{AreServers}
 use Rattle.clr_foot.specs.Scenes.{setting_in}
 use Rattle.clr_needs.proofs.BlockerLaws.{AreBlockersTo, all_block, none_blocks_yet, one_blocks, one_blocks_not}
-use Rattle.clr_foot.proofs.Searches.{sets_of}
+use Rattle.clr_versions.proofs.Searches.{sets_of}
 use Rattle.clr_foot.proofs.scenes.Scene.blockers.Goals as goal
 use Rattle.clr_foot.proofs.scenes.Scene.blockers.Goals.{else-is_blocker, then-is_blocker+in_ok-push}
 

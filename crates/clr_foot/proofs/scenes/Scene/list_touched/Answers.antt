@@ -1,12 +1,12 @@
 use Rattle.std.proofs.Common.{[], ◌≤◌, subst, sym, refl, true, false}
-use Rattle.clr_foot.specs.Gains.{Reaches}
-use Rattle.clr_foot.specs.NewPairs.{Passes}
+use Rattle.clr_versions.specs.Gains.{Reaches}
+use Rattle.clr_new_pairs.specs.NewPairs.{Passes}
 use Rattle.clr_needs.specs.Needs.{IsTouched}
 use Rattle.clr_foot.specs.Scenes.{setting_in}
 use Rattle.clr_foot.specs.Touches.{IsInCells}
-use Rattle.clr_foot.specs.Versions.{Finds}
+use Rattle.clr_versions.specs.Versions.{Finds}
 use Rattle.clr_needs.proofs.NeedOrder.{need_exact}
-use Rattle.clr_foot.proofs.Searches.{sets_of}
+use Rattle.clr_versions.proofs.Searches.{sets_of}
 use Rattle.clr_foot.proofs.TouchSteps.{IsTouchedBelow, all_touched, no_rule_yet, one_rule_more}
 use Rattle.clr_foot.proofs.scenes.Scene.list_touched.Goals as goal
 
@@ -22,7 +22,8 @@ loop-rule-init g c =
 pub loop-rule-preserved : goal.loop-rule-preserved
 loop-rule-preserved g c =
     let scene = c.args.self.now in
-    one_rule_more scene.book.now (g.V.RowView.content scene.root.now) (sets_of scene.members.sets.items) c.args.leaves_out c.loop-rule.rule [] _ _ c.loop-rule.invariant
+    one_rule_more scene.book.now (g.V.RowView.content scene.root.now) (sets_of scene.members.sets.items) c.args.leaves_out c.loop-rule.rule [] _ _
+    c.loop-rule.invariant
     c.in_ok-add_of_rule.ensures
 
 pub put_in_order-requires : goal.put_in_order-requires
@@ -31,7 +32,8 @@ put_in_order-requires g c = need_exact
 pub returns : goal.returns
 returns g c =
     let scene = c.args.self.now in
-    all_touched scene.book.now (g.V.RowView.content scene.root.now) (sets_of scene.members.sets.items) c.args.leaves_out c.loop-rule.rule [] c.loop-rule.needs.items
+    all_touched scene.book.now (g.V.RowView.content scene.root.now) (sets_of scene.members.sets.items) c.args.leaves_out c.loop-rule.rule []
+    c.loop-rule.needs.items
     _ (subst (λ n. n ≤ c.loop-rule.rule) c.len-rule-end.ensures.value c.loop-rule-test.false) refl c.loop-rule.invariant c.put_in_order.ensures.ascending
     c.put_in_order.ensures.same
 

@@ -1,8 +1,8 @@
 use Rattle.std.proofs.Common.{◌∙◌, ◌+◌, Contains, ap, false, subst, sym}
 use Rattle.clr_needs.proofs.Reading.{item_in}
 use Rattle.clr_foot.specs.Scenes.{setting_in}
-use Rattle.clr_foot.specs.Touches.{IsNear}
-use Rattle.clr_foot.specs.Versions.{FindsAll, row_of}
+use Rattle.clr_foot.specs.Touches.{IsNeighbour}
+use Rattle.clr_versions.specs.Versions.{FindsAll, row_of}
 use Rattle.clr_foot.proofs.ServingLaws.{AreKept, all_kept, none_kept, one_kept, one_left}
 use Rattle.clr_foot.proofs.scenes.Scene.served_near.Goals as goal
 use Rattle.clr_foot.proofs.scenes.Scene.served_near.Goals.{else-may_be_served, then-may_be_served+in_ok-push}
@@ -38,4 +38,4 @@ returns g c =
     let s = setting_in g.V.RowView.content c.args.self.now in
     let r = row_of c.args.server in
     all_kept s c.args.rule r c.deref-version-items.result.now c.loop-version.version-index _ c.loop-version-test.false
-    (subst (FindsAll s (IsNear false s.rules c.args.rule r)) (sym c.deref-version-items.ensures.value) c.in_ok-near.ensures) c.loop-version.invariant
+    (subst (FindsAll s (IsNeighbour false s.rules c.args.rule r)) (sym c.deref-version-items.ensures.value) c.in_ok-near.ensures) c.loop-version.invariant

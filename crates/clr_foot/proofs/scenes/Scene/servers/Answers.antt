@@ -6,7 +6,7 @@ use Rattle.clr_needs.specs.Needs.{Lists}
 use Rattle.clr_needs.specs.Orders.{version_cmp}
 use Rattle.clr_foot.specs.Scenes.{setting_in}
 use Rattle.clr_foot.specs.Touches.{IsServerOf}
-use Rattle.clr_foot.specs.Versions.{row_of}
+use Rattle.clr_versions.specs.Versions.{row_of}
 use Rattle.clr_foot.proofs.ServerLaws.{at_too, possible_number, possible_there, serving_same, subjects_call}
 use Rattle.clr_foot.proofs.scenes.Scene.servers.Goals as goal
 
@@ -32,8 +32,10 @@ pub returns-in_ok-servers-in-Some : goal.returns-in_ok-servers-in-Some
 returns-in_ok-servers-in-Some g c =
     let s = setting_in g.V.RowView.content c.args.self.now in
     let second = c.version_if_any-second.result in
-    let are = subst (λ ask. Lists version_cmp (IsServerOf s ask c.in-Some.first second) c.in_ok-servers-in-Some.servers.items) c.ask.ensures c.in_ok-servers-in-Some.ensures in
-    let same = λ (v : VersionId). serving_same s c.args.need.now c.in-Some.first second c.in-Some.ensures c.version_if_any-second.ensures v c.requires.possible in
+    let are = subst (λ ask. Lists version_cmp (IsServerOf s ask c.in-Some.first second) c.in_ok-servers-in-Some.servers.items) c.ask.ensures
+    c.in_ok-servers-in-Some.ensures in
+    let same = λ (v : VersionId). serving_same s c.args.need.now c.in-Some.first second c.in-Some.ensures c.version_if_any-second.ensures v
+    c.requires.possible in
     record {
       ascending = are.ascending;
       exactly = λ v. (λ h. (same v).0 ((are.exactly v).0 h), λ w. (are.exactly v).1 ((same v).1 w));

@@ -1,8 +1,8 @@
 use Rattle.std.proofs.Common.{true, false, subst, sym}
 use Rattle.clr_needs.specs.declared.needs.VersionId.{VersionId}
 use Rattle.clr_foot.specs.Scenes.{setting_in}
-use Rattle.clr_foot.specs.Touches.{IsNear}
-use Rattle.clr_foot.specs.Versions.{AreAt, Finds, row_of}
+use Rattle.clr_foot.specs.Touches.{IsNeighbour}
+use Rattle.clr_versions.specs.Versions.{AreAt, Finds, row_of}
 use Rattle.clr_needs.proofs.NeedOrder.{version_exact}
 use Rattle.clr_foot.proofs.ServerLaws.{servers_exactly}
 use Rattle.clr_foot.proofs.scenes.Scene.servers_of.Goals as goal
@@ -16,7 +16,7 @@ put_in_order-requires g c = version_exact
 pub returns : goal.returns
 returns g c =
     let s = setting_in g.V.RowView.content c.args.self.now in
-    let near = IsNear true s.rules c.args.ask.rule (row_of c.args.first) in
+    let near = IsNeighbour true s.rules c.args.ask.rule (row_of c.args.first) in
     let found = λ (v : VersionId). servers_exactly s c.args.ask c.args.first c.args.second _ _ _ _ _ v c.requires.called
     (subst (Finds s false near) (sym c.as_slice.ensures.value) c.in_ok-old.ensures)
     (subst (Finds s true near) (sym c.as_slice-2.ensures.value) c.in_ok-new.ensures) c.new-names.ensures.items c.in_ok-add_servers.ensures.ok

@@ -3,7 +3,7 @@ use Rattle.std.specs.BTreeMap.{keys}
 use Rattle.std.specs.FinMap as finite
 use Rattle.clr_rows.specs.declared.cells.CellId.{CellId}
 use Rattle.clr_finders.specs.Sharing.{is_met_at}
-use Rattle.clr_grid.specs.RowMaps.{Rows}
+use Rattle.clr_grid.specs.RowMaps.{FiledRows}
 use Rattle.clr_grid.proofs.FoundLemmas.{found_is, met_there}
 use Rattle.clr_grid.proofs.MapLemmas.{cell_listed}
 use Rattle.clr_grid.proofs.row_maps.RowMap.find_all.Goals as goal
@@ -16,5 +16,5 @@ returns c =
     sym (append-nil c.loop-cell.list.items) ∙ ap (λ (xs : List CellId). c.loop-cell.list.items ++ filter test xs) (sym c.in-None.ensures.steps.0)
     ∙ c.loop-cell.invariant ∙ ap (λ (xs : List CellId). filter test xs) all
     ∙ found_is c.args.servers c.args.self.now.settled c.args.rule c.args.spots.now cells c.keys-cell-items.ensures.ordered
-    (λ q met. cell_listed c.self.inside.settled.entries q (subst (λ (r : Rows). is_some (finite.get r.settled q) ≡ true) (sym c.self.view_is)
+    (λ q met. cell_listed c.self.inside.settled.entries q (subst (λ (r : FiledRows). is_some (finite.get r.settled q) ≡ true) (sym c.self.view_is)
     (met_there c.args.servers c.args.spots.now c.args.rule (finite.get c.args.self.now.settled q) met)))

@@ -13,8 +13,10 @@ loop-cell-preserved c =
     let test : CellId → Bool = λ q. is_met_at c.args.servers c.args.spots.now c.args.rule (finite.get c.args.self.now.settled q) in
     let k = c.loop-cell.cell-index in
     elim c.if-is_found.branch [
-      | then-is_found+in_ok-push w ↦ kept_more test cells k true c.loop-cell.list.items c.if-is_found.list.items _ c.loop-cell-test.true (sym w.if-is_found.true ∙ c.is_found.ensures) (ap (λ v. v.items) w.list-is ∙ w.in_ok-push.ensures.items) c.loop-cell.invariant
-      | else-is_found w ↦ kept_more test cells k false c.loop-cell.list.items c.if-is_found.list.items _ c.loop-cell-test.true (sym w.if-is_found.false ∙ c.is_found.ensures) (ap (λ v. v.items) w.list-is ∙ sym (append-nil _)) c.loop-cell.invariant
+      | then-is_found+in_ok-push w ↦ kept_more test cells k true c.loop-cell.list.items c.if-is_found.list.items _ c.loop-cell-test.true (sym w.if-is_found.true
+          ∙ c.is_found.ensures) (ap (λ v. v.items) w.list-is ∙ w.in_ok-push.ensures.items) c.loop-cell.invariant
+      | else-is_found w ↦ kept_more test cells k false c.loop-cell.list.items c.if-is_found.list.items _ c.loop-cell-test.true (sym w.if-is_found.false
+          ∙ c.is_found.ensures) (ap (λ v. v.items) w.list-is ∙ sym (append-nil _)) c.loop-cell.invariant
     ]
 
 pub returns : goal.returns

@@ -2,7 +2,9 @@ use Rattle.clr_grid.proofs.IndexLemmas.{sides_lean}
 use Rattle.clr_grid.proofs.rule_index.RuleIndex.unfile.Goals as goal
 
 pub returns-then-spots-clause-lean : goal.returns-then-spots-clause-lean
-returns-then-spots-clause-lean c = sides_lean c.args.self.now (record { servers = c.unfile.new.self; others = c.args.self.now.others }) c.unfile.ensures.lean (λ h. h)
+returns-then-spots-clause-lean c = sides_lean c.args.self.now (record { servers = c.unfile.new.self; others = c.args.self.now.others }) c.unfile.ensures.lean
+    (λ h. h)
 
 pub returns-else-spots-clause-lean : goal.returns-else-spots-clause-lean
-returns-else-spots-clause-lean c = sides_lean c.args.self.now (record { servers = c.args.self.now.servers; others = c.unfile-else-spots.new.self }) (λ h. h) c.unfile-else-spots.ensures.lean
+returns-else-spots-clause-lean c = sides_lean c.args.self.now (record { servers = c.args.self.now.servers; others = c.unfile-else-spots.new.self }) (λ h. h)
+    c.unfile-else-spots.ensures.lean

@@ -9,4 +9,5 @@ use Rattle.clr_grid.proofs.side_index.SideIndex.add_cells_at_each.Given as goal
 
 -- the cells at the spots so far were added
 abbrev pub invariant-loop-spot : goal.invariant-loop-spot
-invariant-loop-spot l = (q : CellId) → set.contains l.cells q ≡ (set.contains l.fn.cells q || list_any (λ x. has_cell (get nat_eq l.self.by_spot (number_of x)) q) (take l.spot-index l.spots))
+invariant-loop-spot l = (q : CellId) → set.contains l.cells q ≡
+    (set.contains l.fn.cells q || list_any (λ x. has_cell (get nat_eq l.self.by_spot (number_of x)) q) (take l.spot-index l.spots))

@@ -6,10 +6,12 @@ use Rattle.clr_grid.proofs.side_index.SideIndex.file.Goals as goal
 
 pub returns-clause-kept : goal.returns-clause-kept
 returns-clause-kept c =
-    kept_by c.args.self.now (record { by_spot = c.file_at_each.new.by_spot; wide = c.add_if.new.self }) c.in_ok-add_if.ensures.kept c.in_ok-file_at_each.ensures.kept
+    kept_by c.args.self.now (record { by_spot = c.file_at_each.new.by_spot; wide = c.add_if.new.self }) c.in_ok-add_if.ensures.kept
+    c.in_ok-file_at_each.ensures.kept
 
 pub returns-clause-filed : goal.returns-clause-filed
-returns-clause-filed c = filed_by (record { by_spot = c.file_at_each.new.by_spot; wide = c.add_if.new.self }) c.args.spots.now c.args.cell c.in_ok-add_if.ensures.added
+returns-clause-filed c = filed_by (record { by_spot = c.file_at_each.new.by_spot; wide = c.add_if.new.self }) c.args.spots.now c.args.cell
+    c.in_ok-add_if.ensures.added
     (λ y e. c.in_ok-file_at_each.ensures.filed y (ap (list_any (has_number y)) c.as_slice.ensures ∙ e))
 
 pub returns-in_err-add_if-clause-kept : goal.returns-in_err-add_if-clause-kept
@@ -24,7 +26,11 @@ returns-in_err-file_at_each-clause-kept c =
 pub returns-clause-only : goal.returns-clause-only
 returns-clause-only c =
     only_by c.args.self.now (record { by_spot = c.file_at_each.new.by_spot; wide = c.add_if.new.self }) c.args.spots.now c.args.cell c.in_ok-add_if.ensures.only
-    (λ y q e. elim (c.in_ok-file_at_each.ensures.only y q e) [ inl old ↦ inl old | inr new ↦ inr (new.0, sym (ap (list_any (has_number y)) c.as_slice.ensures) ∙ new.1) ])
+    (λ y q e. elim (c.in_ok-file_at_each.ensures.only y q e) [
+      | inl old ↦ inl old
+      | inr new ↦
+          inr (new.0, sym (ap (list_any (has_number y)) c.as_slice.ensures) ∙ new.1)
+    ])
 
 pub returns-in_err-add_if-clause-only : goal.returns-in_err-add_if-clause-only
 returns-in_err-add_if-clause-only c =
@@ -34,4 +40,8 @@ returns-in_err-add_if-clause-only c =
 pub returns-in_err-file_at_each-clause-only : goal.returns-in_err-file_at_each-clause-only
 returns-in_err-file_at_each-clause-only c =
     only_by c.args.self.now (record { by_spot = c.file_at_each.new.by_spot; wide = c.add_if.new.self }) c.args.spots.now c.args.cell c.in_ok-add_if.ensures.only
-    (λ y q e. elim (c.in_err-file_at_each.ensures.only y q e) [ inl old ↦ inl old | inr new ↦ inr (new.0, sym (ap (list_any (has_number y)) c.as_slice.ensures) ∙ new.1) ])
+    (λ y q e. elim (c.in_err-file_at_each.ensures.only y q e) [
+      | inl old ↦ inl old
+      | inr new ↦
+          inr (new.0, sym (ap (list_any (has_number y)) c.as_slice.ensures) ∙ new.1)
+    ])

@@ -7,7 +7,8 @@ use Rattle.clr_grid.proofs.FilingLemmas.{gone_by, kept_by, stays_by}
 use Rattle.clr_grid.proofs.side_index.SideIndex.unfile.Goals as goal
 
 pub returns-clause-kept : goal.returns-clause-kept
-returns-clause-kept c = stays_by c.args.self.now (record { by_spot = c.take_at_each.new.by_spot; wide = c.remove_if.new.self }) c.args.cell (option_copied c.args.kept)
+returns-clause-kept c = stays_by c.args.self.now (record { by_spot = c.take_at_each.new.by_spot; wide = c.remove_if.new.self }) c.args.cell
+    (option_copied c.args.kept)
     (λ q p. c.remove_if.ensures.kept q (ap (λ (b : Bool). is_one c.args.cell q && not b) c.keeps_wide.ensures ∙ p))
     c.take_at_each.ensures.kept
 

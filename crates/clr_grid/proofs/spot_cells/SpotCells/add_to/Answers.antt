@@ -16,7 +16,8 @@ returns-clause-ok c =
 
 pub returns-in_err-add_some-clause-err : goal.returns-in_err-add_some-clause-err
 returns-in_err-add_some-clause-err c =
-    on_err _ (subst (GainsCells (λ q. set.contains c.args.self.now q ≡ true) c.args.cells.now) (sym c.in_err-add_some.ensures.err) (record { kept = λ q e. e; only = λ q e. inl e }))
+    on_err _ (subst (GainsCells (λ q. set.contains c.args.self.now q ≡ true) c.args.cells.now) (sym c.in_err-add_some.ensures.err)
+    (record { kept = λ q e. e; only = λ q e. inl e }))
 
 pub returns-in_err-add_keys-clause-err : goal.returns-in_err-add_keys-clause-err
 returns-in_err-add_keys-clause-err c =

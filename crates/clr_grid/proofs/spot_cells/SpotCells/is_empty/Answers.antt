@@ -7,4 +7,5 @@ pub returns-in-Some-clause-some : goal.returns-in-Some-clause-some
 returns-in-Some-clause-some c full e = not_empty c.self.inside.first _ c.self.inside.others.keys c.in-Some.is (c.self.view_is ∙ e)
 
 pub returns-in-None-clause-some : goal.returns-in-None-clause-some
-returns-in-None-clause-some c full e = absurd (false≢true (sym full ∙ c.is_empty.ensures.1 (no_others c.self.inside.first c.self.inside.others.keys c.in-None.is (c.self.view_is ∙ e))))
+returns-in-None-clause-some c full e = absurd
+    (false≢true (sym full ∙ c.is_empty.ensures.1 (no_others c.self.inside.first c.self.inside.others.keys c.in-None.is (c.self.view_is ∙ e))))

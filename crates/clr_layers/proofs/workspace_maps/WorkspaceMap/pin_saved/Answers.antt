@@ -10,16 +10,20 @@ pub returns-clause-others : goal.returns-clause-others
 returns-clause-others c =
     let k = c.pair_mut-layer.result.0.now in let v = c.pair_mut-layer.result.1.now in
     let new = c.pin_each.new.marks.items in
-    let set = changed c.self.inside.map.entries c.args.self.now c.args.at k v _ (λ (l : Layer). record l { marks = new }) c.self.view_is c.pair_mut-layer.ensures.value refl in
-    let is = ap (λ (ls : List Layer). (layer_at ls c.args.at).marks) set ∙ ap (λ (l : Layer). l.marks) (get_or-set_same c.args.self.now c.args.at _ no_layer c.requires) in
+    let set = changed c.self.inside.map.entries c.args.self.now c.args.at k v _ (λ (l : Layer). record l { marks = new }) c.self.view_is
+    c.pair_mut-layer.ensures.value refl in
+    let is = ap (λ (ls : List Layer). (layer_at ls c.args.at).marks) set
+    ∙ ap (λ (l : Layer). l.marks) (get_or-set_same c.args.self.now c.args.at _ no_layer c.requires) in
     set ∙ ap (λ (ms : List StoredMark). layer_changed c.args.self.now c.args.at (λ l. record l { marks = ms })) (sym is)
 
 pub returns-clause-seen : goal.returns-clause-seen
 returns-clause-seen c = λ base row.
     let k = c.pair_mut-layer.result.0.now in let v = c.pair_mut-layer.result.1.now in
     let new = c.pin_each.new.marks.items in
-    let set = changed c.self.inside.map.entries c.args.self.now c.args.at k v _ (λ (l : Layer). record l { marks = new }) c.self.view_is c.pair_mut-layer.ensures.value refl in
-    let is = ap (λ (ls : List Layer). (layer_at ls c.args.at).marks) set ∙ ap (λ (l : Layer). l.marks) (get_or-set_same c.args.self.now c.args.at _ no_layer c.requires) in
+    let set = changed c.self.inside.map.entries c.args.self.now c.args.at k v _ (λ (l : Layer). record l { marks = new }) c.self.view_is
+    c.pair_mut-layer.ensures.value refl in
+    let is = ap (λ (ls : List Layer). (layer_at ls c.args.at).marks) set
+    ∙ ap (λ (l : Layer). l.marks) (get_or-set_same c.args.self.now c.args.at _ no_layer c.requires) in
     let was = ap (λ (l : Layer). l.marks) (entry_at c.self.inside.map.entries c.args.self.now c.args.at (k, v) c.self.view_is c.pair_mut-layer.ensures.value) in
     ap (map (whole_mark base)) is ∙ c.pin_each.ensures.seen base row ∙ ap (map (whole_mark base)) (sym was)
 
@@ -27,15 +31,19 @@ pub returns-clause-pinned : goal.returns-clause-pinned
 returns-clause-pinned c =
     let k = c.pair_mut-layer.result.0.now in let v = c.pair_mut-layer.result.1.now in
     let new = c.pin_each.new.marks.items in
-    let set = changed c.self.inside.map.entries c.args.self.now c.args.at k v _ (λ (l : Layer). record l { marks = new }) c.self.view_is c.pair_mut-layer.ensures.value refl in
-    let is = ap (λ (ls : List Layer). (layer_at ls c.args.at).marks) set ∙ ap (λ (l : Layer). l.marks) (get_or-set_same c.args.self.now c.args.at _ no_layer c.requires) in
+    let set = changed c.self.inside.map.entries c.args.self.now c.args.at k v _ (λ (l : Layer). record l { marks = new }) c.self.view_is
+    c.pair_mut-layer.ensures.value refl in
+    let is = ap (λ (ls : List Layer). (layer_at ls c.args.at).marks) set
+    ∙ ap (λ (l : Layer). l.marks) (get_or-set_same c.args.self.now c.args.at _ no_layer c.requires) in
     on_ok c.pin_each.result _ _ (λ pinned. subst (λ (ms : List StoredMark). EachMarkPins ms c.args.cell) (sym is) pinned) c.pin_each.ensures.pinned
 
 pub returns-clause-elsewhere : goal.returns-clause-elsewhere
 returns-clause-elsewhere c = λ q apart base own.
     let k = c.pair_mut-layer.result.0.now in let v = c.pair_mut-layer.result.1.now in
     let new = c.pin_each.new.marks.items in
-    let set = changed c.self.inside.map.entries c.args.self.now c.args.at k v _ (λ (l : Layer). record l { marks = new }) c.self.view_is c.pair_mut-layer.ensures.value refl in
-    let is = ap (λ (ls : List Layer). (layer_at ls c.args.at).marks) set ∙ ap (λ (l : Layer). l.marks) (get_or-set_same c.args.self.now c.args.at _ no_layer c.requires) in
+    let set = changed c.self.inside.map.entries c.args.self.now c.args.at k v _ (λ (l : Layer). record l { marks = new }) c.self.view_is
+    c.pair_mut-layer.ensures.value refl in
+    let is = ap (λ (ls : List Layer). (layer_at ls c.args.at).marks) set
+    ∙ ap (λ (l : Layer). l.marks) (get_or-set_same c.args.self.now c.args.at _ no_layer c.requires) in
     let was = ap (λ (l : Layer). l.marks) (entry_at c.self.inside.map.entries c.args.self.now c.args.at (k, v) c.self.view_is c.pair_mut-layer.ensures.value) in
     subst (AreOwnOver base q) (sym is) (c.pin_each.ensures.others q apart base (subst (AreOwnOver base q) was own))

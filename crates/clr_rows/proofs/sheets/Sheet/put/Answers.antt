@@ -12,7 +12,8 @@ use Rattle.clr_rows.proofs.sheets.Sheet.put.Goals as goal
 
 pub returns-in_err-before-clause-held : goal.returns-in_err-before-clause-held
 returns-in_err-before-clause-held c =
-    let none = ap (λ m. row_at m c.args.cell) (sym c.self.view_is) ∙ get_sorted cell_cmp c.self.inside.rows.entries c.args.cell c.self.invariant.ascending ∙ c.in_err-before.ensures.absent in
+    let none = ap (λ m. row_at m c.args.cell) (sym c.self.view_is) ∙ get_sorted cell_cmp c.self.inside.rows.entries c.args.cell c.self.invariant.ascending
+    ∙ c.in_err-before.ensures.absent in
     λ some. absurd (false≢true (subst IsSome none some))
 
 pub invariant_of-self-2 : goal.invariant_of-self-2

@@ -2,7 +2,7 @@ use Rattle.std.proofs.Common.{◌≡◌, ◌∙◌, ap, subst, sym}
 use Rattle.clr_finders.specs.Sharing.{IsSettledFor}
 use Rattle.clr_needs.specs.Members.{AreApart, setting}
 use Rattle.clr_foot.specs.Scenes.{IsReady, setting_of}
-use Rattle.clr_foot.specs.Versions.{FitsSetting}
+use Rattle.clr_versions.specs.Versions.{FitsSetting}
 use Rattle.clr_steps.specs.Quiet.{root_content}
 use Rattle.clr_clearance.specs.Sites.{setting_by_position}
 use Rattle.clr_sites.proofs.SiteLemmas.{made_with, site_fits}

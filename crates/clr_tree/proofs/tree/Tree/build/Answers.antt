@@ -1,6 +1,6 @@
 use Rattle.std.proofs.Common.{List, map, ap, sym, subst, ◌∙◌}
 use Rattle.std.proofs.lemmas.Result.{err_from_is_err_and}
-use Rattle.clr_parts.specs.Parts.{workspace_of, first_fault, IsRefused}
+use Rattle.clr_parts.specs.Parts.{workspace_of, first_fault, IsFirstPartFault}
 use Rattle.clr_parts.specs.declared.parts.Part.{Part}
 use Rattle.clr_parts.proofs.BuildLemmas.{some_layers, sound_layers, none_wrong, marks_wrong}
 use Rattle.clr_tree.proofs.tree.Tree.build.Goals as goal
@@ -22,6 +22,6 @@ pub returns-in_err-judge_marks-clause-refused : goal.returns-in_err-judge_marks-
 returns-in_err-judge_marks-clause-refused c =
     let p = err_from_is_err_and c.from_residual-in_err-judge_marks.result c.from_residual-in_err-judge_marks.ensures.1 in
     rw (p.1, p.2)
-    (subst (λ (parts : List Part). IsRefused (first_fault c.args.live parts) c.in_err-judge_marks.field-0.0) c.as_slice.ensures.value
+    (subst (λ (parts : List Part). IsFirstPartFault (first_fault c.args.live parts) c.in_err-judge_marks.field-0.0) c.as_slice.ensures.value
     (marks_wrong c.args.live c.in_ok-map.map (map workspace_of c.as_slice.result.now) c.in_ok-map.ensures.made c.in_ok-map.ensures.passed
     c.in_err-judge_marks.field-0.0 c.in_err-judge_marks.ensures.refused))

@@ -27,7 +27,8 @@ invariant_of-self c =
     let lt = within_wholes live ls at in_ls in
     let s = c.self.invariant.0 in
     let absent = subst (λ (t : Tree). find_mark (workspace_at t.list at).marks c.args.name.now ≡ None) (sym c.self.view_is) c.requires.absent in
-    let room = subst (λ n. n < MOST_SAVEPOINTS) (sym (count_names (workspace_at ws at).marks)) (subst (λ (t : Tree). saved_count (workspace_at t.list at).marks < MOST_SAVEPOINTS) (sym c.self.view_is) c.requires.room) in (
+    let room = subst (λ n. n < MOST_SAVEPOINTS) (sym (count_names (workspace_at ws at).marks))
+    (subst (λ (t : Tree). saved_count (workspace_at t.list at).marks < MOST_SAVEPOINTS) (sym c.self.view_is) c.requires.room) in (
       either c.mark.result _ _ _ (λ is. subst IsSound (sym (is)) (sound_saved ws at s lt c.requires.child c.args.name.now
           (good_more (workspace_at ws at).marks c.args.name.now (s.saved at lt) c.requires.good (absent_name (workspace_at ws at).marks c.args.name.now absent)
           room (workspace_at ws at).current))) (λ is. subst IsSound (sym is) s) c.mark.ensures.ok c.mark.ensures.err,
@@ -44,7 +45,8 @@ returns-clause-ok c =
     let lt = within_wholes live ls at in_ls in
     let s = c.self.invariant.0 in
     let absent = subst (λ (t : Tree). find_mark (workspace_at t.list at).marks c.args.name.now ≡ None) (sym c.self.view_is) c.requires.absent in
-    let room = subst (λ n. n < MOST_SAVEPOINTS) (sym (count_names (workspace_at ws at).marks)) (subst (λ (t : Tree). saved_count (workspace_at t.list at).marks < MOST_SAVEPOINTS) (sym c.self.view_is) c.requires.room) in
+    let room = subst (λ n. n < MOST_SAVEPOINTS) (sym (count_names (workspace_at ws at).marks))
+    (subst (λ (t : Tree). saved_count (workspace_at t.list at).marks < MOST_SAVEPOINTS) (sym c.self.view_is) c.requires.room) in
     on_ok c.mark.result _ _ (λ is. became live c.self.inside.live ls c.mark.new.map c.args.self.now (λ ws. after_mark ws c.args.at c.args.name.now)
     c.self.view_is (is)) c.mark.ensures.ok
 

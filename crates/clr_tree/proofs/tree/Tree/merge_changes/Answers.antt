@@ -8,7 +8,8 @@ merge_changes-requires-clause-within c = within_tree c.self.inside.live c.self.i
 
 pub invariant_of-self : goal.invariant_of-self
 invariant_of-self c =
-    let sound = rebased_sound c.merge_changes.result c.self.inside.live c.merge_changes.new.live c.self.inside.map c.merge_changes.new.map c.args.self.now c.self.view_is c.args.at rebase.Merge in (
+    let sound = rebased_sound c.merge_changes.result c.self.inside.live c.merge_changes.new.live c.self.inside.map c.merge_changes.new.map c.args.self.now
+    c.self.view_is c.args.at rebase.Merge in (
       sound c.requires.within c.requires.child c.self.invariant.0 c.merge_changes.ensures.ok c.merge_changes.ensures.err,
       λ flag. c.merge_changes.ensures.lean
           (c.self.invariant.1 flag),

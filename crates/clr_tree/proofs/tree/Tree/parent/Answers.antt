@@ -17,13 +17,15 @@ returns-clause-found c = c.find.ensures.found ∙ ap (find_layer c.self.inside.m
 pub returns-clause-earlier : goal.returns-clause-earlier
 returns-clause-earlier c =
     let ws = wholes c.self.inside.live c.self.inside.map in
-    let found : c.find.result ≡ parent_of ws c.args.at = c.find.ensures.found ∙ ap (find_layer c.self.inside.map) c.parent_name.ensures ∙ sym (parent_here c.self.inside.live c.self.inside.map c.args.at) in
+    let found : c.find.result ≡ parent_of ws c.args.at = c.find.ensures.found ∙ ap (find_layer c.self.inside.map) c.parent_name.ensures
+    ∙ sym (parent_here c.self.inside.live c.self.inside.map c.args.at) in
     rw found (parent_earlier ws c.args.at c.self.invariant.0.rooted (within_wholes c.self.inside.live c.self.inside.map c.args.at
     (within_tree c.self.inside.live c.self.inside.map c.args.self.now c.args.at c.self.view_is c.requires)))
 
 pub returns-clause-child : goal.returns-clause-child
 returns-clause-child c =
     let ws = wholes c.self.inside.live c.self.inside.map in
-    let found : c.find.result ≡ parent_of ws c.args.at = c.find.ensures.found ∙ ap (find_layer c.self.inside.map) c.parent_name.ensures ∙ sym (parent_here c.self.inside.live c.self.inside.map c.args.at) in
+    let found : c.find.result ≡ parent_of ws c.args.at = c.find.ensures.found ∙ ap (find_layer c.self.inside.map) c.parent_name.ensures
+    ∙ sym (parent_here c.self.inside.live c.self.inside.map c.args.at) in
     rw found (parent_found ws c.args.at c.self.invariant.0.rooted (within_wholes c.self.inside.live c.self.inside.map c.args.at
     (within_tree c.self.inside.live c.self.inside.map c.args.self.now c.args.at c.self.view_is c.requires)))

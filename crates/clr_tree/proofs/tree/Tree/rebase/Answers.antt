@@ -7,7 +7,8 @@ rebase-requires-clause-within c = within_tree c.self.inside.live c.self.inside.m
 
 pub invariant_of-self : goal.invariant_of-self
 invariant_of-self c =
-    let sound = rebased_sound c.rebase.result c.self.inside.live c.rebase.new.live c.self.inside.map c.rebase.new.map c.args.self.now c.self.view_is c.args.at c.args.how in (
+    let sound = rebased_sound c.rebase.result c.self.inside.live c.rebase.new.live c.self.inside.map c.rebase.new.map c.args.self.now c.self.view_is c.args.at
+    c.args.how in (
       sound c.requires.within c.requires.child c.self.invariant.0 c.rebase.ensures.ok c.rebase.ensures.err,
       λ flag. c.rebase.ensures.lean
           (c.self.invariant.1 flag),

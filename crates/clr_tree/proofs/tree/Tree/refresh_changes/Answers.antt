@@ -8,7 +8,8 @@ refresh_changes-requires-clause-within c = within_tree c.self.inside.live c.self
 
 pub invariant_of-self : goal.invariant_of-self
 invariant_of-self c =
-    let sound = rebased_sound c.refresh_changes.result c.self.inside.live c.self.inside.live c.self.inside.map c.refresh_changes.new.map c.args.self.now c.self.view_is c.args.at rebase.Refresh in (
+    let sound = rebased_sound c.refresh_changes.result c.self.inside.live c.self.inside.live c.self.inside.map c.refresh_changes.new.map c.args.self.now
+    c.self.view_is c.args.at rebase.Refresh in (
       sound c.requires.within c.requires.child c.self.invariant.0 c.refresh_changes.ensures.ok c.refresh_changes.ensures.err,
       λ flag.
           c.refresh_changes.ensures.lean (c.self.invariant.1 flag),

@@ -1,0 +1,2 @@
+pub mod CandidateLaws
+pub mod NewPairLaws

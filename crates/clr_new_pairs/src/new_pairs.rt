@@ -1,0 +1,318 @@
+//! The needs of two new versions. Parts of new rows are filed by their spots, one after another, and
+//! each is held against those that were filed before it and share a spot with it. Where a need of
+//! two of them breaks and only the least such need is sought, those behind it are left out.
+
+ghost use Rattle.std.specs.Prelude.{◌≡◌, ◌<◌, ◌+◌, ◌-◌, ◌&&◌, ◌==◌, length, slice_get, IfSome, MatchOption, None, Some, OnOk};
+ghost use Rattle.clr_versions.specs.Candidates.{IsNeedAmong, IsNeedOf, IsNeedOfAsk, IsNeedOfPair};
+ghost use Rattle.clr_versions.specs.Gains.{Gains, OfSome, Reaches};
+ghost use Rattle.clr_new_pairs.specs.NewPairs.{AreFiledBefore, IsNeedAtPosition, IsNeedOfEntry, IsNeedOfParts, IsNeedOfTwo};
+ghost use Rattle.clr_new_pairs.specs.NewPairs.{HasBreakAt, IsNeedWithBefore, IsNeedWithPart, Passes, UpTo, is_past, with_part};
+ghost use Rattle.clr_versions.specs.RootVersions.{setting_in};
+ghost use Rattle.clr_needs.specs.Needs.{is_fresh};
+ghost use Rattle.clr_versions.specs.Versions.{AreAt, FitsSetting, IsAt, row_of};
+
+use crate::unserved::is_unserved_by_number;
+use clr_needs::Need;
+use clr_rows::{CellId, RowView};
+use clr_rules::Ask;
+use clr_spot_maps::{FiledPart, SpotMap};
+use clr_spots::subject_spots;
+use clr_versions::{RootVersions, Version, are_opposed, may_be_paired};
+use std::alloc::{AllocError, Global};
+use std::cmp::Ordering;
+
+/// The version at a position, if there is one.
+fn version_at<'a>(versions: &[Version<'a>], position: usize) -> Option<Version<'a>>
+    ensures { MatchOption result (slice_get versions.now position ≡ None) (λ v. slice_get versions.now position ≡ Some v) }
+{
+    versions.get(position).copied()
+}
+
+/// The last of some needs, if there is one.
+fn last_need(needs: &[Need]) -> Option<Need>
+    ensures { IfSome result (λ n. slice_get needs.now (length needs.now - 1) ≡ Some n) }
+{
+    needs.last().copied()
+}
+
+/// Whether a need is that of two new versions under a rule.
+fn is_of_two_new(rule: u16, need: &Need) -> bool
+    ensures { result ≡ (is_fresh need.now.second && (need.now.first.fresh && (need.now.rule == rule))) }
+{
+    match need.second {
+        None => false,
+        Some(second) => second.fresh && (need.first.fresh && need.rule == rule),
+    }
+}
+
+/// Whether two cells stand behind the last one that counts, where there is such a one.
+fn are_past(last: Option<CellId>, one: CellId, other: CellId) -> bool
+    ensures { result ≡ (is_past last one && is_past last other) }
+{
+    match last {
+        None => false,
+        Some(last) => one.cmp(&last).is_gt() && other.cmp(&last).is_gt(),
+    }
+}
+
+/// A root's rows and what members change there, to look for needs of two new rows.
+#[derive(Drop)]
+pub struct NewPairs<'s, 'a, V> {
+    pub alloc: Global,
+    pub versions: RootVersions<'s, 'a, V>,
+}
+
+impl<V: RowView> NewPairs<'_, '_, V> {
+    /// Adds the need of two versions in these parts, if the rule asks it.
+    fn add_if_called(
+        &self,
+        ask: Ask,
+        first: Version,
+        second: Version,
+        needs: &mut Vec<Need>,
+    ) -> Result<(), AllocError>
+        requires number { ask.rule < length self.now.versions.book.now }
+        requires fit { FitsSetting (setting_in V.content self.now.versions) }
+        requires first { IsAt (setting_in V.content self.now.versions) first }
+        requires second { IsAt (setting_in V.content self.now.versions) second }
+        ensures { OnOk result (Gains (IsNeedOf self.now.versions.book.now ask.rule None first.entry (Some second.entry))
+            (IsNeedOfAsk self.now.versions.book.now ask None first.entry second.entry) needs.old.items needs.new.items) }
+    {
+        if self
+            .versions
+            .book
+            .calls_two(ask, first.as_held(), second.as_held())
+        {
+            needs.push(Need::new(ask, first.id, Some(second.id)))?;
+        }
+        Ok(())
+    }
+
+    /// Adds the need of a part of a version and a part of another one, in the order of their cells.
+    fn add_of_parts(
+        &self,
+        rule: u16,
+        one: Version,
+        part: u16,
+        other: Version,
+        other_part: u16,
+        needs: &mut Vec<Need>,
+    ) -> Result<(), AllocError>
+        requires number { rule < length self.now.versions.book.now }
+        requires fit { FitsSetting (setting_in V.content self.now.versions) }
+        requires one { IsAt (setting_in V.content self.now.versions) one }
+        requires other { IsAt (setting_in V.content self.now.versions) other }
+        ensures { OnOk result (Gains (IsNeedOfPair self.now.versions.book.now rule None one.entry other.entry)
+            (IsNeedOfParts self.now.versions.book.now rule one.entry part other.entry other_part) needs.old.items needs.new.items) }
+    {
+        if are_opposed(one.life, other.life) {
+            return Ok(());
+        }
+        match one.id.cell.cmp(&other.id.cell) {
+            Ordering::Less => {
+                let ask = Ask {
+                    rule,
+                    first_part: part,
+                    second_part: other_part,
+                };
+                self.add_if_called(ask, one, other, needs)?
+            }
+            Ordering::Equal => {}
+            Ordering::Greater => {
+                let ask = Ask {
+                    rule,
+                    first_part: other_part,
+                    second_part: part,
+                };
+                self.add_if_called(ask, other, one, needs)?
+            }
+        }
+        Ok(())
+    }
+
+    /// Adds the need of a part of a version and the part of an entry, unless its first subject is past
+    /// the last cell that counts.
+    fn add_of_entry(
+        &self,
+        rule: u16,
+        fresh: &[Version],
+        one: Version,
+        part: u16,
+        last: Option<CellId>,
+        entry: FiledPart,
+        needs: &mut Vec<Need>,
+    ) -> Result<(), AllocError>
+        requires number { rule < length self.now.versions.book.now }
+        requires fit { FitsSetting (setting_in V.content self.now.versions) }
+        requires fresh { AreAt (setting_in V.content self.now.versions) fresh.now }
+        requires one { IsAt (setting_in V.content self.now.versions) one }
+        ensures { OnOk result (Gains (IsNeedAmong self.now.versions.book.now rule None one.entry fresh.now)
+            (UpTo last (IsNeedOfEntry self.now.versions.book.now rule fresh.now one.entry part entry)) needs.old.items needs.new.items) }
+    {
+        match version_at(fresh, entry.position) {
+            None => Ok(()),
+            Some(other) => {
+                if are_past(last, one.id.cell, other.id.cell) {
+                    return Ok(());
+                }
+                self.add_of_parts(rule, one, part, other, entry.part, needs)?;
+                Ok(())
+            }
+        }
+    }
+
+    /// Adds the needs of a part of a version and the parts of some entries.
+    fn add_of_entries(
+        &self,
+        rule: u16,
+        fresh: &[Version],
+        one: Version,
+        part: u16,
+        last: Option<CellId>,
+        entries: &[FiledPart],
+        needs: &mut Vec<Need>,
+    ) -> Result<(), AllocError>
+        requires number { rule < length self.now.versions.book.now }
+        requires fit { FitsSetting (setting_in V.content self.now.versions) }
+        requires fresh { AreAt (setting_in V.content self.now.versions) fresh.now }
+        requires one { IsAt (setting_in V.content self.now.versions) one }
+        ensures { OnOk result (Gains (IsNeedAmong self.now.versions.book.now rule None one.entry fresh.now)
+            (OfSome (λ e. UpTo last (IsNeedOfEntry self.now.versions.book.now rule fresh.now one.entry part e)) entries.now) needs.old.items needs.new.items) }
+    {
+        for entry in entries {
+            self.add_of_entry(rule, fresh, one, part, last, *entry, needs)?;
+        }
+        Ok(())
+    }
+
+    /// Adds the needs of a part of the version at a position and of versions before it, and files the
+    /// part.
+    fn add_of_part_at(
+        &self,
+        rule: u16,
+        fresh: &[Version],
+        position: usize,
+        one: Version,
+        part: u16,
+        last: Option<CellId>,
+        filed: &mut SpotMap,
+        needs: &mut Vec<Need>,
+    ) -> Result<(), AllocError>
+        requires number { rule < length self.now.versions.book.now }
+        requires fit { FitsSetting (setting_in V.content self.now.versions) }
+        requires fresh { AreAt (setting_in V.content self.now.versions) fresh.now }
+        requires one { IsAt (setting_in V.content self.now.versions) one }
+        requires before { AreFiledBefore self.now.versions.book.now rule fresh.now position filed.old }
+        ensures filed { OnOk result (filed.new ≡ with_part self.now.versions.book.now rule filed.old position part (row_of one.entry)) }
+        ensures needs { OnOk result (Gains (IsNeedAmong self.now.versions.book.now rule None one.entry fresh.now)
+            (UpTo last (IsNeedWithPart self.now.versions.book.now rule fresh.now position one.entry part)) needs.old.items needs.new.items) }
+    {
+        let spots = subject_spots(self.alloc, self.versions.book, rule, part, one.as_held())?;
+        let mut beside = Vec::new(self.alloc);
+        filed.add_near(&spots, &mut beside)?;
+        self.add_of_entries(rule, fresh, one, part, last, beside.as_slice(), needs)?;
+        filed.file(self.alloc, FiledPart { position, part }, spots)?;
+        Ok(())
+    }
+
+    /// Adds the needs of the version at a position and of versions before it, and files its parts.
+    fn add_of_new(
+        &self,
+        rule: u16,
+        fresh: &[Version],
+        position: usize,
+        one: Version,
+        last: Option<CellId>,
+        filed: &mut SpotMap,
+        needs: &mut Vec<Need>,
+    ) -> Result<(), AllocError>
+        requires number { rule < length self.now.versions.book.now }
+        requires fit { FitsSetting (setting_in V.content self.now.versions) }
+        requires fresh { AreAt (setting_in V.content self.now.versions) fresh.now }
+        requires one { IsAt (setting_in V.content self.now.versions) one }
+        requires at { slice_get fresh.now position ≡ Some one }
+        requires before { AreFiledBefore self.now.versions.book.now rule fresh.now position filed.old }
+        ensures filed { OnOk result (AreFiledBefore self.now.versions.book.now rule fresh.now (position + 1) filed.new) }
+        ensures needs { OnOk result (Gains (IsNeedAmong self.now.versions.book.now rule None one.entry fresh.now)
+            (UpTo last (IsNeedWithBefore self.now.versions.book.now rule fresh.now position one.entry)) needs.old.items needs.new.items) }
+    {
+        if !may_be_paired(self.versions.book, rule, one) {
+            return Ok(());
+        }
+        for part in 0..self.versions.book.part_count(rule, one.as_held()) {
+            self.add_of_part_at(rule, fresh, position, one, part + 1, last, filed, needs)?;
+        }
+        Ok(())
+    }
+
+    /// Adds the needs of the version at a position, if there is one, and of versions before it, and
+    /// files its parts.
+    fn add_of_new_at(
+        &self,
+        rule: u16,
+        fresh: &[Version],
+        position: usize,
+        last: Option<CellId>,
+        filed: &mut SpotMap,
+        needs: &mut Vec<Need>,
+    ) -> Result<(), AllocError>
+        requires number { rule < length self.now.versions.book.now }
+        requires fit { FitsSetting (setting_in V.content self.now.versions) }
+        requires fresh { AreAt (setting_in V.content self.now.versions) fresh.now }
+        requires before { AreFiledBefore self.now.versions.book.now rule fresh.now position filed.old }
+        ensures filed { OnOk result (AreFiledBefore self.now.versions.book.now rule fresh.now (position + 1) filed.new) }
+        ensures needs { OnOk result (Gains (IsNeedOfTwo self.now.versions.book.now rule fresh.now)
+            (UpTo last (IsNeedAtPosition self.now.versions.book.now rule fresh.now position)) needs.old.items needs.new.items) }
+    {
+        match version_at(fresh, position) {
+            None => Ok(()),
+            Some(one) => {
+                self.add_of_new(rule, fresh, position, one, last, filed, needs)?;
+                Ok(())
+            }
+        }
+    }
+
+    /// The cell of the first subject of the last of some needs, where needs behind it may be left
+    /// out: it is of this rule, under which no row serves, and of two new versions.
+    fn last_that_counts(&self, rule: u16, leaves_out: bool, needs: &[Need]) -> Option<CellId>
+        requires number { rule < length self.now.versions.book.now }
+        ensures { IfSome result (HasBreakAt self.now.versions.book.now leaves_out rule needs.now) }
+    {
+        if !leaves_out {
+            return None;
+        }
+        if !is_unserved_by_number(self.versions.book, rule) {
+            return None;
+        }
+        let need = last_need(needs)?;
+        if is_of_two_new(rule, &need) {
+            return Some(need.first.cell);
+        }
+        None
+    }
+
+    /// Adds the needs of two of some versions. If it is leaves_out, it may leave needs out that stand
+    /// behind one of two new versions in the list, under a rule by which no row serves. It fails for
+    /// want of memory alone.
+    pub fn add_of_new_pairs(
+        &self,
+        rule: u16,
+        leaves_out: bool,
+        fresh: &[Version],
+        needs: &mut Vec<Need>,
+    ) -> Result<(), AllocError>
+        requires number { rule < length self.now.versions.book.now }
+        requires fit { FitsSetting (setting_in V.content self.now.versions) }
+        requires fresh { AreAt (setting_in V.content self.now.versions) fresh.now }
+        ensures { OnOk result (Reaches (Passes self.now.versions.book.now leaves_out) (IsNeedOfTwo self.now.versions.book.now rule fresh.now)
+            (IsNeedOfTwo self.now.versions.book.now rule fresh.now) needs.old.items needs.new.items) }
+    {
+        let mut filed = SpotMap::new(self.alloc);
+        for position in 0..fresh.len() {
+            let last = self.last_that_counts(rule, leaves_out, needs.as_slice());
+            self.add_of_new_at(rule, fresh, position, last, &mut filed, needs)?;
+        }
+        Ok(())
+    }
+}

@@ -1,0 +1,9 @@
+pub mod AskLaws
+pub mod ChangedCells
+pub mod ChangerSteps
+pub mod Gaining
+pub mod PartSteps
+pub mod Searches
+pub mod ServingLaws
+pub mod SharedCells
+pub mod VersionFits

@@ -1,0 +1,44 @@
+use Rattle.std.proofs.Common.{◌∙◌, List, Some, subst, sym, ap}
+use Rattle.std.specs.Prelude.{if◌then◌else◌}
+use Rattle.std.specs.BTreeMap.{get, is_at}
+use Rattle.std.specs.Map.Iter.{deref_pair}
+use Rattle.std.proofs.lemmas.Map.Iter.{rest_more, rest_all}
+use Rattle.clr_rows.specs.declared.cells.CellId.{CellId}
+use Rattle.clr_rows.specs.declared.cells.Change.{Change}
+use Rattle.clr_rows.specs.Cells.{cell_cmp}
+use Rattle.clr_versions.specs.declared.changers.Changers.{Changers}
+use Rattle.clr_versions.specs.Changers.{with_member}
+use Rattle.clr_versions.proofs.ChangedCells.{cells_of}
+use Rattle.clr_versions.proofs.ChangerSteps.{IsNoting, all_noted, first_noting, noting_further}
+use Rattle.clr_versions.proofs.Searches.{set_at, sets_of}
+use Rattle.clr_versions.proofs.changers.note_member.Goals as goal
+
+pub loop-cell-init : goal.loop-cell-init
+loop-cell-init c =
+    let sets = sets_of c.args.sets.now in
+    let found = get cell_cmp c.args.changers.now in
+    let at = set_at c.args.sets.now c.args.position c.index-sets-position.result c.requires.within c.index-sets-position.is in
+    let all = c.into_iter-cell-iterator.ensures.into_iter_gives ∙ c.iter-cell-items.ensures.rest in
+    subst (λ (es : List (CellId × Change)). IsNoting sets c.args.position found (cells_of es)) (sym all)
+    (first_noting sets c.args.position c.index-sets-position.result.now found at c.requires.before)
+
+pub loop-cell-preserved : goal.loop-cell-preserved
+loop-cell-preserved c =
+    let sets = sets_of c.args.sets.now in
+    let found = get cell_cmp c.loop-cell.changers in
+    let next = get cell_cmp c.insert.new.self in
+    let left = c.next.new.self in
+    let entries = rest_more deref_pair c.loop-cell.cell-iterator left c.next.result (c.in-Some.cell, c.in-Some.field-0-1) c.in-Some.is c.next.ensures.steps in
+    let made = c.with_member-noted.ensures ∙ ap (λ x. with_member x c.args.position) (c.copied.ensures ∙ c.get.ensures.value) in
+    let before = subst (λ (es : List (CellId × Change)). IsNoting sets c.args.position found (cells_of es)) entries c.loop-cell.invariant in
+    let steps = λ (q : CellId). c.in_ok-insert.ensures.updates.0 q ∙ ap (λ (m : Changers). if is_at (cell_cmp c.in-Some.cell.now) q then Some m else found q)
+    made in
+    noting_further sets c.args.position c.in-Some.cell.now (cells_of left) found next steps before
+
+pub returns : goal.returns
+returns c =
+    let sets = sets_of c.args.sets.now in
+    let found = get cell_cmp c.loop-cell.changers in
+    let ended = rest_all deref_pair c.loop-cell.cell-iterator c.next.new.self c.next.result c.in-None.is c.next.ensures.steps in
+    all_noted sets c.args.position found (subst (λ (es : List (CellId × Change)). IsNoting sets c.args.position found (cells_of es)) ended
+    c.loop-cell.invariant)
