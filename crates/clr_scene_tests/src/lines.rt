@@ -72,17 +72,17 @@ fn one_or_two(
     Ok(list)
 }
 
-/// The witnesses that are picked for a need.
+/// The witnesses that are picked for a need. Where a server that stays is found at once, picking takes
+/// no memory, so that no want of it is tried here.
 fn witnesses_of<V: RowView, F: RowFinder>(
     alloc: Global,
     scene: &Scene<'_, V, F>,
     need: &Need,
-    memory: &mut Memory,
 ) -> Result<Vec<VersionId>, AllocError>
     requires ready { IsReady F.settled (model_of V.content scene.now) }
     requires possible { IsPossibleNeed (setting_of (model_of V.content scene.now)) need.now }
 {
-    match memory.answer(|| scene.pick(need))? {
+    match scene.pick(need)? {
         Some((one, two)) => one_or_two(alloc, one, two),
         None => Ok(Vec::new(alloc)),
     }
@@ -103,7 +103,7 @@ fn need_line<V: RowView, F: RowFinder>(
     let subjects = version_list(alloc, schema, scene, subjects.as_slice())?;
     let servers = memory.answer(|| scene.servers(need))?;
     let servers = version_list(alloc, schema, scene, servers.as_slice())?;
-    let witnesses = witnesses_of(alloc, scene, need, memory)?;
+    let witnesses = witnesses_of(alloc, scene, need)?;
     let witnesses = version_list(alloc, schema, scene, witnesses.as_slice())?;
     let blockers = memory.answer(|| scene.blockers(need))?;
     let blockers = member_list(alloc, blockers.as_slice())?;
