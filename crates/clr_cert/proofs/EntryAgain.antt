@@ -27,9 +27,20 @@ use Rattle.clr_records.proofs.Decimals.{number_again}
 use Rattle.clr_records.proofs.Utf8.{name_byte_low}
 use Rattle.clr_cert.specs.declared.certificates.Entry.{Entry}
 use Rattle.clr_cert.specs.declared.limits.TheConstants.{GREATEST_PART}
-use Rattle.clr_cert.specs.Texts.{IsInSchema, IsWellFormedEntry, IsPart, IsReadBack, entry_fields, fresh_word, part_text, second_text, subject_text, two_text}
+use Rattle.clr_cert.specs.Texts.{
+  IsInSchema,
+  IsWellFormedEntry,
+  IsPart,
+  IsReadBack,
+  entry_fields,
+  fresh_word,
+  entry_part_text,
+  entry_second_text,
+  entry_subject_text,
+  two_text,
+}
 use Rattle.clr_cert.specs.Texts.{version_text}
-use Rattle.clr_cert.specs.Versions.{cell_and_rest, cut_of, entry_of, fresh_of, is_slash, second_of, subject_of, two_of, version_of, word_and_part}
+use Rattle.clr_cert.specs.Versions.{cell_and_rest, slash_cut_of, entry_of, fresh_of, is_slash, second_of, subject_of, two_of, written_version_of, word_and_part}
 
 -- texts without `/` ------------------------------------------------------------------------------
 
@@ -48,8 +59,8 @@ slash_at : (s rest : List ℕ) → list_all no_slash s ≡ true → position_or_
 slash_at [] rest e = refl
 slash_at (b ∷ s) rest e = rw (and_left (no_slash b) (list_all no_slash s) e, slash_at s rest (and_right (no_slash b) (list_all no_slash s) e)) (omega arith)
 
-cut_again : (s rest : List ℕ) → list_all no_slash s ≡ true → cut_of (s ++ 47 ∷ rest) ≡ Some (s, rest)
-unfolding cut_of
+cut_again : (s rest : List ℕ) → list_all no_slash s ≡ true → slash_cut_of (s ++ 47 ∷ rest) ≡ Some (s, rest)
+unfolding slash_cut_of
 cut_again s rest e =
     let lt : ltb (length s) (length (s ++ 47 ∷ rest)) ≡ true = lt-ltb (length s) (length (s ++ 47 ∷ rest)) (omega (arith, length-append s (47 ∷ rest))) in
     rw (slash_at s rest e, lt, take_at s (47 ∷ rest) (length s) refl, drop-append-add s (47 ∷ rest) 1) refl
@@ -152,8 +163,9 @@ fresh_ascii : (b : Bool) → IsAscii (fresh_word b)
 fresh_ascii true = bytes_ascii (fresh_word true) refl
 fresh_ascii false = bytes_ascii (fresh_word false) refl
 
-version_again : (tables : List TableDef) (v : VersionId) → schema_fault tables ≡ None → IsInSchema tables v → version_of tables (version_text tables v) ≡ Some v
-unfolding version_of
+version_again : (tables : List TableDef) (v : VersionId) → schema_fault tables ≡ None → IsInSchema tables v
+    → written_version_of tables (version_text tables v) ≡ Some v
+unfolding written_version_of
 version_again tables v sound is = rw (cell_again tables v.cell (fresh_word v.fresh) sound is, fresh_again v.fresh) refl
 
 version_ascii : (tables : List TableDef) (v : VersionId) → schema_fault tables ≡ None → IsInSchema tables v → IsAscii (version_text tables v)
@@ -161,23 +173,24 @@ version_ascii tables v sound is = cell_ascii tables v.cell (fresh_word v.fresh) 
 
 -- a subject's text: its cell, and then its word and its part
 subject_is : (tables : List TableDef) (v : VersionId) (part : ℕ)
-    → subject_text tables v part ≡ name_of_table tables v.cell.table ++ 47 ∷ (signed_decimal v.cell.key ++ 47 ∷ (fresh_word v.fresh ++ part_text part))
+    → entry_subject_text tables v part ≡ name_of_table tables v.cell.table ++ 47 ∷ (signed_decimal v.cell.key ++ 47 ∷
+    (fresh_word v.fresh ++ entry_part_text part))
 subject_is tables v part =
     rw (
-      append_assoc (name_of_table tables v.cell.table) (47 ∷ (signed_decimal v.cell.key ++ 47 ∷ fresh_word v.fresh)) (part_text part),
+      append_assoc (name_of_table tables v.cell.table) (47 ∷ (signed_decimal v.cell.key ++ 47 ∷ fresh_word v.fresh)) (entry_part_text part),
       append_assoc
-          (signed_decimal v.cell.key) (47 ∷ fresh_word v.fresh) (part_text part),
+          (signed_decimal v.cell.key) (47 ∷ fresh_word v.fresh) (entry_part_text part),
     ) refl
 
 no_part : (b : Bool) → word_and_part (fresh_word b) ≡ Some (fresh_word b, 1)
-unfolding cut_of
+unfolding slash_cut_of
 no_part true = refl
 no_part false = refl
 
-part_again : (b : Bool) (part : ℕ) → IsPart part → word_and_part (fresh_word b ++ part_text part) ≡ Some (fresh_word b, part)
+part_again : (b : Bool) (part : ℕ) → IsPart part → word_and_part (fresh_word b ++ entry_part_text part) ≡ Some (fresh_word b, part)
 part_again b part is = by (part == 1) refl
   where
-    by : (one : Bool) → (part == 1) ≡ one → word_and_part (fresh_word b ++ part_text part) ≡ Some (fresh_word b, part)
+    by : (one : Bool) → (part == 1) ≡ one → word_and_part (fresh_word b ++ entry_part_text part) ≡ Some (fresh_word b, part)
     by true e = rw (eqb-true part 1 e, append-nil (fresh_word b)) (no_part b)
     by false e =
         let more : 1 < part = grind (arith, nat_tests, is.0) in
@@ -191,32 +204,38 @@ part_again b part is = by (part == 1) refl
               GREATEST_PART most,
         ) refl
 
-part_ascii : (b : Bool) (part : ℕ) → IsPart part → IsAscii (fresh_word b ++ part_text part)
-part_ascii b part is = IsAscii-append (fresh_word b) (part_text part) (fresh_ascii b) (by (part == 1) refl)
+part_ascii : (b : Bool) (part : ℕ) → IsPart part → IsAscii (fresh_word b ++ entry_part_text part)
+part_ascii b part is = IsAscii-append (fresh_word b) (entry_part_text part) (fresh_ascii b) (by (part == 1) refl)
   where
-    by : (one : Bool) → (part == 1) ≡ one → IsAscii (part_text part)
+    by : (one : Bool) → (part == 1) ≡ one → IsAscii (entry_part_text part)
     by true e = rw e IsAscii-nil
     by false e = let most = is.1 in rw e (IsAscii-cons 47 (decimal part) (omega arith) (IsAscii-decimal part (omega arith)))
 
 subject_again : (tables : List TableDef) (v : VersionId) (part : ℕ) → schema_fault tables ≡ None → IsInSchema tables v → IsPart part
-    → subject_of tables (subject_text tables v part) ≡ Some (v, part)
+    → subject_of tables (entry_subject_text tables v part) ≡ Some (v, part)
 unfolding subject_of
 subject_again tables v part sound is one =
-    rw (subject_is tables v part, cell_again tables v.cell (fresh_word v.fresh ++ part_text part) sound is, part_again v.fresh part one, fresh_again v.fresh)
+    rw (
+      subject_is tables v part,
+      cell_again tables v.cell
+          (fresh_word v.fresh ++ entry_part_text part) sound is,
+      part_again v.fresh part one,
+      fresh_again v.fresh,
+    )
     refl
 
 subject_ascii : (tables : List TableDef) (v : VersionId) (part : ℕ) → schema_fault tables ≡ None → IsInSchema tables v → IsPart part
-    → IsAscii (subject_text tables v part)
+    → IsAscii (entry_subject_text tables v part)
 subject_ascii tables v part sound is one = rw (subject_is tables v part) (cell_ascii tables v.cell (fresh_word v.fresh
-    ++ part_text part) sound is (part_ascii v.fresh part one))
+    ++ entry_part_text part) sound is (part_ascii v.fresh part one))
 
 -- a subject's text, and a version's, has a byte
-subject_long : (tables : List TableDef) (v : VersionId) (part : ℕ) → (length (subject_text tables v part) == 0) ≡ false
+subject_long : (tables : List TableDef) (v : VersionId) (part : ℕ) → (length (entry_subject_text tables v part) == 0) ≡ false
 subject_long tables v part =
     rw (subject_is tables v part) (ne_eqb _ 0 (λ e. omega (
       arith,
       length-append (name_of_table tables v.cell.table) (47
-          ∷ (signed_decimal v.cell.key ++ 47 ∷ (fresh_word v.fresh ++ part_text part))),
+          ∷ (signed_decimal v.cell.key ++ 47 ∷ (fresh_word v.fresh ++ entry_part_text part))),
     )))
 
 version_long : (tables : List TableDef) (v : VersionId) → (length (version_text tables v) == 0) ≡ false
@@ -228,13 +247,13 @@ version_long tables v = ne_eqb _ 0 (λ e. omega (
 
 second_again : (tables : List TableDef) (second : Option VersionId) (part : ℕ) → schema_fault tables ≡ None
     → MatchOption second (part ≡ 1) (λ v. IsInSchema tables v × IsPart part)
-    → second_of tables (second_text tables second part) ≡ Some (second, part)
+    → second_of tables (entry_second_text tables second part) ≡ Some (second, part)
 second_again tables None part sound is = rw is refl
 second_again tables (Some v) part sound is = rw (subject_long tables v part, subject_again tables v part sound is.0 is.1) refl
 
 second_ascii : (tables : List TableDef) (second : Option VersionId) (part : ℕ) → schema_fault tables ≡ None
     → MatchOption second (part ≡ 1) (λ v. IsInSchema tables v × IsPart part)
-    → IsAscii (second_text tables second part)
+    → IsAscii (entry_second_text tables second part)
 second_ascii tables None part sound is = IsAscii-nil
 second_ascii tables (Some v) part sound is = subject_ascii tables v part sound is.0 is.1
 

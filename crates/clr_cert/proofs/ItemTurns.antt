@@ -7,7 +7,9 @@ use Rattle.std.proofs.Math.Seq.{drop-cons}
 use Rattle.std.proofs.lemmas.List.{append-nil, drop_all}
 use Rattle.csv.specs.Records.{Row, fields_of}
 use Rattle.clr_rows.specs.declared.tables.TableDef.{TableDef}
-use Rattle.clr_records.specs.Records.{◌>>=◌, at_record, field_of, or_fault}
+use Rattle.clr_readings.specs.Readings.{◌>>=◌, Fails, FailsAt, numbered_fault, or_fault}
+use Rattle.clr_readings.proofs.FaultTurns.{numbered_so}
+use Rattle.clr_records.specs.Records.{at_record, field_of}
 use Rattle.clr_cert.specs.declared.certificates.Certificate.{Certificate}
 use Rattle.clr_cert.specs.declared.certificates.Entry.{Entry}
 use Rattle.clr_cert.specs.declared.faults.CertFault.{CertFault}
@@ -15,8 +17,8 @@ use Rattle.clr_cert.specs.declared.faults.CertFault.TheVariants as fault
 use Rattle.clr_cert.specs.declared.items.Item.{Item}
 use Rattle.clr_cert.specs.declared.items.Item.TheVariants.{Root, Member, Need}
 use Rattle.clr_cert.specs.declared.limits.TheConstants.{RECORD_FIELDS}
-use Rattle.clr_cert.specs.Certificates.{certificate_from, is_root, item_of, name_of, nothing_said, with_item, with_next}
-use Rattle.clr_cert.specs.Faults.{Fails, FailsAt, numbered_fault}
+use Rattle.clr_cert.specs.Certificates.{certificate_from, is_root_item, item_of, record_name_of, nothing_said, with_item, with_next}
+use Rattle.clr_cert.specs.Faults.{cert_lacks_memory}
 use Rattle.clr_cert.specs.Versions.{entry_of}
 
 -- what the records before say, where one of them is a root record or none, and then those behind
@@ -29,7 +31,7 @@ after rooted front read = read >>= λ c. Ok (together rooted front c)
 -- behind a root record there is no other
 root_or_not : (a b c d : Bool) (name : Option (List ℕ)) (entry : Option Entry) (item : Item)
     → cond a (cond b (Err fault.BadReference) (cond c (or_fault fault.BadReference (option_map Member name))
-    (cond d (or_fault fault.BadReference (option_map Need entry)) (Err fault.BadKind)))) (Err fault.FieldCount) ≡ Ok item → is_root item ≡ false
+    (cond d (or_fault fault.BadReference (option_map Need entry)) (Err fault.BadKind)))) (Err fault.FieldCount) ≡ Ok item → is_root_item item ≡ false
 root_or_not false b c d name entry item e = absurd cc
 root_or_not true true c d name entry item e = absurd cc
 root_or_not true false true d (Some name) entry (Member other) e = refl
@@ -43,15 +45,15 @@ root_or_not true false false true name None item e = absurd cc
 root_or_not true false false false name entry item e = absurd cc
 
 one_root : (tables : List TableDef) (rooted : Bool) (fields : List (List ℕ)) (item : Item) → item_of tables rooted fields ≡ Ok item → rooted ≡ true
-    → is_root item ≡ false
+    → is_root_item item ≡ false
 unfolding item_of
 one_root tables true fields item e is =
     root_or_not (length fields == RECORD_FIELDS) (bytes_eq (field_of fields 0) (codes "root")) (bytes_eq (field_of fields 0) (codes "member"))
-    (bytes_eq (field_of fields 0) (codes "need")) (name_of fields) (entry_of tables fields) item e
+    (bytes_eq (field_of fields 0) (codes "need")) (record_name_of fields) (entry_of tables fields) item e
 one_root tables false fields item e is = absurd cc
 
-regroup : (rooted : Bool) (front : Certificate) (item : Item) (read : Result Certificate (ℕ × CertFault)) → (rooted ≡ true → is_root item ≡ false)
-    → after rooted front (read >>= λ others. Ok (with_item item others)) ≡ after (rooted || is_root item) (with_next front item) read
+regroup : (rooted : Bool) (front : Certificate) (item : Item) (read : Result Certificate (ℕ × CertFault)) → (rooted ≡ true → is_root_item item ≡ false)
+    → after rooted front (read >>= λ others. Ok (with_item item others)) ≡ after (rooted || is_root_item item) (with_next front item) read
 regroup rooted front item (Err e) one = refl
 regroup true front (Root name) (Ok c) one = absurd (cc (one refl))
 regroup false front (Root name) (Ok c) one = refl
@@ -63,7 +65,7 @@ regroup false front (Need entry) (Ok c) one = rw append_assoc refl
 next : (tables : List TableDef) (rooted : Bool) (n : ℕ) (rows : List Row) (i : ℕ) (row : Row) → i < length rows → row ≡ get_or rows i row
     → certificate_from tables rooted n (map fields_of (drop i rows))
     ≡ (at_record n (item_of tables rooted (fields_of row)) >>= λ item. certificate_from tables (rooted
-    || is_root item) (n + 1) (map fields_of (drop (i + 1) rows)) >>= λ others. Ok (with_item item others))
+    || is_root_item item) (n + 1) (map fields_of (drop (i + 1) rows)) >>= λ others. Ok (with_item item others))
 unfolding certificate_from
 next tables rooted n rows i row lt is = rw (add-one i, drop-cons rows i row) (rw (← is) refl)
 
@@ -71,7 +73,8 @@ next tables rooted n rows i row lt is = rw (add-one i, drop-cons rows i row) (rw
 pub one_more : (tables : List TableDef) (rooted : Bool) (front : Certificate) (n : ℕ) (rows : List Row) (i : ℕ) (row : Row) (item : Item)
     (total : Result Certificate (ℕ × CertFault)) → i < length rows → row ≡ get_or rows i row → item_of tables rooted (fields_of row) ≡ Ok item
     → after rooted front (certificate_from tables rooted n (map fields_of (drop i rows))) ≡ total
-    → after (rooted || is_root item) (with_next front item) (certificate_from tables (rooted || is_root item) (n + 1) (map fields_of (drop (i + 1) rows)))
+    → after (rooted || is_root_item item) (with_next front item) (certificate_from tables (rooted || is_root_item item) (n + 1) (map fields_of (drop
+    (i + 1) rows)))
     ≡ total
 one_more tables rooted front n rows i row item total lt is h so_far =
     sym (regroup rooted front item _ (one_root tables rooted (fields_of row) item h)) ∙ (sym (rw (next tables rooted n rows i row lt is, h) refl) ∙ so_far)
@@ -81,20 +84,13 @@ fault_of : (tables : List TableDef) (e : CertFault) (rooted : Bool) (front : Cer
     → after rooted front (certificate_from tables rooted n (map fields_of (drop i rows))) ≡ total → total ≡ Err (n, e)
 fault_of tables e rooted front n rows i row total lt is h so_far = sym so_far ∙ rw (next tables rooted n rows i row lt is, h) refl
 
-fails_so : {A : Type 0} (e : CertFault) (n : ℕ) (read : Result A CertFault) (total : Result Certificate (ℕ × CertFault))
-    → ((f : CertFault) → read ≡ Err f → total ≡ Err (n, f)) → Fails e read → FailsAt (numbered_fault n e).0 (numbered_fault n e).1 total
-fails_so fault.OutOfMemory n read total so h = refl
-fails_so fault.NotCsv n read total so h = so fault.NotCsv h
-fails_so fault.FieldCount n read total so h = so fault.FieldCount h
-fails_so fault.BadKind n read total so h = so fault.BadKind h
-fails_so fault.BadReference n read total so h = so fault.BadReference h
-
 -- the fault of a record is that of the whole text
 pub stops : (tables : List TableDef) (e : CertFault) (rooted : Bool) (front : Certificate) (n : ℕ) (rows : List Row) (i : ℕ) (row : Row)
-    (total : Result Certificate (ℕ × CertFault)) → i < length rows → row ≡ get_or rows i row → Fails e (item_of tables rooted (fields_of row))
-    → after rooted front (certificate_from tables rooted n (map fields_of (drop i rows))) ≡ total → FailsAt (numbered_fault n e).0 (numbered_fault n e).1 total
+    (total : Result Certificate (ℕ × CertFault)) → i < length rows → row ≡ get_or rows i row → Fails cert_lacks_memory e (item_of tables rooted (fields_of row))
+    → after rooted front (certificate_from tables rooted n (map fields_of (drop i rows))) ≡ total
+    → FailsAt cert_lacks_memory (numbered_fault cert_lacks_memory n e).0 (numbered_fault cert_lacks_memory n e).1 total
 stops tables e rooted front n rows i row total lt is h so_far =
-    fails_so e n (item_of tables rooted (fields_of row)) total (λ f k. fault_of tables f rooted front n rows i row total lt is k so_far) h
+    numbered_so cert_lacks_memory e n (item_of tables rooted (fields_of row)) total (λ k. fault_of tables e rooted front n rows i row total lt is k so_far) h
 
 -- before the first record
 pub begins : (read : Result Certificate (ℕ × CertFault)) → after false nothing_said read ≡ read

@@ -14,7 +14,8 @@ use Rattle.clr_rows.specs.Names.{is_good_name, live_name}
 use Rattle.clr_rows.specs.Schemas.{cell_fault, table_named}
 use Rattle.clr_needs.specs.declared.needs.VersionId.{VersionId}
 use Rattle.clr_records.specs.Decimals.{number_of}
-use Rattle.clr_records.specs.Records.{◌>>=◌, at_record, field_of, or_fault}
+use Rattle.clr_readings.specs.Readings.{◌>>=◌, or_fault}
+use Rattle.clr_records.specs.Records.{at_record, field_of}
 use Rattle.clr_cert.specs.declared.certificates.Certificate.{Certificate}
 use Rattle.clr_cert.specs.declared.certificates.Entry.{Entry}
 use Rattle.clr_cert.specs.declared.faults.CertFault.{CertFault}
@@ -22,10 +23,33 @@ use Rattle.clr_cert.specs.declared.faults.CertFault.TheVariants as fault
 use Rattle.clr_cert.specs.declared.items.Item.{Item}
 use Rattle.clr_cert.specs.declared.items.Item.TheVariants.{Root, Member, Need}
 use Rattle.clr_cert.specs.declared.limits.TheConstants.{GREATEST_PART}
-use Rattle.clr_cert.specs.Certificates.{certificate_from, certificate_of, is_live, is_root, item_of, name_of, nothing_said, root_of, with_item}
+use Rattle.clr_cert.specs.Certificates.{
+  certificate_from,
+  certificate_of,
+  is_live,
+  is_root_item,
+  item_of,
+  record_name_of,
+  nothing_said,
+  record_root_of,
+  with_item,
+}
 use Rattle.clr_cert.specs.Texts.{IsInSchema, IsWellFormed, IsWellFormedEntry, IsPart}
-use Rattle.clr_cert.specs.Versions.{cell_and_rest, cut_of, entry_of, fresh_of, if_named, is_empty, part_behind, part_of, rule_of, second_of, subject_of, two_of}
-use Rattle.clr_cert.specs.Versions.{version_of, word_and_part}
+use Rattle.clr_cert.specs.Versions.{
+  cell_and_rest,
+  slash_cut_of,
+  entry_of,
+  fresh_of,
+  if_named,
+  is_empty,
+  part_behind,
+  written_part_of,
+  rule_of,
+  second_of,
+  subject_of,
+  two_of,
+}
+use Rattle.clr_cert.specs.Versions.{written_version_of, word_and_part}
 
 -- what follows from each step of a reading follows from the whole
 then_so : {A B G : Type 0} (o : Option A) (f : A → Option B) (y : B) → ((x : A) → o ≡ Some x → f x ≡ Some y → G) → option_and_then f o ≡ Some y → G
@@ -45,8 +69,8 @@ if_none (Some f) cell found e = absurd cc
 cell_named : (tables : List TableDef) (text : List ℕ) (found : CellId × List ℕ) → cell_and_rest tables text ≡ Some found → cell_fault tables found.0 ≡ None
 unfolding cell_and_rest
 cell_named tables text found e =
-    then_so (cut_of text) _ found (λ named e1 f1.
-    then_so (cut_of named.1) _ found (λ numbered e2 f2.
+    then_so (slash_cut_of text) _ found (λ named e1 f1.
+    then_so (slash_cut_of named.1) _ found (λ numbered e2 f2.
     then_so (table_named tables named.0) _ found (λ table e3 f3.
     then_so (number_of numbered.0) _ found (λ key e4 f4.
     then_so (if_named tables (record { table = table; key = key })) _ found (λ cell e5 f5.
@@ -58,8 +82,8 @@ cell_named tables text found e =
     f1)
     e
 
-version_named : (tables : List TableDef) (text : List ℕ) (v : VersionId) → version_of tables text ≡ Some v → IsInSchema tables v
-unfolding version_of
+version_named : (tables : List TableDef) (text : List ℕ) (v : VersionId) → written_version_of tables text ≡ Some v → IsInSchema tables v
+unfolding written_version_of
 version_named tables text v e =
     then_so (cell_and_rest tables text) _ v (λ named e1 f1.
     then_so (fresh_of named.1) _ v (λ fresh e2 f2.
@@ -67,7 +91,7 @@ version_named tables text v e =
     f1)
     e
 
-part_is : (z : ℤ) (part : ℕ) → part_of z ≡ Some part → IsPart part
+part_is : (z : ℤ) (part : ℕ) → written_part_of z ≡ Some part → IsPart part
 part_is (negsuc n) part e = absurd cc
 part_is (pos n) part e = by (ltb 1 n) (leb n GREATEST_PART) refl refl e
   where
@@ -83,8 +107,8 @@ behind_is None text found e =
     let same : 1 ≡ found.1 = cc in
     subst IsPart same (omega arith, omega arith)
 behind_is (Some parts) text found e =
-    then_so (option_and_then part_of (number_of parts.1)) _ found (λ part e1 f1.
-    then_so (number_of parts.1) part_of part (λ number e2 f2.
+    then_so (option_and_then written_part_of (number_of parts.1)) _ found (λ part e1 f1.
+    then_so (number_of parts.1) written_part_of part (λ number e2 f2.
     subst IsPart (ap (λ (p : List ℕ × ℕ). p.1) (same_Some (parts.0, part) found f1)) (part_is number part f2))
     e1)
     e
@@ -97,7 +121,7 @@ subject_named tables text found e =
     then_so (word_and_part named.1) _ found (λ last e2 f2.
     then_so (fresh_of last.0) _ found (λ fresh e3 f3.
     subst (λ (x : VersionId × ℕ). IsInSchema tables x.0 × IsPart x.1) (same_Some (record { cell = named.0; fresh = fresh }, last.1) found f3)
-    (cell_named tables text named e1, behind_is (cut_of named.1) named.1 last e2))
+    (cell_named tables text named e1, behind_is (slash_cut_of named.1) named.1 last e2))
     f2)
     f1)
     e
@@ -119,11 +143,11 @@ second_named tables text found e = by (is_empty text) e
 two_named : (tables : List TableDef) (text : List ℕ) (found : Option VersionId) → two_of tables text ≡ Some found → IfSome found (IsInSchema tables)
 two_named tables text found e = by (is_empty text) e
   where
-    by : (b : Bool) → cond b (Some None) (option_map Some (version_of tables text)) ≡ Some found → IfSome found (IsInSchema tables)
+    by : (b : Bool) → cond b (Some None) (option_map Some (written_version_of tables text)) ≡ Some found → IfSome found (IsInSchema tables)
     by true e =
         let same : ◌≡◌ {A = Option VersionId} None found = cc in
         subst (λ (o : Option VersionId). IfSome o (IsInSchema tables)) same tt
-    by false e = map_so (version_of tables text) _ found (λ version e1 same. subst (λ (o : Option VersionId). IfSome o (IsInSchema tables)) same
+    by false e = map_so (written_version_of tables text) _ found (λ version e1 same. subst (λ (o : Option VersionId). IfSome o (IsInSchema tables)) same
         (version_named tables text version e1)) e
 
 entry_named : (tables : List TableDef) (fields : List (List ℕ)) (entry : Entry) → entry_of tables fields ≡ Some entry → IsWellFormedEntry tables entry
@@ -133,7 +157,7 @@ entry_named tables fields entry e =
     then_so (rule_of number) _ entry (λ rule e2 f2.
     then_so (subject_of tables (field_of fields 2)) _ entry (λ first e3 f3.
     then_so (second_of tables (field_of fields 3)) _ entry (λ second e4 f4.
-    then_so (version_of tables (field_of fields 4)) _ entry (λ one e5 f5.
+    then_so (written_version_of tables (field_of fields 4)) _ entry (λ one e5 f5.
     then_so (two_of tables (field_of fields 5)) _ entry (λ two e6 f6.
     let subject = subject_named tables (field_of fields 2) first e3 in
     subst (IsWellFormedEntry tables)
@@ -164,7 +188,7 @@ IsWellFormedItem tables (Root name) = is_good_name name ≡ true
 IsWellFormedItem tables (Member name) = is_good_name name ≡ true
 IsWellFormedItem tables (Need entry) = IsWellFormedEntry tables entry
 
-name_good : (fields : List (List ℕ)) (name : List ℕ) → name_of fields ≡ Some name → is_good_name name ≡ true
+name_good : (fields : List (List ℕ)) (name : List ℕ) → record_name_of fields ≡ Some name → is_good_name name ≡ true
 name_good fields name e = by (is_good_name (field_of fields 1)) _ refl e
   where
     by : (a b : Bool) → is_good_name (field_of fields 1) ≡ a → cond (a && b) (Some (field_of fields 1)) None ≡ Some name → is_good_name name ≡ true
@@ -172,10 +196,10 @@ name_good fields name e = by (is_good_name (field_of fields 1)) _ refl e
     by true false good e = absurd cc
     by false b good e = absurd cc
 
-root_good : (rooted : Bool) (fields : List (List ℕ)) (name : List ℕ) → root_of rooted fields ≡ Some name → is_good_name name ≡ true
+root_good : (rooted : Bool) (fields : List (List ℕ)) (name : List ℕ) → record_root_of rooted fields ≡ Some name → is_good_name name ≡ true
 root_good rooted fields name e = by (rooted || is_live (field_of fields 1)) e
   where
-    by : (b : Bool) → cond b None (name_of fields) ≡ Some name → is_good_name name ≡ true
+    by : (b : Bool) → cond b None (record_name_of fields) ≡ Some name → is_good_name name ≡ true
     by true e = absurd cc
     by false e = name_good fields name e
 
@@ -190,13 +214,14 @@ unfolding item_of
 item_named tables rooted fields item e = by _ (bytes_eq (field_of fields 0) (codes "root")) (bytes_eq (field_of fields 0) (codes "member"))
     (bytes_eq (field_of fields 0) (codes "need")) e
   where
-    by : (a b c d : Bool) → cond a (cond b (or_fault fault.BadReference (option_map Root (root_of rooted fields)))
-        (cond c (or_fault fault.BadReference (option_map Member (name_of fields)))
+    by : (a b c d : Bool) → cond a (cond b (or_fault fault.BadReference (option_map Root (record_root_of rooted fields)))
+        (cond c (or_fault fault.BadReference (option_map Member (record_name_of fields)))
         (cond d (or_fault fault.BadReference (option_map Need (entry_of tables fields))) (Err fault.BadKind)))) (Err fault.FieldCount) ≡ Ok item
         → IsWellFormedItem tables item
     by false b c d e = absurd cc
-    by true true c d e = from_so Root (root_of rooted fields) item (λ name e1 same. subst (IsWellFormedItem tables) same (root_good rooted fields name e1)) e
-    by true false true d e = from_so Member (name_of fields) item (λ name e1 same. subst (IsWellFormedItem tables) same (name_good fields name e1)) e
+    by true true c d e = from_so Root (record_root_of rooted fields) item (λ name e1 same. subst (IsWellFormedItem tables) same
+        (root_good rooted fields name e1)) e
+    by true false true d e = from_so Member (record_name_of fields) item (λ name e1 same. subst (IsWellFormedItem tables) same (name_good fields name e1)) e
     by true false false true e = from_so Need (entry_of tables fields) item (λ entry e1 same. subst (IsWellFormedItem tables) same
         (entry_named tables fields entry e1)) e
     by true false false false e = absurd cc
@@ -247,10 +272,10 @@ unfolding certificate_from
 from_named tables rooted n [] c e = subst (IsWellFormed tables) (same_ok nothing_said c e) (nothing_named tables)
 from_named tables rooted n (fields ∷ rest) c e =
     then_ok (at_record n (item_of tables rooted fields)) _ c (λ item e1 f1.
-    then_ok (certificate_from tables (rooted || is_root item) (n + 1) rest) _ c (λ others e2 f2.
+    then_ok (certificate_from tables (rooted || is_root_item item) (n + 1) rest) _ c (λ others e2 f2.
     subst (IsWellFormed tables) (same_ok (with_item item others) c f2)
     (with_named tables item others (item_named tables rooted fields item (numbered_ok n (item_of tables rooted fields) item e1)) (from_named tables (rooted
-    || is_root item) (n + 1) rest others e2)))
+    || is_root_item item) (n + 1) rest others e2)))
     f1)
     e
 

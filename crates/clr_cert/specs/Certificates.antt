@@ -5,7 +5,8 @@ use Rattle.std.specs.Str.{bytes_eq}
 use Rattle.clr_rows.specs.declared.tables.TableDef.{TableDef}
 use Rattle.clr_rows.specs.Names.{is_good_name}
 use Rattle.clr_rows.specs.Names.{live_name}
-use Rattle.clr_records.specs.Records.{◌>>=◌, at_record, field_of, or_fault, records_in}
+use Rattle.clr_readings.specs.Readings.{◌>>=◌, or_fault}
+use Rattle.clr_records.specs.Records.{at_record, field_of, records_in}
 use Rattle.clr_cert.specs.declared.certificates.Certificate.{Certificate}
 use Rattle.clr_cert.specs.declared.faults.CertFault.{CertFault}
 use Rattle.clr_cert.specs.declared.faults.CertFault.TheVariants.{NotCsv, FieldCount, BadKind, BadReference}
@@ -22,18 +23,18 @@ abbrev pub is_empty_behind : List (List ℕ) → Bool
 is_empty_behind fields = is_empty (field_of fields 2) && is_empty (field_of fields 3) && is_empty (field_of fields 4) && is_empty (field_of fields 5)
 
 -- the name in a record whose fields behind it are empty
-abbrev pub name_of : List (List ℕ) → Option (List ℕ)
-name_of fields = if is_good_name (field_of fields 1) && is_empty_behind fields then Some (field_of fields 1) else None
+abbrev pub record_name_of : List (List ℕ) → Option (List ℕ)
+record_name_of fields = if is_good_name (field_of fields 1) && is_empty_behind fields then Some (field_of fields 1) else None
 
 -- the root that a record names: not LIVE, and none where a root record stands before it
-abbrev pub root_of : Bool → List (List ℕ) → Option (List ℕ)
-root_of rooted fields = if rooted || is_live (field_of fields 1) then None else name_of fields
+abbrev pub record_root_of : Bool → List (List ℕ) → Option (List ℕ)
+record_root_of rooted fields = if rooted || is_live (field_of fields 1) then None else record_name_of fields
 
 -- what a record says, by its first field; `rooted` where a root record stands before it
 abbrev pub item_by_word : List TableDef → Bool → List (List ℕ) → Result Item CertFault
 item_by_word tables rooted fields =
-    if bytes_eq (field_of fields 0) (codes "root") then or_fault BadReference (option_map Root (root_of rooted fields))
-    else (if bytes_eq (field_of fields 0) (codes "member") then or_fault BadReference (option_map Member (name_of fields))
+    if bytes_eq (field_of fields 0) (codes "root") then or_fault BadReference (option_map Root (record_root_of rooted fields))
+    else (if bytes_eq (field_of fields 0) (codes "member") then or_fault BadReference (option_map Member (record_name_of fields))
     else (if bytes_eq (field_of fields 0) (codes "need") then or_fault BadReference (option_map Need (entry_of tables fields))
     else Err BadKind))
 
@@ -41,10 +42,10 @@ item_by_word tables rooted fields =
 unfoldable pub item_of : List TableDef → Bool → List (List ℕ) → Result Item CertFault
 item_of tables rooted fields = if length fields == RECORD_FIELDS then item_by_word tables rooted fields else Err FieldCount
 
-abbrev pub is_root : Item → Bool
-is_root (Root name) = true
-is_root (Member name) = false
-is_root (Need entry) = false
+abbrev pub is_root_item : Item → Bool
+is_root_item (Root name) = true
+is_root_item (Member name) = false
+is_root_item (Need entry) = false
 
 -- what a record says, before what the records behind it say
 abbrev pub with_item : Item → Certificate → Certificate
@@ -67,7 +68,7 @@ unfoldable pub certificate_from : List TableDef → Bool → ℕ → List (List 
 certificate_from tables rooted n [] = Ok nothing_said
 certificate_from tables rooted n (fields ∷ rest) = do
   item ← at_record n (item_of tables rooted fields)
-  others ← certificate_from tables (rooted || is_root item) (n + 1) rest
+  others ← certificate_from tables (rooted || is_root_item item) (n + 1) rest
   Ok (with_item item others)
 
 -- the certificate of records

@@ -1,6 +1,6 @@
 -- The text of a certificate, and the certificates that have one.
 use Rattle.std.specs.Prelude.{◌≡◌, ℕ, ◌==◌, List, [], ◌∷◌, ◌++◌, map, codes}
-use Rattle.std.specs.Prelude.{Bool, true, false, ◌≤◌, Option, Some, None, IfSome, MatchOption, option_map, slice_get, unwrap_or, if◌then◌else◌}
+use Rattle.std.specs.Prelude.{Bool, true, false, ◌≤◌, Option, Some, None, IfSome, MatchOption, if◌then◌else◌}
 use Rattle.std.specs.Fmt.{decimal, signed_decimal}
 use Rattle.std.specs.List.{All, AllByRecursion}
 use Rattle.std.specs.Str.{IsAscii}
@@ -24,15 +24,15 @@ abbrev pub version_text : List TableDef → VersionId → List ℕ
 version_text tables v = name_of_table tables v.cell.table ++ slash ∷ (signed_decimal v.cell.key ++ slash ∷ fresh_word v.fresh)
 
 -- a part is written where it isn't 1
-abbrev pub part_text : ℕ → List ℕ
-part_text part = if part == 1 then [] else slash ∷ decimal part
+abbrev pub entry_part_text : ℕ → List ℕ
+entry_part_text part = if part == 1 then [] else slash ∷ decimal part
 
-abbrev pub subject_text : List TableDef → VersionId → ℕ → List ℕ
-subject_text tables v part = version_text tables v ++ part_text part
+abbrev pub entry_subject_text : List TableDef → VersionId → ℕ → List ℕ
+entry_subject_text tables v part = version_text tables v ++ entry_part_text part
 
-abbrev pub second_text : List TableDef → Option VersionId → ℕ → List ℕ
-second_text tables None part = []
-second_text tables (Some v) part = subject_text tables v part
+abbrev pub entry_second_text : List TableDef → Option VersionId → ℕ → List ℕ
+entry_second_text tables None part = []
+entry_second_text tables (Some v) part = entry_subject_text tables v part
 
 abbrev pub two_text : List TableDef → Option VersionId → List ℕ
 two_text tables None = []
@@ -48,7 +48,7 @@ member_fields name = name_fields (codes "member") name
 -- the record of an entry
 abbrev pub entry_fields : List TableDef → Entry → List (List ℕ)
 entry_fields tables e =
-    codes "need" ∷ decimal e.need.rule ∷ subject_text tables e.need.first e.need.first_part ∷ second_text tables e.need.second e.need.second_part
+    codes "need" ∷ decimal e.need.rule ∷ entry_subject_text tables e.need.first e.need.first_part ∷ entry_second_text tables e.need.second e.need.second_part
     ∷ version_text tables e.one ∷ two_text tables e.two ∷ []
 
 -- a root is written where it isn't LIVE

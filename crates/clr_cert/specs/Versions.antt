@@ -24,8 +24,8 @@ abbrev pub is_slash : ℕ → Bool
 is_slash b = b == slash
 
 -- what stands before and behind the first `/` of a text, if it has one
-unfoldable pub cut_of : List ℕ → Option (List ℕ × List ℕ)
-cut_of text = option_map (λ _. (before_first is_slash text, after_first is_slash text)) (position is_slash text)
+unfoldable pub slash_cut_of : List ℕ → Option (List ℕ × List ℕ)
+slash_cut_of text = option_map (λ _. (before_first is_slash text, after_first is_slash text)) (position is_slash text)
 
 -- a cell that the schema names
 abbrev pub if_named : List TableDef → CellId → Option CellId
@@ -34,8 +34,8 @@ if_named tables cell = if is_none (cell_fault tables cell) then Some cell else N
 -- the cell of a text `TABLE/KEY/..`, and what stands behind it
 unfoldable pub cell_and_rest : List TableDef → List ℕ → Option (CellId × List ℕ)
 cell_and_rest tables text = do
-  named ← cut_of text
-  numbered ← cut_of named.1
+  named ← slash_cut_of text
+  numbered ← slash_cut_of named.1
   table ← table_named tables named.0
   key ← number_of numbered.0
   cell ← if_named tables (record { table = table; key = key })
@@ -49,24 +49,24 @@ fresh_of word =
     else None)
 
 -- a witness: `TABLE/KEY/old` or `TABLE/KEY/new`
-unfoldable pub version_of : List TableDef → List ℕ → Option VersionId
-version_of tables text = do
+unfoldable pub written_version_of : List TableDef → List ℕ → Option VersionId
+written_version_of tables text = do
   named ← cell_and_rest tables text
   fresh ← fresh_of named.1
   Some (record { cell = named.0; fresh = fresh })
 
 -- a part that is written: above 1, and no greater than the greatest
-abbrev pub part_of : ℤ → Option ℕ
-part_of (pos n) = if nat_lt 1 n && nat_le n GREATEST_PART then Some n else None
-part_of (negsuc n) = None
+abbrev pub written_part_of : ℤ → Option ℕ
+written_part_of (pos n) = if nat_lt 1 n && nat_le n GREATEST_PART then Some n else None
+written_part_of (negsuc n) = None
 
 abbrev pub part_behind : Option (List ℕ × List ℕ) → List ℕ → Option (List ℕ × ℕ)
 part_behind None text = Some (text, 1)
-part_behind (Some parts) text = number_of parts.1 >>= part_of >>= λ part. Some (parts.0, part)
+part_behind (Some parts) text = number_of parts.1 >>= written_part_of >>= λ part. Some (parts.0, part)
 
 -- the word of a version, and the part behind it, which is 1 where none is written
 abbrev pub word_and_part : List ℕ → Option (List ℕ × ℕ)
-word_and_part text = part_behind (cut_of text) text
+word_and_part text = part_behind (slash_cut_of text) text
 
 -- a subject: a version, and then `/` and its part where that is above 1
 unfoldable pub subject_of : List TableDef → List ℕ → Option (VersionId × ℕ)
@@ -85,7 +85,7 @@ second_of tables text = if is_empty text then Some (None, 1) else option_map (λ
 
 -- a second witness, or none
 abbrev pub two_of : List TableDef → List ℕ → Option (Option VersionId)
-two_of tables text = if is_empty text then Some None else option_map Some (version_of tables text)
+two_of tables text = if is_empty text then Some None else option_map Some (written_version_of tables text)
 
 -- a rule's number: 0 to 65,535
 abbrev pub rule_of : ℤ → Option ℕ
@@ -99,6 +99,6 @@ entry_of tables fields = do
   rule ← rule_of number
   first ← subject_of tables (field_of fields 2)
   second ← second_of tables (field_of fields 3)
-  one ← version_of tables (field_of fields 4)
+  one ← written_version_of tables (field_of fields 4)
   two ← two_of tables (field_of fields 5)
   Some (record { need = record { rule = rule; first = first.0; second = second.0; first_part = first.1; second_part = second.1 }; one = one; two = two })

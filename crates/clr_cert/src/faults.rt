@@ -1,7 +1,8 @@
 //! Why a certificate can't be read.
 
 ghost use Rattle.std.specs.Prelude.{◌≡◌};
-ghost use Rattle.clr_cert.specs.Faults.{numbered_fault};
+ghost use Rattle.clr_readings.specs.Readings.{numbered_fault};
+ghost use Rattle.clr_cert.specs.Faults.{cert_lacks_memory};
 ghost use Rattle.clr_cert.specs.declared.faults.CertFault.TheVariants as fault;
 
 use std::alloc::{AllocError, AllocFailed};
@@ -40,7 +41,7 @@ impl<T: Drop> From<AllocFailed<T>> for CertFault {
 
 /// Returns a fault beside the number of its record; beside 0 where no memory was found.
 pub(crate) fn numbered_fault(number: usize, fault: CertFault) -> (usize, CertFault)
-    ensures { result ≡ numbered_fault number fault }
+    ensures { result ≡ numbered_fault cert_lacks_memory number fault }
 {
     match fault {
         CertFault::OutOfMemory => (0, fault),

@@ -2,8 +2,9 @@
 
 ghost use Rattle.std.specs.Prelude.{◌≡◌, IfOk, option_map};
 ghost use Rattle.csv.specs.Records.{fields_of};
-ghost use Rattle.clr_cert.specs.Certificates.{is_empty_behind, is_root, item_by_word, item_of, name_of, root_of};
-ghost use Rattle.clr_cert.specs.Faults.{Gives};
+ghost use Rattle.clr_cert.specs.Certificates.{is_empty_behind, is_root_item, item_by_word, item_of, record_name_of, record_root_of};
+ghost use Rattle.clr_readings.specs.Readings.{Gives};
+ghost use Rattle.clr_cert.specs.Faults.{cert_lacks_memory};
 
 use crate::certificates::Entry;
 use crate::faults::CertFault;
@@ -24,7 +25,7 @@ pub(crate) enum Item {
 
 impl Item {
     pub(crate) fn is_root(&self) -> bool
-        ensures { result ≡ is_root self.now }
+        ensures { result ≡ is_root_item self.now }
     {
         matches!(self, Item::Root(_))
     }
@@ -42,7 +43,7 @@ fn ends_empty(fields: &StringRecord) -> bool
 
 /// Returns the name in a record, if it is good and the fields behind it are empty.
 fn name(fields: &StringRecord) -> Option<&str>
-    ensures { option_map (λ name. name.now) result ≡ name_of (fields_of fields.now) }
+    ensures { option_map (λ name. name.now) result ≡ record_name_of (fields_of fields.now) }
 {
     let name = field(fields, 1);
     (good_name(name) && ends_empty(fields)).then_some(name)
@@ -51,7 +52,7 @@ fn name(fields: &StringRecord) -> Option<&str>
 /// Returns the root that a record names, if it may name one. `rooted` says whether a root record
 /// stands before it.
 fn root(rooted: bool, fields: &StringRecord) -> Option<&str>
-    ensures { option_map (λ name. name.now) result ≡ root_of rooted (fields_of fields.now) }
+    ensures { option_map (λ name. name.now) result ≡ record_root_of rooted (fields_of fields.now) }
 {
     if rooted {
         return None;
@@ -70,7 +71,7 @@ fn item_of_six(
     rooted: bool,
     fields: &StringRecord,
 ) -> Result<Item, CertFault>
-    ensures { Gives result (item_by_word schema.now rooted (fields_of fields.now)) }
+    ensures { Gives cert_lacks_memory (λ x. x) result (item_by_word schema.now rooted (fields_of fields.now)) }
 {
     match field(fields, 0) {
         "root" => {
@@ -97,7 +98,7 @@ pub(crate) fn read_item(
     rooted: bool,
     fields: &StringRecord,
 ) -> Result<Item, CertFault>
-    ensures { Gives result (item_of schema.now rooted (fields_of fields.now)) }
+    ensures { Gives cert_lacks_memory (λ x. x) result (item_of schema.now rooted (fields_of fields.now)) }
 {
     if fields.len() == RECORD_FIELDS {
         item_of_six(alloc, schema, rooted, fields)

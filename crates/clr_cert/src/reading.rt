@@ -3,7 +3,8 @@
 ghost use Rattle.std.specs.Prelude.{◌≡◌, IfErr, IfOk, OnErr, OnOk, map};
 ghost use Rattle.csv.specs.Records.{fields_of};
 ghost use Rattle.clr_cert.specs.Certificates.{certificate_in, certificate_of, nothing_said, with_next};
-ghost use Rattle.clr_cert.specs.Faults.{GivesAt};
+ghost use Rattle.clr_readings.specs.Readings.{GivesAt};
+ghost use Rattle.clr_cert.specs.Faults.{cert_lacks_memory};
 ghost use Rattle.clr_cert.specs.Texts.{IsWellFormed};
 ghost use Rattle.clr_cert.specs.declared.faults.CertFault.TheVariants as fault;
 
@@ -46,7 +47,7 @@ fn read_records(
     schema: &Schema,
     records: &[StringRecord],
 ) -> Result<Certificate, (usize, CertFault)>
-    ensures { GivesAt result (certificate_of schema.now (map fields_of records.now)) }
+    ensures { GivesAt cert_lacks_memory (λ x. x) result (certificate_of schema.now (map fields_of records.now)) }
 {
     let Ok(mut certificate) = empty(alloc) else {
         return Err((0, CertFault::OutOfMemory));
@@ -86,7 +87,7 @@ pub fn read_certificate(
     schema: &Schema,
     bytes: &[u8],
 ) -> Result<Certificate, (usize, CertFault)>
-    ensures value { GivesAt result (certificate_in schema.now bytes.now) }
+    ensures value { GivesAt cert_lacks_memory (λ x. x) result (certificate_in schema.now bytes.now) }
     ensures named { IfOk result (λ certificate. IsWellFormed schema.now certificate) }
 {
     match records_of(alloc, bytes) {

@@ -2,8 +2,8 @@
 
 ghost use Rattle.std.specs.Prelude.{◌≡◌, option_map};
 ghost use Rattle.csv.specs.Records.{fields_of};
-ghost use Rattle.clr_cert.specs.Versions.{cell_and_rest, cut_of, entry_of, fresh_of, if_named, part_of};
-ghost use Rattle.clr_cert.specs.Versions.{rule_of, second_of, subject_of, two_of, version_of, word_and_part};
+ghost use Rattle.clr_cert.specs.Versions.{cell_and_rest, slash_cut_of, entry_of, fresh_of, if_named, written_part_of};
+ghost use Rattle.clr_cert.specs.Versions.{rule_of, second_of, subject_of, two_of, written_version_of, word_and_part};
 
 use crate::certificates::Entry;
 use crate::limits::GREATEST_PART;
@@ -13,9 +13,9 @@ use clr_rows::{CellId, Schema};
 use csv::StringRecord;
 
 /// Returns what stands before and behind the first `/` of a text.
-#[tactic(auto, unfolding(crate::specs::Versions::cut_of))]
+#[tactic(auto, unfolding(crate::specs::Versions::slash_cut_of))]
 fn cut(text: &str) -> Option<(&str, &str)>
-    ensures { option_map (λ parts. (parts.0.now, parts.1.now)) result ≡ cut_of text.now }
+    ensures { option_map (λ parts. (parts.0.now, parts.1.now)) result ≡ slash_cut_of text.now }
 {
     text.split_once('/')
 }
@@ -55,9 +55,9 @@ fn fresh(word: &str) -> Option<bool>
 }
 
 /// Returns the version that a witness names.
-#[tactic(auto, unfolding(crate::specs::Versions::version_of))]
+#[tactic(auto, unfolding(crate::specs::Versions::written_version_of))]
 fn version(schema: &Schema, text: &str) -> Option<VersionId>
-    ensures { result ≡ version_of schema.now text.now }
+    ensures { result ≡ written_version_of schema.now text.now }
 {
     let (cell, word) = cell(schema, text)?;
     let fresh = fresh(word)?;
@@ -66,7 +66,7 @@ fn version(schema: &Schema, text: &str) -> Option<VersionId>
 
 /// Returns the part that a number above 1 names, if a path can have it.
 fn part(number: i64) -> Option<u16>
-    ensures { result ≡ part_of number }
+    ensures { result ≡ written_part_of number }
 {
     if 1 < number && number <= GREATEST_PART as i64 {
         Some(number as u16)

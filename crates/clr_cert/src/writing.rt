@@ -8,8 +8,8 @@ ghost use Rattle.clr_rows.specs.Schemas.{schema_fault};
 ghost use Rattle.clr_cert.specs.Certificates.{certificate_in};
 ghost use Rattle.clr_records.specs.Writing.{IsBetween, records_text, written_by};
 ghost use Rattle.clr_cert.specs.Texts.{IsReadBackWhereNamed, IsWellFormed, certificate_text, entry_fields, member_fields, name_fields};
-ghost use Rattle.clr_cert.specs.Texts.{fresh_word, part_text, root_records};
-ghost use Rattle.clr_cert.specs.Texts.{second_text, subject_text, two_text, version_text};
+ghost use Rattle.clr_cert.specs.Texts.{fresh_word, entry_part_text, root_records};
+ghost use Rattle.clr_cert.specs.Texts.{entry_second_text, entry_subject_text, two_text, version_text};
 
 use crate::certificates::{Certificate, Entry};
 use clr_needs::VersionId;
@@ -41,8 +41,8 @@ fn add_version(text: &mut Vec<u8>, schema: &Schema, version: VersionId) -> Resul
 
 /// Adds the part of a subject, where it isn't 1.
 fn add_part(text: &mut Vec<u8>, part: u16) -> Result<(), AllocError>
-    ensures ok { OnOk result (text.new.items ≡ text.old.items ++ part_text part) }
-    ensures begun { IsBegun text.old.items (part_text part) text.new.items }
+    ensures ok { OnOk result (text.new.items ≡ text.old.items ++ entry_part_text part) }
+    ensures begun { IsBegun text.old.items (entry_part_text part) text.new.items }
 {
     if part == 1 {
         return Ok(());
@@ -60,8 +60,8 @@ pub fn add_subject(
     version: VersionId,
     part: u16,
 ) -> Result<(), AllocError>
-    ensures ok { OnOk result (text.new.items ≡ text.old.items ++ subject_text schema.now version part) }
-    ensures begun { IsBegun text.old.items (subject_text schema.now version part) text.new.items }
+    ensures ok { OnOk result (text.new.items ≡ text.old.items ++ entry_subject_text schema.now version part) }
+    ensures begun { IsBegun text.old.items (entry_subject_text schema.now version part) text.new.items }
 {
     add_version(text, schema, version)?;
     add_part(text, part)
@@ -88,7 +88,7 @@ fn subject_in_text(
     version: VersionId,
     part: u16,
 ) -> Result<Vec<u8>, AllocError>
-    ensures { IfOk result (λ text. text.items ≡ subject_text schema.now version part) }
+    ensures { IfOk result (λ text. text.items ≡ entry_subject_text schema.now version part) }
 {
     let mut text = Vec::new(alloc);
     add_subject(&mut text, schema, version, part)?;
@@ -102,7 +102,7 @@ fn second_in_text(
     second: Option<VersionId>,
     part: u16,
 ) -> Result<Vec<u8>, AllocError>
-    ensures { IfOk result (λ text. text.items ≡ second_text schema.now second part) }
+    ensures { IfOk result (λ text. text.items ≡ entry_second_text schema.now second part) }
 {
     match second {
         None => Ok(Vec::new(alloc)),

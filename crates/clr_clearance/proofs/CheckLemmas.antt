@@ -24,10 +24,10 @@ use Rattle.clr_steps.proofs.RunLemmas.{lost_later, more_law}
 use Rattle.clr_clearance.specs.CheckLaws.{AllJudgedLaw, FirstJudgedLaw, IsCovered, OneMoreLaw}
 use Rattle.clr_clearance.specs.Examples.{FaultExample}
 use Rattle.clr_clearance.specs.Runs.{AreQuiet}
-use Rattle.clr_clearance.specs.Verdicts.{name_fault}
+use Rattle.clr_clearance.specs.Verdicts.{names_fault}
 
 pub fault_example : FaultExample
-unfolding name_fault refusal refusals_of effect step same_name is_live workspace stands is_kept content_of after_create set_kept breaks first_broken
+unfolding names_fault refusal refusals_of effect step same_name is_live workspace stands is_kept content_of after_create set_kept breaks first_broken
     broken_needs broken_below depth_within is_good_name is_root
 fault_example = refl
 

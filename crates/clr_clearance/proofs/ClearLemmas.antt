@@ -24,7 +24,7 @@ use Rattle.clr_clearance.specs.declared.verdicts.Verdict.{Verdict}
 use Rattle.clr_clearance.specs.declared.verdicts.Verdict.TheVariants as verdict
 use Rattle.clr_clearance.specs.Laws.{ClearLaw}
 use Rattle.clr_clearance.specs.Sites.{AreMergeable, Covers, change_sets, changed_by, is_child, setting_of}
-use Rattle.clr_clearance.specs.Verdicts.{IsVerdict, first_conflict, first_repeated, is_repeated, member_fault, missing_member, name_fault, repeated_member}
+use Rattle.clr_clearance.specs.Verdicts.{IsVerdict, first_conflict, first_repeated, is_repeated, member_fault, missing_member, names_fault, repeated_member}
 use Rattle.clr_clearance.specs.Verdicts.{root_fault, stray_member, of_cell, of_member, of_need, of_none}
 use Rattle.clr_clearance.proofs.NameLemmas.{has_is}
 use Rattle.clr_clearance.proofs.StaticLemmas.{apart_sets, child_under, same_after}
@@ -228,9 +228,9 @@ module _ (o : Office) (site : Site) where
     pub free : (name : Name) → is_member site name ≡ true → conflicts_in o name ≡ []
 
   pub faultless : member_fault o site ≡ None → IsFaultless
-  unfolding name_fault
+  unfolding names_fault
   faultless none =
-      let both = neither (name_fault o site) (first_conflict o 0 site.members) none in
+      let both = neither (names_fault o site) (first_conflict o 0 site.members) none in
       let root = neither (root_fault o site) (option_or (repeated_member site) (option_or (missing_member o site) (stray_member o site))) both.0 in
       let repeated = neither (repeated_member site) (option_or (missing_member o site) (stray_member o site)) root.1 in
       let missing = neither (missing_member o site) (stray_member o site) repeated.1 in
@@ -248,7 +248,7 @@ module _ (o : Office) (site : Site) where
       record { kept = passed.kept; distinct = passed.differ; children = passed.children; free = passed.free; apart = apart_names passed.differ apart }
 
   pub no_member_fault : AreMergeable o site → member_fault o site ≡ None
-  unfolding name_fault
+  unfolding names_fault
   no_member_fault mergeable =
       rw (
         mergeable.kept,
@@ -284,7 +284,7 @@ conflict_no_clear o at (n ∷ ns) = either_no_clear (option_map (λ (c : CellId 
     (first_conflict o (suc at) ns) (map_no_clear _ _ (λ c. refl)) (conflict_no_clear o (suc at) ns)
 
 pub fault_no_clear : (o : Office) (site : Site) → IsNoClear (member_fault o site)
-unfolding name_fault
+unfolding names_fault
 fault_no_clear o site =
     either_no_clear (option_or (root_fault o site) (option_or (repeated_member site) (option_or (missing_member o site) (stray_member o site))))
     (first_conflict o 0 site.members)

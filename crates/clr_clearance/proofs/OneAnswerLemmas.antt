@@ -30,7 +30,7 @@ use Rattle.clr_clearance.specs.OneAnswer.{OneBlockedLaw, OneClearedLaw, OneKindL
 use Rattle.clr_clearance.specs.Plans.{ArePicked, IsBlocked, IsCleared, IsFirstUnpicked, of_conflict, of_shared, of_unpicked}
 use Rattle.clr_clearance.specs.Runs.{AreQuiet}
 use Rattle.clr_clearance.specs.Sites.{setting_by_position}
-use Rattle.clr_clearance.specs.Verdicts.{first_conflict, member_fault, name_fault}
+use Rattle.clr_clearance.specs.Verdicts.{first_conflict, member_fault, names_fault}
 use Rattle.clr_clearance.proofs.ClearLemmas.{neither, order}
 use Rattle.clr_clearance.proofs.OrderLemmas.{in_order}
 use Rattle.clr_clearance.proofs.VerdictLemmas.{not_apart, not_both, one_cell, one_some}
@@ -147,17 +147,17 @@ module _ (c : Setting ℕ) where
 -- plans ---------------------------------------------------------------------------------------------------
 
 module _ (o : Office) (site : Site) where
-  free_of_names : member_fault o site ≡ None → name_fault o site ≡ None
-  free_of_names none = (neither (name_fault o site) (first_conflict o 0 site.members) none).0
+  free_of_names : member_fault o site ≡ None → names_fault o site ≡ None
+  free_of_names none = (neither (names_fault o site) (first_conflict o 0 site.members) none).0
 
   free_of_conflicts : member_fault o site ≡ None → first_conflict o 0 site.members ≡ None
-  free_of_conflicts none = (neither (name_fault o site) (first_conflict o 0 site.members) none).1
+  free_of_conflicts none = (neither (names_fault o site) (first_conflict o 0 site.members) none).1
 
   -- a member in conflict fails a test of members
   not_free : (v : Verdict) → first_conflict o 0 site.members ≡ Some v → member_fault o site ≡ None → ⊥
   not_free v found none = not_both (first_conflict o 0 site.members) v (free_of_conflicts none) found
 
-  blocked_names : (order : List ℕ) (cause : Verdict) → IsBlocked o site order cause → name_fault o site ≡ None
+  blocked_names : (order : List ℕ) (cause : Verdict) → IsBlocked o site order cause → names_fault o site ≡ None
   blocked_names order cause (of_conflict at cell count none found same is) = none
   blocked_names order cause (of_shared cell i j none shared same is) = free_of_names none
   blocked_names order cause (of_unpicked n none apart least blocks is) = free_of_names none
@@ -169,13 +169,13 @@ module _ (o : Office) (site : Site) where
 
 pub one_kind : OneKindLaw
 one_kind o site v entries order cause = (
-  λ both. not_both (name_fault o site) v (free_of_names o site both.1.free) both.0,
-  λ both. not_both (name_fault o site) v (blocked_names o site order cause both.1) both.0,
+  λ both. not_both (names_fault o site) v (free_of_names o site both.1.free) both.0,
+  λ both. not_both (names_fault o site) v (blocked_names o site order cause both.1) both.0,
   λ both. not_blocked o site entries order cause both.0 both.1,
 )
 
 pub one_unfit : OneUnfitLaw
-one_unfit o site v w = one_some (name_fault o site) v w
+one_unfit o site v w = one_some (names_fault o site) v w
 
 pub one_cleared : OneClearedLaw
 one_cleared o site entries others one two = one_picked _ entries others one.picked two.picked

@@ -11,7 +11,7 @@ use Rattle.clr_steps.specs.Quiet.{Site, is_member, is_quiet}
 use Rattle.clr_steps.specs.Steps.{run, step}
 use Rattle.clr_steps.proofs.FindLemmas.{same_is, same_itself}
 use Rattle.clr_clearance.specs.PlanLaws.{BlockedPlanLaw, ClearedIsSafeLaw, ClearedPlanLaw, SafeOrderLaw, SafePlanLaw}
-use Rattle.clr_clearance.specs.Plans.{is_refused, merges, names_at, of_conflict, of_shared, of_unpicked}
+use Rattle.clr_clearance.specs.Plans.{is_order_refused, merges, members_at, of_conflict, of_shared, of_unpicked}
 use Rattle.clr_clearance.specs.Runs.{AreQuiet, office_before}
 use Rattle.clr_clearance.specs.Safety.{Safe, is_clash}
 use Rattle.clr_clearance.specs.Sites.{setting_of}
@@ -29,9 +29,9 @@ pub cleared_safe : ClearedIsSafeLaw
 cleared_safe o site entries cleared holds = safe_law o site entries (cleared_plan o site entries cleared) holds
 
 pub blocked_plan : BlockedPlanLaw
-blocked_plan o site order cause (of_conflict at cell count none found same e) holds = ap (λ positions. is_refused o (names_at site positions)) same
+blocked_plan o site order cause (of_conflict at cell count none found same e) holds = ap (λ positions. is_order_refused o (members_at site positions)) same
     ∙ conflict_is_refused o site at cell count found
-blocked_plan o site order cause (of_shared cell i j none shared same e) holds = ap (λ positions. is_refused o (names_at site positions)) same
+blocked_plan o site order cause (of_shared cell i j none shared same e) holds = ap (λ positions. is_order_refused o (members_at site positions)) same
     ∙ shared_is_refused o site cell i j none shared
 blocked_plan o site order cause (of_unpicked n none apart first blocks e) holds = unpicked_is_refused o site n order (mergeable_of o site none apart) holds
     first.touched first.none blocks
@@ -72,7 +72,7 @@ merges_quiet o site names members at c e = by (slice_get names at) refl (sym (sl
 
 -- no order of merges of members of a safe site is refused, also where some are merged already
 safe_calm : (o : Office) (site : Site) (ns before : List Name) → Safe o site → AreMembers site before → AreMembers site ns
-    → is_refused (after_merges o before) ns ≡ false
+    → is_order_refused (after_merges o before) ns ≡ false
 unfolding AreMembers
 safe_calm o site [] before safe done members = refl
 safe_calm o site (n ∷ ns) before safe done members =
@@ -80,7 +80,8 @@ safe_calm o site (n ∷ ns) before safe done members =
     let member = members n (or_left (same_name n n) (has ns n) (same_itself n)) in
     let first = ((safe (merges before) none_lost (merges_quiet o site before done)).answers (merge_of n) member).no_clash in
     let rest = safe_calm o site ns (before ++ n ∷ []) safe (with_last member) (λ k h. members k (or_right (same_name n k) (has ns k) h)) in
-    neither (is_clash (step now (merge_of n)).reply) (is_refused (step now (merge_of n)).office ns) first (ap (λ p. is_refused p ns) (sym (one_more o before n))
+    neither (is_clash (step now (merge_of n)).reply) (is_order_refused (step now (merge_of n)).office ns) first (ap (λ p. is_order_refused p ns) (sym
+    (one_more o before n))
     ∙ rest)
   where
     with_last : is_member site n ≡ true → (k : Name) → has (before ++ n ∷ []) k ≡ true → is_member site k ≡ true
@@ -96,4 +97,4 @@ safe_order o site names safe part = safe_calm o site names [] safe (λ k h. absu
 
 pub safe_plan : SafePlanLaw
 safe_plan o site order cause safe holds blocked =
-    true≢false (sym (blocked_plan o site order cause blocked holds) ∙ safe_order o site (names_at site order) safe (names_part o site order))
+    true≢false (sym (blocked_plan o site order cause blocked holds) ∙ safe_order o site (members_at site order) safe (names_part o site order))

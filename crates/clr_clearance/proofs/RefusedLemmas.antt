@@ -33,7 +33,7 @@ use Rattle.clr_steps.proofs.RuleLemmas.{holds_where}
 use Rattle.clr_clearance.specs.Invariants.{Invariant}
 use Rattle.clr_clearance.specs.declared.verdicts.Verdict.TheVariants as verdict
 use Rattle.clr_clearance.specs.PlanLaws.{UnpickedLaw}
-use Rattle.clr_clearance.specs.Plans.{is_refused, names_at}
+use Rattle.clr_clearance.specs.Plans.{is_order_refused, members_at}
 use Rattle.clr_clearance.specs.Verdicts.{first_conflict}
 use Rattle.clr_clearance.proofs.PickLemmas.{blockers_are, unpicked_is_uncovered}
 use Rattle.clr_clearance.specs.Runs.{merged_by}
@@ -150,12 +150,12 @@ module _ (first : Office) (site : Site) (mergeable : AreMergeable first site) wh
 
   -- where none clashes, every rule holds with the changes of all of them
   all_done : (ns names : List Name) (now : Office) → Invariant first site names now → AllStand now → AreAmong (setting_of first site) ns site.members
-      → is_refused now ns ≡ false
+      → is_order_refused now ns ≡ false
       → Holds first.book (rows_with first site names) → Holds first.book (rows_with first site (names ++ ns))
   all_done [] names now inv stand part calm holds = subst (λ ms. Holds first.book (rows_with first site ms)) (sym (append-nil names)) holds
   all_done (n ∷ ns) names now inv stand part calm holds =
       let member : is_member site n ≡ true = sym (has_is site.members n) ∙ part n (or_left (same_name n n) (has_by same_name ns n) (same_name_itself n)) in
-      let both = or_parts (is_clash (step now (merge_of n)).reply) (is_refused (step now (merge_of n)).office ns) calm in
+      let both = or_parts (is_clash (step now (merge_of n)).reply) (is_order_refused (step now (merge_of n)).office ns) calm in
       let (w, e) = stands_as (workspace now n) (stand n member) in
       let next = next_is names now inv n member w e both.0 in
       subst (λ ms. Holds first.book (rows_with first site ms)) (append_assoc names (n ∷ []) ns)
@@ -164,8 +164,8 @@ module _ (first : Office) (site : Site) (mergeable : AreMergeable first site) wh
 
   -- an order of merges that break a rule is refused
   pub breaking_is_refused : (names : List Name) → AreAmong (setting_of first site) names site.members → RootHolds first site
-      → ¬ (Holds first.book (rows_with first site names)) → is_refused first names ≡ true
-  breaking_is_refused names part holds breaking = elim (cases_Bool (is_refused first names)) [
+      → ¬ (Holds first.book (rows_with first site names)) → is_order_refused first names ≡ true
+  breaking_is_refused names part holds breaking = elim (cases_Bool (is_order_refused first names)) [
     | inl refused ↦ refused
     | inr calm ↦ absurd (breaking (all_done names [] first (at_first first site mergeable) all_stand part calm
         (subst (Holds first.book) (λ i cell. sym (root_is (setting_of first site) cell) i) holds)))
@@ -177,35 +177,35 @@ module _ (first : Office) (site : Site) (mergeable : AreMergeable first site) wh
 -- members by position ----------------------------------------------------------------------------------------
 
 module _ (o : Office) (site : Site) where
-  pub names_part : (order : List ℕ) → AreAmong (setting_of o site) (names_at site order) site.members
+  pub names_part : (order : List ℕ) → AreAmong (setting_of o site) (members_at site order) site.members
   names_part [] name h = absurd (false≢true h)
   names_part (k ∷ ks) name h = by (slice_get site.members k) refl h (names_part ks name)
     where
-      by : (r : Option Name) → slice_get site.members k ≡ r → has_by same_name (cons_option r (names_at site ks)) name ≡ true
-          → (has_by same_name (names_at site ks) name ≡ true → has_by same_name site.members name ≡ true) → has_by same_name site.members name ≡ true
+      by : (r : Option Name) → slice_get site.members k ≡ r → has_by same_name (cons_option r (members_at site ks)) name ≡ true
+          → (has_by same_name (members_at site ks) name ≡ true → has_by same_name site.members name ≡ true) → has_by same_name site.members name ≡ true
       by None e h more = more h
-      by (Some n) e h more = elim (or_cases (same_name n name) (has_by same_name (names_at site ks) name) h) [
+      by (Some n) e h more = elim (or_cases (same_name n name) (has_by same_name (members_at site ks) name) h) [
         | inl same ↦ ap (has_by same_name site.members) (sym (same_name_is n name same)) ∙ member_there o site site.members k n e
         | inr other ↦ more other
       ]
 
-  pub rows_at : (order : List ℕ) (cell : CellId) → view_with (by_position (setting_of o site)) order cell ≡ rows_with o site (names_at site order) cell
+  pub rows_at : (order : List ℕ) (cell : CellId) → view_with (by_position (setting_of o site)) order cell ≡ rows_with o site (members_at site order) cell
   rows_at [] cell = root_is (by_position (setting_of o site)) cell ∙ sym (root_is (setting_of o site) cell)
   rows_at (k ∷ ks) cell = taken_cons (by_position (setting_of o site)) k ks cell ∙ by (slice_get site.members k) (rows_at ks cell)
     where
-      by : (r : Option Name) → view_with (by_position (setting_of o site)) ks cell ≡ rows_with o site (names_at site ks) cell
+      by : (r : Option Name) → view_with (by_position (setting_of o site)) ks cell ≡ rows_with o site (members_at site ks) cell
           → unwrap_or (after_member (setting_of o site) r cell) (view_with (by_position (setting_of o site)) ks cell)
-          ≡ rows_with o site (cons_option r (names_at site ks)) cell
+          ≡ rows_with o site (cons_option r (members_at site ks)) cell
       by None more = more
-      by (Some n) more = ap (unwrap_or ((setting_of o site).after n cell)) more ∙ sym (taken_cons (setting_of o site) n (names_at site ks) cell)
+      by (Some n) more = ap (unwrap_or ((setting_of o site).after n cell)) more ∙ sym (taken_cons (setting_of o site) n (members_at site ks) cell)
 
 -- a need that nothing covers ------------------------------------------------------------------------------------
 
 pub unpicked_is_refused : UnpickedLaw
-unpicked_is_refused o site n order mergeable holds needed none blocks = breaking_is_refused o site mergeable (names_at site order) (names_part o site order)
+unpicked_is_refused o site n order mergeable holds needed none blocks = breaking_is_refused o site mergeable (members_at site order) (names_part o site order)
     holds breaking
   where
-    breaking : Holds o.book (rows_with o site (names_at site order)) → ⊥
+    breaking : Holds o.book (rows_with o site (members_at site order)) → ⊥
     breaking good =
         let (a, b, possible, touched) = needed in
         let uncovered = unpicked_is_uncovered (setting_by_position o site) n a b possible (none a b possible) in
@@ -251,14 +251,15 @@ in_conflict_at o from (n ∷ ns) at cell count e = by (least_and_count (conflict
         (0, omega (arith, one), record { name = n; is_at = refl; conflicts_are = f ∙ (λ i. Some (two i, three i)) })
 
 pub conflict_is_refused : (o : Office) (site : Site) (at : ℕ) (cell : CellId) (count : ℕ) → first_conflict o 0 site.members
-    ≡ Some (verdict.Conflict at cell count) → is_refused o (names_at site (at ∷ [])) ≡ true
+    ≡ Some (verdict.Conflict at cell count) → is_order_refused o (members_at site (at ∷ [])) ≡ true
 unfolding conflict
 conflict_is_refused o site at cell count e =
     let (j, same, found) = in_conflict_at o 0 site.members at cell count e in
     let here : slice_get site.members at ≡ Some found.name = (let one : at ≡ j = omega (arith, same) in ap (slice_get site.members) one ∙ found.is_at) in
-    ap (λ r. is_refused o (cons_option r [])) here ∙ by found.name (workspace o found.name) refl found.conflicts_are
+    ap (λ r. is_order_refused o (cons_option r [])) here ∙ by found.name (workspace o found.name) refl found.conflicts_are
   where
-    by : (name : Name) (r : Option Workspace) → workspace o name ≡ r → least_and_count (conflicts_in o name) ≡ Some (cell, count) → is_refused o (name ∷ [])
+    by : (name : Name) (r : Option Workspace) → workspace o name ≡ r → least_and_count (conflicts_in o name) ≡ Some (cell, count)
+        → is_order_refused o (name ∷ [])
         ≡ true
     by name None e h = let none : least_and_count (conflicts_in o name) ≡ None =
         ap (λ r. least_and_count (option_map_or (λ (w : Workspace). conflicts (content_of o w.parent) (own_changes w)) r [])) e in absurd (cc)

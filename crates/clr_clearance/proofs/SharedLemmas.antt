@@ -23,7 +23,7 @@ use Rattle.clr_steps.specs.Refusals.{conflict}
 use Rattle.clr_steps.specs.Steps.{Answer, step}
 use Rattle.clr_steps.proofs.FindLemmas.{found_name, same_is as same_name_is}
 use Rattle.clr_steps.proofs.WorkspaceLemmas.{conflict_law}
-use Rattle.clr_clearance.specs.Plans.{is_refused, names_at}
+use Rattle.clr_clearance.specs.Plans.{is_order_refused, members_at}
 use Rattle.clr_clearance.specs.Safety.{is_clash}
 use Rattle.clr_clearance.specs.Sites.{AgreesWith, change_sets, changed_by, is_child, setting_of}
 use Rattle.clr_clearance.specs.Verdicts.{member_fault}
@@ -80,16 +80,16 @@ module _ (o : Office) (site : Site) (kept : is_kept o site.root ≡ true) (cell 
       not-false _ (sym (ap (λ b. b && not (same (row_at (content_of next v.parent) cell) (row_at v.base cell))) changed) ∙ free) in
       differs (sym above ∙ same_is (row_at (content_of next v.parent) cell) (row_at v.base cell) equal ∙ ap (λ (k : Member). row_at k.base cell) looks)
 
-  both_are_refused : is_refused o (m ∷ n ∷ []) ≡ true
+  both_are_refused : is_order_refused o (m ∷ n ∷ []) ≡ true
   both_are_refused = by (merge_ends o m first.at first.is)
     where
       next : Office
       next = (step o (merge_of m)).office
 
-      after : is_clash (step next (merge_of n)).reply ≡ true → is_refused o (m ∷ n ∷ []) ≡ true
+      after : is_clash (step next (merge_of n)).reply ≡ true → is_order_refused o (m ∷ n ∷ []) ≡ true
       after h = or_right (is_clash (step o (merge_of m)).reply) _ (or_left (is_clash (step next (merge_of n)).reply) false h)
 
-      by : IsMerged o m first.at → is_refused o (m ∷ n ∷ []) ≡ true
+      by : IsMerged o m first.at → is_order_refused o (m ∷ n ∷ []) ≡ true
       by (clashes h) = or_left (is_clash (step o (merge_of m)).reply) _ h
       by (merged free none is) =
           let w = first.at in
@@ -107,7 +107,7 @@ module _ (o : Office) (site : Site) (kept : is_kept o site.root ≡ true) (cell 
           ]
 
 pub shared_is_refused : (o : Office) (site : Site) (cell : CellId) (i j : ℕ) → member_fault o site ≡ None
-    → IsSceneFault (change_sets o site) (scene.SharedCell cell i j) → is_refused o (names_at site (i ∷ j ∷ [])) ≡ true
+    → IsSceneFault (change_sets o site) (scene.SharedCell cell i j) → is_order_refused o (members_at site (i ∷ j ∷ [])) ≡ true
 shared_is_refused o site cell i j none shared =
     by (slice_get site.members i) refl (slice_get site.members j) refl
     (sym (ap is_some (same_after o site i cell)) ∙ shared.two.first)
@@ -135,10 +135,10 @@ shared_is_refused o site cell i j none shared =
 
     by : (x : Option Name) → slice_get site.members i ≡ x → (y : Option Name) → slice_get site.members j ≡ y → is_some (after_member (setting_of o site) x cell)
         ≡ true → is_some (after_member (setting_of o site) y cell) ≡ true
-        → is_refused o (cons_option (slice_get site.members i) (cons_option (slice_get site.members j) [])) ≡ true
+        → is_order_refused o (cons_option (slice_get site.members i) (cons_option (slice_get site.members j) [])) ≡ true
     by None e y f g h = absurd (false≢true g)
     by (Some m) e None f g h = absurd (false≢true h)
     by (Some m) e (Some n) f g h =
-        ap (λ x. is_refused o (cons_option x (cons_option (slice_get site.members j) []))) e
-        ∙ ap (λ y. is_refused o (m ∷ cons_option y [])) f
+        ap (λ x. is_order_refused o (cons_option x (cons_option (slice_get site.members j) []))) e
+        ∙ ap (λ y. is_order_refused o (m ∷ cons_option y [])) f
         ∙ both_are_refused o site (faultless o site none).kept cell m n (two_names m n e f (same_name m n) refl) (changing i m e g) (changing j n f h)

@@ -12,7 +12,7 @@ use Rattle.clr_steps.specs.Quiet.{Site}
 use Rattle.clr_steps.specs.Steps.{run}
 use Rattle.clr_clearance.specs.declared.verdicts.Verdict.{Verdict}
 use Rattle.clr_clearance.specs.Headline.{NamesTheSame}
-use Rattle.clr_clearance.specs.Plans.{IsBlocked, IsCleared, is_refused, names_at, standing}
+use Rattle.clr_clearance.specs.Plans.{IsBlocked, IsCleared, is_order_refused, members_at, standing}
 use Rattle.clr_clearance.specs.Runs.{AreQuiet}
 use Rattle.clr_clearance.specs.Safety.{Safe}
 use Rattle.clr_clearance.specs.Sites.{AreMergeable, Covers, RootHolds, setting_by_position, setting_of}
@@ -31,7 +31,7 @@ abbrev pub BlockedPlanLaw : Type 0
 BlockedPlanLaw = (o : Office) (site : Site) (order : List ℕ) (cause : Verdict)
     → IsBlocked o site order cause
     → RootHolds o site
-    → is_refused o (names_at site order) ≡ true
+    → is_order_refused o (members_at site order) ≡ true
 
 -- the members that break a touched need for which no witnesses are picked, as they stand in the list, are an order that is refused
 abbrev pub UnpickedLaw : Type 0
@@ -41,11 +41,11 @@ UnpickedLaw = (o : Office) (site : Site) (n : Need) (order : List ℕ)
     → IsTouched (setting_by_position o site) n
     → Picks (setting_by_position o site) n None
     → Blocks (setting_by_position o site) n order
-    → is_refused o (names_at site order) ≡ true
+    → is_order_refused o (members_at site order) ≡ true
 
 -- no order of merges of members of a safe site is refused, and so no safe site is blocked
 abbrev pub SafeOrderLaw : Type 0
-SafeOrderLaw = (o : Office) (site : Site) (names : List Name) → Safe o site → AreAmong (setting_of o site) names site.members → is_refused o names ≡ false
+SafeOrderLaw = (o : Office) (site : Site) (names : List Name) → Safe o site → AreAmong (setting_of o site) names site.members → is_order_refused o names ≡ false
 
 abbrev pub SafePlanLaw : Type 0
 SafePlanLaw = (o : Office) (site : Site) (order : List ℕ) (cause : Verdict) → Safe o site → RootHolds o site → ¬ (IsBlocked o site order cause)

@@ -22,19 +22,19 @@ use Rattle.clr_clearance.specs.declared.verdicts.Verdict.{Verdict}
 use Rattle.clr_clearance.specs.declared.verdicts.Verdict.TheVariants as verdict
 use Rattle.clr_clearance.specs.Safety.{is_clash}
 use Rattle.clr_clearance.specs.Sites.{change_sets, setting_by_position}
-use Rattle.clr_clearance.specs.Verdicts.{first_conflict, member_fault, name_fault}
+use Rattle.clr_clearance.specs.Verdicts.{first_conflict, member_fault, names_fault}
 
 -- the commands that merge some members in order and keep the workspaces
 abbrev pub merges : List Name → List Command
 merges names = map (λ name. command.Merge name false) names
 
 -- of the merges of some members in order, none of which is lost, one meets a conflict or breaks a rule
-abbrev pub is_refused : Office → List Name → Bool
-is_refused o names = list_any is_clash (run o (merges names) (λ at. false)).replies
+abbrev pub is_order_refused : Office → List Name → Bool
+is_order_refused o names = list_any is_clash (run o (merges names) (λ at. false)).replies
 
 -- the members at some positions
-abbrev pub names_at : Site → List ℕ → List Name
-names_at site positions = filter_map (slice_get site.members) positions
+abbrev pub members_at : Site → List ℕ → List Name
+members_at site positions = filter_map (slice_get site.members) positions
 
 -- the entries of touched needs, ascending, each with the witnesses picked for its need
 pub record ArePicked (c : Setting ℕ) (entries : List Entry) : Type 0 where
@@ -49,7 +49,7 @@ pub record IsFirstUnpicked (c : Setting ℕ) (n : Need) : Type 0 where
 
 -- an unfit site: the first test of names that fails
 abbrev pub IsUnfit : Office → Site → Verdict → Type 0
-IsUnfit o site v = name_fault o site ≡ Some v
+IsUnfit o site v = names_fault o site ≡ Some v
 
 -- a cleared plan
 pub record IsCleared (o : Office) (site : Site) (entries : List Entry) : Type 0 where
@@ -60,7 +60,7 @@ pub record IsCleared (o : Office) (site : Site) (entries : List Entry) : Type 0 
 -- a blocked plan: the cause, and the positions of members in the order of merges that it refuses: the member in conflict; the first two that change a
 -- cell; or the members that break a need
 pub data IsBlocked (o : Office) (site : Site) (order : List ℕ) (cause : Verdict) : Type 0 where
-  of_conflict : (at : ℕ) (cell : CellId) (count : ℕ) → name_fault o site ≡ None → first_conflict o 0 site.members ≡ Some (verdict.Conflict at cell count)
+  of_conflict : (at : ℕ) (cell : CellId) (count : ℕ) → names_fault o site ≡ None → first_conflict o 0 site.members ≡ Some (verdict.Conflict at cell count)
       → order ≡ at ∷ [] → cause ≡ verdict.Conflict at cell count → IsBlocked o site order cause
   of_shared : (cell : CellId) (i j : ℕ) → member_fault o site ≡ None → IsSceneFault (change_sets o site) (scene.SharedCell cell i j)
       → order ≡ i ∷ j ∷ [] → cause ≡ verdict.SharedCell cell i j → IsBlocked o site order cause

@@ -44,8 +44,8 @@ missing_member o site = option_map verdict.NoWorkspace (position (λ name. not (
 abbrev pub stray_member : Office → Site → Option Verdict
 stray_member o site = option_map verdict.NotUnderRoot (position (λ name. not (is_child o site name)) site.members)
 
-unfoldable pub name_fault : Office → Site → Option Verdict
-name_fault o site = option_or (root_fault o site) (option_or (repeated_member site) (option_or (missing_member o site) (stray_member o site)))
+unfoldable pub names_fault : Office → Site → Option Verdict
+names_fault o site = option_or (root_fault o site) (option_or (repeated_member site) (option_or (missing_member o site) (stray_member o site)))
 
 -- the first of some members in conflict, numbered from a position on, with its least cell and how many there are
 unfoldable pub first_conflict : Office → ℕ → List Name → Option Verdict
@@ -55,7 +55,7 @@ first_conflict o at (name ∷ names) =
 
 -- the tests that look at one member at a time
 abbrev pub member_fault : Office → Site → Option Verdict
-member_fault o site = option_or (name_fault o site) (first_conflict o 0 site.members)
+member_fault o site = option_or (names_fault o site) (first_conflict o 0 site.members)
 
 -- a touched need without an entry that covers it, where each lesser one has one
 pub record IsFirstUncovered (c : Setting ℕ) (entries : List Entry) (n : Need) (a : Lived ℕ) (b : Option (Lived ℕ)) : Type 0 where

@@ -8,29 +8,29 @@ use Rattle.clr_command_line.specs.declared.asks.AskFault.{AskFault}
 use Rattle.clr_command_line.specs.declared.asks.AskFault.TheVariants as fault
 
 -- the value of a name, or no bytes where there is none
-abbrev pub value_of : Text → List Row → Text
-value_of id rows = unwrap_or (first_of id rows) []
+abbrev pub given_value : Text → List Row → Text
+given_value id rows = unwrap_or (first_of id rows) []
 
 -- the names that are given, none or more
-abbrev pub names_of : List Row → List Text
-names_of rows = unwrap_or (all_of (codes "NAME") rows) []
+abbrev pub given_names : List Row → List Text
+given_names rows = unwrap_or (all_of (codes "NAME") rows) []
 
 -- the file of the office text, and the file of another name
 abbrev pub database_of : List Row → List Text
-database_of rows = value_of (codes "DB") rows ∷ []
+database_of rows = given_value (codes "DB") rows ∷ []
 
 abbrev pub database_and : Text → List Row → List Text
-database_and id rows = value_of (codes "DB") rows ∷ value_of id rows ∷ []
+database_and id rows = given_value (codes "DB") rows ∷ given_value id rows ∷ []
 
 -- what a subcommand asks for, and its files
 unfoldable pub ask_by_name : Text → List Row → Option (Ask × List Text)
 ask_by_name name rows =
     if bytes_eq name (codes "audit") then Some (Audit, database_of rows)
     else (if bytes_eq name (codes "run") then Some (Run, database_and (codes "SCRIPT") rows)
-    else (if bytes_eq name (codes "plan") then Some (Plan (names_of rows), database_of rows)
-    else (if bytes_eq name (codes "planunder") then Some (PlanUnder (value_of (codes "ROOT") rows) (names_of rows), database_of rows)
+    else (if bytes_eq name (codes "plan") then Some (Plan (given_names rows), database_of rows)
+    else (if bytes_eq name (codes "planunder") then Some (PlanUnder (given_value (codes "ROOT") rows) (given_names rows), database_of rows)
     else (if bytes_eq name (codes "check") then Some (Check, database_and (codes "CERT") rows)
-    else (if bytes_eq name (codes "merge") then Some (Merge (names_of rows), database_and (codes "CERT") rows)
+    else (if bytes_eq name (codes "merge") then Some (Merge (given_names rows), database_and (codes "CERT") rows)
     else None)))))
 
 -- what the subcommand that words name asks for, if they name one

@@ -7,9 +7,9 @@ use Rattle.clap.specs.Words.{App, Rule, Text, new_app, new_rule, with_rule, with
 abbrev pub value : Text → Rule
 value id = record (new_rule id) { required = true }
 
--- names at the end, none or more
-abbrev pub names : Rule
-names = record (new_rule (codes "NAME")) { range = Some (record { start_inclusive = 0; end_inclusive = usize_max }) }
+-- name_arguments at the end, none or more
+abbrev pub name_arguments : Rule
+name_arguments = record (new_rule (codes "NAME")) { range = Some (record { start_inclusive = 0; end_inclusive = usize_max }) }
 
 -- a subcommand over an office text
 abbrev pub database_command : Text → App
@@ -22,16 +22,16 @@ abbrev pub run : App
 run = with_rule (database_command (codes "run")) (value (codes "SCRIPT"))
 
 abbrev pub plan : App
-plan = with_rule (database_command (codes "plan")) names
+plan = with_rule (database_command (codes "plan")) name_arguments
 
 abbrev pub plan_under : App
-plan_under = with_rule (with_rule (database_command (codes "planunder")) (value (codes "ROOT"))) names
+plan_under = with_rule (with_rule (database_command (codes "planunder")) (value (codes "ROOT"))) name_arguments
 
 abbrev pub check : App
 check = with_rule (database_command (codes "check")) (value (codes "CERT"))
 
 abbrev pub merge : App
-merge = with_rule (with_rule (database_command (codes "merge")) (value (codes "CERT"))) names
+merge = with_rule (with_rule (database_command (codes "merge")) (value (codes "CERT"))) name_arguments
 
 -- a program that requires a subcommand, and has a version
 abbrev pub demanding : Text → App

@@ -3,7 +3,7 @@
 ghost use Rattle.std.specs.Prelude.{◌≡◌, false, IfOk};
 ghost use Rattle.clap.specs.Words.{app_of, with_rule, with_subcommand};
 ghost use Rattle.clap.specs.declared.builder.command.Command.TheViews.{out-Command as fields_of};
-ghost use Rattle.clr_command_line.specs.Program.{database_command, names as several_names, value};
+ghost use Rattle.clr_command_line.specs.Program.{database_command, name_arguments as several_names, value};
 
 use clap::{Arg, Command};
 use std::alloc::{AllocError, Global};

@@ -2,7 +2,7 @@
 
 ghost use Rattle.std.specs.Prelude.{◌≡◌, Some, IfOk, IfErr, codes, is_some, map, true};
 ghost use Rattle.clap.specs.Words.{found_of, rows_of, subcommand_of, takes};
-ghost use Rattle.clr_command_line.specs.Asks.{IsMemory, ask_of, ask_by_name, names_of, value_of};
+ghost use Rattle.clr_command_line.specs.Asks.{IsMemory, ask_of, ask_by_name, given_names, given_value};
 ghost use Rattle.clr_command_line.specs.declared.asks.Ask.TheVariants.{PlanUnder};
 ghost use Rattle.clr_command_line.specs.Program.{program};
 
@@ -16,7 +16,7 @@ use std::alloc::{AllocError, Global};
 /// Returns what `planunder` asks for.
 fn plan_under(alloc: Global, matches: &ArgMatches) -> Result<Ask, AllocError>
     ensures { IfOk result (λ ask. ask
-        ≡ PlanUnder (value_of (codes "ROOT") (rows_of (found_of matches.now))) (names_of (rows_of (found_of matches.now)))) }
+        ≡ PlanUnder (given_value (codes "ROOT") (rows_of (found_of matches.now))) (given_names (rows_of (found_of matches.now)))) }
 {
     let root = value(alloc, matches, "ROOT")?;
     let names = names(alloc, matches)?;

@@ -1,7 +1,7 @@
 //! What `clap` found in words: values, names and files.
 ghost use Rattle.std.specs.Prelude.{◌≡◌, IfOk, map};
 ghost use Rattle.clap.specs.Words.{found_of, rows_of};
-ghost use Rattle.clr_command_line.specs.Asks.{database_and, database_of, names_of, value_of};
+ghost use Rattle.clr_command_line.specs.Asks.{database_and, database_of, given_names, given_value};
 
 use clap::ArgMatches;
 use clr_rows::{Names, Words};
@@ -9,7 +9,7 @@ use std::alloc::{AllocError, Global};
 
 /// Returns the value of a name, or no bytes where there is none.
 pub(crate) fn value(alloc: Global, matches: &ArgMatches, id: &str) -> Result<Words, AllocError>
-    ensures { IfOk result (λ text. text ≡ value_of id.now (rows_of (found_of matches.now))) }
+    ensures { IfOk result (λ text. text ≡ given_value id.now (rows_of (found_of matches.now))) }
 {
     match matches.get_str(id) {
         Some(text) => Ok(Words::from_str(alloc, text)?),
@@ -30,7 +30,7 @@ fn owned_names(alloc: Global, texts: &[&str]) -> Result<Names, AllocError>
 
 /// Returns the names that are given, none or more.
 pub fn names(alloc: Global, matches: &ArgMatches) -> Result<Names, AllocError>
-    ensures { IfOk result (λ names. names ≡ names_of (rows_of (found_of matches.now))) }
+    ensures { IfOk result (λ names. names ≡ given_names (rows_of (found_of matches.now))) }
 {
     match matches.get_strs("NAME") {
         Some(texts) => owned_names(alloc, texts),

@@ -6,8 +6,8 @@ use Rattle.clr_workspaces.specs.Marks.{Name}
 use Rattle.clr_steps.specs.Offices.{Office}
 use Rattle.clr_steps.specs.Quiet.{Site}
 use Rattle.clr_clearance.specs.declared.verdicts.Verdict.{Verdict}
-use Rattle.clr_clearance.specs.Plans.{names_at}
-use Rattle.clr_clearance.specs.Verdicts.{name_fault}
+use Rattle.clr_clearance.specs.Plans.{members_at}
+use Rattle.clr_clearance.specs.Verdicts.{names_fault}
 use Rattle.clr_sites.specs.SiteNames.{site}
 use Rattle.clr_lines.specs.Reports.{count_line}
 use Rattle.clr_verdict_lines.specs.Verdicts.{verdict_text}
@@ -22,7 +22,7 @@ use Rattle.clr_prints.specs.Printing.{PrintoutOrFault, printout_of}
 -- the members of a set, and why they can't be merged together
 abbrev pub clash_text : List TableDef → Site → SiteClash → List ℕ
 clash_text tables s k =
-    names_line (codes "clash") (names_at s k.members.items) ++ codes "cause " ++ verdict_text tables (names_at s k.members.items) s.root k.cause
+    names_line (codes "clash") (members_at s k.members.items) ++ codes "cause " ++ verdict_text tables (members_at s k.members.items) s.root k.cause
 
 abbrev pub is_listed_position : ℕ → List ℕ → Bool
 is_listed_position at positions = list_any (λ x. x == at) positions
@@ -37,11 +37,11 @@ is_in_no_set clashes at = not (list_any (λ (k : SiteClash). is_listed_position 
 
 -- the members that weren't looked at with the others
 abbrev pub beside : Site → List ℕ → List Name
-beside s looked = names_at s (filter (is_beside looked) (range_with_len 0 (length s.members)))
+beside s looked = members_at s (filter (is_beside looked) (range_with_len 0 (length s.members)))
 
 -- the members that are in no set
 abbrev pub in_no_set : Site → List SiteClash → List Name
-in_no_set s clashes = names_at s (filter (is_in_no_set clashes) (range_with_len 0 (length s.members)))
+in_no_set s clashes = members_at s (filter (is_in_no_set clashes) (range_with_len 0 (length s.members)))
 
 -- a line of names, if there are any
 abbrev pub line_of_some : List ℕ → List Name → List ℕ
@@ -61,7 +61,7 @@ found_print o s found = printout_of (clashes_text o.schema s found.clashes.items
 -- the smallest sets, or the test of names that fails, as the line of a plan that is unfit
 pub data IsSitePrint (s : Site) (o : Office) (print : PrintoutOrFault) : Type 0 where
   of_found : (found : SiteClashes) → FindsClashes o s found → print ≡ found_print o s found → IsSitePrint s o print
-  of_names : (v : Verdict) → name_fault o s ≡ Some v → print ≡ plan_print o s (plan.Unfit v) → IsSitePrint s o print
+  of_names : (v : Verdict) → names_fault o s ≡ Some v → print ≡ plan_print o s (plan.Unfit v) → IsSitePrint s o print
 
 -- of the members that names ask for
 abbrev pub IsClashesPrint : Name → List Name → Office → PrintoutOrFault → Type 0

@@ -8,7 +8,7 @@ use Rattle.clap.specs.Words.{Row, Text, all_of, first_of}
 use Rattle.clr_rows.specs.Names.{live_name}
 use Rattle.clr_rows.specs.Schemas.{is_key}
 use Rattle.clr_records.specs.Decimals.{number_of}
-use Rattle.clr_command_line.specs.Asks.{database_and, database_of, names_of, value_of}
+use Rattle.clr_command_line.specs.Asks.{database_and, database_of, given_names, given_value}
 use Rattle.clr_desk_command_line.specs.declared.asks.Ask.{Ask}
 use Rattle.clr_desk_command_line.specs.declared.asks.Ask.TheVariants.{Certificate, Merge, Format, Keep, Clashes, Why, WorkOrder, Map, Report, Geographic}
 use Rattle.clr_desk_command_line.specs.declared.asks.DesignAsk.{DesignAsk}
@@ -21,8 +21,8 @@ abbrev pub given_or : Text → Text → List Row → Text
 given_or otherwise id rows = unwrap_or (first_of id rows) otherwise
 
 -- the root that is given, or LIVE
-abbrev pub root_of : List Row → Text
-root_of rows = given_or live_name (codes "under") rows
+abbrev pub given_root : List Row → Text
+given_root rows = given_or live_name (codes "under") rows
 
 -- what `why` asks for, and its files: of the script if one is given, else of the certificate if one is given, else of the office
 abbrev pub why_of : List Row → Ask × List Text
@@ -43,18 +43,18 @@ members_ask name root names =
     else None)))))
 
 abbrev pub members_asked : Text → List Row → Option (Ask × List Text)
-members_asked name rows = option_map (λ asked. (asked, database_of rows)) (members_ask name (root_of rows) (names_of rows))
+members_asked name rows = option_map (λ asked. (asked, database_of rows)) (members_ask name (given_root rows) (given_names rows))
 
-abbrev pub merge_of : List Row → Ask × List Text
-merge_of rows = (Merge (names_of rows), database_and (codes "CERT") rows)
+abbrev pub merge_ask : List Row → Ask × List Text
+merge_ask rows = (Merge (given_names rows), database_and (codes "CERT") rows)
 
 -- tables and designs as texts for geographic information systems ---------------------------------
 
 abbrev pub features_of : List Row → GeographicAsk × List Text
-features_of rows = (Features (root_of rows) (names_of rows) (first_of (codes "crs") rows), database_of rows)
+features_of rows = (Features (given_root rows) (given_names rows) (first_of (codes "crs") rows), database_of rows)
 
-abbrev pub layer_of : List Row → GeographicAsk × List Text
-layer_of rows = (Layer (given_or [] (codes "TABLE") rows) (given_or live_name (codes "in") rows), database_of rows)
+abbrev pub layer_ask : List Row → GeographicAsk × List Text
+layer_ask rows = (Layer (given_or [] (codes "TABLE") rows) (given_or live_name (codes "in") rows), database_of rows)
 
 -- layers, each a word of a table's name, `=` and a file's name ----------------------------------------
 
@@ -76,8 +76,8 @@ file_in word = after_first is_equals_sign word
 abbrev pub tables_and_files : List Text → Option (List Text × List Text)
 tables_and_files words = if list_all is_layer words then Some (map table_in words, map file_in words) else None
 
-abbrev pub layers_of : List Row → Option (List Text × List Text)
-layers_of rows = tables_and_files (unwrap_or (all_of (codes "TABLE=FILE") rows) [])
+abbrev pub layers_ask : List Row → Option (List Text × List Text)
+layers_ask rows = tables_and_files (unwrap_or (all_of (codes "TABLE=FILE") rows) [])
 
 -- an option without a value is given
 abbrev pub is_set : Text → List Row → Bool
@@ -93,22 +93,22 @@ first_key_of rows = option_map_or key_in (first_of (codes "keys") rows) (Some 1)
 
 -- what is asked of the tables of layers, and the file of an office text before the files of the layers
 abbrev pub asked_of_layers : Text → (List Text → GeographicAsk) → List Row → Option (GeographicAsk × List Text)
-asked_of_layers database ask rows = option_map (λ layers. (ask layers.0, value_of database rows ∷ layers.1)) (layers_of rows)
+asked_of_layers database ask rows = option_map (λ layers. (ask layers.0, given_value database rows ∷ layers.1)) (layers_ask rows)
 
-abbrev pub office_of : List Row → Option (GeographicAsk × List Text)
-office_of rows = asked_of_layers (codes "SCHEMA") (λ tables. Office tables (is_set (codes "round") rows)) rows
+abbrev pub office_ask : List Row → Option (GeographicAsk × List Text)
+office_ask rows = asked_of_layers (codes "SCHEMA") (λ tables. Office tables (is_set (codes "round") rows)) rows
 
 -- a design of these tables, whose rows get keys from this one on
 abbrev pub design_in : List Row → ℕ → List Text → DesignAsk
 design_in rows first_key tables =
-    record { name = value_of (codes "NAME") rows; tables = tables; first_key = first_key; is_rounded = is_set (codes "round") rows }
+    record { name = given_value (codes "NAME") rows; tables = tables; first_key = first_key; is_rounded = is_set (codes "round") rows }
 
 abbrev pub as_script_or_office : Bool → DesignAsk → GeographicAsk
 as_script_or_office true design = DesignScript design
 as_script_or_office false design = Design design
 
-abbrev pub design_of : List Row → Option (GeographicAsk × List Text)
-design_of rows =
+abbrev pub design_ask : List Row → Option (GeographicAsk × List Text)
+design_ask rows =
     option_and_then
     (λ first_key. asked_of_layers (codes "DB") (λ tables. as_script_or_office (is_set (codes "script") rows) (design_in rows first_key tables)) rows)
     (first_key_of rows)
@@ -117,9 +117,9 @@ design_of rows =
 unfoldable pub geographic_asked : Text → List Row → Option (GeographicAsk × List Text)
 geographic_asked name rows =
     if bytes_eq name (codes "geojson") then Some (features_of rows)
-    else (if bytes_eq name (codes "layer") then Some (layer_of rows)
-    else (if bytes_eq name (codes "office") then office_of rows
-    else (if bytes_eq name (codes "design") then design_of rows
+    else (if bytes_eq name (codes "layer") then Some (layer_ask rows)
+    else (if bytes_eq name (codes "office") then office_ask rows
+    else (if bytes_eq name (codes "design") then design_ask rows
     else None)))
 
 -- what a subcommand asks for ------------------------------------------------------------------
@@ -131,7 +131,7 @@ or_members_asked None name rows = members_asked name rows
 -- what a subcommand asks for, and its files
 unfoldable pub ask_by_name : Text → List Row → Option (Ask × List Text)
 ask_by_name name rows =
-    if bytes_eq name (codes "merge") then Some (merge_of rows)
+    if bytes_eq name (codes "merge") then Some (merge_ask rows)
     else (if bytes_eq name (codes "format") then Some (Format, database_of rows)
     else (if bytes_eq name (codes "why") then Some (why_of rows)
     else or_members_asked (geographic_asked name rows) name rows))

@@ -3,7 +3,7 @@ use Rattle.std.specs.Prelude.{true, codes, Some}
 use Rattle.clap.specs.Lexer.{usize_max}
 use Rattle.clap.specs.Words.{App, Rule, Text, new_app, new_rule, with_rule, with_subcommand}
 use Rattle.clap.specs.declared.builder.action.ArgAction.TheVariants.{SetTrue}
-use Rattle.clr_command_line.specs.Program.{database_command, demanding, merge, names, value}
+use Rattle.clr_command_line.specs.Program.{database_command, demanding, merge, name_arguments, value}
 
 -- an option with one value
 abbrev pub option : Text → Rule
@@ -27,7 +27,7 @@ root = option (codes "under")
 
 -- a subcommand over an office text and members of a root
 abbrev pub over_members : Text → App
-over_members name = with_rule (with_rule (database_command name) root) names
+over_members name = with_rule (with_rule (database_command name) root) name_arguments
 
 abbrev pub certificate : App
 certificate = over_members (codes "certificate")

@@ -2,7 +2,7 @@
 
 ghost use Rattle.std.specs.Prelude.{◌≡◌, ◌++◌, IfOk, option_map};
 ghost use Rattle.clap.specs.Words.{found_of, rows_of};
-ghost use Rattle.clr_desk_command_line.specs.Asks.{as_script_or_office, design_of, first_key_of, key_in, office_of};
+ghost use Rattle.clr_desk_command_line.specs.Asks.{as_script_or_office, design_ask, first_key_of, key_in, office_ask};
 
 use crate::asks::{DesignAsk, GeographicAsk};
 use crate::named_layers::layers;
@@ -46,7 +46,7 @@ fn joined(mut files: Vec<Words>, mut others: Vec<Words>) -> Result<Vec<Words>, A
 
 /// Returns what `office` asks for, and its files, or nothing where a layer can't be read.
 pub(crate) fn office(alloc: Global, matches: &ArgMatches) -> Result<Option<Asked>, AllocError>
-    ensures { IfOk result (λ r. office_of (rows_of (found_of matches.now)) ≡ option_map (λ p. (p.0, p.1.items)) r) }
+    ensures { IfOk result (λ r. office_ask (rows_of (found_of matches.now)) ≡ option_map (λ p. (p.0, p.1.items)) r) }
 {
     let Some((tables, files)) = layers(alloc, matches)? else {
         return Ok(None);
@@ -70,7 +70,7 @@ fn as_script_or_office(is_script: bool, design: DesignAsk) -> GeographicAsk
 
 /// Returns what `design` asks for, and its files, or nothing where the first key or a layer can't be read.
 pub(crate) fn design(alloc: Global, matches: &ArgMatches) -> Result<Option<Asked>, AllocError>
-    ensures { IfOk result (λ r. design_of (rows_of (found_of matches.now)) ≡ option_map (λ p. (p.0, p.1.items)) r) }
+    ensures { IfOk result (λ r. design_ask (rows_of (found_of matches.now)) ≡ option_map (λ p. (p.0, p.1.items)) r) }
 {
     let Some(first_key) = first_key(matches) else {
         return Ok(None);

@@ -2,7 +2,7 @@
 
 ghost use Rattle.std.specs.Prelude.{◌≡◌, IfOk, option_map};
 ghost use Rattle.clap.specs.Words.{found_of, rows_of};
-ghost use Rattle.clr_desk_command_line.specs.Asks.{features_of, geographic_asked, layer_of};
+ghost use Rattle.clr_desk_command_line.specs.Asks.{features_of, geographic_asked, layer_ask};
 
 use crate::asks::GeographicAsk;
 use crate::design_reading::{Asked, design, office};
@@ -27,7 +27,7 @@ fn features(alloc: Global, matches: &ArgMatches) -> Result<Asked, AllocError>
 
 /// Returns what `layer` asks for, and its file.
 fn layer(alloc: Global, matches: &ArgMatches) -> Result<Asked, AllocError>
-    ensures { IfOk result (λ r. layer_of (rows_of (found_of matches.now)) ≡ (r.0, r.1.items)) }
+    ensures { IfOk result (λ r. layer_ask (rows_of (found_of matches.now)) ≡ (r.0, r.1.items)) }
 {
     let table = given_or(alloc, matches, "TABLE", "")?;
     let workspace = given_or(alloc, matches, "in", LIVE)?;

@@ -2,7 +2,7 @@
 
 ghost use Rattle.std.specs.Prelude.{◌≡◌, ◌++◌, ◌∷◌, [], true, IfOk, map, option_map};
 ghost use Rattle.clap.specs.Words.{found_of, rows_of};
-ghost use Rattle.clr_desk_command_line.specs.Asks.{file_in, is_layer, layers_of, table_in, tables_and_files};
+ghost use Rattle.clr_desk_command_line.specs.Asks.{file_in, is_layer, layers_ask, table_in, tables_and_files};
 
 use clap::ArgMatches;
 use clr_rows::Words;
@@ -49,7 +49,7 @@ pub(crate) fn layers(
     alloc: Global,
     matches: &ArgMatches,
 ) -> Result<Option<TablesAndFiles>, AllocError>
-    ensures { IfOk result (λ found. option_map (λ p. (p.0.items, p.1.items)) found ≡ layers_of (rows_of (found_of matches.now))) }
+    ensures { IfOk result (λ found. option_map (λ p. (p.0.items, p.1.items)) found ≡ layers_ask (rows_of (found_of matches.now))) }
 {
     match matches.get_strs("TABLE=FILE") {
         Some(words) => tables_and_files(alloc, words),

@@ -10,7 +10,7 @@ ghost use Rattle.clr_desk_command_line.specs.Asks.{
   geographic_asked,
   is_readable,
   members_asked,
-  merge_of,
+  merge_ask,
   or_members_asked,
   why_of,
 };
@@ -92,7 +92,7 @@ fn over_members(
 
 /// Returns what `merge` asks for, and its files.
 fn merge(alloc: Global, matches: &ArgMatches) -> Result<Asked, AllocError>
-    ensures { IfOk result (λ r. merge_of (rows_of (found_of matches.now)) ≡ (r.0, r.1.items)) }
+    ensures { IfOk result (λ r. merge_ask (rows_of (found_of matches.now)) ≡ (r.0, r.1.items)) }
 {
     let ask = Ask::Merge(names(alloc, matches)?);
     Ok((ask, database_with(alloc, matches, "CERT")?))

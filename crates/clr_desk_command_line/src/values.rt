@@ -2,7 +2,7 @@
 
 ghost use Rattle.std.specs.Prelude.{◌≡◌, IfOk};
 ghost use Rattle.clap.specs.Words.{first_of, found_of, rows_of};
-ghost use Rattle.clr_desk_command_line.specs.Asks.{given_or, is_set, root_of};
+ghost use Rattle.clr_desk_command_line.specs.Asks.{given_or, is_set, given_root};
 
 use clap::ArgMatches;
 use clr_rows::{LIVE, Words};
@@ -37,7 +37,7 @@ pub(crate) fn given_or(
 
 /// Returns the root that is given, or LIVE.
 pub(crate) fn root(alloc: Global, matches: &ArgMatches) -> Result<Words, AllocError>
-    ensures { IfOk result (λ root. root ≡ root_of (rows_of (found_of matches.now))) }
+    ensures { IfOk result (λ root. root ≡ given_root (rows_of (found_of matches.now))) }
 {
     given_or(alloc, matches, "under", LIVE)
 }

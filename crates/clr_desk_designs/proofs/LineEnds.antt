@@ -18,7 +18,7 @@ use Rattle.json.specs.Json as json
 use Rattle.json.proofs.Printed.Utf8.{IsUtf8-are_ascii}
 use Rattle.serde_json.specs.Read.{max_depth, of_json, read}
 use Rattle.clr_steps.specs.Offices.{Office}
-use Rattle.clr_rule_text.specs.Fields.{◌>>=◌}
+use Rattle.clr_readings.specs.Readings.{◌>>=◌}
 use Rattle.clr_office_text.specs.Offices.{OfficeText, office_if_read, office_in}
 use Rattle.clr_rule_text.specs.declared.faults.TextFault.{TextFault}
 use Rattle.clr_rule_text.specs.declared.faults.TextFault.TheVariants.{NotJson}

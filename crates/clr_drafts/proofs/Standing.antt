@@ -1,10 +1,10 @@
 -- Workspaces that can't stand make no draft.
-use Rattle.std.proofs.Common.{◌≡◌, ℕ, suc, ◌≤◌, List, [], ◌∷◌, ◌++◌, length, map, take, Option, Some, None, Ok, Err, refl, sym, ap, ◌∙◌, arith}
+use Rattle.std.proofs.Common.{◌≡◌, ℕ, ◌≤◌, List, [], ◌∷◌, length, take, Option, Some, None, Ok, Err, refl, sym, ap, ◌∙◌, arith}
 use Rattle.std.specs.Option.{option_or}
 use Rattle.std.proofs.lemmas.List.{length-take-le}
 use Rattle.std.proofs.lemmas.Option.{none-some}
 use Rattle.clr_rows.specs.Contents.{Content}
-use Rattle.clr_layers.specs.Layers.{Layer, grow, above_in, whole_of, workspaces_over}
+use Rattle.clr_layers.specs.Layers.{Layer, workspaces_over}
 use Rattle.clr_workspaces.specs.Workspaces.{Workspace, live_workspace, workspace_at}
 use Rattle.clr_layers.proofs.Meaning.{length-grow}
 use Rattle.clr_parts.specs.Parts.{IsFirstPartFault, first_below, name_fault_at, workspaces_fault}
@@ -14,7 +14,8 @@ use Rattle.clr_parts.specs.declared.parts.PartFault.TheVariants as part
 use Rattle.clr_parts.proofs.FaultLemmas.{none_at, placed_from}
 use Rattle.clr_steps.specs.Offices.{Office}
 use Rattle.clr_rule_text.specs.declared.faults.TextFault.TheVariants as text
-use Rattle.clr_rule_text.specs.Fields.{Fails}
+use Rattle.clr_readings.specs.Readings.{Fails}
+use Rattle.clr_rule_text.specs.Fields.{text_lacks_memory}
 use Rattle.clr_drafts.specs.Drafts.{if_standing, text_fault_of}
 
 pub stands : (o : Office) → workspaces_fault o.live o.workspaces ≡ None → if_standing o ≡ Ok o
@@ -25,7 +26,8 @@ falls : (o : Office) (e : ℕ × PartFault) → workspaces_fault o.live o.worksp
 unfolding if_standing
 falls o e some = rw some refl
 
-pub refused : (o : Office) (e : ℕ × PartFault) → IsFirstPartFault (workspaces_fault o.live o.workspaces) e → Fails (text_fault_of e.1) (if_standing o)
+pub refused : (o : Office) (e : ℕ × PartFault) → IsFirstPartFault (workspaces_fault o.live o.workspaces) e
+    → Fails text_lacks_memory (text_fault_of e.1) (if_standing o)
 refused o (n, part.OutOfMemory) why = tt
 refused o (n, part.BadName) why = falls o _ why
 refused o (n, part.NameTaken) why = falls o _ why

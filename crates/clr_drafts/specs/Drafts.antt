@@ -7,7 +7,8 @@ use Rattle.clr_parts.specs.declared.parts.PartFault.TheVariants as part
 use Rattle.clr_steps.specs.Offices.{Office}
 use Rattle.clr_rule_text.specs.declared.faults.TextFault.{TextFault}
 use Rattle.clr_rule_text.specs.declared.faults.TextFault.TheVariants as text
-use Rattle.clr_rule_text.specs.Fields.{◌>>=◌, none_or_fault}
+use Rattle.clr_readings.specs.Readings.{◌>>=◌}
+use Rattle.clr_rule_text.specs.Fields.{none_or_fault}
 use Rattle.clr_office_text.specs.Offices.{OfficeText, office_in}
 
 -- what is said of a text whose workspaces can't stand

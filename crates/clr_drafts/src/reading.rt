@@ -5,7 +5,8 @@ ghost use Rattle.clr_workspaces.specs.Workspaces.{live_workspace};
 ghost use Rattle.clr_parts.specs.Parts.{spaces_of};
 ghost use Rattle.clr_steps.specs.Offices.{office_of};
 ghost use Rattle.clr_kept_finders.specs.Fitting.{IsFitting};
-ghost use Rattle.clr_rule_text.specs.Fields.{Gives};
+ghost use Rattle.clr_readings.specs.Readings.{Gives};
+ghost use Rattle.clr_rule_text.specs.Fields.{text_lacks_memory};
 ghost use Rattle.clr_office_text.specs.Fits.{FitsOffice};
 ghost use Rattle.clr_office_text.specs.Offices.{office_read};
 ghost use Rattle.clr_drafts.specs.Drafts.{draft_in, if_standing, text_fault_of, whole_office};
@@ -35,7 +36,7 @@ fn draft_of_layers(
     parts: Vec<StoredPart>,
 ) -> Result<Draft, TextFault>
     requires { IsFitting (office_of schema book (live_workspace live ∷ spaces_of live parts.items)) }
-    ensures { Gives (λ draft. draft) result (if_standing (office_of schema book (live_workspace live ∷ spaces_of live parts.items))) }
+    ensures { Gives text_lacks_memory (λ draft. draft) result (if_standing (office_of schema book (live_workspace live ∷ spaces_of live parts.items))) }
 {
     match Tree::of_layers(alloc, live, parts) {
         Ok(tree) => Ok(Draft::of_tree(alloc, schema, book, tree)),
@@ -47,7 +48,7 @@ fn draft_of_layers(
 /// differences; those that are too many are refused before any of them is made.
 fn draft_of(alloc: Global, read: OfficeParts) -> Result<Draft, TextFault>
     requires { FitsOffice (office_read read) }
-    ensures { Gives (λ draft. draft) result (if_standing (whole_office (office_read read))) }
+    ensures { Gives text_lacks_memory (λ draft. draft) result (if_standing (whole_office (office_read read))) }
 {
     let OfficeParts {
         schema,
@@ -82,7 +83,7 @@ fn draft_of(alloc: Global, read: OfficeParts) -> Result<Draft, TextFault>
 /// which may come in place of any other answer.
 #[tactic(auto, unfolding(crate::specs::Drafts::draft_in))]
 pub fn read_office(alloc: Global, bytes: &[u8]) -> Result<Draft, TextFault>
-    ensures { Gives (λ draft. draft) result (draft_in bytes.now) }
+    ensures { Gives text_lacks_memory (λ draft. draft) result (draft_in bytes.now) }
 {
     draft_of(alloc, clr_office_text::read_office(alloc, bytes)?)
 }

@@ -11,7 +11,7 @@ ghost use Rattle.clr_steps.specs.Readings.{changes_in, conflicts_in, if_stands, 
 ghost use Rattle.clr_steps.specs.Steps.{is_lost, lost_in, run, IsAnswer, TakesNoMemory};
 ghost use Rattle.clr_kept_finders.specs.Fitting.{IsAdmitted};
 ghost use Rattle.clr_engine.specs.Drafts.{layer_in, part_at};
-ghost use Rattle.clr_kept_finders.specs.Finders.{AreFinders, IsFinderAt, IsPositionOf, current_at, kept_at, kept_contents};
+ghost use Rattle.clr_kept_finders.specs.Finders.{AreFinders, IsFinderAt, IsPositionOf, current_at, kept_content_at, kept_contents};
 ghost use Rattle.clr_engine.specs.Trees.{IsSwept};
 
 use crate::commands::perform;
@@ -148,7 +148,7 @@ impl Office {
     /// position, if it is kept. The finder has settled exactly these rows, and nothing is pending
     /// in it.
     pub fn finder(&self, position: usize) -> Option<&SpotIndex>
-        ensures { IsFinderAt self.now.book (kept_at self.now position) (option_copied result) }
+        ensures { IsFinderAt self.now.book (kept_content_at self.now position) (option_copied result) }
     {
         let _sound = self.tree.len();
         self.finders.get(position)

@@ -3,7 +3,8 @@ use Rattle.std.proofs.Common.{◌≡◌, ◌≢◌, ℕ, List, Option, Some, Non
 use Rattle.clr_parts.specs.Parts.{IsFirstPartFault}
 use Rattle.clr_parts.specs.declared.parts.PartFault.{PartFault}
 use Rattle.clr_parts.specs.declared.parts.PartFault.TheVariants as part
-use Rattle.clr_rule_text.specs.Fields.{Fails}
+use Rattle.clr_readings.specs.Readings.{Fails}
+use Rattle.clr_rule_text.specs.Fields.{text_lacks_memory}
 use Rattle.clr_office_text.specs.Offices.{OfficeText, office_in}
 use Rattle.clr_rule_text.specs.declared.faults.TextFault.{TextFault}
 use Rattle.clr_rule_text.specs.declared.faults.TextFault.TheVariants as fault
@@ -30,6 +31,6 @@ refused_stands text read refused is found kept =
     stands text read (Some refused) is (refused_exactly (standing_fault read) refused.0 refused.1 kept found)
 
 -- of a text that can't be read
-pub unread_stands : (text : List ℕ) (e : TextFault) (found : Option (ℕ × PartFault)) → e ≢ fault.OutOfMemory → Fails e (office_in text)
+pub unread_stands : (text : List ℕ) (e : TextFault) (found : Option (ℕ × PartFault)) → e ≢ fault.OutOfMemory → Fails text_lacks_memory e (office_in text)
     → IsStandingFault text found
 unread_stands text e found kept fails = λ o again. let is : office_in text ≡ Err e = fails_exactly e (office_in text) kept fails in absurd cc

@@ -5,7 +5,7 @@ use Rattle.serde_json.specs.Data.{Data}
 use Rattle.clr_rows.specs.declared.tables.TableDef.{TableDef}
 use Rattle.clr_rule_text.specs.declared.faults.TextFault.{TextFault}
 use Rattle.clr_office_text.specs.declared.formats.Format.{Format}
-use Rattle.clr_rule_text.specs.Fields.{◌>>=◌}
+use Rattle.clr_readings.specs.Readings.{◌>>=◌}
 use Rattle.clr_office_text.specs.Offices.{format_of, schema_of}
 use Rattle.clr_faults.specs.Behind.{IsOver}
 use Rattle.clr_faults.specs.Spots.{HasFirst, HasNone}

@@ -10,14 +10,14 @@ use Rattle.clr_office_text.specs.Offices.{format_of, schema_of}
 use Rattle.clr_rule_text.specs.Rules.{rules_of}
 use Rattle.clr_faults.specs.declared.spots.Spot.TheVariants.{Whole}
 use Rattle.clr_faults.specs.Behind.{BehindLive, BehindRules, BehindTables}
-use Rattle.clr_faults.specs.Parts.{live_fault, rule_fault, workspace_fault}
+use Rattle.clr_faults.specs.Parts.{live_fault, first_rule_fault, workspace_fault}
 use Rattle.clr_faults.specs.Spots.{HasNone, IsFaultAt}
 use Rattle.clr_faults.specs.Stages.{known, live_faults, rule_faults, table_faults, workspace_faults}
 use Rattle.clr_faults.proofs.Passing.{no_schema, none_as, none_with, over, pass, stuck, unknown}
 
 -- the first fault of each list
 pub rules_are : (d : Data) (e : TextFault) (format : Format) (tables : List TableDef) → BehindTables d e format tables
-    → rule_faults d ≡ Ok (rule_fault tables d)
+    → rule_faults d ≡ Ok (first_rule_fault tables d)
 rules_are d e format tables behind = over d format tables _ behind.over
 
 pub live_is : (d : Data) (e : TextFault) (format : Format) (tables : List TableDef) → BehindRules d e format tables → live_faults d ≡ Ok (live_fault tables d)

@@ -10,7 +10,7 @@ use Rattle.clr_office_text.specs.Patches.{differences_at}
 use Rattle.clr_rule_text.specs.Rules.{rules_of}
 use Rattle.clr_office_text.specs.Workspaces.{head_of}
 use Rattle.clr_faults.specs.Spots.{HasFirst, HasNone}
-use Rattle.clr_faults.specs.Stages.{base_faults, item_of, live_faults, mark_faults, row_faults, rule_faults, table_faults, workspace_faults}
+use Rattle.clr_faults.specs.Stages.{base_faults, list_item_of, live_faults, mark_faults, row_faults, rule_faults, table_faults, workspace_faults}
 
 pub record IsOver (d : Data) (format : Format) (tables : List TableDef) : Type 0 where
   pub formatted : format_of d ≡ Ok format
@@ -37,7 +37,7 @@ pub record HasWorkspace (d : Data) (e : TextFault) (format : Format) (tables : L
 
 pub record BehindHead (d : Data) (e : TextFault) (format : Format) (tables : List TableDef) (at : ℕ) (one : Data) : Type 0 where
   pub has : HasWorkspace d e format tables at
-  pub there : item_of (codes "workspaces") at d ≡ Ok one
+  pub there : list_item_of (codes "workspaces") at d ≡ Ok one
   pub read : IsOk (head_of format one)
 
 pub record BehindBase (d : Data) (e : TextFault) (format : Format) (tables : List TableDef) (at : ℕ) (one : Data) : Type 0 where

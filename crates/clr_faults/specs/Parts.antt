@@ -28,8 +28,9 @@ bad_rule (Some f) = Some (f.0, BadRule)
 bad_rule None = None
 
 -- the first rule that can't be read, and else the first that can't stand in a book over the schema
-unfoldable pub rule_fault : List TableDef → Data → Option (ℕ × TextFault)
-rule_fault tables d = in_list (list_or_none (get (codes "rules") d)) (λ items. fault_else (rule_fault_in tables items) (bad_rule (book_fault_of tables d)))
+unfoldable pub first_rule_fault : List TableDef → Data → Option (ℕ × TextFault)
+first_rule_fault tables d = in_list (list_or_none (get (codes "rules") d)) (λ items. fault_else (rule_fault_in tables items) (bad_rule
+    (book_fault_of tables d)))
 
 unfoldable pub live_fault : List TableDef → Data → Option (ℕ × TextFault)
 live_fault tables d = in_list (list_at (codes "live") d) (row_fault_in tables)

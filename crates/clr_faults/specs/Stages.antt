@@ -7,13 +7,14 @@ use Rattle.clr_rule_text.specs.declared.faults.TextFault.{TextFault}
 use Rattle.clr_rule_text.specs.declared.faults.TextFault.TheVariants.{BadField}
 use Rattle.clr_office_text.specs.declared.formats.Format.{Format}
 use Rattle.clr_office_text.specs.Cells.{live_of}
-use Rattle.clr_rule_text.specs.Fields.{◌>>=◌, list_or_none, or_bad_field, words_at}
+use Rattle.clr_readings.specs.Readings.{◌>>=◌}
+use Rattle.clr_rule_text.specs.Fields.{list_or_none, or_bad_field, words_at}
 use Rattle.clr_office_text.specs.Offices.{format_of, schema_of}
 use Rattle.clr_office_text.specs.Patches.{differences_at}
 use Rattle.clr_rule_text.specs.Rules.{rules_of}
 use Rattle.clr_office_text.specs.Workspaces.{head_of}
 use Rattle.clr_item_faults.specs.FirstFaults.{item_at}
-use Rattle.clr_faults.specs.Parts.{cell_fault_at, live_fault, mark_fault, rule_fault, table_fault, workspace_fault}
+use Rattle.clr_faults.specs.Parts.{cell_fault_at, live_fault, mark_fault, first_rule_fault, table_fault, workspace_fault}
 
 -- what can be read
 abbrev pub known : {A : Type 0} → Result A TextFault → Option A
@@ -28,7 +29,7 @@ abbrev pub over_schema : {A : Type 0} → (Format → List TableDef → Result A
 over_schema f d = format_of d >>= λ format. schema_of format d >>= λ tables. f format tables
 
 abbrev pub rule_faults : Data → Result (Option (ℕ × TextFault)) TextFault
-rule_faults d = over_schema (λ format tables. Ok (rule_fault tables d)) d
+rule_faults d = over_schema (λ format tables. Ok (first_rule_fault tables d)) d
 
 abbrev pub live_faults : Data → Result (Option (ℕ × TextFault)) TextFault
 live_faults d = over_schema (λ format tables. rules_of tables d >>= λ rules. Ok (live_fault tables d)) d
@@ -37,12 +38,12 @@ abbrev pub workspace_faults : Data → Result (Option (ℕ × TextFault)) TextFa
 workspace_faults d = over_schema (λ format tables. rules_of tables d >>= λ rules. live_of tables d >>= λ live. Ok (workspace_fault format tables d)) d
 
 -- an item of the list at a key
-unfoldable pub item_of : List ℕ → ℕ → Data → Result Data TextFault
-item_of key at d = list_or_none (get key d) >>= λ items. or_bad_field (item_at items at)
+unfoldable pub list_item_of : List ℕ → ℕ → Data → Result Data TextFault
+list_item_of key at d = list_or_none (get key d) >>= λ items. or_bad_field (item_at items at)
 
 -- what stands behind the name, the parent and the flag of a workspace
 abbrev pub in_workspace : {A : Type 0} → (List TableDef → Data → Result A TextFault) → ℕ → Data → Result A TextFault
-in_workspace f at d = over_schema (λ format tables. item_of (codes "workspaces") at d >>= λ one. head_of format one >>= λ head. f tables one) d
+in_workspace f at d = over_schema (λ format tables. list_item_of (codes "workspaces") at d >>= λ one. head_of format one >>= λ head. f tables one) d
 
 abbrev pub base_faults : ℕ → Data → Result (Option (ℕ × TextFault)) TextFault
 base_faults = in_workspace (λ tables one. Ok (cell_fault_at (codes "base") tables one))
@@ -66,4 +67,4 @@ savepoint_of d = name_unless_child (get (codes "child") d) d
 -- the cells of a savepoint
 abbrev pub saved_faults : ℕ → ℕ → Data → Result (Option (ℕ × TextFault)) TextFault
 saved_faults at mark =
-    in_workspace (λ tables one. item_of (codes "marks") mark one >>= λ d. savepoint_of d >>= λ name. Ok (cell_fault_at (codes "rows") tables d)) at
+    in_workspace (λ tables one. list_item_of (codes "marks") mark one >>= λ d. savepoint_of d >>= λ name. Ok (cell_fault_at (codes "rows") tables d)) at

@@ -2,7 +2,7 @@
 
 ghost use Rattle.std.specs.Prelude.{◌≡◌, Ok, IfOk, IsErr, MatchOption};
 ghost use Rattle.serde_json.specs.View.{view};
-ghost use Rattle.clr_faults.specs.Stages.{item_of};
+ghost use Rattle.clr_faults.specs.Stages.{list_item_of};
 
 use clr_item_faults::unless_lost;
 use clr_office_text::fields::optional_list;
@@ -10,10 +10,10 @@ use serde_json::Value as Json;
 use std::alloc::AllocError;
 
 /// Returns an item of the list at a key, counted from 0, or none where there is no such list or item.
-#[tactic(auto, unfolding(crate::specs::Stages::item_of))]
+#[tactic(auto, unfolding(crate::specs::Stages::list_item_of))]
 pub fn item_in<'a>(json: &'a Json, key: &str, at: usize) -> Result<Option<&'a Json>, AllocError>
-    ensures { IfOk result (λ found. MatchOption found (IsErr (item_of key.now at (view json.now)))
-        (λ v. item_of key.now at (view json.now) ≡ Ok (view v.now))) }
+    ensures { IfOk result (λ found. MatchOption found (IsErr (list_item_of key.now at (view json.now)))
+        (λ v. list_item_of key.now at (view json.now) ≡ Ok (view v.now))) }
 {
     match optional_list(json, key) {
         Ok(items) => Ok(items.get(at)),

@@ -2,7 +2,7 @@
 
 ghost use Rattle.std.specs.Prelude.{◌≡◌, IfOk};
 ghost use Rattle.serde_json.specs.View.{view};
-ghost use Rattle.clr_faults.specs.Parts.{cell_fault_at, live_fault, mark_fault, rule_fault, table_fault, workspace_fault};
+ghost use Rattle.clr_faults.specs.Parts.{cell_fault_at, live_fault, mark_fault, first_rule_fault, table_fault, workspace_fault};
 
 use clr_item_faults::items::TableItem;
 use clr_item_faults::{
@@ -29,9 +29,9 @@ pub fn table_fault(alloc: Global, json: &Json, format: Format) -> Result<FirstFa
 
 /// Returns the first rule that can't be read; else the first that names what the schema hasn't; else
 /// the first that can't stand in a book over it; or none.
-#[tactic(auto, unfolding(crate::specs::Parts::rule_fault))]
+#[tactic(auto, unfolding(crate::specs::Parts::first_rule_fault))]
 pub fn rule_fault(alloc: Global, json: &Json, schema: &Schema) -> Result<FirstFault, AllocError>
-    ensures { IfOk result (λ first. first ≡ rule_fault schema.now (view json.now)) }
+    ensures { IfOk result (λ first. first ≡ first_rule_fault schema.now (view json.now)) }
 {
     let items = match optional_list(json, "rules") {
         Ok(items) => items,

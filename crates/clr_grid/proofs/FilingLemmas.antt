@@ -18,7 +18,7 @@ use Rattle.clr_rows.proofs.ChangeLemmas.{tied_self}
 use Rattle.clr_grid.proofs.SetLemmas.{or_group, or_none}
 use Rattle.clr_grid.specs.CellSets.{Cells, is_one}
 use Rattle.clr_grid.specs.Filing.{Key, Wide, At, has_cell, has_key, has_key_of, without_cell, keeps_number, is_filed, is_looked_at, keeps_wide, stays}
-use Rattle.clr_grid.specs.SpotNumbers.{has_number, number_of}
+use Rattle.clr_grid.specs.SpotNumbers.{has_number, spot_number_of}
 use Rattle.clr_finders.specs.declared.row_spots.RuleSpots.{RuleSpots}
 use Rattle.clr_grid.specs.declared.side_index.SideIndex.{SideIndex}
 
@@ -213,24 +213,26 @@ any_more p xs k x less is =
     ap (list_any p) (take_more xs k x less ∙ ap (λ y. take k xs ++ y ∷ []) (sym is)) ∙ list_any-append p (take k xs) (x ∷ [])
     ∙ ap (λ b. list_any p (take k xs) || b) (sym (or_none (p x)))
 
-pub filed_more : (f g : AtNumbers) (cell : CellId) (xs : List Spot) (k : ℕ) (s : Spot) (n : ℕ) → k < length xs → s ≡ get_or xs k s → n ≡ number_of s → Keeps f g
+pub filed_more : (f g : AtNumbers) (cell : CellId) (xs : List Spot) (k : ℕ) (s : Spot) (n : ℕ) → k < length xs → s ≡ get_or xs k s → n ≡ spot_number_of s
+    → Keeps f g
     → has_cell (g n) cell ≡ true
     → ((x : ℕ) → list_any (has_number x) (take k xs) ≡ true → has_cell (f x) cell ≡ true)
     → (x : ℕ) → list_any (has_number x) (take (k + 1) xs) ≡ true → has_cell (g x) cell ≡ true
 filed_more f g cell xs k s n less is same keeps here before x e =
     elim (or_cases (list_any (has_number x) (take k xs)) (has_number x s) (sym (any_more (has_number x) xs k s less is) ∙ e)) [
       | inl old ↦ keeps x cell (before x old)
-      | inr new ↦ subst (λ y. has_cell (g y) cell ≡ true) (same ∙ sym (tied_number x (number_of s) new)) here
+      | inr new ↦ subst (λ y. has_cell (g y) cell ≡ true) (same ∙ sym (tied_number x (spot_number_of s) new)) here
     ]
 
 -- a spot of a list is one of it
-pub spot_listed : (xs : List Spot) (k : ℕ) (s : Spot) → k < length xs → s ≡ get_or xs k s → list_any (has_number (number_of s)) xs ≡ true
+pub spot_listed : (xs : List Spot) (k : ℕ) (s : Spot) → k < length xs → s ≡ get_or xs k s → list_any (has_number (spot_number_of s)) xs ≡ true
 spot_listed [] k s less is = absurd (omega (arith, less))
-spot_listed (y ∷ ys) zero s less is = or_left (has_number (number_of s) y) _ (subst (λ z. has_number (number_of s) z ≡ true) is (number_itself (number_of s)))
-spot_listed (y ∷ ys) (suc k) s less is = or_right (has_number (number_of s) y) _ (spot_listed ys k s (omega (arith, less)) is)
+spot_listed (y ∷ ys) zero s less is = or_left (has_number (spot_number_of s) y) _ (subst (λ z. has_number (spot_number_of s) z
+    ≡ true) is (number_itself (spot_number_of s)))
+spot_listed (y ∷ ys) (suc k) s less is = or_right (has_number (spot_number_of s) y) _ (spot_listed ys k s (omega (arith, less)) is)
 
 -- nothing more is filed than the cell at the spots
-pub gained_more : (f g h : AtNumbers) (cell : CellId) (xs : List Spot) (k : ℕ) (s : Spot) (n : ℕ) → k < length xs → s ≡ get_or xs k s → n ≡ number_of s
+pub gained_more : (f g h : AtNumbers) (cell : CellId) (xs : List Spot) (k : ℕ) (s : Spot) (n : ℕ) → k < length xs → s ≡ get_or xs k s → n ≡ spot_number_of s
     → ((x : ℕ) (q : CellId) → has_cell (h x) q ≡ true → (has_cell (g x) q ≡ true) ⊎ ((q ≡ cell) × (x ≡ n)))
     → ((x : ℕ) (q : CellId) → has_cell (g x) q ≡ true → (has_cell (f x) q ≡ true) ⊎ ((q ≡ cell) × (list_any (has_number x) xs ≡ true)))
     → (x : ℕ) (q : CellId) → has_cell (h x) q ≡ true → (has_cell (f x) q ≡ true) ⊎ ((q ≡ cell) × (list_any (has_number x) xs ≡ true))
@@ -241,14 +243,14 @@ gained_more f g h cell xs k s n less is same one before x q e = elim (one x q e)
 
 -- one more spot where the cell is gone, but for a row that keeps it
 pub gone_more : (f g : AtNumbers) (cell : CellId) (kept : Option RuleSpots) (xs : List Spot) (k : ℕ) (s : Spot) (n : ℕ) → k < length xs → s ≡ get_or xs k s →
-    n ≡ number_of s → Keeps g f
+    n ≡ spot_number_of s → Keeps g f
     → (has_cell (g n) cell ≡ true → keeps_number kept n ≡ true)
     → ((x : ℕ) → list_any (has_number x) (take k xs) ≡ true → has_cell (f x) cell ≡ true → keeps_number kept x ≡ true)
     → (x : ℕ) → list_any (has_number x) (take (k + 1) xs) ≡ true → has_cell (g x) cell ≡ true → keeps_number kept x ≡ true
 gone_more f g cell kept xs k s n less is number fewer here before x among e =
     elim (or_cases (list_any (has_number x) (take k xs)) (has_number x s) (sym (any_more (has_number x) xs k s less is) ∙ among)) [
       | inl old ↦ before x old (fewer x cell e)
-      | inr new ↦ (let same : x ≡ n = tied_number x (number_of s) new ∙ sym number in
+      | inr new ↦ (let same : x ≡ n = tied_number x (spot_number_of s) new ∙ sym number in
           subst (λ y. keeps_number kept y ≡ true) (sym same) (here (subst (λ y. has_cell (g y) cell ≡ true) same e)))
     ]
 
@@ -321,16 +323,16 @@ stays_by i j cell kept wide spots (At x) q s e = spots x q (not-true _ s) e
 -- the cells that are looked at, added one part after another
 module _ (i : SideIndex) (x : RuleSpots) (m m' n : Cells) (list : List Spot) (wide : (q : CellId) → set.contains m' q
     ≡ (set.contains m q || (x.has_role && set.contains i.wide q)))
-    (spots : (q : CellId) → set.contains n q ≡ (set.contains m' q || list_any (λ y. has_cell (get nat_eq i.by_spot (number_of y)) q) list)) where
+    (spots : (q : CellId) → set.contains n q ≡ (set.contains m' q || list_any (λ y. has_cell (get nat_eq i.by_spot (spot_number_of y)) q) list)) where
   pub near_by : list ≡ x.spots.list → (k : Key) (q : CellId) → is_looked_at x k ≡ true → is_filed i k q ≡ true → set.contains n q ≡ true
   near_by same Wide q l e = spots q ∙ or_left _ _ (wide q ∙ or_right (set.contains m q) _ (λ j. l j && e j))
   near_by same (At y) q l e = spots q ∙ or_right (set.contains m' q) _ (some_at list (ap (list_any (has_number y)) same ∙ l))
     where
-      some_at : (ys : List Spot) → list_any (has_number y) ys ≡ true → list_any (λ z. has_cell (get nat_eq i.by_spot (number_of z)) q) ys ≡ true
+      some_at : (ys : List Spot) → list_any (has_number y) ys ≡ true → list_any (λ z. has_cell (get nat_eq i.by_spot (spot_number_of z)) q) ys ≡ true
       some_at [] h = absurd (false≢true h)
       some_at (z ∷ ys) h = elim (or_cases (has_number y z) (list_any (has_number y) ys) h) [
-        | inl here ↦ or_left _ _ (subst (λ w. has_cell (get nat_eq i.by_spot w) q ≡ true) (tied_number y (number_of z) here) e)
-        | inr later ↦ or_right (has_cell (get nat_eq i.by_spot (number_of z)) q) _ (some_at ys later)
+        | inl here ↦ or_left _ _ (subst (λ w. has_cell (get nat_eq i.by_spot w) q ≡ true) (tied_number y (spot_number_of z) here) e)
+        | inr later ↦ or_right (has_cell (get nat_eq i.by_spot (spot_number_of z)) q) _ (some_at ys later)
       ]
 
   pub near_keeps : (q : CellId) → set.contains m q ≡ true → set.contains n q ≡ true

@@ -14,12 +14,13 @@ use Rattle.clr_rules.proofs.Elements.{any_by, some_of}
 use Rattle.clr_spots.specs.declared.spots.Spot.{Spot}
 use Rattle.clr_finders.specs.declared.row_spots.RuleSpots.{RuleSpots}
 use Rattle.clr_grid.specs.declared.side_index.SideIndex.{SideIndex}
-use Rattle.clr_grid.specs.CellSets.{Cells, is_one_of, with_cells}
+use Rattle.clr_grid.specs.CellSets.{Cells, with_listed_cells}
+use Rattle.clr_row_maps.specs.CellLists.{is_one_of}
 use Rattle.clr_grid.specs.Filing.{At, Wide, has_cell}
 use Rattle.clr_grid.specs.Gains.{GainsCells, IsFoundFor}
 use Rattle.clr_grid.proofs.FilingLemmas.{any_more, number_itself}
 use Rattle.clr_grid.proofs.SetLemmas.{has_with_cells, or_group}
-use Rattle.clr_grid.specs.SpotNumbers.{has_number, number_of}
+use Rattle.clr_grid.specs.SpotNumbers.{has_number, spot_number_of}
 
 module _ (allowed : CellId → Type 0) where
   pub gains_as : (less : CellId → Type 0) (m n : Cells) → ((q : CellId) → less q → allowed q) → GainsCells less m n → GainsCells allowed m n
@@ -47,9 +48,9 @@ gains_exact p m n is = record {
 
 -- of a list of cells all but those that are left are added
 abbrev pub IsAddedTo : Cells → List CellId → Cells → List CellId → Type 0
-IsAddedTo m all n left = (done : List CellId) × (n ≡ with_cells m done) × (done ++ left ≡ all)
+IsAddedTo m all n left = (done : List CellId) × (n ≡ with_listed_cells m done) × (done ++ left ≡ all)
 
-pub with_last : (m : Cells) (done : List CellId) (q : CellId) → with_cells m (done ++ q ∷ []) ≡ set.insert (with_cells m done) q
+pub with_last : (m : Cells) (done : List CellId) (q : CellId) → with_listed_cells m (done ++ q ∷ []) ≡ set.insert (with_listed_cells m done) q
 with_last m [] q = refl
 with_last m (c ∷ done) q = with_last (set.insert m c) done q
 
@@ -73,7 +74,7 @@ added_gains m all n left p told (done, is, whole) = gains_as (λ q. p q ≡ true
     (gains_exact (is_one_of done) m n (λ q. ap (λ (o : Cells). set.contains o q) is ∙ has_with_cells done m q))
 
 -- the cells of two lists, one after the other
-pub both_gain : (m n o : Cells) (xs ys : List CellId) (p : CellId → Bool) → n ≡ with_cells m xs → ((q : CellId) → is_one_of (xs ++ ys) q ≡ p q) →
+pub both_gain : (m n o : Cells) (xs ys : List CellId) (p : CellId → Bool) → n ≡ with_listed_cells m xs → ((q : CellId) → is_one_of (xs ++ ys) q ≡ p q) →
     GainsCells (λ q. is_one_of ys q ≡ true) n o → GainsCells (λ q. p q ≡ true) m o
 both_gain m n o xs ys p is told g = gains_then (λ q. p q ≡ true) m n o
     (gains_as (λ q. p q ≡ true) (λ q. is_one_of xs q ≡ true) m n (λ q e. sym (told q) ∙ list_any-append (eq_by_cmp cell_cmp q) xs ys
@@ -82,7 +83,7 @@ both_gain m n o xs ys p is told g = gains_then (λ q. p q ≡ true) m n o
     (gains_as (λ q. p q ≡ true) (λ q. is_one_of ys q ≡ true) n o (λ q e. sym (told q) ∙ list_any-append (eq_by_cmp cell_cmp q) xs ys
     ∙ or_right (is_one_of xs q) (is_one_of ys q) e) g)
 
-pub both_has : (m n o : Cells) (xs ys : List CellId) (p : CellId → Bool) → n ≡ with_cells m xs → ((q : CellId) → is_one_of (xs ++ ys) q ≡ p q) →
+pub both_has : (m n o : Cells) (xs ys : List CellId) (p : CellId → Bool) → n ≡ with_listed_cells m xs → ((q : CellId) → is_one_of (xs ++ ys) q ≡ p q) →
     ((q : CellId) → set.contains o q ≡ (set.contains n q || is_one_of ys q))
     → (q : CellId) → set.contains o q ≡ (set.contains m q || p q)
 both_has m n o xs ys p is told has q =
@@ -113,17 +114,22 @@ module _ (i : SideIndex) (x : RuleSpots) where
   found_wide : (q : CellId) → (x.has_role && set.contains i.wide q) ≡ true → IsFoundFor i x q
   found_wide q e = let parts = and_parts x.has_role (set.contains i.wide q) e in (Wide, parts.0, parts.1)
 
-  found_at : (ys : List Spot) → ys ≡ x.spots.list → (q : CellId) → list_any (λ y. has_cell (get nat_eq i.by_spot (number_of y)) q) ys ≡ true → IsFoundFor i x q
+  found_at : (ys : List Spot) → ys ≡ x.spots.list → (q : CellId) → list_any (λ y. has_cell (get nat_eq i.by_spot (spot_number_of y)) q) ys ≡ true
+      → IsFoundFor i x q
   found_at ys same q e =
-      let (y, among, has) = some_of (λ y. has_cell (get nat_eq i.by_spot (number_of y)) q) ys e in
-      (At (number_of y), ap (list_any (has_number (number_of y))) (sym same) ∙ any_by (has_number (number_of y)) y ys among (number_itself (number_of y)), has)
+      let (y, among, has) = some_of (λ y. has_cell (get nat_eq i.by_spot (spot_number_of y)) q) ys e in (
+        At (spot_number_of y),
+        ap (list_any (has_number (spot_number_of y))) (sym same)
+            ∙ any_by (has_number (spot_number_of y)) y ys among (number_itself (spot_number_of y)),
+        has,
+      )
 
   pub wide_gain : (m n : Cells) → GainsCells (λ q. (x.has_role && set.contains i.wide q) ≡ true) m n → GainsCells (IsFoundFor i x) m n
   wide_gain m n g = gains_as (IsFoundFor i x) (λ q. (x.has_role && set.contains i.wide q) ≡ true) m n found_wide g
 
   pub spot_gain : (m n o : Cells) (ys : List Spot) → ys ≡ x.spots.list
       → ((q : CellId) → set.contains n q ≡ (set.contains m q || (x.has_role && set.contains i.wide q)))
-      → GainsCells (λ q. list_any (λ y. has_cell (get nat_eq i.by_spot (number_of y)) q) ys ≡ true) n o → GainsCells (IsFoundFor i x) m o
+      → GainsCells (λ q. list_any (λ y. has_cell (get nat_eq i.by_spot (spot_number_of y)) q) ys ≡ true) n o → GainsCells (IsFoundFor i x) m o
   spot_gain m n o ys same before here = gains_then (IsFoundFor i x) m n o
       (wide_gain m n (gains_exact (λ q. x.has_role && set.contains i.wide q) m n before))
-      (gains_as (IsFoundFor i x) (λ q. list_any (λ y. has_cell (get nat_eq i.by_spot (number_of y)) q) ys ≡ true) n o (found_at ys same) here)
+      (gains_as (IsFoundFor i x) (λ q. list_any (λ y. has_cell (get nat_eq i.by_spot (spot_number_of y)) q) ys ≡ true) n o (found_at ys same) here)

@@ -16,18 +16,19 @@ use Rattle.clr_spots.specs.SpotOrderLaws.{same_spot_is}
 use Rattle.clr_spots.specs.declared.spots.Spot.{Spot}
 use Rattle.clr_spots.specs.Spots.{have_common_spot}
 use Rattle.clr_rules.proofs.Elements.{some_of, any_by}
-use Rattle.clr_grid.specs.CellSets.{is_one, is_one_of}
-use Rattle.clr_grid.specs.Filing.{Key, Wide, At, has_key, is_filed, is_filed_under, is_looked_at, side_of, keeps_number, keeps_wide, same_side, of_side}
+use Rattle.clr_grid.specs.CellSets.{is_one}
+use Rattle.clr_row_maps.specs.CellLists.{is_one_of}
+use Rattle.clr_grid.specs.Filing.{Key, Wide, At, has_key, is_filed, is_filed_under, is_looked_at, side_index_of, keeps_number, keeps_wide, same_side, of_side}
 use Rattle.clr_grid.specs.Filing.{spots_at, stays, IsFiledRow, IsFiledIfAny, AreFiled, AreOfRows, AreGone, GainNone, GainOnly, HasRowFor, HoldCells}
 use Rattle.clr_grid.specs.Filing.{AllHoldCells}
 use Rattle.clr_grid.specs.Filing.{StayFiled, StayFiledBut, AreNear, has_key_of, has_key_under}
-use Rattle.clr_grid.specs.RowMaps.{FiledRows, RowOrNone, IsRowAt, no_rows, with_pending, with_row, with_settled, without_pending}
+use Rattle.clr_row_maps.specs.RowMaps.{FiledRows, RowOrNone, IsRowAt, no_filed_rows, with_pending, with_settled_row, with_settled, without_pending}
 use Rattle.clr_finders.specs.Sharing.{are_meeting, is_met, is_met_at}
 use Rattle.clr_finders.specs.declared.row_spots.RuleSpots.{RuleSpots}
 use Rattle.clr_grid.specs.declared.rule_index.RuleIndex.{RuleIndex}
-use Rattle.clr_grid.specs.SpotNumbers.{has_number, number_of}
+use Rattle.clr_grid.specs.SpotNumbers.{has_number, spot_number_of}
 use Rattle.clr_grid.proofs.FilingLemmas.{number_itself}
-use Rattle.clr_grid.proofs.MapLemmas.{get_set_at}
+use Rattle.clr_row_maps.proofs.MapLemmas.{get_set_at}
 
 -- ---- lists of indexes
 pub filed_append : (xs : List RuleIndex) (x : RuleIndex) → StayFiled xs (xs ++ x ∷ [])
@@ -37,22 +38,23 @@ filed_append (y ∷ ys) x (suc n) serves k q e = filed_append ys x n serves k q 
 
 -- one index that is changed
 pub filed_set : (xs : List RuleIndex) (m : ℕ) (old new : RuleIndex) (n : ℕ) (b : Bool) (k : Key) (q : CellId) → m < length xs → old ≡ get_or xs m old
-    → (n ≡ m → is_filed (side_of old b) k q ≡ true → is_filed (side_of new b) k q ≡ true)
+    → (n ≡ m → is_filed (side_index_of old b) k q ≡ true → is_filed (side_index_of new b) k q ≡ true)
     → is_filed_under xs n b k q ≡ true → is_filed_under (set xs m new) n b k q ≡ true
 filed_set [] m old new n b k q less is step e = absurd (false≢true e)
-filed_set (y ∷ ys) zero old new zero b k q less is step e = step refl (subst (λ i. is_filed (side_of i b) k q ≡ true) (sym is) e)
+filed_set (y ∷ ys) zero old new zero b k q less is step e = step refl (subst (λ i. is_filed (side_index_of i b) k q ≡ true) (sym is) e)
 filed_set (y ∷ ys) zero old new (suc n) b k q less is step e = e
 filed_set (y ∷ ys) (suc m) old new zero b k q less is step e = e
 filed_set (y ∷ ys) (suc m) old new (suc n) b k q less is step e = filed_set ys m old new n b k q (omega (arith, less)) is (λ same. step (ap suc same)) e
 
-pub set_filed : (xs : List RuleIndex) (m : ℕ) (new : RuleIndex) (b : Bool) (k : Key) (q : CellId) → m < length xs → is_filed (side_of new b) k q ≡ true
+pub set_filed : (xs : List RuleIndex) (m : ℕ) (new : RuleIndex) (b : Bool) (k : Key) (q : CellId) → m < length xs → is_filed (side_index_of new b) k q ≡ true
     → is_filed_under (set xs m new) m b k q ≡ true
 set_filed [] m new b k q less e = absurd (omega (arith, less))
 set_filed (y ∷ ys) zero new b k q less e = e
 set_filed (y ∷ ys) (suc m) new b k q less e = set_filed ys m new b k q (omega (arith, less)) e
 
 -- an index without cells adds nothing
-pub append_only : (xs : List RuleIndex) (x : RuleIndex) → ((b : Bool) (k : Key) (q : CellId) → is_filed (side_of x b) k q ≡ false) → GainNone xs (xs ++ x ∷ [])
+pub append_only : (xs : List RuleIndex) (x : RuleIndex) → ((b : Bool) (k : Key) (q : CellId) → is_filed (side_index_of x b) k q ≡ false)
+    → GainNone xs (xs ++ x ∷ [])
 append_only [] x none zero serves k q e = absurd (false≢true (sym (none serves k q) ∙ e))
 append_only [] x none (suc n) serves k q e = e
 append_only (y ∷ ys) x none zero serves k q e = e
@@ -61,11 +63,11 @@ append_only (y ∷ ys) x none (suc n) serves k q e = append_only ys x none n ser
 -- nothing more is filed than in one index that is changed
 pub set_only : {A : Type 0} (xs : List RuleIndex) (m : ℕ) (old new : RuleIndex) (n : ℕ) (b : Bool) (k : Key) (q : CellId) → m < length xs → old
     ≡ get_or xs m old
-    → (n ≡ m → is_filed (side_of new b) k q ≡ true → (is_filed (side_of old b) k q ≡ true) ⊎ A)
+    → (n ≡ m → is_filed (side_index_of new b) k q ≡ true → (is_filed (side_index_of old b) k q ≡ true) ⊎ A)
     → is_filed_under (set xs m new) n b k q ≡ true → (is_filed_under xs n b k q ≡ true) ⊎ A
 set_only [] m old new n b k q less is step e = absurd (omega (arith, less))
 set_only (y ∷ ys) zero old new zero b k q less is step e = elim (step refl e) [
-  | inl before ↦ inl (subst (λ i. is_filed (side_of i b) k q ≡ true) is before)
+  | inl before ↦ inl (subst (λ i. is_filed (side_index_of i b) k q ≡ true) is before)
   | inr more ↦ inr more
 ]
 set_only (y ∷ ys) zero old new (suc n) b k q less is step e = inl e
@@ -73,7 +75,7 @@ set_only (y ∷ ys) (suc m) old new zero b k q less is step e = inl e
 set_only (y ∷ ys) (suc m) old new (suc n) b k q less is step e = set_only ys m old new n b k q (omega (arith, less)) is (λ same. step (ap suc same)) e
 
 pub set_here : (xs : List RuleIndex) (m : ℕ) (new : RuleIndex) (b : Bool) (k : Key) (q : CellId) → m < length xs → is_filed_under (set xs m new) m b k q ≡ true
-    → is_filed (side_of new b) k q ≡ true
+    → is_filed (side_index_of new b) k q ≡ true
 set_here [] m new b k q less e = absurd (omega (arith, less))
 set_here (y ∷ ys) zero new b k q less e = e
 set_here (y ∷ ys) (suc m) new b k q less e = set_here ys m new b k q (omega (arith, less)) e
@@ -84,24 +86,24 @@ none_past (y ∷ ys) zero b k q less e = absurd (omega (arith, less))
 none_past (y ∷ ys) (suc m) b k q less e = none_past ys m b k q (omega (arith, less)) e
 
 -- each spot that is kept holds a cell
-pub append_lean : (xs : List RuleIndex) (x : RuleIndex) → ((b : Bool) → HoldCells (side_of x b).by_spot) → AllHoldCells xs → AllHoldCells (xs ++ x ∷ [])
-append_lean [] x lean all zero index b e = let same : x ≡ index = cc in subst (λ (i : RuleIndex). HoldCells (side_of i b).by_spot) same (lean b)
+pub append_lean : (xs : List RuleIndex) (x : RuleIndex) → ((b : Bool) → HoldCells (side_index_of x b).by_spot) → AllHoldCells xs → AllHoldCells (xs ++ x ∷ [])
+append_lean [] x lean all zero index b e = let same : x ≡ index = cc in subst (λ (i : RuleIndex). HoldCells (side_index_of i b).by_spot) same (lean b)
 append_lean [] x lean all (suc n) index b e = absurd (cc)
 append_lean (y ∷ ys) x lean all zero index b e = all zero index b e
 append_lean (y ∷ ys) x lean all (suc n) index b e = append_lean ys x lean (λ m. all (suc m)) n index b e
 
-pub set_lean : (xs : List RuleIndex) (m : ℕ) (old new : RuleIndex) → old ≡ get_or xs m old → ((b : Bool) → HoldCells (side_of old b).by_spot
-    → HoldCells (side_of new b).by_spot) → AllHoldCells xs → AllHoldCells (set xs m new)
+pub set_lean : (xs : List RuleIndex) (m : ℕ) (old new : RuleIndex) → old ≡ get_or xs m old → ((b : Bool) → HoldCells (side_index_of old b).by_spot
+    → HoldCells (side_index_of new b).by_spot) → AllHoldCells xs → AllHoldCells (set xs m new)
 set_lean [] m old new is step all n index b e = all n index b e
 set_lean (y ∷ ys) zero old new is step all zero index b e =
-    let same : new ≡ index = cc in subst (λ (i : RuleIndex). HoldCells (side_of i b).by_spot) same (step b (all zero old b (ap Some (sym is))))
+    let same : new ≡ index = cc in subst (λ (i : RuleIndex). HoldCells (side_index_of i b).by_spot) same (step b (all zero old b (ap Some (sym is))))
 set_lean (y ∷ ys) zero old new is step all (suc n) index b e = all (suc n) index b e
 set_lean (y ∷ ys) (suc m) old new is step all zero index b e = all zero index b e
 set_lean (y ∷ ys) (suc m) old new is step all (suc n) index b e = set_lean ys m old new is step (λ k. all (suc k)) n index b e
 
 pub sides_lean : (old new : RuleIndex) → (HoldCells old.servers.by_spot → HoldCells new.servers.by_spot)
     → (HoldCells old.others.by_spot → HoldCells new.others.by_spot)
-    → (b : Bool) → HoldCells (side_of old b).by_spot → HoldCells (side_of new b).by_spot
+    → (b : Bool) → HoldCells (side_index_of old b).by_spot → HoldCells (side_index_of new b).by_spot
 sides_lean old new servers others true = servers
 sides_lean old new servers others false = others
 
@@ -200,10 +202,11 @@ left_same rows cell kept row is (inl e) = is ∙ e
 left_same rows cell kept row is (inr e) = none_left rows cell row e
 
 -- a list that has a spot has its number
-number_listed : (z : Spot) (ys : List Spot) → list_any (same_spot z) ys ≡ true → list_any (has_number (number_of z)) ys ≡ true
+number_listed : (z : Spot) (ys : List Spot) → list_any (same_spot z) ys ≡ true → list_any (has_number (spot_number_of z)) ys ≡ true
 number_listed z ys e =
     let (w, among, same) = some_of (same_spot z) ys e in
-    any_by (has_number (number_of z)) w ys among (subst (λ v. has_number (number_of z) v ≡ true) (same_spot_is z w same) (number_itself (number_of z)))
+    any_by (has_number (spot_number_of z)) w ys among (subst (λ v. has_number (spot_number_of z) v
+    ≡ true) (same_spot_is z w same) (number_itself (spot_number_of z)))
 
 -- ---- what is met by a row that isn't wide is near
 -- each cell of which P holds where it is looked at
@@ -230,7 +233,7 @@ met_holds P rows indexes servers x number filed narrow near q met = row (finite.
         elim (or_cases (x.spots.wide || y.spots.wide) (have_common_spot x.spots.list y.spots.list) r.1) [
           | inl wide ↦ (elim (or_cases x.spots.wide y.spots.wide wide) [ inl one ↦ absurd (false≢true (sym narrow ∙ one)) | inr other ↦ found Wide p.0 other ])
           | inr common ↦ (let (z, among, has) = some_of (λ z. list_any (same_spot z) y.spots.list) x.spots.list common in
-              found (At (number_of z)) (any_by (has_number (number_of z)) z x.spots.list among (number_itself (number_of z)))
+              found (At (spot_number_of z)) (any_by (has_number (spot_number_of z)) z x.spots.list among (number_itself (spot_number_of z)))
               (number_listed z y.spots.list has))
         ]
 
@@ -248,7 +251,7 @@ pub met_near : (rows : FiledRows) (indexes : List RuleIndex) (servers : Bool) (x
 met_near rows indexes servers x number cells filed narrow near = met_holds (λ q. is_one_of cells q ≡ true) rows indexes servers x number filed narrow near
 
 -- ---- the rows of a finder
-pub none_filed : (rows : FiledRows) (xs : List RuleIndex) → rows ≡ no_rows → AreFiled rows xs
+pub none_filed : (rows : FiledRows) (xs : List RuleIndex) → rows ≡ no_filed_rows → AreFiled rows xs
 none_filed rows xs is q ys (inl e) = absurd (cc (ap (λ (r : FiledRows). finite.get r.settled q) is, finite.get-empty {X = List RuleSpots} cell_cmp q))
 none_filed rows xs is q ys (inr e) = absurd (cc (ap (λ (r : FiledRows). finite.get r.pending q) is, finite.get-empty {X = RowOrNone} cell_cmp q))
 
@@ -508,13 +511,13 @@ none_other rows xs is n b k q e = absurd (false≢true (sym (ap (λ ys. is_filed
 
 -- ---- one more settled row
 pub filed_put : (rows rows' : FiledRows) (cell : CellId) (row : List RuleSpots) (xs ys : List RuleIndex) → AreFiled rows xs → StayFiled xs ys
-    → IsFiledIfAny ys cell (Some row) → rows' ≡ with_row rows cell row → AreFiled rows' ys
+    → IsFiledIfAny ys cell (Some row) → rows' ≡ with_settled_row rows cell row → AreFiled rows' ys
 filed_put rows rows' cell row xs ys filed stay here is = subst (λ (r : FiledRows). AreFiled r ys) (sym is) both
   where
     old : AreFiled rows ys
     old = still_filed rows xs ys filed stay
 
-    both : AreFiled (with_row rows cell row) ys
+    both : AreFiled (with_settled_row rows cell row) ys
     both q zs (inr e) = old q zs (inr e)
     both q zs (inl e) = go (eq_by_cmp cell_cmp q cell) refl (sym (finite.get-insert cell_cmp_total rows.settled cell row q) ∙ e)
       where
@@ -527,17 +530,17 @@ filed_put rows rows' cell row xs ys filed stay here is = subst (λ (r : FiledRow
 pub others_put : (rows rows' : FiledRows) (cell : CellId) (row : List RuleSpots) (xs ys : List RuleIndex) → finite.get rows.settled cell ≡ None →
     AreOfRows rows xs
     → GainOnly cell (Some row) xs ys
-    → rows' ≡ with_row rows cell row → AreOfRows rows' ys
+    → rows' ≡ with_settled_row rows cell row → AreOfRows rows' ys
 others_put rows rows' cell row xs ys free of gain is n b k q e = subst (λ (r : FiledRows). HasRowFor r q n b k) (sym is) (elim (gain n b k q e) [
   | inl old ↦ stays (of n b k q old)
-  | inr new ↦ subst (λ c. HasRowFor (with_row rows cell row) c n b k) (sym new.0) (record {
+  | inr new ↦ subst (λ c. HasRowFor (with_settled_row rows cell row) c n b k) (sym new.0) (record {
     row = row;
     stands = inl (finite.get-insert cell_cmp_total rows.settled cell row cell ∙ ap (λ t. cond t (Some row) (finite.get rows.settled cell)) (tied_self cell));
     wanted = new.1;
   })
 ])
   where
-    stays : HasRowFor rows q n b k → HasRowFor (with_row rows cell row) q n b k
+    stays : HasRowFor rows q n b k → HasRowFor (with_settled_row rows cell row) q n b k
     stays h = elim h.stands [
       | inr pending ↦ record { row = h.row; stands = inr pending; wanted = h.wanted }
       | inl settled ↦ record {

@@ -1,5 +1,3 @@
-pub mod FoundLemmas
-pub mod MapLemmas
 pub mod SetLemmas
 pub mod SpotLemmas
 pub mod FilingLemmas

@@ -2,9 +2,7 @@
 use Rattle.std.proofs.Common.{◌≡◌, ◌∙◌, ◌⊎◌, inl, inr, ◌+◌, ◌<◌, ℕ, true, false, nat_eq, ◌&&◌, List, [], ◌∷◌, length, get_or, take, Option, Some, None, is_some}
 use Rattle.std.proofs.Common.{refl, sym, ap, subst}
 use Rattle.std.specs.Prelude.{Contains, slice_get}
-use Rattle.std.proofs.lemmas.Bool.{false≢true, or_cases, or_left, or_right, true≢false}
-use Rattle.std.specs.BTreeMap.{BTreeMap, get}
-use Rattle.std.specs.BTreeMap.Range.{IsFromStart, IsRangeOf}
+use Rattle.std.proofs.lemmas.Bool.{false≢true, or_cases, or_left, or_right}
 use Rattle.std.specs.BTreeSet.{BTreeSet, IsKeyRangeOf}
 use Rattle.std.specs.Cmp.{Equal-is, tied_itself}
 use Rattle.std.specs.FinMap as finite
@@ -12,9 +10,8 @@ use Rattle.std.specs.HashMap as hash
 use Rattle.std.specs.FinSet as set
 use Rattle.std.specs.List.{list_any}
 use Rattle.std.specs.Ordering.{eq_by_cmp, is_gt, is_lt}
-use Rattle.std.specs.Range.Bound.{IsForward}
 use Rattle.std.specs.declared.ops.Bound.{Bound}
-use Rattle.std.specs.declared.ops.Bound.TheVariants.{Included, Excluded, Unbounded}
+use Rattle.std.specs.declared.ops.Bound.TheVariants.{Unbounded}
 use Rattle.clr_rows.specs.declared.cells.CellId.{CellId}
 use Rattle.clr_rows.specs.Cells.{cell_cmp}
 use Rattle.clr_rows.proofs.CellOrder.{cell_cmp_exact, cell_cmp_total}
@@ -23,33 +20,18 @@ use Rattle.clr_finders.specs.declared.row_spots.RuleSpots.{RuleSpots}
 use Rattle.clr_finders.specs.NextCells.{IsBehind, IsNextOf, lesser_cell}
 use Rattle.clr_finders.specs.Sharing.{found_cells}
 use Rattle.clr_finders.proofs.NextLemmas.{found_met, next_as, next_of_two}
-use Rattle.clr_grid.specs.CellSets.{is_one_of}
+use Rattle.clr_row_maps.specs.CellLists.{is_one_of}
 use Rattle.clr_grid.specs.Filing.{Wide, At, has_cell}
 use Rattle.clr_grid.specs.Gains.{IsFoundFor}
-use Rattle.clr_grid.specs.NextCells.{bound_behind}
-use Rattle.clr_grid.specs.RowMaps.{RowOrNone, FiledRows, settled_of}
-use Rattle.clr_grid.specs.SpotNumbers.{has_number, number_of}
+use Rattle.clr_row_maps.specs.NextCells.{bound_behind}
+use Rattle.clr_row_maps.specs.RowMaps.{FiledRows}
+use Rattle.clr_grid.specs.SpotNumbers.{has_number, spot_number_of}
 use Rattle.clr_grid.specs.declared.side_index.SideIndex.{SideIndex}
 use Rattle.clr_grid.proofs.FilingLemmas.{any_more, tied_number}
-use Rattle.clr_grid.proofs.FoundLemmas.{met_there}
-use Rattle.clr_grid.proofs.MapLemmas.{some_there}
+use Rattle.clr_row_maps.proofs.FoundLemmas.{met_there}
+use Rattle.clr_row_maps.proofs.NextLemmas.{from_bound, to_bound}
 
--- ---- in a tree
-
-pub forward : (P Q : CellId → CellId → Type 0) (lo : Bound CellId) → IsForward P Q lo Unbounded
-forward P Q Unbounded = tt
-forward P Q (Included a) = tt
-forward P Q (Excluded a) = tt
-
-from_bound : (after : Option CellId) (q : CellId) → IsFromStart cell_cmp (bound_behind after) q → IsBehind after q
-from_bound None q h = tt
-from_bound (Some p) q h = h
-
-to_bound : (after : Option CellId) (q : CellId) → IsBehind after q → IsFromStart cell_cmp (bound_behind after) q
-to_bound None q h = tt
-to_bound (Some p) q h = h
-
--- the first key of a range
+-- ---- the first key of a range of a tree
 first_key : (after : Option CellId) (s : BTreeSet CellId) (r : List CellId) → IsKeyRangeOf cell_cmp (bound_behind after) Unbounded s r
     → IsNextOf (λ q. is_one_of s.keys q ≡ true) after (slice_get r 0)
 first_key after s [] w = record { behind = tt; reached = λ q one behind. false≢true (sym (w.5 refl q (to_bound after q behind, tt)) ∙ one) }
@@ -59,32 +41,6 @@ pub first_key_at : (after : Option CellId) (lo : Bound CellId) (s : BTreeSet Cel
     → IsKeyRangeOf cell_cmp lo Unbounded s r
     → IsNextOf (λ q. is_one_of s.keys q ≡ true) after (slice_get r 0)
 first_key_at after lo s r is w = first_key after s r (subst (λ b. IsKeyRangeOf cell_cmp b Unbounded s r) is w)
-
-abbrev pub cell_at : Option (CellId × RowOrNone) → Option CellId
-cell_at None = None
-cell_at (Some e) = Some e.0
-
-some_not_none : {X : Type 0} (o : Option X) → is_some o ≡ true → o ≡ None → ⊥
-some_not_none o some none = true≢false (sym some ∙ ap is_some none)
-
--- the first entry of a range
-first_entry : (after : Option CellId) (m : BTreeMap CellId RowOrNone) (r : List (CellId × RowOrNone)) → IsRangeOf cell_cmp (bound_behind after) Unbounded m r
-    → IsNextOf (λ q. is_some (finite.get (settled_of m.entries) q) ≡ true) after (cell_at (slice_get r 0))
-first_entry after m [] w = record {
-  behind = tt;
-  reached = λ q some behind. some_not_none (get cell_cmp m q) (some_there m.entries q some)
-      (w.5 refl q (to_bound after q behind, tt));
-}
-first_entry after m (e ∷ r) w = record {
-  behind = from_bound after e.0 w.1.0.0;
-  reached = λ q some behind. w.2 q (to_bound after q behind, tt)
-      (some_there m.entries q some);
-}
-
-pub first_entry_at : (after : Option CellId) (lo : Bound CellId) (m : BTreeMap CellId RowOrNone) (r : List (CellId × RowOrNone)) → lo ≡ bound_behind after
-    → IsRangeOf cell_cmp lo Unbounded m r
-    → IsNextOf (λ q. is_some (finite.get (settled_of m.entries) q) ≡ true) after (cell_at (slice_get r 0))
-first_entry_at after lo m r is w = first_entry after m r (subst (λ b. IsRangeOf cell_cmp b Unbounded m r) is w)
 
 -- ---- one cell
 
@@ -110,9 +66,9 @@ one_before p before fails = record {
 
 module _ (i : SideIndex) (after : Option CellId) (xs : List Spot) where
   abbrev pub HasCellAtSome : List Spot → CellId → Type 0
-  HasCellAtSome ys q = list_any (λ x. has_cell (hash.get nat_eq i.by_spot (number_of x)) q) ys ≡ true
+  HasCellAtSome ys q = list_any (λ x. has_cell (hash.get nat_eq i.by_spot (spot_number_of x)) q) ys ≡ true
 
-  pub spot_next : (k : ℕ) (x : Spot) (number : ℕ) (before here next : Option CellId) → k < length xs → x ≡ get_or xs k x → number ≡ number_of x → next
+  pub spot_next : (k : ℕ) (x : Spot) (number : ℕ) (before here next : Option CellId) → k < length xs → x ≡ get_or xs k x → number ≡ spot_number_of x → next
       ≡ lesser_cell before here
       → IsNextOf (HasCellAtSome (take k xs)) after before
       → IsNextOf (λ q. has_cell (hash.get nat_eq i.by_spot number) q ≡ true) after here
@@ -123,9 +79,9 @@ module _ (i : SideIndex) (after : Option CellId) (xs : List Spot) where
       is split f g
     where
       split : (q : CellId) → HasCellAtSome (take (k + 1) xs) q → HasCellAtSome (take k xs) q ⊎ (has_cell (hash.get nat_eq i.by_spot number) q ≡ true)
-      split q e = elim (or_cases (list_any (λ y. has_cell (hash.get nat_eq i.by_spot (number_of y)) q) (take k xs))
-          (has_cell (hash.get nat_eq i.by_spot (number_of x)) q)
-          (sym (any_more (λ y. has_cell (hash.get nat_eq i.by_spot (number_of y)) q) xs k x less read) ∙ e)) [
+      split q e = elim (or_cases (list_any (λ y. has_cell (hash.get nat_eq i.by_spot (spot_number_of y)) q) (take k xs))
+          (has_cell (hash.get nat_eq i.by_spot (spot_number_of x)) q)
+          (sym (any_more (λ y. has_cell (hash.get nat_eq i.by_spot (spot_number_of y)) q) xs k x less read) ∙ e)) [
             | inl old ↦ inl old
             | inr new ↦ inr (ap (λ n. has_cell (hash.get nat_eq i.by_spot n) q) told ∙ new)
           ]
@@ -137,14 +93,14 @@ module _ (i : SideIndex) (x : RuleSpots) (ys : List Spot) (same : ys ≡ x.spots
   AmongWide q = (x.has_role && set.contains i.wide q) ≡ true
 
   abbrev AtSpots : CellId → Type 0
-  AtSpots q = list_any (λ y. has_cell (hash.get nat_eq i.by_spot (number_of y)) q) ys ≡ true
+  AtSpots q = list_any (λ y. has_cell (hash.get nat_eq i.by_spot (spot_number_of y)) q) ys ≡ true
 
   some_at : (number : ℕ) (q : CellId) → has_cell (hash.get nat_eq i.by_spot number) q ≡ true → (zs : List Spot) → list_any (has_number number) zs ≡ true
-      → list_any (λ z. has_cell (hash.get nat_eq i.by_spot (number_of z)) q) zs ≡ true
+      → list_any (λ z. has_cell (hash.get nat_eq i.by_spot (spot_number_of z)) q) zs ≡ true
   some_at number q e [] h = absurd (false≢true h)
   some_at number q e (z ∷ zs) h = elim (or_cases (has_number number z) (list_any (has_number number) zs) h) [
-    | inl here ↦ or_left _ _ (subst (λ n. has_cell (hash.get nat_eq i.by_spot n) q ≡ true) (tied_number number (number_of z) here) e)
-    | inr later ↦ or_right (has_cell (hash.get nat_eq i.by_spot (number_of z)) q) _ (some_at number q e zs later)
+    | inl here ↦ or_left _ _ (subst (λ n. has_cell (hash.get nat_eq i.by_spot n) q ≡ true) (tied_number number (spot_number_of z) here) e)
+    | inr later ↦ or_right (has_cell (hash.get nat_eq i.by_spot (spot_number_of z)) q) _ (some_at number q e zs later)
   ]
 
   split : (q : CellId) → IsFoundFor i x q → AmongWide q ⊎ AtSpots q

@@ -15,7 +15,8 @@ use Rattle.clr_rows.specs.Cells.{cell_cmp}
 use Rattle.clr_rows.proofs.CellOrder.{cell_cmp_total, cell_cmp_exact}
 use Rattle.clr_rules.proofs.Elements.{among, any_by, contained}
 use Rattle.clr_finders.proofs.EntryLemmas.{one_among}
-use Rattle.clr_grid.specs.CellSets.{Cells, is_one_of, with_cells}
+use Rattle.clr_grid.specs.CellSets.{Cells, with_listed_cells}
+use Rattle.clr_row_maps.specs.CellLists.{is_one_of}
 
 or_cond : (b c : Bool) → cond b true c ≡ (b || c)
 or_cond true c = refl
@@ -63,7 +64,7 @@ pub or_none : (a : Bool) → a ≡ (a || false)
 or_none true = refl
 or_none false = refl
 
-pub has_with_cells : (cells : List CellId) (m : Cells) (q : CellId) → set.contains (with_cells m cells) q ≡ (set.contains m q || is_one_of cells q)
+pub has_with_cells : (cells : List CellId) (m : Cells) (q : CellId) → set.contains (with_listed_cells m cells) q ≡ (set.contains m q || is_one_of cells q)
 has_with_cells [] m q = or_none _
 has_with_cells (c ∷ cells) m q = has_with_cells cells (set.insert m c) q
     ∙ ap (λ b. b || is_one_of cells q) (set.contains-insert cell_cmp_total m c q) ∙ or_move (eq_by_cmp cell_cmp q c) (set.contains m q) (is_one_of cells q)
@@ -169,7 +170,7 @@ none_or b m e = ap (λ c. c || b) e
 
 -- a list that has the same cells as another one has those of the set that the other one makes
 pub listed_alike : (xs ys : List CellId) → ((q : CellId) → Contains ys q ↔ Contains xs q) → (q : CellId) →
-    is_one_of ys q ≡ set.contains (with_cells set.empty xs) q
+    is_one_of ys q ≡ set.contains (with_listed_cells set.empty xs) q
 listed_alike xs ys same q = same_told (is_one_of ys q) (is_one_of xs q) (λ e. listed xs ((same q).0 (contained q ys (one_among ys q e))))
     (λ e. listed ys ((same q).1 (contained q xs (one_among xs q e))))
     ∙ sym (has_with_cells xs set.empty q ∙ none_or (is_one_of xs q) (set.contains {R = cell_cmp} set.empty q) (set.contains-empty cell_cmp q))

@@ -2,7 +2,6 @@
 use Rattle.std.specs.Prelude.{Bool, List, [], ◌∷◌}
 use Rattle.std.specs.Coded.{Coded}
 use Rattle.std.specs.FinSet as set
-use Rattle.std.specs.List.{list_any}
 use Rattle.std.specs.Ordering.{eq_by_cmp}
 use Rattle.clr_rows.specs.declared.cells.CellId.{CellId}
 use Rattle.clr_rows.specs.Cells.{cell_cmp, coded_cell}
@@ -17,10 +16,7 @@ coded_cells = set.code coded_cell
 abbrev pub is_one : CellId → CellId → Bool
 is_one cell q = eq_by_cmp cell_cmp cell q
 
-abbrev pub is_one_of : List CellId → CellId → Bool
-is_one_of cells q = list_any (eq_by_cmp cell_cmp q) cells
-
 -- a set with the cells of a list
-abbrev pub with_cells : Cells → List CellId → Cells
-with_cells m [] = m
-with_cells m (q ∷ qs) = with_cells (set.insert m q) qs
+abbrev pub with_listed_cells : Cells → List CellId → Cells
+with_listed_cells m [] = m
+with_listed_cells m (q ∷ qs) = with_listed_cells (set.insert m q) qs

@@ -6,11 +6,12 @@ use Rattle.std.specs.List.{list_any}
 use Rattle.std.specs.declared.hash.BuildHasherDefault.{BuildHasherDefault}
 use Rattle.std.specs.declared.hash.FoldHasher.{FoldHasher}
 use Rattle.clr_rows.specs.declared.cells.CellId.{CellId}
-use Rattle.clr_grid.specs.CellSets.{Cells, is_one, is_one_of}
+use Rattle.clr_grid.specs.CellSets.{Cells, is_one}
+use Rattle.clr_row_maps.specs.CellLists.{is_one_of}
 use Rattle.clr_finders.specs.declared.row_spots.RuleSpots.{RuleSpots}
 use Rattle.clr_grid.specs.declared.side_index.SideIndex.{SideIndex}
 use Rattle.clr_grid.specs.declared.rule_index.RuleIndex.{RuleIndex}
-use Rattle.clr_grid.specs.RowMaps.{FiledRows, IsRowAt}
+use Rattle.clr_row_maps.specs.RowMaps.{FiledRows, IsRowAt}
 use Rattle.clr_grid.specs.SpotNumbers.{has_number}
 
 -- where a cell is filed: among the wide rows, at the number of a spot
@@ -65,13 +66,13 @@ stays cell kept (At n) q = not (is_one cell q && not (keeps_number kept n))
 
 -- by rule ------------------------------------------------------------------------------------
 
-abbrev pub side_of : RuleIndex → Bool → SideIndex
-side_of index true = index.servers
-side_of index false = index.others
+abbrev pub side_index_of : RuleIndex → Bool → SideIndex
+side_index_of index true = index.servers
+side_index_of index false = index.others
 
 abbrev pub is_filed_by : Option RuleIndex → Bool → Key → CellId → Bool
 is_filed_by None serves k q = false
-is_filed_by (Some index) serves k q = is_filed (side_of index serves) k q
+is_filed_by (Some index) serves k q = is_filed (side_index_of index serves) k q
 
 -- filed under the rule of a number, among the rows that may serve or the others
 abbrev pub is_filed_under : List RuleIndex → ℕ → Bool → Key → CellId → Bool
@@ -125,7 +126,7 @@ HoldCells by_spot = (n : ℕ) → get nat_eq by_spot n ≡ Some set.empty → �
 
 abbrev pub AllHoldCells : List RuleIndex → Type 0
 AllHoldCells indexes = (number : ℕ) (index : RuleIndex) (serves : Bool) → slice_get indexes number ≡ Some index
-    → HoldCells (side_of index serves).by_spot
+    → HoldCells (side_index_of index serves).by_spot
 
 -- the rows that stand or are to stand are filed, and nothing else is kept
 pub record IsFiledExactly (rows : FiledRows) (indexes : List RuleIndex) : Type 0 where

@@ -2,5 +2,4 @@ pub mod CellSets
 pub mod Filing
 pub mod Gains
 pub mod NextCells
-pub mod RowMaps
 pub mod SpotNumbers

@@ -1,16 +1,9 @@
--- The cells behind a given one.
-use Rattle.std.specs.Prelude.{◌≡◌, ℕ, true, List, Option, Some, None}
-use Rattle.std.specs.declared.ops.Bound.{Bound}
-use Rattle.std.specs.declared.ops.Bound.TheVariants.{Excluded, Unbounded}
+-- What is found cell by cell.
+use Rattle.std.specs.Prelude.{◌≡◌, ℕ, true, List}
 use Rattle.clr_rows.specs.declared.cells.CellId.{CellId}
 use Rattle.clr_finders.specs.declared.row_spots.RuleSpots.{RuleSpots}
 use Rattle.clr_grid.specs.declared.rule_index.RuleIndex.{RuleIndex}
 use Rattle.clr_grid.specs.Filing.{Key, is_filed_under, is_looked_at}
-
--- where the cells behind a given one begin
-abbrev pub bound_behind : Option CellId → Bound CellId
-bound_behind None = Unbounded
-bound_behind (Some p) = Excluded p
 
 -- a cell that is filed among the rows that may serve, where cells are found for the row
 abbrev pub IsServerFoundFor : List RuleIndex → ℕ → RuleSpots → CellId → Type 0

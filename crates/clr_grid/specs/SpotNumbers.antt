@@ -16,10 +16,10 @@ abbrev pub mix_value : ℕ → Value → ℕ
 mix_value number (Int x) = mix_in number (cast_unsigned w64 x)
 mix_value number (Words text) = mix_in (fold mix_in number text) TEXT_END
 
-unfoldable pub number_of : Spot → ℕ
-number_of (Square i j) = mix_in (cast_unsigned w64 i) (cast_unsigned w64 j)
-number_of (Values values) = fold mix_value 1 values
+unfoldable pub spot_number_of : Spot → ℕ
+spot_number_of (Square i j) = mix_in (cast_unsigned w64 i) (cast_unsigned w64 j)
+spot_number_of (Values values) = fold mix_value 1 values
 
 -- the spot has that number
 abbrev pub has_number : ℕ → Spot → Bool
-has_number number x = nat_eq number (number_of x)
+has_number number x = nat_eq number (spot_number_of x)

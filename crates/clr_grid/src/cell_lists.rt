@@ -5,7 +5,8 @@ ghost use Rattle.std.specs.FinSet as set;
 ghost use Rattle.std.specs.List.Sorted.{IsStrictlySortedBy};
 ghost use Rattle.clr_rows.specs.Cells.{cell_cmp};
 ghost use Rattle.clr_rows.specs.declared.cells.CellId.{CellId as Cell};
-ghost use Rattle.clr_grid.specs.CellSets.{is_one_of, with_cells};
+ghost use Rattle.clr_grid.specs.CellSets.{with_listed_cells};
+ghost use Rattle.clr_row_maps.specs.CellLists.{is_one_of};
 ghost use Rattle.clr_grid.specs.Gains.{GainsCells};
 
 use clr_rows::CellId;
@@ -22,13 +23,13 @@ pub(crate) struct CellList {
 
 impl Model for CellList {
     ghost use Rattle.std.specs.FinSet as set;
-    ghost use Rattle.clr_grid.specs.CellSets.{Cells, coded_cells, with_cells};
+    ghost use Rattle.clr_grid.specs.CellSets.{Cells, coded_cells, with_listed_cells};
 
     ghost Value = { Cells };
 
     ghost coded = { coded_cells };
 
-    ghost view = { λ s. with_cells set.empty s.cells.items };
+    ghost view = { λ s. with_listed_cells set.empty s.cells.items };
 }
 
 impl CellList {
@@ -52,7 +53,7 @@ impl CellList {
 
     /// Adds a cell, if there is one. It fails for want of memory alone, and changes nothing then.
     pub(crate) fn add_some(&mut self, cell: Option<CellId>) -> Result<(), AllocError>
-        ensures ok { OnOk result (self.new ≡ with_cells self.old (option_to_list cell)) }
+        ensures ok { OnOk result (self.new ≡ with_listed_cells self.old (option_to_list cell)) }
         ensures err { OnErr result (self.new ≡ self.old) }
     {
         match cell {

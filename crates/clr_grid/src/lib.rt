@@ -5,6 +5,7 @@
 //!   keeps them by rule, side and the number of each spot: the rows that are settled or noted, and
 //!   nothing else. So what it keeps goes by the rows that there are, and not by how many have come
 //!   and gone; only the room of a table stays as large as it once was.
+//! - Both keep the spots of their rows in a `RowMap` of `clr_row_maps`.
 //! - `new` makes either without rows. `SpotIndex::with_row` adds a row, so that a finder is made of
 //!   all rows of a content.
 #![tactic(auto)]
@@ -13,7 +14,6 @@ mod cell_lists;
 mod cell_sets;
 mod list_finder;
 mod next_cells;
-mod row_maps;
 mod rule_index;
 mod side_index;
 mod spot_cells;

@@ -3,11 +3,11 @@
 ghost use Rattle.std.specs.Prelude.{◌≡◌, ◌<◌, ◌∷◌, [], length, IfOk};
 ghost use Rattle.clr_rows.specs.Held.{held_of};
 ghost use Rattle.clr_rules.specs.Books.{FitTogether};
-ghost use Rattle.clr_grid.specs.RowMaps.{no_rows};
+ghost use Rattle.clr_row_maps.specs.RowMaps.{no_filed_rows};
 ghost use Rattle.clr_finders.specs.Sharing.{found_cells, rule_spots};
 
-use crate::row_maps::RowMap;
 use clr_finders::{RowFinder, RowSpots, RuleSpots, row_spots_at};
+use clr_row_maps::RowMap;
 use clr_rows::{CellId, Held, Row};
 use clr_rules::RuleBook;
 use std::alloc::{AllocError, Global};
@@ -21,7 +21,7 @@ pub struct ListFinder {
 }
 
 impl Model for ListFinder {
-    ghost use Rattle.clr_grid.specs.RowMaps.{FiledRows, coded_rows};
+    ghost use Rattle.clr_row_maps.specs.RowMaps.{FiledRows, coded_rows};
 
     ghost Value = { FiledRows };
 
@@ -33,7 +33,7 @@ impl Model for ListFinder {
 impl ListFinder {
     /// Returns a finder without rows. It takes no memory.
     pub fn new(alloc: Global) -> ListFinder
-        ensures { result ≡ no_rows }
+        ensures { result ≡ no_filed_rows }
     {
         ListFinder {
             alloc,

@@ -2,22 +2,12 @@
 
 ghost use Rattle.std.specs.Prelude.{◌≡◌, true, option_to_list};
 ghost use Rattle.clr_finders.specs.NextCells.{IsNextOf};
-ghost use Rattle.clr_grid.specs.CellSets.{is_one_of};
-ghost use Rattle.clr_grid.specs.NextCells.{bound_behind};
+ghost use Rattle.clr_row_maps.specs.CellLists.{is_one_of};
 
+use clr_row_maps::bound_behind;
 use clr_rows::CellId;
 use std::collections::BTreeSet;
 use std::ops::Bound;
-
-/// Where the cells behind a given one begin.
-pub(crate) fn bound_behind(after: Option<CellId>) -> Bound<CellId>
-    ensures { result ≡ bound_behind after }
-{
-    match after {
-        Some(cell) => Bound::Excluded(cell),
-        None => Bound::Unbounded,
-    }
-}
 
 /// The first key of a tree behind a given cell, if there is one.
 pub(crate) fn next_key(cells: &BTreeSet<CellId>, after: Option<CellId>) -> Option<CellId>

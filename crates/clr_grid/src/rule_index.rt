@@ -10,7 +10,7 @@ ghost use Rattle.clr_finders.specs.NextCells.{IsNextOf};
 ghost use Rattle.clr_grid.specs.NextCells.{IsServerFoundFor};
 ghost use Rattle.clr_grid.specs.Filing.{AllHoldCells, AreGone, AreNear, GainNone, GainOnly, HoldCells, IsFiledRow};
 ghost use Rattle.clr_grid.specs.Filing.{IsFiledIfAny, Key, StayFiled, StayFiledBut, has_key, has_key_of};
-ghost use Rattle.clr_grid.specs.Filing.{is_filed, is_filed_under, is_looked_at, of_side, side_of, spots_at, stays};
+ghost use Rattle.clr_grid.specs.Filing.{is_filed, is_filed_under, is_looked_at, of_side, side_index_of, spots_at, stays};
 
 use crate::cell_lists::CellList;
 use crate::side_index::SideIndex;
@@ -38,8 +38,8 @@ fn of_side(serves: bool, kept: Option<&RuleSpots>) -> Option<&RuleSpots>
 impl RuleIndex {
     /// An index without cells.
     fn new(alloc: Global) -> RuleIndex
-        ensures none { (b : Bool) (k : Key) (q : Cell) → is_filed (side_of result b) k q ≡ false }
-        ensures lean { (b : Bool) → HoldCells (side_of result b).by_spot }
+        ensures none { (b : Bool) (k : Key) (q : Cell) → is_filed (side_index_of result b) k q ≡ false }
+        ensures lean { (b : Bool) → HoldCells (side_index_of result b).by_spot }
     {
         RuleIndex {
             servers: SideIndex::new(alloc),
@@ -49,11 +49,11 @@ impl RuleIndex {
 
     /// Files the cell of a row wherever it is to be.
     fn file(&mut self, alloc: Global, cell: CellId, spots: &RuleSpots) -> Result<(), AllocError>
-        ensures kept { (b : Bool) (k : Key) (q : Cell) → is_filed (side_of self.old b) k q ≡ true → is_filed (side_of self.new b) k q ≡ true }
-        ensures only { (b : Bool) (k : Key) (q : Cell) → is_filed (side_of self.new b) k q ≡ true
-            → (is_filed (side_of self.old b) k q ≡ true) ⊎ ((q ≡ cell) × (has_key_of (of_side b (Some spots.now)) k ≡ true)) }
-        ensures lean { (b : Bool) → HoldCells (side_of self.old b).by_spot → HoldCells (side_of self.new b).by_spot }
-        ensures filed { OnOk result ((k : Key) → has_key spots.now k ≡ true → is_filed (side_of self.new spots.now.may_serve) k cell ≡ true) }
+        ensures kept { (b : Bool) (k : Key) (q : Cell) → is_filed (side_index_of self.old b) k q ≡ true → is_filed (side_index_of self.new b) k q ≡ true }
+        ensures only { (b : Bool) (k : Key) (q : Cell) → is_filed (side_index_of self.new b) k q ≡ true
+            → (is_filed (side_index_of self.old b) k q ≡ true) ⊎ ((q ≡ cell) × (has_key_of (of_side b (Some spots.now)) k ≡ true)) }
+        ensures lean { (b : Bool) → HoldCells (side_index_of self.old b).by_spot → HoldCells (side_index_of self.new b).by_spot }
+        ensures filed { OnOk result ((k : Key) → has_key spots.now k ≡ true → is_filed (side_index_of self.new spots.now.may_serve) k cell ≡ true) }
     {
         if spots.may_serve {
             self.servers.file(alloc, cell, spots)
@@ -65,11 +65,11 @@ impl RuleIndex {
     /// Takes the cell of a row away, but for what a row keeps that stays.
     fn unfile(&mut self, cell: CellId, spots: &RuleSpots, kept: Option<&RuleSpots>)
         ensures kept { (b : Bool) (k : Key) (q : Cell) → stays cell (of_side b (option_copied kept.entry)) k q ≡ true
-            → is_filed (side_of self.old b) k q ≡ true → is_filed (side_of self.new b) k q ≡ true }
-        ensures fewer { (b : Bool) (k : Key) (q : Cell) → is_filed (side_of self.new b) k q ≡ true → is_filed (side_of self.old b) k q ≡ true }
-        ensures gone { (b : Bool) (k : Key) → has_key_of (of_side b (Some spots.now)) k ≡ true → is_filed (side_of self.new b) k cell ≡ true
+            → is_filed (side_index_of self.old b) k q ≡ true → is_filed (side_index_of self.new b) k q ≡ true }
+        ensures fewer { (b : Bool) (k : Key) (q : Cell) → is_filed (side_index_of self.new b) k q ≡ true → is_filed (side_index_of self.old b) k q ≡ true }
+        ensures gone { (b : Bool) (k : Key) → has_key_of (of_side b (Some spots.now)) k ≡ true → is_filed (side_index_of self.new b) k cell ≡ true
             → has_key_of (of_side b (option_copied kept.entry)) k ≡ true }
-        ensures lean { (b : Bool) → HoldCells (side_of self.old b).by_spot → HoldCells (side_of self.new b).by_spot }
+        ensures lean { (b : Bool) → HoldCells (side_index_of self.old b).by_spot → HoldCells (side_index_of self.new b).by_spot }
     {
         let kept = of_side(spots.may_serve, kept);
         if spots.may_serve {
@@ -87,7 +87,7 @@ impl RuleIndex {
         cells: &mut CellList,
     ) -> Result<(), AllocError>
         ensures near { OnOk result ((b : Bool) (k : Key) (q : Cell) → (servers ≡ true → b ≡ true) → is_looked_at spots.now k ≡ true
-            → is_filed (side_of self.now b) k q ≡ true → set.contains cells.new q ≡ true) }
+            → is_filed (side_index_of self.now b) k q ≡ true → set.contains cells.new q ≡ true) }
     {
         self.servers.add_near(spots, cells)?;
         if !servers {

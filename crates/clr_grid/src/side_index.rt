@@ -12,7 +12,7 @@ ghost use Rattle.clr_grid.specs.CellSets.{is_one};
 ghost use Rattle.clr_grid.specs.Gains.{GainsCells, IsFoundFor};
 ghost use Rattle.clr_grid.specs.Filing.{HoldCells, Key, has_cell, has_key, has_key_of, is_filed, is_looked_at};
 ghost use Rattle.clr_grid.specs.Filing.{keeps_number, keeps_wide, stays, without_cell};
-ghost use Rattle.clr_grid.specs.SpotNumbers.{has_number, number_of};
+ghost use Rattle.clr_grid.specs.SpotNumbers.{has_number, spot_number_of};
 
 use crate::cell_lists::CellList;
 use crate::cell_sets::CellSet;
@@ -202,8 +202,8 @@ impl SideIndex {
     /// Adds the cells at the numbers of some spots.
     fn add_cells_at_each(&self, spots: &[Spot], cells: &mut CellList) -> Result<(), AllocError>
         ensures ok { OnOk result ((q : Cell) → set.contains cells.new q
-            ≡ (set.contains cells.old q || list_any (λ x. has_cell (get nat_eq self.now.by_spot (number_of x)) q) spots.now)) }
-        ensures err { OnErr result (GainsCells (λ q. list_any (λ x. has_cell (get nat_eq self.now.by_spot (number_of x)) q) spots.now ≡ true)
+            ≡ (set.contains cells.old q || list_any (λ x. has_cell (get nat_eq self.now.by_spot (spot_number_of x)) q) spots.now)) }
+        ensures err { OnErr result (GainsCells (λ q. list_any (λ x. has_cell (get nat_eq self.now.by_spot (spot_number_of x)) q) spots.now ≡ true)
             cells.old cells.new) }
     {
         for spot in spots {
@@ -237,7 +237,7 @@ impl SideIndex {
 
     /// The first cell at the numbers of some spots behind a given one, if there is one.
     fn next_at_each(&self, spots: &[Spot], after: Option<CellId>) -> Option<CellId>
-        ensures { IsNextOf (λ q. list_any (λ x. has_cell (get nat_eq self.now.by_spot (number_of x)) q) spots.now ≡ true) after result }
+        ensures { IsNextOf (λ q. list_any (λ x. has_cell (get nat_eq self.now.by_spot (spot_number_of x)) q) spots.now ≡ true) after result }
     {
         let mut next = None;
         for spot in spots {

@@ -4,12 +4,12 @@ ghost use Rattle.std.specs.Prelude.{◌≡◌, ◌<◌, ◌∷◌, [], length, t
 ghost use Rattle.std.specs.FinMap as finite;
 ghost use Rattle.clr_rows.specs.Held.{held_of};
 ghost use Rattle.clr_rules.specs.Books.{FitTogether};
-ghost use Rattle.clr_grid.specs.RowMaps.{no_rows, with_pending, with_row, with_settled, without_pending};
+ghost use Rattle.clr_row_maps.specs.RowMaps.{no_filed_rows, with_pending, with_settled_row, with_settled, without_pending};
 ghost use Rattle.clr_finders.specs.Sharing.{found_cells, row_spots, rule_spots};
 
-use crate::row_maps::RowMap;
 use crate::rule_index::{RuleIndex, cells_near, file_row, next_server_near, unfile_row};
 use clr_finders::{RowFinder, RowSpots, RuleSpots, row_spots_at};
+use clr_row_maps::RowMap;
 use clr_rows::{CellId, Held, Row};
 use clr_rules::RuleBook;
 use std::alloc::{AllocError, Global};
@@ -25,7 +25,7 @@ pub struct SpotIndex {
 }
 
 impl Model for SpotIndex {
-    ghost use Rattle.clr_grid.specs.RowMaps.{FiledRows, coded_rows};
+    ghost use Rattle.clr_row_maps.specs.RowMaps.{FiledRows, coded_rows};
 
     ghost Value = { FiledRows };
 
@@ -41,7 +41,7 @@ impl Model for SpotIndex {
 impl SpotIndex {
     /// Returns a finder without rows. It takes no memory.
     pub fn new(alloc: Global) -> SpotIndex
-        ensures { result ≡ no_rows }
+        ensures { result ≡ no_filed_rows }
     {
         SpotIndex {
             alloc,
@@ -55,7 +55,7 @@ impl SpotIndex {
     pub fn with_row(self, book: &RuleBook, cell: CellId, row: &Row) -> Result<SpotIndex, AllocError>
         requires fit { FitTogether book.now ((cell, row.now) ∷ []) }
         requires free { finite.get self.settled cell ≡ None }
-        ensures { IfOk result (λ finder. finder ≡ with_row self cell (row_spots book.now (cell, row.now))) }
+        ensures { IfOk result (λ finder. finder ≡ with_settled_row self cell (row_spots book.now (cell, row.now))) }
     {
         let mut rows = self.rows;
         let mut rules = self.rules;

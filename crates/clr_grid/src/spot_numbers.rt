@@ -3,7 +3,7 @@
 
 ghost use Rattle.std.specs.Prelude.{◌≡◌};
 ghost use Rattle.std.specs.List.{fold, list_any};
-ghost use Rattle.clr_grid.specs.SpotNumbers.{has_number, mix_in, mix_value, number_of};
+ghost use Rattle.clr_grid.specs.SpotNumbers.{has_number, mix_in, mix_value, spot_number_of};
 
 use clr_rows::Value;
 use clr_spots::Spot;
@@ -54,9 +54,9 @@ fn mix_values(number: u64, values: &[Value]) -> u64
 }
 
 /// The number of a spot.
-#[tactic(auto, unfolding(crate::specs::SpotNumbers::number_of))]
+#[tactic(auto, unfolding(crate::specs::SpotNumbers::spot_number_of))]
 pub(crate) fn number_of(spot: &Spot) -> u64
-    ensures { result ≡ number_of spot.now }
+    ensures { result ≡ spot_number_of spot.now }
 {
     match spot {
         Spot::Square(i, j) => mix_in(i.cast_unsigned(), j.cast_unsigned()),

@@ -1,8 +1,9 @@
 //! Where a text stops being JSON, and why.
-ghost use Rattle.std.specs.Prelude.{◌≤◌, length, IfOk};
+ghost use Rattle.std.specs.Prelude.{◌≡◌, ◌+◌, ◌<◌, ◌≤◌, drop, length, position, IfSome};
+ghost use Rattle.clr_places.specs.Places.{is_line_end, next_line_length};
+ghost use Rattle.clr_hints.specs.JsonFaults.{IsJsonFault, behind_line_ends, is_space, last_byte, offset_at, sentence_at, sentence_of, told};
 
 use crate::encodings::{encoding_fault, has_byte_order_mark};
-use std::alloc::{AllocError, Global};
 
 /// Where a text stops being JSON: the offset of the byte, a sentence, and a hint where one helps.
 #[derive(Drop)]
@@ -12,46 +13,85 @@ pub struct JsonFault {
     pub hint: Option<&'static str>,
 }
 
+/// Returns where the first line end stands.
+fn line_end(text: &[u8]) -> Option<usize>
+    ensures value { result ≡ position is_line_end text.now }
+    ensures bound { IfSome result (λ at. at < length text.now) }
+{
+    text.iter().position(|byte| *byte == b'\n')
+}
+
+/// Returns how many bytes stand before the first line end, or all where there is none.
+fn line_length(text: &[u8]) -> usize
+    ensures value { result ≡ next_line_length text.now }
+    ensures bound { result ≤ length text.now }
+{
+    match line_end(text) {
+        Some(at) => at,
+        None => text.len(),
+    }
+}
+
+/// Returns what stands behind the first line end, nothing where there is none.
+fn behind_line_end(text: &[u8]) -> &[u8]
+    ensures { result.now ≡ drop (next_line_length text.now + 1) text.now }
+{
+    match line_end(text) {
+        Some(at) => &text[at + 1..],
+        None => &text[text.len()..],
+    }
+}
+
+/// Returns what stands behind a number of line ends, nothing where there are fewer.
+fn behind_line_ends(text: &[u8], count: usize) -> &[u8]
+    ensures value { result.now ≡ behind_line_ends count text.now }
+    ensures bound { length result.now ≤ length text.now }
+{
+    let mut rest = text;
+    for _passed in 0..count {
+        if rest.is_empty() {
+            return rest;
+        }
+        rest = behind_line_end(rest);
+    }
+    rest
+}
+
 /// Returns the offset of the byte at a line and a column of bytes, both counted from 1; where the
 /// line is shorter its end, and where the text is, the end of that.
 fn offset_of(text: &[u8], line: usize, column: usize) -> usize
-    ensures { result ≤ length text.now }
+    ensures value { result ≡ offset_at text.now line column }
+    ensures bound { result ≤ length text.now }
 {
-    let mut at_line = 1usize;
-    let mut at_column = 1usize;
-    for (at, byte) in text.iter().enumerate() {
-        if at_line == line && (at_column >= column || *byte == b'\n') {
-            return at;
-        }
-        if *byte == b'\n' {
-            at_line = at_line.saturating_add(1);
-            at_column = 1;
-        } else {
-            at_column = at_column.saturating_add(1);
-        }
-    }
-    text.len()
+    let rest = behind_line_ends(text, line.saturating_sub(1));
+    let before = text.len() - rest.len();
+    before + column.saturating_sub(1).min(line_length(rest))
 }
 
-fn is_space(byte: u8) -> bool {
+fn is_space(byte: u8) -> bool
+    ensures { result ≡ is_space byte }
+{
     matches!(byte, b' ' | b'\t' | b'\n' | b'\r')
 }
 
-/// Returns the last byte before an offset that is no white space.
-fn byte_before(text: &[u8], offset: usize) -> Option<u8> {
-    text.iter()
-        .copied()
-        .take(offset)
-        .filter(|byte| !is_space(*byte))
-        .last()
+/// Returns the last byte of a text that is no white space.
+fn last_byte(text: &[u8]) -> Option<u8>
+    ensures { result ≡ last_byte text.now }
+{
+    let mut last = None;
+    for byte in text {
+        if !is_space(*byte) {
+            last = Some(*byte);
+        }
+    }
+    last
 }
 
-/// Returns what is said where JSON stops at a byte.
-fn sentence_at(text: &[u8], offset: usize) -> &'static str {
-    let Some(byte) = text.get(offset).copied() else {
-        return "the text ends here, and the JSON value hasn't ended";
-    };
-    match (byte_before(text, offset), byte) {
+/// Returns what is said of a byte at which JSON stops, by the last byte before it that is no white space.
+fn sentence_of(before: Option<u8>, byte: u8) -> &'static str
+    ensures { result.now ≡ sentence_of before byte }
+{
+    match (before, byte) {
         (Some(b','), b']') => "a value was expected (the comma before ] is one too many)",
         (Some(b','), b'}') => "a key was expected (the comma before } is one too many)",
         (_, b'"' | b'{' | b'[' | b'0'..=b'9' | b'-') => "a comma or a closing bracket was expected",
@@ -60,10 +100,21 @@ fn sentence_at(text: &[u8], offset: usize) -> &'static str {
     }
 }
 
+/// Returns what is said where JSON stops at an offset.
+fn sentence_at(text: &[u8], offset: usize) -> &'static str
+    ensures { result.now ≡ sentence_at text.now offset }
+{
+    match text.get(offset) {
+        Some(byte) => sentence_of(last_byte(&text[..offset]), *byte),
+        None => "the text ends here, and the JSON value hasn't ended",
+    }
+}
+
 /// Returns where a text that is no JSON stops being JSON, which the reader of JSON tells by a line and
 /// a column of bytes, both counted from 1; of a text with a byte order mark, its first byte; and of one
 /// that isn't UTF-8, the first byte that isn't.
 pub fn json_fault(text: &[u8], line: usize, column: usize) -> JsonFault
+    ensures fault { IsJsonFault text.now line column (told result) }
     ensures within { result.offset ≤ length text.now }
 {
     if has_byte_order_mark(text) {

@@ -1,9 +1,11 @@
 //! Hints at common slips, and how a sentence shows values and names.
 //!
-//! A name that is nearly right, metres for millimetres, a byte order mark, a comma too many, blank
-//! lines: what is recognised and what is said of it is tested. Proved is that each call is safe, ends
-//! and gives up for want of memory alone, that a name which is offered is one of those that stand
-//! (`nearest` [`stands`]), and that a fault of JSON is told within its text (`json_fault` [`within`]).
+//! - `encoding_fault` [`fault`]: a text that isn't UTF-8 has its fault behind its longest front that is.
+//! - `json_fault` [`fault`]: the offset, the sentence and the hint are exactly those of a byte order mark, of bytes that
+//!   aren't UTF-8, or of the byte at a line and a column, by what stands there and before it.
+//! - `nearest` [`nearest`]: the first of the names that are most alike, where one is alike enough; none else.
+//! - `metres_hint`: a hint at exactly the texts that are decimal numbers of metres with at most three decimals, with their millimetres.
+//! - What else is said of names, blank lines and values is tested. Each call gives up for want of memory alone.
 #![tactic(auto)]
 
 mod blank_lines;

@@ -1,6 +1,9 @@
 //! Names that are nearly right.
-ghost use Rattle.std.specs.Prelude.{IfOk, IfSome};
+ghost use Rattle.std.specs.Prelude.{◌≡◌, map, IfOk, IfSome};
 ghost use Rattle.std.specs.List.{Contains};
+ghost use Rattle.std.specs.Option.{option_map};
+ghost use Rattle.strsim.specs.Edits.{InUnit};
+ghost use Rattle.clr_hints.specs.Names.{IsNearest, likeness};
 
 use std::alloc::{AllocError, Global};
 use strsim::jaro_winkler;
@@ -11,20 +14,29 @@ const LEAST_LIKENESS: f64 = 0.8;
 /// The most names that a hint lists.
 const MOST_LISTED: usize = 12;
 
-/// Returns the name that is most like another, of those that are like it, or none.
+/// Returns how alike two names are, from 0 to 1.
+fn likeness(alloc: Global, name: &str, other: &str) -> Result<f64, AllocError>
+    ensures value { IfOk result (λ alike. alike ≡ likeness name.now other.now) }
+    ensures range { IfOk result InUnit }
+{
+    jaro_winkler(alloc, name, other)
+}
+
+/// Returns the name that is most like another, the first where more of them are, or none where no name is alike enough.
 pub fn nearest<'a>(
     alloc: Global,
     name: &str,
     names: &[&'a str],
 ) -> Result<Option<&'a str>, AllocError>
+    ensures nearest { IfOk result (λ near. IsNearest name.now (map (λ other. other.now) names.now) (option_map (λ other. other.now) near)) }
     ensures stands { IfOk result (λ near. IfSome near (λ other. Contains names.now other)) }
 {
     let mut best = None;
     let mut most = LEAST_LIKENESS;
     for other in names {
-        let likeness = jaro_winkler(alloc, name, other)?;
-        if likeness > most {
-            most = likeness;
+        let alike = likeness(alloc, name, other)?;
+        if alike > most {
+            most = alike;
             best = Some(*other);
         }
     }

@@ -15,9 +15,10 @@ use Rattle.clr_layers.specs.declared.stored_parts.StoredPart.{StoredPart}
 use Rattle.clr_rule_text.specs.declared.faults.TextFault.{TextFault}
 use Rattle.clr_rule_text.specs.declared.faults.TextFault.TheVariants as fault
 use Rattle.clr_office_text.specs.declared.formats.Format.{Format}
-use Rattle.clr_rule_text.specs.Fields.{Fails}
+use Rattle.clr_readings.specs.Readings.{Fails}
+use Rattle.clr_rule_text.specs.Fields.{text_lacks_memory}
 use Rattle.clr_office_text.specs.Workspaces.{layer_of}
-use Rattle.clr_rule_text.proofs.EachItem.{fails_with}
+use Rattle.clr_readings.proofs.FaultTurns.{fails_with}
 use Rattle.clr_item_faults.specs.FirstFaults.{fault_or, first_fault_from}
 use Rattle.clr_item_faults.specs.Readings.{layers_with}
 use Rattle.clr_item_faults.proofs.Lost.{fails_exactly}
@@ -35,7 +36,7 @@ goes_on f s t vs i v whole lt is was so_far = rw (add-one i) (sym (next f s vs i
 
 -- the loop ends at an item whose fault isn't want of memory
 pub ends : {S E : Type 0} (f : S → Data → Result S TextFault) (e : TextFault) (s : S) (vs : List Json) (i : ℕ) (v : Json) (whole : Option (ℕ × TextFault))
-    (given : Result (Option (ℕ × TextFault)) E) → i < length vs → v ≡ get_or vs i v → Fails e (f s (view v))
+    (given : Result (Option (ℕ × TextFault)) E) → i < length vs → v ≡ get_or vs i v → Fails text_lacks_memory e (f s (view v))
     → first_fault_from f s i (items_view (drop i vs)) ≡ whole → IfOk given (λ x. (x ≡ Some (i, e)) × (e ≢ fault.OutOfMemory)) → IfOk given (λ x. x ≡ whole)
 ends f e s vs i v whole given lt is failed so_far told =
     IfOk-weaker given _ _ (λ x h. h.0 ∙ (sym (next f s vs i v lt is ∙ rw (fails_exactly e (f s (view v)) h.1 failed) refl) ∙ so_far)) told
@@ -54,6 +55,6 @@ unfolding layers_with
 layered format tables parts d one was = rw (was, map-append stored_layer parts (one ∷ [])) refl
 
 pub layered_fails : (format : Format) (tables : List TableDef) (earlier : List Layer) (d : Data) (e : TextFault)
-    → Fails e (layer_of format tables earlier d) → Fails e (layers_with format tables earlier d)
+    → Fails text_lacks_memory e (layer_of format tables earlier d) → Fails text_lacks_memory e (layers_with format tables earlier d)
 unfolding layers_with
-layered_fails format tables earlier d e failed = fails_with e (layer_of format tables earlier d) (λ l. Ok (earlier ++ l ∷ [])) _ failed refl
+layered_fails format tables earlier d e failed = fails_with text_lacks_memory e (layer_of format tables earlier d) (λ l. Ok (earlier ++ l ∷ [])) _ failed refl

@@ -2,7 +2,7 @@
 use Rattle.std.specs.Prelude.{◌≡◌, ℕ, suc, zero, ◌<◌, Option, Some, None, Result, Ok, Err}
 use Rattle.serde_json.specs.Data.{Data, Items, no_items, item}
 use Rattle.clr_rule_text.specs.declared.faults.TextFault.{TextFault}
-use Rattle.clr_rule_text.specs.Fields.{◌>>=◌}
+use Rattle.clr_readings.specs.Readings.{◌>>=◌}
 
 -- an item on its own is read by f
 abbrev pub alone : (Data → Result Unit TextFault) → Unit {0} → Data → Result Unit TextFault

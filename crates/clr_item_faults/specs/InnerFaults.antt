@@ -10,7 +10,8 @@ use Rattle.clr_rules.specs.Books.{book_fault}
 use Rattle.clr_rule_text.specs.declared.faults.TextFault.{TextFault}
 use Rattle.clr_office_text.specs.declared.formats.Format.{Format}
 use Rattle.clr_office_text.specs.Cells.{cell_of}
-use Rattle.clr_rule_text.specs.Fields.{◌>>=◌, each_in}
+use Rattle.clr_readings.specs.Readings.{◌>>=◌}
+use Rattle.clr_rule_text.specs.Fields.{each_in}
 use Rattle.clr_office_text.specs.Patches.{named_cell_of, put_fault}
 use Rattle.clr_rule_text.specs.Rules.{named_rules_of, rule_over}
 use Rattle.clr_office_text.specs.Tables.{tables_of}

@@ -7,8 +7,8 @@ use Rattle.clr_differences.specs.Differences.{Differences}
 use Rattle.clr_layers.specs.Layers.{Layer}
 use Rattle.clr_rule_text.specs.declared.faults.TextFault.{TextFault}
 use Rattle.clr_office_text.specs.declared.formats.Format.{Format}
-use Rattle.clr_office_text.specs.Cells.{named_row_of, with_row}
-use Rattle.clr_rule_text.specs.Fields.{◌>>=◌}
+use Rattle.clr_office_text.specs.Cells.{named_row_of, with_named_row}
+use Rattle.clr_readings.specs.Readings.{◌>>=◌}
 use Rattle.clr_office_text.specs.Patches.{named_cell_of, with_cell}
 use Rattle.clr_rule_text.specs.Rules.{named_rule_of, rule_over}
 use Rattle.clr_office_text.specs.Workspaces.{layer_of, mark_over, named_mark_of}
@@ -28,7 +28,7 @@ mark_reading tables d = readable (named_mark_of tables d >>= mark_over tables)
 
 -- a content with one more row, as it is written
 unfoldable pub put_row_of : List TableDef → Content → Data → Result Content TextFault
-put_row_of tables content d = named_row_of tables d >>= with_row tables content
+put_row_of tables content d = named_row_of tables d >>= with_named_row tables content
 
 -- differences with one more cell, as it is written
 unfoldable pub put_cell_of : List TableDef → Differences → Data → Result Differences TextFault

@@ -4,7 +4,8 @@ ghost use Rattle.std.specs.Prelude.{◌≡◌, IfOk, OnErr};
 ghost use Rattle.serde_json.specs.View.{items_view, view};
 ghost use Rattle.clr_rows.specs.Contents.{no_rows};
 ghost use Rattle.clr_differences.specs.Differences.{no_differences};
-ghost use Rattle.clr_rule_text.specs.Fields.{Gives};
+ghost use Rattle.clr_readings.specs.Readings.{Gives};
+ghost use Rattle.clr_rule_text.specs.Fields.{text_lacks_memory};
 ghost use Rattle.clr_item_faults.specs.FirstFaults.{first_fault_from};
 ghost use Rattle.clr_item_faults.specs.ListFaults.{cell_fault_in, row_fault_in};
 ghost use Rattle.clr_item_faults.specs.Readings.{put_cell_of, put_row_of};
@@ -29,7 +30,7 @@ fn put_row_item(
     sheet: &mut Sheet,
     json: &Json,
 ) -> Result<(), TextFault>
-    ensures value { Gives (λ _. sheet.new) result (put_row_of schema.now sheet.old (view json.now)) }
+    ensures value { Gives text_lacks_memory (λ _. sheet.new) result (put_row_of schema.now sheet.old (view json.now)) }
     ensures err { OnErr result (sheet.new ≡ sheet.old) }
 {
     let named = named_row(alloc, json, schema)?;
@@ -43,7 +44,7 @@ fn put_cell_item(
     differences: &mut Differences,
     json: &Json,
 ) -> Result<(), TextFault>
-    ensures value { Gives (λ _. differences.new) result (put_cell_of schema.now differences.old (view json.now)) }
+    ensures value { Gives text_lacks_memory (λ _. differences.new) result (put_cell_of schema.now differences.old (view json.now)) }
     ensures err { OnErr result (differences.new ≡ differences.old) }
 {
     let named = named_cell(alloc, json, schema)?;

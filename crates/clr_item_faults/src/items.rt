@@ -5,7 +5,8 @@ ghost use Rattle.serde_json.specs.Data.{Data};
 ghost use Rattle.serde_json.specs.View.{view};
 ghost use Rattle.clr_rule_text.specs.declared.faults.TextFault.{TextFault as Fault};
 ghost use Rattle.clr_office_text.specs.Cells.{named_row_of};
-ghost use Rattle.clr_rule_text.specs.Fields.{Gives};
+ghost use Rattle.clr_readings.specs.Readings.{Gives};
+ghost use Rattle.clr_rule_text.specs.Fields.{text_lacks_memory};
 ghost use Rattle.clr_office_text.specs.Patches.{named_cell_of};
 ghost use Rattle.clr_rule_text.specs.Rules.{named_rule_of};
 ghost use Rattle.clr_office_text.specs.Tables.{table_of};
@@ -31,7 +32,7 @@ pub trait Item {
 
     /// Tests whether an item can be read. Fails with its fault, or with `OutOfMemory` for want of memory.
     fn read(&self, alloc: Global, json: &Json) -> Result<(), TextFault>
-        ensures { Gives (λ u. u) result (reads self.now (view json.now)) };
+        ensures { Gives text_lacks_memory (λ u. u) result (reads self.now (view json.now)) };
 }
 
 /// A table.

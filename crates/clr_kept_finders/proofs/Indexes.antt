@@ -13,7 +13,7 @@ use Rattle.clr_rows.proofs.ChangeLemmas.{after_of, row-taken_over}
 use Rattle.clr_rules.specs.Books.{FitTogether, FitsCell, FitsContent}
 use Rattle.clr_rules.specs.declared.rules.Rule.{Rule}
 use Rattle.clr_finders.specs.declared.row_spots.RuleSpots.{RuleSpots}
-use Rattle.clr_grid.specs.RowMaps.{FiledRows}
+use Rattle.clr_row_maps.specs.RowMaps.{FiledRows}
 use Rattle.clr_finders.specs.Sharing.{next_of, row_spots, rows_at}
 use Rattle.clr_kept_finders.specs.Finders.{AreFinders, FitAfter, HasForgotten, HasNoted, HasSettled, IsChangedAt, IsFinderAt, IsFinderOf, spots_after}
 

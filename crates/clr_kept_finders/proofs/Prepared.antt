@@ -8,7 +8,7 @@ use Rattle.std.proofs.lemmas.List.{length-map, length-set, set-get_or}
 use Rattle.clr_rows.specs.Contents.{Content, Changes, changes, taken_over}
 use Rattle.clr_rows.proofs.ChangeLemmas.{taken_over-own}
 use Rattle.clr_rules.specs.declared.rules.Rule.{Rule}
-use Rattle.clr_grid.specs.RowMaps.{FiledRows}
+use Rattle.clr_row_maps.specs.RowMaps.{FiledRows}
 use Rattle.clr_workspaces.specs.Workspaces.{Workspace, workspace_at}
 use Rattle.clr_kept_finders.specs.Finders.{AreFinders, HasForgotten, HasNoted, HasSettled, IsChangedAt, IsFinderAt, IsPrepared, kept_content, kept_contents}
 use Rattle.clr_kept_finders.proofs.Indexes.{all_forgotten, all_settled, as_many, finder_at, one_at}

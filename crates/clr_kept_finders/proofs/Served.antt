@@ -11,7 +11,7 @@ use Rattle.clr_rows.specs.Contents.{no_rows, row_at}
 use Rattle.clr_rows.specs.declared.tables.TableDef.{TableDef}
 use Rattle.clr_rules.specs.Needs.{Holds}
 use Rattle.clr_rules.specs.declared.rules.Rule.{Rule}
-use Rattle.clr_grid.specs.RowMaps.{FiledRows}
+use Rattle.clr_row_maps.specs.RowMaps.{FiledRows}
 use Rattle.clr_workspaces.specs.Marks.{Name, find_mark}
 use Rattle.clr_workspaces.specs.Workspaces.{Workspace, find, workspace_at}
 use Rattle.clr_workspaces.specs.Operations.{after_create, after_mark, after_remove, after_unmark, at_position, save, set_kept, with_kept, with_marks}
@@ -22,7 +22,7 @@ use Rattle.clr_steps.specs.Positions.{at_savepoint}
 use Rattle.clr_steps.specs.declared.commands.Reply.{Reply}
 use Rattle.clr_steps.proofs.SeenLemmas.{name_is, name_law, within}
 use Rattle.clr_kept_finders.specs.Fitting.{IsAdmitted}
-use Rattle.clr_kept_finders.specs.Finders.{AreFinders, IsFinderAt, IsFinderOf, IsPositionOf, StayFinders, kept_at, kept_content, kept_contents}
+use Rattle.clr_kept_finders.specs.Finders.{AreFinders, IsFinderAt, IsFinderOf, IsPositionOf, StayFinders, kept_content_at, kept_content, kept_contents}
 use Rattle.clr_kept_finders.specs.Fitting.{HoldInKept, IsServed}
 use Rattle.clr_kept_finders.proofs.Indexes.{one_at, one_less, one_more, one_set}
 use Rattle.clr_kept_finders.proofs.Kept.{after_creating, after_removing, content_at, same_content}
@@ -88,17 +88,17 @@ module _ (schema : List TableDef) (book : List Rule) (ws : List Workspace) (soun
   later (v ∷ vs) zero = refl
   later (v ∷ vs) (suc k) = later vs k
 
-  kept_is : (at : ℕ) → one_at (kept_contents ws) at ≡ kept_at (office_of schema book ws) at
+  kept_is : (at : ℕ) → one_at (kept_contents ws) at ≡ kept_content_at (office_of schema book ws) at
   kept_is at = by ws sound at
     where
-      by : (vs : List Workspace) → IsSound vs → (at : ℕ) → one_at (kept_contents vs) at ≡ kept_at (office_of schema book vs) at
+      by : (vs : List Workspace) → IsSound vs → (at : ℕ) → one_at (kept_contents vs) at ≡ kept_content_at (office_of schema book vs) at
       by [] h at = absurd (omega (arith, h.rooted.filled))
       by (l ∷ vs) h zero = ap (λ b. cond b (Some l.current) None) h.held
       by (l ∷ vs) h (suc k) = later vs k
 
   pub finder_in : (o : Office) → office_of schema book ws ≡ o → (at : ℕ) (finder : Option FiledRows) → IsFinderAt book (one_at (kept_contents ws) at) finder
-      → IsFinderAt o.book (kept_at o at) finder
-  finder_in o is at finder h = subst (λ (o : Office). IsFinderAt o.book (kept_at o at) finder) is (subst (λ c. IsFinderAt book c finder) (kept_is at) h)
+      → IsFinderAt o.book (kept_content_at o at) finder
+  finder_in o is at finder h = subst (λ (o : Office). IsFinderAt o.book (kept_content_at o at) finder) is (subst (λ c. IsFinderAt book c finder) (kept_is at) h)
 
 -- ---- what leaves the contents, and what sets a flag
 pub stays : (r : Option Reply) (ws next left : List Workspace) (reply : Reply) → IsPerformed r ws next reply left → kept_contents next ≡ kept_contents ws

@@ -10,7 +10,7 @@ use Rattle.clr_rules.specs.declared.rules.Rule.{Rule}
 use Rattle.clr_workspaces.specs.Marks.{Name}
 use Rattle.clr_workspaces.specs.Workspaces.{Workspace, workspace_at}
 use Rattle.clr_finders.specs.declared.row_spots.RuleSpots.{RuleSpots}
-use Rattle.clr_grid.specs.RowMaps.{FiledRows}
+use Rattle.clr_row_maps.specs.RowMaps.{FiledRows}
 use Rattle.clr_steps.specs.Offices.{Office, content_of, is_kept}
 use Rattle.clr_steps.specs.Readings.{name_at}
 use Rattle.clr_finders.specs.Sharing.{IsSettledFor, Pending, next_at, row_spots, rows_at}
@@ -96,12 +96,12 @@ current_at o zero = Some o.live
 current_at o (suc at) = option_map (λ w. w.current) (slice_get o.workspaces at)
 
 -- the same, where every rule is to hold in it
-abbrev pub kept_at : Office → ℕ → Option Content
-kept_at o zero = Some o.live
-kept_at o (suc at) = option_and_then kept_content (slice_get o.workspaces at)
+abbrev pub kept_content_at : Office → ℕ → Option Content
+kept_content_at o zero = Some o.live
+kept_content_at o (suc at) = option_and_then kept_content (slice_get o.workspaces at)
 
 -- LIVE or the workspace of a name has this position
 pub record IsPositionOf (o : Office) (name : Name) (at : ℕ) : Type 0 where
   pub named : name_at o at ≡ Some name
   pub current : current_at o at ≡ Some (content_of o name)
-  pub kept : kept_at o at ≡ (if is_kept o name then Some (content_of o name) else None)
+  pub kept : kept_content_at o at ≡ (if is_kept o name then Some (content_of o name) else None)

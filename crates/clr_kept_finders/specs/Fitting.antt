@@ -11,7 +11,7 @@ use Rattle.std.specs.Prelude.{◌≡◌, ℕ, true, List, Option}
 use Rattle.clr_rows.specs.Contents.{Content, row_at}
 use Rattle.clr_rows.specs.Schemas.{FitsSchema}
 use Rattle.clr_rules.specs.Needs.{Holds}
-use Rattle.clr_grid.specs.RowMaps.{FiledRows}
+use Rattle.clr_row_maps.specs.RowMaps.{FiledRows}
 use Rattle.clr_workspaces.specs.Soundness.{IsSound}
 use Rattle.clr_workspaces.specs.Workspaces.{Workspace, workspace_at}
 use Rattle.clr_kept_finders.specs.Finders.{AreFinders, kept_contents}

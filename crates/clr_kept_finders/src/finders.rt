@@ -25,7 +25,7 @@ pub struct Finders {
 impl Model for Finders {
     ghost use Rattle.std.specs.Prelude.{List, Option};
     ghost use Rattle.std.specs.Coded.{coded_list, coded_option};
-    ghost use Rattle.clr_grid.specs.RowMaps.{FiledRows, coded_rows};
+    ghost use Rattle.clr_row_maps.specs.RowMaps.{FiledRows, coded_rows};
 
     ghost Value = { List (Option FiledRows) };
 

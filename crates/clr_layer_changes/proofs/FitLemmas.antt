@@ -17,8 +17,21 @@ use Rattle.clr_rows.specs.Sheets.{with_none, with_rows}
 use Rattle.clr_rows.proofs.CellOrder.{cell_cmp_exact, cell_cmp_total}
 use Rattle.clr_rows.proofs.FitLemmas.{none_fit, put_keeps, take_keeps}
 use Rattle.clr_rows.proofs.Fronts.{get_at}
-use Rattle.clr_records.specs.Records.{◌>>=◌, at_record, field_of, in_turn, or_fault, records_in}
-use Rattle.clr_layer_text.specs.Layers.{Fields, cell_of, fields_of_table, if_fits, key_of, layer_in, layer_of, row_of, shape_in, values_of, whole_row_of}
+use Rattle.clr_readings.specs.Readings.{◌>>=◌, or_fault}
+use Rattle.clr_records.specs.Records.{at_record, field_of, in_turn, records_in}
+use Rattle.clr_layer_text.specs.Layers.{
+  Fields,
+  cell_of,
+  fields_of_table,
+  if_fits,
+  key_of,
+  layer_in_text,
+  layer_rows_of,
+  row_of,
+  shape_in,
+  values_of,
+  whole_row_of,
+}
 use Rattle.clr_layer_text.specs.declared.faults.LayerFault.{LayerFault}
 use Rattle.clr_layer_text.specs.declared.faults.LayerFault.TheVariants.{FieldCount}
 use Rattle.clr_layer_text.specs.declared.rows.LayerRow.{LayerRow}
@@ -29,9 +42,9 @@ use Rattle.clr_layer_changes.specs.declared.options.GivenLayer.{GivenLayer}
 use Rattle.clr_layer_changes.specs.declared.options.LayerOptions.{LayerOptions}
 use Rattle.clr_layer_changes.specs.Keys as keys
 use Rattle.clr_layer_changes.specs.Keys.{is_free, keys_from, least_free}
-use Rattle.clr_layer_changes.specs.LayerRows.{all_rows, layer_rows, numbered, of_text, own_rows, put_new, rows_at_keys, with_given, with_own}
+use Rattle.clr_layer_changes.specs.LayerRows.{all_rows, layer_rows, at_number, of_text, own_rows, put_new, rows_at_keys, with_given, with_own}
 use Rattle.clr_layer_changes.specs.Turns.{after_each}
-use Rattle.clr_layer_changes.specs.Wanted.{at_layer, cells_in, replaced, table_of, wanted, with_layer, with_layer_at}
+use Rattle.clr_layer_changes.specs.Wanted.{at_layer, table_cells_in, replaced, table_of, wanted, with_layer, with_layer_at}
 
 -- one reading after another ------------------------------------------------------------------
 
@@ -130,13 +143,13 @@ module _ (tables : List TableDef) where
       by true h = whole h
       by false h = cc
 
-  text_fits : (table : ℕ) (rounded : Bool) (text : List ℕ) (rows : List LayerRow) → layer_in tables table rounded text ≡ Ok rows
+  text_fits : (table : ℕ) (rounded : Bool) (text : List ℕ) (rows : List LayerRow) → layer_in_text tables table rounded text ≡ Ok rows
       → AllByRecursion (FitsAt tables table) rows
   text_fits table rounded text rows e =
       let records = both_read (or_fault _ (records_in text)) _ rows e in
       by records.0 records.2
     where
-      by : (records : List (List (List ℕ))) → layer_of tables table rounded records ≡ Ok rows → AllByRecursion (FitsAt tables table) rows
+      by : (records : List (List (List ℕ))) → layer_rows_of tables table rounded records ≡ Ok rows → AllByRecursion (FitsAt tables table) rows
       by [] h = cc
       by (names ∷ records) h =
           let at = both_read (at_record 1 (fields_of_table names (slice_get tables table))) _ rows h in
@@ -169,14 +182,14 @@ module _ (tables : List TableDef) where
       subst (FitsSchema tables) (ok_is (finite.insert rows (keys.cell_of table key.0) row) next key.2)
       (put_one rows (keys.cell_of table key.0) row fits (fits_at_key tables table key.0 row good one))
 
-  unnumbered : {A : Type 0} (fault : LayersFault) (r : Result A ℕ) (x : A) → numbered fault r ≡ Ok x → r ≡ Ok x
+  unnumbered : {A : Type 0} (fault : LayersFault) (r : Result A ℕ) (x : A) → at_number fault r ≡ Ok x → r ≡ Ok x
   unnumbered fault (Ok a) x e = ap Ok (ok_is a x e)
   unnumbered fault (Err number) x e = cc
 
   keyed_fit : (live : Content) (options : LayerOptions) (table : ℕ) (rows : List LayerRow) (all : Content) → AllByRecursion (FitsAt tables table) rows
       → rows_at_keys live options table rows ≡ Ok all → FitsSchema tables all
   keyed_fit live options table rows all fit e =
-      let own = both_read (numbered _ (own_rows table rows)) _ all e in
+      let own = both_read (at_number _ (own_rows table rows)) _ all e in
       let own_fit = each_keeps (FitsSchema tables) (FitsAt tables table) (with_own table)
       (λ n s r next holds one is. own_fits table n s r.key r.row next holds one is) FIRST_RECORD no_rows rows own.0
       (none_fit tables) fit (unnumbered _ (own_rows table rows) own.0 own.1) in
@@ -192,8 +205,8 @@ module _ (tables : List TableDef) where
       → FitsSchema tables all
   unfolding layer_rows
   layer_fits live options table text all e =
-      let rows = both_read (of_text (layer_in tables table options.rounded text)) _ all e in
-      keyed_fit live options table rows.0 all (text_fits table options.rounded text rows.0 (of_text_is (layer_in tables table options.rounded text) rows.0
+      let rows = both_read (of_text (layer_in_text tables table options.rounded text)) _ all e in
+      keyed_fit live options table rows.0 all (text_fits table options.rounded text rows.0 (of_text_is (layer_in_text tables table options.rounded text) rows.0
       rows.1)) rows.2
 
   -- one content in place of another ------------------------------------------------------------
@@ -230,7 +243,7 @@ module _ (tables : List TableDef) where
       → FitsSchema tables (replaced content table rows)
   unfolding replaced
   replaced_fits content table rows fits rows_fit =
-      over_fits content _ (none_stand (cells_in content table) _
+      over_fits content _ (none_stand (table_cells_in content table) _
       (rows_stand (finite.entries rows) (λ i e is. rows_fit e.0 e.1 (get_at cell_cmp_total cell_cmp_exact rows i e is)))) fits
 
   with_layer_fits : (live : Content) (options : LayerOptions) (earlier : List GivenLayer) (content : Content) (layer : GivenLayer) (next : Content)

@@ -12,7 +12,7 @@ use Rattle.clr_rows.specs.Cells.{cell_cmp}
 use Rattle.clr_rows.specs.Contents.{Content, row_at}
 use Rattle.clr_rows.proofs.CellOrder.{cell_cmp_total}
 use Rattle.clr_rows.proofs.ChangeLemmas.{tied_self}
-use Rattle.clr_records.specs.Records.{◌>>=◌, or_fault}
+use Rattle.clr_readings.specs.Readings.{◌>>=◌, or_fault}
 use Rattle.clr_layer_text.specs.declared.rows.LayerRow.{LayerRow}
 use Rattle.clr_layer_changes.specs.Keys.{ArePassed, cell_of, is_free, keys_from, least_free}
 use Rattle.clr_layer_changes.specs.LayerRows.{with_given}

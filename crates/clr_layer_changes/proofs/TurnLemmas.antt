@@ -1,7 +1,7 @@
 -- Something that changes with each item of a list, as loops make it.
 use Rattle.std.proofs.Common.{◌≡◌, ℕ, ◌+◌, ◌<◌, ◌≤◌, List, [], ◌∷◌, drop, length, get_or, Result, Ok, Err, refl, sym, ap, ◌∙◌, arith}
 use Rattle.std.proofs.lemmas.List.{at_drop_more, at_drop_all}
-use Rattle.clr_records.specs.Records.{◌>>=◌}
+use Rattle.clr_readings.specs.Readings.{◌>>=◌}
 use Rattle.clr_layer_changes.specs.Turns.{after_each}
 
 module _ {X S E : Type 0} (f : ℕ → S → X → Result S E) where

@@ -7,8 +7,8 @@ use Rattle.clr_rows.specs.declared.cells.CellId.{CellId}
 use Rattle.clr_rows.specs.declared.rows.Row.{Row}
 use Rattle.clr_rows.specs.declared.tables.TableDef.{TableDef}
 use Rattle.clr_rows.specs.Contents.{Content, no_rows, row_at}
-use Rattle.clr_records.specs.Records.{◌>>=◌, or_fault}
-use Rattle.clr_layer_text.specs.Layers.{layer_in}
+use Rattle.clr_readings.specs.Readings.{◌>>=◌, or_fault}
+use Rattle.clr_layer_text.specs.Layers.{layer_in_text}
 use Rattle.clr_layer_text.specs.declared.faults.LayerFault.{LayerFault}
 use Rattle.clr_layer_text.specs.declared.rows.LayerRow.{LayerRow}
 use Rattle.clr_layer_changes.specs.declared.faults.LayersFault.{LayersFault}
@@ -44,9 +44,9 @@ abbrev pub all_rows : Content → ℕ → ℕ → Content → List LayerRow → 
 all_rows live table first own rows = after_each (with_given live table first) FIRST_RECORD own rows
 
 -- a fault with the number of its record
-abbrev pub numbered : {A : Type 0} → LayersFault → Result A ℕ → Result A (ℕ × LayersFault)
-numbered fault (Ok x) = Ok x
-numbered fault (Err number) = Err (number, fault)
+abbrev pub at_number : {A : Type 0} → LayersFault → Result A ℕ → Result A (ℕ × LayersFault)
+at_number fault (Ok x) = Ok x
+at_number fault (Err number) = Err (number, fault)
 
 -- what is read of a text, with a fault of the text as one of these
 abbrev pub of_text : {A : Type 0} → Result A (ℕ × LayerFault) → Result A (ℕ × LayersFault)
@@ -60,8 +60,8 @@ seen_rows (Err e) = Err e
 
 -- all rows at their cells; or the number of the first whose key a row before it has, or else of the first for which no key is left
 abbrev pub rows_at_keys : Content → LayerOptions → ℕ → List LayerRow → Result Content (ℕ × LayersFault)
-rows_at_keys live options table rows = numbered KeyTwice (own_rows table rows) >>= λ own. numbered NoKey (all_rows live table options.first_key own rows)
+rows_at_keys live options table rows = at_number KeyTwice (own_rows table rows) >>= λ own. at_number NoKey (all_rows live table options.first_key own rows)
 
 -- the rows of the text of a layer of a table, or its first fault beside the number of the record
 unfoldable pub layer_rows : List TableDef → Content → LayerOptions → ℕ → List ℕ → Result Content (ℕ × LayersFault)
-layer_rows schema live options table text = of_text (layer_in schema table options.rounded text) >>= λ rows. rows_at_keys live options table rows
+layer_rows schema live options table text = of_text (layer_in_text schema table options.rounded text) >>= λ rows. rows_at_keys live options table rows

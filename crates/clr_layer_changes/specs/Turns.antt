@@ -1,6 +1,6 @@
 -- Something that changes with each item of a list.
 use Rattle.std.specs.Prelude.{ℕ, ◌+◌, List, [], ◌∷◌, Result, Ok}
-use Rattle.clr_records.specs.Records.{◌>>=◌}
+use Rattle.clr_readings.specs.Readings.{◌>>=◌}
 
 -- what is left of something after each item with its number, from n on, up to the first fault
 unfoldable pub after_each : {X S E : Type 0} → (ℕ → S → X → Result S E) → ℕ → S → List X → Result S E

@@ -9,7 +9,7 @@ use Rattle.clr_rows.specs.declared.tables.TableDef.{TableDef}
 use Rattle.clr_rows.specs.Contents.{Content, over}
 use Rattle.clr_rows.specs.Schemas.{table_named}
 use Rattle.clr_rows.specs.Sheets.{with_none, with_rows}
-use Rattle.clr_records.specs.Records.{◌>>=◌, or_fault}
+use Rattle.clr_readings.specs.Readings.{◌>>=◌, or_fault}
 use Rattle.clr_layer_changes.specs.declared.faults.FaultyLayer.{FaultyLayer}
 use Rattle.clr_layer_changes.specs.declared.faults.LayersFault.{LayersFault}
 use Rattle.clr_layer_changes.specs.declared.faults.LayersFault.TheVariants.{NoTable, TableTwice}
@@ -22,21 +22,21 @@ abbrev pub is_in : ℕ → CellId × Row → Bool
 is_in table e = e.0.table == table
 
 -- the cells of a table's rows
-abbrev pub cells_in : Content → ℕ → List CellId
-cells_in content table = map (λ e. e.0) (filter (is_in table) (finite.entries content))
+abbrev pub table_cells_in : Content → ℕ → List CellId
+table_cells_in content table = map (λ e. e.0) (filter (is_in table) (finite.entries content))
 
 -- a content in which a table's rows go, and others stand
 unfoldable pub replaced : Content → ℕ → Content → Content
-replaced content table rows = over content (with_none (cells_in content table) ++ with_rows (finite.entries rows))
+replaced content table rows = over content (with_none (table_cells_in content table) ++ with_rows (finite.entries rows))
 
 -- whether a layer is of the table of this name
-abbrev pub is_of : List ℕ → GivenLayer → Bool
-is_of name layer = bytes_eq layer.table name
+abbrev pub is_of_table : List ℕ → GivenLayer → Bool
+is_of_table name layer = bytes_eq layer.table name
 
 -- the number of a layer's table, which no layer before it names; a fault of the whole layer stands beside 0
 abbrev pub table_of : List TableDef → List GivenLayer → GivenLayer → Result ℕ (ℕ × LayersFault)
 table_of schema earlier layer =
-    if list_any (is_of layer.table) earlier then Err (0, TableTwice) else or_fault (0, NoTable) (table_named schema layer.table)
+    if list_any (is_of_table layer.table) earlier then Err (0, TableTwice) else or_fault (0, NoTable) (table_named schema layer.table)
 
 -- a content with the rows of one more layer in place of its table's
 unfoldable pub with_layer : List TableDef → Content → LayerOptions → List GivenLayer → Content → GivenLayer → Result Content (ℕ × LayersFault)

@@ -1,7 +1,7 @@
 //! The rows that a layer gives a table.
 
 ghost use Rattle.std.specs.Prelude.{◌≡◌, ℕ, Ok, Err, IfOk, if◌then◌else◌};
-ghost use Rattle.clr_layer_text.specs.Layers.{layer_in};
+ghost use Rattle.clr_layer_text.specs.Layers.{layer_in_text};
 ghost use Rattle.clr_layer_changes.specs.Keys.{ArePassed, is_free};
 ghost use Rattle.clr_layer_changes.specs.LayerRows.{all_rows, layer_rows, of_text, own_rows, rows_at_keys, seen_rows, with_given, with_own};
 
@@ -98,7 +98,7 @@ fn text_rows(
     rounded: bool,
     text: &[u8],
 ) -> Result<Result<Vec<LayerRow>, (usize, LayersFault)>, AllocError>
-    ensures { IfOk result (λ found. seen_rows found ≡ of_text (layer_in schema.now table rounded text.now)) }
+    ensures { IfOk result (λ found. seen_rows found ≡ of_text (layer_in_text schema.now table rounded text.now)) }
 {
     match read_layer(alloc, schema, table, rounded, text) {
         Ok(rows) => Ok(Ok(rows)),

@@ -5,7 +5,7 @@ ghost use Rattle.std.specs.FinMap as finite;
 ghost use Rattle.std.specs.List.{list_any};
 ghost use Rattle.clr_rows.specs.Schemas.{FitsSchema};
 ghost use Rattle.clr_rows.specs.Sheets.{with_none, with_rows};
-ghost use Rattle.clr_layer_changes.specs.Wanted.{Replaces, cells_in, is_of, replaced, table_of, wanted, with_layer};
+ghost use Rattle.clr_layer_changes.specs.Wanted.{Replaces, table_cells_in, is_of_table, replaced, table_of, wanted, with_layer};
 
 use crate::faults::{FaultyLayer, LayersFault};
 use crate::layer_rows::layer_rows;
@@ -19,7 +19,7 @@ fn without_rows(
     content: &Sheet,
     table: u16,
 ) -> Result<Vec<(CellId, Option<Row>)>, AllocError>
-    ensures { IfOk result (λ cells. cells.items ≡ with_none (cells_in content.now table)) }
+    ensures { IfOk result (λ cells. cells.items ≡ with_none (table_cells_in content.now table)) }
 {
     let mut cells = Vec::new(alloc);
     for (cell, _) in content.iter() {
@@ -52,7 +52,7 @@ fn replace(alloc: Global, content: &mut Sheet, table: u16, rows: &Sheet) -> Resu
 
 /// Returns whether one of some layers is of the table of this name.
 fn is_given(layers: &[GivenLayer], name: &str) -> bool
-    ensures { result ≡ list_any (is_of name.now) layers.now }
+    ensures { result ≡ list_any (is_of_table name.now) layers.now }
 {
     layers.iter().any(|layer| layer.table.as_str() == name)
 }

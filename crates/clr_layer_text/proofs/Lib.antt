@@ -1,5 +1,4 @@
 pub mod CutAgain
-pub mod FaultTurns
 pub mod FieldTurns
 pub mod HeaderAgain
 pub mod HeaderNames

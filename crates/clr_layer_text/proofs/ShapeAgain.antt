@@ -15,7 +15,7 @@ use Rattle.clr_rows.specs.declared.tables.Form.TheVariants as form
 use Rattle.clr_rows.specs.Schemas.{has_coordinates, is_bad_path, is_coordinate, is_of_form, is_place}
 use Rattle.clr_records.specs.Records.{in_turn}
 use Rattle.clr_metres.specs.Metres.{metres_text, three_digits}
-use Rattle.clr_layer_text.specs.Pieces.{is_empty, is_mark, pieces_of, words_of}
+use Rattle.clr_layer_text.specs.Pieces.{is_empty, is_mark, pieces_of, spaced_words_of}
 use Rattle.clr_layer_text.specs.Wkt.{closed_of, line_as, line_text, next_text, place_of, place_text, places_of, places_text, point_text, shape_of, shape_text}
 use Rattle.clr_records.proofs.Turns.{joined}
 use Rattle.clr_layer_text.proofs.CutAgain.{IsNumberByte, Lacks, cut_again, each_so, first_piece, lacks_mark, one_piece}
@@ -40,7 +40,7 @@ has_byte : (z : ℤ) → is_empty (metres_text z) ≡ false
 has_byte (pos n) = ne_eqb _ 0 (λ e. omega (arith, length-append (decimal (n / 1000)) (46 ∷ three_digits (n % 1000))))
 has_byte (negsuc n) = ne_eqb _ 0 (λ e. omega arith)
 
-two_words : (p : Place) → is_place p ≡ true → words_of (place_text p) ≡ metres_text p.x ∷ metres_text p.y ∷ []
+two_words : (p : Place) → is_place p ≡ true → spaced_words_of (place_text p) ≡ metres_text p.x ∷ metres_text p.y ∷ []
 two_words p e =
     let is = coordinate_low p e in
     rw (
@@ -59,7 +59,7 @@ place_again rounded p e =
 next_again : (rounded : Bool) (p : Place) → is_place p ≡ true → place_of rounded (32 ∷ place_text p) ≡ Ok p
 next_again rounded p e =
     let is = coordinate_low p e in
-    let words : words_of (32 ∷ place_text p) ≡ words_of (place_text p) = refl in
+    let words : spaced_words_of (32 ∷ place_text p) ≡ spaced_words_of (place_text p) = refl in
     rw (words, two_words p e, metres_again rounded p.x is.0, metres_again rounded p.y is.1) refl
 
 -- lists of places --------------------------------------------------------------------------------

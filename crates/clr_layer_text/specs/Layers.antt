@@ -19,7 +19,8 @@ use Rattle.clr_rows.specs.declared.tables.Kind.TheVariants as kind
 use Rattle.clr_rows.specs.declared.tables.TableDef.{TableDef}
 use Rattle.clr_rows.specs.Schemas.{names_of, row_fault}
 use Rattle.clr_records.specs.Decimals.{number_of}
-use Rattle.clr_records.specs.Records.{◌>>=◌, at_record, field_of, in_turn, or_fault, records_in}
+use Rattle.clr_readings.specs.Readings.{◌>>=◌, or_fault}
+use Rattle.clr_records.specs.Records.{at_record, field_of, in_turn, records_in}
 use Rattle.clr_records.specs.Writing.{records_text}
 use Rattle.clr_layer_text.specs.declared.faults.LayerFault.{LayerFault}
 use Rattle.clr_layer_text.specs.declared.faults.LayerFault.TheVariants.{NotCsv, NoColumn, ColumnTwice, FieldCount, BadNumber, Unfit}
@@ -161,11 +162,12 @@ abbrev pub rows_from : List TableDef → ℕ → Bool → Fields → ℕ → Lis
 rows_from tables table rounded at n records = in_turn (λ m fields. at_record m (row_of tables table rounded at fields)) n records
 
 -- the rows of records, the first of which is the header
-abbrev pub layer_of : List TableDef → ℕ → Bool → List (List (List ℕ)) → Result (List LayerRow) (ℕ × LayerFault)
-layer_of tables table rounded [] = Err (1, NoColumn)
-layer_of tables table rounded (names ∷ records) = at_record 1 (fields_of_table names (slice_get tables table)) >>= λ at. rows_from tables table rounded at 2
+abbrev pub layer_rows_of : List TableDef → ℕ → Bool → List (List (List ℕ)) → Result (List LayerRow) (ℕ × LayerFault)
+layer_rows_of tables table rounded [] = Err (1, NoColumn)
+layer_rows_of tables table rounded (names ∷ records) = at_record 1 (fields_of_table names
+    (slice_get tables table)) >>= λ at. rows_from tables table rounded at 2
     records
 
 -- the rows of a text
-abbrev pub layer_in : List TableDef → ℕ → Bool → List ℕ → Result (List LayerRow) (ℕ × LayerFault)
-layer_in tables table rounded bytes = or_fault (1, NotCsv) (records_in bytes) >>= λ records. layer_of tables table rounded records
+abbrev pub layer_in_text : List TableDef → ℕ → Bool → List ℕ → Result (List LayerRow) (ℕ × LayerFault)
+layer_in_text tables table rounded bytes = or_fault (1, NotCsv) (records_in bytes) >>= λ records. layer_rows_of tables table rounded records

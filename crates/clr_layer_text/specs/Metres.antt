@@ -5,7 +5,7 @@ use Rattle.std.specs.List.{list_all, list_any}
 use Rattle.clr_rows.specs.Names.{is_between}
 use Rattle.clr_rows.specs.declared.faults.RowFault.TheVariants.{OutOfRange}
 use Rattle.clr_records.specs.Decimals.{number_of}
-use Rattle.clr_records.specs.Records.{◌>>=◌}
+use Rattle.clr_readings.specs.Readings.{◌>>=◌}
 use Rattle.clr_metres.specs.Metres.{minus, point, zero_digit}
 use Rattle.clr_layer_text.specs.declared.faults.LayerFault.{LayerFault}
 use Rattle.clr_layer_text.specs.declared.faults.LayerFault.TheVariants.{NotDecimal, Finer, Unfit}
@@ -32,10 +32,10 @@ abbrev pub is_half : List ℕ → Bool
 is_half digits = nat_le 5 (digit_at digits 3)
 
 -- the whole metres, which have one form
-abbrev pub whole_of : Option ℤ → Result ℕ LayerFault
-whole_of (Some (pos n)) = if nat_le n MOST_METRES then Ok n else Err (Unfit OutOfRange)
-whole_of (Some (negsuc n)) = Err NotDecimal
-whole_of None = Err NotDecimal
+abbrev pub whole_metres_of : Option ℤ → Result ℕ LayerFault
+whole_metres_of (Some (pos n)) = if nat_le n MOST_METRES then Ok n else Err (Unfit OutOfRange)
+whole_metres_of (Some (negsuc n)) = Err NotDecimal
+whole_metres_of None = Err NotDecimal
 
 -- the digits behind the point as millimetres, a half rounded up
 abbrev pub nearest : List ℕ → ℕ
@@ -56,7 +56,7 @@ around_point (Some parts) text = parts
 -- the millimetres of a number of metres without a sign
 unfoldable pub unsigned_of : Bool → List ℕ → Result ℕ LayerFault
 unsigned_of rounded text = do
-  whole ← whole_of (number_of (around_point (cut_of point text) text).0)
+  whole ← whole_metres_of (number_of (around_point (cut_of point text) text).0)
   behind ← behind_point rounded (around_point (cut_of point text) text).1
   Ok (whole * 1000 + behind)
 

@@ -30,5 +30,5 @@ abbrev pub is_blank : List ℕ → Bool
 is_blank text = list_all (is_mark space) text
 
 -- the words of a text: what stands between its spaces
-abbrev pub words_of : List ℕ → List (List ℕ)
-words_of text = filter (λ word. not (is_empty word)) (pieces_of space text)
+abbrev pub spaced_words_of : List ℕ → List (List ℕ)
+spaced_words_of text = filter (λ word. not (is_empty word)) (pieces_of space text)

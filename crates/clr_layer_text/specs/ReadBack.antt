@@ -6,7 +6,7 @@ use Rattle.clr_rows.specs.declared.rows.Value.TheVariants.{Int, Words}
 use Rattle.clr_rows.specs.declared.tables.TableDef.{TableDef}
 use Rattle.clr_rows.specs.Schemas.{row_fault, schema_fault}
 use Rattle.clr_layer_text.specs.declared.rows.LayerRow.{LayerRow}
-use Rattle.clr_layer_text.specs.Layers.{can_be_layer, cell_of, layer_in, layer_text}
+use Rattle.clr_layer_text.specs.Layers.{can_be_layer, cell_of, layer_in_text, layer_text}
 
 -- a number, or a text in UTF-8, as every text of the program is
 abbrev pub IsText : Value → Type 0
@@ -32,4 +32,4 @@ pub record IsLayer (tables : List TableDef) (at : ℕ) (table : TableDef) (rows 
 -- the text of a layer is read as the rows that were written, rounded or not
 abbrev pub ReadBackLaw : Type 0
 ReadBackLaw = (tables : List TableDef) (at : ℕ) (table : TableDef) (rows : List LayerRow) (rounded : Bool)
-    → IsLayer tables at table rows → layer_in tables at rounded (layer_text table rows) ≡ Ok rows
+    → IsLayer tables at table rows → layer_in_text tables at rounded (layer_text table rows) ≡ Ok rows

@@ -6,7 +6,7 @@ use Rattle.clr_rows.specs.declared.cells.CellId.{CellId}
 use Rattle.clr_rows.specs.declared.rows.Row.{Row}
 use Rattle.clr_rows.specs.declared.tables.TableDef.{TableDef}
 use Rattle.clr_layer_text.specs.declared.rows.LayerRow.{LayerRow}
-use Rattle.clr_layer_text.specs.Layers.{can_be_layer, layer_in, layer_text}
+use Rattle.clr_layer_text.specs.Layers.{can_be_layer, layer_in_text, layer_text}
 
 -- those of some rows at cells that stand in a table, each with its key
 abbrev pub rows_among : ℕ → List (CellId × Row) → List LayerRow
@@ -21,7 +21,7 @@ rows_of_table content table = rows_among table (finite.entries content)
 pub record IsLayerText (tables : List TableDef) (at : ℕ) (table : TableDef) (rows : List LayerRow) (text : List ℕ) : Type 0 where
   pub stands : slice_get tables at ≡ Some table
   pub bytes : text ≡ layer_text table rows
-  pub again : (rounded : Bool) → layer_in tables at rounded text ≡ Ok rows
+  pub again : (rounded : Bool) → layer_in_text tables at rounded text ≡ Ok rows
 
 -- a table's rows have a layer, unless a column is called as the field of shapes
 abbrev pub IsTableLayer : List TableDef → ℕ → Content → Option (List ℕ) → Type 0

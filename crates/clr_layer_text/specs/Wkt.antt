@@ -10,14 +10,15 @@ use Rattle.clr_rows.specs.declared.places.Shape.{Shape}
 use Rattle.clr_rows.specs.declared.places.Shape.TheVariants.{Bare, At, Line, Chain}
 use Rattle.clr_rows.specs.declared.tables.Form.{Form}
 use Rattle.clr_rows.specs.declared.tables.Form.TheVariants as form
-use Rattle.clr_records.specs.Records.{◌>>=◌, in_turn, or_fault}
+use Rattle.clr_readings.specs.Readings.{◌>>=◌, or_fault}
+use Rattle.clr_records.specs.Records.{in_turn}
 use Rattle.clr_metres.specs.Metres.{metres_text}
 use Rattle.clr_layer_text.specs.declared.faults.LayerFault.{LayerFault}
 use Rattle.clr_layer_text.specs.declared.faults.LayerFault.TheVariants.{NotWkt, NotFlat, Curve, SeveralParts, Unfit}
 use Rattle.clr_layer_text.specs.declared.geometries.Geometry.{Geometry}
 use Rattle.clr_layer_text.specs.declared.geometries.Geometry.TheVariants as geometry
 use Rattle.clr_layer_text.specs.Metres.{millimetres_of}
-use Rattle.clr_layer_text.specs.Pieces.{comma, cut_of, has_mark, is_blank, pieces_of, space, words_of}
+use Rattle.clr_layer_text.specs.Pieces.{comma, cut_of, has_mark, is_blank, pieces_of, space, spaced_words_of}
 
 abbrev pub opening : ℕ
 opening = 40
@@ -131,7 +132,7 @@ place_by rounded (x ∷ y ∷ []) = millimetres_of rounded x >>= λ a. millimetr
 place_by rounded (x ∷ y ∷ z ∷ more) = Err NotFlat
 
 abbrev pub place_of : Bool → List ℕ → Result Place LayerFault
-place_of rounded text = place_by rounded (words_of text)
+place_of rounded text = place_by rounded (spaced_words_of text)
 
 -- the places of pieces, up to the first fault
 abbrev pub places_between : Bool → List (List ℕ) → Result (List Place) LayerFault
@@ -149,22 +150,22 @@ line_as form.Segment (p ∷ q ∷ []) = Ok (Line p q)
 line_as form.Path places = Ok (Chain places)
 line_as _ _ = Err (Unfit WrongShape)
 
-abbrev pub point_in : Bool → List ℕ → Result Shape LayerFault
-point_in rounded text = place_of rounded text >>= λ p. Ok (At p)
+abbrev pub point_inside : Bool → List ℕ → Result Shape LayerFault
+point_inside rounded text = place_of rounded text >>= λ p. Ok (At p)
 
 abbrev pub line_in : Bool → Form → List ℕ → Result Shape LayerFault
 line_in rounded wanted text = places_of rounded text >>= λ places. line_as wanted places
 
 -- the shape of a geometry, of what stands behind its first `(`
 abbrev pub shape_by : Bool → Form → List ℕ → Geometry → Result Shape LayerFault
-shape_by rounded wanted text geometry.Point = closed_of text >>= point_in rounded
+shape_by rounded wanted text geometry.Point = closed_of text >>= point_inside rounded
 shape_by rounded wanted text geometry.Line = closed_of text >>= line_in rounded wanted
-shape_by rounded wanted text geometry.Points = one_part (cut_of opening text) text >>= point_in rounded
+shape_by rounded wanted text geometry.Points = one_part (cut_of opening text) text >>= point_inside rounded
 shape_by rounded wanted text geometry.Lines = one_part (cut_of opening text) text >>= line_in rounded wanted
 
 -- the shape that WKT says
 unfoldable pub shape_of : Bool → Form → List ℕ → Result Shape LayerFault
 shape_of rounded wanted text = do
   parts ← or_fault NotWkt (cut_of opening text)
-  kind ← geometry_by (words_of parts.0)
+  kind ← geometry_by (spaced_words_of parts.0)
   shape_by rounded wanted parts.1 kind

@@ -1,7 +1,8 @@
 //! Why a layer can't be read.
 
 ghost use Rattle.std.specs.Prelude.{◌≡◌};
-ghost use Rattle.clr_layer_text.specs.Faults.{numbered_fault};
+ghost use Rattle.clr_readings.specs.Readings.{numbered_fault};
+ghost use Rattle.clr_layer_text.specs.Faults.{layer_lacks_memory};
 ghost use Rattle.clr_layer_text.specs.declared.faults.LayerFault.TheVariants as fault;
 
 use clr_rows::RowFault;
@@ -57,7 +58,7 @@ impl<T: Drop> From<AllocFailed<T>> for LayerFault {
 
 /// Returns a fault beside the number of its record; beside 0 where no memory was found.
 pub(crate) fn numbered_fault(number: usize, fault: LayerFault) -> (usize, LayerFault)
-    ensures { result ≡ numbered_fault number fault }
+    ensures { result ≡ numbered_fault layer_lacks_memory number fault }
 {
     match fault {
         LayerFault::OutOfMemory => (0, fault),

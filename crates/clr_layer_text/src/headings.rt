@@ -6,7 +6,8 @@ ghost use Rattle.std.specs.Option.{option_copied};
 ghost use Rattle.std.specs.Str.{bytes_eq};
 ghost use Rattle.csv.specs.Records.{fields_of};
 ghost use Rattle.clr_records.specs.Records.{field_of};
-ghost use Rattle.clr_layer_text.specs.Faults.{GivesSeen};
+ghost use Rattle.clr_readings.specs.Readings.{Gives};
+ghost use Rattle.clr_layer_text.specs.Faults.{layer_lacks_memory};
 ghost use Rattle.clr_layer_text.specs.Headings.{seen};
 ghost use Rattle.clr_layer_text.specs.Layers.{column_of, columns_of, fields_in, fields_of_table, heading_of, shape_heading_of};
 
@@ -99,7 +100,7 @@ fn columns(
     names: &[Words],
     columns: &[(Words, Kind)],
 ) -> Result<Vec<Heading>, LayerFault>
-    ensures { GivesSeen (λ v. v.items) result (columns_of names.now columns.now) }
+    ensures { Gives layer_lacks_memory (λ v. v.items) result (columns_of names.now columns.now) }
 {
     let mut list = Vec::new(alloc);
     for one in columns {
@@ -123,7 +124,7 @@ fn shape_heading(names: &[Words], form: Form) -> Result<Option<ShapeHeading>, La
 
 #[tactic(auto, unfolding(crate::specs::Layers::fields_in))]
 fn headings_in(alloc: Global, names: &[Words], table: &TableDef) -> Result<Headings, LayerFault>
-    ensures { GivesSeen seen result (fields_in names.now table.now) }
+    ensures { Gives layer_lacks_memory seen result (fields_in names.now table.now) }
 {
     let key = find_once(names, KEY)?;
     let columns = columns(alloc, names, table.columns.as_slice())?;
@@ -144,7 +145,7 @@ pub(crate) fn find_headings(
     header: &StringRecord,
     table: Option<&TableDef>,
 ) -> Result<Headings, LayerFault>
-    ensures { GivesSeen seen result (fields_of_table (fields_of header.now) (option_copied table.entry)) }
+    ensures { Gives layer_lacks_memory seen result (fields_of_table (fields_of header.now) (option_copied table.entry)) }
 {
     match table {
         None => Err(LayerFault::Unfit(RowFault::NoTable)),

@@ -3,7 +3,7 @@
 ghost use Rattle.std.specs.Prelude.{◌≡◌, ◌<◌, ◌≤◌, ◌^◌, IfOk};
 ghost use Rattle.clr_records.specs.Decimals.{number_of};
 ghost use Rattle.clr_layer_text.specs.Metres.{around_point, behind_point, digit_at, is_digit, is_finer, millimetres_of, nearest, thousandths};
-ghost use Rattle.clr_layer_text.specs.Metres.{unsigned_of, whole_of};
+ghost use Rattle.clr_layer_text.specs.Metres.{unsigned_of, whole_metres_of};
 ghost use Rattle.std.specs.List.{list_all};
 ghost use Rattle.clr_layer_text.specs.Pieces.{cut_of};
 
@@ -16,7 +16,7 @@ use clr_rows::RowFault;
 /// Returns the whole metres of a text. Fails with `NotDecimal` where it isn't a number of 0 or more in
 /// its one form, and with `OutOfRange` where it is above 1,000,000,000.
 fn whole(text: &str) -> Result<u64, LayerFault>
-    ensures value { result ≡ whole_of (number_of text.now) }
+    ensures value { result ≡ whole_metres_of (number_of text.now) }
     ensures small { IfOk result (λ n. n ≤ MOST_METRES) }
 {
     let Some(number) = read_number(text) else {

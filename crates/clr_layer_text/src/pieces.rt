@@ -1,7 +1,7 @@
 //! Texts cut at a mark.
 
 ghost use Rattle.std.specs.Prelude.{◌≡◌, ◌<◌, IfOk, map, option_map};
-ghost use Rattle.clr_layer_text.specs.Pieces.{comma, cut_of, has_mark, is_blank, pieces_of, words_of};
+ghost use Rattle.clr_layer_text.specs.Pieces.{comma, cut_of, has_mark, is_blank, pieces_of, spaced_words_of};
 
 use std::alloc::{AllocError, Global};
 
@@ -37,7 +37,7 @@ pub(crate) fn pieces<'a>(alloc: Global, text: &'a str) -> Result<Vec<&'a str>, A
 
 /// Returns the words of a text: what stands between its spaces.
 pub(crate) fn words<'a>(alloc: Global, text: &'a str) -> Result<Vec<&'a str>, AllocError>
-    ensures { IfOk result (λ v. map (λ word. word.now) v.items ≡ words_of text.now) }
+    ensures { IfOk result (λ v. map (λ word. word.now) v.items ≡ spaced_words_of text.now) }
 {
     text.split(' ')
         .filter(|word| !word.is_empty())

@@ -3,11 +3,11 @@
 ghost use Rattle.std.specs.Prelude.{◌≡◌, ◌+◌, ◌<◌, ◌^◌, length, map};
 ghost use Rattle.csv.specs.Records.{fields_of};
 ghost use Rattle.clr_records.specs.Decimals.{number_of};
-ghost use Rattle.clr_records.specs.Records.{or_fault};
+ghost use Rattle.clr_readings.specs.Readings.{Gives, GivesAt, or_fault};
 ghost use Rattle.clr_layer_text.specs.declared.faults.LayerFault.TheVariants.{BadNumber};
-ghost use Rattle.clr_layer_text.specs.Faults.{Gives, GivesAt};
+ghost use Rattle.clr_layer_text.specs.Faults.{layer_lacks_memory};
 ghost use Rattle.clr_layer_text.specs.Headings.{seen};
-ghost use Rattle.clr_layer_text.specs.Layers.{fitting, key_of, layer_in, layer_of, row_of, rows_from, shape_in, value_of, values_of, whole_row_of};
+ghost use Rattle.clr_layer_text.specs.Layers.{fitting, key_of, layer_in_text, layer_rows_of, row_of, rows_from, shape_in, value_of, values_of, whole_row_of};
 
 use crate::faults::{LayerFault, numbered_fault};
 use crate::headings::{Heading, Headings, ShapeHeading, find_headings};
@@ -35,7 +35,7 @@ fn key(text: &str) -> Result<Option<i64>, LayerFault>
 }
 
 fn value(alloc: Global, kind: Kind, text: &str) -> Result<Value, LayerFault>
-    ensures { Gives result (value_of kind text.now) }
+    ensures { Gives layer_lacks_memory (λ x. x) result (value_of kind text.now) }
 {
     match kind {
         Kind::Int => Ok(Value::Int(number(text)?)),
@@ -45,7 +45,7 @@ fn value(alloc: Global, kind: Kind, text: &str) -> Result<Value, LayerFault>
 
 /// Returns the values of a row.
 fn values(alloc: Global, columns: &[Heading], fields: &StringRecord) -> Result<Values, LayerFault>
-    ensures { Gives result (values_of columns.now (fields_of fields.now)) }
+    ensures { Gives layer_lacks_memory (λ x. x) result (values_of columns.now (fields_of fields.now)) }
 {
     let mut list = Vec::new(alloc);
     for column in columns {
@@ -60,7 +60,7 @@ fn shape(
     heading: Option<ShapeHeading>,
     fields: &StringRecord,
 ) -> Result<Shape, LayerFault>
-    ensures { Gives result (shape_in rounded heading (fields_of fields.now)) }
+    ensures { Gives layer_lacks_memory (λ x. x) result (shape_in rounded heading (fields_of fields.now)) }
 {
     match heading {
         None => Ok(Shape::Bare),
@@ -89,7 +89,7 @@ fn whole_row(
     headings: &Headings,
     fields: &StringRecord,
 ) -> Result<LayerRow, LayerFault>
-    ensures { Gives result (whole_row_of schema.now table rounded (seen headings.now) (fields_of fields.now)) }
+    ensures { Gives layer_lacks_memory (λ x. x) result (whole_row_of schema.now table rounded (seen headings.now) (fields_of fields.now)) }
 {
     let key = key(field(fields, headings.key))?;
     let values = values(alloc, headings.columns.as_slice(), fields)?;
@@ -113,7 +113,7 @@ fn row(
     headings: &Headings,
     fields: &StringRecord,
 ) -> Result<LayerRow, LayerFault>
-    ensures { Gives result (row_of schema.now table rounded (seen headings.now) (fields_of fields.now)) }
+    ensures { Gives layer_lacks_memory (λ x. x) result (row_of schema.now table rounded (seen headings.now) (fields_of fields.now)) }
 {
     if fields.len() == headings.width {
         whole_row(alloc, schema, table, rounded, headings, fields)
@@ -132,7 +132,7 @@ fn rows(
     records: &[StringRecord],
 ) -> Result<Vec<LayerRow>, (usize, LayerFault)>
     requires { length records.now + 2 < 2 ^ 64 }
-    ensures { GivesAt (λ v. v.items) result (rows_from schema.now table rounded (seen headings.now) 2 (map fields_of records.now)) }
+    ensures { GivesAt layer_lacks_memory (λ v. v.items) result (rows_from schema.now table rounded (seen headings.now) 2 (map fields_of records.now)) }
 {
     let mut list = Vec::new(alloc);
     for (i, fields) in records.iter().enumerate() {
@@ -157,7 +157,7 @@ fn layer(
     records: &[StringRecord],
 ) -> Result<Vec<LayerRow>, (usize, LayerFault)>
     requires { length records.now + 2 < 2 ^ 64 }
-    ensures { GivesAt (λ v. v.items) result (layer_of schema.now table rounded (map fields_of records.now)) }
+    ensures { GivesAt layer_lacks_memory (λ v. v.items) result (layer_rows_of schema.now table rounded (map fields_of records.now)) }
 {
     let [header, others @ ..] = records else {
         return Err((1, LayerFault::NoColumn));
@@ -191,7 +191,7 @@ pub fn read_layer(
     rounded: bool,
     bytes: &[u8],
 ) -> Result<Vec<LayerRow>, (usize, LayerFault)>
-    ensures { GivesAt (λ v. v.items) result (layer_in schema.now table rounded bytes.now) }
+    ensures { GivesAt layer_lacks_memory (λ v. v.items) result (layer_in_text schema.now table rounded bytes.now) }
 {
     match records_of(alloc, bytes) {
         Ok(Some(records)) => layer(alloc, schema, table, rounded, records.as_slice()),

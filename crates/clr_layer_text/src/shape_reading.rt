@@ -1,10 +1,11 @@
 //! Shapes, read from WKT.
 
 ghost use Rattle.std.specs.Prelude.{◌≡◌, map};
-ghost use Rattle.clr_layer_text.specs.Faults.{Gives, GivesSeen};
+ghost use Rattle.clr_readings.specs.Readings.{Gives};
+ghost use Rattle.clr_layer_text.specs.Faults.{layer_lacks_memory};
 ghost use Rattle.clr_layer_text.specs.Pieces.{cut_of};
 ghost use Rattle.clr_layer_text.specs.Wkt.{closed_of, inner_of, line_as, line_in, one_part, opening};
-ghost use Rattle.clr_layer_text.specs.Wkt.{place_by, place_of, places_between, places_of, point_in, shape_by, shape_of, single_of};
+ghost use Rattle.clr_layer_text.specs.Wkt.{place_by, place_of, places_between, places_of, point_inside, shape_by, shape_of, single_of};
 
 use crate::faults::LayerFault;
 use crate::geometries::{Geometry, geometry_by};
@@ -17,7 +18,7 @@ use std::alloc::Global;
 /// than spaces stand behind it.
 #[tactic(auto, unfolding(crate::specs::Wkt::closed_of))]
 fn closed(text: &str) -> Result<&str, LayerFault>
-    ensures { GivesSeen (λ inside. inside.now) result (closed_of text.now) }
+    ensures { Gives layer_lacks_memory (λ inside. inside.now) result (closed_of text.now) }
 {
     let (inside, behind) = cut(text, ')').ok_or(LayerFault::NotWkt)?;
     if is_blank(behind) {
@@ -29,7 +30,7 @@ fn closed(text: &str) -> Result<&str, LayerFault>
 
 /// Returns what stands before a text's end in parentheses, if it isn't followed by another part.
 fn single(text: &str) -> Result<&str, LayerFault>
-    ensures { GivesSeen (λ inside. inside.now) result (single_of text.now) }
+    ensures { Gives layer_lacks_memory (λ inside. inside.now) result (single_of text.now) }
 {
     if has_mark(text, b',') {
         return Err(LayerFault::SeveralParts);
@@ -41,7 +42,7 @@ fn single(text: &str) -> Result<&str, LayerFault>
 /// `SeveralParts` where a comma stands behind its `)`, and with `NotWkt` where other bytes stand around it.
 #[tactic(auto, unfolding(crate::specs::Wkt::inner_of))]
 fn inner<'a>(before: &str, behind: &'a str) -> Result<&'a str, LayerFault>
-    ensures { GivesSeen (λ inside. inside.now) result (inner_of before.now behind.now) }
+    ensures { Gives layer_lacks_memory (λ inside. inside.now) result (inner_of before.now behind.now) }
 {
     let (inside, tail) = cut(behind, ')').ok_or(LayerFault::NotWkt)?;
     let rest = single(tail)?;
@@ -55,7 +56,7 @@ fn inner<'a>(before: &str, behind: &'a str) -> Result<&'a str, LayerFault>
 /// Returns the one part of several that may be, in parentheses of its own or without them. Fails as
 /// `inner` does.
 fn one_part(text: &str) -> Result<&str, LayerFault>
-    ensures { GivesSeen (λ inside. inside.now) result (one_part (cut_of opening text.now) text.now) }
+    ensures { Gives layer_lacks_memory (λ inside. inside.now) result (one_part (cut_of opening text.now) text.now) }
 {
     match cut(text, '(') {
         None => single(text),
@@ -81,14 +82,14 @@ fn place_by(rounded: bool, words: &[&str]) -> Result<Place, LayerFault>
 }
 
 fn place(alloc: Global, rounded: bool, text: &str) -> Result<Place, LayerFault>
-    ensures { Gives result (place_of rounded text.now) }
+    ensures { Gives layer_lacks_memory (λ x. x) result (place_of rounded text.now) }
 {
     place_by(rounded, words(alloc, text)?.as_slice())
 }
 
 /// Returns the places of pieces.
 fn places_of_pieces(alloc: Global, rounded: bool, pieces: &[&str]) -> Result<Vec<Place>, LayerFault>
-    ensures { GivesSeen (λ v. v.items) result (places_between rounded (map (λ piece. piece.now) pieces.now)) }
+    ensures { Gives layer_lacks_memory (λ v. v.items) result (places_between rounded (map (λ piece. piece.now) pieces.now)) }
 {
     let mut places = Vec::new(alloc);
     for piece in pieces {
@@ -100,14 +101,14 @@ fn places_of_pieces(alloc: Global, rounded: bool, pieces: &[&str]) -> Result<Vec
 
 /// Returns the places between commas.
 fn places(alloc: Global, rounded: bool, text: &str) -> Result<Vec<Place>, LayerFault>
-    ensures { GivesSeen (λ v. v.items) result (places_of rounded text.now) }
+    ensures { Gives layer_lacks_memory (λ v. v.items) result (places_of rounded text.now) }
 {
     places_of_pieces(alloc, rounded, pieces(alloc, text)?.as_slice())
 }
 
 /// Returns a line as the shape of a row of this form. Fails with `WrongShape` where it can't be one.
 fn line_as(form: Form, places: Vec<Place>) -> Result<Shape, LayerFault>
-    ensures { Gives result (line_as form places.items) }
+    ensures { Gives layer_lacks_memory (λ x. x) result (line_as form places.items) }
 {
     match (form, places.as_slice()) {
         (Form::Segment, [first, second]) => Ok(Shape::Line(*first, *second)),
@@ -117,13 +118,13 @@ fn line_as(form: Form, places: Vec<Place>) -> Result<Shape, LayerFault>
 }
 
 fn point(alloc: Global, rounded: bool, text: &str) -> Result<Shape, LayerFault>
-    ensures { Gives result (point_in rounded text.now) }
+    ensures { Gives layer_lacks_memory (λ x. x) result (point_inside rounded text.now) }
 {
     Ok(Shape::At(place(alloc, rounded, text)?))
 }
 
 fn line(alloc: Global, rounded: bool, form: Form, text: &str) -> Result<Shape, LayerFault>
-    ensures { Gives result (line_in rounded form text.now) }
+    ensures { Gives layer_lacks_memory (λ x. x) result (line_in rounded form text.now) }
 {
     line_as(form, places(alloc, rounded, text)?)
 }
@@ -136,7 +137,7 @@ fn shape_by(
     text: &str,
     geometry: Geometry,
 ) -> Result<Shape, LayerFault>
-    ensures { Gives result (shape_by rounded form text.now geometry) }
+    ensures { Gives layer_lacks_memory (λ x. x) result (shape_by rounded form text.now geometry) }
 {
     match geometry {
         Geometry::Point => point(alloc, rounded, closed(text)?),
@@ -157,7 +158,7 @@ pub(crate) fn read_shape(
     form: Form,
     text: &str,
 ) -> Result<Shape, LayerFault>
-    ensures { Gives result (shape_of rounded form text.now) }
+    ensures { Gives layer_lacks_memory (λ x. x) result (shape_of rounded form text.now) }
 {
     let (head, behind) = cut(text, '(').ok_or(LayerFault::NotWkt)?;
     let geometry = geometry_by(words(alloc, head)?.as_slice())?;

@@ -20,7 +20,7 @@ IsSession input print = IsSessionOf (around_separator input) print
 
 -- a run as its devices show it: what the reader had to give and what is left of it, what the
 -- writer held and what it holds, each where it is told, and whether they failed
-pub record Run : Type 0 where
+pub record ProgramRun : Type 0 where
   pub input : Option (List ℕ)
   pub left : Option (List ℕ)
   pub read_failed : Bool
@@ -29,20 +29,20 @@ pub record Run : Type 0 where
   pub write_failed : Bool
 
 -- the whole input was read
-abbrev pub Reads : Run → List ℕ → Type 0
+abbrev pub Reads : ProgramRun → List ℕ → Type 0
 Reads run input = GivesInput run.input run.left input × (run.read_failed ≡ false)
 
 -- the whole input was read, and its lines went out
-abbrev pub Prints : Run → ℕ → Type 0
+abbrev pub Prints : ProgramRun → ℕ → Type 0
 Prints run status = (input : List ℕ) × Reads run input × (run.write_failed ≡ false)
     × ((lines : List ℕ) × IsSession input (Ok (lines, status)) × Appends run.held run.holds lines)
 
 -- the whole input was read, and it has this fault
-abbrev pub Refuses : Run → RunFault → Type 0
+abbrev pub Refuses : ProgramRun → RunFault → Type 0
 Refuses run e = (input : List ℕ) × Reads run input × IsSession input (Err e)
 
 -- why a run has no exit status
-abbrev pub IsRunFault : Run → RunFault → Type 0
+abbrev pub IsRunFault : ProgramRun → RunFault → Type 0
 IsRunFault run run_fault.ReadFailed = run.read_failed ≡ true
 IsRunFault run run_fault.WriteFailed = (run.write_failed ≡ true) × ((input : List ℕ) × Reads run input)
 IsRunFault run run_fault.TooLong = GivesTooMuch run.input run.left × (run.read_failed ≡ false)
@@ -53,6 +53,6 @@ IsRunFault run (run_fault.BadCertificate number e) = Refuses run (run_fault.BadC
 IsRunFault run run_fault.OutOfMemory = run.read_failed ≡ false
 
 -- what a run answered, with what it left of its reader and writer
-abbrev pub Answers : Run → Result ℕ RunFault → Type 0
-Answers run (Ok status) = Prints run status
-Answers run (Err e) = IsRunFault run e
+abbrev pub AnswersRun : ProgramRun → Result ℕ RunFault → Type 0
+AnswersRun run (Ok status) = Prints run status
+AnswersRun run (Err e) = IsRunFault run e

@@ -1,7 +1,7 @@
 //! The run without words: an office text and a script in one input.
 
 ghost use Rattle.std.specs.Prelude.{◌≡◌, ◌≢◌, false, IfErr};
-ghost use Rattle.clr_office.specs.Session.{Answers};
+ghost use Rattle.clr_office.specs.Session.{AnswersRun};
 ghost use Rattle.clr_reports.specs.declared.faults.RunFault.TheVariants as run_fault;
 
 use crate::answers::answer_run;
@@ -28,7 +28,7 @@ pub fn run_office<R: Source, W: Sink>(
 ) -> Result<u8, RunFault>
     requires reader { R.failed reader.old ≡ false }
     requires writer { W.failed writer.old ≡ false }
-    ensures answers { Answers (record {
+    ensures answers { AnswersRun (record {
       input = R.remaining reader.old;
       left = R.remaining reader.new;
       read_failed = R.failed reader.new;

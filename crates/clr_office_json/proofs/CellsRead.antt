@@ -25,13 +25,25 @@ use Rattle.clr_rows.proofs.SchemaLemmas.{cell_parts, fits_table, table_of_name}
 use Rattle.clr_differences.specs.Differences.{Differences}
 use Rattle.clr_office_text.specs.declared.cells.NamedRow.{NamedRow}
 use Rattle.clr_office_text.specs.declared.named_cells.NamedCell.{NamedCell}
-use Rattle.clr_office_text.specs.Cells.{cell_of, has_paths, is_path_form, named_row_of, place_of, places_of, row_of, shape_of, shape_with, values_of, with_row}
-use Rattle.clr_office_text.specs.Cells.{with_rows}
+use Rattle.clr_office_text.specs.Cells.{
+  cell_of,
+  has_paths,
+  is_path_form,
+  named_row_of,
+  place_of,
+  places_of,
+  row_of,
+  shape_of,
+  shape_with,
+  values_of,
+  with_named_row,
+}
+use Rattle.clr_office_text.specs.Cells.{with_named_rows}
 use Rattle.clr_rule_text.specs.Values.{value_of}
 use Rattle.clr_rule_text.specs.Fields.{each}
 use Rattle.clr_office_text.specs.Fits.{FitsDifferences}
-use Rattle.clr_office_text.specs.Patches.{named_cell_of, put_fault, with_cell, with_cells}
-use Rattle.clr_office_json.specs.CellData.{coordinates_of, named_cell, named_cell_data, named_cells, named_row, named_row_data, named_rows, row_data}
+use Rattle.clr_office_text.specs.Patches.{named_cell_of, put_fault, with_cell, with_named_cells}
+use Rattle.clr_office_json.specs.CellData.{coordinates_of, named_cell, named_cell_data, cells_with_names, named_row, named_row_data, named_rows, row_data}
 use Rattle.clr_office_json.specs.CellData.{row_or_gone_data}
 use Rattle.clr_office_json.specs.Values.{number_data, value_data}
 use Rattle.clr_office_json.proofs.ListsRead.{all_mapped, all_pass, each_read, key_within, number_read, value_read}
@@ -154,7 +166,7 @@ module _ (tables : List TableDef) (schema : schema_fault tables ≡ None) where
       (all_entries (λ q row. row_fault tables q row ≡ None) content fits)
 
   pub cells_readable : (d : Differences) → FitsDifferences tables d → AllByRecursion (λ n. IsReadableOrGone (has_paths tables n.table) n.key n.row)
-      (named_cells tables d)
+      (cells_with_names tables d)
   cells_readable d fits =
       all_mapped (λ e. put_fault tables e.0 e.1 ≡ None) _ (named_cell tables) (λ e fit. cell_readable e.0 e.1 fit) (finite.entries d)
       (all_entries (λ q row. put_fault tables q row ≡ None) d fits)
@@ -166,11 +178,11 @@ module _ (tables : List TableDef) (schema : schema_fault tables ≡ None) where
       (named_rows tables content)
       (rows_readable content fits)
 
-  pub cells_read : (d : Differences) → FitsDifferences tables d → each (named_cell_of tables) (items_of (map named_cell_data (named_cells tables d)))
-      ≡ Ok (named_cells tables d)
+  pub cells_read : (d : Differences) → FitsDifferences tables d → each (named_cell_of tables) (items_of (map named_cell_data (cells_with_names tables d)))
+      ≡ Ok (cells_with_names tables d)
   cells_read d fits =
       each_read (λ n. IsReadableOrGone (has_paths tables n.table) n.key n.row) (named_cell_of tables) named_cell_data (named_cell_read tables)
-      (named_cells tables d)
+      (cells_with_names tables d)
       (cells_readable d fits)
 
   -- at their cells ---------------------------------------------------------------------------
@@ -184,19 +196,19 @@ module _ (tables : List TableDef) (schema : schema_fault tables ≡ None) where
   cell_found cell known = rw (name_found cell.table known.0 known.1) refl
 
   row_put : (content : Content) (e : CellId × Row) → row_fault tables e.0 e.1 ≡ None → finite.get content e.0 ≡ None
-      → with_row tables content (named_row tables e) ≡ Ok (finite.insert content e.0 e.1)
-  unfolding with_row
+      → with_named_row tables content (named_row tables e) ≡ Ok (finite.insert content e.0 e.1)
+  unfolding with_named_row
   row_put content e fit free = let t = fits_table tables e.0 e.1 fit in rw (cell_found e.0 (t.0, t.1), fit, free) refl
 
   rows_put : (content : Content) (es : List (CellId × Row)) → T (is_sorted cell_cmp es) → AllByRecursion (λ e. row_fault tables e.0 e.1 ≡ None) es
-      → AreFree content es → with_rows tables content (map (named_row tables) es) ≡ Ok (all_put content es)
-  unfolding with_rows
+      → AreFree content es → with_named_rows tables content (map (named_row tables) es) ≡ Ok (all_put content es)
+  unfolding with_named_rows
   rows_put content [] sorted fits free = refl
   rows_put content (e ∷ es) sorted fits free =
       rw (row_put content e fits.0 free.0) (rows_put (finite.insert content e.0 e.1) es (second _ _ sorted) fits.1
       (free_after content e.0 e.1 es (first _ _ sorted) free.1))
 
-  pub rows_again : (content : Content) → FitsSchema tables content → with_rows tables finite.empty (named_rows tables content) ≡ Ok content
+  pub rows_again : (content : Content) → FitsSchema tables content → with_named_rows tables finite.empty (named_rows tables content) ≡ Ok content
   rows_again content fits =
       rows_put finite.empty (finite.entries content) (finite.entries_sorted content) (all_entries (λ q row. row_fault tables q row ≡ None) content fits)
       (free_at_first (finite.entries content))
@@ -212,13 +224,13 @@ module _ (tables : List TableDef) (schema : schema_fault tables ≡ None) where
   cell_put d e fit free = rw (cell_found e.0 (known_cell e.0 e.1 fit), fit, free) refl
 
   cells_put : (d : Differences) (es : List (CellId × Option Row)) → T (is_sorted cell_cmp es) → AllByRecursion (λ e. put_fault tables e.0 e.1 ≡ None) es
-      → AreFree d es → with_cells tables d (map (named_cell tables) es) ≡ Ok (all_put d es)
-  unfolding with_cells
+      → AreFree d es → with_named_cells tables d (map (named_cell tables) es) ≡ Ok (all_put d es)
+  unfolding with_named_cells
   cells_put d [] sorted fits free = refl
   cells_put d (e ∷ es) sorted fits free =
       rw (cell_put d e fits.0 free.0) (cells_put (finite.insert d e.0 e.1) es (second _ _ sorted) fits.1 (free_after d e.0 e.1 es (first _ _ sorted) free.1))
 
-  pub cells_again : (d : Differences) → FitsDifferences tables d → with_cells tables finite.empty (named_cells tables d) ≡ Ok d
+  pub cells_again : (d : Differences) → FitsDifferences tables d → with_named_cells tables finite.empty (cells_with_names tables d) ≡ Ok d
   cells_again d fits =
       cells_put finite.empty (finite.entries d) (finite.entries_sorted d) (all_entries (λ q row. put_fault tables q row ≡ None) d fits)
       (free_at_first (finite.entries d))

@@ -16,7 +16,7 @@ use Rattle.clr_rule_text.specs.declared.named_rules.NamedRule.{NamedRule}
 use Rattle.clr_rule_text.specs.declared.named_rules.NamedRule.TheVariants.{Unique, Partner, EndNode, Crossing, Near}
 use Rattle.clr_rule_text.specs.declared.named_sides.NamedSide.{NamedSide}
 use Rattle.clr_office_text.specs.Offices.{OfficeText}
-use Rattle.clr_office_json.specs.CellData.{coordinates_of, named_cell_data, named_cells, named_row_data, named_rows, row_data, row_or_gone_data}
+use Rattle.clr_office_json.specs.CellData.{coordinates_of, named_cell_data, cells_with_names, named_row_data, named_rows, row_data, row_or_gone_data}
 use Rattle.clr_office_json.specs.Laws.{IsPlain}
 use Rattle.clr_office_json.specs.OfficeData.{office_data}
 use Rattle.clr_office_json.specs.RuleData.{literal_data, named_rule, named_rule_data, side_data}
@@ -80,8 +80,8 @@ layer_depth : (tables : List TableDef) (l : Layer) → depth (layer_data tables 
 layer_depth tables l =
     omega (
       arith,
-      cells_depth (named_cells tables l.base),
-      cells_depth (named_cells tables l.current),
+      cells_depth (cells_with_names tables l.base),
+      cells_depth (cells_with_names tables l.current),
       list_depth named_mark_data 4 mark_depth
           (map (named_mark tables) l.marks),
     )
@@ -149,8 +149,8 @@ mark_plain (named.Saved name cells) = rw (cells_plain cells) refl
 layer_plain : (tables : List TableDef) (l : Layer) → has_float (layer_data tables l) ≡ false
 layer_plain tables l =
     rw (
-      cells_plain (named_cells tables l.base),
-      cells_plain (named_cells tables l.current),
+      cells_plain (cells_with_names tables l.base),
+      cells_plain (cells_with_names tables l.current),
       list_plain named_mark_data mark_plain
           (map (named_mark tables) l.marks),
     ) refl

@@ -37,7 +37,7 @@ use Rattle.clr_rule_text.specs.declared.named_sides.NamedSide.{NamedSide}
 use Rattle.clr_office_text.specs.Cells.{has_paths}
 use Rattle.clr_office_text.specs.Fits.{FitsDifferences, FitsLayer, FitsMark, FitsOffice}
 use Rattle.clr_office_text.specs.Offices.{OfficeText}
-use Rattle.clr_office_json.specs.CellData.{coordinates_of, named_cell_data, named_cells, named_row_data, named_rows, row_data, row_or_gone_data}
+use Rattle.clr_office_json.specs.CellData.{coordinates_of, named_cell_data, cells_with_names, named_row_data, named_rows, row_data, row_or_gone_data}
 use Rattle.clr_office_json.specs.OfficeData.{office_data}
 use Rattle.clr_office_json.specs.RuleData.{literal_data, named_rule, named_rule_data, side_data}
 use Rattle.clr_office_json.specs.TableData.{column_data, table_data}
@@ -132,11 +132,11 @@ module _ (tables : List TableDef) (schema : schema_fault tables ≡ None) where
       (named_rows tables content)
       (rows_readable tables schema content fits)
 
-  cells_reread : (d : Differences) → FitsDifferences tables d → of_items (items_outline (items_of (map named_cell_data (named_cells tables d))))
-      ≡ Some (items_of (map named_cell_data (named_cells tables d)))
+  cells_reread : (d : Differences) → FitsDifferences tables d → of_items (items_outline (items_of (map named_cell_data (cells_with_names tables d))))
+      ≡ Some (items_of (map named_cell_data (cells_with_names tables d)))
   cells_reread d fits =
       list_reread (λ n. IsReadableOrGone (has_paths tables n.table) n.key n.row) named_cell_data (λ n h. row_or_gone_reread (has_paths tables n.table) n.table
-      n.key n.row h) (named_cells tables d)
+      n.key n.row h) (cells_with_names tables d)
       (cells_readable tables schema d fits)
 
   -- workspaces -------------------------------------------------------------------------------

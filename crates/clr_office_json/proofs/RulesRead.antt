@@ -29,9 +29,10 @@ use Rattle.clr_rule_text.specs.declared.faults.TextFault.TheVariants.{BadRule}
 use Rattle.clr_rule_text.specs.declared.named_rules.NamedRule.{NamedRule}
 use Rattle.clr_rule_text.specs.declared.named_rules.NamedRule.TheVariants.{Unique, Partner, EndNode, Crossing, Near}
 use Rattle.clr_rule_text.specs.declared.named_sides.NamedSide.{NamedSide}
-use Rattle.clr_rule_text.specs.Fields.{each, each_in, or_fault, words_of}
+use Rattle.clr_readings.specs.Readings.{or_fault}
+use Rattle.clr_rule_text.specs.Fields.{each, each_in, words_of}
 use Rattle.clr_rule_text.specs.Rules.{column_number, column_over, columns_over, crossing_of, end_node_of, filter_of, literal_of, literal_over, literal_pair}
-use Rattle.clr_rule_text.specs.Rules.{named_rule_of, names_at, near_of, partner_of}
+use Rattle.clr_rule_text.specs.Rules.{named_rule_of, list_of_words_at, near_of, partner_of}
 use Rattle.clr_rule_text.specs.Rules.{crossing_over, end_node_over, near_over, partner_over, rule_over, side_at, side_of, side_over, tip_named, tip_of}
 use Rattle.clr_rule_text.specs.Rules.{unique_of, unique_over}
 use Rattle.clr_rules.proofs.FittingLemmas.{literal_within, no_fault}
@@ -68,7 +69,7 @@ tip_read tip.First = refl
 tip_read tip.Second = refl
 
 named_rule_read : (r : NamedRule) → IsRuleWithin r → named_rule_of (named_rule_data r) ≡ Ok r
-unfolding named_rule_of unique_of partner_of end_node_of crossing_of near_of side_at names_at tip_of
+unfolding named_rule_of unique_of partner_of end_node_of crossing_of near_of side_at list_of_words_at tip_of
 named_rule_read (Unique subject columns) h = rw (side_read subject h, names_read columns) refl
 named_rule_read (Partner subject columns server server_columns) h = rw (
   side_read subject h.0,

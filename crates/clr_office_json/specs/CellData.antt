@@ -28,8 +28,8 @@ abbrev pub named_rows : List TableDef → Content → List NamedRow
 named_rows tables content = map (named_row tables) (finite.entries content)
 
 -- the cells of differences, ascending
-abbrev pub named_cells : List TableDef → Differences → List NamedCell
-named_cells tables d = map (named_cell tables) (finite.entries d)
+abbrev pub cells_with_names : List TableDef → Differences → List NamedCell
+cells_with_names tables d = map (named_cell tables) (finite.entries d)
 
 -- as JSON ------------------------------------------------------------------------------------
 
@@ -64,4 +64,4 @@ abbrev pub live_data : List TableDef → Content → Data
 live_data tables content = list_data named_row_data (named_rows tables content)
 
 abbrev pub differences_data : List TableDef → Differences → Data
-differences_data tables d = list_data named_cell_data (named_cells tables d)
+differences_data tables d = list_data named_cell_data (cells_with_names tables d)

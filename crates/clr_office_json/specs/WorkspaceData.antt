@@ -7,12 +7,12 @@ use Rattle.clr_layers.specs.declared.stored_marks.StoredMark.{StoredMark}
 use Rattle.clr_layers.specs.declared.stored_marks.StoredMark.TheVariants as stored
 use Rattle.clr_office_text.specs.declared.named_marks.NamedMark.{NamedMark}
 use Rattle.clr_office_text.specs.declared.named_marks.NamedMark.TheVariants as named
-use Rattle.clr_office_json.specs.CellData.{differences_data, named_cell_data, named_cells}
+use Rattle.clr_office_json.specs.CellData.{differences_data, named_cell_data, cells_with_names}
 use Rattle.clr_office_json.specs.Values.{list_data}
 
 abbrev pub named_mark : List TableDef → StoredMark → NamedMark
 named_mark tables (stored.Child name) = named.Child name
-named_mark tables (stored.Saved name d) = named.Saved name (named_cells tables d)
+named_mark tables (stored.Saved name d) = named.Saved name (cells_with_names tables d)
 
 abbrev pub named_mark_data : NamedMark → Data
 named_mark_data (named.Child name) = object (member (codes "child") (string name) no_members)

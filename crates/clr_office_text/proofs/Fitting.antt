@@ -19,11 +19,12 @@ use Rattle.clr_office_text.specs.declared.formats.Format.{Format}
 use Rattle.clr_office_text.specs.declared.named_cells.NamedCell.{NamedCell}
 use Rattle.clr_office_text.specs.declared.named_marks.NamedMark.{NamedMark}
 use Rattle.clr_office_text.specs.declared.named_marks.NamedMark.TheVariants as named
-use Rattle.clr_office_text.specs.Cells.{cell_of, live_of, live_rows_of, with_row, with_rows}
-use Rattle.clr_rule_text.specs.Fields.{◌>>=◌, each_in, list_or_none, none_or_fault}
+use Rattle.clr_office_text.specs.Cells.{cell_of, live_of, live_rows_of, with_named_row, with_named_rows}
+use Rattle.clr_readings.specs.Readings.{◌>>=◌}
+use Rattle.clr_rule_text.specs.Fields.{each_in, list_or_none, none_or_fault}
 use Rattle.clr_office_text.specs.Fits.{FitsDifferences, FitsLayer, FitsMark, FitsOffice}
 use Rattle.clr_office_text.specs.Offices.{OfficeText, format_of, office_of, schema_of}
-use Rattle.clr_office_text.specs.Patches.{differences_at, differences_of, named_cells_at, put_fault, with_cell, with_cells}
+use Rattle.clr_office_text.specs.Patches.{differences_at, differences_of, named_cells_at, put_fault, with_cell, with_named_cells}
 use Rattle.clr_rule_text.specs.Rules.{named_rules_of, rule_over, rules_of}
 use Rattle.clr_office_text.specs.Tables.{tables_of}
 use Rattle.clr_office_text.specs.Workspaces.{head_of, layer_of, layers_after, layers_of, mark_over, marks_of, named_marks_of, under_one_of}
@@ -38,9 +39,9 @@ none_where_ok fault (Some x) u e = absurd cc
 
 -- LIVE ---------------------------------------------------------------------------------------
 
-row_fits : (tables : List TableDef) (content more : Content) (named : NamedRow) → with_row tables content named ≡ Ok more → FitsSchema tables content
+row_fits : (tables : List TableDef) (content more : Content) (named : NamedRow) → with_named_row tables content named ≡ Ok more → FitsSchema tables content
     → FitsSchema tables more
-unfolding with_row
+unfolding with_named_row
 row_fits tables content more named e all =
     let at = then_ok (cell_of tables named.table named.key) _ _ e in
     let fits = then_ok (none_or_fault _ (row_fault tables at.0 named.row)) _ _ at.2 in
@@ -48,12 +49,13 @@ row_fits tables content more named e all =
     let made : set_cell content at.0 (Some named.row) ≡ more = (let f = free.2 in cc) in
     subst (λ m. FitsSchema tables m) made (put_keeps (λ c r. row_fault tables c r ≡ None) content at.0 named.row all (none_where_ok _ _ _ fits.1))
 
-pub rows_fit : (tables : List TableDef) (content whole : Content) (rows : List NamedRow) → with_rows tables content rows ≡ Ok whole → FitsSchema tables content
+pub rows_fit : (tables : List TableDef) (content whole : Content) (rows : List NamedRow) → with_named_rows tables content rows ≡ Ok whole
+    → FitsSchema tables content
     → FitsSchema tables whole
-unfolding with_rows
+unfolding with_named_rows
 rows_fit tables content whole [] e all = subst (λ m. FitsSchema tables m) (let same : content ≡ whole = cc in same) all
 rows_fit tables content whole (named ∷ others) e all =
-    let more = then_ok (with_row tables content named) _ _ e in
+    let more = then_ok (with_named_row tables content named) _ _ e in
     rows_fit tables more.0 whole others more.2 (row_fits tables content more.0 named more.1 all)
 
 live_fits : (tables : List TableDef) (d : Data) (live : Content) → live_of tables d ≡ Ok live → FitsSchema tables live
@@ -74,9 +76,9 @@ cell_fits tables d more named e all =
     let made : finite.insert d at.0 named.row ≡ more = (let f = free.2 in cc) in
     subst (λ m. FitsDifferences tables m) made (put_keeps (λ c r. put_fault tables c r ≡ None) d at.0 named.row all (none_where_ok _ _ _ fits.1))
 
-cells_fit : (tables : List TableDef) (d whole : Differences) (cells : List NamedCell) → with_cells tables d cells ≡ Ok whole → FitsDifferences tables d
+cells_fit : (tables : List TableDef) (d whole : Differences) (cells : List NamedCell) → with_named_cells tables d cells ≡ Ok whole → FitsDifferences tables d
     → FitsDifferences tables whole
-unfolding with_cells
+unfolding with_named_cells
 cells_fit tables d whole [] e all = subst (λ m. FitsDifferences tables m) (let same : d ≡ whole = cc in same) all
 cells_fit tables d whole (named ∷ others) e all =
     let more = then_ok (with_cell tables d named) _ _ e in

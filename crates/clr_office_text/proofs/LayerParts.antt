@@ -6,8 +6,9 @@ use Rattle.clr_differences.specs.Differences.{Differences}
 use Rattle.clr_layers.specs.Layers.{Layer}
 use Rattle.clr_layers.specs.declared.stored_marks.StoredMark.{StoredMark}
 use Rattle.clr_rule_text.specs.declared.faults.TextFault.{TextFault}
-use Rattle.clr_rule_text.specs.Fields.{◌>>=◌, Fails}
-use Rattle.clr_rule_text.proofs.EachItem.{fails_with}
+use Rattle.clr_readings.specs.Readings.{◌>>=◌, Fails}
+use Rattle.clr_rule_text.specs.Fields.{text_lacks_memory}
+use Rattle.clr_readings.proofs.FaultTurns.{fails_with}
 use Rattle.clr_office_text.specs.declared.formats.Format.{Format}
 use Rattle.clr_office_text.specs.declared.workspaces.Head.{Head}
 use Rattle.clr_office_text.specs.Workspaces.{contents_of, head_of, layer_of, marks_of, under_one_of}
@@ -35,6 +36,7 @@ behind_head format tables earlier d read head read_is head_is =
 
 pub fails_behind : (e : TextFault) (format : Format) (tables : List TableDef) (earlier : List Layer) (d : Data) (read head : Head) → head_of format d ≡ Ok read
     → under_one_of earlier read ≡ Ok head
-    → Fails e (contents_of tables d) → Fails e (layer_of format tables earlier d)
+    → Fails text_lacks_memory e (contents_of tables d) → Fails text_lacks_memory e (layer_of format tables earlier d)
 fails_behind e format tables earlier d read head read_is head_is failed =
-    fails_with e (contents_of tables d) (λ c. Ok (joined head c)) _ failed (sym (behind_head format tables earlier d read head read_is head_is))
+    fails_with text_lacks_memory e (contents_of tables d) (λ c. Ok (joined head c)) _ failed
+    (sym (behind_head format tables earlier d read head read_is head_is))

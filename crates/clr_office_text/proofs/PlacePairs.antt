@@ -8,9 +8,11 @@ use Rattle.clr_rule_text.specs.Seen.{items_seen}
 use Rattle.clr_rows.specs.declared.places.Place.{Place}
 use Rattle.clr_rule_text.specs.declared.faults.TextFault.{TextFault}
 use Rattle.clr_rule_text.specs.declared.faults.TextFault.TheVariants as fault
-use Rattle.clr_rule_text.specs.Fields.{◌>>=◌, Fails}
+use Rattle.clr_readings.specs.Readings.{◌>>=◌, Fails}
+use Rattle.clr_rule_text.specs.Fields.{text_lacks_memory}
 use Rattle.clr_office_text.specs.Cells.{place_of, places_of}
-use Rattle.clr_rule_text.proofs.EachItem.{fails_with, one_more, with_front}
+use Rattle.clr_readings.proofs.FaultTurns.{fails_with}
+use Rattle.clr_readings.proofs.Fronts.{regroup_after, with_front}
 
 next : {J : Type 0} (view : J → Data) (front : List Place) (vs : List J) (x y : J) → 2 ≤ length vs → x ≡ get_or vs 0 x → y ≡ get_or vs 1 y
     → with_front front (places_of (items_seen view vs)) ≡ place_of (view x) (view y) >>= λ p. with_front (front ++ p
@@ -20,7 +22,7 @@ next view front [] x y two first second = absurd (omega (arith, two))
 next view front (a ∷ []) x y two first second = absurd (omega (arith, two))
 next view front (a ∷ b ∷ vs) x y two first second =
     let rest : take (length (a ∷ b ∷ vs) - 2) vs ≡ vs = take_all (length (a ∷ b ∷ vs) - 2) vs (omega arith) in
-    rw (rest, first, second) (one_more front (place_of (view a) (view b)) (places_of (items_seen view vs)))
+    rw (rest, first, second) (regroup_after front (place_of (view a) (view b)) (places_of (items_seen view vs)))
 
 -- one more place is read
 pub goes_on : {J : Type 0} (view : J → Data) (front : List Place) (vs : List J) (x y : J) (p : Place) (whole : Result (List Place) TextFault) → 2 ≤ length vs
@@ -31,9 +33,9 @@ goes_on view front vs x y p whole two first second was so_far = sym (next view f
 
 -- a place has a fault, and so has the whole
 pub stops : {J : Type 0} (view : J → Data) (e : TextFault) (front : List Place) (vs : List J) (x y : J) (whole : Result (List Place) TextFault) → 2 ≤ length vs
-    → x ≡ get_or vs 0 x → y ≡ get_or vs 1 y → Fails e (place_of (view x) (view y))
-    → with_front front (places_of (items_seen view vs)) ≡ whole → Fails e whole
-stops view e front vs x y whole two first second failed so_far = fails_with e (place_of (view x) (view y)) _ whole failed
+    → x ≡ get_or vs 0 x → y ≡ get_or vs 1 y → Fails text_lacks_memory e (place_of (view x) (view y))
+    → with_front front (places_of (items_seen view vs)) ≡ whole → Fails text_lacks_memory e whole
+stops view e front vs x y whole two first second failed so_far = fails_with text_lacks_memory e (place_of (view x) (view y)) _ whole failed
     (sym (next view front vs x y two first second) ∙ so_far)
 
 -- a number is left over

@@ -10,9 +10,10 @@ use Rattle.clr_layers.specs.Layers.{Layer}
 use Rattle.clr_rule_text.specs.declared.faults.TextFault.{TextFault}
 use Rattle.clr_office_text.specs.declared.formats.Format.{Format}
 use Rattle.clr_layers.specs.declared.stored_parts.StoredPart.{StoredPart}
-use Rattle.clr_rule_text.specs.Fields.{◌>>=◌, Fails}
+use Rattle.clr_readings.specs.Readings.{◌>>=◌, Fails}
+use Rattle.clr_rule_text.specs.Fields.{text_lacks_memory}
 use Rattle.clr_office_text.specs.Workspaces.{layer_of, layers_after}
-use Rattle.clr_rule_text.proofs.EachItem.{fails_with}
+use Rattle.clr_readings.proofs.FaultTurns.{fails_with}
 
 next : {J : Type 0} (view : J → Data) (format : Format) (tables : List TableDef) (earlier : List Layer) (vs : List J) (i : ℕ) (v : J) → i < length vs → v
     ≡ get_or vs i v
@@ -33,9 +34,10 @@ goes_on view format tables parts vs i v one whole lt is was so_far = rw (map-app
 -- a workspace has a fault, and so has the whole
 pub ends : {J : Type 0} (view : J → Data) (format : Format) (tables : List TableDef) (e : TextFault) (parts : List StoredPart) (vs : List J) (i : ℕ) (v : J)
     (whole : Result (List Layer) TextFault) → i < length vs → v ≡ get_or vs i v
-    → Fails e (layer_of format tables (map stored_layer parts) (view v))
-    → layers_after format tables (map stored_layer parts) (items_seen view (drop i vs)) ≡ whole → Fails e whole
-ends view format tables e parts vs i v whole lt is failed so_far = fails_with e (layer_of format tables (map stored_layer parts) (view v)) _ whole failed
+    → Fails text_lacks_memory e (layer_of format tables (map stored_layer parts) (view v))
+    → layers_after format tables (map stored_layer parts) (items_seen view (drop i vs)) ≡ whole → Fails text_lacks_memory e whole
+ends view format tables e parts vs i v whole lt is failed so_far =
+    fails_with text_lacks_memory e (layer_of format tables (map stored_layer parts) (view v)) _ whole failed
     (sym (next view format tables (map stored_layer parts) vs i v lt is) ∙ so_far)
 
 -- no workspace is left

@@ -17,7 +17,8 @@ use Rattle.clr_rows.specs.Schemas.{row_fault, table_named}
 use Rattle.clr_rule_text.specs.declared.faults.TextFault.{TextFault}
 use Rattle.clr_rule_text.specs.declared.faults.TextFault.TheVariants.{BadField, BadRow, RepeatedCell}
 use Rattle.clr_office_text.specs.declared.cells.NamedRow.{NamedRow}
-use Rattle.clr_rule_text.specs.Fields.{◌>>=◌, none_or_fault, each, list_at, number_at, number_of, or_bad_field, words_at}
+use Rattle.clr_readings.specs.Readings.{◌>>=◌}
+use Rattle.clr_rule_text.specs.Fields.{none_or_fault, each, list_at, number_at, number_of, or_bad_field, words_at}
 use Rattle.clr_rule_text.specs.Values.{value_of}
 
 -- as they are written ------------------------------------------------------------------------
@@ -103,20 +104,20 @@ unfoldable pub cell_of : List TableDef → List ℕ → ℤ → Result CellId Te
 cell_of tables name key = table_or_bad_row (table_named tables name) >>= λ table. Ok (record { table = table; key = key })
 
 -- a content with one more row, which must fit the schema, at a cell that has none
-unfoldable pub with_row : List TableDef → Content → NamedRow → Result Content TextFault
-with_row tables content named = do
+unfoldable pub with_named_row : List TableDef → Content → NamedRow → Result Content TextFault
+with_named_row tables content named = do
   cell ← cell_of tables named.table named.key
   _ ← none_or_fault BadRow (row_fault tables cell named.row)
   _ ← none_or_fault RepeatedCell (row_at content cell)
   Ok (set_cell content cell (Some named.row))
 
 -- a content with more rows, one after another
-unfoldable pub with_rows : List TableDef → Content → List NamedRow → Result Content TextFault
-with_rows tables content [] = Ok content
-with_rows tables content (named ∷ others) = do
-  more ← with_row tables content named
-  with_rows tables more others
+unfoldable pub with_named_rows : List TableDef → Content → List NamedRow → Result Content TextFault
+with_named_rows tables content [] = Ok content
+with_named_rows tables content (named ∷ others) = do
+  more ← with_named_row tables content named
+  with_named_rows tables more others
 
 -- the content of LIVE: each row is read for BadField before any is put in
 unfoldable pub live_of : List TableDef → Data → Result Content TextFault
-live_of tables d = live_rows_of tables d >>= with_rows tables no_rows
+live_of tables d = live_rows_of tables d >>= with_named_rows tables no_rows

@@ -15,7 +15,8 @@ use Rattle.clr_rule_text.specs.declared.faults.TextFault.TheVariants.{NotJson, B
 use Rattle.clr_office_text.specs.declared.reading.OfficeParts.{OfficeParts}
 use Rattle.clr_office_text.specs.declared.formats.Format.{Format}
 use Rattle.clr_office_text.specs.declared.formats.Format.TheVariants.{First, Second, Third}
-use Rattle.clr_rule_text.specs.Fields.{◌>>=◌, none_or_fault, number_at}
+use Rattle.clr_readings.specs.Readings.{◌>>=◌}
+use Rattle.clr_rule_text.specs.Fields.{none_or_fault, number_at}
 use Rattle.clr_office_text.specs.Tables.{tables_of}
 use Rattle.clr_office_text.specs.Cells.{live_of}
 use Rattle.clr_rule_text.specs.Rules.{rules_of}

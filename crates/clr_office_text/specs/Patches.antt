@@ -13,7 +13,8 @@ use Rattle.clr_rule_text.specs.declared.faults.TextFault.{TextFault}
 use Rattle.clr_rule_text.specs.declared.faults.TextFault.TheVariants.{BadRow, RepeatedCell}
 use Rattle.clr_office_text.specs.declared.named_cells.NamedCell.{NamedCell}
 use Rattle.clr_office_text.specs.Cells.{cell_of, has_paths, row_of}
-use Rattle.clr_rule_text.specs.Fields.{◌>>=◌, each, flag_or_not, list_or_none, none_or_fault, number_at, words_at}
+use Rattle.clr_readings.specs.Readings.{◌>>=◌}
+use Rattle.clr_rule_text.specs.Fields.{each, flag_or_not, list_or_none, none_or_fault, number_at, words_at}
 
 -- a cell that is gone has no row, whatever else it has
 abbrev pub row_unless_gone : Bool → Bool → Data → Result (Option Row) TextFault
@@ -45,14 +46,14 @@ with_cell tables d named = do
   Ok (finite.insert d cell named.row)
 
 -- differences with more, one after another
-unfoldable pub with_cells : List TableDef → Differences → List NamedCell → Result Differences TextFault
-with_cells tables d [] = Ok d
-with_cells tables d (named ∷ others) = do
+unfoldable pub with_named_cells : List TableDef → Differences → List NamedCell → Result Differences TextFault
+with_named_cells tables d [] = Ok d
+with_named_cells tables d (named ∷ others) = do
   more ← with_cell tables d named
-  with_cells tables more others
+  with_named_cells tables more others
 
 abbrev pub differences_of : List TableDef → List NamedCell → Result Differences TextFault
-differences_of tables named = with_cells tables no_differences named
+differences_of tables named = with_named_cells tables no_differences named
 
 -- the cells at a key: each is read for BadField before any is put
 unfoldable pub differences_at : List ℕ → List TableDef → Data → Result Differences TextFault

@@ -11,7 +11,8 @@ use Rattle.clr_rule_text.specs.declared.faults.TextFault.{TextFault}
 use Rattle.clr_rule_text.specs.declared.faults.TextFault.TheVariants.{BadField}
 use Rattle.clr_office_text.specs.declared.formats.Format.{Format}
 use Rattle.clr_office_text.specs.declared.formats.Format.TheVariants.{First, Second, Third}
-use Rattle.clr_rule_text.specs.Fields.{◌>>=◌, each, field_of, list_at, list_of, words_at, words_of}
+use Rattle.clr_readings.specs.Readings.{◌>>=◌}
+use Rattle.clr_rule_text.specs.Fields.{each, field_of, list_at, array_of, words_at, words_of}
 
 abbrev pub kind_named : List ℕ → Result Kind TextFault
 kind_named word = if bytes_eq word (codes "INT") then Ok kind.Int else (if bytes_eq word (codes "TEXT") then Ok kind.Words else Err BadField)
@@ -47,7 +48,7 @@ pair_of (item d (item e no_items)) = do
 pair_of (item d (item e (item f more))) = Err BadField
 
 unfoldable pub column_of : Data → Result (List ℕ × Kind) TextFault
-column_of d = list_of d >>= pair_of
+column_of d = array_of d >>= pair_of
 
 unfoldable pub columns_of : Data → Result (List (List ℕ × Kind)) TextFault
 columns_of d = list_at (codes "columns") d >>= each column_of

@@ -20,7 +20,8 @@ use Rattle.clr_office_text.specs.declared.formats.Format.TheVariants.{First, Sec
 use Rattle.clr_office_text.specs.declared.named_marks.NamedMark.{NamedMark}
 use Rattle.clr_office_text.specs.declared.named_marks.NamedMark.TheVariants as named
 use Rattle.clr_office_text.specs.declared.workspaces.Head.{Head}
-use Rattle.clr_rule_text.specs.Fields.{◌>>=◌, each, each_in, flag_or_not, list_or_none, words_at, words_of}
+use Rattle.clr_readings.specs.Readings.{◌>>=◌}
+use Rattle.clr_rule_text.specs.Fields.{each, each_in, flag_or_not, list_or_none, words_at, words_of}
 use Rattle.clr_office_text.specs.Patches.{differences_at, differences_of, named_cells_at}
 
 -- marks --------------------------------------------------------------------------------------

@@ -2,7 +2,8 @@
 
 ghost use Rattle.std.specs.Prelude.{◌≡◌};
 ghost use Rattle.serde_json.specs.Find.{get};
-ghost use Rattle.clr_rule_text.specs.Fields.{Gives, each};
+ghost use Rattle.clr_readings.specs.Readings.{Gives};
+ghost use Rattle.clr_rule_text.specs.Fields.{each, text_lacks_memory};
 ghost use Rattle.clr_rule_text.specs.Seen.{items_seen};
 ghost use Rattle.clr_office_text.specs.Cells.{has_paths as table_has_paths, live_rows_of, named_row_of, place_of, places_of, row_of};
 ghost use Rattle.clr_office_text.specs.Cells.{shape_of, shape_with as shape_in, values_of, without_flag};
@@ -24,7 +25,7 @@ pub struct NamedRow {
 }
 
 fn each_value<J: JsonValue>(alloc: Global, items: &[J]) -> Result<Vec<Value>, TextFault>
-    ensures { Gives (λ v. v.items) result (each value_of (items_seen J.stands_for items.now)) }
+    ensures { Gives text_lacks_memory (λ v. v.items) result (each value_of (items_seen J.stands_for items.now)) }
 {
     let mut values = Vec::with_capacity(alloc, items.len())?;
     for item in items {
@@ -36,7 +37,7 @@ fn each_value<J: JsonValue>(alloc: Global, items: &[J]) -> Result<Vec<Value>, Te
 
 #[tactic(auto, unfolding(crate::specs::Cells::place_of))]
 fn place<J: JsonValue>(x: &J, y: &J) -> Result<Place, TextFault>
-    ensures { Gives (λ p. p) result (place_of (J.stands_for x.now) (J.stands_for y.now)) }
+    ensures { Gives text_lacks_memory (λ p. p) result (place_of (J.stands_for x.now) (J.stands_for y.now)) }
 {
     Ok(Place {
         x: number(x)?,
@@ -46,7 +47,7 @@ fn place<J: JsonValue>(x: &J, y: &J) -> Result<Place, TextFault>
 
 /// The places that numbers are two by two. Fails with `BadField` where one is left over.
 fn places<J: JsonValue>(alloc: Global, numbers: &[J]) -> Result<Vec<Place>, TextFault>
-    ensures { Gives (λ v. v.items) result (places_of (items_seen J.stands_for numbers.now)) }
+    ensures { Gives text_lacks_memory (λ v. v.items) result (places_of (items_seen J.stands_for numbers.now)) }
 {
     let mut places = Vec::with_capacity(alloc, numbers.len() / 2)?;
     let mut rest = numbers;
@@ -63,7 +64,7 @@ fn places<J: JsonValue>(alloc: Global, numbers: &[J]) -> Result<Vec<Place>, Text
 
 /// The shape of a row with these places, which are all vertices in a table of paths.
 fn shape_with(is_path: bool, places: Vec<Place>) -> Result<Shape, TextFault>
-    ensures { Gives (λ s. s) result (shape_in is_path places.items) }
+    ensures { Gives text_lacks_memory (λ s. s) result (shape_in is_path places.items) }
 {
     if is_path {
         return Ok(Shape::Chain(Vertices::new(places)));
@@ -78,7 +79,7 @@ fn shape_with(is_path: bool, places: Vec<Place>) -> Result<Shape, TextFault>
 
 #[tactic(auto, unfolding(crate::specs::Cells::values_of))]
 fn values<J: JsonValue>(alloc: Global, json: &J) -> Result<Values, TextFault>
-    ensures { Gives (λ v. v) result (values_of (J.stands_for json.now)) }
+    ensures { Gives text_lacks_memory (λ v. v) result (values_of (J.stands_for json.now)) }
 {
     let list = each_value(alloc, list_in(json, "v")?)?;
     Ok(Values::new(list))
@@ -86,7 +87,7 @@ fn values<J: JsonValue>(alloc: Global, json: &J) -> Result<Values, TextFault>
 
 #[tactic(auto, unfolding(crate::specs::Cells::shape_of))]
 fn shape<J: JsonValue>(alloc: Global, json: &J, is_path: bool) -> Result<Shape, TextFault>
-    ensures { Gives (λ s. s) result (shape_of is_path (J.stands_for json.now)) }
+    ensures { Gives text_lacks_memory (λ s. s) result (shape_of is_path (J.stands_for json.now)) }
 {
     let places = places(alloc, list_in(json, "s")?)?;
     shape_with(is_path, places)
@@ -96,7 +97,7 @@ fn shape<J: JsonValue>(alloc: Global, json: &J, is_path: bool) -> Result<Shape, 
 /// is none.
 #[tactic(auto, unfolding(crate::specs::Cells::row_of))]
 pub fn row<J: JsonValue>(alloc: Global, json: &J, is_path: bool) -> Result<Row, TextFault>
-    ensures { Gives (λ r. r) result (row_of is_path (J.stands_for json.now)) }
+    ensures { Gives text_lacks_memory (λ r. r) result (row_of is_path (J.stands_for json.now)) }
 {
     let values = values(alloc, json)?;
     let shape = shape(alloc, json, is_path)?;
@@ -105,7 +106,7 @@ pub fn row<J: JsonValue>(alloc: Global, json: &J, is_path: bool) -> Result<Row, 
 
 /// Tests whether the flag at a key isn't set. Fails with `BadField` where it is set, or is no flag.
 fn require_no_flag<J: JsonValue>(json: &J, key: &str) -> Result<(), TextFault>
-    ensures { Gives (λ u. u) result (without_flag (get key.now (J.stands_for json.now))) }
+    ensures { Gives text_lacks_memory (λ u. u) result (without_flag (get key.now (J.stands_for json.now))) }
 {
     match json.member(key) {
         None => Ok(()),
@@ -137,7 +138,7 @@ pub fn named_row<J: JsonValue>(
     json: &J,
     schema: &Schema,
 ) -> Result<NamedRow, TextFault>
-    ensures { Gives (λ r. r) result (named_row_of schema.now (J.stands_for json.now)) }
+    ensures { Gives text_lacks_memory (λ r. r) result (named_row_of schema.now (J.stands_for json.now)) }
 {
     let table = words_in(alloc, json, "t")?;
     let key = number_in(json, "k")?;
@@ -152,7 +153,7 @@ fn each_named_row<J: JsonValue>(
     items: &[J],
     schema: &Schema,
 ) -> Result<Vec<NamedRow>, TextFault>
-    ensures { Gives (λ v. v.items) result (each (named_row_of schema.now) (items_seen J.stands_for items.now)) }
+    ensures { Gives text_lacks_memory (λ v. v.items) result (each (named_row_of schema.now) (items_seen J.stands_for items.now)) }
 {
     let mut rows = Vec::new(alloc);
     for item in items {
@@ -170,7 +171,7 @@ pub fn live_rows<J: JsonValue>(
     json: &J,
     schema: &Schema,
 ) -> Result<Vec<NamedRow>, TextFault>
-    ensures { Gives (λ v. v.items) result (live_rows_of schema.now (J.stands_for json.now)) }
+    ensures { Gives text_lacks_memory (λ v. v.items) result (live_rows_of schema.now (J.stands_for json.now)) }
 {
     each_named_row(alloc, list_in(json, "live")?, schema)
 }

@@ -1,7 +1,8 @@
 //! The formats of office texts.
 
 ghost use Rattle.std.specs.Prelude.{◌≡◌};
-ghost use Rattle.clr_rule_text.specs.Fields.{Gives};
+ghost use Rattle.clr_readings.specs.Readings.{Gives};
+ghost use Rattle.clr_rule_text.specs.Fields.{text_lacks_memory};
 ghost use Rattle.clr_office_text.specs.Offices.{format_of};
 
 use clr_rule_text::TextFault;
@@ -22,7 +23,7 @@ pub enum Format {
 /// Returns the format of an office text. Fails with `BadField` where it is none of 1 to 3.
 #[tactic(auto, unfolding(crate::specs::Offices::format_of))]
 pub fn read_format<J: JsonValue>(json: &J) -> Result<Format, TextFault>
-    ensures { Gives (λ f. f) result (format_of (J.stands_for json.now)) }
+    ensures { Gives text_lacks_memory (λ f. f) result (format_of (J.stands_for json.now)) }
 {
     match number_in(json, "format")? {
         1 => Ok(Format::First),

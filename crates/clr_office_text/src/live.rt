@@ -3,8 +3,9 @@
 ghost use Rattle.std.specs.Prelude.{◌≡◌, IfOk, OnErr, Some};
 ghost use Rattle.clr_rows.specs.Contents.{no_rows, set_cell};
 ghost use Rattle.clr_rows.specs.Schemas.{FitsSchema};
-ghost use Rattle.clr_rule_text.specs.Fields.{Gives};
-ghost use Rattle.clr_office_text.specs.Cells.{cell_of, live_of, with_row, with_rows};
+ghost use Rattle.clr_readings.specs.Readings.{Gives};
+ghost use Rattle.clr_rule_text.specs.Fields.{text_lacks_memory};
+ghost use Rattle.clr_office_text.specs.Cells.{cell_of, live_of, with_named_row, with_named_rows};
 
 use crate::cells::{NamedRow, live_rows};
 use clr_rows::{CellId, Schema, Sheet, Words};
@@ -16,7 +17,7 @@ use std::alloc::Global;
 /// table.
 #[tactic(auto, unfolding(crate::specs::Cells::cell_of))]
 pub fn cell(schema: &Schema, table: &Words, key: i64) -> Result<CellId, TextFault>
-    ensures { Gives (λ c. c) result (cell_of schema.now table.now key) }
+    ensures { Gives text_lacks_memory (λ c. c) result (cell_of schema.now table.now key) }
 {
     match schema.table(table.as_str()) {
         Some(table) => Ok(CellId { table, key }),
@@ -26,9 +27,9 @@ pub fn cell(schema: &Schema, table: &Words, key: i64) -> Result<CellId, TextFaul
 
 /// Returns the cell of a row whose table is named. Fails with `BadRow` where there is no such table or
 /// the row doesn't fit it, and with `RepeatedCell` where the sheet has a row there.
-#[tactic(auto, unfolding(crate::specs::Cells::with_row))]
+#[tactic(auto, unfolding(crate::specs::Cells::with_named_row))]
 fn free_cell(schema: &Schema, sheet: &Sheet, named: &NamedRow) -> Result<CellId, TextFault>
-    ensures { Gives (λ c. set_cell sheet.now c (Some named.now.row)) result (with_row schema.now sheet.now named.now) }
+    ensures { Gives text_lacks_memory (λ c. set_cell sheet.now c (Some named.now.row)) result (with_named_row schema.now sheet.now named.now) }
 {
     let cell = cell(schema, &named.table, named.key)?;
     if schema.fits(cell, &named.row).is_err() {
@@ -42,7 +43,7 @@ fn free_cell(schema: &Schema, sheet: &Sheet, named: &NamedRow) -> Result<CellId,
 
 /// Puts a row whose table is named into a sheet. Where it fails, the sheet stays as it is.
 pub fn put_row(schema: &Schema, sheet: &mut Sheet, named: NamedRow) -> Result<(), TextFault>
-    ensures value { Gives (λ _. sheet.new) result (with_row schema.now sheet.old named) }
+    ensures value { Gives text_lacks_memory (λ _. sheet.new) result (with_named_row schema.now sheet.old named) }
     ensures err { OnErr result (sheet.new ≡ sheet.old) }
 {
     let cell = free_cell(schema, sheet, &named)?;
@@ -50,9 +51,9 @@ pub fn put_row(schema: &Schema, sheet: &mut Sheet, named: NamedRow) -> Result<()
     Ok(())
 }
 
-#[tactic(auto, unfolding(crate::specs::Cells::with_rows))]
+#[tactic(auto, unfolding(crate::specs::Cells::with_named_rows))]
 fn sheet(alloc: Global, schema: &Schema, rows: Vec<NamedRow>) -> Result<Sheet, TextFault>
-    ensures value { Gives (λ s. s) result (with_rows schema.now no_rows rows.items) }
+    ensures value { Gives text_lacks_memory (λ s. s) result (with_named_rows schema.now no_rows rows.items) }
     ensures fits { IfOk result (λ s. FitsSchema schema.now s) }
 {
     let mut sheet = Sheet::new(alloc);
@@ -68,7 +69,7 @@ fn sheet(alloc: Global, schema: &Schema, rows: Vec<NamedRow>) -> Result<Sheet, T
 /// `RepeatedCell` where the cell stood earlier in the list.
 #[tactic(auto, unfolding(crate::specs::Cells::live_of))]
 pub fn live<J: JsonValue>(alloc: Global, json: &J, schema: &Schema) -> Result<Sheet, TextFault>
-    ensures value { Gives (λ s. s) result (live_of schema.now (J.stands_for json.now)) }
+    ensures value { Gives text_lacks_memory (λ s. s) result (live_of schema.now (J.stands_for json.now)) }
     ensures fits { IfOk result (λ s. FitsSchema schema.now s) }
 {
     sheet(alloc, schema, live_rows(alloc, json, schema)?)

@@ -1,7 +1,8 @@
 //! Cells that are put over a content, as they are written.
 
 ghost use Rattle.std.specs.Prelude.{◌≡◌};
-ghost use Rattle.clr_rule_text.specs.Fields.{Gives, each};
+ghost use Rattle.clr_readings.specs.Readings.{Gives};
+ghost use Rattle.clr_rule_text.specs.Fields.{each, text_lacks_memory};
 ghost use Rattle.clr_rule_text.specs.Seen.{items_seen};
 ghost use Rattle.clr_office_text.specs.Patches.{named_cell_of, named_cells_at, row_unless_gone as row_meant};
 
@@ -30,7 +31,7 @@ fn row_unless_gone<J: JsonValue>(
     is_path: bool,
     json: &J,
 ) -> Result<Option<Row>, TextFault>
-    ensures { Gives (λ r. r) result (row_meant is_gone is_path (J.stands_for json.now)) }
+    ensures { Gives text_lacks_memory (λ r. r) result (row_meant is_gone is_path (J.stands_for json.now)) }
 {
     if is_gone {
         return Ok(None);
@@ -46,7 +47,7 @@ pub fn named_cell<J: JsonValue>(
     json: &J,
     schema: &Schema,
 ) -> Result<NamedCell, TextFault>
-    ensures { Gives (λ c. c) result (named_cell_of schema.now (J.stands_for json.now)) }
+    ensures { Gives text_lacks_memory (λ c. c) result (named_cell_of schema.now (J.stands_for json.now)) }
 {
     let table = words_in(alloc, json, "t")?;
     let key = number_in(json, "k")?;
@@ -61,7 +62,7 @@ fn each_named_cell<J: JsonValue>(
     items: &[J],
     schema: &Schema,
 ) -> Result<Vec<NamedCell>, TextFault>
-    ensures { Gives (λ v. v.items) result (each (named_cell_of schema.now) (items_seen J.stands_for items.now)) }
+    ensures { Gives text_lacks_memory (λ v. v.items) result (each (named_cell_of schema.now) (items_seen J.stands_for items.now)) }
 {
     let mut cells = Vec::new(alloc);
     for item in items {
@@ -80,7 +81,7 @@ pub fn named_cells<J: JsonValue>(
     key: &str,
     schema: &Schema,
 ) -> Result<NamedCells, TextFault>
-    ensures { Gives (λ v. v) result (named_cells_at key.now schema.now (J.stands_for json.now)) }
+    ensures { Gives text_lacks_memory (λ v. v) result (named_cells_at key.now schema.now (J.stands_for json.now)) }
 {
     let list = each_named_cell(alloc, optional_list(json, key)?, schema)?;
     Ok(NamedCells::new(list))

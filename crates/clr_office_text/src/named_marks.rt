@@ -1,7 +1,8 @@
 //! Marks, as they are written.
 
 ghost use Rattle.std.specs.Prelude.{◌≡◌};
-ghost use Rattle.clr_rule_text.specs.Fields.{Gives, each, each_in};
+ghost use Rattle.clr_readings.specs.Readings.{Gives};
+ghost use Rattle.clr_rule_text.specs.Fields.{each, each_in, text_lacks_memory};
 ghost use Rattle.clr_rule_text.specs.Seen.{items_seen};
 ghost use Rattle.clr_office_text.specs.Workspaces.{mark_over, marks_of, named_mark_of, named_marks_of, saved_of};
 
@@ -28,7 +29,7 @@ fn read_savepoint<J: JsonValue>(
     json: &J,
     schema: &Schema,
 ) -> Result<NamedMark, TextFault>
-    ensures { Gives (λ m. m) result (saved_of schema.now (J.stands_for json.now)) }
+    ensures { Gives text_lacks_memory (λ m. m) result (saved_of schema.now (J.stands_for json.now)) }
 {
     let name = words_in(alloc, json, "savepoint")?;
     let cells = named_cells(alloc, json, "rows", schema)?;
@@ -43,7 +44,7 @@ pub fn named_mark<J: JsonValue>(
     json: &J,
     schema: &Schema,
 ) -> Result<NamedMark, TextFault>
-    ensures { Gives (λ m. m) result (named_mark_of schema.now (J.stands_for json.now)) }
+    ensures { Gives text_lacks_memory (λ m. m) result (named_mark_of schema.now (J.stands_for json.now)) }
 {
     match json.member("child") {
         Some(child) => Ok(NamedMark::Child(words_from(alloc, words(child)?)?)),
@@ -56,7 +57,7 @@ fn each_named_mark<J: JsonValue>(
     items: &[J],
     schema: &Schema,
 ) -> Result<Vec<NamedMark>, TextFault>
-    ensures { Gives (λ v. v.items) result (each (named_mark_of schema.now) (items_seen J.stands_for items.now)) }
+    ensures { Gives text_lacks_memory (λ v. v.items) result (each (named_mark_of schema.now) (items_seen J.stands_for items.now)) }
 {
     let mut marks = Vec::new(alloc);
     for item in items {
@@ -72,14 +73,14 @@ fn named_marks<J: JsonValue>(
     json: &J,
     schema: &Schema,
 ) -> Result<Vec<NamedMark>, TextFault>
-    ensures { Gives (λ v. v.items) result (named_marks_of schema.now (J.stands_for json.now)) }
+    ensures { Gives text_lacks_memory (λ v. v.items) result (named_marks_of schema.now (J.stands_for json.now)) }
 {
     each_named_mark(alloc, optional_list(json, "marks")?, schema)
 }
 
 /// A mark of a workspace. The cells of a savepoint fail as `differences` does.
 pub fn mark(alloc: Global, schema: &Schema, named: NamedMark) -> Result<StoredMark, TextFault>
-    ensures { Gives (λ m. m) result (mark_over schema.now named) }
+    ensures { Gives text_lacks_memory (λ m. m) result (mark_over schema.now named) }
 {
     match named {
         NamedMark::Child(name) => Ok(StoredMark::Child(name)),
@@ -94,7 +95,7 @@ fn each_mark(
     schema: &Schema,
     named: Vec<NamedMark>,
 ) -> Result<Vec<StoredMark>, TextFault>
-    ensures { Gives (λ v. v.items) result (each_in (mark_over schema.now) named.items) }
+    ensures { Gives text_lacks_memory (λ v. v.items) result (each_in (mark_over schema.now) named.items) }
 {
     let mut marks = Vec::new(alloc);
     for item in named {
@@ -113,7 +114,7 @@ pub fn marks<J: JsonValue>(
     json: &J,
     schema: &Schema,
 ) -> Result<Vec<StoredMark>, TextFault>
-    ensures { Gives (λ v. v.items) result (marks_of schema.now (J.stands_for json.now)) }
+    ensures { Gives text_lacks_memory (λ v. v.items) result (marks_of schema.now (J.stands_for json.now)) }
 {
     each_mark(alloc, schema, named_marks(alloc, json, schema)?)
 }

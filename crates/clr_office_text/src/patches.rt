@@ -3,8 +3,9 @@
 ghost use Rattle.std.specs.Prelude.{◌≡◌, is_none, OnErr};
 ghost use Rattle.std.specs.FinMap as finite;
 ghost use Rattle.clr_differences.specs.Differences.{no_differences};
-ghost use Rattle.clr_rule_text.specs.Fields.{Gives};
-ghost use Rattle.clr_office_text.specs.Patches.{differences_at, differences_of, put_fault, with_cell, with_cells};
+ghost use Rattle.clr_readings.specs.Readings.{Gives};
+ghost use Rattle.clr_rule_text.specs.Fields.{text_lacks_memory};
+ghost use Rattle.clr_office_text.specs.Patches.{differences_at, differences_of, put_fault, with_cell, with_named_cells};
 
 use crate::live::cell;
 use crate::named_cells::{NamedCell, NamedCells, named_cells};
@@ -33,7 +34,7 @@ fn free_cell(
     differences: &Differences,
     named: &NamedCell,
 ) -> Result<CellId, TextFault>
-    ensures { Gives (λ c. finite.insert differences.now c named.now.row) result (with_cell schema.now differences.now named.now) }
+    ensures { Gives text_lacks_memory (λ c. finite.insert differences.now c named.now.row) result (with_cell schema.now differences.now named.now) }
 {
     let cell = cell(schema, &named.table, named.key)?;
     if !can_put(schema, cell, &named.row) {
@@ -52,7 +53,7 @@ pub fn put_cell(
     differences: &mut Differences,
     named: NamedCell,
 ) -> Result<(), TextFault>
-    ensures value { Gives (λ _. differences.new) result (with_cell schema.now differences.old named) }
+    ensures value { Gives text_lacks_memory (λ _. differences.new) result (with_cell schema.now differences.old named) }
     ensures err { OnErr result (differences.new ≡ differences.old) }
 {
     let cell = free_cell(schema, differences, &named)?;
@@ -63,13 +64,13 @@ pub fn put_cell(
 /// Returns the differences that cells make. Fails, cell by cell, with `BadRow` where the table
 /// isn't known, or the row doesn't fit it, or no row could stand where one is gone, and with
 /// `RepeatedCell` where the cell stood earlier in the list.
-#[tactic(auto, unfolding(crate::specs::Patches::with_cells))]
+#[tactic(auto, unfolding(crate::specs::Patches::with_named_cells))]
 pub fn differences(
     alloc: Global,
     schema: &Schema,
     cells: NamedCells,
 ) -> Result<Differences, TextFault>
-    ensures { Gives (λ d. d) result (differences_of schema.now cells) }
+    ensures { Gives text_lacks_memory (λ d. d) result (differences_of schema.now cells) }
 {
     let mut differences = Differences::new(alloc);
     for named in cells.into_vec() {
@@ -88,7 +89,7 @@ pub fn differences_in<J: JsonValue>(
     key: &str,
     schema: &Schema,
 ) -> Result<Differences, TextFault>
-    ensures { Gives (λ d. d) result (differences_at key.now schema.now (J.stands_for json.now)) }
+    ensures { Gives text_lacks_memory (λ d. d) result (differences_at key.now schema.now (J.stands_for json.now)) }
 {
     differences(alloc, schema, named_cells(alloc, json, key, schema)?)
 }

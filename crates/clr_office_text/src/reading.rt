@@ -1,7 +1,8 @@
 //! Reading office texts.
 
 ghost use Rattle.std.specs.Prelude.{◌≡◌, IfOk};
-ghost use Rattle.clr_rule_text.specs.Fields.{Gives};
+ghost use Rattle.clr_readings.specs.Readings.{Gives};
+ghost use Rattle.clr_rule_text.specs.Fields.{text_lacks_memory};
 ghost use Rattle.clr_office_text.specs.Fits.{FitsOffice};
 ghost use Rattle.clr_office_text.specs.Offices.{office_in, office_of, office_read, schema_of};
 
@@ -34,7 +35,7 @@ pub struct OfficeParts {
 /// none of those that may stand there, and then with `BadSchema` where the tables make no schema.
 #[tactic(auto, unfolding(crate::specs::Offices::schema_of))]
 pub fn schema<J: JsonValue>(alloc: Global, json: &J, format: Format) -> Result<Schema, TextFault>
-    ensures { Gives (λ s. s) result (schema_of format (J.stands_for json.now)) }
+    ensures { Gives text_lacks_memory (λ s. s) result (schema_of format (J.stands_for json.now)) }
 {
     match Schema::new(tables(alloc, json, format)?) {
         Ok(schema) => Ok(schema),
@@ -44,7 +45,7 @@ pub fn schema<J: JsonValue>(alloc: Global, json: &J, format: Format) -> Result<S
 
 #[tactic(auto, unfolding(crate::specs::Offices::office_of))]
 fn office<J: JsonValue>(alloc: Global, json: &J) -> Result<OfficeParts, TextFault>
-    ensures value { Gives office_read result (office_of (J.stands_for json.now)) }
+    ensures value { Gives text_lacks_memory office_read result (office_of (J.stands_for json.now)) }
     ensures fits { IfOk result (λ o. FitsOffice (office_read o)) }
 {
     let format = read_format(json)?;
@@ -76,7 +77,7 @@ fn office<J: JsonValue>(alloc: Global, json: &J) -> Result<OfficeParts, TextFaul
 /// of memory is `OutOfMemory`, which may come in place of any other answer.
 #[tactic(auto, unfolding(crate::specs::Offices::office_in))]
 pub fn read_office(alloc: Global, bytes: &[u8]) -> Result<OfficeParts, TextFault>
-    ensures value { Gives office_read result (office_in bytes.now) }
+    ensures value { Gives text_lacks_memory office_read result (office_in bytes.now) }
     ensures fits { IfOk result (λ o. FitsOffice (office_read o)) }
 {
     let Ok(text) = from_utf8(bytes) else {

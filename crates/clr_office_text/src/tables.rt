@@ -1,7 +1,8 @@
 //! The tables of an office text.
 
 ghost use Rattle.std.specs.Prelude.{◌≡◌};
-ghost use Rattle.clr_rule_text.specs.Fields.{Gives, each};
+ghost use Rattle.clr_readings.specs.Readings.{Gives};
+ghost use Rattle.clr_rule_text.specs.Fields.{each, text_lacks_memory};
 ghost use Rattle.clr_rule_text.specs.Seen.{items_seen};
 ghost use Rattle.clr_office_text.specs.Tables.{column_of, columns_of, form_of, kind_of, pair_of, path_in, table_of, tables_of};
 
@@ -13,7 +14,7 @@ use clr_rule_text::json_values::JsonValue;
 use std::alloc::Global;
 
 fn kind<J: JsonValue>(json: &J) -> Result<Kind, TextFault>
-    ensures { Gives (λ k. k) result (kind_of (J.stands_for json.now)) }
+    ensures { Gives text_lacks_memory (λ k. k) result (kind_of (J.stands_for json.now)) }
 {
     match words(json)? {
         "INT" => Ok(Kind::Int),
@@ -33,7 +34,7 @@ fn path(format: Format) -> Result<Form, TextFault>
 }
 
 fn form<J: JsonValue>(json: &J, format: Format) -> Result<Form, TextFault>
-    ensures { Gives (λ f. f) result (form_of format (J.stands_for json.now)) }
+    ensures { Gives text_lacks_memory (λ f. f) result (form_of format (J.stands_for json.now)) }
 {
     match words(json)? {
         "NONE" => Ok(Form::Bare),
@@ -46,7 +47,7 @@ fn form<J: JsonValue>(json: &J, format: Format) -> Result<Form, TextFault>
 
 #[tactic(auto, unfolding(crate::specs::Tables::pair_of))]
 fn pair<J: JsonValue>(alloc: Global, items: &[J]) -> Result<(Words, Kind), TextFault>
-    ensures { Gives (λ c. c) result (pair_of (items_seen J.stands_for items.now)) }
+    ensures { Gives text_lacks_memory (λ c. c) result (pair_of (items_seen J.stands_for items.now)) }
 {
     match items {
         [name, word] => {
@@ -59,13 +60,13 @@ fn pair<J: JsonValue>(alloc: Global, items: &[J]) -> Result<(Words, Kind), TextF
 
 #[tactic(auto, unfolding(crate::specs::Tables::column_of))]
 fn column<J: JsonValue>(alloc: Global, json: &J) -> Result<(Words, Kind), TextFault>
-    ensures { Gives (λ c. c) result (column_of (J.stands_for json.now)) }
+    ensures { Gives text_lacks_memory (λ c. c) result (column_of (J.stands_for json.now)) }
 {
     pair(alloc, list(json)?)
 }
 
 fn each_column<J: JsonValue>(alloc: Global, items: &[J]) -> Result<Vec<(Words, Kind)>, TextFault>
-    ensures { Gives (λ v. v.items) result (each column_of (items_seen J.stands_for items.now)) }
+    ensures { Gives text_lacks_memory (λ v. v.items) result (each column_of (items_seen J.stands_for items.now)) }
 {
     let mut columns = Vec::new(alloc);
     for item in items {
@@ -77,7 +78,7 @@ fn each_column<J: JsonValue>(alloc: Global, items: &[J]) -> Result<Vec<(Words, K
 
 #[tactic(auto, unfolding(crate::specs::Tables::columns_of))]
 fn columns<J: JsonValue>(alloc: Global, json: &J) -> Result<Columns, TextFault>
-    ensures { Gives (λ c. c) result (columns_of (J.stands_for json.now)) }
+    ensures { Gives text_lacks_memory (λ c. c) result (columns_of (J.stands_for json.now)) }
 {
     let list = each_column(alloc, list_in(json, "columns")?)?;
     Ok(Columns::new(list))
@@ -87,7 +88,7 @@ fn columns<J: JsonValue>(alloc: Global, json: &J) -> Result<Columns, TextFault>
 /// that may stand there.
 #[tactic(auto, unfolding(crate::specs::Tables::table_of))]
 pub fn table<J: JsonValue>(alloc: Global, json: &J, format: Format) -> Result<TableDef, TextFault>
-    ensures { Gives (λ t. t) result (table_of format (J.stands_for json.now)) }
+    ensures { Gives text_lacks_memory (λ t. t) result (table_of format (J.stands_for json.now)) }
 {
     let name = words_in(alloc, json, "name")?;
     let columns = columns(alloc, json)?;
@@ -104,7 +105,7 @@ fn each_table<J: JsonValue>(
     items: &[J],
     format: Format,
 ) -> Result<Vec<TableDef>, TextFault>
-    ensures { Gives (λ v. v.items) result (each (table_of format) (items_seen J.stands_for items.now)) }
+    ensures { Gives text_lacks_memory (λ v. v.items) result (each (table_of format) (items_seen J.stands_for items.now)) }
 {
     let mut tables = Vec::new(alloc);
     for item in items {
@@ -122,7 +123,7 @@ pub fn tables<J: JsonValue>(
     json: &J,
     format: Format,
 ) -> Result<Vec<TableDef>, TextFault>
-    ensures { Gives (λ v. v.items) result (tables_of format (J.stands_for json.now)) }
+    ensures { Gives text_lacks_memory (λ v. v.items) result (tables_of format (J.stands_for json.now)) }
 {
     each_table(alloc, list_in(json, "tables")?, format)
 }

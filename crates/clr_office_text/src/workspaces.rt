@@ -2,7 +2,8 @@
 
 ghost use Rattle.std.specs.Prelude.{◌≡◌, [], map};
 ghost use Rattle.clr_layers.specs.Entries.{stored_layer};
-ghost use Rattle.clr_rule_text.specs.Fields.{Gives};
+ghost use Rattle.clr_readings.specs.Readings.{Gives};
+ghost use Rattle.clr_rule_text.specs.Fields.{text_lacks_memory};
 ghost use Rattle.clr_rule_text.specs.Seen.{items_seen};
 ghost use Rattle.clr_office_text.specs.Workspaces.{HasNames, contents_of, head_of, kept_of, layer_of, layers_after, layers_of, under_one_of};
 
@@ -28,7 +29,7 @@ pub struct Head {
 }
 
 fn read_kept<J: JsonValue>(json: &J, format: Format) -> Result<bool, TextFault>
-    ensures { Gives (λ b. b) result (kept_of format (J.stands_for json.now)) }
+    ensures { Gives text_lacks_memory (λ b. b) result (kept_of format (J.stands_for json.now)) }
 {
     match format {
         Format::First | Format::Second => Ok(false),
@@ -40,7 +41,7 @@ fn read_kept<J: JsonValue>(json: &J, format: Format) -> Result<bool, TextFault>
 /// of those that may stand there.
 #[tactic(auto, unfolding(crate::specs::Workspaces::head_of))]
 pub fn read_head<J: JsonValue>(alloc: Global, json: &J, format: Format) -> Result<Head, TextFault>
-    ensures { Gives (λ h. h) result (head_of format (J.stands_for json.now)) }
+    ensures { Gives text_lacks_memory (λ h. h) result (head_of format (J.stands_for json.now)) }
 {
     let name = words_in(alloc, json, "name")?;
     let parent = words_in(alloc, json, "parent")?;
@@ -54,7 +55,7 @@ fn head_under(
     head: Head,
 ) -> Result<Head, TextFault>
     requires { HasNames names.now (map stored_layer earlier.now) }
-    ensures { Gives (λ h. h) result (under_one_of (map stored_layer earlier.now) head) }
+    ensures { Gives text_lacks_memory (λ h. h) result (under_one_of (map stored_layer earlier.now) head) }
 {
     let _earlier = earlier;
     if stands(names, head.parent.as_str()) {
@@ -71,7 +72,7 @@ fn contents<J: JsonValue>(
     json: &J,
     schema: &Schema,
 ) -> Result<(Differences, Differences, Vec<StoredMark>), TextFault>
-    ensures { Gives (λ c. (c.0, c.1, c.2.items)) result (contents_of schema.now (J.stands_for json.now)) }
+    ensures { Gives text_lacks_memory (λ c. (c.0, c.1, c.2.items)) result (contents_of schema.now (J.stands_for json.now)) }
 {
     let base = differences_in(alloc, json, "base", schema)?;
     let current = differences_in(alloc, json, "rows", schema)?;
@@ -90,7 +91,7 @@ pub fn workspace<J: JsonValue>(
     names: &BTreeSet<String>,
 ) -> Result<StoredPart, TextFault>
     requires { HasNames names.now (map stored_layer earlier.now) }
-    ensures { Gives stored_layer result (layer_of format schema.now (map stored_layer earlier.now) (J.stands_for json.now)) }
+    ensures { Gives text_lacks_memory stored_layer result (layer_of format schema.now (map stored_layer earlier.now) (J.stands_for json.now)) }
 {
     let head = head_under(earlier, names, read_head(alloc, json, format)?)?;
     let contents = contents(alloc, json, schema)?;
@@ -113,7 +114,7 @@ fn each_workspace<J: JsonValue>(
     format: Format,
     schema: &Schema,
 ) -> Result<Vec<StoredPart>, TextFault>
-    ensures { Gives (λ v. map stored_layer v.items) result (layers_after format schema.now [] (items_seen J.stands_for items.now)) }
+    ensures { Gives text_lacks_memory (λ v. map stored_layer v.items) result (layers_after format schema.now [] (items_seen J.stands_for items.now)) }
 {
     let mut parts = Vec::new(alloc);
     let mut names = BTreeSet::new(alloc);
@@ -138,7 +139,7 @@ pub fn stored_parts<J: JsonValue>(
     format: Format,
     schema: &Schema,
 ) -> Result<Vec<StoredPart>, TextFault>
-    ensures { Gives (λ v. map stored_layer v.items) result (layers_of format schema.now (J.stands_for json.now)) }
+    ensures { Gives text_lacks_memory (λ v. map stored_layer v.items) result (layers_of format schema.now (J.stands_for json.now)) }
 {
     each_workspace(alloc, optional_list(json, "workspaces")?, format, schema)
 }

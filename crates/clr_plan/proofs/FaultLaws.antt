@@ -15,7 +15,7 @@ use Rattle.clr_clearance.specs.declared.verdicts.Verdict.{Verdict}
 use Rattle.clr_clearance.specs.declared.verdicts.Verdict.TheVariants as verdict
 use Rattle.clr_clearance.specs.Plans.{IsBlocked, IsUnfit, of_conflict, of_shared, of_unpicked}
 use Rattle.clr_clearance.specs.Sites.{change_sets, setting_by_position}
-use Rattle.clr_clearance.specs.Verdicts.{first_conflict, first_repeated, member_fault, missing_member, name_fault, repeated_member, root_fault, stray_member}
+use Rattle.clr_clearance.specs.Verdicts.{first_conflict, first_repeated, member_fault, missing_member, names_fault, repeated_member, root_fault, stray_member}
 use Rattle.clr_sites.specs.Faults.{IsSiteFault, of_member, without_memory}
 use Rattle.clr_plan.specs.declared.plans.Plan.{Plan}
 use Rattle.clr_plan.specs.declared.plans.Plan.TheVariants as plan
@@ -65,8 +65,8 @@ each_is : (P : Verdict → Type 0) (r : Option Verdict) (v : Verdict) → Each P
 each_is P None v h e = let clash : None ≡ Some v = e in absurd (cc)
 each_is P (Some w) v h e = let same : w ≡ v = cc in subst P same h
 
-of_names : (o : Office) (s : Site) → Each OfNames (name_fault o s)
-unfolding name_fault
+of_names : (o : Office) (s : Site) → Each OfNames (names_fault o s)
+unfolding names_fault
 of_names o s = each_or OfNames (root_fault o s) (option_or (repeated_member s) (option_or (missing_member o s) (stray_member o s)))
     (each_if OfNames (is_kept o s.root) verdict.NotKept tt)
     (each_or OfNames (repeated_member s) (option_or (missing_member o s) (stray_member o s)) (each_map OfNames verdict.RepeatedMember (first_repeated s.members)
@@ -89,42 +89,43 @@ none_before None q e = refl
 none_before (Some v) q e = absurd (cc)
 
 -- where no test of members fails, none of names does
-pub no_name_fault : (o : Office) (s : Site) → member_fault o s ≡ None → name_fault o s ≡ None
-no_name_fault o s e = none_before (name_fault o s) (first_conflict o 0 s.members) e
+pub no_name_fault : (o : Office) (s : Site) → member_fault o s ≡ None → names_fault o s ≡ None
+no_name_fault o s e = none_before (names_fault o s) (first_conflict o 0 s.members) e
 
 module _ (o : Office) (s : Site) where
-  found : (v : Verdict) → member_fault o s ≡ Some v → (IsUnfit o s v × OfNames v) ⊎ (((name_fault o s ≡ None) × (first_conflict o 0 s.members ≡ Some v))
+  found : (v : Verdict) → member_fault o s ≡ Some v → (IsUnfit o s v × OfNames v) ⊎ (((names_fault o s ≡ None) × (first_conflict o 0 s.members ≡ Some v))
       × OfConflicts v)
-  found v e = by (either_found (name_fault o s) (first_conflict o 0 s.members) v e)
+  found v e = by (either_found (names_fault o s) (first_conflict o 0 s.members) v e)
     where
-      by : (name_fault o s ≡ Some v) ⊎ ((name_fault o s ≡ None) × (first_conflict o 0 s.members ≡ Some v)) → (IsUnfit o s v × OfNames v)
-          ⊎ (((name_fault o s ≡ None) × (first_conflict o 0 s.members ≡ Some v)) × OfConflicts v)
-      by (inl f) = inl (f, each_is OfNames (name_fault o s) v (of_names o s) f)
+      by : (names_fault o s ≡ Some v) ⊎ ((names_fault o s ≡ None) × (first_conflict o 0 s.members ≡ Some v)) → (IsUnfit o s v × OfNames v)
+          ⊎ (((names_fault o s ≡ None) × (first_conflict o 0 s.members ≡ Some v)) × OfConflicts v)
+      by (inl f) = inl (f, each_is OfNames (names_fault o s) v (of_names o s) f)
       by (inr f) = inr (f, each_is OfConflicts (first_conflict o 0 s.members) v (of_conflicts o 0 s.members) f.1)
 
   -- want of memory is no test that fails
-  pub memory_fault : IsSiteFault o s verdict.OutOfMemory → name_fault o s ≡ None
+  pub memory_fault : IsSiteFault o s verdict.OutOfMemory → names_fault o s ≡ None
   memory_fault (of_member e) = by (found verdict.OutOfMemory e)
     where
-      by : (IsUnfit o s verdict.OutOfMemory × ⊥) ⊎ (((name_fault o s ≡ None) × (first_conflict o 0 s.members ≡ Some verdict.OutOfMemory)) × ⊥) → name_fault o s
+      by : (IsUnfit o s verdict.OutOfMemory × ⊥) ⊎ (((names_fault o s ≡ None) × (first_conflict o 0 s.members ≡ Some verdict.OutOfMemory)) × ⊥)
+          → names_fault o s
           ≡ None
       by (inl h) = absurd h.1
       by (inr h) = absurd h.1
   memory_fault (without_memory none same) = none
 
   -- a member in conflict is an order of its own
-  conflict_blocks : (at : ℕ) (cell : CellId) (count : ℕ) → IsSiteFault o s (verdict.Conflict at cell count) → (name_fault o s ≡ None)
+  conflict_blocks : (at : ℕ) (cell : CellId) (count : ℕ) → IsSiteFault o s (verdict.Conflict at cell count) → (names_fault o s ≡ None)
       × IsBlocked o s (at ∷ []) (verdict.Conflict at cell count)
   conflict_blocks at cell count (of_member e) = by (found (verdict.Conflict at cell count) e)
     where
       by : (IsUnfit o s (verdict.Conflict at cell count) × ⊥)
-          ⊎ (((name_fault o s ≡ None) × (first_conflict o 0 s.members ≡ Some (verdict.Conflict at cell count))) × Unit {0})
-          → (name_fault o s ≡ None) × IsBlocked o s (at ∷ []) (verdict.Conflict at cell count)
+          ⊎ (((names_fault o s ≡ None) × (first_conflict o 0 s.members ≡ Some (verdict.Conflict at cell count))) × Unit {0})
+          → (names_fault o s ≡ None) × IsBlocked o s (at ∷ []) (verdict.Conflict at cell count)
       by (inl h) = absurd h.1
       by (inr h) = (h.0.0, of_conflict at cell count h.0.0 h.0.1 refl refl)
   conflict_blocks at cell count (without_memory none same) = absurd (let e : verdict.Conflict at cell count ≡ verdict.OutOfMemory = same in cc)
 
-  blocked_plan : (order : List ℕ) (cause : Verdict) (p : Plan) → IsBlockedIn order cause p → name_fault o s ≡ None → IsBlocked o s order cause → IsPlan o s p
+  blocked_plan : (order : List ℕ) (cause : Verdict) (p : Plan) → IsBlockedIn order cause p → names_fault o s ≡ None → IsBlocked o s order cause → IsPlan o s p
   blocked_plan order cause (plan.Blocked list v) (same, is) none blocks = subst (λ w. IsBlocked o s list.items w) (sym is)
       (subst (λ xs. IsBlocked o s xs cause) (sym same) blocks)
   blocked_plan order cause (plan.Unfit v) h none blocks = absurd h
@@ -154,7 +155,7 @@ module _ (o : Office) (s : Site) where
       none (verdict.SharedCell cell i j) same h = h
       none (verdict.Uncovered n) same h = h
 
-      by : (IsUnfit o s v × OfNames v) ⊎ (((name_fault o s ≡ None) × (first_conflict o 0 s.members ≡ Some v)) × OfConflicts v) → IsUnfit o s v
+      by : (IsUnfit o s v × OfNames v) ⊎ (((names_fault o s ≡ None) × (first_conflict o 0 s.members ≡ Some v)) × OfConflicts v) → IsUnfit o s v
       by (inl h) = h.0
       by (inr h) = absurd (none v refl h.1)
 

@@ -13,7 +13,7 @@ use Rattle.clr_clearance.specs.PlanLaws.{StaysClear}
 use Rattle.clr_clearance.specs.Plans.{IsBlocked, of_conflict, of_shared, of_unpicked, standing}
 use Rattle.clr_clearance.specs.Safety.{Safe}
 use Rattle.clr_clearance.specs.Sites.{RootHolds}
-use Rattle.clr_clearance.specs.Verdicts.{missing_member, name_fault, repeated_member, stray_member}
+use Rattle.clr_clearance.specs.Verdicts.{missing_member, names_fault, repeated_member, stray_member}
 use Rattle.clr_clearance.proofs.ClearLemmas.{clear_law}
 use Rattle.clr_clearance.proofs.HeadlineLemmas.{headline}
 use Rattle.clr_clearance.proofs.LastingLemmas.{lasting_reordered}
@@ -34,12 +34,12 @@ module _ (o : Office) (s : Site) where
   is_there false q e = absurd (not_found verdict.NotKept (sym e))
 
   -- the rules hold in a root that is kept
-  root_holds : HoldsWhereKept o → name_fault o s ≡ None → RootHolds o s
-  unfolding name_fault root_content
+  root_holds : HoldsWhereKept o → names_fault o s ≡ None → RootHolds o s
+  unfolding names_fault root_content
   root_holds holds none = holds s.root (is_there (is_kept o s.root) (option_or (repeated_member s) (option_or (missing_member o s) (stray_member o s))) none)
 
   -- no plan is blocked where a test of names fails
-  named : (order : List ℕ) (cause : Verdict) → IsBlocked o s order cause → name_fault o s ≡ None
+  named : (order : List ℕ) (cause : Verdict) → IsBlocked o s order cause → names_fault o s ≡ None
   named order cause (of_conflict at cell count none first same is) = none
   named order cause (of_shared cell i j none shared same is) = no_name_fault o s none
   named order cause (of_unpicked n none apart first blocks is) = no_name_fault o s none

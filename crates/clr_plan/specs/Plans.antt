@@ -9,7 +9,7 @@ use Rattle.clr_steps.specs.Quiet.{Site}
 use Rattle.clr_clearance.specs.declared.verdicts.Verdict.{Verdict}
 use Rattle.clr_clearance.specs.declared.verdicts.Verdict.TheVariants as verdict
 use Rattle.clr_clearance.specs.Plans.{ArePicked, IsBlocked, IsCleared, IsFirstUnpicked, IsUnfit}
-use Rattle.clr_clearance.specs.Verdicts.{name_fault}
+use Rattle.clr_clearance.specs.Verdicts.{names_fault}
 use Rattle.clr_sites.specs.Certificates.{entries_in, site_of}
 use Rattle.clr_plan.specs.declared.plans.Plan.{Plan}
 use Rattle.clr_plan.specs.declared.plans.Plan.TheVariants as plan
@@ -24,7 +24,7 @@ abbrev pub IsPlan : Office → Site → Plan → Type 0
 IsPlan o s (plan.Unfit v) = IsUnfit o s v
 IsPlan o s (plan.Blocked order cause) = IsBlocked o s order.items cause
 IsPlan o s (plan.Cleared c) = IsClearance o s c
-IsPlan o s plan.OutOfMemory = name_fault o s ≡ None
+IsPlan o s plan.OutOfMemory = names_fault o s ≡ None
 
 -- by parts -----------------------------------------------------------------------------------
 

@@ -9,11 +9,11 @@ use Rattle.clr_steps.specs.Steps.{run}
 use Rattle.clr_clearance.specs.declared.verdicts.Verdict.{Verdict}
 use Rattle.clr_clearance.specs.declared.verdicts.Verdict.TheVariants as verdict
 use Rattle.clr_clearance.specs.Headline.{Headline, NamesTheSame}
-use Rattle.clr_clearance.specs.Plans.{IsUnfit, is_refused, names_at, standing}
+use Rattle.clr_clearance.specs.Plans.{IsUnfit, is_order_refused, members_at, standing}
 use Rattle.clr_clearance.specs.Runs.{AreQuiet}
 use Rattle.clr_clearance.specs.Safety.{Safe}
 use Rattle.clr_clearance.specs.Sites.{Covers, RootHolds}
-use Rattle.clr_clearance.specs.Verdicts.{IsVerdict, name_fault, repeated_member}
+use Rattle.clr_clearance.specs.Verdicts.{IsVerdict, names_fault, repeated_member}
 use Rattle.clr_sites.specs.Certificates.{entries_in, site_of}
 use Rattle.clr_plan.specs.declared.plans.Plan.{Plan}
 use Rattle.clr_plan.specs.declared.plans.Plan.TheVariants as plan
@@ -28,7 +28,7 @@ pub record IsProof (o : Office) (s : Site) (c : Certificate) : Type 0 where
 
 -- of the merges of the members in this order, the workspaces kept, one meets a conflict or breaks a rule
 pub record IsRefusedOrder (o : Office) (s : Site) (order : List ℕ) : Type 0 where
-  pub refused : is_refused o (names_at s order) ≡ true
+  pub refused : is_order_refused o (members_at s order) ≡ true
   pub unsafe : ¬ (Safe o s)
 
 abbrev pub Promises : Office → Site → Plan → Type 0
@@ -51,7 +51,7 @@ is_out_of_memory plan.OutOfMemory = true
 
 -- where no test of names fails and memory was found, the plan is cleared exactly where the members are safe
 abbrev pub IsExact : Office → Site → Plan → Type 0
-IsExact o s p = name_fault o s ≡ None → is_out_of_memory p ≡ false → (is_cleared p ≡ true) ↔ Safe o s
+IsExact o s p = names_fault o s ≡ None → is_out_of_memory p ≡ false → (is_cleared p ≡ true) ↔ Safe o s
 
 -- where a test of names fails, the plan is unfit with that test
 abbrev pub IsUnfitWhere : Office → Site → Plan → Type 0

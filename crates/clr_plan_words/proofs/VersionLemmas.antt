@@ -1,5 +1,5 @@
 -- The row of a version, by how it is read.
-use Rattle.std.proofs.Common.{◌≡◌, ◌∙◌, ◌<◌, ℕ, Bool, Bor, true, false, List, Option, None, Some, ap, is_some, length, refl, slice_index_or, sym}
+use Rattle.std.proofs.Common.{◌≡◌, ◌∙◌, ◌<◌, ℕ, Bor, true, false, List, Option, None, Some, ap, is_some, length, refl, slice_index_or, sym}
 use Rattle.std.specs.Prelude.{slice_get}
 use Rattle.std.specs.FinMap as finite
 use Rattle.std.specs.Option.{option_copied, option_map}
@@ -14,8 +14,8 @@ use Rattle.clr_needs.specs.Members.{after_at, after_of, positions}
 use Rattle.clr_needs.specs.Settings.{Lived, first_changer, new_row, new_version, old_version, version}
 use Rattle.clr_steps.specs.Offices.{Office, content_of}
 use Rattle.clr_steps.specs.Quiet.{Site, root_content}
-use Rattle.clr_clearance.specs.Sites.{change_sets, setting_by_position}
-use Rattle.clr_plan_words.specs.Versions.{change_row, new_row_at, row_by, row_in, row_of_changer, set_row}
+use Rattle.clr_clearance.specs.Sites.{change_sets}
+use Rattle.clr_plan_words.specs.Versions.{change_row, new_row_at, row_by, row_in, row_of_changer}
 
 -- the row of a version that a member of a position brings
 new_is : (sets : List Changes) (q : CellId) (at : Option ℕ) → option_map (λ (l : Lived ℕ). l.row) (new_version (after_of sets) q at) ≡ row_of_changer sets q at

@@ -1,1 +1,3 @@
+pub mod Servers
+pub mod Sites
 pub mod Versions

@@ -1,5 +1,5 @@
 -- The rows that a cause names.
-use Rattle.std.specs.Prelude.{◌≡◌, ℕ, List, Option, Some, None, slice_get}
+use Rattle.std.specs.Prelude.{◌≡◌, ℕ, List, Option, Some, None, slice_get, is_some, if◌then◌else◌}
 use Rattle.std.specs.FinMap as finite
 use Rattle.std.specs.Option.{option_map}
 use Rattle.clr_rows.specs.declared.cells.CellId.{CellId}
@@ -13,6 +13,8 @@ use Rattle.clr_steps.specs.Offices.{Office}
 use Rattle.clr_steps.specs.Quiet.{Site}
 use Rattle.clr_clearance.specs.Sites.{change_sets, setting_by_position}
 use Rattle.clr_plan_words.specs.declared.members.Members.{Members}
+use Rattle.clr_plan_words.specs.declared.members.Standing.{Standing}
+use Rattle.clr_plan_words.specs.declared.members.Standing.TheVariants.{Changed, New, Removed, Stays}
 
 -- what is read of the members of a site
 pub record AreMembers (o : Office) (s : Site) (members : Members) : Type 0 where
@@ -42,3 +44,13 @@ row_of_changer sets q (Some at) = set_row (λ e. e.after) sets at q
 
 abbrev pub new_row_at : List Changes → CellId → Option Row
 new_row_at sets q = row_of_changer sets q (first_changer (after_of sets) (positions sets) q)
+
+-- where a version stands, by the first member that changes its cell: that one brings it, or has another row there, or takes the root's row away
+abbrev pub standing_by : List Changes → VersionId → Option ℕ → Standing
+standing_by sets v None = Stays
+standing_by sets v (Some at) =
+    if v.fresh then New at
+    else (if is_some (set_row (λ e. e.after) sets at v.cell) then Changed at else Removed at)
+
+abbrev pub standing_of : List Changes → VersionId → Standing
+standing_of sets v = standing_by sets v (first_changer (after_of sets) (positions sets) v.cell)

@@ -1,8 +1,10 @@
 //! A plan in words, part by part: the answer, the cause with its rows, where they meet and what stands there, what each member changes,
 //! and what serves each need.
 //!
-//! - `Members::read`, `row_of`: each row that is told of a cause is the version that the cause names.
-//! - A place where rows meet lies on both parts. Which words stand for what is tested.
+//! - `Members::read` [`members`, `names`], `row_of`: each row that is told of a cause is the version that the cause names.
+//! - `rule_of`, `site_of`: the rule of a need, and where a row that serves it would have to stand; a place where rows meet lies on both parts.
+//! - `server_changes`: exactly the changes of members that bring a row which serves a need, or take one away, in order.
+//! - Which words stand for what is tested.
 //! - `Setting` tells what an office and members are about. Each of its calls fails for want of memory alone.
 #![tactic(auto)]
 

@@ -9,7 +9,8 @@ ghost use Rattle.clr_needs.specs.Settings.{first_changer};
 ghost use Rattle.clr_steps.specs.Offices.{content_of};
 ghost use Rattle.clr_steps.specs.Readings.{changes_in};
 ghost use Rattle.clr_steps.specs.Quiet.{Site};
-ghost use Rattle.clr_plan_words.specs.Versions.{AreMembers, new_row_at, row_in, set_row};
+ghost use Rattle.clr_verdict_lines.specs.Verdicts.{member_name as name_of_member};
+ghost use Rattle.clr_plan_words.specs.Versions.{AreMembers, new_row_at, row_in, set_row, standing_of};
 
 use clr_change::ChangeSet;
 use clr_engine::Office;
@@ -84,7 +85,9 @@ impl<'a> Members<'a> {
         root: &'a str,
         names: &'a [&'a str],
     ) -> Result<Members<'a>, AllocError>
-        ensures { IfOk result (λ members. AreMembers office.now (record { root = root.entry.now; members = map (λ name. name.now) names.entry.now }) members) }
+        ensures members { IfOk result (λ members. AreMembers office.now
+            (record { root = root.entry.now; members = map (λ name. name.now) names.entry.now }) members) }
+        ensures names { IfOk result (λ members. map (λ name. name.now) members.names.now ≡ map (λ name. name.now) names.entry.now) }
     {
         let changes = change_sets(alloc, office, names)?;
         Ok(Members {
@@ -95,7 +98,9 @@ impl<'a> Members<'a> {
     }
 
     /// Returns the name of the member at a position, or an empty one past the end.
-    pub fn name(&self, at: usize) -> &str {
+    pub fn name(&self, at: usize) -> &str
+        ensures { result.now ≡ name_of_member (map (λ name. name.now) self.now.names.now) at }
+    {
         member_name(self.names, at)
     }
 
@@ -124,8 +129,11 @@ impl<'a> Members<'a> {
         change.before.as_ref()
     }
 
-    /// Returns where a version stands.
-    pub fn standing(&self, version: VersionId) -> Standing {
+    /// Returns where a version stands: in the root, where no member changes its cell; else in the first
+    /// that does, or where that one has another row or none.
+    pub fn standing(&self, version: VersionId) -> Standing
+        ensures { result ≡ standing_of self.now.changes.items version }
+    {
         match self.changer_of(version.cell) {
             None => Standing::Stays,
             Some(at) if version.fresh => Standing::New(at),

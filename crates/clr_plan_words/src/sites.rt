@@ -2,7 +2,11 @@
 
 ghost use Rattle.std.specs.Option.{option_copied};
 ghost use Rattle.std.specs.Prelude.{◌≡◌};
-ghost use Rattle.clr_rules.specs.Sides.{sides};
+ghost use Rattle.clr_rows.specs.Parts.{part_of};
+ghost use Rattle.clr_rules.specs.Sides.{end_in, sides};
+ghost use Rattle.clr_steps.specs.Quiet.{Site};
+ghost use Rattle.clr_plan_words.specs.Sites.{IsCrossingSite, IsSiteIn, end_site, rule_in};
+ghost use Rattle.clr_plan_words.specs.Versions.{AreMembers};
 
 use crate::members::Members;
 use clr_engine::Office;
@@ -13,7 +17,9 @@ use clr_segments::part;
 use clr_wording::{Meeting, meet_parts};
 
 /// Returns the first or the last vertex of a segment or a path.
-fn end_of(tip: Tip, shape: &Shape) -> Option<Place> {
+fn end_of(tip: Tip, shape: &Shape) -> Option<Place>
+    ensures { result ≡ end_in tip shape.now }
+{
     match (tip, shape) {
         (Tip::First, Shape::Line(place, _)) => Some(*place),
         (Tip::Second, Shape::Line(_, place)) => Some(*place),
@@ -24,7 +30,9 @@ fn end_of(tip: Tip, shape: &Shape) -> Option<Place> {
 }
 
 /// Returns where two rows meet, by the parts of a need.
-fn crossing_site(need: &Need, first: &Row, second: &Row) -> Meeting {
+fn crossing_site(need: &Need, first: &Row, second: &Row) -> Meeting
+    ensures { IsCrossingSite (part_of first.now.shape need.now.first_part) (part_of second.now.shape need.now.second_part) result }
+{
     let one = part(&first.shape, need.first_part);
     let two = part(&second.shape, need.second_part);
     match (one, two) {
@@ -34,21 +42,27 @@ fn crossing_site(need: &Need, first: &Row, second: &Row) -> Meeting {
 }
 
 /// Returns the end of a row as a place where a row that serves it would have to stand.
-fn end_site(tip: Tip, row: &Row) -> Meeting {
+fn end_site(tip: Tip, row: &Row) -> Meeting
+    ensures { result ≡ end_site (end_in tip row.now.shape) }
+{
     match end_of(tip, &row.shape) {
         Some(place) => Meeting::Whole(place),
         None => Meeting::NoParts,
     }
 }
 
-/// Returns the rule of a need.
-pub fn rule_of<'a>(office: &'a Office, need: &Need) -> Option<&'a Rule> {
+/// Returns the rule of a need, or none where the book has none of its number.
+pub fn rule_of<'a>(office: &'a Office, need: &Need) -> Option<&'a Rule>
+    ensures { option_copied result ≡ rule_in office.entry.now need.now }
+{
     office.book().rules().get(need.rule as usize)
 }
 
 /// Returns where a row that serves a need would have to stand: the place where its rows meet, or the
 /// end of the one row. No place is told where the rule asks for none.
-pub fn site_of(office: &Office, members: &Members<'_>, need: &Need) -> Meeting {
+pub fn site_of(office: &Office, members: &Members<'_>, need: &Need) -> Meeting
+    ensures { (s : Site) → AreMembers office.now s members.now → IsSiteIn office.now s need.now result }
+{
     let Some(first) = members.row_of(office, need.first) else {
         return Meeting::NoParts;
     };

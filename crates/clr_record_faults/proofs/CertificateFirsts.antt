@@ -8,11 +8,12 @@ use Rattle.std.proofs.Math.Bool.{or-false, or_assoc}
 use Rattle.std.proofs.lemmas.List.{take-map}
 use Rattle.csv.specs.Records.{Row, fields_of}
 use Rattle.clr_rows.specs.declared.tables.TableDef.{TableDef}
-use Rattle.clr_records.specs.Records.{◌>>=◌, at_record, field_of, or_fault, records_in}
+use Rattle.clr_readings.specs.Readings.{◌>>=◌, or_fault}
+use Rattle.clr_records.specs.Records.{at_record, field_of, records_in}
 use Rattle.clr_cert.specs.declared.certificates.Entry.{Entry}
 use Rattle.clr_cert.specs.declared.faults.CertFault.{CertFault}
 use Rattle.clr_cert.specs.declared.faults.CertFault.TheVariants as fault
-use Rattle.clr_cert.specs.Certificates.{certificate_from, certificate_in, is_root, item_of, name_of, root_of, with_item}
+use Rattle.clr_cert.specs.Certificates.{certificate_from, certificate_in, is_root_item, item_of, record_name_of, record_root_of, with_item}
 use Rattle.clr_cert.specs.Versions.{entry_of}
 use Rattle.clr_record_faults.specs.FirstFaults.{RecordFields, IsFirstFault, readable}
 use Rattle.clr_record_faults.specs.CertificateFaults.{CertificateFaultLaw, IsFaultOfCertificate, has_root, names_root}
@@ -53,17 +54,18 @@ records_fault : (tables : List TableDef) (rows : List RecordFields) (rooted : Bo
 unfolding certificate_from item_of
 records_fault tables [] rooted n m e is = absurd cc
 records_fault tables (r ∷ rest) rooted n m e is =
-    elim (one_record (item_of tables rooted r) (λ item. certificate_from tables (rooted || is_root item) (n + 1) rest) with_item n m e is) [
+    elim (one_record (item_of tables rooted r) (λ item. certificate_from tables (rooted || is_root_item item) (n + 1) rest) with_item n m e is) [
       | inl failed ↦ (0, omega (arith, failed.0), at_once (reads_from tables rooted) r rest e (rw (or-false rooted, failed.1) refl))
       | inr done ↦
-          let found = records_fault tables rest (rooted || is_root done.0) (n + 1) m e done.2 in
-          let named : is_root done.0 ≡ names_root r = root_by_word is_root _ _ _ (length r == 6) (names_root r) (says r (codes "member")) (says r (codes
-          "need")) (root_of rooted r) (name_of r) (entry_of tables r) done.0 done.1 (λ x. refl) (λ x. refl) (λ x. refl) in
-          let next : (before : List RecordFields) → (rooted || has_root (r ∷ before)) ≡ ((rooted || is_root done.0) || has_root before) =
+          let found = records_fault tables rest (rooted || is_root_item done.0) (n + 1) m e done.2 in
+          let named : is_root_item done.0 ≡ names_root r = root_by_word is_root_item _ _ _ (length r == 6) (names_root r) (says r (codes "member")) (says r
+          (codes
+          "need")) (record_root_of rooted r) (record_name_of r) (entry_of tables r) done.0 done.1 (λ x. refl) (λ x. refl) (λ x. refl) in
+          let next : (before : List RecordFields) → (rooted || has_root (r ∷ before)) ≡ ((rooted || is_root_item done.0) || has_root before) =
           λ before. sym (or_assoc rooted (names_root r) (has_root before)) ∙ ap (λ b. (rooted || b) || has_root before) (sym named) in (
             suc (found.0),
             omega (arith, found.1),
-            later (reads_from tables rooted) (reads_from tables (rooted || is_root done.0)) r rest found.0 e (rw
+            later (reads_from tables rooted) (reads_from tables (rooted || is_root_item done.0)) r rest found.0 e (rw
                 (or-false rooted, done.1) refl) (λ before x. ap (λ b. readable (item_of tables b x)) (next before)) found.2,
           )
     ]

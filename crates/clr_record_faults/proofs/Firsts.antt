@@ -3,8 +3,8 @@ use Rattle.std.proofs.Common.{◌≡◌, ℕ, zero, suc, ◌+◌, ◌-◌, ◌<�
 use Rattle.std.specs.Prelude.{option_map, slice_get}
 use Rattle.std.proofs.lemmas.Option.{slice_get-map, slice_get_read, slice_get_within}
 use Rattle.csv.specs.Records.{Row, fields_of}
-use Rattle.clr_records.specs.Records.{◌>>=◌}
-use Rattle.clr_record_faults.specs.FirstFaults.{RecordFields, IsFirstFault, Reading, numbered}
+use Rattle.clr_readings.specs.Readings.{◌>>=◌}
+use Rattle.clr_record_faults.specs.FirstFaults.{RecordFields, IsFirstFault, Reading, record_numbered}
 
 -- the first of records has the fault
 pub at_once : {E : Type 0} (reads : Reading E) (r : RecordFields) (rest : List RecordFields) (e : E) → reads [] r ≡ Err e → IsFirstFault reads (r ∷ rest) 0 e
@@ -50,7 +50,7 @@ within rows at number x is found = let lt = slice_get_within rows at x found in 
 
 -- one of these records, with its number
 pub numbered_at : (rows : List Row) (number : ℕ) (x : Row) → 0 < number → number ≤ length rows → x ≡ get_or rows (number - 1) x → Some (fields_of x) ≡
-    numbered (map fields_of rows) number
+    record_numbered (map fields_of rows) number
 numbered_at rows zero x some le is = absurd (omega (arith, some))
 numbered_at rows (suc at) x some le is =
     let place : suc at - 1 ≡ at = omega arith in

@@ -5,7 +5,8 @@ use Rattle.std.specs.Str.{bytes_eq}
 use Rattle.clr_rows.specs.declared.tables.TableDef.{TableDef}
 use Rattle.clr_steps.specs.declared.commands.Command.{Command}
 use Rattle.clr_steps.specs.declared.commands.Command.TheVariants.{Create, Remove, Mark, Unmark, RollTo, RollAll, Refresh, Merge, Resolve, Hold, Release}
-use Rattle.clr_records.specs.Records.{◌>>=◌, field_of}
+use Rattle.clr_readings.specs.Readings.{◌>>=◌}
+use Rattle.clr_records.specs.Records.{field_of}
 use Rattle.clr_scripts.specs.declared.faults.RecordFault.{RecordFault}
 use Rattle.clr_scripts.specs.declared.faults.RecordFault.TheVariants.{FieldCount}
 use Rattle.clr_scripts.specs.declared.steps.Step.{Step}

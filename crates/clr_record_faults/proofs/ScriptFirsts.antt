@@ -7,7 +7,8 @@ use Rattle.std.proofs.lemmas.Option.{get_or_from_slice_get, slice_get_within}
 use Rattle.clr_rows.specs.declared.tables.TableDef.{TableDef}
 use Rattle.clr_change.specs.declared.edits.Edit.{Edit}
 use Rattle.clr_steps.specs.declared.commands.Command.TheVariants.{Apply}
-use Rattle.clr_records.specs.Records.{◌>>=◌, at_record, field_of, in_turn, or_fault, records_in}
+use Rattle.clr_readings.specs.Readings.{◌>>=◌, or_fault}
+use Rattle.clr_records.specs.Records.{at_record, field_of, in_turn, records_in}
 use Rattle.clr_scripts.specs.declared.faults.RecordFault.{RecordFault}
 use Rattle.clr_scripts.specs.declared.faults.RecordFault.TheVariants.{FieldCount, NotCsv}
 use Rattle.clr_scripts.specs.declared.steps.Step.{Step}

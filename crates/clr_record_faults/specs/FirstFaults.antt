@@ -22,10 +22,10 @@ pub record IsFirstFault {E : Type 0} (reads : Reading E) (rows : List RecordFiel
   pub earlier : (k : ℕ) (fields : RecordFields) → k < at → slice_get rows k ≡ Some fields → reads (take k rows) fields ≡ Ok tt
 
 -- the record of a number, counted from 1
-abbrev pub numbered : List RecordFields → ℕ → Option RecordFields
-numbered rows zero = None
-numbered rows (suc at) = slice_get rows at
+abbrev pub record_numbered : List RecordFields → ℕ → Option RecordFields
+record_numbered rows zero = None
+record_numbered rows (suc at) = slice_get rows at
 
 -- the record of a number of a text in UTF-8
 abbrev pub record_in : List ℕ → ℕ → Option RecordFields
-record_in bytes number = option_and_then (λ rows. numbered rows number) (records_in bytes)
+record_in bytes number = option_and_then (λ rows. record_numbered rows number) (records_in bytes)

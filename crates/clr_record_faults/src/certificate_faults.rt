@@ -5,7 +5,7 @@ ghost use Rattle.csv.specs.Records.{fields_of};
 ghost use Rattle.clr_cert.specs.Certificates.{certificate_in};
 ghost use Rattle.clr_records.specs.Records.{records_in};
 ghost use Rattle.clr_record_faults.specs.CertificateFaults.{IsFaultOfCertificate, has_root, names_root};
-ghost use Rattle.clr_record_faults.specs.FirstFaults.{numbered, record_in};
+ghost use Rattle.clr_record_faults.specs.FirstFaults.{record_numbered, record_in};
 
 use clr_cert::{CertFault, read_certificate};
 use clr_records::{field, records_of};
@@ -72,7 +72,7 @@ fn fault_among(records: Vec<StringRecord>, number: usize, fault: CertFault) -> C
     ensures fault { result.fault ≡ fault }
     ensures number { result.record ≡ number }
     ensures is_rooted { result.is_rooted ≡ has_root (take (number - 1) (map fields_of records.items)) }
-    ensures fields { option_map fields_of result.fields ≡ numbered (map fields_of records.items) number }
+    ensures fields { option_map fields_of result.fields ≡ record_numbered (map fields_of records.items) number }
 {
     let is_rooted = has_root_before(records.as_slice(), number - 1);
     let mut records = records;

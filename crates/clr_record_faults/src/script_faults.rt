@@ -3,7 +3,7 @@ ghost use Rattle.std.specs.Prelude.{◌≡◌, ◌≤◌, ◌<◌, ◌-◌, IfOk
 ghost use Rattle.csv.specs.Records.{fields_of};
 ghost use Rattle.clr_records.specs.Records.{records_in};
 ghost use Rattle.clr_scripts.specs.Scripts.{script_in_text};
-ghost use Rattle.clr_record_faults.specs.FirstFaults.{numbered, record_in};
+ghost use Rattle.clr_record_faults.specs.FirstFaults.{record_numbered, record_in};
 ghost use Rattle.clr_record_faults.specs.ScriptFaults.{IsFaultOfScript, role_in};
 
 use crate::roles::{Role, role_at};
@@ -51,7 +51,7 @@ fn fault_among(records: Vec<StringRecord>, number: usize, fault: RecordFault) ->
     ensures fault { result.fault ≡ fault }
     ensures number { result.record ≡ number }
     ensures role { result.role ≡ role_in (map fields_of records.items) (number - 1) }
-    ensures fields { option_map fields_of result.fields ≡ numbered (map fields_of records.items) number }
+    ensures fields { option_map fields_of result.fields ≡ record_numbered (map fields_of records.items) number }
 {
     let role = role_at(records.as_slice(), number - 1);
     let mut records = records;

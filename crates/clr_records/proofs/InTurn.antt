@@ -1,22 +1,12 @@
 -- Reading one item after another, as a loop does.
-use Rattle.std.proofs.Common.{◌≡◌, ℕ, suc, ◌+◌, ◌≤◌, ◌<◌, List, [], ◌∷◌, ◌++◌, map, length, get_or, drop, Result, Ok, Err, refl, sym, ap, ◌∙◌, append_assoc}
+use Rattle.std.proofs.Common.{◌≡◌, ℕ, suc, ◌+◌, ◌≤◌, ◌<◌, Bool, List, [], ◌∷◌, ◌++◌, map, length, get_or, drop, Result, Ok, Err, refl, sym, ap, ◌∙◌}
 use Rattle.std.proofs.Common.{arith, add-one}
 use Rattle.std.proofs.Math.Seq.{drop-cons}
 use Rattle.std.proofs.lemmas.List.{append-nil, drop_all}
-use Rattle.clr_records.specs.Records.{◌>>=◌, in_turn}
-
--- what was read before, and then what is still read
-abbrev pub with_front : {A E : Type 0} → List A → Result (List A) E → Result (List A) E
-with_front front read = read >>= λ others. Ok (front ++ others)
-
-no_front : {A E : Type 0} (read : Result (List A) E) → with_front [] read ≡ read
-no_front (Ok others) = refl
-no_front (Err e) = refl
-
-pub regroup : {A E : Type 0} (front : List A) (a : A) (read : Result (List A) E) → with_front front (read >>= λ others. Ok (a ∷ others))
-    ≡ with_front (front ++ a ∷ []) read
-regroup front a (Ok others) = ap (λ ys. Ok ys) (sym (append_assoc front (a ∷ []) others))
-regroup front a (Err e) = refl
+use Rattle.clr_readings.specs.Readings.{◌>>=◌, Fails, FailsAt, numbered_fault}
+use Rattle.clr_readings.proofs.FaultTurns.{numbered_so, passes}
+use Rattle.clr_readings.proofs.Fronts.{no_front, regroup, with_front}
+use Rattle.clr_records.specs.Records.{at_record, in_turn}
 
 next : {X A E : Type 0} (f : ℕ → X → Result A E) (n : ℕ) (xs : List X) (i : ℕ) (x : X) → i < length xs → x ≡ get_or xs i x
     → in_turn f (n + i) (drop i xs) ≡ (f (n + i) x >>= λ a. in_turn f (n + (i + 1)) (drop (i + 1) xs) >>= λ others. Ok (a ∷ others))
@@ -32,10 +22,26 @@ pub one_more : {X A E : Type 0} (f : ℕ → X → Result A E) (front : List A) 
 one_more f front n xs i x a total lt is h so_far = sym (regroup front a _) ∙ (sym (rw (next f n xs i x lt is, h) refl) ∙ so_far)
 
 -- an item has a fault, and so has the whole
-pub first_fault : {X A E : Type 0} (f : ℕ → X → Result A E) (e : E) (front : List A) (n : ℕ) (xs : List X) (i : ℕ) (x : X) (total : Result (List A) E)
+first_fault : {X A E : Type 0} (f : ℕ → X → Result A E) (e : E) (front : List A) (n : ℕ) (xs : List X) (i : ℕ) (x : X) (total : Result (List A) E)
     → i < length xs → x ≡ get_or xs i x → f (n + i) x ≡ Err e
     → with_front front (in_turn f (n + i) (drop i xs)) ≡ total → total ≡ Err e
 first_fault f e front n xs i x total lt is h so_far = sym so_far ∙ rw (next f n xs i x lt is, h) refl
+
+-- the same as a call answers it
+pub stops : {X A E : Type 0} (lacks_memory : E → Bool) (f : ℕ → X → Result A E) (e : E) (front : List A) (n : ℕ) (xs : List X) (i : ℕ) (x : X)
+    (total : Result (List A) E) → i < length xs → x ≡ get_or xs i x → Fails lacks_memory e (f (n + i) x)
+    → with_front front (in_turn f (n + i) (drop i xs)) ≡ total → Fails lacks_memory e total
+stops lacks_memory f e front n xs i x total lt is failed so_far =
+    passes lacks_memory e (f (n + i) x) total (λ h. first_fault f e front n xs i x total lt is h so_far) failed
+
+-- the same where the faults of items are then numbered
+pub stops_numbered : {X A E : Type 0} (lacks_memory : E → Bool) (f : X → Result A E) (e : E) (front : List A) (n : ℕ) (xs : List X) (i : ℕ) (x : X)
+    (total : Result (List A) (ℕ × E)) → i < length xs → x ≡ get_or xs i x → Fails lacks_memory e (f x)
+    → with_front front (in_turn (λ m y. at_record m (f y)) (n + i) (drop i xs)) ≡ total
+    → FailsAt lacks_memory (numbered_fault lacks_memory (n + i) e).0 (numbered_fault lacks_memory (n + i) e).1 total
+stops_numbered lacks_memory f e front n xs i x total lt is failed so_far =
+    numbered_so lacks_memory e (n + i) (f x) total
+    (λ h. first_fault (λ m y. at_record m (f y)) (n + i, e) front n xs i x total lt is (ap (at_record (n + i)) h) so_far) failed
 
 -- no item is left
 pub whole : {X A E : Type 0} (f : ℕ → X → Result A E) (front : List A) (n : ℕ) (xs : List X) (i : ℕ) (total : Result (List A) E) → length xs ≤ i

@@ -3,6 +3,7 @@ use Rattle.std.specs.Prelude.{ℕ, ◌+◌, List, [], ◌∷◌, Option, Some, N
 use Rattle.std.specs.Str.{is_utf8}
 use Rattle.csv.specs.Reading.{default_config, records, strip_bom}
 use Rattle.csv.specs.Records.{field_at}
+use Rattle.clr_readings.specs.Readings.{◌>>=◌}
 
 -- the records of a text without headers, or none where the bytes aren't UTF-8
 abbrev pub records_in : List ℕ → Option (List (List (List ℕ)))
@@ -11,17 +12,6 @@ records_in bytes = if is_utf8 bytes then Some (records default_config (strip_bom
 -- the field at a position from 0, or an empty one
 abbrev pub field_of : List (List ℕ) → ℕ → List ℕ
 field_of fields at = unwrap_or (field_at fields at) []
-
--- one reading after another, the second of what the first gives, up to the first fault
-infixl 10 ◌>>=◌
-abbrev pub ◌>>=◌ : {A B E : Type 0} → Result A E → (A → Result B E) → Result B E
-(Ok x) >>= f = f x
-(Err e) >>= f = Err e
-
--- a value that is there, or a fault in its place
-abbrev pub or_fault : {A E : Type 0} → E → Option A → Result A E
-or_fault e None = Err e
-or_fault e (Some x) = Ok x
 
 -- a fault with the number of the record that has it
 abbrev pub at_record : {A E : Type 0} → ℕ → Result A E → Result A (ℕ × E)

@@ -45,3 +45,11 @@ pub fn values(alloc: Global, text: &str) -> Option<Values> {
     }
     Some(Values::new(list))
 }
+
+/// Adds a text, after a space where it isn't the first.
+pub fn add_word(line: &mut String, word: &str) -> Option<()> {
+    if line.len() > 0 {
+        line.push(' ').ok()?;
+    }
+    line.push_str(word).ok()
+}

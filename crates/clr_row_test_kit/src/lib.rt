@@ -1,11 +1,13 @@
-//! Values, shapes and rows of texts, as tests write them in their cases. A text that can't be read is none, and so is one
+//! Values, shapes, rows and schemas of texts, as tests write them in their cases. A text that can't be read is none, and so is one
 //! for which memory is wanting.
 #![tactic(auto)]
 
 mod fields;
 mod rows;
+mod schemas;
 mod shapes;
 
-pub use fields::{number, ordinal, value, values, words};
+pub use fields::{add_word, number, ordinal, value, values, words};
 pub use rows::{cell, row};
+pub use schemas::{columns, schema, tables};
 pub use shapes::{place, places, shape};

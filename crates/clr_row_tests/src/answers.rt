@@ -35,16 +35,11 @@ fn limit_text(alloc: Global, word: &str) -> Option<String> {
     format!(in alloc; "{one} {two} {three}").ok()
 }
 
-fn name_text(alloc: Global, name: &str) -> Option<String> {
-    let text = if good_name(name) { "true" } else { "false" };
-    String::from_str(alloc, text).ok()
-}
-
 /// What is asked of tables and rows.
 fn row_answer(alloc: Global, word: &str, text: &str) -> Option<String> {
     match word {
         "limits" => limit_text(alloc, text),
-        "good" => name_text(alloc, text),
+        "good" => format!(in alloc; "{}", good_name(text)).ok(),
         "schema" => schema_text(alloc, text),
         _ => network_text(alloc, word, text),
     }

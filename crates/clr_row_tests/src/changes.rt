@@ -1,9 +1,9 @@
 //! Edits of mains, and the change sets that they make.
 
-use crate::schemas::{NETWORK, schema};
-use crate::texts::{add_word, text_in};
+use crate::schemas::NETWORK;
+use crate::texts::text_in;
 use clr_change::{ChangeSet, Edit, Edits, first_conflict, stage};
-use clr_row_test_kit::{cell, row};
+use clr_row_test_kit::{add_word, cell, row, schema};
 use clr_rows::{CellId, Change, Row, Sheet};
 use std::alloc::Global;
 

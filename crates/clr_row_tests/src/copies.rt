@@ -1,7 +1,6 @@
 //! Texts, values, rows and shapes, whether they are the same, and copies of them.
 
-use crate::schemas::columns;
-use clr_row_test_kit::{place, places, row, shape, value, values, words};
+use clr_row_test_kit::{columns, place, places, row, shape, value, values, words};
 use clr_rows::{Shape, Vertices};
 use std::alloc::Global;
 

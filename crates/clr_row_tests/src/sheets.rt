@@ -1,7 +1,7 @@
 //! Sheets of points, by their kinds, and what is done to them.
 
-use crate::texts::{add_word, text_in};
-use clr_row_test_kit::{cell, words};
+use crate::texts::text_in;
+use clr_row_test_kit::{add_word, cell, words};
 use clr_rows::{CellId, Place, Row, RowView, Shape, Sheet, Value, Values};
 use std::alloc::Global;
 

@@ -12,11 +12,3 @@ pub(crate) fn text_in(row: Option<&Row>) -> &str {
         None => "none",
     }
 }
-
-/// Adds a text, after a space where it isn't the first.
-pub(crate) fn add_word(line: &mut String, word: &str) -> Option<()> {
-    if line.len() > 0 {
-        line.push(' ').ok()?;
-    }
-    line.push_str(word).ok()
-}

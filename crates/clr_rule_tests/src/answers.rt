@@ -1,10 +1,10 @@
 //! Answers to the lines of `cases`, as texts.
 
 use crate::lists::{columns_text, distances_text, filter_text};
-use crate::networks::schema;
 use crate::one_rule::{OneRule, Parts};
 use crate::rule_texts::rules;
 use crate::texts::{RowAt, rows};
+use clr_row_test_kit::{add_word, schema};
 use clr_rows::Value;
 use clr_rules::RuleBook;
 use clr_spots::{Spot, Spots};
@@ -28,14 +28,6 @@ fn value_text(alloc: Global, value: &Value) -> Option<String> {
         Value::Int(number) => format!(in alloc; "{number}").ok(),
         Value::Words(text) => format!(in alloc; "'{}", text.as_str()).ok(),
     }
-}
-
-/// Adds a text, after a space where it isn't the first.
-pub(crate) fn add_word(line: &mut String, word: &str) -> Option<()> {
-    if line.len() > 0 {
-        line.push(' ').ok()?;
-    }
-    line.push_str(word).ok()
 }
 
 fn values_text(alloc: Global, values: &[Value]) -> Option<String> {

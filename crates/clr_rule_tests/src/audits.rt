@@ -3,10 +3,11 @@ ghost use Rattle.clr_rows.specs.Schemas.{FitsSchema};
 ghost use Rattle.clr_rules.specs.Books.{FitsBook};
 
 use crate::cases::audits::{CONTENTS, CROSSINGS, PARTNERS, PATHS};
-use crate::networks::{NETWORK, schema};
+use crate::networks::NETWORK;
 use crate::rule_texts::rules;
 use crate::texts::{RowAt, row_at};
 use clr_audit::audit;
+use clr_row_test_kit::schema;
 use clr_rows::{CellId, Schema, Sheet};
 use clr_rules::{Broken, RuleBook};
 use std::alloc::Global;

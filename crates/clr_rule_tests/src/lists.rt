@@ -1,9 +1,8 @@
 //! Lists of columns, filters and books, and what they have.
 ghost use Rattle.std.specs.Prelude.{◌<◌, length};
 
-use crate::answers::add_word;
-use crate::networks::schema;
 use crate::rule_texts::{columns, rules, side};
+use clr_row_test_kit::{add_word, schema};
 use clr_rules::{Rule, RuleBook};
 use std::alloc::Global;
 

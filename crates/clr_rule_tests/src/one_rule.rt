@@ -2,9 +2,9 @@
 ghost use Rattle.std.specs.Prelude.{◌≡◌, ◌<◌, length};
 ghost use Rattle.clr_rules.specs.Books.{FitsBook};
 
-use crate::networks::schema;
 use crate::rule_texts::rules;
 use crate::texts::RowAt;
+use clr_row_test_kit::schema;
 use clr_rows::{Held, Schema};
 use clr_rules::{Ask, RuleBook};
 use clr_spots::{Spots, spots_of};

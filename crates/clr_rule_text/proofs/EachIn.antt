@@ -2,24 +2,26 @@
 use Rattle.std.proofs.Common.{◌≡◌, ℕ, ◌+◌, ◌≤◌, ◌<◌, List, [], ◌∷◌, ◌++◌, length, get_or, drop, Result, Ok, refl, sym, ap, ◌∙◌, add-one}
 use Rattle.std.proofs.Math.Seq.{drop-cons}
 use Rattle.std.proofs.lemmas.List.{append-nil, drop_all}
+use Rattle.clr_readings.specs.Readings.{◌>>=◌, Fails}
 use Rattle.clr_rule_text.specs.declared.faults.TextFault.{TextFault}
-use Rattle.clr_rule_text.specs.Fields.{◌>>=◌, Fails, each_in}
-use Rattle.clr_rule_text.proofs.EachItem.{fails_with, one_more, with_front}
+use Rattle.clr_rule_text.specs.Fields.{each_in, text_lacks_memory}
+use Rattle.clr_readings.proofs.FaultTurns.{fails_with}
+use Rattle.clr_readings.proofs.Fronts.{regroup_after, with_front}
 
 -- the first of what is left is read
 pub begins : {X A : Type 0} (f : X → Result A TextFault) (front : List A) (x : X) (xs : List X)
     → with_front front (each_in f (x ∷ xs)) ≡ f x >>= λ y. with_front (front ++ y ∷ []) (each_in f xs)
 unfolding each_in
-begins f front x xs = one_more front (f x) (each_in f xs)
+begins f front x xs = regroup_after front (f x) (each_in f xs)
 
 pub goes_on : {X A : Type 0} (f : X → Result A TextFault) (front : List A) (x : X) (xs : List X) (y : A) (whole : Result (List A) TextFault) → f x ≡ Ok y
     → with_front front (each_in f (x ∷ xs)) ≡ whole → with_front (front ++ y ∷ []) (each_in f xs) ≡ whole
 goes_on f front x xs y whole was so_far = sym (begins f front x xs ∙ rw was refl) ∙ so_far
 
 pub ends : {X A : Type 0} (f : X → Result A TextFault) (e : TextFault) (front : List A) (x : X) (xs : List X) (whole : Result (List A) TextFault)
-    → Fails e (f x)
-    → with_front front (each_in f (x ∷ xs)) ≡ whole → Fails e whole
-ends f e front x xs whole failed so_far = fails_with e (f x) _ whole failed (sym (begins f front x xs) ∙ so_far)
+    → Fails text_lacks_memory e (f x)
+    → with_front front (each_in f (x ∷ xs)) ≡ whole → Fails text_lacks_memory e whole
+ends f e front x xs whole failed so_far = fails_with text_lacks_memory e (f x) _ whole failed (sym (begins f front x xs) ∙ so_far)
 
 pub is_done : {X A : Type 0} (f : X → Result A TextFault) (front : List A) (whole : Result (List A) TextFault) → with_front front (each_in f []) ≡ whole → whole
     ≡ Ok front
@@ -36,8 +38,8 @@ pub goes_on_at : {X A : Type 0} (f : X → Result A TextFault) (front : List A) 
 goes_on_at f front xs i x y whole lt is was so_far = goes_on f front x (drop (i + 1) xs) y whole was (rw (from_position xs i x lt is) at so_far)
 
 pub ends_at : {X A : Type 0} (f : X → Result A TextFault) (e : TextFault) (front : List A) (xs : List X) (i : ℕ) (x : X) (whole : Result (List A) TextFault)
-    → i < length xs → x ≡ get_or xs i x → Fails e (f x)
-    → with_front front (each_in f (drop i xs)) ≡ whole → Fails e whole
+    → i < length xs → x ≡ get_or xs i x → Fails text_lacks_memory e (f x)
+    → with_front front (each_in f (drop i xs)) ≡ whole → Fails text_lacks_memory e whole
 ends_at f e front xs i x whole lt is failed so_far = ends f e front x (drop (i + 1) xs) whole failed (rw (from_position xs i x lt is) at so_far)
 
 pub is_done_at : {X A : Type 0} (f : X → Result A TextFault) (front : List A) (xs : List X) (i : ℕ) (whole : Result (List A) TextFault) → length xs ≤ i

@@ -20,7 +20,8 @@ use Rattle.clr_rule_text.specs.declared.faults.TextFault.TheVariants.{BadField, 
 use Rattle.clr_rule_text.specs.declared.named_rules.NamedRule.{NamedRule}
 use Rattle.clr_rule_text.specs.declared.named_rules.NamedRule.TheVariants.{Unique, Partner, EndNode, Crossing, Near}
 use Rattle.clr_rule_text.specs.declared.named_sides.NamedSide.{NamedSide}
-use Rattle.clr_rule_text.specs.Fields.{◌>>=◌, each, each_in, field_of, list_at, list_of, list_or_none, none_or_fault, number_at, or_fault, words_at, words_of}
+use Rattle.clr_readings.specs.Readings.{◌>>=◌, or_fault}
+use Rattle.clr_rule_text.specs.Fields.{each, each_in, field_of, list_at, array_of, list_or_none, none_or_fault, number_at, words_at, words_of}
 use Rattle.clr_rule_text.specs.Values.{value_of}
 
 -- with names ---------------------------------------------------------------------------------
@@ -36,7 +37,7 @@ literal_pair (item d (item e no_items)) = do
 literal_pair (item d (item e (item f more))) = Err BadField
 
 unfoldable pub literal_of : Data → Result (List ℕ × Value) TextFault
-literal_of d = list_of d >>= literal_pair
+literal_of d = array_of d >>= literal_pair
 
 unfoldable pub filter_of : Data → Result (List (List ℕ × Value)) TextFault
 filter_of d = list_or_none (get (codes "where") d) >>= each literal_of
@@ -50,8 +51,8 @@ side_of d = do
 unfoldable pub side_at : List ℕ → Data → Result NamedSide TextFault
 side_at key d = field_of key d >>= side_of
 
-unfoldable pub names_at : List ℕ → Data → Result (List (List ℕ)) TextFault
-names_at key d = list_at key d >>= each words_of
+unfoldable pub list_of_words_at : List ℕ → Data → Result (List (List ℕ)) TextFault
+list_of_words_at key d = list_at key d >>= each words_of
 
 abbrev pub tip_named : List ℕ → Result Tip TextFault
 tip_named word = if bytes_eq word (codes "FIRST") then Ok tip.First else (if bytes_eq word (codes "SECOND") then Ok tip.Second else Err BadField)
@@ -62,15 +63,15 @@ tip_of d = words_at (codes "tip") d >>= tip_named
 unfoldable pub unique_of : Data → Result NamedRule TextFault
 unique_of d = do
   subject ← side_at (codes "subject") d
-  columns ← names_at (codes "columns") d
+  columns ← list_of_words_at (codes "columns") d
   Ok (Unique subject columns)
 
 unfoldable pub partner_of : Data → Result NamedRule TextFault
 partner_of d = do
   subject ← side_at (codes "subject") d
-  columns ← names_at (codes "columns") d
+  columns ← list_of_words_at (codes "columns") d
   server ← side_at (codes "server") d
-  server_columns ← names_at (codes "server_columns") d
+  server_columns ← list_of_words_at (codes "server_columns") d
   Ok (Partner subject columns server server_columns)
 
 unfoldable pub end_node_of : Data → Result NamedRule TextFault

@@ -5,7 +5,8 @@ use Rattle.serde_json.specs.Find.{as_str}
 use Rattle.clr_rows.specs.declared.rows.Value.{Value}
 use Rattle.clr_rows.specs.declared.rows.Value.TheVariants.{Int, Words}
 use Rattle.clr_rule_text.specs.declared.faults.TextFault.{TextFault}
-use Rattle.clr_rule_text.specs.Fields.{◌>>=◌, number_of}
+use Rattle.clr_readings.specs.Readings.{◌>>=◌}
+use Rattle.clr_rule_text.specs.Fields.{number_of}
 
 abbrev pub words_or_number : Option (List ℕ) → Data → Result Value TextFault
 words_or_number (Some text) d = Ok (Words text)

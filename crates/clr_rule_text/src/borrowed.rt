@@ -4,7 +4,8 @@ ghost use Rattle.std.specs.Prelude.{◌≡◌, is_some, option_and_then, option_
 ghost use Rattle.json.specs.Value.{value_view, items_view, members_view};
 ghost use Rattle.serde_json.specs.Find.{as_i64};
 ghost use Rattle.serde_json.specs.Read.{number_of, read};
-ghost use Rattle.clr_rule_text.specs.Fields.{Gives};
+ghost use Rattle.clr_readings.specs.Readings.{Gives};
+ghost use Rattle.clr_rule_text.specs.Fields.{text_lacks_memory};
 ghost use Rattle.clr_rule_text.specs.Seen.{fault_of, has_numbers as are_numbers, items_have_numbers as are_numbers_in};
 ghost use Rattle.clr_rule_text.specs.Seen.{members_have_numbers as are_numbers_at, seen, value_if_read};
 
@@ -74,7 +75,7 @@ pub fn read_value<'a>(
     text: &'a str,
     scratch: &'a mut Scratch,
 ) -> Result<BorrowedJson<'a>, TextFault>
-    ensures { Gives seen result (value_if_read (read text.now)) }
+    ensures { Gives text_lacks_memory seen result (value_if_read (read text.now)) }
 {
     let mut reader = Reader::new(text, scratch)?;
     let json = match Value::read(alloc, &mut reader, MOST_LEVELS) {

@@ -1,7 +1,8 @@
 //! Rules with names of tables and columns, as they are written.
 
 ghost use Rattle.std.specs.Prelude.{◌≡◌};
-ghost use Rattle.clr_rule_text.specs.Fields.{Gives, each};
+ghost use Rattle.clr_readings.specs.Readings.{Gives};
+ghost use Rattle.clr_rule_text.specs.Fields.{each, text_lacks_memory};
 ghost use Rattle.clr_rule_text.specs.Seen.{items_seen};
 ghost use Rattle.clr_rule_text.specs.Rules.{crossing_of, end_node_of, named_rule_of, named_rules_of, near_of, partner_of};
 ghost use Rattle.clr_rule_text.specs.Rules.{rule_of_kind as meant_by, tip_of, unique_of};
@@ -45,7 +46,7 @@ pub enum NamedRule {
 
 #[tactic(auto, unfolding(crate::specs::Rules::tip_of))]
 fn tip<J: JsonValue>(json: &J) -> Result<Tip, TextFault>
-    ensures { Gives (λ t. t) result (tip_of (J.stands_for json.now)) }
+    ensures { Gives text_lacks_memory (λ t. t) result (tip_of (J.stands_for json.now)) }
 {
     match words(field(json, "tip")?)? {
         "FIRST" => Ok(Tip::First),
@@ -56,7 +57,7 @@ fn tip<J: JsonValue>(json: &J) -> Result<Tip, TextFault>
 
 #[tactic(auto, unfolding(crate::specs::Rules::unique_of))]
 fn unique<J: JsonValue>(alloc: Global, json: &J) -> Result<NamedRule, TextFault>
-    ensures { Gives (λ r. r) result (unique_of (J.stands_for json.now)) }
+    ensures { Gives text_lacks_memory (λ r. r) result (unique_of (J.stands_for json.now)) }
 {
     let subject = side_in(alloc, json, "subject")?;
     let columns = names_in(alloc, json, "columns")?;
@@ -65,7 +66,7 @@ fn unique<J: JsonValue>(alloc: Global, json: &J) -> Result<NamedRule, TextFault>
 
 #[tactic(auto, unfolding(crate::specs::Rules::partner_of))]
 fn partner<J: JsonValue>(alloc: Global, json: &J) -> Result<NamedRule, TextFault>
-    ensures { Gives (λ r. r) result (partner_of (J.stands_for json.now)) }
+    ensures { Gives text_lacks_memory (λ r. r) result (partner_of (J.stands_for json.now)) }
 {
     let subject = side_in(alloc, json, "subject")?;
     let columns = names_in(alloc, json, "columns")?;
@@ -81,7 +82,7 @@ fn partner<J: JsonValue>(alloc: Global, json: &J) -> Result<NamedRule, TextFault
 
 #[tactic(auto, unfolding(crate::specs::Rules::end_node_of))]
 fn end_node<J: JsonValue>(alloc: Global, json: &J) -> Result<NamedRule, TextFault>
-    ensures { Gives (λ r. r) result (end_node_of (J.stands_for json.now)) }
+    ensures { Gives text_lacks_memory (λ r. r) result (end_node_of (J.stands_for json.now)) }
 {
     let subject = side_in(alloc, json, "subject")?;
     let tip = tip(json)?;
@@ -95,7 +96,7 @@ fn end_node<J: JsonValue>(alloc: Global, json: &J) -> Result<NamedRule, TextFaul
 
 #[tactic(auto, unfolding(crate::specs::Rules::crossing_of))]
 fn crossing<J: JsonValue>(alloc: Global, json: &J) -> Result<NamedRule, TextFault>
-    ensures { Gives (λ r. r) result (crossing_of (J.stands_for json.now)) }
+    ensures { Gives text_lacks_memory (λ r. r) result (crossing_of (J.stands_for json.now)) }
 {
     let a = side_in(alloc, json, "a")?;
     let b = side_in(alloc, json, "b")?;
@@ -105,7 +106,7 @@ fn crossing<J: JsonValue>(alloc: Global, json: &J) -> Result<NamedRule, TextFaul
 
 #[tactic(auto, unfolding(crate::specs::Rules::near_of))]
 fn near<J: JsonValue>(alloc: Global, json: &J) -> Result<NamedRule, TextFault>
-    ensures { Gives (λ r. r) result (near_of (J.stands_for json.now)) }
+    ensures { Gives text_lacks_memory (λ r. r) result (near_of (J.stands_for json.now)) }
 {
     let a = side_in(alloc, json, "a")?;
     let b = side_in(alloc, json, "b")?;
@@ -114,7 +115,7 @@ fn near<J: JsonValue>(alloc: Global, json: &J) -> Result<NamedRule, TextFault>
 }
 
 fn rule_of_kind<J: JsonValue>(alloc: Global, kind: &str, json: &J) -> Result<NamedRule, TextFault>
-    ensures { Gives (λ r. r) result (meant_by kind.now (J.stands_for json.now)) }
+    ensures { Gives text_lacks_memory (λ r. r) result (meant_by kind.now (J.stands_for json.now)) }
 {
     match kind {
         "UNIQUE" => unique(alloc, json),
@@ -130,13 +131,13 @@ fn rule_of_kind<J: JsonValue>(alloc: Global, kind: &str, json: &J) -> Result<Nam
 /// none of those that may stand there.
 #[tactic(auto, unfolding(crate::specs::Rules::named_rule_of))]
 pub fn named_rule<J: JsonValue>(alloc: Global, json: &J) -> Result<NamedRule, TextFault>
-    ensures { Gives (λ r. r) result (named_rule_of (J.stands_for json.now)) }
+    ensures { Gives text_lacks_memory (λ r. r) result (named_rule_of (J.stands_for json.now)) }
 {
     rule_of_kind(alloc, words(field(json, "kind")?)?, json)
 }
 
 fn each_named_rule<J: JsonValue>(alloc: Global, items: &[J]) -> Result<Vec<NamedRule>, TextFault>
-    ensures { Gives (λ v. v.items) result (each named_rule_of (items_seen J.stands_for items.now)) }
+    ensures { Gives text_lacks_memory (λ v. v.items) result (each named_rule_of (items_seen J.stands_for items.now)) }
 {
     let mut rules = Vec::new(alloc);
     for item in items {
@@ -150,7 +151,7 @@ fn each_named_rule<J: JsonValue>(alloc: Global, items: &[J]) -> Result<Vec<Named
 /// `BadField` where a key is missing, or a value is none of those that may stand there.
 #[tactic(auto, unfolding(crate::specs::Rules::named_rules_of))]
 pub fn named_rules<J: JsonValue>(alloc: Global, json: &J) -> Result<Vec<NamedRule>, TextFault>
-    ensures { Gives (λ v. v.items) result (named_rules_of (J.stands_for json.now)) }
+    ensures { Gives text_lacks_memory (λ v. v.items) result (named_rules_of (J.stands_for json.now)) }
 {
     each_named_rule(alloc, optional_list(json, "rules")?)
 }

@@ -1,9 +1,10 @@
 //! Sides of rules with names of tables and columns, as they are written.
 
 ghost use Rattle.std.specs.Prelude.{◌≡◌};
-ghost use Rattle.clr_rule_text.specs.Fields.{Gives, each, words_of};
+ghost use Rattle.clr_readings.specs.Readings.{Gives};
+ghost use Rattle.clr_rule_text.specs.Fields.{each, text_lacks_memory, words_of};
 ghost use Rattle.clr_rule_text.specs.Seen.{items_seen};
-ghost use Rattle.clr_rule_text.specs.Rules.{filter_of, literal_of, literal_pair, names_at, side_at, side_of};
+ghost use Rattle.clr_rule_text.specs.Rules.{filter_of, literal_of, literal_pair, list_of_words_at, side_at, side_of};
 
 use crate::faults::TextFault;
 use crate::fields::{field, list, list_in, optional_list, words, words_from, words_in};
@@ -27,7 +28,7 @@ pub struct NamedSide {
 
 #[tactic(auto, unfolding(crate::specs::Rules::literal_pair))]
 fn literal_of_pair<J: JsonValue>(alloc: Global, items: &[J]) -> Result<(Words, Value), TextFault>
-    ensures { Gives (λ p. p) result (literal_pair (items_seen J.stands_for items.now)) }
+    ensures { Gives text_lacks_memory (λ p. p) result (literal_pair (items_seen J.stands_for items.now)) }
 {
     match items {
         [name, literal] => {
@@ -40,13 +41,13 @@ fn literal_of_pair<J: JsonValue>(alloc: Global, items: &[J]) -> Result<(Words, V
 
 #[tactic(auto, unfolding(crate::specs::Rules::literal_of))]
 fn literal<J: JsonValue>(alloc: Global, json: &J) -> Result<(Words, Value), TextFault>
-    ensures { Gives (λ p. p) result (literal_of (J.stands_for json.now)) }
+    ensures { Gives text_lacks_memory (λ p. p) result (literal_of (J.stands_for json.now)) }
 {
     literal_of_pair(alloc, list(json)?)
 }
 
 fn each_literal<J: JsonValue>(alloc: Global, items: &[J]) -> Result<Vec<(Words, Value)>, TextFault>
-    ensures { Gives (λ v. v.items) result (each literal_of (items_seen J.stands_for items.now)) }
+    ensures { Gives text_lacks_memory (λ v. v.items) result (each literal_of (items_seen J.stands_for items.now)) }
 {
     let mut literals = Vec::new(alloc);
     for item in items {
@@ -58,7 +59,7 @@ fn each_literal<J: JsonValue>(alloc: Global, items: &[J]) -> Result<Vec<(Words, 
 
 #[tactic(auto, unfolding(crate::specs::Rules::filter_of))]
 fn filter<J: JsonValue>(alloc: Global, json: &J) -> Result<NamedFilter, TextFault>
-    ensures { Gives (λ f. f) result (filter_of (J.stands_for json.now)) }
+    ensures { Gives text_lacks_memory (λ f. f) result (filter_of (J.stands_for json.now)) }
 {
     let list = each_literal(alloc, optional_list(json, "where")?)?;
     Ok(NamedFilter::new(list))
@@ -66,7 +67,7 @@ fn filter<J: JsonValue>(alloc: Global, json: &J) -> Result<NamedFilter, TextFaul
 
 #[tactic(auto, unfolding(crate::specs::Rules::side_of))]
 fn side<J: JsonValue>(alloc: Global, json: &J) -> Result<NamedSide, TextFault>
-    ensures { Gives (λ s. s) result (side_of (J.stands_for json.now)) }
+    ensures { Gives text_lacks_memory (λ s. s) result (side_of (J.stands_for json.now)) }
 {
     let table = words_in(alloc, json, "table")?;
     let filter = filter(alloc, json)?;
@@ -76,19 +77,19 @@ fn side<J: JsonValue>(alloc: Global, json: &J) -> Result<NamedSide, TextFault>
 /// Returns the side at a key. Fails with `BadField` where there is none.
 #[tactic(auto, unfolding(crate::specs::Rules::side_at))]
 pub fn side_in<J: JsonValue>(alloc: Global, json: &J, key: &str) -> Result<NamedSide, TextFault>
-    ensures { Gives (λ s. s) result (side_at key.now (J.stands_for json.now)) }
+    ensures { Gives text_lacks_memory (λ s. s) result (side_at key.now (J.stands_for json.now)) }
 {
     side(alloc, field(json, key)?)
 }
 
 fn name<J: JsonValue>(alloc: Global, json: &J) -> Result<Words, TextFault>
-    ensures { Gives (λ w. w) result (words_of (J.stands_for json.now)) }
+    ensures { Gives text_lacks_memory (λ w. w) result (words_of (J.stands_for json.now)) }
 {
     words_from(alloc, words(json)?)
 }
 
 fn each_name<J: JsonValue>(alloc: Global, items: &[J]) -> Result<Vec<Words>, TextFault>
-    ensures { Gives (λ v. v.items) result (each words_of (items_seen J.stands_for items.now)) }
+    ensures { Gives text_lacks_memory (λ v. v.items) result (each words_of (items_seen J.stands_for items.now)) }
 {
     let mut names = Vec::new(alloc);
     for item in items {
@@ -99,9 +100,9 @@ fn each_name<J: JsonValue>(alloc: Global, items: &[J]) -> Result<Vec<Words>, Tex
 }
 
 /// Returns the list of names at a key. Fails with `BadField` where there is none.
-#[tactic(auto, unfolding(crate::specs::Rules::names_at))]
+#[tactic(auto, unfolding(crate::specs::Rules::list_of_words_at))]
 pub fn names_in<J: JsonValue>(alloc: Global, json: &J, key: &str) -> Result<ColumnNames, TextFault>
-    ensures { Gives (λ v. v) result (names_at key.now (J.stands_for json.now)) }
+    ensures { Gives text_lacks_memory (λ v. v) result (list_of_words_at key.now (J.stands_for json.now)) }
 {
     let list = each_name(alloc, list_in(json, key)?)?;
     Ok(ColumnNames::new(list))

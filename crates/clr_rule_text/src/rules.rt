@@ -2,7 +2,8 @@
 
 ghost use Rattle.std.specs.Prelude.{◌≡◌, IfOk};
 ghost use Rattle.clr_rules.specs.Books.{FitsBook};
-ghost use Rattle.clr_rule_text.specs.Fields.{Gives, each_in};
+ghost use Rattle.clr_readings.specs.Readings.{Gives};
+ghost use Rattle.clr_rule_text.specs.Fields.{each_in, text_lacks_memory};
 ghost use Rattle.clr_rule_text.specs.Rules.{column_number as number_meant, column_over, columns_over, crossing_over, end_node_over, filter_over};
 ghost use Rattle.clr_rule_text.specs.Rules.{literal_over, near_over, partner_over, rule_over, rules_of, side_over, unique_over};
 
@@ -15,7 +16,7 @@ use clr_rules::{Col, ColumnList, Filter, Rule, RuleBook, Side, Tip};
 use std::alloc::Global;
 
 fn column_number(schema: &Schema, table: u16, name: &Words) -> Result<u16, TextFault>
-    ensures { Gives (λ n. n) result (number_meant schema.now table name.now) }
+    ensures { Gives text_lacks_memory (λ n. n) result (number_meant schema.now table name.now) }
 {
     match schema.column(table, name.as_str()) {
         Some(number) => Ok(number),
@@ -24,7 +25,7 @@ fn column_number(schema: &Schema, table: u16, name: &Words) -> Result<u16, TextF
 }
 
 fn literal(schema: &Schema, table: u16, named: (Words, Value)) -> Result<(u16, Value), TextFault>
-    ensures { Gives (λ l. l) result (literal_over schema.now table named) }
+    ensures { Gives text_lacks_memory (λ l. l) result (literal_over schema.now table named) }
 {
     let number = column_number(schema, table, &named.0)?;
     Ok((number, named.1))
@@ -36,7 +37,7 @@ fn each_literal(
     table: u16,
     named: Vec<(Words, Value)>,
 ) -> Result<Vec<(u16, Value)>, TextFault>
-    ensures { Gives (λ v. v.items) result (filter_over schema.now table named.items) }
+    ensures { Gives text_lacks_memory (λ v. v.items) result (filter_over schema.now table named.items) }
 {
     let mut literals = Vec::new(alloc);
     for item in named {
@@ -48,7 +49,7 @@ fn each_literal(
 
 #[tactic(auto, unfolding(crate::specs::Rules::side_over))]
 fn side(alloc: Global, schema: &Schema, named: NamedSide) -> Result<Side, TextFault>
-    ensures { Gives (λ s. s) result (side_over schema.now named) }
+    ensures { Gives text_lacks_memory (λ s. s) result (side_over schema.now named) }
 {
     let Some(table) = schema.table(named.table.as_str()) else {
         return Err(TextFault::BadRule);
@@ -61,7 +62,7 @@ fn side(alloc: Global, schema: &Schema, named: NamedSide) -> Result<Side, TextFa
 }
 
 fn column(schema: &Schema, table: u16, name: &Words) -> Result<Col, TextFault>
-    ensures { Gives (λ c. c) result (column_over schema.now table name.now) }
+    ensures { Gives text_lacks_memory (λ c. c) result (column_over schema.now table name.now) }
 {
     if name.as_str() == KEY {
         return Ok(Col::Key);
@@ -75,7 +76,7 @@ fn each_column(
     table: u16,
     names: &[Words],
 ) -> Result<Vec<Col>, TextFault>
-    ensures { Gives (λ v. v.items) result (columns_over schema.now table names.now) }
+    ensures { Gives text_lacks_memory (λ v. v.items) result (columns_over schema.now table names.now) }
 {
     let mut columns = Vec::new(alloc);
     for name in names {
@@ -91,7 +92,7 @@ fn columns(
     table: u16,
     names: &ColumnNames,
 ) -> Result<ColumnList, TextFault>
-    ensures { Gives (λ v. v) result (columns_over schema.now table names.now) }
+    ensures { Gives text_lacks_memory (λ v. v) result (columns_over schema.now table names.now) }
 {
     let list = each_column(alloc, schema, table, names.as_slice())?;
     Ok(ColumnList::new(list))
@@ -104,7 +105,7 @@ fn unique(
     subject: NamedSide,
     names: ColumnNames,
 ) -> Result<Rule, TextFault>
-    ensures { Gives (λ r. r) result (unique_over schema.now subject names) }
+    ensures { Gives text_lacks_memory (λ r. r) result (unique_over schema.now subject names) }
 {
     let subject = side(alloc, schema, subject)?;
     let columns = columns(alloc, schema, subject.table, &names)?;
@@ -120,7 +121,7 @@ fn partner(
     server: NamedSide,
     server_names: ColumnNames,
 ) -> Result<Rule, TextFault>
-    ensures { Gives (λ r. r) result (partner_over schema.now subject names server server_names) }
+    ensures { Gives text_lacks_memory (λ r. r) result (partner_over schema.now subject names server server_names) }
 {
     let subject = side(alloc, schema, subject)?;
     let own_columns = columns(alloc, schema, subject.table, &names)?;
@@ -142,7 +143,7 @@ fn end_node(
     tip: Tip,
     server: NamedSide,
 ) -> Result<Rule, TextFault>
-    ensures { Gives (λ r. r) result (end_node_over schema.now subject tip server) }
+    ensures { Gives text_lacks_memory (λ r. r) result (end_node_over schema.now subject tip server) }
 {
     let subject = side(alloc, schema, subject)?;
     let server = side(alloc, schema, server)?;
@@ -161,7 +162,7 @@ fn crossing(
     b: NamedSide,
     server: NamedSide,
 ) -> Result<Rule, TextFault>
-    ensures { Gives (λ r. r) result (crossing_over schema.now a b server) }
+    ensures { Gives text_lacks_memory (λ r. r) result (crossing_over schema.now a b server) }
 {
     let a = side(alloc, schema, a)?;
     let b = side(alloc, schema, b)?;
@@ -177,7 +178,7 @@ fn near(
     b: NamedSide,
     d: i64,
 ) -> Result<Rule, TextFault>
-    ensures { Gives (λ r. r) result (near_over schema.now a b d) }
+    ensures { Gives text_lacks_memory (λ r. r) result (near_over schema.now a b d) }
 {
     let a = side(alloc, schema, a)?;
     let b = side(alloc, schema, b)?;
@@ -187,7 +188,7 @@ fn near(
 /// A rule with its tables and columns by their numbers. Fails with `BadRule` where the schema hasn't a
 /// table or a column of a name.
 pub fn rule(alloc: Global, schema: &Schema, named: NamedRule) -> Result<Rule, TextFault>
-    ensures { Gives (λ r. r) result (rule_over schema.now named) }
+    ensures { Gives text_lacks_memory (λ r. r) result (rule_over schema.now named) }
 {
     match named {
         NamedRule::Unique { subject, columns } => unique(alloc, schema, subject, columns),
@@ -213,7 +214,7 @@ pub fn each_rule(
     schema: &Schema,
     named: Vec<NamedRule>,
 ) -> Result<Vec<Rule>, TextFault>
-    ensures { Gives (λ v. v.items) result (each_in (rule_over schema.now) named.items) }
+    ensures { Gives text_lacks_memory (λ v. v.items) result (each_in (rule_over schema.now) named.items) }
 {
     let mut rules = Vec::new(alloc);
     for item in named {
@@ -233,7 +234,7 @@ pub fn read_rules<J: JsonValue>(
     json: &J,
     schema: &Schema,
 ) -> Result<RuleBook, TextFault>
-    ensures value { Gives (λ b. b) result (rules_of schema.now (J.stands_for json.now)) }
+    ensures value { Gives text_lacks_memory (λ b. b) result (rules_of schema.now (J.stands_for json.now)) }
     ensures fits { IfOk result (λ b. FitsBook schema.now b) }
 {
     let rules = each_rule(alloc, schema, named_rules(alloc, json)?)?;

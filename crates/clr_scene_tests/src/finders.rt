@@ -133,20 +133,14 @@ fn finds_live<F: RowFinder>(alloc: Global, office: &Office, finder: &mut F) -> R
     finds_as_office(alloc, office, finder)
 }
 
-/// Whether both finders find the same for each row of LIVE under each rule.
-fn find_the_same(alloc: Global, office: &Office) -> Result<bool, Fail> {
+/// Whether both finders find the same for each row of LIVE under each rule, in the office of tables
+/// with rules, and rows of LIVE.
+fn find_the_same(alloc: Global, rules: &str, live: &str) -> Result<bool, Fail> {
+    let office = network(alloc, rules, live, &[])?;
     Ok(
-        finds_live(alloc, office, &mut ListFinder::new(alloc))?
-            && finds_live(alloc, office, &mut SpotIndex::new(alloc))?,
+        finds_live(alloc, &office, &mut ListFinder::new(alloc))?
+            && finds_live(alloc, &office, &mut SpotIndex::new(alloc))?,
     )
-}
-
-/// The same in the office of tables with rules, and rows of LIVE.
-fn find_the_same_over(alloc: Global, rules: &str, live: &str) -> Result<bool, Fail> {
-    match network(alloc, rules, live, &[]) {
-        Ok(office) => find_the_same(alloc, &office),
-        Err(fail) => Err(fail),
-    }
 }
 
 /// Mains that are long, three of them wide, with nodes on some of them.
@@ -174,19 +168,12 @@ main/6: node/2 main/4 main/5 main/6 main/7 served by node/2
 main/7: node/1 node/2 main/1 main/2 main/3 main/4 main/5 main/6 main/7 served by node/1 node/2
 "#;
 
-/// What the office's own finder finds among them under the rule of ducts that cross mains.
-fn lines_of_long_mains(alloc: Global) -> Result<Vec<u8>, Fail> {
-    match network(alloc, STREETS, LONG_MAINS, &[]) {
-        Ok(office) => indexed_lines_under(alloc, &office, 3),
-        Err(fail) => Err(fail),
-    }
-}
-
 #[test]
 fn wide_rows(rt: HostRuntime) -> Result<(), Fail> {
-    let lines = lines_of_long_mains(rt.alloc())?;
+    let office = network(rt.alloc(), STREETS, LONG_MAINS, &[])?;
+    let lines = indexed_lines_under(rt.alloc(), &office, 3)?;
     assert!(rt; lines.as_slice() == SHARING.as_bytes());
-    assert!(rt; find_the_same_over(rt.alloc(), STREETS, LONG_MAINS)?);
+    assert!(rt; find_the_same(rt.alloc(), STREETS, LONG_MAINS)?);
     Ok(())
 }
 
@@ -205,7 +192,7 @@ fn both_finders_find_the_same_at_a_crossing(rt: HostRuntime) -> Result<(), Fail>
     let alloc = rt.alloc();
     for (rules, more) in CROSSINGS {
         let live = format!(in alloc; "{CROSSING}{more}")?;
-        assert!(rt; find_the_same_over(alloc, rules, live.as_str())?, "{more}");
+        assert!(rt; find_the_same(alloc, rules, live.as_str())?, "{more}");
     }
     Ok(())
 }
@@ -213,7 +200,7 @@ fn both_finders_find_the_same_at_a_crossing(rt: HostRuntime) -> Result<(), Fail>
 #[test]
 fn both_finders_find_the_same(rt: HostRuntime) -> Result<(), Fail> {
     for (live, _, _) in &SCENES {
-        assert!(rt; find_the_same_over(rt.alloc(), STREETS, live)?, "{live}");
+        assert!(rt; find_the_same(rt.alloc(), STREETS, live)?, "{live}");
     }
     Ok(())
 }

@@ -241,10 +241,8 @@ fn paths_once_there_is_memory(rt: HostRuntime) -> Result<(), Fail> {
 
 /// What is said of three members that change these rows.
 fn lines_of_three(alloc: Global, changes: &[&str]) -> Result<String, Fail> {
-    match network(alloc, MAINS, CROSSING, changes) {
-        Ok(office) => Ok(site_lines(alloc, &office, "LIVE", members(3), &mut Memory::All)?),
-        Err(fail) => Err(fail),
-    }
+    let office = network(alloc, MAINS, CROSSING, changes)?;
+    Ok(site_lines(alloc, &office, "LIVE", members(3), &mut Memory::All)?)
 }
 
 #[test]
@@ -265,10 +263,8 @@ const KEPT: &str =
 
 /// What is said of the children of K in the office of a text.
 fn lines_under_k(alloc: Global, text: &str) -> Result<String, Fail> {
-    match office_of(alloc, text) {
-        Ok(office) => Ok(site_lines(alloc, &office, "K", &["V1", "V2"], &mut Memory::All)?),
-        Err(fail) => Err(fail),
-    }
+    let office = office_of(alloc, text)?;
+    Ok(site_lines(alloc, &office, "K", &["V1", "V2"], &mut Memory::All)?)
 }
 
 #[test]

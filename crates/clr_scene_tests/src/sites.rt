@@ -227,10 +227,8 @@ fn describe_members(
     memory: &mut Memory,
 ) -> Result<String, Fail> {
     let live = format!(in alloc; "{}{more}", front.1)?;
-    match network(alloc, front.0, live.as_str(), changes) {
-        Ok(office) => Ok(scene_lines(alloc, &office, members(changes.len()), memory)?),
-        Err(fail) => Err(fail),
-    }
+    let office = network(alloc, front.0, live.as_str(), changes)?;
+    Ok(scene_lines(alloc, &office, members(changes.len()), memory)?)
 }
 
 /// Asserts what is said of each of some scenes by calls that have this memory.

@@ -336,10 +336,8 @@ fn are_broken(alloc: Global, office: &Office, needs: &[&str; 3]) -> Result<bool,
 
 /// The same in the office of a scene.
 fn are_broken_in(alloc: Global, scene: &SceneOver, needs: &[&str; 3]) -> Result<bool, Fail> {
-    match network(alloc, STREETS, scene.0, scene.1) {
-        Ok(office) => are_broken(alloc, &office, needs),
-        Err(fail) => Err(fail),
-    }
+    let office = network(alloc, STREETS, scene.0, scene.1)?;
+    are_broken(alloc, &office, needs)
 }
 
 #[test]

@@ -5,10 +5,12 @@ use Rattle.csv.specs.Records.{field_at}
 use Rattle.clr_rows.specs.declared.places.Place.{Place}
 use Rattle.clr_scripts.specs.declared.faults.RecordFault.{RecordFault}
 use Rattle.clr_scripts.specs.declared.faults.RecordFault.TheVariants as fault
-use Rattle.clr_records.specs.Records.{◌>>=◌, field_of}
-use Rattle.clr_scripts.specs.Records.{Fails}
+use Rattle.clr_readings.specs.Readings.{◌>>=◌, Fails}
+use Rattle.clr_readings.proofs.FaultTurns.{same_fault}
+use Rattle.clr_records.specs.Records.{field_of}
+use Rattle.clr_scripts.specs.Records.{record_lacks_memory}
 use Rattle.clr_scripts.specs.Edits.{place_of, vertices_of}
-use Rattle.clr_records.proofs.InTurn.{regroup, with_front}
+use Rattle.clr_readings.proofs.Fronts.{regroup_after, with_front}
 
 -- a field, and those behind it
 pub begins : (fields : List (List ℕ)) (at : ℕ) → at < length fields → drop at fields ≡ field_of fields at ∷ drop (at + 1) fields
@@ -25,15 +27,10 @@ two fields at lt =
     begins fields at (omega arith) ∙ ap (λ (fs : List (List ℕ)). field_of fields at ∷ fs) (begins fields (at + 1) lt
     ∙ ap (λ k. field_of fields (at + 1) ∷ drop k fields) last)
 
-one_more : {A : Type 0} (front : List A) (one : Result A RecordFault) (others : Result (List A) RecordFault)
-    → with_front front (one >>= λ x. others >>= λ xs. Ok (x ∷ xs)) ≡ one >>= λ x. with_front (front ++ x ∷ []) others
-one_more front (Ok x) others = regroup front x others
-one_more front (Err e) others = refl
-
 next : (front : List Place) (fields : List (List ℕ)) (at : ℕ) → at + 1 < length fields
     → with_front front (vertices_of (drop at fields)) ≡ place_of fields at >>= λ p. with_front (front ++ p ∷ []) (vertices_of (drop (at + 2) fields))
 unfolding vertices_of
-next front fields at lt = rw (two fields at lt) (one_more front (place_of fields at) (vertices_of (drop (at + 2) fields)))
+next front fields at lt = rw (two fields at lt) (regroup_after front (place_of fields at) (vertices_of (drop (at + 2) fields)))
 
 -- one more vertex is read
 pub goes_on : (front : List Place) (fields : List (List ℕ)) (at : ℕ) (p : Place) (total : Result (List Place) RecordFault) → at + 1 < length fields
@@ -41,20 +38,11 @@ pub goes_on : (front : List Place) (fields : List (List ℕ)) (at : ℕ) (p : Pl
     → with_front front (vertices_of (drop at fields)) ≡ total → with_front (front ++ p ∷ []) (vertices_of (drop (at + 2) fields)) ≡ total
 goes_on front fields at p total lt was so_far = sym (next front fields at lt ∙ rw was refl) ∙ so_far
 
--- a fault that is read is one that a call may answer
-so : {A : Type 0} (e : RecordFault) (read : Result A RecordFault) → read ≡ Err e → Fails e read
-so fault.OutOfMemory read is = tt
-so fault.NotCsv read is = is
-so fault.FieldCount read is = is
-so fault.BadWord read is = is
-so fault.NoTable read is = is
-so fault.BadNumber read is = is
-
 -- a vertex has a fault, and so has the whole
 pub stops : (e : RecordFault) (front : List Place) (fields : List (List ℕ)) (at : ℕ) (total : Result (List Place) RecordFault) → at + 1 < length fields
     → place_of fields at ≡ Err e
-    → with_front front (vertices_of (drop at fields)) ≡ total → Fails e total
-stops e front fields at total lt failed so_far = so e total (sym so_far ∙ (next front fields at lt ∙ rw failed refl))
+    → with_front front (vertices_of (drop at fields)) ≡ total → Fails record_lacks_memory e total
+stops e front fields at total lt failed so_far = same_fault record_lacks_memory e total (sym so_far ∙ (next front fields at lt ∙ rw failed refl))
 
 -- a field is left over
 pub left_over : (front : List Place) (fields : List (List ℕ)) (at : ℕ) (total : Result (List Place) RecordFault) → at + 1 ≡ length fields

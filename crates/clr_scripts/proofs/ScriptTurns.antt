@@ -12,24 +12,25 @@ use Rattle.clr_steps.specs.declared.commands.Command.TheVariants.{Apply}
 use Rattle.clr_scripts.specs.declared.faults.RecordFault.{RecordFault}
 use Rattle.clr_scripts.specs.declared.steps.Step.{Step}
 use Rattle.clr_scripts.specs.declared.steps.Step.TheVariants.{Act}
-use Rattle.clr_records.specs.Records.{◌>>=◌, field_of}
-use Rattle.clr_scripts.specs.Records.{FailsAt}
+use Rattle.clr_readings.specs.Readings.{◌>>=◌, FailsAt}
+use Rattle.clr_readings.proofs.FaultTurns.{passes_at}
+use Rattle.clr_records.specs.Records.{field_of}
+use Rattle.clr_scripts.specs.Records.{record_lacks_memory}
 use Rattle.clr_scripts.specs.Edits.{edits_from}
 use Rattle.clr_scripts.specs.Scripts.{apply_of, edit_count, edits_in, step_of, steps_from}
-use Rattle.clr_records.proofs.InTurn.{regroup, with_front}
-use Rattle.clr_scripts.proofs.FaultTurns.{passes_at}
+use Rattle.clr_readings.proofs.Fronts.{regroup, with_front}
 
 -- the edits of an `apply` are those of the records that are there
 own : (count : ℕ) (rows : List Row) → map fields_of (take (min count (length rows)) rows) ≡ take count (map fields_of rows)
 own count rows = rw (take_min count rows) (sym (take-map fields_of count rows))
 
 pub apply_stops : (tables : List TableDef) (n : ℕ) (fields : List (List ℕ)) (rows : List Row) (count m : ℕ) (e : RecordFault) → edit_count fields ≡ Ok count
-    → FailsAt m e (edits_from tables (n + 1) (map fields_of (take (min count (length rows)) rows)))
-    → FailsAt m e (apply_of tables n fields (map fields_of rows))
+    → FailsAt record_lacks_memory m e (edits_from tables (n + 1) (map fields_of (take (min count (length rows)) rows)))
+    → FailsAt record_lacks_memory m e (apply_of tables n fields (map fields_of rows))
 unfolding apply_of
 apply_stops tables n fields rows count m e is h =
-    passes_at m e (edits_from tables (n + 1) (map fields_of (take (min count (length rows)) rows))) (apply_of tables n fields (map fields_of rows))
-    (λ f k. rw (is, ← own count rows, k) refl) h
+    passes_at record_lacks_memory m e (edits_from tables (n + 1) (map fields_of (take (min count (length rows)) rows)))
+    (apply_of tables n fields (map fields_of rows)) (λ k. rw (is, ← own count rows, k) refl) h
 
 pub apply_whole : (tables : List TableDef) (n : ℕ) (fields : List (List ℕ)) (rows : List Row) (count : ℕ) (edits : List Edit) → edit_count fields ≡ Ok count
     → count ≤ length rows
@@ -76,10 +77,11 @@ one_step tables front n rows i r step total lt is h so_far = sym (regroup front 
 -- the fault of a step is that of the whole
 pub step_stops : (tables : List TableDef) (front : List Step) (n : ℕ) (rows : List Row) (i : ℕ) (r : Row) (m : ℕ) (e : RecordFault)
     (total : Result (List Step) (ℕ × RecordFault)) → i < length rows → r ≡ get_or rows i r
-    → FailsAt m e (step_of tables n (fields_of r) (map fields_of (drop (i + 1) rows)))
-    → with_front front (steps_from tables 0 n (map fields_of (drop i rows))) ≡ total → FailsAt m e total
+    → FailsAt record_lacks_memory m e (step_of tables n (fields_of r) (map fields_of (drop (i + 1) rows)))
+    → with_front front (steps_from tables 0 n (map fields_of (drop i rows))) ≡ total → FailsAt record_lacks_memory m e total
 step_stops tables front n rows i r m e total lt is h so_far =
-    passes_at m e (step_of tables n (fields_of r) (map fields_of (drop (i + 1) rows))) total (λ f k. sym so_far ∙ rw (begun tables n rows i r lt is, k) refl) h
+    passes_at record_lacks_memory m e (step_of tables n (fields_of r) (map fields_of (drop (i + 1) rows))) total
+    (λ k. sym so_far ∙ rw (begun tables n rows i r lt is, k) refl) h
 
 -- no record is left
 pub whole_script : (tables : List TableDef) (front : List Step) (k n : ℕ) (rows : List Row) (i : ℕ) (total : Result (List Step) (ℕ × RecordFault))

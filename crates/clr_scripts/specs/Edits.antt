@@ -24,7 +24,8 @@ use Rattle.clr_scripts.specs.declared.faults.RecordFault.TheVariants.{FieldCount
 use Rattle.clr_scripts.specs.declared.edits.Verb.{Verb}
 use Rattle.clr_scripts.specs.declared.edits.Verb.TheVariants.{Insert, Update, Delete}
 use Rattle.clr_records.specs.Decimals.{number_of}
-use Rattle.clr_records.specs.Records.{field_of, ◌>>=◌, or_fault, at_record, in_turn}
+use Rattle.clr_readings.specs.Readings.{◌>>=◌, or_fault}
+use Rattle.clr_records.specs.Records.{field_of, at_record, in_turn}
 use Rattle.clr_scripts.specs.Records.{records_or_fault}
 
 -- what an edit does, by the word that it begins with
@@ -100,16 +101,16 @@ row_of table fields = do
   shape ← shape_of table.shape fields (3 + length table.columns)
   Ok (record { values = values; shape = shape })
 
-abbrev pub edit_at : Verb → CellId → TableDef → List (List ℕ) → Result Edit RecordFault
-edit_at Insert cell table fields = row_of table fields >>= λ row. Ok (edit.Insert cell row)
-edit_at Update cell table fields = row_of table fields >>= λ row. Ok (edit.Update cell row)
-edit_at Delete cell table fields = Ok (edit.Delete cell)
+abbrev pub edit_by_verb : Verb → CellId → TableDef → List (List ℕ) → Result Edit RecordFault
+edit_by_verb Insert cell table fields = row_of table fields >>= λ row. Ok (edit.Insert cell row)
+edit_by_verb Update cell table fields = row_of table fields >>= λ row. Ok (edit.Update cell row)
+edit_by_verb Delete cell table fields = Ok (edit.Delete cell)
 
 -- an edit of a known table: the count of fields is tested first, and then the numbers from left to right
 unfoldable pub edit_in : Verb → ℕ → TableDef → List (List ℕ) → Result Edit RecordFault
 edit_in verb number table fields =
     if can_have_fields verb table (length fields)
-    then (whole_number (field_of fields 2) >>= λ key. edit_at verb (record { table = number; key = key }) table fields)
+    then (whole_number (field_of fields 2) >>= λ key. edit_by_verb verb (record { table = number; key = key }) table fields)
     else Err FieldCount
 
 -- the edit that a record is: the word is tested first, then that there are at least three fields, then the table, and then the rest

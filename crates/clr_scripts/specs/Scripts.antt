@@ -18,7 +18,8 @@ use Rattle.clr_scripts.specs.declared.steps.Step.TheVariants.{Act, Report}
 use Rattle.clr_scripts.specs.declared.steps.Word.{Word}
 use Rattle.clr_scripts.specs.declared.steps.Word.TheVariants.{Show, Changes, Conflicts, Audit, Workspaces, Dump, Plan, PlanUnder, Independence}
 use Rattle.clr_scripts.specs.declared.steps.Word.TheVariants.{IndependenceUnder}
-use Rattle.clr_records.specs.Records.{field_of, ◌>>=◌, at_record, or_fault}
+use Rattle.clr_readings.specs.Readings.{◌>>=◌, or_fault}
+use Rattle.clr_records.specs.Records.{field_of, at_record}
 use Rattle.clr_scripts.specs.Records.{records_or_fault}
 use Rattle.clr_scripts.specs.Edits.{edits_from, whole_number}
 

@@ -2,8 +2,9 @@
 
 ghost use Rattle.std.specs.Prelude.{◌≡◌, ◌+◌, ◌-◌, ◌<◌, ◌^◌, drop, length, map};
 ghost use Rattle.csv.specs.Records.{fields_of};
-ghost use Rattle.clr_scripts.specs.Records.{Gives, GivesAt};
-ghost use Rattle.clr_scripts.specs.Edits.{can_have_coordinates as can_have_so_many, can_have_fields as can_have, edit_at, edit_in};
+ghost use Rattle.clr_readings.specs.Readings.{Gives, GivesAt};
+ghost use Rattle.clr_scripts.specs.Records.{record_lacks_memory};
+ghost use Rattle.clr_scripts.specs.Edits.{can_have_coordinates as can_have_so_many, can_have_fields as can_have, edit_by_verb, edit_in};
 ghost use Rattle.clr_scripts.specs.Edits.{edit_of, edits_from, edits_in_text, place_of, row_of, shape_of};
 ghost use Rattle.clr_scripts.specs.Edits.{value_of, values_of, verb_of, vertices_of, whole_number};
 
@@ -47,7 +48,7 @@ pub(crate) fn number(text: &str) -> Result<i64, RecordFault>
 
 /// Returns the value of a column that a field is.
 fn value(alloc: Global, kind: Kind, text: &str) -> Result<Value, RecordFault>
-    ensures { Gives result (value_of kind text.now) }
+    ensures { Gives record_lacks_memory (λ x. x) result (value_of kind text.now) }
 {
     match kind {
         Kind::Int => Ok(Value::Int(number(text)?)),
@@ -61,7 +62,7 @@ fn values(
     columns: &[(Words, Kind)],
     fields: &StringRecord,
 ) -> Result<Values, RecordFault>
-    ensures { Gives result (values_of columns.now (fields_of fields.now) 3) }
+    ensures { Gives record_lacks_memory (λ x. x) result (values_of columns.now (fields_of fields.now) 3) }
 {
     let mut list = Vec::new(alloc);
     for (i, column) in columns.iter().enumerate() {
@@ -85,7 +86,7 @@ fn place(fields: &StringRecord, at: usize) -> Result<Place, RecordFault>
 /// where a field is left over.
 fn vertices(alloc: Global, fields: &StringRecord, first: usize) -> Result<Vertices, RecordFault>
     requires { first < 2 ^ 64 - 8 }
-    ensures { Gives result (vertices_of (drop first (fields_of fields.now))) }
+    ensures { Gives record_lacks_memory (λ x. x) result (vertices_of (drop first (fields_of fields.now))) }
 {
     let mut list = Vec::new(alloc);
     let mut at = first;
@@ -102,7 +103,7 @@ fn vertices(alloc: Global, fields: &StringRecord, first: usize) -> Result<Vertic
 /// Returns the shape of a row, whose coordinates are the fields from a position on.
 fn shape(alloc: Global, form: Form, fields: &StringRecord, at: usize) -> Result<Shape, RecordFault>
     requires { at < 2 ^ 64 - 8 }
-    ensures { Gives result (shape_of form (fields_of fields.now) at) }
+    ensures { Gives record_lacks_memory (λ x. x) result (shape_of form (fields_of fields.now) at) }
 {
     match form {
         Form::Bare => Ok(Shape::Bare),
@@ -119,7 +120,7 @@ fn shape(alloc: Global, form: Form, fields: &StringRecord, at: usize) -> Result<
 /// Returns the row of an edit: its values, and then its coordinates.
 #[tactic(auto, unfolding(crate::specs::Edits::row_of))]
 fn row(alloc: Global, table: &TableDef, fields: &StringRecord) -> Result<Row, RecordFault>
-    ensures { Gives result (row_of table.now (fields_of fields.now)) }
+    ensures { Gives record_lacks_memory (λ x. x) result (row_of table.now (fields_of fields.now)) }
 {
     let columns = table.columns.as_slice();
     let values = values(alloc, columns, fields)?;
@@ -160,7 +161,7 @@ fn edit_at_cell(
     table: &TableDef,
     fields: &StringRecord,
 ) -> Result<Edit, RecordFault>
-    ensures { Gives result (edit_at verb cell table.now (fields_of fields.now)) }
+    ensures { Gives record_lacks_memory (λ x. x) result (edit_by_verb verb cell table.now (fields_of fields.now)) }
 {
     match verb {
         Verb::Insert => Ok(Edit::Insert(cell, row(alloc, table, fields)?)),
@@ -179,7 +180,7 @@ fn edit_of_table(
     table: &TableDef,
     fields: &StringRecord,
 ) -> Result<Edit, RecordFault>
-    ensures { Gives result (edit_in verb number_of_table table.now (fields_of fields.now)) }
+    ensures { Gives record_lacks_memory (λ x. x) result (edit_in verb number_of_table table.now (fields_of fields.now)) }
 {
     if !can_have_fields(verb, table, fields.len()) {
         return Err(RecordFault::FieldCount);
@@ -194,7 +195,7 @@ fn edit_of_table(
 /// Returns the edit that a record is.
 #[tactic(auto, unfolding(crate::specs::Edits::edit_of))]
 fn edit(alloc: Global, schema: &Schema, fields: &StringRecord) -> Result<Edit, RecordFault>
-    ensures { Gives result (edit_of schema.now (fields_of fields.now)) }
+    ensures { Gives record_lacks_memory (λ x. x) result (edit_of schema.now (fields_of fields.now)) }
 {
     let verb = verb_of_word(field(fields, 0))?;
     if fields.len() < 3 {
@@ -217,7 +218,7 @@ pub(crate) fn edits(
     records: &[StringRecord],
 ) -> Result<Edits, (usize, RecordFault)>
     requires { first + length records.now < 2 ^ 64 }
-    ensures { GivesAt (λ e. e) result (edits_from schema.now first (map fields_of records.now)) }
+    ensures { GivesAt record_lacks_memory (λ e. e) result (edits_from schema.now first (map fields_of records.now)) }
 {
     let mut list = Vec::new(alloc);
     for (i, fields) in records.iter().enumerate() {
@@ -251,7 +252,7 @@ pub fn read_edits(
     schema: &Schema,
     bytes: &[u8],
 ) -> Result<Edits, (usize, RecordFault)>
-    ensures { GivesAt (λ e. e) result (edits_in_text schema.now bytes.now) }
+    ensures { GivesAt record_lacks_memory (λ e. e) result (edits_in_text schema.now bytes.now) }
 {
     let records = records_in_text(alloc, bytes)?;
     edits(alloc, schema, 1, records.as_slice())

@@ -2,7 +2,8 @@
 
 ghost use Rattle.std.specs.Prelude.{◌≡◌, length};
 ghost use Rattle.csv.specs.Records.{fields_of};
-ghost use Rattle.clr_scripts.specs.Records.{Gives};
+ghost use Rattle.clr_readings.specs.Readings.{Gives};
+ghost use Rattle.clr_scripts.specs.Records.{record_lacks_memory};
 ghost use Rattle.clr_scripts.specs.Scripts.{can_have_fields as can_have, cell_of, command_of, command_word_of, create_of, keep_of, mark_of, merge_of};
 ghost use Rattle.clr_scripts.specs.Scripts.{plain_step_of, removal_of, report_of, report_word_of, resolve_of, roll_to_of, unmark_of};
 
@@ -81,7 +82,7 @@ fn removal(word: &str) -> Result<bool, RecordFault>
 }
 
 fn merge(alloc: Global, fields: &StringRecord) -> Result<Command, RecordFault>
-    ensures { Gives result (merge_of (fields_of fields.now)) }
+    ensures { Gives record_lacks_memory (λ x. x) result (merge_of (fields_of fields.now)) }
 {
     if fields.len() != 3 {
         return Err(RecordFault::FieldCount);
@@ -116,7 +117,7 @@ fn cell(schema: &Schema, table: &str, key: &str) -> Result<CellId, RecordFault>
 }
 
 fn resolve(alloc: Global, schema: &Schema, fields: &StringRecord) -> Result<Command, RecordFault>
-    ensures { Gives result (resolve_of schema.now (fields_of fields.now)) }
+    ensures { Gives record_lacks_memory (λ x. x) result (resolve_of schema.now (fields_of fields.now)) }
 {
     if fields.len() != 5 {
         return Err(RecordFault::FieldCount);
@@ -128,28 +129,28 @@ fn resolve(alloc: Global, schema: &Schema, fields: &StringRecord) -> Result<Comm
 }
 
 fn create(alloc: Global, fields: &StringRecord) -> Result<Command, RecordFault>
-    ensures { Gives result (create_of (fields_of fields.now)) }
+    ensures { Gives record_lacks_memory (λ x. x) result (create_of (fields_of fields.now)) }
 {
     let (name, parent) = two_names(alloc, fields)?;
     Ok(Command::Create { name, parent })
 }
 
 fn mark(alloc: Global, fields: &StringRecord) -> Result<Command, RecordFault>
-    ensures { Gives result (mark_of (fields_of fields.now)) }
+    ensures { Gives record_lacks_memory (λ x. x) result (mark_of (fields_of fields.now)) }
 {
     let (ws, name) = two_names(alloc, fields)?;
     Ok(Command::Mark { ws, name })
 }
 
 fn unmark(alloc: Global, fields: &StringRecord) -> Result<Command, RecordFault>
-    ensures { Gives result (unmark_of (fields_of fields.now)) }
+    ensures { Gives record_lacks_memory (λ x. x) result (unmark_of (fields_of fields.now)) }
 {
     let (ws, name) = two_names(alloc, fields)?;
     Ok(Command::Unmark { ws, name })
 }
 
 fn roll_to(alloc: Global, fields: &StringRecord) -> Result<Command, RecordFault>
-    ensures { Gives result (roll_to_of (fields_of fields.now)) }
+    ensures { Gives record_lacks_memory (λ x. x) result (roll_to_of (fields_of fields.now)) }
 {
     let (ws, name) = two_names(alloc, fields)?;
     Ok(Command::RollTo { ws, name })
@@ -163,7 +164,7 @@ fn command(
     word: CommandWord,
     fields: &StringRecord,
 ) -> Result<Command, RecordFault>
-    ensures { Gives result (command_of schema.now word (fields_of fields.now)) }
+    ensures { Gives record_lacks_memory (λ x. x) result (command_of schema.now word (fields_of fields.now)) }
 {
     match word {
         CommandWord::Create => create(alloc, fields),
@@ -203,7 +204,7 @@ fn can_have_fields(word: Word, count: usize) -> bool
 }
 
 fn report(alloc: Global, word: Word, fields: &StringRecord) -> Result<Step, RecordFault>
-    ensures { Gives result (report_of word (fields_of fields.now)) }
+    ensures { Gives record_lacks_memory (λ x. x) result (report_of word (fields_of fields.now)) }
 {
     if !can_have_fields(word, fields.len()) {
         return Err(RecordFault::FieldCount);
@@ -218,7 +219,7 @@ pub fn plain_step(
     schema: &Schema,
     fields: &StringRecord,
 ) -> Result<Step, RecordFault>
-    ensures { Gives result (plain_step_of schema.now (fields_of fields.now)) }
+    ensures { Gives record_lacks_memory (λ x. x) result (plain_step_of schema.now (fields_of fields.now)) }
 {
     let word = field(fields, 0);
     match command_word(word) {

@@ -2,7 +2,8 @@
 
 ghost use Rattle.std.specs.Prelude.{◌≡◌, map};
 ghost use Rattle.csv.specs.Records.{fields_of};
-ghost use Rattle.clr_scripts.specs.Records.{GivesAt, numbered_fault, records_or_fault};
+ghost use Rattle.clr_readings.specs.Readings.{GivesAt, numbered_fault};
+ghost use Rattle.clr_scripts.specs.Records.{record_lacks_memory, records_or_fault};
 
 use crate::faults::RecordFault;
 use clr_records::records_of;
@@ -11,7 +12,7 @@ use std::alloc::Global;
 
 /// Returns a fault beside the number of its record; `OutOfMemory` stands beside 0.
 pub(crate) fn with_number(number: usize, fault: RecordFault) -> (usize, RecordFault)
-    ensures { result ≡ numbered_fault number fault }
+    ensures { result ≡ numbered_fault record_lacks_memory number fault }
 {
     match fault {
         RecordFault::OutOfMemory => (0, fault),
@@ -25,7 +26,7 @@ pub(crate) fn records_in_text(
     alloc: Global,
     bytes: &[u8],
 ) -> Result<Vec<StringRecord>, (usize, RecordFault)>
-    ensures { GivesAt (λ v. map fields_of v.items) result (records_or_fault bytes.now) }
+    ensures { GivesAt record_lacks_memory (λ v. map fields_of v.items) result (records_or_fault bytes.now) }
 {
     match records_of(alloc, bytes) {
         Ok(Some(records)) => Ok(records),

@@ -2,7 +2,8 @@
 
 ghost use Rattle.std.specs.Prelude.{◌≡◌, ◌+◌, ◌<◌, ◌^◌, ◌++◌, ◌∷◌, [], IfErr, OnErr, OnOk, length, map};
 ghost use Rattle.csv.specs.Records.{fields_of};
-ghost use Rattle.clr_scripts.specs.Records.{GivesAt};
+ghost use Rattle.clr_readings.specs.Readings.{GivesAt};
+ghost use Rattle.clr_scripts.specs.Records.{record_lacks_memory};
 ghost use Rattle.clr_scripts.specs.Scripts.{apply_of, edit_count, edits_in, script_in_text, script_of, step_of};
 ghost use Rattle.clr_scripts.specs.declared.faults.RecordFault.TheVariants as fault;
 
@@ -43,7 +44,7 @@ fn apply(
     rest: &[StringRecord],
 ) -> Result<Step, (usize, RecordFault)>
     requires { at + 1 + length rest.now < 2 ^ 64 }
-    ensures { GivesAt (λ s. s) result (apply_of schema.now at (fields_of fields.now) (map fields_of rest.now)) }
+    ensures { GivesAt record_lacks_memory (λ s. s) result (apply_of schema.now at (fields_of fields.now) (map fields_of rest.now)) }
 {
     let count = match count_of_edits(fields) {
         Ok(count) => count,
@@ -70,7 +71,7 @@ fn step(
     rest: &[StringRecord],
 ) -> Result<Step, (usize, RecordFault)>
     requires { at + 1 + length rest.now < 2 ^ 64 }
-    ensures { GivesAt (λ s. s) result (step_of schema.now at (fields_of fields.now) (map fields_of rest.now)) }
+    ensures { GivesAt record_lacks_memory (λ s. s) result (step_of schema.now at (fields_of fields.now) (map fields_of rest.now)) }
 {
     if field(fields, 0) == "apply" {
         return apply(alloc, schema, at, fields, rest);
@@ -109,7 +110,7 @@ fn steps(
     schema: &Schema,
     records: &[StringRecord],
 ) -> Result<Vec<Step>, (usize, RecordFault)>
-    ensures { GivesAt (λ v. v.items) result (script_of schema.now (map fields_of records.now)) }
+    ensures { GivesAt record_lacks_memory (λ v. v.items) result (script_of schema.now (map fields_of records.now)) }
 {
     let mut list = Vec::new(alloc);
     let mut edits_left = 0;
@@ -149,7 +150,7 @@ pub fn read_script(
     schema: &Schema,
     bytes: &[u8],
 ) -> Result<Vec<Step>, (usize, RecordFault)>
-    ensures { GivesAt (λ v. v.items) result (script_in_text schema.now bytes.now) }
+    ensures { GivesAt record_lacks_memory (λ v. v.items) result (script_in_text schema.now bytes.now) }
 {
     let records = records_in_text(alloc, bytes)?;
     steps(alloc, schema, records.as_slice())

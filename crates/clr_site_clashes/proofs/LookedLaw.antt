@@ -13,7 +13,7 @@ use Rattle.clr_workspaces.specs.Marks.{Name}
 use Rattle.clr_needs.specs.Members.{AreApart, after_at}
 use Rattle.clr_steps.specs.Offices.{Office}
 use Rattle.clr_steps.specs.Quiet.{Site}
-use Rattle.clr_clearance.specs.Plans.{names_at}
+use Rattle.clr_clearance.specs.Plans.{members_at}
 use Rattle.clr_clearance.specs.Sites.{change_sets}
 use Rattle.clr_clearance.specs.Verdicts.{member_fault}
 use Rattle.clr_clearance.proofs.ClearLemmas.{faultless, has_at}
@@ -88,5 +88,5 @@ module _ (o : Office) (s : Site) (fits : member_fault o s ≡ None) (apart : Are
         conflicts = none_mapped (conflict_clash o s.members) no_conflict (positions_of s.members);
         shared = none_flat (earlier_clashes sets free) (none_earlier sets apart free) free;
         positions = all_at;
-        members = ap (λ list. site s.root (names_at s list)) all_at ∙ ap (λ (names : List Name). site s.root names) (read_all s.members);
+        members = ap (λ list. site s.root (members_at s list)) all_at ∙ ap (λ (names : List Name). site s.root names) (read_all s.members);
       }

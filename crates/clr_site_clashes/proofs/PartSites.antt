@@ -10,7 +10,7 @@ use Rattle.clr_needs.specs.Members.{AreApart}
 use Rattle.clr_needs.proofs.PartPositions.{StandsIn, one_to_one}
 use Rattle.clr_steps.specs.Offices.{Office}
 use Rattle.clr_steps.specs.Quiet.{Site, is_member, is_root}
-use Rattle.clr_clearance.specs.Plans.{names_at}
+use Rattle.clr_clearance.specs.Plans.{members_at}
 use Rattle.clr_clearance.specs.Sites.{AreMergeable, change_sets}
 use Rattle.clr_clearance.specs.Verdicts.{member_fault}
 use Rattle.clr_clearance.proofs.ClearLemmas.{has_at, mergeable_of, position_of}
@@ -41,12 +41,12 @@ module _ {X : Type 0} (xs : List X) where
 
 module _ (o : Office) (s : Site) (positions : List ℕ) (fits : member_fault o s ≡ None) (apart : AreApart (change_sets o s))
     (ascending : IsStrictlySortedBy nat_cmp positions) (below : (k : ℕ) → Contains positions k → k < length s.members) where
-  stands_at : (j : ℕ) (name : Name) → slice_get (names_at s positions) j ≡ Some name → (k : ℕ) × StandsIn positions j k × (slice_get s.members k ≡ Some name)
+  stands_at : (j : ℕ) (name : Name) → slice_get (members_at s positions) j ≡ Some name → (k : ℕ) × StandsIn positions j k × (slice_get s.members k ≡ Some name)
   stands_at = element_of s.members positions (λ k h. below k (contained k positions h))
 
   among : (name : Name) → is_member (site_of_part s positions) name ≡ true → is_member s name ≡ true
   among name h =
-      let (j, e) = position_of (names_at s positions) name h in
+      let (j, e) = position_of (members_at s positions) name h in
       let (k, at, is) = stands_at j name e in
       has_at s.members k name is
 

@@ -5,7 +5,7 @@ use Rattle.std.specs.Ordering.{nat_cmp}
 use Rattle.clr_steps.specs.Offices.{Office}
 use Rattle.clr_steps.specs.Quiet.{Site}
 use Rattle.clr_needs.specs.Members.{AreApart}
-use Rattle.clr_clearance.specs.Plans.{names_at}
+use Rattle.clr_clearance.specs.Plans.{members_at}
 use Rattle.clr_clearance.specs.Sites.{RootHolds, change_sets, setting_by_position}
 use Rattle.clr_clearance.specs.Verdicts.{member_fault}
 use Rattle.clr_sites.specs.SiteNames.{site}
@@ -20,7 +20,7 @@ use Rattle.clr_site_clashes.specs.SiteSets.{positions_of}
 
 -- some of the members, by position
 abbrev pub site_of_part : Site → List ℕ → Site
-site_of_part s positions = site s.root (names_at s positions)
+site_of_part s positions = site s.root (members_at s positions)
 
 -- of members of a root in which every rule holds, none in conflict and no cell changed by two: the plan of some of them is cleared exactly where
 -- they hold none of the listed sets, memory aside

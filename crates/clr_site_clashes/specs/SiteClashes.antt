@@ -7,9 +7,9 @@ use Rattle.clr_steps.specs.Offices.{Office}
 use Rattle.clr_steps.specs.Quiet.{Site}
 use Rattle.clr_clearance.specs.declared.verdicts.Verdict.{Verdict}
 use Rattle.clr_clearance.specs.declared.verdicts.Verdict.TheVariants as verdict
-use Rattle.clr_clearance.specs.Plans.{names_at}
+use Rattle.clr_clearance.specs.Plans.{members_at}
 use Rattle.clr_clearance.specs.Sites.{change_sets, setting_by_position}
-use Rattle.clr_clearance.specs.Verdicts.{member_fault, name_fault}
+use Rattle.clr_clearance.specs.Verdicts.{member_fault, names_fault}
 use Rattle.clr_sites.specs.SiteNames.{site}
 use Rattle.clr_clashes.specs.ListedClashes.{AreSmallestClashes, ListedClash}
 use Rattle.clr_site_clashes.specs.Conflicts.{conflict_clashes, free_positions}
@@ -22,7 +22,7 @@ abbrev pub looked_at : Office → Site → List ℕ
 looked_at o s = apart_positions (change_sets o s) (free_positions o s.members)
 
 abbrev pub looked_site : Office → Site → Site
-looked_site o s = site s.root (names_at s (looked_at o s))
+looked_site o s = site s.root (members_at s (looked_at o s))
 
 -- a set of these that breaks a need, by positions among all
 abbrev pub need_clash : List ℕ → ListedClash → SiteClash
@@ -40,7 +40,7 @@ AreNeedClashes o s looked sets = (listed : List ListedClash) × AreListed o s lo
 
 -- all: of members in conflict, of two that change a cell, and of those looked at that break a need
 pub record AreSiteClashes (o : Office) (s : Site) (broken : List SiteClash) (found : Found) : Type 0 where
-  pub named : name_fault o s ≡ None
+  pub named : names_fault o s ≡ None
   pub looked : found.looked.items ≡ looked_at o s
   pub needs : AreNeedClashes o (looked_site o s) (looked_at o s) broken
   pub clashes : map stored_clash found.clashes.items
@@ -51,7 +51,7 @@ FindsClashes o s found = (broken : List SiteClash) × AreSiteClashes o s broken 
 
 -- the first test of names that fails, or no memory was found
 abbrev pub IsFaultOfNames : Office → Site → Verdict → Type 0
-IsFaultOfNames o s v = (name_fault o s ≡ Some v) ⊎ (v ≡ verdict.OutOfMemory)
+IsFaultOfNames o s v = (names_fault o s ≡ Some v) ⊎ (v ≡ verdict.OutOfMemory)
 
 -- they are these, or such a fault
 abbrev pub AreFound : Office → Site → Result Found Verdict → Type 0

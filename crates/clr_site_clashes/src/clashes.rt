@@ -2,7 +2,7 @@
 ghost use Rattle.std.specs.Prelude.{◌≡◌, None, map, IfOk};
 ghost use Rattle.clr_steps.specs.Readings.{changes_in};
 ghost use Rattle.clr_sites.specs.SiteNames.{site};
-ghost use Rattle.clr_clearance.specs.Verdicts.{name_fault};
+ghost use Rattle.clr_clearance.specs.Verdicts.{names_fault};
 ghost use Rattle.clr_site_clashes.specs.SiteClashes.{AreFound, FindsClashes};
 
 use crate::conflicts::conflicts_of;
@@ -44,7 +44,7 @@ fn clashes_of_children(
     root: &str,
     members: &[&str],
 ) -> Result<SiteClashes, AllocError>
-    requires { name_fault office.now (site root.now (map (λ name. name.now) members.now)) ≡ None }
+    requires { names_fault office.now (site root.now (map (λ name. name.now) members.now)) ≡ None }
     ensures { IfOk result (FindsClashes office.now (site root.now (map (λ name. name.now) members.now))) }
 {
     let (mut clashes, free) = conflicts_of(alloc, office, members)?;

@@ -17,7 +17,7 @@ use Rattle.clr_steps.specs.Readings.{if_stands, parent_in}
 use Rattle.clr_clearance.specs.declared.verdicts.Verdict.{Verdict}
 use Rattle.clr_clearance.specs.declared.verdicts.Verdict.TheVariants as verdict
 use Rattle.clr_clearance.specs.Sites.{is_child}
-use Rattle.clr_clearance.specs.Verdicts.{first_repeated, name_fault}
+use Rattle.clr_clearance.specs.Verdicts.{first_repeated, names_fault}
 use Rattle.clr_sites.specs.SiteNames.{site}
 
 -- what is shown of a name --------------------------------------------------------------------------
@@ -146,24 +146,24 @@ module _ (o : Office) (s : Site) where
   stray = position (λ name. not (is_child o s name)) s.members
 
   pub tests_are : (kept : Bool) (a b c : Option ℕ) → kept ≡ is_kept o s.root → a ≡ first_repeated s.members → b ≡ missing → c ≡ stray → fault_of kept a b c
-      ≡ name_fault o s
-  unfolding name_fault
+      ≡ names_fault o s
+  unfolding names_fault
   tests_are kept a b c e f g h = λ i. fault_of (e i) (f i) (g i) (h i)
 
-  pub root_fails : false ≡ is_kept o s.root → Some verdict.NotKept ≡ name_fault o s
+  pub root_fails : false ≡ is_kept o s.root → Some verdict.NotKept ≡ names_fault o s
   root_fails e = tests_are false (first_repeated s.members) missing stray e refl refl refl
 
-  pub repeated_fails : (at : ℕ) → true ≡ is_kept o s.root → Some at ≡ first_repeated s.members → Some (verdict.RepeatedMember at) ≡ name_fault o s
+  pub repeated_fails : (at : ℕ) → true ≡ is_kept o s.root → Some at ≡ first_repeated s.members → Some (verdict.RepeatedMember at) ≡ names_fault o s
   repeated_fails at e f = tests_are true (Some at) missing stray e f refl refl
 
-  pub missing_fails : (at : ℕ) → true ≡ is_kept o s.root → None ≡ first_repeated s.members → Some at ≡ missing → Some (verdict.NoWorkspace at) ≡ name_fault o s
+  pub missing_fails : (at : ℕ) → true ≡ is_kept o s.root → None ≡ first_repeated s.members → Some at ≡ missing → Some (verdict.NoWorkspace at) ≡ names_fault o s
   missing_fails at e f g = tests_are true None (Some at) stray e f g refl
 
   pub stray_fails : (at : ℕ) → true ≡ is_kept o s.root → None ≡ first_repeated s.members → None ≡ missing → Some at ≡ stray → Some (verdict.NotUnderRoot at)
-      ≡ name_fault o s
+      ≡ names_fault o s
   stray_fails at e f g h = tests_are true None None (Some at) e f g h
 
-  pub none_fails : true ≡ is_kept o s.root → None ≡ first_repeated s.members → None ≡ missing → None ≡ stray → None ≡ name_fault o s
+  pub none_fails : true ≡ is_kept o s.root → None ≡ first_repeated s.members → None ≡ missing → None ≡ stray → None ≡ names_fault o s
   none_fails e f g h = tests_are true None None None e f g h
 
 -- workspaces under others --------------------------------------------------------------------------------

@@ -4,10 +4,10 @@ use Rattle.std.specs.Option.{IfSome, IsSome, is_some, option_copied}
 use Rattle.std.proofs.lemmas.Bool.{false≢true}
 use Rattle.clr_rows.specs.Contents.{Content}
 use Rattle.clr_workspaces.specs.Marks.{Name}
-use Rattle.clr_grid.specs.RowMaps.{FiledRows}
+use Rattle.clr_row_maps.specs.RowMaps.{FiledRows}
 use Rattle.clr_finders.specs.Sharing.{IsSettledFor}
 use Rattle.clr_steps.specs.Offices.{Office, content_of, is_kept, stands}
-use Rattle.clr_kept_finders.specs.Finders.{IsFinderAt, IsPositionOf, current_at, kept_at}
+use Rattle.clr_kept_finders.specs.Finders.{IsFinderAt, IsPositionOf, current_at, kept_content_at}
 use Rattle.clr_sites.proofs.NameLemmas.{not_kept}
 
 module _ (o : Office) (name : Name) where
@@ -34,7 +34,7 @@ module _ (o : Office) (name : Name) where
     IsOfRows None = ⊥
     IsOfRows (Some finder) = IsSettledFor finder.now.settled o.book (content_of o name)
 
-    pub finder_is : (at : ℕ) (finder : Option (Bor FiledRows)) → IsPositionOf o name at → IsFinderAt o.book (kept_at o at) (option_copied finder) →
+    pub finder_is : (at : ℕ) (finder : Option (Bor FiledRows)) → IsPositionOf o name at → IsFinderAt o.book (kept_content_at o at) (option_copied finder) →
         IsOfRows finder
     finder_is at finder is e = by finder (subst (λ content. IsFinderAt o.book content (option_copied finder)) (is.kept
         ∙ ap (λ b. cond b (Some (content_of o name)) None) kept) e)

@@ -28,7 +28,7 @@ use Rattle.clr_kept_finders.specs.Fitting.{IsAdmitted}
 use Rattle.clr_clearance.specs.declared.verdicts.Verdict.{Verdict}
 use Rattle.clr_clearance.specs.declared.verdicts.Verdict.TheVariants as verdict
 use Rattle.clr_clearance.specs.Sites.{RootHolds, change_sets, setting_by_position}
-use Rattle.clr_clearance.specs.Verdicts.{first_conflict, member_fault, name_fault}
+use Rattle.clr_clearance.specs.Verdicts.{first_conflict, member_fault, names_fault}
 use Rattle.clr_sites.specs.Faults.{IsSiteFault, of_member, without_memory}
 use Rattle.clr_sites.proofs.NameLemmas.{nowhere, shown, unshown}
 
@@ -157,20 +157,20 @@ module _ (o : Office) (admitted : IsAdmitted o) where
 -- answers ------------------------------------------------------------------------------------------------
 
 module _ (o : Office) (s : Site) where
-  pub name_fails : (v : Verdict) → Some v ≡ name_fault o s → IsSiteFault o s v
+  pub name_fails : (v : Verdict) → Some v ≡ names_fault o s → IsSiteFault o s v
   name_fails v e = of_member (ap (λ r. option_or r (first_conflict o 0 s.members)) (sym e))
 
-  pub conflict_fails : (v : Verdict) → None ≡ name_fault o s → Some v ≡ first_conflict o 0 s.members → IsSiteFault o s v
+  pub conflict_fails : (v : Verdict) → None ≡ names_fault o s → Some v ≡ first_conflict o 0 s.members → IsSiteFault o s v
   conflict_fails v e f = of_member (λ i. option_or (sym e i) (sym f i))
 
-  pub no_fault : None ≡ name_fault o s → None ≡ first_conflict o 0 s.members → member_fault o s ≡ None
+  pub no_fault : None ≡ names_fault o s → None ≡ first_conflict o 0 s.members → member_fault o s ≡ None
   no_fault e f = λ i. option_or (sym e i) (sym f i)
 
-  pub memory_fails : None ≡ name_fault o s → IsSiteFault o s verdict.OutOfMemory
+  pub memory_fails : None ≡ names_fault o s → IsSiteFault o s verdict.OutOfMemory
   memory_fails e = without_memory (sym e) refl
 
-  pub names_free : member_fault o s ≡ None → name_fault o s ≡ None
-  names_free e = by (name_fault o s) e
+  pub names_free : member_fault o s ≡ None → names_fault o s ≡ None
+  names_free e = by (names_fault o s) e
     where
       by : (r : Option Verdict) → option_or r (first_conflict o 0 s.members) ≡ None → r ≡ None
       by None h = refl

@@ -3,7 +3,7 @@
 ghost use Rattle.std.specs.Prelude.{◌≡◌, ℕ, List, not, position};
 ghost use Rattle.clr_steps.specs.Offices.{is_kept, stands};
 ghost use Rattle.clr_clearance.specs.Sites.{is_child};
-ghost use Rattle.clr_clearance.specs.Verdicts.{name_fault};
+ghost use Rattle.clr_clearance.specs.Verdicts.{names_fault};
 ghost use Rattle.clr_kept_finders.specs.Fitting.{IsAdmitted};
 ghost use Rattle.clr_sites.specs.SiteNames.{site};
 
@@ -71,14 +71,14 @@ fn is_kept(office: &Office, root: &str) -> bool
 /// Returns the first test of names that a root and members fail, or none. Each test is made over
 /// the whole list before the next: the root stands and is kept, no name stands twice, each is that
 /// of a workspace, and each is a child of the root. The answer is never want of memory.
-#[tactic(auto, unfolding(clr_clearance::specs::Verdicts::name_fault))]
+#[tactic(auto, unfolding(clr_clearance::specs::Verdicts::names_fault))]
 pub fn name_fault<N: NameList>(
     alloc: Global,
     office: &Office,
     root: &str,
     members: &N,
 ) -> Option<Verdict>
-    ensures fault { result ≡ name_fault office.now (site root.now (N.names members.now)) }
+    ensures fault { result ≡ names_fault office.now (site root.now (N.names members.now)) }
     ensures admitted { IsAdmitted office.now }
 {
     if !is_kept(office, root) {

@@ -34,11 +34,11 @@ abbrev pub seen_text : Option Window → List Element → List ℕ
 seen_text None elements = elements_text elements
 seen_text (Some w) elements = window_text w elements
 
-abbrev pub layer_text : Layer → List ℕ
-layer_text layer = seen_text layer.window layer.elements.items
+abbrev pub elements_of_layer : Layer → List ℕ
+elements_of_layer layer = seen_text layer.window layer.elements.items
 
 abbrev pub layers_text : List Layer → List ℕ
-layers_text layers = flat_map layer_text layers
+layers_text layers = flat_map elements_of_layer layers
 
 -- a rectangle of this size at the upper left corner
 unfoldable pub whole_text : Pixels → Pixels → List ℕ

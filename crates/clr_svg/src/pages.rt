@@ -2,7 +2,7 @@
 
 ghost use Rattle.std.specs.Prelude.{◌≡◌, ◌++◌, codes, IfOk, OnOk};
 ghost use Rattle.clr_svg.specs.Numbers.{attribute};
-ghost use Rattle.clr_svg.specs.Pages.{box_text, description_text, elements_text, ends_text, head_text, layer_text};
+ghost use Rattle.clr_svg.specs.Pages.{box_text, description_text, elements_text, ends_text, head_text, elements_of_layer};
 ghost use Rattle.clr_svg.specs.Pages.{layers_text, letters_text, namespace_text, opening_text, page_size_text};
 ghost use Rattle.clr_svg.specs.Pages.{page_text, size_text, title_text, whole_text, window_text};
 
@@ -103,7 +103,7 @@ fn add_window(text: &mut Vec<u8>, window: &Window, elements: &[Element]) -> Resu
 }
 
 fn add_layer(text: &mut Vec<u8>, layer: &Layer) -> Result<(), AllocError>
-    ensures { OnOk result (text.new.items ≡ text.old.items ++ layer_text layer.now) }
+    ensures { OnOk result (text.new.items ≡ text.old.items ++ elements_of_layer layer.now) }
 {
     match &layer.window {
         Some(window) => add_window(text, window, layer.elements.as_slice()),

@@ -1,12 +1,16 @@
 //! The words of the command line.
 
+ghost use Rattle.std.specs.Prelude.{◌≡◌, map, string_bytes, IfOk};
+
 use std::alloc::AllocError;
 use std::env;
 use std::env::{Env, FillError};
 use std::io::ErrorKind;
 
 /// Returns the words as the parser of the command line takes them.
-pub fn texts<'a>(rt: &HostRuntime, words: &'a [String]) -> Result<Vec<&'a str>, AllocError> {
+pub fn texts<'a>(rt: &HostRuntime, words: &'a [String]) -> Result<Vec<&'a str>, AllocError>
+    ensures { IfOk result (λ texts. map (λ text. text.now) texts.items ≡ map string_bytes words.entry.now) }
+{
     let mut texts = Vec::new(rt.alloc());
     for word in words {
         texts.push(word.as_str())?;

@@ -1,7 +1,8 @@
 //! What programs share: the words of the command line, the bytes of files, and what is said on
 //! standard error.
 //!
-//! It is safe; what it does with words, files and streams no contract says.
+//! - `texts`, `text_at`: exactly the words, and the bytes at a position; `read_files` [`each`, `within`]: one text for each file, none too long.
+//! - `refuse`, `refuse_words` [`either`, `bad`]: the exit status. What is printed, and what a file holds, no contract says.
 #![tactic(auto)]
 
 mod arguments;

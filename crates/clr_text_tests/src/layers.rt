@@ -4,10 +4,10 @@ mod cases;
 
 use crate::layers::cases::{FAULTS, HEADERS, LINES, POINTS, ROUNDED};
 use crate::networks::schema_of;
+use crate::questions::check_of;
 use crate::texts::{exchanged, unfold};
 use clr_layer_text::{read_layer, write_layer};
 use std::alloc::Global;
-use std::process::Abort;
 
 /// Valves with a kind, mains with a code and a size, roads, and notes with a text.
 const TABLES: &str = r#"{"format":2,"tables":[
@@ -24,7 +24,7 @@ fn lines_of(alloc: Global, text: &[u8]) -> Option<String> {
 }
 
 /// What is read of a layer, behind the name of its table.
-fn answer(alloc: Global, rounded: bool, question: &str) -> Option<String> {
+pub(crate) fn answer(alloc: Global, rounded: bool, question: &str) -> Option<String> {
     let (name, layer) = question.split_once(' ')?;
     let schema = schema_of(alloc, TABLES)?;
     let table = schema.table(name).unwrap_or(9);
@@ -38,52 +38,33 @@ fn answer(alloc: Global, rounded: bool, question: &str) -> Option<String> {
     }
 }
 
-/// Whether what is read of a layer is as wanted.
-fn is_answer(alloc: Global, rounded: bool, question: &str, wanted: &str) -> bool {
-    match answer(alloc, rounded, question) {
-        Some(found) => found.as_str() == wanted,
-        None => false,
-    }
-}
-
-/// Each line is answered as it says.
-fn check(rt: &impl Abort, alloc: Global, rounded: bool, cases: &str) {
-    for line in cases.lines() {
-        let (question, wanted) = line.split_once(" =>").unwrap_or((line, ""));
-        assert!(rt;
-            is_answer(alloc, rounded, question, wanted.trim_start()),
-            "{line}"
-        );
-    }
-}
-
 #[test]
 fn points(rt: HostRuntime) {
-    check(&rt, rt.alloc(), false, POINTS);
+    check_of(&rt, rt.alloc(), "layer", POINTS);
 }
 
 #[test]
 fn lines(rt: HostRuntime) {
-    check(&rt, rt.alloc(), false, LINES);
+    check_of(&rt, rt.alloc(), "layer", LINES);
 }
 
 #[test]
 fn headers(rt: HostRuntime) {
-    check(&rt, rt.alloc(), false, HEADERS);
+    check_of(&rt, rt.alloc(), "layer", HEADERS);
 }
 
 #[test]
 fn faults(rt: HostRuntime) {
-    check(&rt, rt.alloc(), false, FAULTS);
+    check_of(&rt, rt.alloc(), "layer", FAULTS);
 }
 
 #[test]
 fn what_can_be_read_is_the_same_rounded(rt: HostRuntime) {
-    check(&rt, rt.alloc(), true, POINTS);
-    check(&rt, rt.alloc(), true, LINES);
+    check_of(&rt, rt.alloc(), "rounded", POINTS);
+    check_of(&rt, rt.alloc(), "rounded", LINES);
 }
 
 #[test]
 fn coordinates_that_are_rounded(rt: HostRuntime) {
-    check(&rt, rt.alloc(), true, ROUNDED);
+    check_of(&rt, rt.alloc(), "rounded", ROUNDED);
 }

@@ -1,13 +1,8 @@
 //! A network, by its tables.
 
 use clr_office_text::read_office;
-use clr_rows::{Schema, Words};
-use std::alloc::{AllocError, Global};
-
-/// A text as words.
-pub(crate) fn words(alloc: Global, text: &str) -> Result<Words, AllocError> {
-    Ok(Words::new(String::from_str(alloc, text)?))
-}
+use clr_rows::Schema;
+use std::alloc::Global;
 
 const TABLES: &str = r#"{"format":2,"tables":[
 {"name":"node","columns":[["kind","TEXT"]],"shape":"POINT"},

@@ -2,4 +2,4 @@
 
 mod cases;
 mod many_rows;
-mod spots;
+pub(crate) mod spots;

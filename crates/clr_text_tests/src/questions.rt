@@ -1,6 +1,6 @@
 //! Cases as lines: a question, which begins with a word, ` => `, and the answer.
 
-use crate::{office_texts, record_faults, scripts};
+use crate::{layers, office_faults, office_texts, record_faults, scripts};
 use std::alloc::Global;
 use std::process::Abort;
 
@@ -9,6 +9,8 @@ fn answer(alloc: Global, word: &'static str, rest: &'static str) -> Option<Strin
     match word {
         "edits" | "script" | "route" => scripts::answer(alloc, word, rest),
         "scriptfault" | "certificatefault" => record_faults::answer(alloc, word, rest),
+        "layer" | "rounded" => layers::answer(alloc, word == "rounded", rest),
+        "edited" => office_faults::spots::answer(alloc, rest),
         _ => office_texts::answer(alloc, word, rest),
     }
 }
@@ -26,20 +28,23 @@ pub(crate) fn is_answer(
     }
 }
 
-/// Whether the question of a line is answered as it says.
-fn is_right(alloc: Global, line: &'static str) -> bool {
-    let Some((question, wanted)) = line.split_once(" => ") else {
-        return false;
-    };
-    match question.split_once(' ') {
-        Some((word, rest)) => is_answer(alloc, word, rest, wanted),
-        None => false,
+/// Whether a line is answered as it says, behind a word that it doesn't have.
+fn is_right(alloc: Global, word: &'static str, line: &'static str) -> bool {
+    let (rest, wanted) = line.split_once(" =>").unwrap_or((line, ""));
+    is_answer(alloc, word, rest, wanted.trim_start())
+}
+
+/// Each line is answered as it says, behind a word that stands in none of them.
+pub(crate) fn check_of(rt: &impl Abort, alloc: Global, word: &'static str, lines: &'static str) {
+    for line in lines.lines() {
+        assert!(rt; is_right(alloc, word, line), "{line}");
     }
 }
 
-/// Each line is answered as it says.
+/// Each line, which begins with a word, is answered as it says.
 pub(crate) fn check(rt: &impl Abort, alloc: Global, lines: &'static str) {
     for line in lines.lines() {
-        assert!(rt; is_right(alloc, line), "{line}");
+        let (word, rest) = line.split_once(' ').unwrap_or((line, ""));
+        assert!(rt; is_right(alloc, word, rest), "{line}");
     }
 }

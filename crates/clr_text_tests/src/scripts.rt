@@ -1,12 +1,12 @@
 //! Edits and scripts as they are read, or why they aren't.
 
-use crate::networks::{schema, words};
+use crate::networks::schema;
 use crate::questions::{check, is_answer};
 use crate::script_cases::{
     COMMANDS, COUNTS, EDIT_FAULTS, EDITS, REPORTS, SCRIPT_FAULTS, SCRIPTS, TURNS,
 };
 use crate::texts::{coordinates, edits_text, steps_text, unfold};
-use clr_rows::Names;
+use clr_rows::{Names, Words};
 use clr_scripts::{RecordFault, read_edits, read_script};
 use std::alloc::Global;
 use std::test::Fail;
@@ -110,8 +110,10 @@ fn bytes_that_are_no_text(rt: HostRuntime) -> Result<(), Fail> {
 
 fn two_names(alloc: Global) -> Option<Names> {
     let mut list = Vec::new(alloc);
-    list.push(words(alloc, "W1").ok()?).ok()?;
-    list.push(words(alloc, "W2").ok()?).ok()?;
+    for name in ["W1", "W2"] {
+        list.push(Words::new(String::from_str(alloc, name).ok()?))
+            .ok()?;
+    }
     Some(Names::new(list))
 }
 

@@ -121,15 +121,15 @@ fn fields(command: &Command) -> (&str, &str, &str) {
         Command::RollTo { ws, name } => ("rollto", ws.as_str(), name.as_str()),
         Command::RollAll { ws } => ("rollall", ws.as_str(), ""),
         Command::Refresh { ws } => ("refresh", ws.as_str(), ""),
-        Command::Merge { ws, remove } => ("merge", ws.as_str(), removal(*remove)),
+        Command::Merge { ws, remove } => (
+            "merge",
+            ws.as_str(),
+            if *remove { "remove" } else { "keep" },
+        ),
         Command::Resolve { ws, keep, .. } => ("resolve", ws.as_str(), keep_word(*keep)),
         Command::Hold { ws } => ("hold", ws.as_str(), ""),
         Command::Release { ws } => ("release", ws.as_str(), ""),
     }
-}
-
-fn removal(remove: bool) -> &'static str {
-    if remove { "remove" } else { "keep" }
 }
 
 fn keep_word(keep: Keep) -> &'static str {

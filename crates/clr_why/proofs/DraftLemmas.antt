@@ -6,7 +6,7 @@ use Rattle.clr_parts.specs.Parts.{workspaces_fault}
 use Rattle.clr_steps.specs.Offices.{Office}
 use Rattle.clr_drafts.proofs.Standing.{stands}
 use Rattle.clr_drafts.specs.Drafts.{draft_in, if_standing, whole_office}
-use Rattle.clr_rule_text.specs.Fields.{◌>>=◌}
+use Rattle.clr_readings.specs.Readings.{◌>>=◌}
 use Rattle.clr_office_text.specs.Offices.{OfficeText, office_in}
 use Rattle.clr_rule_text.specs.declared.faults.TextFault.{TextFault}
 use Rattle.clr_rule_text.specs.declared.faults.TextFault.TheVariants as fault

@@ -1,6 +1,7 @@
 //! Where the fault is that an edit puts into an office text.
 
 use crate::office_faults::cases::{EDITS, OFFICE};
+use crate::questions::check_of;
 use clr_faults::find_fault;
 use std::alloc::Global;
 
@@ -18,18 +19,14 @@ fn edited(alloc: Global, part: &str, other: &str) -> Option<String> {
     format!(in alloc; "{before}{other}{behind}").ok()
 }
 
-/// Whether the edit of a line puts the fault into the text that the line says.
-fn is_right(alloc: Global, line: &str) -> Option<bool> {
-    let (edit, wanted) = line.split_once(" => ")?;
+/// The fault that an edit puts into the text, which has what stands there and what is to.
+pub(crate) fn answer(alloc: Global, edit: &str) -> Option<String> {
     let (part, other) = edit.split_once(" ~ ")?;
     let text = edited(alloc, part, other)?;
-    let told = fault_text(alloc, text.as_str())?;
-    Some(told.as_str() == wanted)
+    fault_text(alloc, text.as_str())
 }
 
 #[test]
 fn faults_are_where_they_were_put(rt: HostRuntime) {
-    for line in EDITS.lines() {
-        assert!(rt; is_right(rt.alloc(), line) == Some(true), "{line}");
-    }
+    check_of(&rt, rt.alloc(), "edited", EDITS);
 }

@@ -69,11 +69,6 @@ pub(super) fn with_path(alloc: Global, table: &str, count: &str) -> Option<Strin
     format!(in alloc; r#"{ROUTES}{{"t":"{table}","k":5,"v":["R"],"s":[{list}]}}]}}"#).ok()
 }
 
-/// An office text of a format with these workspaces.
-fn with_parts(alloc: Global, format: &str, parts: &str) -> Option<String> {
-    format!(in alloc; r#"{{"format":{format},{PARTS}{parts}]}}"#).ok()
-}
-
 /// An office text of a format with a workspace.
 fn with_part(alloc: Global, format: &str, part: &str) -> Option<String> {
     format!(in alloc; r#"{{"format":{format},{PARTS}{PART}{part}}}]}}"#).ok()
@@ -92,24 +87,19 @@ fn office_text(alloc: Global, word: &str, part: &str) -> Option<String> {
         "lists" => with_lists(alloc, part),
         "rules" => with_rules(alloc, part),
         "many" => with_rules(alloc, repeat(alloc, RULE, ",", part)?.as_str()),
-        "parts" => with_parts(alloc, "3", part),
+        "parts" => format!(in alloc; r#"{{"format":3,{PARTS}{part}]}}"#).ok(),
         "part" => with_part(alloc, "3", part),
         _ => String::from_str(alloc, part).ok(),
-    }
-}
-
-/// `fits`, or why a text is refused.
-fn fault_text(alloc: Global, text: &[u8]) -> Option<String> {
-    match read_office(alloc, text) {
-        Ok(_) => String::from_str(alloc, "fits").ok(),
-        Err(fault) => format!(in alloc; "{fault:?}").ok(),
     }
 }
 
 /// `fits`, or why the office text of a word and a part is refused.
 pub(super) fn fault_answer(alloc: Global, word: &str, part: &str) -> Option<String> {
     let text = office_text(alloc, word, part)?;
-    fault_text(alloc, text.as_str().as_bytes())
+    match read_office(alloc, text.as_str().as_bytes()) {
+        Ok(_) => String::from_str(alloc, "fits").ok(),
+        Err(fault) => format!(in alloc; "{fault:?}").ok(),
+    }
 }
 
 #[test]
@@ -146,8 +136,9 @@ fn bytes_that_are_no_json(rt: HostRuntime) {
     assert!(rt; read_office(rt.alloc(), marked.as_bytes()).err() == Some(TextFault::NotJson));
 }
 
-/// How many workspaces a text of a format has, and whether the first is kept by this flag; or why it is refused.
-fn flag_text(alloc: Global, format: &str, flag: &str) -> Option<String> {
+/// How many workspaces a text has whose flag stands behind its format, and whether the first is kept; or why it is refused.
+pub(super) fn flag_answer(alloc: Global, case: &str) -> Option<String> {
+    let (format, flag) = case.split_once(' ')?;
     let part = format!(in alloc; r#""kept":{flag}"#).ok()?;
     let text = with_part(alloc, format, part.as_str())?;
     match read_office(alloc, text.as_str().as_bytes()) {
@@ -157,12 +148,6 @@ fn flag_text(alloc: Global, format: &str, flag: &str) -> Option<String> {
         }
         Err(fault) => format!(in alloc; "{fault:?}").ok(),
     }
-}
-
-/// What becomes of a flag behind a format.
-pub(super) fn flag_answer(alloc: Global, case: &str) -> Option<String> {
-    let (format, flag) = case.split_once(' ')?;
-    flag_text(alloc, format, flag)
 }
 
 #[test]

@@ -32,19 +32,16 @@ fn tables_in_order(rt: HostRuntime) {
     check(&rt, rt.alloc(), TABLES);
 }
 
-/// The rows of LIVE of a text.
-fn live_text(alloc: Global, text: &str) -> Option<String> {
+/// The rows of LIVE of the network, or of a text whose path has six coordinates.
+pub(super) fn rows_text(alloc: Global, word: &str) -> Option<String> {
+    let path = with_path(alloc, "route", "6")?;
+    let text = if word == "network" {
+        NETWORK
+    } else {
+        path.as_str()
+    };
     let parts = read_office(alloc, text.as_bytes()).ok()?;
     sheet_text(alloc, &parts.live)
-}
-
-/// The rows of the network, or of a text whose path has six coordinates.
-pub(super) fn rows_text(alloc: Global, word: &str) -> Option<String> {
-    if word == "network" {
-        return live_text(alloc, NETWORK);
-    }
-    let text = with_path(alloc, "route", "6")?;
-    live_text(alloc, text.as_str())
 }
 
 #[test]

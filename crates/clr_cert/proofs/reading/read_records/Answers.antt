@@ -3,7 +3,7 @@ use Rattle.clr_rows.specs.Names.{live_name}
 use Rattle.clr_cert.specs.declared.certificates.Certificate.{Certificate}
 use Rattle.clr_cert.specs.declared.items.Item.{Item}
 use Rattle.clr_cert.specs.declared.items.Item.TheVariants.{Root, Member, Need}
-use Rattle.clr_cert.specs.Certificates.{is_root, with_next}
+use Rattle.clr_cert.specs.Certificates.{is_root_item, with_next}
 use Rattle.clr_cert.proofs.ItemTurns.{one_more, stops, whole}
 use Rattle.clr_cert.proofs.reading.read_records.Goals as goal
 
@@ -13,7 +13,7 @@ returns-in-Err c =
     c.loop-i-test.true c.index-records-i.is c.in-Err.ensures c.loop-i.invariant.so_far)
 
 -- the root stays where the next record names none
-root_stays : (rooted : Bool) (front : Certificate) (item : Item) → (rooted ≡ false → front.root ≡ live_name) → (rooted || is_root item) ≡ false
+root_stays : (rooted : Bool) (front : Certificate) (item : Item) → (rooted ≡ false → front.root ≡ live_name) → (rooted || is_root_item item) ≡ false
     → (with_next front item).root ≡ live_name
 root_stays true front item live e = absurd cc
 root_stays false front (Root name) live e = absurd cc

@@ -3,7 +3,8 @@ use Rattle.clr_workspaces.specs.Workspaces.{Workspace, live_workspace}
 use Rattle.clr_parts.specs.Parts.{spaces_of}
 use Rattle.clr_steps.specs.Offices.{office_of}
 use Rattle.clr_kept_finders.specs.Fitting.{IsFitting}
-use Rattle.clr_rule_text.specs.Fields.{Fails}
+use Rattle.clr_readings.specs.Readings.{Fails}
+use Rattle.clr_rule_text.specs.Fields.{text_lacks_memory}
 use Rattle.clr_drafts.specs.Drafts.{if_standing}
 use Rattle.clr_drafts.proofs.Standing.{refused, stands}
 use Rattle.clr_drafts.proofs.reading.draft_of_layers.Goals as goal
@@ -19,4 +20,4 @@ returns-in-Ok c =
 pub returns-in-Err : goal.returns-in-Err
 returns-in-Err c =
     let o = office_of c.args.schema c.args.book (live_workspace c.args.live ∷ spaces_of c.args.live c.args.parts.items) in
-    subst (λ f. Fails f (if_standing o)) (sym c.text_fault.ensures) (refused o c.in-Err.refused c.in-Err.ensures.refused)
+    subst (λ f. Fails text_lacks_memory f (if_standing o)) (sym c.text_fault.ensures) (refused o c.in-Err.refused c.in-Err.ensures.refused)

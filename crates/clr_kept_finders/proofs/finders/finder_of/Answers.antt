@@ -1,9 +1,9 @@
-use Rattle.std.proofs.Common.{◌∙◌, refl, sym, ap, subst}
+use Rattle.std.proofs.Common.{◌∙◌, sym, ap, subst}
 use Rattle.std.specs.FinMap as finite
 use Rattle.std.specs.Option.{option_map}
 use Rattle.std.specs.Map.Iter.{deref_pair}
 use Rattle.std.proofs.lemmas.Map.Iter.{rest_all, rest_more}
-use Rattle.clr_grid.specs.RowMaps.{FiledRows}
+use Rattle.clr_row_maps.specs.RowMaps.{FiledRows}
 use Rattle.clr_kept_finders.proofs.Indexes.{content_row, row_kept}
 use Rattle.clr_kept_finders.proofs.Noting.{AreLeft, all_left, next_among, next_free, none_left, one_noted}
 use Rattle.clr_kept_finders.proofs.finders.finder_of.Goals as goal

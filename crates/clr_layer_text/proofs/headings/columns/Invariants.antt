@@ -1,6 +1,6 @@
 use Rattle.std.proofs.Common.{◌≡◌, ◌+◌, drop}
 use Rattle.clr_records.specs.Records.{in_turn}
-use Rattle.clr_records.proofs.InTurn.{with_front}
+use Rattle.clr_readings.proofs.Fronts.{with_front}
 use Rattle.clr_layer_text.specs.Layers.{column_of, columns_of}
 use Rattle.clr_layer_text.proofs.headings.columns.Given as goal
 

@@ -1,15 +1,14 @@
-use Rattle.std.proofs.Common.{◌≡◌, ◌+◌, Bool, ℕ, List, Result, true, refl, rules}
+use Rattle.std.proofs.Common.{◌≡◌, Bool, ℕ, List, Result, true, refl, rules}
 use Rattle.std.specs.Result.{is_ok}
 use Rattle.csv.specs.Records.{Row, fields_of}
 use Rattle.clr_rows.specs.declared.tables.TableDef.{TableDef}
 use Rattle.clr_records.specs.Records.{at_record}
-use Rattle.clr_records.proofs.InTurn.{begins, one_more, whole}
+use Rattle.clr_records.proofs.InTurn.{begins, one_more, stops_numbered, whole}
 use Rattle.clr_layer_text.specs.declared.faults.LayerFault.{LayerFault}
 use Rattle.clr_layer_text.specs.declared.rows.LayerRow.{LayerRow}
-use Rattle.clr_layer_text.specs.Faults.{numbered_fault}
+use Rattle.clr_layer_text.specs.Faults.{layer_lacks_memory}
 use Rattle.clr_layer_text.specs.Headings.{seen}
 use Rattle.clr_layer_text.specs.Layers.{Fields, row_of}
-use Rattle.clr_layer_text.proofs.FaultTurns.{numbered_so, stops_at}
 use Rattle.clr_layer_text.proofs.reading.rows.Goals as goal
 
 -- the row of a record, with its number beside a fault
@@ -22,10 +21,9 @@ loop-i-init c = rw c.new-list.ensures.items
 
 pub returns-in-Err : goal.returns-in-Err
 returns-in-Err c =
-    let fault = numbered_fault (2 + c.loop-i.i) c.in-Err.fault in
-    rw c.numbered_fault.ensures (stops_at (row_at_record c.args.schema.now c.args.table c.args.rounded (seen c.args.headings.now)) fault.0 fault.1
-    c.loop-i.list.items 2 c.args.records.now c.loop-i.i _ _ c.loop-i-test.true c.index-records-i.is
-    (numbered_so c.in-Err.fault (2 + c.loop-i.i) _ c.in-Err.ensures) c.loop-i.invariant)
+    rw c.numbered_fault.ensures (stops_numbered layer_lacks_memory
+    (λ line. row_of c.args.schema.now c.args.table c.args.rounded (seen c.args.headings.now) (fields_of line)) c.in-Err.fault c.loop-i.list.items 2
+    c.args.records.now c.loop-i.i _ _ c.loop-i-test.true c.index-records-i.is c.in-Err.ensures c.loop-i.invariant)
 
 pub loop-i-preserved : goal.loop-i-preserved
 loop-i-preserved c =

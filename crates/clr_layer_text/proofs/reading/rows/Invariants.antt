@@ -1,7 +1,7 @@
 use Rattle.std.proofs.Common.{◌≡◌, ◌+◌, drop, map}
 use Rattle.csv.specs.Records.{fields_of}
 use Rattle.clr_records.specs.Records.{at_record, in_turn}
-use Rattle.clr_records.proofs.InTurn.{with_front}
+use Rattle.clr_readings.proofs.Fronts.{with_front}
 use Rattle.clr_layer_text.specs.Headings.{seen}
 use Rattle.clr_layer_text.specs.Layers.{row_of, rows_from}
 use Rattle.clr_layer_text.proofs.reading.rows.Given as goal

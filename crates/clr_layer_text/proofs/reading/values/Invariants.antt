@@ -1,7 +1,7 @@
 use Rattle.std.proofs.Common.{◌≡◌, ◌+◌, drop}
 use Rattle.csv.specs.Records.{fields_of}
 use Rattle.clr_records.specs.Records.{field_of, in_turn}
-use Rattle.clr_records.proofs.InTurn.{with_front}
+use Rattle.clr_readings.proofs.Fronts.{with_front}
 use Rattle.clr_layer_text.specs.Layers.{value_of, values_of}
 use Rattle.clr_layer_text.proofs.reading.values.Given as goal
 

@@ -1,10 +1,10 @@
 use Rattle.std.proofs.Common.{Bor, Bool, ℕ, List, Result}
 use Rattle.std.proofs.lemmas.Result.{err_from_is_err_and}
 use Rattle.clr_rows.specs.declared.places.Place.{Place}
-use Rattle.clr_records.proofs.InTurn.{begins, one_more, whole}
+use Rattle.clr_records.proofs.InTurn.{begins, one_more, stops, whole}
+use Rattle.clr_layer_text.specs.Faults.{layer_lacks_memory}
 use Rattle.clr_layer_text.specs.declared.faults.LayerFault.{LayerFault}
 use Rattle.clr_layer_text.specs.Wkt.{place_of}
-use Rattle.clr_layer_text.proofs.FaultTurns.{stops}
 use Rattle.clr_layer_text.proofs.Turns.{itself}
 use Rattle.clr_layer_text.proofs.shape_reading.places_of_pieces.Goals as goal
 
@@ -18,8 +18,8 @@ loop-piece-init c = rw c.new-places.ensures.items (begins (λ n. place_of c.args
 pub returns-in_err-one : goal.returns-in_err-one
 returns-in_err-one c =
     let e = err_from_is_err_and c.from_residual.result c.from_residual.ensures.1 in
-    rw (e.1, e.2) (stops (place_in c.args.rounded) c.in_err-one.field-0.0 c.loop-piece.places.items 0 c.args.pieces.now c.loop-piece.piece-index _ _
-    c.loop-piece-test.true
+    rw (e.1, e.2) (stops layer_lacks_memory (place_in c.args.rounded) c.in_err-one.field-0.0 c.loop-piece.places.items 0 c.args.pieces.now
+    c.loop-piece.piece-index _ _ c.loop-piece-test.true
     (itself c.args.pieces.now c.loop-piece.piece-index _ c.loop-piece-test.true) c.in_err-one.ensures c.loop-piece.invariant)
 
 pub loop-piece-preserved : goal.loop-piece-preserved

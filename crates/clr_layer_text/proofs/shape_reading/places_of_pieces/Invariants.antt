@@ -1,6 +1,6 @@
 use Rattle.std.proofs.Common.{◌≡◌, ◌+◌, drop, map}
 use Rattle.clr_records.specs.Records.{in_turn}
-use Rattle.clr_records.proofs.InTurn.{with_front}
+use Rattle.clr_readings.proofs.Fronts.{with_front}
 use Rattle.clr_layer_text.specs.Wkt.{place_of, places_between}
 use Rattle.clr_layer_text.proofs.shape_reading.places_of_pieces.Given as goal
 

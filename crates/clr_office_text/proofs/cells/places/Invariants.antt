@@ -1,7 +1,7 @@
 use Rattle.std.proofs.Common.{◌≡◌, length}
 use Rattle.clr_rule_text.specs.Seen.{items_seen}
 use Rattle.clr_office_text.specs.Cells.{places_of}
-use Rattle.clr_rule_text.proofs.EachItem.{with_front}
+use Rattle.clr_readings.proofs.Fronts.{with_front}
 use Rattle.clr_office_text.proofs.cells.places.Given as goal
 
 -- the places so far, with those of the numbers that are left, are all the places

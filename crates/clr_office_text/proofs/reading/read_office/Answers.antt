@@ -4,7 +4,7 @@ use Rattle.std.proofs.lemmas.Str.{IsUtf8-from_is_utf8, is_utf8-from_IsUtf8}
 use Rattle.serde_json.specs.Data.{Data}
 use Rattle.serde_json.specs.Read.{read}
 use Rattle.clr_rule_text.specs.declared.faults.TextFault.TheVariants.{NotJson}
-use Rattle.clr_rule_text.specs.Fields.{◌>>=◌}
+use Rattle.clr_readings.specs.Readings.{◌>>=◌}
 use Rattle.clr_rule_text.specs.Seen.{seen, value_if_read}
 use Rattle.clr_office_text.specs.Offices.{office_if_read, office_in, office_of}
 use Rattle.clr_office_text.proofs.reading.read_office.Goals as goal

@@ -2,7 +2,7 @@ use Rattle.std.proofs.Common.{◌≡◌, drop}
 use Rattle.clr_rule_text.specs.Seen.{items_seen}
 use Rattle.clr_rule_text.specs.Fields.{each}
 use Rattle.clr_office_text.specs.Tables.{table_of}
-use Rattle.clr_rule_text.proofs.EachItem.{with_front}
+use Rattle.clr_readings.proofs.Fronts.{with_front}
 use Rattle.clr_office_text.proofs.tables.each_table.Given as goal
 
 -- those read so far, and then the others, are what is meant

@@ -1,5 +1,4 @@
-use Rattle.std.proofs.Common.{◌≡◌, ◌∙◌, None, Some, ap, arith, is_some, length, sym}
-use Rattle.std.specs.FinMap as finite
+use Rattle.std.proofs.Common.{◌∙◌, None, Some, ap, arith, is_some, length, sym}
 use Rattle.clr_versions.proofs.Searches.{found_is, none_behind}
 use Rattle.clr_plan_words.proofs.VersionLemmas.{changes_here, some_copied}
 use Rattle.clr_plan_words.proofs.members.changer_among.Goals as goal

@@ -1,7 +1,7 @@
 use Rattle.std.proofs.Common.{◌≡◌, drop}
 use Rattle.clr_rule_text.specs.Seen.{items_seen}
 use Rattle.clr_rule_text.specs.Fields.{each, words_of}
-use Rattle.clr_rule_text.proofs.EachItem.{with_front}
+use Rattle.clr_readings.proofs.Fronts.{with_front}
 use Rattle.clr_rule_text.proofs.named_sides.each_name.Given as goal
 
 -- those read so far, and then the others, are what is meant

@@ -1,7 +1,7 @@
 use Rattle.std.proofs.Common.{◌≡◌, drop}
 use Rattle.clr_rule_text.specs.Fields.{each_in}
 use Rattle.clr_rule_text.specs.Rules.{column_over, columns_over}
-use Rattle.clr_rule_text.proofs.EachItem.{with_front}
+use Rattle.clr_readings.proofs.Fronts.{with_front}
 use Rattle.clr_rule_text.proofs.rules.each_column.Given as goal
 
 -- the columns so far, with those of the names that are left, are all columns

@@ -1,14 +1,13 @@
-use Rattle.std.proofs.Common.{◌≡◌, ◌+◌, ℕ, List, Result, true, refl, rules}
+use Rattle.std.proofs.Common.{◌≡◌, ℕ, List, Result, true, refl, rules}
 use Rattle.std.specs.Result.{is_ok}
 use Rattle.csv.specs.Records.{Row, fields_of}
 use Rattle.clr_rows.specs.declared.tables.TableDef.{TableDef}
 use Rattle.clr_change.specs.declared.edits.Edit.{Edit}
 use Rattle.clr_scripts.specs.declared.faults.RecordFault.{RecordFault}
 use Rattle.clr_records.specs.Records.{at_record}
-use Rattle.clr_scripts.specs.Records.{numbered_fault}
+use Rattle.clr_scripts.specs.Records.{record_lacks_memory}
 use Rattle.clr_scripts.specs.Edits.{edit_of}
-use Rattle.clr_records.proofs.InTurn.{begins, one_more, whole}
-use Rattle.clr_scripts.proofs.FaultTurns.{numbered_so, stops_at}
+use Rattle.clr_records.proofs.InTurn.{begins, one_more, stops_numbered, whole}
 use Rattle.clr_scripts.proofs.edits.edits.Goals as goal
 
 -- the edit of a record, with its number beside a fault
@@ -20,10 +19,8 @@ loop-i-init c = rw c.new-list.ensures.items (begins (λ n fields. at_record n (e
 
 pub returns-in-Err : goal.returns-in-Err
 returns-in-Err c =
-    let fault = numbered_fault (c.args.first + c.loop-i.i) c.in-Err.fault in
-    rw c.with_number-in-Err.ensures (stops_at (edit_at_record c.args.schema.now) fault.0 fault.1 c.loop-i.list.items c.args.first c.args.records.now c.loop-i.i
-    _ _ c.loop-i-test.true c.index-records-i.is
-    (numbered_so c.in-Err.fault (c.args.first + c.loop-i.i) _ c.in-Err.ensures) c.loop-i.invariant)
+    rw c.with_number-in-Err.ensures (stops_numbered record_lacks_memory (λ row. edit_of c.args.schema.now (fields_of row)) c.in-Err.fault c.loop-i.list.items
+    c.args.first c.args.records.now c.loop-i.i _ _ c.loop-i-test.true c.index-records-i.is c.in-Err.ensures c.loop-i.invariant)
 
 pub loop-i-preserved : goal.loop-i-preserved
 loop-i-preserved c =

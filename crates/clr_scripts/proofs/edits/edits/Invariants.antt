@@ -2,7 +2,7 @@ use Rattle.std.proofs.Common.{◌≡◌, ◌+◌, drop, map}
 use Rattle.csv.specs.Records.{fields_of}
 use Rattle.clr_records.specs.Records.{at_record, in_turn}
 use Rattle.clr_scripts.specs.Edits.{edit_of, edits_from}
-use Rattle.clr_records.proofs.InTurn.{with_front}
+use Rattle.clr_readings.proofs.Fronts.{with_front}
 use Rattle.clr_scripts.proofs.edits.edits.Given as goal
 
 -- the edits so far, with those of the records that are left, are all the edits

@@ -2,7 +2,7 @@ use Rattle.std.proofs.Common.{◌≡◌, ◌+◌, drop}
 use Rattle.csv.specs.Records.{fields_of}
 use Rattle.clr_records.specs.Records.{field_of, in_turn}
 use Rattle.clr_scripts.specs.Edits.{value_of, values_of}
-use Rattle.clr_records.proofs.InTurn.{with_front}
+use Rattle.clr_readings.proofs.Fronts.{with_front}
 use Rattle.clr_scripts.proofs.edits.values.Given as goal
 
 -- the values so far, with those of the columns that are left, are all the values

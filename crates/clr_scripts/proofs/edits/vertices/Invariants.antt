@@ -1,7 +1,7 @@
 use Rattle.std.proofs.Common.{◌≡◌, ◌-◌, drop, length}
 use Rattle.csv.specs.Records.{fields_of}
 use Rattle.clr_scripts.specs.Edits.{vertices_of}
-use Rattle.clr_records.proofs.InTurn.{with_front}
+use Rattle.clr_readings.proofs.Fronts.{with_front}
 use Rattle.clr_scripts.proofs.edits.vertices.Given as goal
 
 -- the vertices so far, with those of the fields that are left, are all the vertices

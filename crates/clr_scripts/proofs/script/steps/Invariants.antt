@@ -1,7 +1,7 @@
 use Rattle.std.proofs.Common.{◌≡◌, ◌+◌, drop, map}
 use Rattle.csv.specs.Records.{fields_of}
 use Rattle.clr_scripts.specs.Scripts.{script_of, steps_from}
-use Rattle.clr_records.proofs.InTurn.{with_front}
+use Rattle.clr_readings.proofs.Fronts.{with_front}
 use Rattle.clr_scripts.proofs.script.steps.Given as goal
 
 -- the steps so far, with those of the records that are left, are all the steps

@@ -1,7 +1,7 @@
 use Rattle.std.proofs.Common.{◌≡◌, ◌∙◌, ◌++◌, List, ℕ, ap, map, subst}
 use Rattle.std.proofs.lemmas.List.{map-append}
 use Rattle.clr_workspaces.specs.Marks.{Name}
-use Rattle.clr_clearance.specs.Plans.{names_at}
+use Rattle.clr_clearance.specs.Plans.{members_at}
 use Rattle.clr_clearance.specs.Sites.{change_sets}
 use Rattle.clr_sites.specs.SiteNames.{site}
 use Rattle.clr_site_clashes.specs.declared.site_sets.SiteClash.{SiteClash as Stored}
@@ -28,8 +28,8 @@ returns c =
     let free : c.as_slice-2.result.now ≡ free_positions o names = c.as_slice-2.ensures.value ∙ c.in_ok-clashes.ensures.free in
     let looked : c.in_ok-pairs.looked.items ≡ looked_at o s = c.in_ok-pairs.ensures.looked ∙ (λ i. apart_positions (sets i) (free i)) in
     let again : c.as_slice-5.result.now ≡ looked_at o s = c.as_slice-5.ensures.value ∙ looked in
-    let given : map (λ name. name.now) c.as_slice-4.result.now ≡ names_at s (looked_at o s) =
-    ap (map (λ name. name.now)) c.as_slice-4.ensures.value ∙ c.in_ok-names.ensures ∙ ap (names_at s) (c.as_slice-3.ensures.value ∙ looked) in
+    let given : map (λ name. name.now) c.as_slice-4.result.now ≡ members_at s (looked_at o s) =
+    ap (map (λ name. name.now)) c.as_slice-4.ensures.value ∙ c.in_ok-names.ensures ∙ ap (members_at s) (c.as_slice-3.ensures.value ∙ looked) in
     let needs = map stored_clash c.in_ok-needs.needs.items in
     let found : AreNeedClashes o (looked_site o s) (looked_at o s) needs =
     subst (λ (list : List ℕ). AreNeedClashes o (looked_site o s) list needs) again

@@ -1,7 +1,7 @@
 use Rattle.std.proofs.Common.{rules, ◌≡◌, ℕ, List, ◌++◌, codes, append_assoc, refl}
 use Rattle.std.specs.Fmt.{decimal}
 use Rattle.clr_rows.proofs.BeginningLaws.{begun_before, begun_behind, some_begun}
-use Rattle.clr_cert.specs.Texts.{subject_text}
+use Rattle.clr_cert.specs.Texts.{entry_subject_text}
 use Rattle.clr_verdict_lines.specs.Verdicts.{second_version_text}
 use Rattle.clr_verdict_lines.proofs.needs.add_need.Goals as goal
 
@@ -11,7 +11,7 @@ four_pieces a b c d = simp append_assoc
 pub returns-in_err-extend_from_slice-2-clause-begun : goal.returns-in_err-extend_from_slice-2-clause-begun
 returns-in_err-extend_from_slice-2-clause-begun c =
     let need = c.args.need.now in
-    let subject = subject_text c.args.schema.now need.first need.first_part in
+    let subject = entry_subject_text c.args.schema.now need.first need.first_part in
     let second = second_version_text c.args.schema.now need.second need.second_part in
     let is : c.extend_from_slice-2.new.self.items ≡ c.args.line.now.items ++ codes "rule " =
     rw (c.in_err-extend_from_slice-2.ensures.items, c.in_ok-extend_from_slice.ensures.items) refl in
@@ -20,7 +20,7 @@ returns-in_err-extend_from_slice-2-clause-begun c =
 pub returns-in_err-extend_from_slice-3-clause-begun : goal.returns-in_err-extend_from_slice-3-clause-begun
 returns-in_err-extend_from_slice-3-clause-begun c =
     let need = c.args.need.now in
-    let subject = subject_text c.args.schema.now need.first need.first_part in
+    let subject = entry_subject_text c.args.schema.now need.first need.first_part in
     let second = second_version_text c.args.schema.now need.second need.second_part in
     let digits : c.as_bytes.result.now ≡ decimal need.rule = search rules in
     let front = codes "rule " ++ decimal need.rule in
@@ -33,7 +33,7 @@ pub returns-in_err-add_subject-clause-begun : goal.returns-in_err-add_subject-cl
 returns-in_err-add_subject-clause-begun c =
     let old = c.args.line.now.items in
     let need = c.args.need.now in
-    let subject = subject_text c.args.schema.now need.first need.first_part in
+    let subject = entry_subject_text c.args.schema.now need.first need.first_part in
     let second = second_version_text c.args.schema.now need.second need.second_part in
     let digits : c.as_bytes.result.now ≡ decimal need.rule = search rules in
     let front = codes "rule " ++ decimal need.rule ++ codes " " in

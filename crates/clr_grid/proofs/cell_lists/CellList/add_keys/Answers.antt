@@ -1,7 +1,8 @@
 use Rattle.std.proofs.Common.{◌≡◌, ◌∙◌, ◌∷◌, List, ap, rules, subst, sym, true}
 use Rattle.std.specs.FinSet as set
 use Rattle.clr_rows.specs.declared.cells.CellId.{CellId}
-use Rattle.clr_grid.specs.CellSets.{Cells, is_one_of, with_cells}
+use Rattle.clr_grid.specs.CellSets.{Cells, with_listed_cells}
+use Rattle.clr_row_maps.specs.CellLists.{is_one_of}
 use Rattle.clr_grid.specs.Gains.{GainsCells}
 use Rattle.clr_grid.proofs.FilingLemmas.{on_err}
 use Rattle.clr_grid.proofs.GainLemmas.{IsAddedTo, added_gains, added_next}
@@ -10,7 +11,7 @@ use Rattle.clr_grid.proofs.cell_lists.CellList.add_keys.Goals as goal
 
 pub returns-clause-ok : goal.returns-clause-ok
 returns-clause-ok c q =
-    let same : c.loop-cell.self ≡ with_cells c.args.self.now c.args.cells.now.keys = search rules in
+    let same : c.loop-cell.self ≡ with_listed_cells c.args.self.now c.args.cells.now.keys = search rules in
     ap (λ (m : Cells). set.contains m q) same ∙ has_with_cells c.args.cells.now.keys c.args.self.now q
 
 pub loop-cell-preserved : goal.loop-cell-preserved

@@ -1,6 +1,6 @@
 use Rattle.std.proofs.Common.{◌≡◌, ◌∙◌, None, ap}
 use Rattle.std.specs.FinMap as finite
-use Rattle.clr_grid.specs.RowMaps.{FiledRows, with_row}
+use Rattle.clr_row_maps.specs.RowMaps.{FiledRows, with_settled_row}
 use Rattle.clr_grid.proofs.IndexLemmas.{filed_put, others_put}
 use Rattle.clr_grid.proofs.spot_index.SpotIndex.with_row.Goals as goal
 
@@ -17,4 +17,4 @@ invariant_of-result c =
     }
 
 pub returns : goal.returns
-returns c = c.in_ok-put.ensures.ok ∙ (λ i. with_row (c.self.view_is i) c.args.cell (c.in_ok-spots.ensures i))
+returns c = c.in_ok-put.ensures.ok ∙ (λ i. with_settled_row (c.self.view_is i) c.args.cell (c.in_ok-spots.ensures i))

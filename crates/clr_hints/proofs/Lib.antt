@@ -1,0 +1,4 @@
+pub mod Examples
+pub mod LineLemmas
+pub mod MetresLemmas
+pub mod NearestLemmas

@@ -1,0 +1,4 @@
+pub mod Encodings
+pub mod JsonFaults
+pub mod Metres
+pub mod Names

@@ -1,0 +1,2 @@
+pub mod FaultTurns
+pub mod Fronts

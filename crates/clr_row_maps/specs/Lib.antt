@@ -1,0 +1,3 @@
+pub mod CellLists
+pub mod NextCells
+pub mod RowMaps
