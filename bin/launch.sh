@@ -17,7 +17,7 @@ use_program "$program"
 
 # How many seconds pass at most between two lines while the program is proved.
 patience=${CLR_OFFICE_PATIENCE-60}
-# The folder in which it is proved, in its folders `first` and `beside`, and the process that does so.
+# The folder in which it is proved, in folders of their own for the runs of the toolchain, and the process that does so.
 room= proving=
 
 clean_up() {
@@ -45,54 +45,44 @@ copy_crates() {
     done
 }
 
-# The crates that a crate stands on, and then itself.
+# The crates that some crates stand on, and then these; of names that stand for no crate, nothing.
 crates_up_to() {
+    local crate
     local -A added=()
     local crates=()
-    add_crate "$1"
+    for crate; do
+        if [ -n "${uses[$crate]+known}" ] && [ -z "${added[$crate]+yes}" ]; then add_crate "$crate"; fi
+    done
     echo "${crates[@]}"
 }
 
-# The crates that can be proved beside the awaited ones, each behind those that it stands on: no awaited crate stands on them, and they stand on
-# none of these but the first, nor on one that is late.
-crates_beside() {
-    local crate later up below=
-    for crate in "${awaited[@]}"; do
-        if [ -n "${uses[$crate]+known}" ]; then below+=" $(crates_up_to "$crate") "; fi
+# Has `rt ci` prove in a folder, in the background. It ends with the process that began it.
+begin_in() { (cd "$1" && exec setpriv --pdeathsig TERM rt ci 2>&1 </dev/null) & }
+
+# Whether there is memory for several runs side by side, each of which reckons with all that is free when it begins: 16 GB.
+has_room_for_ways() { [ "$(sed -n 's/^MemAvailable: *\([0-9]*\) kB$/\1/p' /proc/meminfo 2>/dev/null || echo 0)" -ge 16000000 ]; }
+
+# Proves the crates of a stage and what they stand on, each way by a run of its own, in a folder of its own.
+prove_stage() {
+    local ways way crates runs=()
+    IFS='|' read -ra ways <<<"$1"
+    if ! has_room_for_ways; then ways=("${ways[*]}"); fi
+    for way in "${!ways[@]}"; do
+        crates=$(crates_up_to ${ways[way]})
+        if [ -z "$crates" ]; then continue; fi
+        copy_crates "$room/way$way" $crates && begin_in "$room/way$way" || return 1
+        runs+=($!)
     done
-    for crate in "${crates[@]}"; do
-        up=" $(crates_up_to "$crate") "
-        if [[ $below = *" $crate "* ]]; then continue; fi
-        for later in "${awaited[@]:1}" "${late[@]}"; do
-            if [[ $up = *" $later "* ]]; then continue 2; fi
-        done
-        echo $up
-    done
+    for way in "${runs[@]}"; do wait "$way" || return 1; done
 }
 
-# Has `rt ci` prove in a folder, by a command that is given, in the background. It ends with the process that began it.
-begin_in() {
-    local folder=$1
-    shift
-    (cd "$folder" && exec setpriv --pdeathsig TERM "$@" rt ci 2>&1 </dev/null) &
-}
-
-# Proves the awaited crates first, so that no other crate takes their turn, and then all. Crates for which these don't wait are proved beside
-# them, with what the processors have left: what one run has proved the other takes.
+# Proves the crates stage by stage, and then all. What one run has proved the others take.
 prove() {
-    local crate beside
-    beside=$(crates_beside)
-    if [ -n "$beside" ]; then
-        copy_crates "$room/beside" $beside || return 1
-        begin_in "$room/beside" nice -n 19
-    fi
+    local stage
     trap 'kill $(jobs -p) 2>/dev/null' EXIT
     trap 'exit 143' TERM
-    for crate in "${awaited[@]}"; do
-        if [ -z "${uses[$crate]+known}" ]; then continue; fi
-        copy_crates "$room/first" $(crates_up_to "$crate") && begin_in "$room/first" && wait $! || return 1
-    done
-    copy_crates "$room/first" "${crates[@]}" && begin_in "$room/first" && wait $!
+    for stage in "${stages[@]}"; do prove_stage "$stage" || return 1; done
+    copy_crates "$room/way0" "${crates[@]}" && begin_in "$room/way0" && wait $!
 }
 
 # Reads what `rt ci` prints, and says a line for each crate that is done, and for each minute in which none is. It fails after a line
@@ -121,7 +111,7 @@ follow() {
             at_work=
             for crate in "${crates[@]}"; do
                 if [ -n "${done[$crate]+known}" ]; then continue; fi
-                if [ -d "$room/first/crates/$crate/out/rlib" ] || [ -d "$room/beside/crates/$crate/out/rlib" ]; then at_work+=", $crate"; fi
+                if compgen -G "$room/*/crates/$crate/out/rlib" >/dev/null; then at_work+=", $crate"; fi
             done
             say "${#done[@]} of ${#crates[@]} crates proved after $(time_since "$start")${at_work:+, at work on ${at_work#, }}"
         else
@@ -147,7 +137,7 @@ build() {
     follow <&8 || exit 2
     exec 8<&-
     [ "$(listing)" = "$before" ] || refuse "the sources were changed while they were proved; start again"
-    made=$(made_in "$room/first")
+    made=$(made_in "$room/way0")
     [ -s "$made" ] || refuse "the program is proved, and there is none in $made"
     write_program "$made" "$digest" "$before" || refuse "the program can't be written into bin/out"
 }
