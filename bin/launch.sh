@@ -28,16 +28,15 @@ clean_up() {
 
 time_since() { printf '%d:%02d min' $(((SECONDS - $1) / 60)) $(((SECONDS - $1) % 60)); }
 
-# Copies crates, without their edits, to a folder, with what they stand on there already. It is apart: below the repository a second
-# crates.txt would be in the way of the toolchain's gate.
+# Copies crates, without their edits, to a folder of their own; an earlier stage's crates there go. The folder is apart: below the repository
+# a second crates.txt would be in the way of the toolchain's gate, and so would be a crate that crates.txt doesn't name.
 copy_crates() {
     local to=$1 crate part
     shift
-    mkdir -p "$to/.git" "$to/crates" || return 1
+    rm -rf "$to" && mkdir -p "$to/.git" "$to/crates" || return 1
     grep -E "^($(IFS='|' && echo "$*")):" "$top/crates.txt" >"$to/crates.txt" || return 1
     if [ -f "$top/HANDLES" ]; then cp "$top/HANDLES" "$to" || return 1; fi
     for crate; do
-        if [ -d "$to/crates/$crate" ]; then continue; fi
         mkdir "$to/crates/$crate" || return 1
         for part in src specs proofs stdin stdout args status data; do
             if [ -e "$top/crates/$crate/$part" ]; then cp -R "$top/crates/$crate/$part" "$to/crates/$crate" || return 1; fi
@@ -105,6 +104,7 @@ follow() {
                 say "the sources of ${crate%:} can't be proved as they are; rt check in crates/${crate%:} says why"
                 return 1
                 ;;
+            'rt: ok; '* | 'rt: note: '* | *'; waiting for it') ;;
             'rt: '*) why=${line#rt: } ;;
             esac
         elif [ $? -gt 128 ]; then
