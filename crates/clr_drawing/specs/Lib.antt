@@ -1,2 +1,11 @@
 pub mod Areas
+pub mod Details
+pub mod Extents
 pub mod Labels
+pub mod Metres
+pub mod Palette
+pub mod Paths
+pub mod Signs
+pub mod Sketches
+pub mod Ticks
+pub mod Views

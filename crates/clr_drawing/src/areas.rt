@@ -1,7 +1,8 @@
 //! Rectangles of a page.
 
-ghost use Rattle.std.specs.Prelude.{◌≡◌, int_lt};
-ghost use Rattle.clr_drawing.specs.Areas.{overlaps};
+ghost use Rattle.std.specs.Prelude.{◌≡◌, int_le, int_lt};
+ghost use Rattle.clr_drawing.specs.Areas.{area_around, corner_of, grown_area, has, height_of, holds, joined_area, middle_spot, nearest_spot};
+ghost use Rattle.clr_drawing.specs.Areas.{greater, lesser, overlaps, width_of};
 
 use clr_svg::{Pixels, Spot};
 
@@ -16,7 +17,9 @@ pub struct Area {
 
 impl Area {
     /// Returns the area of this size round a spot.
-    pub fn around(middle: Spot, width: Pixels, height: Pixels) -> Area {
+    pub fn around(middle: Spot, width: Pixels, height: Pixels) -> Area
+        ensures { result ≡ area_around middle width height }
+    {
         let left = middle.x - width.half();
         let top = middle.y - height.half();
         Area {
@@ -28,7 +31,9 @@ impl Area {
     }
 
     /// Returns the area that goes farther by a length at each side.
-    pub fn grown(self, by: Pixels) -> Area {
+    pub fn grown(self, by: Pixels) -> Area
+        ensures { result ≡ grown_area self by }
+    {
         Area {
             left: self.left - by,
             top: self.top - by,
@@ -38,7 +43,9 @@ impl Area {
     }
 
     /// Returns the least area that holds this one and another.
-    pub fn joined(self, other: Area) -> Area {
+    pub fn joined(self, other: Area) -> Area
+        ensures { result ≡ joined_area self other }
+    {
         Area {
             left: lesser(self.left, other.left),
             top: lesser(self.top, other.top),
@@ -48,17 +55,23 @@ impl Area {
     }
 
     /// Returns the width of the area.
-    pub fn width(self) -> Pixels {
+    pub fn width(self) -> Pixels
+        ensures { result ≡ width_of self }
+    {
         self.right - self.left
     }
 
     /// Returns the height of the area.
-    pub fn height(self) -> Pixels {
+    pub fn height(self) -> Pixels
+        ensures { result ≡ height_of self }
+    {
         self.bottom - self.top
     }
 
     /// Returns the upper left corner.
-    pub fn corner(self) -> Spot {
+    pub fn corner(self) -> Spot
+        ensures { result ≡ corner_of self }
+    {
         Spot {
             x: self.left,
             y: self.top,
@@ -66,7 +79,9 @@ impl Area {
     }
 
     /// Returns the middle of the area.
-    pub fn middle(self) -> Spot {
+    pub fn middle(self) -> Spot
+        ensures { result ≡ middle_spot self }
+    {
         Spot {
             x: self.left + self.width().half(),
             y: self.top + self.height().half(),
@@ -74,7 +89,9 @@ impl Area {
     }
 
     /// Returns the spot of the area that is nearest to another spot.
-    pub fn nearest(self, spot: Spot) -> Spot {
+    pub fn nearest(self, spot: Spot) -> Spot
+        ensures { result ≡ nearest_spot self spot }
+    {
         Spot {
             x: greater(self.left, lesser(spot.x, self.right)),
             y: greater(self.top, lesser(spot.y, self.bottom)),
@@ -93,19 +110,25 @@ impl Area {
     }
 
     /// Returns whether another area is within this one, edges included.
-    pub fn holds(self, other: Area) -> bool {
-        self.left.tenths <= other.left.tenths
-            && other.right.tenths <= self.right.tenths
-            && self.top.tenths <= other.top.tenths
-            && other.bottom.tenths <= self.bottom.tenths
+    #[tactic(auto, unfolding(crate::specs::Areas::holds))]
+    pub fn holds(self, other: Area) -> bool
+        ensures { result ≡ holds self other }
+    {
+        is_at_most(self.left, other.left)
+            && is_at_most(other.right, self.right)
+            && is_at_most(self.top, other.top)
+            && is_at_most(other.bottom, self.bottom)
     }
 
     /// Returns whether a spot is in the area, edges included.
-    pub fn has(self, spot: Spot) -> bool {
-        self.left.tenths <= spot.x.tenths
-            && spot.x.tenths <= self.right.tenths
-            && self.top.tenths <= spot.y.tenths
-            && spot.y.tenths <= self.bottom.tenths
+    #[tactic(auto, unfolding(crate::specs::Areas::has))]
+    pub fn has(self, spot: Spot) -> bool
+        ensures { result ≡ has self spot }
+    {
+        is_at_most(self.left, spot.x)
+            && is_at_most(spot.x, self.right)
+            && is_at_most(self.top, spot.y)
+            && is_at_most(spot.y, self.bottom)
     }
 }
 
@@ -115,10 +138,20 @@ fn is_less(a: Pixels, b: Pixels) -> bool
     a.tenths < b.tenths
 }
 
-fn lesser(a: Pixels, b: Pixels) -> Pixels {
+fn is_at_most(a: Pixels, b: Pixels) -> bool
+    ensures { result ≡ int_le a.tenths b.tenths }
+{
+    a.tenths <= b.tenths
+}
+
+fn lesser(a: Pixels, b: Pixels) -> Pixels
+    ensures { result ≡ lesser a b }
+{
     Pixels::of_tenths(a.tenths.min(b.tenths))
 }
 
-fn greater(a: Pixels, b: Pixels) -> Pixels {
+fn greater(a: Pixels, b: Pixels) -> Pixels
+    ensures { result ≡ greater a b }
+{
     Pixels::of_tenths(a.tenths.max(b.tenths))
 }

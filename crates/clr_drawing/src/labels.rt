@@ -49,7 +49,9 @@ pub struct Labels {
 impl Labels {
     /// Returns the labels of a frame of which nothing is taken.
     pub fn new(alloc: Global, frame: Area) -> Labels
-        ensures { result.taken.items ≡ [] }
+        ensures taken { result.taken.items ≡ [] }
+        ensures busy { result.busy.items ≡ [] }
+        ensures frame { result.frame ≡ frame }
     {
         Labels {
             alloc,

@@ -2,10 +2,17 @@
 //! there is room for, ticks and scales, signs, colours and places for labels. Numbers are whole: millimetres of the world, and tenths of a
 //! pixel of the page. What would leave 64 bits stops at their limit.
 //!
-//! - Each call is safe, ends, and fails for want of memory alone. What a picture looks like is tested.
+//! - `Area`, `View`, `Detail`, `extent_of`, `joined`, `grown`, `longer_side`: each call gives exactly what its definition says: which area or box
+//!   holds others, which part of the world a frame shows, where a place stands in it and whether a shape is seen, and for how much there
+//!   is room.
+//! - `ticks`, `round_metres`: exactly which multiples of a step are marked along an axis, and how a length is read in metres. `round_step` is at
+//!   least 1; that it is the greatest round number is tested.
+//! - `Sketch`, `add_line`, `add_shape`, `add_sign`, `add_cross`: exactly which element or which steps are drawn over those so far. `middle_of`,
+//!   `sign_at`, `design_colours`: exactly the middle of a shape, and the sign and the colours of a number.
 //! - `Labels::put` [`free`]: the area of a label that is placed overlaps none of those that were taken, and is taken itself; so no label
-//!   covers another.
-//! - `overlaps` of `Area`: exactly whether two areas have a point within both.
+//!   covers another. Which of the free places it gets is tested.
+//! - Each call is safe and ends, and no call fails while there is memory. How wide words are, which spots along a line labels leave free, and
+//!   what else a picture looks like, is tested.
 #![tactic(auto)]
 
 mod areas;

@@ -1,5 +1,8 @@
 //! Colours: those of the page, and those of designs, which the colour-blind tell apart (after Okabe and Ito).
 
+ghost use Rattle.std.specs.Prelude.{◌≡◌};
+ghost use Rattle.clr_drawing.specs.Palette.{colours_by, colours_of};
+
 use clr_svg::Colour;
 
 /// The page.
@@ -81,71 +84,73 @@ pub const HALO: Colour = Colour {
 pub struct DesignColours {
     pub line: Colour,
     pub label: Colour,
-    pub ground: Colour,
+    pub within: Colour,
     pub pale: Colour,
 }
 
-/// Returns the colour of three bytes.
-const fn colour(red: u8, green: u8, blue: u8) -> Colour {
-    Colour { red, green, blue }
-}
-
-/// Returns the colours of the design of a number, counted from 0. Behind eight designs they begin anew.
-pub fn design_colours(number: usize) -> DesignColours {
-    let (line, label, ground, pale) = match number % 8 {
-        0 => (
-            colour(0x00, 0x72, 0xb2),
-            colour(0x00, 0x72, 0xb2),
-            colour(0xe4, 0xee, 0xf0),
-            colour(0x94, 0xc4, 0xdf),
-        ),
-        1 => (
-            colour(0xd5, 0x5e, 0x00),
-            colour(0xbc, 0x53, 0x00),
-            colour(0xf8, 0xec, 0xe0),
-            colour(0xed, 0xbb, 0x94),
-        ),
-        2 => (
-            colour(0x00, 0x9e, 0x73),
-            colour(0x00, 0x83, 0x5f),
-            colour(0xe4, 0xf2, 0xea),
-            colour(0x94, 0xd6, 0xc4),
-        ),
-        3 => (
-            colour(0xcc, 0x79, 0xa7),
-            colour(0x9f, 0x5e, 0x82),
-            colour(0xf7, 0xee, 0xef),
-            colour(0xea, 0xc7, 0xda),
-        ),
-        4 => (
-            colour(0x56, 0xb4, 0xe9),
-            colour(0x37, 0x74, 0x97),
-            colour(0xec, 0xf4, 0xf5),
-            colour(0xb8, 0xe0, 0xf6),
-        ),
-        5 => (
-            colour(0x8a, 0x5a, 0x00),
-            colour(0x8a, 0x5a, 0x00),
-            colour(0xf1, 0xec, 0xe0),
-            colour(0xce, 0xba, 0x94),
-        ),
-        6 => (
-            colour(0x7b, 0x4f, 0xb5),
-            colour(0x7b, 0x4f, 0xb5),
-            colour(0xef, 0xeb, 0xf0),
-            colour(0xc8, 0xb5, 0xe0),
-        ),
-        _ => (
-            colour(0x2f, 0x6f, 0x4f),
-            colour(0x2f, 0x6f, 0x4f),
-            colour(0xe9, 0xed, 0xe7),
-            colour(0xa8, 0xc3, 0xb5),
-        ),
-    };
+fn colours_by(line: Colour, label: Colour, within: Colour, pale: Colour) -> DesignColours
+    ensures { result ≡ colours_by line label within pale }
+{
     DesignColours {
         line,
         label,
-        ground,
+        within,
         pale,
+    }
+}
+
+/// Returns the colours of the design of a number, counted from 0. Behind eight designs they begin anew.
+pub fn design_colours(number: usize) -> DesignColours
+    ensures { result ≡ colours_of number }
+{
+    match number % 8 {
+        0 => colours_by(
+            Colour::new(0x00, 0x72, 0xb2),
+            Colour::new(0x00, 0x72, 0xb2),
+            Colour::new(0xe4, 0xee, 0xf0),
+            Colour::new(0x94, 0xc4, 0xdf),
+        ),
+        1 => colours_by(
+            Colour::new(0xd5, 0x5e, 0x00),
+            Colour::new(0xbc, 0x53, 0x00),
+            Colour::new(0xf8, 0xec, 0xe0),
+            Colour::new(0xed, 0xbb, 0x94),
+        ),
+        2 => colours_by(
+            Colour::new(0x00, 0x9e, 0x73),
+            Colour::new(0x00, 0x83, 0x5f),
+            Colour::new(0xe4, 0xf2, 0xea),
+            Colour::new(0x94, 0xd6, 0xc4),
+        ),
+        3 => colours_by(
+            Colour::new(0xcc, 0x79, 0xa7),
+            Colour::new(0x9f, 0x5e, 0x82),
+            Colour::new(0xf7, 0xee, 0xef),
+            Colour::new(0xea, 0xc7, 0xda),
+        ),
+        4 => colours_by(
+            Colour::new(0x56, 0xb4, 0xe9),
+            Colour::new(0x37, 0x74, 0x97),
+            Colour::new(0xec, 0xf4, 0xf5),
+            Colour::new(0xb8, 0xe0, 0xf6),
+        ),
+        5 => colours_by(
+            Colour::new(0x8a, 0x5a, 0x00),
+            Colour::new(0x8a, 0x5a, 0x00),
+            Colour::new(0xf1, 0xec, 0xe0),
+            Colour::new(0xce, 0xba, 0x94),
+        ),
+        6 => colours_by(
+            Colour::new(0x7b, 0x4f, 0xb5),
+            Colour::new(0x7b, 0x4f, 0xb5),
+            Colour::new(0xef, 0xeb, 0xf0),
+            Colour::new(0xc8, 0xb5, 0xe0),
+        ),
+        _ => colours_by(
+            Colour::new(0x2f, 0x6f, 0x4f),
+            Colour::new(0x2f, 0x6f, 0x4f),
+            Colour::new(0xe9, 0xed, 0xe7),
+            Colour::new(0xa8, 0xc3, 0xb5),
+        ),
     }
 }

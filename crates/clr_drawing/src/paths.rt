@@ -1,5 +1,9 @@
 //! Shapes as paths of the page, and spots along them.
 
+ghost use Rattle.std.specs.Prelude.{◌≡◌, OnOk};
+ghost use Rattle.clr_drawing.specs.Paths.{are_one, beginning, ends_at, halfway_number, halfway_place, middle_of_parts, middle_place};
+ghost use Rattle.clr_drawing.specs.Paths.{with_found, with_line, with_shape};
+
 use crate::views::View;
 use clr_rows::{Place, Shape};
 use clr_segments::{part, parts};
@@ -9,20 +13,39 @@ use std::alloc::{AllocError, Global};
 /// The most spots that are taken along one part of a shape.
 const MOST_SPOTS: i64 = 60;
 
-/// Adds a step to the spot where a figure begins, unless the last line led there.
-fn add_beginning(steps: &mut Vec<Step>, spot: Spot) -> Result<(), AllocError> {
-    if let Some(Step::Line(last)) = steps.last()
-        && *last == spot
-    {
-        return Ok(());
+/// Returns whether both spots are one.
+fn are_one(a: Spot, b: Spot) -> bool
+    ensures { result ≡ are_one a b }
+{
+    a.x.tenths == b.x.tenths && a.y.tenths == b.y.tenths
+}
+
+/// Returns whether the last step led to a spot.
+fn ends_at(steps: &[Step], spot: Spot) -> bool
+    ensures { result ≡ ends_at steps.now spot }
+{
+    match steps.last() {
+        Some(Step::Line(last)) => are_one(*last, spot),
+        _ => false,
     }
-    steps.push(Step::Begin(spot))?;
+}
+
+/// Adds a step to the spot where a figure begins, unless the last line led there.
+fn add_beginning(steps: &mut Vec<Step>, spot: Spot) -> Result<(), AllocError>
+    ensures { OnOk result (steps.new.items ≡ beginning steps.old.items spot) }
+{
+    if !ends_at(steps.as_slice(), spot) {
+        steps.push(Step::Begin(spot))?;
+    }
     Ok(())
 }
 
 /// Adds a line from one spot to another, unless both are one.
-pub fn add_line(steps: &mut Vec<Step>, from: Spot, to: Spot) -> Result<(), AllocError> {
-    if from == to {
+#[tactic(auto, unfolding(crate::specs::Paths::with_line))]
+pub fn add_line(steps: &mut Vec<Step>, from: Spot, to: Spot) -> Result<(), AllocError>
+    ensures { OnOk result (steps.new.items ≡ with_line steps.old.items from to) }
+{
+    if are_one(from, to) {
         return Ok(());
     }
     add_beginning(steps, from)?;
@@ -30,12 +53,26 @@ pub fn add_line(steps: &mut Vec<Step>, from: Spot, to: Spot) -> Result<(), Alloc
     Ok(())
 }
 
+/// Adds the line of a part, where there is one.
+fn add_part(
+    steps: &mut Vec<Step>,
+    view: &View,
+    part: Option<(Place, Place)>,
+) -> Result<(), AllocError>
+    ensures { OnOk result (steps.new.items ≡ with_found view.now steps.old.items part) }
+{
+    match part {
+        Some((from, to)) => add_line(steps, view.spot(from), view.spot(to)),
+        None => Ok(()),
+    }
+}
+
 /// Adds the lines of a shape; a point has none.
-pub fn add_shape(steps: &mut Vec<Step>, view: &View, shape: &Shape) -> Result<(), AllocError> {
+pub fn add_shape(steps: &mut Vec<Step>, view: &View, shape: &Shape) -> Result<(), AllocError>
+    ensures { OnOk result (steps.new.items ≡ with_shape view.now steps.old.items shape.now) }
+{
     for at in 0..parts(shape) {
-        if let Some((from, to)) = part(shape, at.saturating_add(1)) {
-            add_line(steps, view.spot(from), view.spot(to))?;
-        }
+        add_part(steps, view, part(shape, at + 1))?;
     }
     Ok(())
 }
@@ -106,22 +143,42 @@ pub fn samples(
     Ok(spots)
 }
 
+/// Returns the number halfway between two.
+#[tactic(auto, unfolding(crate::specs::Paths::halfway_number))]
+fn halfway_number(from: i64, to: i64) -> i64
+    ensures { result ≡ halfway_number from to }
+{
+    from.saturating_add(to.saturating_sub(from) / 2)
+}
+
 /// Returns the place halfway between two.
-fn halfway(from: Place, to: Place) -> Place {
+fn halfway(from: Place, to: Place) -> Place
+    ensures { result ≡ halfway_place from to }
+{
     Place {
-        x: from.x.saturating_add(to.x.saturating_sub(from.x) / 2),
-        y: from.y.saturating_add(to.y.saturating_sub(from.y) / 2),
+        x: halfway_number(from.x, to.x),
+        y: halfway_number(from.y, to.y),
+    }
+}
+
+/// Returns the middle of the middle part of a shape, or none where it has no parts.
+fn middle_of_parts(shape: &Shape) -> Option<Place>
+    ensures { result ≡ middle_of_parts shape.now }
+{
+    let count = parts(shape);
+    match part(shape, count / 2 + count % 2) {
+        Some((from, to)) => Some(halfway(from, to)),
+        None => None,
     }
 }
 
 /// Returns a place in the middle of a shape: of a point its own, of a line the middle of its middle part; or none where it has no vertices.
-pub fn middle_of(shape: &Shape) -> Option<Place> {
-    if let Shape::At(place) = shape {
-        return Some(*place);
-    }
-    let count = parts(shape);
-    match part(shape, (count / 2).saturating_add(count % 2)) {
-        Some((from, to)) => Some(halfway(from, to)),
-        None => None,
+pub fn middle_of(shape: &Shape) -> Option<Place>
+    ensures { result ≡ middle_place shape.now }
+{
+    match shape {
+        Shape::Bare => None,
+        Shape::At(place) => Some(*place),
+        Shape::Line(_, _) | Shape::Chain(_) => middle_of_parts(shape),
     }
 }

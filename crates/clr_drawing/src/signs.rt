@@ -1,8 +1,12 @@
 //! The signs of rows that are points, one for each table.
 
+ghost use Rattle.std.specs.Prelude.{◌≡◌, ◌++◌, ◌∷◌, [], IfOk, OnOk, map};
+ghost use Rattle.clr_drawing.specs.Sketches.{Draws, IsPath};
+ghost use Rattle.clr_drawing.specs.Signs.{DrawsCross, IsCross, IsSign, away, line_to, outline, sign_of, square_element};
+
 use crate::sketches::Sketch;
 use clr_svg::{Colour, Element, Ink, Pixels, Spot, Step};
-use std::alloc::AllocError;
+use std::alloc::{AllocError, Global};
 
 /// A sign.
 #[derive(Clone, Copy)]
@@ -14,27 +18,28 @@ pub enum Sign {
     Hexagon,
 }
 
-/// The corners of a diamond, in hundredths of its radius.
-const DIAMOND: [(i64, i64); 4] = [(0, -125), (125, 0), (0, 125), (-125, 0)];
+/// Where a diamond and a triangle begin, in hundredths of the radius.
+const TOP: (i64, i64) = (0, -125);
 
-/// The corners of a triangle, in hundredths of its radius.
-const TRIANGLE: [(i64, i64); 3] = [(0, -125), (115, 80), (-115, 80)];
+/// The other corners of a diamond.
+const DIAMOND: [(i64, i64); 3] = [(125, 0), (0, 125), (-125, 0)];
 
-/// The corners of a hexagon, in hundredths of its radius.
-const HEXAGON: [(i64, i64); 6] = [
-    (-110, 0),
-    (-55, -100),
-    (55, -100),
-    (110, 0),
-    (55, 100),
-    (-55, 100),
-];
+/// The other corners of a triangle.
+const TRIANGLE: [(i64, i64); 2] = [(115, 80), (-115, 80)];
+
+/// Where a hexagon begins.
+const LEFT: (i64, i64) = (-110, 0);
+
+/// The other corners of a hexagon.
+const HEXAGON: [(i64, i64); 5] = [(-55, -100), (55, -100), (110, 0), (55, 100), (-55, 100)];
 
 /// Half the side of a square, in hundredths of its radius.
 const SQUARE: i64 = 90;
 
 /// Returns the sign of a number, counted from 0. Behind five they begin anew.
-pub fn sign_at(number: usize) -> Sign {
+pub fn sign_at(number: usize) -> Sign
+    ensures { result ≡ sign_of number }
+{
     match number % 5 {
         0 => Sign::Circle,
         1 => Sign::Square,
@@ -45,11 +50,45 @@ pub fn sign_at(number: usize) -> Sign {
 }
 
 /// Returns the spot at an offset in hundredths of a radius.
-fn offset(middle: Spot, radius: Pixels, by: (i64, i64)) -> Spot {
+fn offset(middle: Spot, radius: Pixels, by: (i64, i64)) -> Spot
+    ensures { result ≡ away middle radius by }
+{
     Spot {
         x: middle.x + Pixels::of_tenths(radius.tenths.saturating_mul(by.0) / 100),
         y: middle.y + Pixels::of_tenths(radius.tenths.saturating_mul(by.1) / 100),
     }
+}
+
+/// Adds lines to these corners, in hundredths of a radius.
+fn add_lines(
+    steps: &mut Vec<Step>,
+    middle: Spot,
+    radius: Pixels,
+    corners: &[(i64, i64)],
+) -> Result<(), AllocError>
+    ensures { OnOk result (steps.new.items ≡ steps.old.items ++ map (line_to middle radius) corners.now) }
+{
+    for corner in corners {
+        steps.push(Step::Line(offset(middle, radius, *corner)))?;
+    }
+    Ok(())
+}
+
+/// Returns the steps of a figure with these corners, in hundredths of a radius.
+fn outline(
+    alloc: Global,
+    middle: Spot,
+    radius: Pixels,
+    first: (i64, i64),
+    others: &[(i64, i64)],
+) -> Result<Vec<Step>, AllocError>
+    ensures { IfOk result (λ steps. steps.items ≡ outline middle radius first others.now) }
+{
+    let mut steps = Vec::new(alloc);
+    steps.push(Step::Begin(offset(middle, radius, first)))?;
+    add_lines(&mut steps, middle, radius, others)?;
+    steps.push(Step::Close)?;
+    Ok(steps)
 }
 
 /// Draws a figure with these corners, in hundredths of a radius.
@@ -57,28 +96,19 @@ fn add_figure(
     sketch: &mut Sketch,
     middle: Spot,
     radius: Pixels,
-    corners: &[(i64, i64)],
+    first: (i64, i64),
+    others: &[(i64, i64)],
     ink: Ink,
-) -> Result<(), AllocError> {
-    let mut steps = Vec::with_capacity(sketch.allocator(), corners.len())?;
-    for (at, corner) in corners.iter().enumerate() {
-        let spot = offset(middle, radius, *corner);
-        steps.push(if at == 0 {
-            Step::Begin(spot)
-        } else {
-            Step::Line(spot)
-        })?;
-    }
-    steps.push(Step::Close)?;
+) -> Result<(), AllocError>
+    ensures { OnOk result (Draws (IsPath (outline middle radius first others.now) ink) sketch.old.elements.items sketch.new.elements.items) }
+{
+    let steps = outline(sketch.allocator(), middle, radius, first, others)?;
     sketch.add(Element::Path { steps, ink })
 }
 
-fn add_square(
-    sketch: &mut Sketch,
-    middle: Spot,
-    radius: Pixels,
-    ink: Ink,
-) -> Result<(), AllocError> {
+fn add_square(sketch: &mut Sketch, middle: Spot, radius: Pixels, ink: Ink) -> Result<(), AllocError>
+    ensures { OnOk result (sketch.new.elements.items ≡ sketch.old.elements.items ++ square_element middle radius ink ∷ []) }
+{
     let side = Pixels::of_tenths(radius.tenths.saturating_mul(2 * SQUARE) / 100);
     sketch.add(Element::Rectangle {
         corner: offset(middle, radius, (-SQUARE, -SQUARE)),
@@ -96,7 +126,9 @@ pub fn add_sign(
     middle: Spot,
     radius: Pixels,
     ink: Ink,
-) -> Result<(), AllocError> {
+) -> Result<(), AllocError>
+    ensures { OnOk result (Draws (IsSign sign middle radius ink) sketch.old.elements.items sketch.new.elements.items) }
+{
     match sign {
         Sign::Circle => sketch.add(Element::Circle {
             middle,
@@ -104,10 +136,31 @@ pub fn add_sign(
             ink,
         }),
         Sign::Square => add_square(sketch, middle, radius, ink),
-        Sign::Diamond => add_figure(sketch, middle, radius, &DIAMOND, ink),
-        Sign::Triangle => add_figure(sketch, middle, radius, &TRIANGLE, ink),
-        Sign::Hexagon => add_figure(sketch, middle, radius, &HEXAGON, ink),
+        Sign::Diamond => add_figure(sketch, middle, radius, TOP, &DIAMOND, ink),
+        Sign::Triangle => add_figure(sketch, middle, radius, TOP, &TRIANGLE, ink),
+        Sign::Hexagon => add_figure(sketch, middle, radius, LEFT, &HEXAGON, ink),
     }
+}
+
+/// Draws a cross of lines of this width.
+fn add_strokes(
+    sketch: &mut Sketch,
+    middle: Spot,
+    radius: Pixels,
+    colour: Colour,
+    width: Pixels,
+) -> Result<(), AllocError>
+    ensures { OnOk result (Draws (IsCross middle radius colour width) sketch.old.elements.items sketch.new.elements.items) }
+{
+    let mut steps = Vec::with_capacity(sketch.allocator(), 4)?;
+    steps.push(Step::Begin(offset(middle, radius, (-100, -100))))?;
+    steps.push(Step::Line(offset(middle, radius, (100, 100))))?;
+    steps.push(Step::Begin(offset(middle, radius, (-100, 100))))?;
+    steps.push(Step::Line(offset(middle, radius, (100, -100))))?;
+    sketch.add(Element::Path {
+        steps,
+        ink: Ink::drawn(colour, width),
+    })
 }
 
 /// Draws a cross in a colour over a broader one in another.
@@ -117,17 +170,9 @@ pub fn add_cross(
     radius: Pixels,
     colour: Colour,
     below: Colour,
-) -> Result<(), AllocError> {
-    for (colour, width) in [(below, 54), (colour, 24)] {
-        let mut steps = Vec::with_capacity(sketch.allocator(), 4)?;
-        steps.push(Step::Begin(offset(middle, radius, (-100, -100))))?;
-        steps.push(Step::Line(offset(middle, radius, (100, 100))))?;
-        steps.push(Step::Begin(offset(middle, radius, (-100, 100))))?;
-        steps.push(Step::Line(offset(middle, radius, (100, -100))))?;
-        sketch.add(Element::Path {
-            steps,
-            ink: Ink::drawn(colour, Pixels::of_tenths(width)),
-        })?;
-    }
-    Ok(())
+) -> Result<(), AllocError>
+    ensures { OnOk result (DrawsCross middle radius colour below sketch.old.elements.items sketch.new.elements.items) }
+{
+    add_strokes(sketch, middle, radius, below, Pixels::of_tenths(54))?;
+    add_strokes(sketch, middle, radius, colour, Pixels::of_tenths(24))
 }

@@ -1,6 +1,12 @@
 //! Which part of the world a picture shows, and where on the page it stands.
 
+ghost use Rattle.std.specs.Prelude.{◌≡◌, ◌↔◌, IsTrue};
+ghost use Rattle.clr_drawing.specs.Extents.{height_of_box, width_of_box};
+ghost use Rattle.clr_drawing.specs.Views.{Sees, area_on, fitting_height, fitting_width, high_for, length_on, share, side, spot_on, view_of, view_width};
+ghost use Rattle.clr_drawing.specs.Views.{wide_for};
+
 use crate::areas::Area;
+use crate::extents::{box_about, height_of_box, span, width_of_box};
 use clr_rows::{Place, Shape};
 use clr_segments::{Bounds, box_of_shape, boxes_touch};
 use clr_svg::{Pixels, Spot};
@@ -13,55 +19,115 @@ pub struct View {
 }
 
 /// Returns the share of a number, or 0 where it is a share of nothing.
-fn share(number: i64, part: i64, of: i64) -> i64 {
-    number.saturating_mul(part).checked_div(of).unwrap_or(0)
+#[tactic(auto, unfolding(crate::specs::Views::share))]
+fn share(number: i64, part: i64, of: i64) -> i64
+    ensures { result ≡ share number part of }
+{
+    if of <= 0 {
+        return 0;
+    }
+    number.saturating_mul(part) / of
 }
 
-/// Returns the range of this length round the middle of a range.
-fn range_about(low: i64, high: i64, length: i64) -> (i64, i64) {
-    let middle = low.saturating_add(high.saturating_sub(low) / 2);
-    let start = middle.saturating_sub(length / 2);
-    (start, start.saturating_add(length))
+/// Returns a length, and at least 1.
+#[tactic(auto, unfolding(crate::specs::Views::side))]
+fn side(length: i64) -> i64
+    ensures { result ≡ side length }
+{
+    length.max(1)
+}
+
+/// Returns how wide a box is, and at least 1.
+fn wide_side(bounds: Bounds) -> i64
+    ensures { result ≡ side (width_of_box bounds) }
+{
+    side(width_of_box(bounds))
+}
+
+/// Returns how high a box is, and at least 1.
+fn high_side(bounds: Bounds) -> i64
+    ensures { result ≡ side (height_of_box bounds) }
+{
+    side(height_of_box(bounds))
+}
+
+/// Returns how wide a box of this height would be that has the proportions of a frame.
+#[tactic(auto, unfolding(crate::specs::Views::fitting_width))]
+fn fitting_width(bounds: Bounds, frame: Area) -> i64
+    ensures { result ≡ fitting_width bounds frame }
+{
+    let (width, height) = (frame.width(), frame.height());
+    share(high_side(bounds), width.tenths, height.tenths)
+}
+
+/// Returns how high a box of this width would be that has the proportions of a frame.
+#[tactic(auto, unfolding(crate::specs::Views::fitting_height))]
+fn fitting_height(bounds: Bounds, frame: Area) -> i64
+    ensures { result ≡ fitting_height bounds frame }
+{
+    let (width, height) = (frame.width(), frame.height());
+    share(wide_side(bounds), height.tenths, width.tenths)
+}
+
+/// Returns how wide a box is made that has the proportions of a frame.
+#[tactic(auto, unfolding(crate::specs::Views::wide_for))]
+fn wide_for(bounds: Bounds, frame: Area) -> i64
+    ensures { result ≡ wide_for bounds frame }
+{
+    wide_side(bounds).max(fitting_width(bounds, frame))
+}
+
+/// Returns how high it is made.
+#[tactic(auto, unfolding(crate::specs::Views::high_for))]
+fn high_for(bounds: Bounds, frame: Area) -> i64
+    ensures { result ≡ high_for bounds frame }
+{
+    high_side(bounds).max(fitting_height(bounds, frame))
 }
 
 impl View {
     /// Returns the view of a box in a frame: the box is made higher or wider round its middle until both have the same proportions.
-    pub fn new(bounds: Bounds, frame: Area) -> View {
-        let width = bounds.most.x.saturating_sub(bounds.least.x).max(1);
-        let height = bounds.most.y.saturating_sub(bounds.least.y).max(1);
-        let across = width.max(share(height, frame.width().tenths, frame.height().tenths));
-        let along = height.max(share(width, frame.height().tenths, frame.width().tenths));
-        let (left, right) = range_about(bounds.least.x, bounds.most.x, across);
-        let (low, high) = range_about(bounds.least.y, bounds.most.y, along);
+    #[tactic(auto, unfolding(crate::specs::Views::view_of))]
+    pub fn new(bounds: Bounds, frame: Area) -> View
+        ensures { result ≡ view_of bounds frame }
+    {
         View {
-            world: Bounds {
-                least: Place { x: left, y: low },
-                most: Place { x: right, y: high },
-            },
+            world: box_about(bounds, wide_for(bounds, frame), high_for(bounds, frame)),
             frame,
         }
     }
 
     /// Returns how wide the part of the world is, in millimetres.
-    pub fn width(&self) -> i64 {
-        self.world.most.x.saturating_sub(self.world.least.x)
+    pub fn width(&self) -> i64
+        ensures { result ≡ view_width self.now }
+    {
+        width_of_box(self.world)
     }
 
     /// Returns how long a length of the world is on the page; it is given in millimetres.
-    pub fn length(&self, millimetres: i64) -> Pixels {
+    #[tactic(auto, unfolding(crate::specs::Views::length_on))]
+    pub fn length(&self, millimetres: i64) -> Pixels
+        ensures { result ≡ length_on self.now millimetres }
+    {
         Pixels::of_tenths(share(millimetres, self.frame.width().tenths, self.width()))
     }
 
     /// Returns where a place stands on the page.
-    pub fn spot(&self, place: Place) -> Spot {
+    #[tactic(auto, unfolding(crate::specs::Views::spot_on))]
+    pub fn spot(&self, place: Place) -> Spot
+        ensures { result ≡ spot_on self.now place }
+    {
         Spot {
-            x: self.frame.left + self.length(place.x.saturating_sub(self.world.least.x)),
-            y: self.frame.bottom - self.length(place.y.saturating_sub(self.world.least.y)),
+            x: self.frame.left + self.length(span(self.world.least.x, place.x)),
+            y: self.frame.bottom - self.length(span(self.world.least.y, place.y)),
         }
     }
 
     /// Returns the area of the page on which a box of the world stands.
-    pub fn area(&self, bounds: Bounds) -> Area {
+    #[tactic(auto, unfolding(crate::specs::Views::area_on))]
+    pub fn area(&self, bounds: Bounds) -> Area
+        ensures { result ≡ area_on self.now bounds }
+    {
         let low = self.spot(bounds.least);
         let high = self.spot(bounds.most);
         Area {
@@ -73,7 +139,9 @@ impl View {
     }
 
     /// Returns whether the box of a shape touches the part of the world that is seen.
-    pub fn sees(&self, shape: &Shape) -> bool {
+    pub fn sees(&self, shape: &Shape) -> bool
+        ensures { IsTrue result ↔ Sees self.now shape.now }
+    {
         match box_of_shape(shape) {
             Some(bounds) => boxes_touch(bounds, self.world),
             None => false,

@@ -1,5 +1,8 @@
 //! The frames round what designs change.
 
+ghost use Rattle.std.specs.Prelude.{◌≡◌};
+ghost use Rattle.clr_map_frames.specs.Frames.{has_frames};
+
 use clr_drawing::{Area, Sketch, extent_of};
 use clr_plan_scenes::Scene;
 use clr_rows::Row;
@@ -16,7 +19,9 @@ const MARGIN: Pixels = Pixels { tenths: 80 };
 const FEW: usize = 3;
 
 /// Returns whether the changes have frames: where there are several designs, or little room.
-pub fn has_frames(scene: &Scene<'_>) -> bool {
+pub fn has_frames(scene: &Scene<'_>) -> bool
+    ensures { result ≡ has_frames scene.now }
+{
     scene.cause.is_none() && (!scene.changes.is_fine() || scene.field.designs.len() > FEW)
 }
 
@@ -91,7 +96,7 @@ fn add_frames_of(
 pub fn add_grounds(sketch: &mut Sketch, scene: &Scene<'_>) -> Result<(), AllocError> {
     for at in scene.field.designs.order() {
         let colours = scene.field.designs.colours(*at);
-        add_frames_of(sketch, scene, *at, Ink::filled(colours.ground))?;
+        add_frames_of(sketch, scene, *at, Ink::filled(colours.within))?;
     }
     Ok(())
 }

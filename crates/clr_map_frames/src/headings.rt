@@ -1,7 +1,10 @@
 //! What stands above the map: the names of the designs, and the plan in a sentence.
 
+ghost use Rattle.std.specs.Prelude.{◌≡◌, ◌++◌, IfOk, OnOk, decimal, string_bytes};
+ghost use Rattle.clr_map_frames.specs.Headings.{behind_commas, few_names, listed, names_of, names_of_leaders, names_text, some_names};
+
 use clr_drawing::{INK, SOFT, Sketch, words_width};
-use clr_plan_scenes::{Field, LEFT, PAGE_WIDTH};
+use clr_plan_scenes::{Designs, Field, LEFT, PAGE_WIDTH};
 use clr_svg::{Anchor, Pixels, Spot, Weight};
 use std::alloc::{AllocError, Global};
 
@@ -14,35 +17,88 @@ const FEW: usize = 6;
 /// How many of many designs are named.
 const MOST_NAMED: usize = 4;
 
-/// Returns the names of these designs, with commas between them.
-fn listed(field: Field<'_>, positions: &[usize]) -> Result<String, AllocError> {
-    let mut text = String::new(field.alloc);
-    for (number, at) in positions.iter().enumerate() {
-        if number > 0 {
-            text.push_str(", ")?;
-        }
-        text.push_str(field.designs.name(*at))?;
+/// Adds the names of these designs, with a comma before each.
+#[tactic(auto, unfolding(crate::specs::Headings::behind_commas))]
+fn add_others(
+    text: &mut String,
+    designs: &Designs<'_>,
+    positions: &[usize],
+) -> Result<(), AllocError>
+    ensures { OnOk result (string_bytes text.new ≡ string_bytes text.old ++ behind_commas (names_of designs.now) positions.now) }
+{
+    for at in positions {
+        text.push_str(", ")?;
+        text.push_str(designs.name(*at))?;
     }
+    Ok(())
+}
+
+/// Returns the names of these designs, with commas between them.
+fn listed(alloc: Global, designs: &Designs<'_>, positions: &[usize]) -> Result<String, AllocError>
+    ensures { IfOk result (λ text. string_bytes text ≡ listed (names_of designs.now) positions.now) }
+{
+    let Some((first, others)) = positions.split_first() else {
+        return Ok(String::new(alloc));
+    };
+    let mut text = String::from_str(alloc, designs.name(*first))?;
+    add_others(&mut text, designs, others)?;
     Ok(text)
 }
 
-/// Returns the names of the designs, those of the cause first; where they are many, only some.
-pub fn names_text(field: Field<'_>) -> Result<String, AllocError> {
-    let designs = field.designs;
-    let count = designs.len();
-    if count <= FEW {
-        return listed(field, designs.order());
-    }
-    let leaders = designs.leaders();
-    if !leaders.is_empty() {
-        let names = listed(field, leaders)?;
-        return format!(in field.alloc; "{names}, of {count} designs");
-    }
+/// Returns the digits of a number.
+fn number_text(alloc: Global, number: usize) -> Result<String, AllocError>
+    ensures { IfOk result (λ text. string_bytes text ≡ decimal number) }
+{
+    format!(in alloc; "{number}")
+}
+
+/// Returns the names of the first designs, and how many more there are.
+#[tactic(auto, unfolding(crate::specs::Headings::some_names))]
+fn some_names(alloc: Global, designs: &Designs<'_>) -> Result<String, AllocError>
+    ensures { IfOk result (λ text. string_bytes text ≡ some_names designs.now) }
+{
     let order = designs.order();
     let end = MOST_NAMED.min(order.len());
-    let names = listed(field, &order[..end])?;
-    let others = count.saturating_sub(end);
-    format!(in field.alloc; "{names} and {others} more")
+    let mut text = listed(alloc, designs, &order[..end])?;
+    let others = number_text(alloc, designs.len().saturating_sub(end))?;
+    text.push_str(" and ")?;
+    text.push_str(others.as_str())?;
+    text.push_str(" more")?;
+    Ok(text)
+}
+
+/// Returns the names of the designs that a cause names, and how many designs there are.
+#[tactic(auto, unfolding(crate::specs::Headings::names_of_leaders))]
+fn names_of_leaders(alloc: Global, designs: &Designs<'_>) -> Result<String, AllocError>
+    ensures { IfOk result (λ text. string_bytes text ≡ names_of_leaders designs.now) }
+{
+    let mut text = listed(alloc, designs, designs.leaders())?;
+    let count = number_text(alloc, designs.len())?;
+    text.push_str(", of ")?;
+    text.push_str(count.as_str())?;
+    text.push_str(" designs")?;
+    Ok(text)
+}
+
+/// Returns the names of some designs where they are many: of those that a cause names, or of the first.
+fn few_names(alloc: Global, designs: &Designs<'_>) -> Result<String, AllocError>
+    ensures { IfOk result (λ text. string_bytes text ≡ few_names designs.now) }
+{
+    if designs.leaders().is_empty() {
+        some_names(alloc, designs)
+    } else {
+        names_of_leaders(alloc, designs)
+    }
+}
+
+/// Returns the names of the designs, those of the cause first; where they are many, only some.
+pub fn names_text(field: Field<'_>) -> Result<String, AllocError>
+    ensures { IfOk result (λ text. string_bytes text ≡ names_text field.entry.designs.now) }
+{
+    if field.designs.len() <= FEW {
+        return listed(field.alloc, field.designs, field.designs.order());
+    }
+    few_names(field.alloc, field.designs)
 }
 
 /// Returns a text, cut behind as many characters as there is room for.

@@ -1,7 +1,9 @@
 //! What a map has round its rows: lines and numbers of the axes, the scale, frames round what designs change, the legend, a small plan of
-//! everything, and the heading. A scene says what the map shows; each call adds elements to a sketch and states nothing.
+//! everything, and the heading. A scene says what the map shows; each call adds elements to a sketch.
 //!
-//! - Each call is safe, ends, and fails for want of memory alone. What it looks like is tested.
+//! - `names_text`: exactly which designs a heading names, in which order, and how many there are besides. `has_frames`: exactly whether what
+//!   designs change has frames.
+//! - Each call is safe and ends, and no call fails while there is memory. All else of what it looks like is tested.
 #![tactic(auto)]
 
 mod axes;

@@ -1,20 +1,44 @@
 //! The rows of the root, beneath everything else.
 
+ghost use Rattle.std.specs.Prelude.{◌≡◌, count_by};
+ghost use Rattle.clr_map_marks.specs.Tables.{is_of_points, sign_of_table};
+
 use clr_drawing::{Detail, PAPER, PLAIN, SIGN, Sign, Sketch, add_shape, add_sign, sign_at};
 use clr_plan_scenes::Scene;
-use clr_rows::{CellId, Form, Row, Schema, Shape};
+use clr_rows::{CellId, Form, Row, Schema, Shape, TableDef};
 use clr_svg::{Ink, Pixels, Step};
 use std::alloc::AllocError;
 
-/// Returns the sign of a table's points: the tables of points take the signs in their order.
-pub fn sign_of_table(schema: &Schema, table: u16) -> Sign {
+/// Returns whether a table is of points.
+fn is_of_points(table: &TableDef) -> bool
+    ensures { result ≡ is_of_points table.now }
+{
+    match table.shape {
+        Form::Point => true,
+        Form::Bare | Form::Segment | Form::Path => false,
+    }
+}
+
+/// Returns how many of some tables are of points.
+fn tables_of_points(tables: &[TableDef]) -> usize
+    ensures { result ≡ count_by is_of_points tables.now }
+{
     let mut number = 0usize;
-    for def in schema.tables().iter().take(table as usize) {
-        if def.shape == Form::Point {
+    for table in tables {
+        if is_of_points(table) {
             number = number.saturating_add(1);
         }
     }
-    sign_at(number)
+    number
+}
+
+/// Returns the sign of a table's points: the tables of points take the signs in their order.
+pub fn sign_of_table(schema: &Schema, table: u16) -> Sign
+    ensures { result ≡ sign_of_table schema.now table }
+{
+    let tables = schema.tables();
+    let before = tables.len().min(table as usize);
+    sign_at(tables_of_points(&tables[..before]))
 }
 
 /// Returns how broad the lines of the root are.

@@ -1,10 +1,15 @@
 //! What designs add, change and remove of lines.
 
+ghost use Rattle.std.specs.Prelude.{◌≡◌, ◌++◌, IfOk, OnOk};
+ghost use Rattle.clr_rows.specs.Same.{same_shape};
+ghost use Rattle.clr_map_marks.specs.Lines.{DrawsKinds, DrawsTwice, is_point, lines_drawn, lines_of, middle_spots, with_change, with_changed, with_left};
+ghost use Rattle.clr_map_marks.specs.Lines.{with_removed};
+
 use clr_change::ChangeSet;
-use clr_drawing::{GROUND, PAPER, Sketch, add_cross, add_shape, middle_of};
+use clr_drawing::{GROUND, PAPER, Sketch, View, add_cross, add_shape, middle_of};
 use clr_plan_scenes::Scene;
 use clr_rows::{Change, Row, Shape};
-use clr_svg::{Colour, Ink, Pixels, Spot, Step};
+use clr_svg::{Colour, Dash, Ink, Pixels, Spot, Step};
 use std::alloc::{AllocError, Global};
 
 /// The lines of a design, by what becomes of them.
@@ -25,40 +30,83 @@ fn mark_width(scene: &Scene<'_>) -> Pixels {
     }
 }
 
-/// Returns whether two rows have one shape.
-fn same_shape(a: &Row, b: &Row) -> bool {
-    a.shape.same(&b.shape)
+/// Returns whether a shape is a point.
+fn is_point(shape: &Shape) -> bool
+    ensures { result ≡ is_point shape.now }
+{
+    match shape {
+        Shape::At(_) => true,
+        _ => false,
+    }
 }
 
-/// Adds the lines of a row that goes, with a cross in its middle.
-fn add_removed(lines: &mut Lines, scene: &Scene<'_>, row: &Row) -> Result<(), AllocError> {
-    if let Shape::At(_) = row.shape {
-        return Ok(());
-    }
-    add_shape(&mut lines.removed, &scene.view, &row.shape)?;
-    if let Some(place) = middle_of(&row.shape) {
-        lines.crosses.push(scene.view.spot(place))?;
+/// Adds a cross in the middle of a shape, where it has one.
+fn add_middle(crosses: &mut Vec<Spot>, view: &View, shape: &Shape) -> Result<(), AllocError>
+    ensures { OnOk result (crosses.new.items ≡ crosses.old.items ++ middle_spots view.now shape.now) }
+{
+    if let Some(place) = middle_of(shape) {
+        crosses.push(view.spot(place))?;
     }
     Ok(())
 }
 
+/// Adds the lines of a row that goes, with a cross in its middle.
+fn add_removed(lines: &mut Lines, view: &View, row: &Row) -> Result<(), AllocError>
+    ensures { OnOk result (lines_of lines.new ≡ with_removed view.now (lines_of lines.old) row.now.shape) }
+{
+    if is_point(&row.shape) {
+        return Ok(());
+    }
+    add_shape(&mut lines.removed, view, &row.shape)?;
+    add_middle(&mut lines.crosses, view, &row.shape)
+}
+
+/// Returns whether both shapes are the same.
+fn are_same(a: &Shape, b: &Shape) -> bool
+    ensures { result ≡ same_shape a.now b.now }
+{
+    a.same(b)
+}
+
+/// Adds the lines of a shape that a row had, unless it still has it.
+fn add_left(
+    steps: &mut Vec<Step>,
+    view: &View,
+    before: &Shape,
+    after: &Shape,
+) -> Result<(), AllocError>
+    ensures { OnOk result (steps.new.items ≡ with_left view.now steps.old.items before.now after.now) }
+{
+    if are_same(before, after) {
+        return Ok(());
+    }
+    add_shape(steps, view, before)
+}
+
+/// Adds the lines of a row that stays in another form.
+fn add_changed(lines: &mut Lines, view: &View, before: &Row, after: &Row) -> Result<(), AllocError>
+    ensures { OnOk result (lines_of lines.new ≡ with_changed view.now (lines_of lines.old) before.now.shape after.now.shape) }
+{
+    add_left(&mut lines.removed, view, &before.shape, &after.shape)?;
+    add_shape(&mut lines.changed, view, &after.shape)
+}
+
 /// Adds the lines of a change.
-fn add_change(lines: &mut Lines, scene: &Scene<'_>, change: &Change) -> Result<(), AllocError> {
+fn add_change(lines: &mut Lines, view: &View, change: &Change) -> Result<(), AllocError>
+    ensures { OnOk result (lines_of lines.new ≡ with_change view.now (lines_of lines.old) change.now) }
+{
     match (&change.before, &change.after) {
-        (None, Some(after)) => add_shape(&mut lines.added, &scene.view, &after.shape),
-        (Some(before), None) => add_removed(lines, scene, before),
-        (Some(before), Some(after)) => {
-            if !same_shape(before, after) {
-                add_shape(&mut lines.removed, &scene.view, &before.shape)?;
-            }
-            add_shape(&mut lines.changed, &scene.view, &after.shape)
-        }
+        (None, Some(after)) => add_shape(&mut lines.added, view, &after.shape),
+        (Some(before), None) => add_removed(lines, view, before),
+        (Some(before), Some(after)) => add_changed(lines, view, before, after),
         (None, None) => Ok(()),
     }
 }
 
 /// Returns the lines of a design.
-fn lines_of(alloc: Global, scene: &Scene<'_>, set: &ChangeSet) -> Result<Lines, AllocError> {
+fn lines_of(alloc: Global, view: &View, set: &ChangeSet) -> Result<Lines, AllocError>
+    ensures { IfOk result (λ lines. lines_of lines ≡ lines_drawn view.now set.now) }
+{
     let mut lines = Lines {
         added: Vec::new(alloc),
         changed: Vec::new(alloc),
@@ -66,7 +114,7 @@ fn lines_of(alloc: Global, scene: &Scene<'_>, set: &ChangeSet) -> Result<Lines, 
         crosses: Vec::new(alloc),
     };
     for (_, change) in set.iter() {
-        add_change(&mut lines, scene, change)?;
+        add_change(&mut lines, view, change)?;
     }
     Ok(lines)
 }
@@ -77,39 +125,60 @@ fn add_twice(
     steps: Vec<Step>,
     below: Ink,
     above: Ink,
-) -> Result<(), AllocError> {
+) -> Result<(), AllocError>
+    ensures { OnOk result (DrawsTwice steps.items below above sketch.old.elements.items sketch.new.elements.items) }
+{
     let again = Vec::from_slice(sketch.allocator(), steps.as_slice())?;
     sketch.add_path(steps, below)?;
     sketch.add_path(again, above)
 }
 
+/// Draws the lines of a design: full, double and with dashes.
+fn add_kinds(
+    sketch: &mut Sketch,
+    lines: Lines,
+    width: Pixels,
+    dash: Dash,
+    colour: Colour,
+) -> Result<(), AllocError>
+    ensures { OnOk result (DrawsKinds (lines_of lines) width dash colour sketch.old.elements.items sketch.new.elements.items) }
+{
+    let broad = Ink::drawn(colour, width + Pixels::of_tenths(16));
+    let hollow = Ink::drawn(PAPER, width - Pixels::of_tenths(16));
+    let cleared = Ink::drawn(GROUND, width + Pixels::whole(1));
+    let dashed = Ink::drawn(colour, width - Pixels::of_tenths(10)).dashed(dash.dash, dash.gap);
+    sketch.add_path(lines.added, Ink::drawn(colour, width))?;
+    add_twice(sketch, lines.changed, broad, hollow)?;
+    add_twice(sketch, lines.removed, cleared, dashed)
+}
+
 /// Returns how long the dashes of lines that go are, and the gaps between them.
-fn dashes(scene: &Scene<'_>) -> (Pixels, Pixels) {
+fn dash_of(scene: &Scene<'_>) -> Dash {
     if scene.changes.is_fine() {
-        (Pixels::whole(7), Pixels::whole(6))
+        Dash {
+            dash: Pixels::whole(7),
+            gap: Pixels::whole(6),
+        }
     } else {
-        (Pixels::whole(4), Pixels::whole(3))
+        Dash {
+            dash: Pixels::whole(4),
+            gap: Pixels::whole(3),
+        }
     }
 }
 
-/// Draws the lines of a design in a colour.
+/// Draws the lines of a design in a colour, and crosses over those that go where there is room.
 fn add_lines(
     sketch: &mut Sketch,
     scene: &Scene<'_>,
     lines: Lines,
     colour: Colour,
 ) -> Result<(), AllocError> {
-    let width = mark_width(scene);
-    let (dash, gap) = dashes(scene);
-    let broad = Ink::drawn(colour, width + Pixels::of_tenths(16));
-    let hollow = Ink::drawn(PAPER, width - Pixels::of_tenths(16));
-    let cleared = Ink::drawn(GROUND, width + Pixels::whole(1));
-    let dashed = Ink::drawn(colour, width - Pixels::of_tenths(10)).dashed(dash, gap);
-    sketch.add_path(lines.added, Ink::drawn(colour, width))?;
-    add_twice(sketch, lines.changed, broad, hollow)?;
-    add_twice(sketch, lines.removed, cleared, dashed)?;
+    let mut crosses = Vec::new(sketch.allocator());
+    crosses.extend_from_slice(lines.crosses.as_slice())?;
+    add_kinds(sketch, lines, mark_width(scene), dash_of(scene), colour)?;
     if scene.changes.is_fine() {
-        for spot in &lines.crosses {
+        for spot in &crosses {
             add_cross(sketch, *spot, Pixels::whole(5), colour, PAPER)?;
         }
     }
@@ -121,7 +190,7 @@ pub fn add_line_marks(sketch: &mut Sketch, scene: &Scene<'_>) -> Result<(), Allo
     let designs = scene.field.designs;
     for at in designs.order().iter().rev() {
         if let Some(set) = designs.changes(*at) {
-            let lines = lines_of(sketch.allocator(), scene, set)?;
+            let lines = lines_of(sketch.allocator(), &scene.view, set)?;
             add_lines(sketch, scene, lines, designs.colours(*at).line)?;
         }
     }

@@ -1,5 +1,11 @@
 //! What designs add, change and remove of points.
 
+ghost use Rattle.std.specs.Prelude.{◌≡◌, OnOk};
+ghost use Rattle.std.specs.Option.{option_copied};
+ghost use Rattle.clr_drawing.specs.Sketches.{Draws};
+ghost use Rattle.clr_drawing.specs.Signs.{IsSign};
+ghost use Rattle.clr_map_marks.specs.Points.{DrawsMark, count_at, ink_of, is_at, mark_radius, small_ink_of, stands_at};
+
 use crate::grounds::sign_of_table;
 use clr_change::ChangeSet;
 use clr_drawing::{GROUND, PAPER, Sign, Sketch, add_cross, add_sign};
@@ -27,7 +33,9 @@ struct PointMark {
 }
 
 /// Returns how large the signs of designs are.
-pub fn mark_radius(scene: &Scene<'_>) -> Pixels {
+pub fn mark_radius(scene: &Scene<'_>) -> Pixels
+    ensures { result ≡ mark_radius scene.now.changes }
+{
     if scene.changes.is_fine() {
         Pixels::of_tenths(66)
     } else {
@@ -102,8 +110,10 @@ fn marks_of(scene: &Scene<'_>) -> Result<Vec<PointMark>, AllocError> {
     Ok(marks)
 }
 
-/// Of a point in a set of changes, whether it stands at a place before or after.
-fn stands_at(row: Option<&Row>, place: Place) -> bool {
+/// Returns whether a row is a point at a place.
+fn stands_at(row: Option<&Row>, place: Place) -> bool
+    ensures { result ≡ stands_at (option_copied row.entry) place }
+{
     match row {
         Some(row) => match &row.shape {
             Shape::At(other) => other.same(&place),
@@ -113,10 +123,20 @@ fn stands_at(row: Option<&Row>, place: Place) -> bool {
     }
 }
 
-fn count_at(set: &ChangeSet, place: Place) -> u32 {
-    let mut count = 0u32;
+/// Returns whether a change has a point at a place, before or after.
+fn is_at(change: &Change, place: Place) -> bool
+    ensures { result ≡ is_at change.now place }
+{
+    stands_at(change.before.as_ref(), place) || stands_at(change.after.as_ref(), place)
+}
+
+/// Returns how many changes of a set have a point at a place.
+fn count_at(set: &ChangeSet, place: Place) -> usize
+    ensures { result ≡ count_at set.now place }
+{
+    let mut count = 0usize;
     for (_, change) in set.iter() {
-        if stands_at(change.before.as_ref(), place) || stands_at(change.after.as_ref(), place) {
+        if is_at(change, place) {
             count = count.saturating_add(1);
         }
     }
@@ -128,7 +148,8 @@ pub fn marks_at(scene: &Scene<'_>, place: Place) -> u32 {
     let mut count = 0u32;
     for at in scene.field.designs.order() {
         if let Some(set) = scene.field.designs.changes(*at) {
-            count = count.saturating_add(count_at(set, place));
+            let more = u32::try_from(count_at(set, place)).unwrap_or(u32::MAX);
+            count = count.saturating_add(more);
         }
     }
     count
@@ -168,6 +189,34 @@ fn spot_of(scene: &Scene<'_>, marks: &[PointMark], at: usize, mark: &PointMark) 
     }
 }
 
+/// Returns how a sign is filled and drawn: full, hollow, or with dashes.
+fn ink_of(deed: Deed, colour: Colour) -> Ink
+    ensures { result ≡ ink_of deed colour }
+{
+    match deed {
+        Deed::Goes | Deed::Leaves => {
+            let hollow = Ink::drawn(colour, Pixels::of_tenths(17)).over(GROUND);
+            hollow.dashed(Pixels::of_tenths(25), Pixels::of_tenths(20))
+        }
+        Deed::Comes => Ink::drawn(PAPER, Pixels::of_tenths(15)).over(colour),
+        Deed::Changes => Ink::drawn(colour, Pixels::of_tenths(26)).over(PAPER),
+    }
+}
+
+/// Returns how a small sign is filled and drawn.
+fn small_ink_of(deed: Deed, colour: Colour) -> Ink
+    ensures { result ≡ small_ink_of deed colour }
+{
+    match deed {
+        Deed::Comes => Ink::filled(colour),
+        Deed::Changes => Ink::drawn(colour, Pixels::of_tenths(12)).over(PAPER),
+        Deed::Goes | Deed::Leaves => {
+            let thin = Ink::drawn(colour, Pixels::of_tenths(12)).over(GROUND);
+            thin.dashed(Pixels::of_tenths(20), Pixels::of_tenths(15))
+        }
+    }
+}
+
 /// Draws a mark in its colour.
 fn add_mark(
     sketch: &mut Sketch,
@@ -175,24 +224,16 @@ fn add_mark(
     spot: Spot,
     radius: Pixels,
     colour: Colour,
-) -> Result<(), AllocError> {
-    let hollow = Ink::drawn(colour, Pixels::of_tenths(17)).over(GROUND);
-    let hollow = hollow.dashed(Pixels::of_tenths(25), Pixels::of_tenths(20));
+) -> Result<(), AllocError>
+    ensures { OnOk result (DrawsMark mark.now.deed mark.now.sign spot radius colour sketch.old.elements.items sketch.new.elements.items) }
+{
+    add_sign(sketch, mark.sign, spot, radius, ink_of(mark.deed, colour))?;
     match mark.deed {
         Deed::Goes => {
-            add_sign(sketch, mark.sign, spot, radius, hollow)?;
             let cross = Pixels::of_tenths(radius.tenths.saturating_mul(62) / 100);
             add_cross(sketch, spot, cross, colour, PAPER)
         }
-        Deed::Leaves => add_sign(sketch, mark.sign, spot, radius, hollow),
-        Deed::Comes => {
-            let full = Ink::drawn(PAPER, Pixels::of_tenths(15)).over(colour);
-            add_sign(sketch, mark.sign, spot, radius, full)
-        }
-        Deed::Changes => {
-            let ring = Ink::drawn(colour, Pixels::of_tenths(26)).over(PAPER);
-            add_sign(sketch, mark.sign, spot, radius, ring)
-        }
+        Deed::Leaves | Deed::Comes | Deed::Changes => Ok(()),
     }
 }
 
@@ -203,16 +244,16 @@ fn add_small_mark(
     spot: Spot,
     radius: Pixels,
     colour: Colour,
-) -> Result<(), AllocError> {
-    let ink = match mark.deed {
-        Deed::Comes => Ink::filled(colour),
-        Deed::Changes => Ink::drawn(colour, Pixels::of_tenths(12)).over(PAPER),
-        Deed::Goes | Deed::Leaves => {
-            let thin = Ink::drawn(colour, Pixels::of_tenths(12)).over(GROUND);
-            thin.dashed(Pixels::of_tenths(20), Pixels::of_tenths(15))
-        }
-    };
-    add_sign(sketch, mark.sign, spot, radius, ink)
+) -> Result<(), AllocError>
+    ensures { OnOk result (Draws (IsSign mark.now.sign spot radius (small_ink_of mark.now.deed colour)) sketch.old.elements.items sketch.new.elements.items) }
+{
+    add_sign(
+        sketch,
+        mark.sign,
+        spot,
+        radius,
+        small_ink_of(mark.deed, colour),
+    )
 }
 
 /// Returns the square of the page, of the size of a sign, in which a mark stands, and which mark of that

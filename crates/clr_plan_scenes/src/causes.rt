@@ -1,6 +1,12 @@
 //! What a cause is about: its rows, where they fail, and the few words that say why.
 
+ghost use Rattle.std.specs.Prelude.{◌≡◌, ◌++◌, IfOk, OnOk};
+ghost use Rattle.std.specs.Option.{option_copied};
+ghost use Rattle.clr_plan_scenes.specs.Causes.{contested_rows, goer_of, goers_among, owner_of, row_of_design, shown_row};
+ghost use Rattle.clr_plan_scenes.specs.Designs.{sets_of};
+
 use crate::badges::badge_of_need;
+use crate::designs::Designs;
 use crate::fields::Field;
 use crate::places::{CausePlace, place_of_need};
 use clr_clearance::Verdict;
@@ -10,7 +16,7 @@ use clr_plan::Plan;
 use clr_plan_words::{ServerChange, Standing, rule_of, server_changes};
 use clr_rows::{CellId, Row};
 use clr_rules::Rule;
-use std::alloc::AllocError;
+use std::alloc::{AllocError, Global};
 
 /// A row that a cause names, and the design that lays, changes or removes it, if one does.
 #[derive(Drop)]
@@ -43,7 +49,9 @@ pub struct Cause {
 }
 
 /// Returns the design that brings, changes or removes a row.
-fn owner_of(standing: Standing) -> Option<usize> {
+fn owner_of(standing: Standing) -> Option<usize>
+    ensures { result ≡ owner_of standing }
+{
     match standing {
         Standing::New(at)
         | Standing::Changed(at)
@@ -95,14 +103,15 @@ fn mark_of(field: Field<'_>, rule: &Rule, need: &Need, rows: &[CauseRow]) -> Mar
 /// Adds the row that a change takes away, where it takes one away.
 fn add_goer(
     goers: &mut Vec<CauseRow>,
-    field: Field<'_>,
+    designs: &Designs<'_>,
     change: ServerChange,
-) -> Result<(), AllocError> {
+) -> Result<(), AllocError>
+    ensures { OnOk result (goers.new.items ≡ goers.old.items ++ goer_of (sets_of designs.now) change) }
+{
     if !change.leaves {
         return Ok(());
     }
-    let members = &field.designs.members;
-    if let Some(row) = members.row_before(change.member, change.cell) {
+    if let Some(row) = designs.members.row_before(change.member, change.cell) {
         goers.push(CauseRow {
             cell: change.cell,
             owner: Some(change.member),
@@ -112,14 +121,26 @@ fn add_goer(
     Ok(())
 }
 
+/// Returns the rows that some changes take away.
+#[tactic(auto, unfolding(crate::specs::Causes::goers_among))]
+fn goers_among(
+    alloc: Global,
+    designs: &Designs<'_>,
+    changes: &[ServerChange],
+) -> Result<Vec<CauseRow>, AllocError>
+    ensures { IfOk result (λ goers. goers.items ≡ goers_among (sets_of designs.now) changes.now) }
+{
+    let mut goers = Vec::new(alloc);
+    for change in changes {
+        add_goer(&mut goers, designs, *change)?;
+    }
+    Ok(goers)
+}
+
 /// Returns the rows that served a need and go with a design.
 fn goers_of(field: Field<'_>, need: &Need) -> Result<Vec<CauseRow>, AllocError> {
     let changes = server_changes(field.alloc, field.office, &field.designs.members, need)?;
-    let mut goers = Vec::new(field.alloc);
-    for change in &changes {
-        add_goer(&mut goers, field, *change)?;
-    }
-    Ok(goers)
+    goers_among(field.alloc, field.designs, changes.as_slice())
 }
 
 /// Returns a need that nothing covers.
@@ -139,19 +160,26 @@ fn uncovered(field: Field<'_>, need: &Need) -> Result<Option<Cause>, AllocError>
     }))
 }
 
+/// Returns the row that a design has at a cell, or else the one that stood there before.
+fn shown_row<'b>(designs: &'b Designs<'_>, at: usize, cell: CellId) -> Option<&'b Row>
+    ensures { option_copied result ≡ shown_row (sets_of designs.entry.now) cell at }
+{
+    match designs.members.row_after(at, cell) {
+        Some(row) => Some(row),
+        None => designs.members.row_before(at, cell),
+    }
+}
+
 /// Adds the row that a design has at a cell, or else the one that stood there before.
 fn add_row_of_design(
     rows: &mut Vec<CauseRow>,
-    field: Field<'_>,
+    designs: &Designs<'_>,
     at: usize,
     cell: CellId,
-) -> Result<(), AllocError> {
-    let members = &field.designs.members;
-    let row = match members.row_after(at, cell) {
-        Some(row) => Some(row),
-        None => members.row_before(at, cell),
-    };
-    if let Some(row) = row {
+) -> Result<(), AllocError>
+    ensures { OnOk result (rows.new.items ≡ rows.old.items ++ row_of_design (sets_of designs.now) cell at) }
+{
+    if let Some(row) = shown_row(designs, at, cell) {
         rows.push(CauseRow {
             cell,
             owner: Some(at),
@@ -159,6 +187,23 @@ fn add_row_of_design(
         })?;
     }
     Ok(())
+}
+
+/// Returns the rows of some designs at a cell, in their order.
+#[tactic(auto, unfolding(crate::specs::Causes::contested_rows))]
+fn contested_rows(
+    alloc: Global,
+    designs: &Designs<'_>,
+    cell: CellId,
+    positions: &[usize],
+) -> Result<Vec<CauseRow>, AllocError>
+    ensures { IfOk result (λ rows. rows.items ≡ contested_rows (sets_of designs.now) cell positions.now) }
+{
+    let mut rows = Vec::new(alloc);
+    for at in positions {
+        add_row_of_design(&mut rows, designs, *at, cell)?;
+    }
+    Ok(rows)
 }
 
 /// Returns a ring round the middle of the first of these rows, where it has one.
@@ -182,10 +227,7 @@ fn contested(
     members: &[usize],
     says: String,
 ) -> Result<Option<Cause>, AllocError> {
-    let mut rows = Vec::new(field.alloc);
-    for at in members {
-        add_row_of_design(&mut rows, field, *at, cell)?;
-    }
+    let rows = contested_rows(field.alloc, field.designs, cell, members)?;
     let mark = ring_round(rows.as_slice());
     Ok(Some(Cause {
         rows,

@@ -1,7 +1,9 @@
 //! What a map of a plan shows: the designs with what each changes, what a cause is about and where it is, which part of the world is seen, and
 //! how much detail there is room for.
 //!
-//! - Each call is safe, ends, and fails for want of memory alone. Which rows a cause names, and which of them go, is told by `clr_plan_words`.
+//! - `Designs`: exactly in which order designs are told (those that a cause names first), which these are, their names and colours, what each
+//!   changes at a cell and in all, and which is the first that changes a cell.
+//! - Each call is safe and ends, and no call fails while there is memory. Which rows a cause names, and which of them go, is told by `clr_plan_words`.
 //!   What is shown of them is tested by pictures.
 #![tactic(auto)]
 

@@ -1,5 +1,6 @@
 -- The changes that turn whether a row serves a need, one after another.
-use Rattle.std.proofs.Common.{◌≡◌, ◌∙◌, ℕ, ◌&&◌, Bool, true, false, cond, List, [], ◌∷◌, ◌++◌, filter, map, append_assoc, refl, sym, ap}
+use Rattle.std.proofs.Common.{◌≡◌, ◌∙◌, ℕ, ◌&&◌, Bool, true, false, cond, List, [], ◌∷◌, ◌++◌, filter, map, append_assoc, sym, ap}
+use Rattle.std.proofs.Math.Bool.{and-false}
 use Rattle.std.specs.Prelude.{slice_get, None, option_to_list}
 use Rattle.std.specs.List.{list_all}
 use Rattle.clr_rows.specs.declared.cells.CellId.{CellId}
@@ -36,10 +37,6 @@ module _ (o : Office) (need : Need) (subjects : Subjects) (member : ℕ) where
 
 -- whether a row serves ----------------------------------------------------------------------------
 
-and_false : (a : Bool) → (a && false) ≡ false
-and_false true = refl
-and_false false = refl
-
 module _ (o : Office) (need : Need) (subjects : Subjects) (server : Held) where
   abbrev all_fit : Bool
   all_fit = list_all (fits o.schema) (subjects.first ∷ server ∷ option_to_list subjects.second)
@@ -51,7 +48,7 @@ module _ (o : Office) (need : Need) (subjects : Subjects) (server : Held) where
   pub no_rule : slice_get o.book need.rule ≡ None → serves_need o need subjects server ≡ false
   unfolding serves_need serves
   no_rule none =
-      ap (λ rule. all_fit && is_server_of rule (ask_of need) subjects.first subjects.second server) none ∙ and_false all_fit
+      ap (λ rule. all_fit && is_server_of rule (ask_of need) subjects.first subjects.second server) none ∙ and-false all_fit
 
   pub first_unfit : fits o.schema subjects.first ≡ false → serves_need o need subjects server ≡ false
   unfolding serves_need

@@ -12,6 +12,7 @@ use Rattle.clr_workspaces.specs.Marks.{Name}
 use Rattle.clr_needs.specs.declared.needs.VersionId.{VersionId}
 use Rattle.clr_needs.specs.Members.{after_at, after_of, positions}
 use Rattle.clr_needs.specs.Settings.{Lived, first_changer, new_row, new_version, old_version, version}
+use Rattle.clr_versions.proofs.SharedCells.{changes_mapped}
 use Rattle.clr_steps.specs.Offices.{Office, content_of}
 use Rattle.clr_steps.specs.Quiet.{Site, root_content}
 use Rattle.clr_clearance.specs.Sites.{change_sets}
@@ -52,16 +53,12 @@ old_row_is o s v root row is stale e =
     e ∙ ap (λ (r : Name). row_at (content_of o r) v.cell) is ∙ sym (rw stale (old_is (first_changer (after_of (change_sets o s)) (positions (change_sets o
     s)) v.cell) (row_at (content_of o s.root) v.cell)))
 
--- a change set that is read changes the cell, or doesn't
-some_after : (r : Option Change) → is_some (option_map (λ (e : Change). e.after) r) ≡ is_some r
-some_after None = refl
-some_after (Some e) = refl
-
 pub some_copied : {A : Type 0} (r : Option (Bor A)) → is_some (option_copied r) ≡ is_some r
 some_copied None = refl
 some_copied (Some a) = refl
 
+-- a change set that is read changes the cell, or doesn't
 pub changes_here : (sets : List Changes) (q : CellId) (at : ℕ) (set : Changes) → at < length sets → set ≡ slice_index_or sets at set
     → is_some (after_of sets at q) ≡ is_some (finite.get set q)
 changes_here sets q at set less read =
-    ap (λ s. is_some (after_at s q)) (slice_get_read sets (length sets) at set refl less read) ∙ some_after (finite.get set q)
+    ap (λ s. is_some (after_at s q)) (slice_get_read sets (length sets) at set refl less read) ∙ changes_mapped (finite.get set q)

@@ -4,8 +4,9 @@
 //! - `Members::read` [`members`, `names`], `row_of`: each row that is told of a cause is the version that the cause names.
 //! - `rule_of`, `site_of`: the rule of a need, and where a row that serves it would have to stand; a place where rows meet lies on both parts.
 //! - `server_changes`: exactly the changes of members that bring a row which serves a need, or take one away, in order.
+//! - `count_rows`: exactly how many rows a change set adds, changes and removes.
 //! - Which words stand for what is tested.
-//! - `Setting` tells what an office and members are about. Each of its calls fails for want of memory alone.
+//! - `Setting` tells what an office and members are about.
 #![tactic(auto)]
 
 mod answers;

@@ -1,5 +1,6 @@
 pub mod Elements
 pub mod Escapes
 pub mod Inks
+pub mod Lengths
 pub mod Numbers
 pub mod Pages

@@ -1,7 +1,7 @@
 //! How elements are filled and drawn.
 
 ghost use Rattle.std.specs.Prelude.{◌≡◌, ◌++◌, OnOk};
-ghost use Rattle.clr_svg.specs.Inks.{dash_text, drawn_text, fill_text, ink_text, stroke_text};
+ghost use Rattle.clr_svg.specs.Inks.{dash_text, dashed_ink, drawn_ink, drawn_text, fill_text, filled_ink, ink_over, ink_text, stroke_text};
 
 use crate::colours::Colour;
 use crate::numbers::{add_length, add_lengths, add_tint, add_word};
@@ -33,7 +33,7 @@ pub struct Ink {
 impl Ink {
     /// Returns an ink that fills and draws no outline.
     pub fn filled(colour: Colour) -> Ink
-        ensures { result ≡ record { fill = Some colour; stroke = None } }
+        ensures { result ≡ filled_ink colour }
     {
         Ink {
             fill: Some(colour),
@@ -43,7 +43,7 @@ impl Ink {
 
     /// Returns an ink that draws a full line of this width and fills nothing.
     pub fn drawn(colour: Colour, width: Pixels) -> Ink
-        ensures { result ≡ record { fill = None; stroke = Some (record { colour = colour; width = width; dash = None }) } }
+        ensures { result ≡ drawn_ink colour width }
     {
         Ink {
             fill: None,
@@ -56,7 +56,9 @@ impl Ink {
     }
 
     /// Returns the same ink with dashes, where it draws a line.
-    pub fn dashed(self, dash: Pixels, gap: Pixels) -> Ink {
+    pub fn dashed(self, dash: Pixels, gap: Pixels) -> Ink
+        ensures { result ≡ dashed_ink self dash gap }
+    {
         Ink {
             fill: self.fill,
             stroke: match self.stroke {
@@ -72,7 +74,7 @@ impl Ink {
 
     /// Returns the same ink that fills with a colour.
     pub fn over(self, colour: Colour) -> Ink
-        ensures { result ≡ record { fill = Some colour; stroke = self.stroke } }
+        ensures { result ≡ ink_over self colour }
     {
         Ink {
             fill: Some(colour),

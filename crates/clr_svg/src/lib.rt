@@ -5,7 +5,8 @@
 //! - `escaped_texts_are_harmless`: a title, a description or a label is a list of bytes none of which is `<`, `>`, `&`, a quotation mark
 //!   or a control character but the end of a line, and of references to these characters.
 //! - `add_escaped` and `add_colour` add such a text, and a colour, to a text that is made elsewhere.
-//! - `Pixels`: lengths in tenths of a pixel, whose sums, differences and products stop at the limits of 64 bits.
+//! - `Pixels`: lengths in tenths of a pixel, whose sums, differences and products stop at the limits of 64 bits, and whose halves go towards 0.
+//! - `Ink`: `filled`, `drawn`, `over` and `dashed` give exactly the ink that they name.
 #![tactic(auto)]
 
 mod colours;

@@ -1,7 +1,7 @@
 //! Lengths on a page.
 
-ghost use Rattle.std.specs.Prelude.{◌≡◌, ◌+ℤ◌, ◌-ℤ◌, ◌*ℤ◌, pos};
-ghost use Rattle.std.specs.Int.{saturate_signed, w64};
+ghost use Rattle.std.specs.Prelude.{◌≡◌};
+ghost use Rattle.clr_svg.specs.Lengths.{half, length_of, minus, plus, times, whole};
 
 use std::ops::{Add, Mul, Sub};
 
@@ -18,14 +18,14 @@ impl Pixels {
 
     /// Returns a length of this many tenths of a pixel.
     pub const fn of_tenths(tenths: i64) -> Pixels
-        ensures { result.tenths ≡ tenths }
+        ensures { result ≡ length_of tenths }
     {
         Pixels { tenths }
     }
 
     /// Returns a length of this many pixels.
     pub const fn whole(pixels: i64) -> Pixels
-        ensures { result.tenths ≡ saturate_signed w64 (pixels *ℤ pos 10) }
+        ensures { result ≡ whole pixels }
     {
         Pixels {
             tenths: pixels.saturating_mul(10),
@@ -33,7 +33,9 @@ impl Pixels {
     }
 
     /// Returns half of the length, towards zero.
-    pub const fn half(self) -> Pixels {
+    pub const fn half(self) -> Pixels
+        ensures { result ≡ half self }
+    {
         Pixels {
             tenths: self.tenths / 2,
         }
@@ -43,7 +45,7 @@ impl Pixels {
 impl Add for Pixels {
     type Output = Pixels;
 
-    ghost add_gives = { λ a b c. c.tenths ≡ saturate_signed w64 (a.tenths +ℤ b.tenths) };
+    ghost add_gives = { λ a b c. c ≡ plus a b };
 
     fn add(self, other: Pixels) -> Pixels {
         Pixels {
@@ -55,7 +57,7 @@ impl Add for Pixels {
 impl Sub for Pixels {
     type Output = Pixels;
 
-    ghost sub_gives = { λ a b c. c.tenths ≡ saturate_signed w64 (a.tenths -ℤ b.tenths) };
+    ghost sub_gives = { λ a b c. c ≡ minus a b };
 
     fn sub(self, other: Pixels) -> Pixels {
         Pixels {
@@ -67,7 +69,7 @@ impl Sub for Pixels {
 impl Mul<i64> for Pixels {
     type Output = Pixels;
 
-    ghost mul_gives = { λ a n c. c.tenths ≡ saturate_signed w64 (a.tenths *ℤ n) };
+    ghost mul_gives = { λ a n c. c ≡ times a n };
 
     fn mul(self, times: i64) -> Pixels {
         Pixels {

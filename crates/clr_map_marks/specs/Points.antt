@@ -1,0 +1,86 @@
+-- The marks of points that designs add, change and remove.
+use Rattle.std.specs.Prelude.{pos, ℕ, Bool, true, false, ◌||◌, List, count_by, Option, Some, None, if◌then◌else◌}
+use Rattle.std.specs.FinMap as finite
+use Rattle.clr_rows.specs.declared.cells.Change.{Change}
+use Rattle.clr_rows.specs.declared.places.Place.{Place}
+use Rattle.clr_rows.specs.declared.places.Shape.{Shape}
+use Rattle.clr_rows.specs.declared.places.Shape.TheVariants.{Bare, At, Line, Chain}
+use Rattle.clr_rows.specs.declared.rows.Row.{Row}
+use Rattle.clr_rows.specs.Contents.{Changes}
+use Rattle.clr_rows.specs.Same.{same_place}
+use Rattle.clr_svg.specs.declared.colours.Colour.{Colour}
+use Rattle.clr_svg.specs.declared.elements.Element.{Element}
+use Rattle.clr_svg.specs.declared.elements.Spot.{Spot}
+use Rattle.clr_svg.specs.declared.inks.Ink.{Ink}
+use Rattle.clr_svg.specs.declared.pixels.Pixels.{Pixels}
+use Rattle.clr_svg.specs.Inks.{dashed_ink, drawn_ink, filled_ink, ink_over}
+use Rattle.clr_svg.specs.Lengths.{length_of}
+use Rattle.clr_drawing.specs.declared.details.Detail.{Detail}
+use Rattle.clr_drawing.specs.declared.signs.Sign.{Sign}
+use Rattle.clr_drawing.specs.Details.{is_fine}
+use Rattle.clr_drawing.specs.Palette.{rgb}
+use Rattle.clr_drawing.specs.Signs.{DrawsCross, IsSign, hundredths}
+use Rattle.clr_drawing.specs.Sketches.{Draws}
+use Rattle.clr_map_marks.specs.declared.point_marks.Deed.{Deed}
+use Rattle.clr_map_marks.specs.declared.point_marks.Deed.TheVariants as deed
+
+abbrev pub paper : Colour
+paper = rgb 255 255 255
+
+-- the colour of the map
+abbrev pub map_colour : Colour
+map_colour = rgb 251 250 246
+
+-- drawn by dashes over the map
+abbrev pub gone_ink : Colour → Ink
+gone_ink colour = dashed_ink (ink_over (drawn_ink colour (length_of (pos 17))) map_colour) (length_of (pos 25)) (length_of (pos 20))
+
+-- the sign of a point that comes is full, of one that changes hollow, and of one that goes or moves away it has dashes
+abbrev pub ink_of : Deed → Colour → Ink
+ink_of deed.Goes colour = gone_ink colour
+ink_of deed.Leaves colour = gone_ink colour
+ink_of deed.Comes colour = ink_over (drawn_ink paper (length_of (pos 15))) colour
+ink_of deed.Changes colour = ink_over (drawn_ink colour (length_of (pos 26))) paper
+
+abbrev pub small_gone_ink : Colour → Ink
+small_gone_ink colour = dashed_ink (ink_over (drawn_ink colour (length_of (pos 12))) map_colour) (length_of (pos 20)) (length_of (pos 15))
+
+-- the same of a small sign
+abbrev pub small_ink_of : Deed → Colour → Ink
+small_ink_of deed.Goes colour = small_gone_ink colour
+small_ink_of deed.Leaves colour = small_gone_ink colour
+small_ink_of deed.Comes colour = filled_ink colour
+small_ink_of deed.Changes colour = ink_over (drawn_ink colour (length_of (pos 12))) paper
+
+abbrev pub DrawsSign : Deed → Sign → Spot → Pixels → Colour → List Element → List Element → Type 0
+DrawsSign deed sign spot radius colour old new = Draws (IsSign sign spot radius (ink_of deed colour)) old new
+
+-- a point that goes has a cross over its sign
+abbrev pub DrawsMark : Deed → Sign → Spot → Pixels → Colour → List Element → List Element → Type 0
+DrawsMark deed.Goes sign spot radius colour old new =
+    (drawn : List Element) × DrawsSign deed.Goes sign spot radius colour old drawn × DrawsCross spot (hundredths radius (pos 62)) colour paper drawn new
+DrawsMark deed.Leaves sign spot radius colour old new = DrawsSign deed.Leaves sign spot radius colour old new
+DrawsMark deed.Comes sign spot radius colour old new = DrawsSign deed.Comes sign spot radius colour old new
+DrawsMark deed.Changes sign spot radius colour old new = DrawsSign deed.Changes sign spot radius colour old new
+
+abbrev pub is_at_place : Shape → Place → Bool
+is_at_place Bare place = false
+is_at_place (At p) place = same_place p place
+is_at_place (Line p q) place = false
+is_at_place (Chain vertices) place = false
+
+-- a row is a point at a place
+abbrev pub stands_at : Option Row → Place → Bool
+stands_at None place = false
+stands_at (Some row) place = is_at_place row.shape place
+
+-- a change has a point at a place, before or after
+abbrev pub is_at : Change → Place → Bool
+is_at e place = stands_at e.before place || stands_at e.after place
+
+abbrev pub count_at : Changes → Place → ℕ
+count_at set place = count_by (λ e. is_at e.1 place) (finite.entries set)
+
+-- how large the signs of designs are
+abbrev pub mark_radius : Detail → Pixels
+mark_radius detail = if is_fine detail then length_of (pos 66) else length_of (pos 27)
