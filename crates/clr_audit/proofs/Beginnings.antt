@@ -1,6 +1,5 @@
 -- Lists to which the first of some elements were added.
 use Rattle.std.proofs.Common.{◌≡◌, ◌∙◌, ℕ, Bool, true, false, cond, List, [], ◌∷◌, ◌++◌, append-nil, append_assoc, ap, drop, refl, sym, take}
-use Rattle.std.specs.Prelude.{Result, Ok, Err, OnErr}
 use Rattle.std.specs.List.{flat_map}
 use Rattle.std.proofs.lemmas.Grind.{flat_map-append}
 use Rattle.std.proofs.lemmas.List.{take-append-drop}
@@ -12,11 +11,6 @@ use Rattle.clr_rows.specs.Beginnings.{IsBegun}
 use Rattle.clr_rows.proofs.BeginningLaws.{all_begun, none_begun, some_begun, then_begun}
 use Rattle.clr_spot_maps.specs.Filing.{near}
 use Rattle.clr_audit.specs.RoleFiling.{partners}
-
--- what holds, holds after an error
-pub on_err : {T E P : Type 0} (r : Result T E) → P → OnErr r P
-on_err (Ok x) p = tt
-on_err (Err e) p = p
 
 module _ {X : Type 0} where
   -- one element was added, if there is to be one

@@ -18,6 +18,7 @@ use Rattle.clr_rows.proofs.CellOrder.{cell_cmp_total}
 use Rattle.clr_rules.specs.declared.needs.Broken.{Broken}
 use Rattle.clr_rules.specs.declared.rules.Rule.{Rule}
 use Rattle.clr_rules.specs.Needs.{IsBroken, IsFirstBroken, ask_of, broken_cmp, broken_needs, rows_in}
+use Rattle.clr_rules.proofs.AskLemmas.{less_number}
 use Rattle.clr_rules.proofs.BrokenOrder.{broken_exact, broken_total}
 use Rattle.clr_rules.proofs.BrokenLemmas.{lists_broken}
 use Rattle.clr_rules.proofs.Elements.{Among, among, among_either, contained, each_of}
@@ -30,17 +31,9 @@ use Rattle.clr_audit.proofs.Gaining.{gains_more}
 first_differs : (x y : Ordering) → x ≡ Less → ordering_then x y ≡ Less
 first_differs x y e = ap (λ o. ordering_then o y) e
 
-less_is : (x y : ℕ) → x < y → nat_cmp x y ≡ Less
-less_is x y less = go (nat_cmp x y) refl
-  where
-    go : (r : Ordering) → r ≡ nat_cmp x y → nat_cmp x y ≡ Less
-    go Less e = sym e
-    go Equal e = absurd (omega (arith, less, ranked x y Equal e))
-    go Greater e = absurd (omega (arith, less, ranked x y Greater e))
-
 lower_rule : (m c : Broken) → m.rule < c.rule → is_gt (broken_cmp m c) ≡ false
 unfolding broken_cmp
-lower_rule m c less = ap is_gt (first_differs _ _ (less_is m.rule c.rule less))
+lower_rule m c less = ap is_gt (first_differs _ _ (less_number m.rule c.rule less))
 
 -- how needs of one rule are ordered, and those of one first cell
 abbrev by_others : Broken → Broken → Ordering

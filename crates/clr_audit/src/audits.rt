@@ -44,8 +44,7 @@ fn add_of_rule(
         rows,
         index: &index,
     };
-    search.add_all(alloc, list)?;
-    Ok(())
+    search.add_all(alloc, list)
 }
 
 /// Returns the broken needs of a content, each once, ascending by rule, first cell, second cell,

@@ -9,7 +9,7 @@ const FEW: usize = 32;
 /// More answers than are known of a call.
 const MOST_ANSWERS: usize = 100;
 
-/// How many budgets are too small for a call, the first of which is no memory, and each so many bytes more than the one before;
+/// Returns how many budgets are too small for a call, the first of which is no memory, and each so many bytes more than the one before;
 /// none where it is answered wrongly at one of them, which is told by none, or isn't done at any.
 pub fn refusals<F: FnMut(usize) -> Option<bool>>(
     step: usize,
@@ -25,7 +25,7 @@ pub fn refusals<F: FnMut(usize) -> Option<bool>>(
     None
 }
 
-/// Whether a call is done at each of a few budgets, the first of which is no memory.
+/// Returns whether a call is done at each of a few budgets, the first of which is no memory.
 pub fn needs_no_memory<F: FnMut(usize) -> Option<bool>>(step: usize, mut is_done_within: F) -> bool
     requires callable { F.IsAlwaysCallable is_done_within }
 {
@@ -37,7 +37,7 @@ pub fn needs_no_memory<F: FnMut(usize) -> Option<bool>>(step: usize, mut is_done
     true
 }
 
-/// Whether lines are the last of the answers that are known, each ended by a line `--`; none where they aren't known.
+/// Returns whether lines are the last of the answers that are known, each ended by a line `--`; none where they aren't known.
 pub fn is_last(answers: &str, found: &[u8]) -> Option<bool> {
     let mut rest = answers;
     for _ in 0..MOST_ANSWERS {

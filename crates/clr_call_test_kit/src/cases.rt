@@ -4,14 +4,14 @@
 /// More cases than a text has.
 const MOST: usize = 100;
 
-/// The setting of the first case, its other parts, and the cases behind it.
+/// Returns the setting of the first case, its other parts, and the cases behind it.
 fn first_case(cases: &str) -> Option<(&str, &str, &str)> {
     let (case, others) = cases.split_once("====\n")?;
     let (setting, rest) = case.split_once("----\n")?;
     Some((setting, rest, others))
 }
 
-/// The position of the first case that isn't so, where this tells it by a setting and the parts behind it; none where each is so.
+/// Returns the position of the first case that isn't so, where this tells it by a setting and the parts behind it; none where each is so.
 pub fn first_wrong<F: FnMut(&str, &str) -> bool>(cases: &str, mut is_so: F) -> Option<usize>
     requires callable { F.IsAlwaysCallable is_so }
 {

@@ -1,3 +1,4 @@
+//! Dice for tests.
 ghost use Rattle.std.specs.Prelude.{◌<◌};
 
 /// Throws of dice, the same ones from the same seed.
@@ -7,12 +8,12 @@ pub struct Dice {
 }
 
 impl Dice {
-    /// Dice of a seed.
+    /// Returns the dice of a seed.
     pub fn new(seed: u64) -> Dice {
         Dice { state: seed }
     }
 
-    /// A number below the count of sides.
+    /// Returns a number below the count of sides.
     pub fn throw(&mut self, sides: u64) -> u64
         requires sides { 0 < sides }
         ensures below { result < sides }

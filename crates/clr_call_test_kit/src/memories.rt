@@ -15,7 +15,7 @@ pub enum Memory {
     Hoarded(Hoard),
 }
 
-/// What a call answers within more and more bytes, once it isn't refused. It fails where it never
+/// Returns what a call answers within more and more bytes, once it isn't refused. It fails where it never
 /// was, or always is.
 fn answer_after_refusals<T: Drop, C: Fn() -> Result<T, AllocError>>(
     hoard: &mut Hoard,
@@ -38,7 +38,7 @@ fn answer_after_refusals<T: Drop, C: Fn() -> Result<T, AllocError>>(
 }
 
 impl Memory {
-    /// What a call answers. It fails for want of memory, and where too little of it isn't refused.
+    /// Returns what a call answers. It fails for want of memory, and where too little of it isn't refused.
     pub fn answer<T: Drop, C: Fn() -> Result<T, AllocError>>(
         &mut self,
         call: C,

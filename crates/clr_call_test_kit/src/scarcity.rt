@@ -7,7 +7,7 @@ use std::alloc::{AllocError, Global};
 
 /// What is asked in a case.
 pub trait Scarce {
-    /// Whether the other parts of a case are answered rightly behind its setting, with so many bytes of memory: false where memory is
+    /// Returns whether the other parts of a case are answered rightly behind its setting, with so many bytes of memory: false where memory is
     /// wanting, and none where they are answered wrongly.
     fn is_right_within(
         &self,
@@ -35,7 +35,7 @@ fn first_wrong_of<S: Scarce>(
     })
 }
 
-/// The position of the first case that isn't right at each budget, or takes no memory; none where each is right and takes some. Budgets
+/// Returns the position of the first case that isn't right at each budget, or takes no memory; none where each is right and takes some. Budgets
 /// are so many bytes apart.
 pub fn first_wrong_while_scarce<S: Scarce>(
     alloc: Global,
@@ -62,7 +62,7 @@ fn first_taking_memory<S: Scarce>(
     })
 }
 
-/// The position of the first case that takes memory, or isn't right; none where each is right without any.
+/// Returns the position of the first case that takes memory, or isn't right; none where each is right without any.
 pub fn first_with_memory<S: Scarce>(
     alloc: Global,
     asked: &S,

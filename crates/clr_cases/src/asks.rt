@@ -20,7 +20,7 @@ use clr_engine::Office;
 use clr_office_test_kit::replies_to;
 use std::alloc::Global;
 
-/// The lines that a case is answered in its office, whose text is given too; none where nothing can be asked by its words, or it
+/// Returns the lines that a case is answered in its office, whose text is given too; none where nothing can be asked by its words, or it
 /// is not so.
 pub fn answer(alloc: Global, office: &mut Office, text: &str, case: &Case<'_>) -> Option<Vec<u8>> {
     let asked = case.ask.text;

@@ -46,12 +46,12 @@ fn office_text(part: &str) -> OfficeText<'_> {
     }
 }
 
-/// The first line, and the lines behind it.
+/// Returns the first line, and the lines behind it.
 fn first_line(text: &str) -> (&str, &str) {
     text.split_once("\n").unwrap_or((text, ""))
 }
 
-/// The text of an office, and a script, which stand before what is asked.
+/// Returns the text of an office, and a script, which stand before what is asked.
 fn setting_of(text: &str) -> Option<(OfficeText<'_>, &str)> {
     if text.is_empty() {
         return Some((OfficeText::None, ""));
@@ -60,7 +60,7 @@ fn setting_of(text: &str) -> Option<(OfficeText<'_>, &str)> {
     Some((office_text(office), script))
 }
 
-/// The case that stands behind its `== case `; none where a part is missing.
+/// Returns the case that stands behind its `== case `; none where a part is missing.
 pub fn case_of(text: &str) -> Option<Case<'_>> {
     let (before, rest) = text.split_once("== ask ")?;
     let (ask, rest) = rest.split_once("== lines\n")?;

@@ -6,14 +6,14 @@ use clr_engine::Office;
 use clr_office_test_kit::{certificate_of, line_of};
 use std::alloc::Global;
 
-/// The line of the verdict on the certificate of a text.
+/// Returns the line of the verdict on the certificate of a text.
 pub fn check_line(alloc: Global, office: &Office, text: &str) -> Option<Vec<u8>> {
     let certificate = certificate_of(alloc, office.schema(), text)?;
     let verdict = check(alloc, office, &certificate);
     line_of(alloc, office.schema(), &certificate, &verdict)
 }
 
-/// With which fault the text of a certificate is read, and at which record.
+/// Returns with which fault the text of a certificate is read, and at which record.
 pub fn fault_line(alloc: Global, office: &Office, text: &str) -> Option<Vec<u8>> {
     let (number, fault) = read_certificate(alloc, office.schema(), text.as_bytes()).err()?;
     let line = format!(in alloc; "{fault:?} at {number}\n").ok()?;

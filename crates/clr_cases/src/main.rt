@@ -28,13 +28,13 @@ struct Counts {
     differ: u32,
 }
 
-/// The lines that a case is answered over the text of its office; none where its script isn't done, or it can't be asked.
+/// Returns the lines that a case is answered over the text of its office; none where its script isn't done, or it can't be asked.
 fn lines_over(alloc: Global, text: &str, case: &Case<'_>) -> Option<Vec<u8>> {
     let mut office = office_after(alloc, text, case.script)?;
     answer(alloc, &mut office, text, case)
 }
 
-/// The lines that a case is answered.
+/// Returns the lines that a case is answered.
 fn lines_of(rt: &HostRuntime, case: &Case<'_>) -> IoResult<Option<Vec<u8>>> {
     match case.office {
         OfficeText::None => Ok(answer_alone(rt.alloc(), case.ask.words, case.ask.text)),

@@ -8,7 +8,7 @@ use clr_plan::{Plan, plan};
 use clr_verdict_lines::verdict_line;
 use std::alloc::Global;
 
-/// Whether two certificates name the same root and members and have the same entries.
+/// Returns whether two certificates name the same root and members and have the same entries.
 fn are_same(one: &Certificate, other: &Certificate) -> bool {
     let names = one.members.as_slice();
     let others = other.members.as_slice();
@@ -21,7 +21,7 @@ fn are_same(one: &Certificate, other: &Certificate) -> bool {
         && one.entries.as_slice() == other.entries.as_slice()
 }
 
-/// `cleared` where a certificate is clear, and that of a text.
+/// Returns `cleared` where a certificate is clear, and that of a text.
 fn cleared_line(
     alloc: Global,
     office: &Office,
@@ -38,7 +38,7 @@ fn cleared_line(
     Vec::from_slice(alloc, line.as_bytes()).ok()
 }
 
-/// `blocked`, the members of an order, and the line of the cause.
+/// Returns `blocked`, the members of an order, and the line of the cause.
 fn blocked_lines(
     alloc: Global,
     order: &[usize],
@@ -57,7 +57,7 @@ fn blocked_lines(
     Some(lines)
 }
 
-/// What is planned for a root and members, whose names stand in a line, where the text is that of the certificate.
+/// Returns what is planned for a root and members, whose names stand in a line, where the text is that of the certificate.
 pub fn plan_lines(alloc: Global, office: &Office, names: &str, text: &str) -> Option<Vec<u8>> {
     let (root, members) = members_of(alloc, names)?;
     let members = members.as_slice();

@@ -7,12 +7,12 @@ use clr_rows::{Sheet, Words};
 use clr_scripts::Word;
 use std::alloc::Global;
 
-/// What is answered where there is no workspace of a name.
+/// Returns what is answered where there is no workspace of a name.
 fn unknown(alloc: Global) -> Option<Vec<u8>> {
     Vec::from_slice(alloc, b"unknown\n").ok()
 }
 
-/// Whether each of these rows of LIVE or a workspace is read at its cell.
+/// Returns whether each of these rows of LIVE or a workspace is read at its cell.
 fn are_read(office: &Office, name: &str, rows: &Sheet) -> bool {
     rows.iter().all(|(cell, row)| match office.read(name, *cell) {
         Some(found) => found.same(row),
@@ -20,7 +20,7 @@ fn are_read(office: &Office, name: &str, rows: &Sheet) -> bool {
     })
 }
 
-/// The rows of LIVE or a workspace.
+/// Returns the rows of LIVE or a workspace.
 fn rows_of(alloc: Global, office: &Office, name: &str) -> Option<Vec<u8>> {
     match office.rows(name).ok()? {
         Some(rows) if are_read(office, name, &rows) => {
@@ -31,7 +31,7 @@ fn rows_of(alloc: Global, office: &Office, name: &str) -> Option<Vec<u8>> {
     }
 }
 
-/// What a workspace changed.
+/// Returns what a workspace changed.
 fn changes_of(alloc: Global, office: &Office, name: &str) -> Option<Vec<u8>> {
     match office.changes(name).ok()? {
         Some(changes) => changes_lines(alloc, office.schema(), &changes).ok(),
@@ -39,7 +39,7 @@ fn changes_of(alloc: Global, office: &Office, name: &str) -> Option<Vec<u8>> {
     }
 }
 
-/// The cells of a workspace that are in conflict.
+/// Returns the cells of a workspace that are in conflict.
 fn conflicts_of(alloc: Global, office: &Office, name: &str) -> Option<Vec<u8>> {
     match office.conflicts(name).ok()? {
         Some(cells) => conflicts_lines(alloc, office.schema(), cells.as_slice()).ok(),
@@ -47,7 +47,7 @@ fn conflicts_of(alloc: Global, office: &Office, name: &str) -> Option<Vec<u8>> {
     }
 }
 
-/// LIVE or a workspace: its name, its parent, how many entries are stored, and whether it is kept.
+/// Returns what is told of LIVE or a workspace: its name, its parent, how many entries are stored, and whether it is kept.
 fn workspace_line(alloc: Global, office: &Office, name: &str) -> Option<String> {
     let parent = office.parent_of(name).unwrap_or("nothing");
     let stored = office.stored(name)?;
@@ -55,7 +55,7 @@ fn workspace_line(alloc: Global, office: &Office, name: &str) -> Option<String> 
     format!(in alloc; "{name} under {parent}, {stored} stored{flag}\n").ok()
 }
 
-/// A line for each position, LIVE's being the first.
+/// Returns a line for each position, LIVE's being the first.
 fn workspace_lines(alloc: Global, office: &Office) -> Option<Vec<u8>> {
     let mut lines = Vec::new(alloc);
     for position in 0..office.len() {
@@ -68,7 +68,7 @@ fn workspace_lines(alloc: Global, office: &Office) -> Option<Vec<u8>> {
     }
 }
 
-/// What LIVE or a workspace has.
+/// Returns what LIVE or a workspace has.
 fn lines_of(alloc: Global, office: &Office, word: Word, name: &str) -> Option<Vec<u8>> {
     match word {
         Word::Show => rows_of(alloc, office, name),
@@ -78,7 +78,7 @@ fn lines_of(alloc: Global, office: &Office, word: Word, name: &str) -> Option<Ve
     }
 }
 
-/// What the whole office has.
+/// Returns what the whole office has.
 fn whole_lines(alloc: Global, office: &Office, word: Word) -> Option<Vec<u8>> {
     match word {
         Word::Workspaces => workspace_lines(alloc, office),

@@ -7,7 +7,7 @@ use clr_office_test_kit::{certificate_of, office_of, replies_to, rows_of, run_un
 use clr_office_writer::write_office;
 use std::alloc::Global;
 
-/// What commands are answered under the certificate of a text, or the line of its verdict, and the rows of the root after them.
+/// Returns what commands are answered under the certificate of a text, or the line of its verdict, and the rows of the root after them.
 fn run_with_rows(
     alloc: Global,
     office: &mut Office,
@@ -21,13 +21,13 @@ fn run_with_rows(
     Some(lines)
 }
 
-/// Whether the text of a certificate clears its members.
+/// Returns whether the text of a certificate clears its members.
 fn is_clear(alloc: Global, office: &Office, text: &str) -> Option<bool> {
     let certificate = certificate_of(alloc, office.schema(), text)?;
     Some(check(alloc, office, &certificate) == Verdict::Clear)
 }
 
-/// What commands are answered all at once, where a certificate is clear, and the rows of LIVE after them.
+/// Returns what commands are answered all at once, where a certificate is clear, and the rows of LIVE after them.
 fn replies_where_clear(
     alloc: Global,
     office: &mut Office,
@@ -43,20 +43,20 @@ fn replies_where_clear(
     Some(lines)
 }
 
-/// What commands are answered under a certificate, which stands before them and a line `--`, and the rows of the root after them.
+/// Returns what commands are answered under a certificate, which stands before them and a line `--`, and the rows of the root after them.
 pub fn cleared_lines(alloc: Global, office: &mut Office, asked: &str) -> Option<Vec<u8>> {
     let (certificate, commands) = asked.split_once("--\n")?;
     run_with_rows(alloc, office, certificate, commands)
 }
 
-/// What commands are answered all at once, where the certificate before them and a line `--` is clear, and the rows of LIVE
+/// Returns what commands are answered all at once, where the certificate before them and a line `--` is clear, and the rows of LIVE
 /// after them.
 pub fn lines_where_clear(alloc: Global, office: &mut Office, asked: &str) -> Option<Vec<u8>> {
     let (certificate, commands) = asked.split_once("--\n")?;
     replies_where_clear(alloc, office, certificate, commands)
 }
 
-/// What commands are answered under a certificate, in the office of a text and of the script before, where they leave the office
+/// Returns what commands are answered under a certificate, in the office of a text and of the script before, where they leave the office
 /// of another text. Certificate, commands and that text are parted by lines `--`; without it the office stays as it was.
 pub fn lines_with_office(
     alloc: Global,

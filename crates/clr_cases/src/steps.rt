@@ -28,7 +28,7 @@ impl Answers {
     }
 }
 
-/// What a step is answered.
+/// Returns what a step is answered.
 fn step_lines(alloc: Global, office: &mut Office, step: &Step) -> Option<Vec<u8>> {
     match step {
         Step::Act(command) => {
@@ -53,7 +53,7 @@ fn answer_steps(
     add_picture(&mut answers.commands, alloc, office)
 }
 
-/// What a script is answered, step by step.
+/// Returns what a script is answered, step by step.
 fn step_by_step(alloc: Global, office: &mut Office, script: &str) -> Option<Answers> {
     let steps = steps_of(alloc, office, script)?;
     let mut answers = Answers {
@@ -64,7 +64,7 @@ fn step_by_step(alloc: Global, office: &mut Office, script: &str) -> Option<Answ
     Some(answers)
 }
 
-/// What the commands of a script are answered all at once, in the office of a text and of the script before, with all that the
+/// Returns what the commands of a script are answered all at once, in the office of a text and of the script before, with all that the
 /// office has after them.
 fn at_once(alloc: Global, before: (&str, &str), script: &str) -> Option<Vec<u8>> {
     let mut office = office_after(alloc, before.0, before.1)?;
@@ -73,7 +73,7 @@ fn at_once(alloc: Global, before: (&str, &str), script: &str) -> Option<Vec<u8>>
     Some(lines)
 }
 
-/// What a script is answered in the office of a text and of the script before; none where its commands are answered otherwise all
+/// Returns what a script is answered in the office of a text and of the script before; none where its commands are answered otherwise all
 /// at once.
 pub fn script_lines(
     alloc: Global,

@@ -3,7 +3,7 @@
 use clr_tree_test_kit::{counts_after, news_after};
 use std::alloc::Global;
 
-/// What is asked about no office by these words; none where nothing can be asked by them.
+/// Returns what is asked about no office by these words; none where nothing can be asked by them.
 pub fn answer_alone(alloc: Global, words: &str, asked: &str) -> Option<Vec<u8>> {
     let mut text = match words {
         "deeds" => news_after(alloc, asked).ok()?,

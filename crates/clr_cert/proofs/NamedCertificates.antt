@@ -7,6 +7,7 @@ use Rattle.std.specs.Option.{is_none, option_and_then}
 use Rattle.std.specs.Str.{bytes_eq}
 use Rattle.std.proofs.lemmas.Bool.Decides.{nat_tests}
 use Rattle.std.proofs.lemmas.Option.{same_Some}
+use Rattle.std.proofs.lemmas.Result.{IfOk-at_ok}
 use Rattle.clr_rows.specs.declared.cells.CellId.{CellId}
 use Rattle.clr_rows.specs.declared.faults.RowFault.{RowFault}
 use Rattle.clr_rows.specs.declared.tables.TableDef.{TableDef}
@@ -263,17 +264,14 @@ then_ok : {A B E G : Type 0} (one : Result A E) (next : A → Result B E) (y : B
 then_ok (Ok x) next y so e = so x refl e
 then_ok (Err fault) next y so e = absurd cc
 
-same_ok : {A E : Type 0} (x y : A) → ◌≡◌ {A = Result A E} (Ok x) (Ok y) → x ≡ y
-same_ok x y e = cc
-
 from_named : (tables : List TableDef) (rooted : Bool) (n : ℕ) (rows : List (List (List ℕ))) (c : Certificate) → certificate_from tables rooted n rows ≡ Ok c
     → IsWellFormed tables c
 unfolding certificate_from
-from_named tables rooted n [] c e = subst (IsWellFormed tables) (same_ok nothing_said c e) (nothing_named tables)
+from_named tables rooted n [] c e = IfOk-at_ok (IsWellFormed tables) e (nothing_named tables)
 from_named tables rooted n (fields ∷ rest) c e =
     then_ok (at_record n (item_of tables rooted fields)) _ c (λ item e1 f1.
     then_ok (certificate_from tables (rooted || is_root_item item) (n + 1) rest) _ c (λ others e2 f2.
-    subst (IsWellFormed tables) (same_ok (with_item item others) c f2)
+    IfOk-at_ok (IsWellFormed tables) f2
     (with_named tables item others (item_named tables rooted fields item (numbered_ok n (item_of tables rooted fields) item e1)) (from_named tables (rooted
     || is_root_item item) (n + 1) rest others e2)))
     f1)

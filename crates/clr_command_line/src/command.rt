@@ -1,7 +1,7 @@
 //! The command line, as it is described to `clap`.
 
-ghost use Rattle.std.specs.Prelude.{◌≡◌, codes, false, IfOk};
-ghost use Rattle.clap.specs.Words.{app_of, with_rule};
+ghost use Rattle.std.specs.Prelude.{◌≡◌, codes, false, IfOk, IsOkAnd};
+ghost use Rattle.clap.specs.Words.{app_of, with_rule, with_subcommand};
 ghost use Rattle.clap.specs.declared.builder.command.Command.TheViews.{out-Command as fields_of};
 ghost use Rattle.clr_command_line.specs.Program.{audit, check, demanding, merge, plan, plan_under, program, reporting, run, value};
 
@@ -163,15 +163,28 @@ fn start<'a>(alloc: Global) -> Command<'a>
         .subcommand_required(true)
 }
 
+/// Returns the command with one more subcommand, where there was memory to make that.
+fn add_made<'a>(
+    command: Command<'a>,
+    made: Result<Command<'a>, AllocError>,
+) -> Result<Command<'a>, AllocError>
+    requires command { (fields_of command).has_globals ≡ false }
+    requires made { IfOk made (λ s. (fields_of s).has_globals ≡ false) }
+    ensures shape { IfOk result (λ c. IsOkAnd made.entry (λ s. app_of c ≡ with_subcommand (app_of command.entry) (app_of s).top)) }
+    ensures plain { IfOk result (λ c. (fields_of c).has_globals ≡ false) }
+{
+    add(command, made?)
+}
+
 /// Returns the command with the subcommands that print something and change nothing.
 fn with_reports<'a>(alloc: Global) -> Result<Command<'a>, AllocError>
     ensures shape { IfOk result (λ c. app_of c ≡ reporting) }
     ensures plain { IfOk result (λ c. (fields_of c).has_globals ≡ false) }
 {
-    let command = add(start(alloc), audit(alloc)?)?;
-    let command = add(command, run(alloc)?)?;
-    let command = add(command, plan(alloc)?)?;
-    add(command, plan_under(alloc)?)
+    let command = add_made(start(alloc), audit(alloc))?;
+    let command = add_made(command, run(alloc))?;
+    let command = add_made(command, plan(alloc))?;
+    add_made(command, plan_under(alloc))
 }
 
 /// Returns the whole command line.
@@ -179,6 +192,6 @@ pub fn whole_command<'a>(alloc: Global) -> Result<Command<'a>, AllocError>
     ensures { IfOk result (λ c. app_of c ≡ program) }
 {
     let command = with_reports(alloc)?;
-    let command = add(command, check(alloc)?)?;
-    add(command, merge(alloc)?)
+    let command = add_made(command, check(alloc))?;
+    add_made(command, merge(alloc))
 }

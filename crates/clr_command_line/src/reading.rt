@@ -33,19 +33,19 @@ fn ask_of_subcommand(
     requires { is_some (ask_by_name name.now (rows_of (found_of matches.now))) ≡ true }
     ensures { IfOk result (λ r. ask_by_name name.now (rows_of (found_of matches.now)) ≡ Some (r.0, r.1.items)) }
 {
-    let found = match name {
-        "audit" => (Ask::Audit, database(alloc, matches)?),
-        "run" => (Ask::Run, database_with(alloc, matches, "SCRIPT")?),
-        "plan" => (Ask::Plan(names(alloc, matches)?), database(alloc, matches)?),
-        "planunder" => (plan_under(alloc, matches)?, database(alloc, matches)?),
-        "check" => (Ask::Check, database_with(alloc, matches, "CERT")?),
+    let (ask, files) = match name {
+        "audit" => (Ask::Audit, database(alloc, matches)),
+        "run" => (Ask::Run, database_with(alloc, matches, "SCRIPT")),
+        "plan" => (Ask::Plan(names(alloc, matches)?), database(alloc, matches)),
+        "planunder" => (plan_under(alloc, matches)?, database(alloc, matches)),
+        "check" => (Ask::Check, database_with(alloc, matches, "CERT")),
         "merge" => (
             Ask::Merge(names(alloc, matches)?),
-            database_with(alloc, matches, "CERT")?,
+            database_with(alloc, matches, "CERT"),
         ),
         _ => unreachable!(),
     };
-    Ok(found)
+    Ok((ask, files?))
 }
 
 /// Returns what the words of a command line ask for, with the program's name first, and the names of

@@ -12,12 +12,12 @@ pub(crate) fn value(alloc: Global, matches: &ArgMatches, id: &str) -> Result<Wor
     ensures { IfOk result (λ text. text ≡ given_value id.now (rows_of (found_of matches.now))) }
 {
     match matches.get_str(id) {
-        Some(text) => Ok(Words::from_str(alloc, text)?),
+        Some(text) => Words::from_str(alloc, text),
         None => Ok(Words::new(String::new(alloc))),
     }
 }
 
-/// Texts as names of their own.
+/// Returns texts as names of their own.
 fn owned_names(alloc: Global, texts: &[&str]) -> Result<Names, AllocError>
     ensures { IfOk result (λ names. names ≡ map (λ text. text.now) texts.now) }
 {

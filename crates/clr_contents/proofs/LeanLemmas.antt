@@ -1,8 +1,7 @@
 -- Layers without neutral entries after a sweep.
-use Rattle.std.proofs.Common.{◌≡◌, ◌≢◌, ℕ, ◌<◌, Bool, true, false, nat_eq, ◌||◌, List, [], ◌∷◌, length, map, unwrap_or, refl, ap, sym, subst, ◌∙◌}
+use Rattle.std.proofs.Common.{◌≡◌, ◌≢◌, ℕ, ◌<◌, Bool, true, false, List, [], ◌∷◌, length, map, unwrap_or, refl, ap, sym, subst, ◌∙◌}
 use Rattle.std.specs.declared.option.Option.{Option}
 use Rattle.std.specs.FinMap as finite
-use Rattle.std.proofs.lemmas.Bool.{false≢true, eqb-false}
 use Rattle.clr_rows.specs.declared.cells.CellId.{CellId}
 use Rattle.clr_rows.specs.declared.rows.Row.{Row}
 use Rattle.clr_rows.specs.Cells.{cell_cmp}
@@ -19,17 +18,6 @@ use Rattle.clr_workspaces.specs.Roots.{IsRooted}
 use Rattle.clr_contents.specs.Lean.{content_of_parent, row_above, swept_marks, swept_marks_at, IsLeanAt, IsLeanBeside, IsLeanOver}
 use Rattle.clr_contents.proofs.ReadLemmas.{under_its_parent}
 use Rattle.clr_contents.proofs.SweepLemmas.{base_is}
-
--- two tests of which neither is passed
-pub neither : (b c : Bool) → (b || c) ≡ false → (b ≡ false) × (c ≡ false)
-neither true c e = absurd (false≢true (sym e))
-neither false c e = (refl, e)
-
-pub differ : (i j : ℕ) → nat_eq i j ≡ false → i ≢ j
-differ i j e = eqb-false i j e
-
-pub stranger : (b : Bool) → b ≡ false → b ≡ true → ⊥
-stranger b e h = false≢true (sym e ∙ h)
 
 -- marks --------------------------------------------------------------------------------------------
 

@@ -1,6 +1,7 @@
 -- What the two commands leave that make a design.
 use Rattle.std.proofs.Common.{◌≡◌, Bool, true, false, cond, not, List, [], ◌∷◌, ◌++◌, Option, Some, None, refl, sym, ap, subst, ◌∙◌}
 use Rattle.std.specs.Prelude.{◌||◌, is_some}
+use Rattle.std.proofs.lemmas.Bool.{or_parts}
 use Rattle.std.proofs.lemmas.Option.{none-some}
 use Rattle.clr_rows.specs.Contents.{Content}
 use Rattle.clr_rows.specs.Names.{is_good_name, live_name}
@@ -60,10 +61,6 @@ third_passed false true c d none = cc
 third_passed false false true d none = cc
 third_passed false false false d none = refl
 
-neither : (a b : Bool) → (a || b) ≡ false → (a ≡ false) × (b ≡ false)
-neither true b e = cc
-neither false b e = (refl, e)
-
 nothing : {A : Type 0} (x : Option A) → is_some x ≡ false → x ≡ None
 nothing None e = refl
 nothing (Some a) e = cc
@@ -75,11 +72,11 @@ module _ (o : Office) (name : Name) (may : design_refusal o name ≡ None) where
 
   not_live : is_live name ≡ false
   unfolding stands
-  not_live = (neither (is_live name) (is_some (find_name name o.workspaces)) free).0
+  not_live = (or_parts (is_live name) (is_some (find_name name o.workspaces)) free).0
 
   not_found : find_name name o.workspaces ≡ None
   unfolding stands
-  not_found = nothing (find_name name o.workspaces) (neither (is_live name) (is_some (find_name name o.workspaces)) free).1
+  not_found = nothing (find_name name o.workspaces) (or_parts (is_live name) (is_some (find_name name o.workspaces)) free).1
 
   -- the workspace, created ---------------------------------------------------------------------------
 

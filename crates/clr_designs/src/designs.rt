@@ -59,7 +59,7 @@ fn apply_edits(
 
 /// Makes a design: a workspace of this name under LIVE, whose base is LIVE's content and whose current content is this one. Returns why its
 /// workspace can't be created, if it can't: `BadName`, `NameTaken` or `TooMany`, in this order; then nothing changes. Nothing else is refused.
-/// Where it fails, which is for want of memory alone, nothing changes, or the workspace stands with LIVE's content.
+/// If memory runs out, nothing changes, or the workspace stands with LIVE's content.
 pub fn make_design(
     alloc: Global,
     office: &mut Office,
@@ -79,7 +79,7 @@ pub fn make_design(
 }
 
 /// Puts another content in place of LIVE's. Where it breaks a rule, `RuleBroken` with the least need that it breaks is returned, and nothing changes.
-/// Nothing else is refused. Where it fails, which is for want of memory alone, nothing changes.
+/// Nothing else is refused. If memory runs out, nothing changes.
 pub fn replace_live(
     alloc: Global,
     office: &mut Office,

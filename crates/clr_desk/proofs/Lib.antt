@@ -1,5 +1,4 @@
 mod ChildLemmas
 mod LineEnds
 mod Positions
-mod PlaceLemmas
 mod Trying

@@ -59,8 +59,7 @@ fn refusal_lines(
     Ok(lines)
 }
 
-/// Tries one more name with those taken. It fails for want of memory alone, also where the plan found
-/// none.
+/// Tries one more name with those taken. Where the plan has no memory, this call fails too.
 fn try_name(
     alloc: Global,
     office: &Office,

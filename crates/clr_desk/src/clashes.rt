@@ -32,8 +32,7 @@ fn found_print(
     Ok(Print::new(text, Vec::new(alloc), is_any, false))
 }
 
-/// Returns the test of names that fails, as the line of a plan that is unfit. It fails for want of memory alone,
-/// also where no memory was found for the sets.
+/// Returns the test of names that fails, as the line of a plan that is unfit. Where there was no memory for the sets, this call fails too.
 fn fault_print(
     alloc: Global,
     office: &Office,

@@ -27,7 +27,7 @@ fn run_print(alloc: Global, office: &Office, run: &ClearedRun) -> Result<Print, 
 /// Merges workspaces in the order of their names, as far as that is quiet for a certificate, where it is
 /// clear: the office that is left, and as notes a line for each merge that was performed and one that
 /// says where it stopped. Where the certificate isn't clear the verdict is the only note, and there is no
-/// text. It fails for want of memory, where none is found for the commands or for a line.
+/// text.
 fn merge_members(
     alloc: Global,
     office: &mut Office,

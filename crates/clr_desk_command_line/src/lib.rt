@@ -1,9 +1,9 @@
 //! What the words of the second program's command line ask for.
 //!
 //! - `ask_of` [`asks`, `takes`]: what is asked, and the files, are what `clap`'s definition of a
-//!   simple command finds in the words; where that takes the words, and each layer and the first key
-//!   can be read where a subcommand has them, they are refused for want of memory alone. Texts of help,
-//!   usage and refusals are tested only.
+//!   simple command finds in the words. Words that the command takes, in which each layer and the first
+//!   key can be read where a subcommand has them, are refused only where there is no memory. Texts of
+//!   help, usage and refusals are tested only.
 #![tactic(auto)]
 
 mod asks;

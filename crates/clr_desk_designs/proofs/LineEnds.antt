@@ -1,6 +1,7 @@
 -- An office text with a line end behind it is read as the same office.
 use Rattle.std.proofs.Common.{◌≡◌, ℕ, suc, ◌+◌, ◌-◌, ◌≤◌, Bool, true, false, cond, ◌&&◌, ◌||◌, ◌==◌, List, [], ◌∷◌, ◌++◌, length, take, drop, Option, Some}
 use Rattle.std.proofs.Common.{None, option_and_then, option_map, Result, Ok, Err, refl, sym, ap, ap₂, ◌∙◌, arith, length-append, nat_eq, nat_lt}
+use Rattle.std.proofs.Math.Bool.{and-false}
 use Rattle.std.specs.Cmp.Lexicographic.{pointwise}
 use Rattle.std.specs.List.{prefix_len}
 use Rattle.std.specs.Char.{encode_utf8, is_ascii_digit, is_digit}
@@ -28,15 +29,11 @@ use Rattle.clr_drafts.specs.Drafts.{draft_in, if_standing, whole_office}
 abbrev pub ended : List ℕ → List ℕ
 ended t = t ++ 10 ∷ []
 
-and_false : (b : Bool) → (b && false) ≡ false
-and_false true = refl
-and_false false = refl
-
 -- strings: what isn't closed before the line end isn't closed behind it ----------------------------------------------
 
 no_unit : (a b c : ℕ) → code_unit a b c 10 ≡ None
 unfolding code_unit
-no_unit a b c = rw (and_false (is_digit a 16 && is_digit b 16 && is_digit c 16)) refl
+no_unit a b c = rw (and-false (is_digit a 16 && is_digit b 16 && is_digit c 16)) refl
 
 content-ended : (w : Within) (t : List ℕ) → content w (ended t) ≡ content w t
 unfolding content short_escape

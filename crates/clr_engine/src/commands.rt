@@ -170,7 +170,7 @@ fn merge(judge: &Judge, tree: &mut Tree, finders: &mut Finders, at: usize, remov
     }
 }
 
-/// Whether a workspace changed a cell where its parent has another row than the one that it took
+/// Returns whether a workspace changed a cell where its parent has another row than the one that it took
 /// over.
 fn is_in_conflict(tree: &Tree, at: usize, above: usize, cell: CellId) -> bool
     requires child { 0 < at }
@@ -182,7 +182,7 @@ fn is_in_conflict(tree: &Tree, at: usize, above: usize, cell: CellId) -> bool
     !are_same(base, tree.read(at, cell)) && !are_same(tree.read(above, cell), base)
 }
 
-/// The row that a workspace has at a cell once it is resolved.
+/// Returns the row that a workspace has at a cell once it is resolved.
 #[tactic(auto, using(clr_kept_finders::proofs::Contents::set_same))]
 fn row_to_keep(tree: &Tree, at: usize, above: usize, cell: CellId, keep: Keep) -> Option<&Row>
     requires child { 0 < at }
@@ -256,7 +256,7 @@ fn hold(judge: &Judge, tree: &mut Tree, finders: &mut Finders, at: usize) -> Rep
     }
 }
 
-/// The name of the workspace that a command is on; for Create it is the parent's.
+/// Returns the name of the workspace that a command is on; for Create it is the parent's.
 fn name_in(command: &Command) -> &str
     ensures { result.now ≡ name_in command.now }
 {

@@ -8,7 +8,7 @@ use clr_rows::{CellId, RowView};
 use clr_tree::View;
 use std::alloc::{AllocError, Global};
 
-/// The changed cells where the parent's row isn't the row before the change, in the order of cells.
+/// Returns the changed cells where the parent's row isn't the row before the change, in the order of cells.
 pub(crate) fn conflicting_cells(
     alloc: Global,
     changes: &ChangeSet,

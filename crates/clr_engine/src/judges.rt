@@ -63,7 +63,7 @@ impl Judge {
         &self.book
     }
 
-    /// The least broken need of what a workspace has once changes are made in it, where the rules
+    /// Returns the least broken need of what a workspace has once changes are made in it, where the rules
     /// hold in it now. It is found among the needs that the changes touch, by the workspace's finder.
     fn first_broken_after(
         &self,
@@ -88,7 +88,7 @@ impl Judge {
         }
     }
 
-    /// The least broken need of a content.
+    /// Returns the least broken need of a content.
     #[tactic(auto, unfolding(clr_steps::specs::Refusals::first_broken))]
     fn first_broken_in(&self, rows: &Sheet) -> Result<Option<Broken>, AllocError>
         requires { FitsContent self.now rows.now }
@@ -97,7 +97,7 @@ impl Judge {
         first_broken(self.alloc, &self.book, rows)
     }
 
-    /// The least broken need of what a workspace has. LIVE isn't copied for it.
+    /// Returns the least broken need of what a workspace has. LIVE isn't copied for it.
     fn first_broken_now(&self, tree: &Tree, at: usize) -> Result<Option<Broken>, AllocError>
         requires within { at < length tree.now.list }
         requires fit { FitsContent self.now (workspace_at tree.now.list at).current }
@@ -293,7 +293,7 @@ impl Judge {
         Ok(None)
     }
 
-    /// The finder of a workspace, if the rules are to hold in it.
+    /// Returns the finder of a workspace, if the rules are to hold in it.
     fn finder_at(&self, tree: &Tree, at: usize) -> Result<Option<SpotIndex>, AllocError>
         requires within { at < length tree.now.list }
         requires fit { FitsContent self.now (workspace_at tree.now.list at).current }

@@ -23,7 +23,7 @@ fn add_fault(line: &mut Vec<u8>, draft: &Draft, fault: AdmitFault) -> Option<()>
     line.extend_from_slice(b"\n").ok()
 }
 
-/// What is said of a draft that is given back, and its rows of LIVE.
+/// Returns what is said of a draft that is given back, and its rows of LIVE.
 fn lines_of(alloc: Global, draft: &Draft, fault: AdmitFault) -> Option<Vec<u8>> {
     let mut lines = Vec::new(alloc);
     add_fault(&mut lines, draft, fault)?;
@@ -32,7 +32,7 @@ fn lines_of(alloc: Global, draft: &Draft, fault: AdmitFault) -> Option<Vec<u8>> 
     Some(lines)
 }
 
-/// The same, or no bytes where a draft is admitted.
+/// Returns the same, or no bytes where a draft is admitted.
 fn fault_lines(alloc: Global, draft: Draft) -> Option<Vec<u8>> {
     match draft.admit() {
         Ok(_) => Some(Vec::new(alloc)),
@@ -75,13 +75,13 @@ const DRAFTS: [(&str, &str, &str); 5] = [
     ),
 ];
 
-/// What is said of the draft of a text.
+/// Returns what is said of the draft of a text.
 fn lines_over(alloc: Global, live: &str, workspaces: &str) -> Option<Vec<u8>> {
     let text = text(alloc, live, workspaces).ok()?;
     fault_lines(alloc, read_office(alloc, text.as_bytes()).ok()?)
 }
 
-/// Whether this is said of the draft of a text.
+/// Returns whether this is said of the draft of a text.
 fn is_said(alloc: Global, (live, workspaces, lines): (&str, &str, &str)) -> bool {
     match lines_over(alloc, live, workspaces) {
         Some(found) => found.as_slice() == lines.as_bytes(),

@@ -29,7 +29,7 @@ fn words(alloc: Global, text: &str) -> Result<Words, AllocError> {
     Ok(Words::new(String::from_str(alloc, text)?))
 }
 
-/// The marks of children.
+/// Returns the marks of children.
 #[tactic(auto, using(crate::proofs::PartLemmas::one_more))]
 fn child_marks(alloc: Global, children: &[&str]) -> Result<Vec<MarkPart>, AllocError>
     ensures { IfOk result (λ marks. AllByRecursion SavesNoRows marks.items) }
@@ -41,7 +41,7 @@ fn child_marks(alloc: Global, children: &[&str]) -> Result<Vec<MarkPart>, AllocE
     Ok(marks)
 }
 
-/// The marks of children, and then savepoints without rows.
+/// Returns the marks of children, and then savepoints without rows.
 #[tactic(auto, using(crate::proofs::PartLemmas::one_more))]
 fn marks(alloc: Global, children: &[&str], saved: &[&str]) -> Result<Vec<MarkPart>, AllocError>
     ensures { IfOk result (λ marks. AllByRecursion SavesNoRows marks.items) }
@@ -77,7 +77,7 @@ fn parts(alloc: Global, outlines: &[Outline]) -> Result<Vec<Part>, AllocError>
     Ok(parts)
 }
 
-/// The draft of what was read and of parts without rows.
+/// Returns the draft of what was read and of parts without rows.
 fn build(alloc: Global, read: OfficeParts, parts: Vec<Part>) -> Result<Draft, (usize, PartFault)>
     requires fits { FitsOffice (office_read read) }
     requires bare { AllByRecursion HasNoRows parts.items }
@@ -85,7 +85,7 @@ fn build(alloc: Global, read: OfficeParts, parts: Vec<Part>) -> Result<Draft, (u
     Draft::build(alloc, read.schema, read.book, read.live, parts)
 }
 
-/// Which of some parts over one node can't stand, and why.
+/// Returns which of some parts over one node can't stand, and why.
 fn fault_of(alloc: Global, outlines: &[Outline]) -> Result<Option<(usize, PartFault)>, Fail> {
     let text = network("one node").ok_or("no network")?;
     let read = read_office(alloc, text.as_bytes())?;
@@ -196,7 +196,7 @@ base rows 0
 now rows 0
 ";
 
-/// All that the office of a draft has.
+/// Returns all that the office of a draft has.
 fn picture_of(alloc: Global, draft: Draft) -> Option<Vec<u8>> {
     match draft.admit() {
         Ok(office) => picture(alloc, &office),
@@ -204,7 +204,7 @@ fn picture_of(alloc: Global, draft: Draft) -> Option<Vec<u8>> {
     }
 }
 
-/// All that the office of two parts has.
+/// Returns all that the office of two parts has.
 fn picture_of_two(alloc: Global) -> Result<Option<Vec<u8>>, Fail> {
     let text = network("one node").ok_or("no network")?;
     let read = read_office(alloc, text.as_bytes())?;
@@ -221,7 +221,7 @@ fn parts_in_order(rt: HostRuntime) -> Result<(), Fail> {
     Ok(())
 }
 
-/// Whether two parts are built with so many bytes of memory; none where they are refused for another cause.
+/// Returns whether two parts are built with so many bytes of memory; none where they are refused for another cause.
 fn are_built_within(alloc: Global, hoard: &mut Hoard, budget: usize) -> Option<bool> {
     let read = read_office(alloc, network("one node")?.as_bytes()).ok()?;
     let parts = parts(alloc, &TWO).ok()?;
@@ -235,7 +235,7 @@ fn are_built_within(alloc: Global, hoard: &mut Hoard, budget: usize) -> Option<b
     }
 }
 
-/// How many budgets are too small for two parts; none where they are refused for another cause.
+/// Returns how many budgets are too small for two parts; none where they are refused for another cause.
 fn lost_builds(alloc: Global, hoard: &mut Hoard) -> Option<usize> {
     refusals(STEP, |budget| are_built_within(alloc, hoard, budget))
 }

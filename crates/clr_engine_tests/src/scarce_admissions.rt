@@ -30,7 +30,7 @@ saved s1 rows 1
 code,1,A
 ";
 
-/// An answer, where this is all that an office has; else none.
+/// Returns an answer, where this is all that an office has; else none.
 fn if_shown(alloc: Global, office: &Office, answer: bool) -> Option<bool> {
     let found = picture(alloc, office)?;
     if found.as_slice() == PICTURE.as_bytes() {
@@ -48,7 +48,7 @@ fn admit_again(alloc: Global, draft: Draft) -> Option<bool> {
     }
 }
 
-/// Whether a draft is admitted with the memory that is left, or again with enough; none where its
+/// Returns whether a draft is admitted with the memory that is left, or again with enough; none where its
 /// office has something else.
 fn is_admitted(alloc: Global, hoard: &mut Hoard, draft: Draft) -> Option<bool> {
     let admitted = draft.admit();
@@ -60,7 +60,7 @@ fn is_admitted(alloc: Global, hoard: &mut Hoard, draft: Draft) -> Option<bool> {
     }
 }
 
-/// The same with so many bytes of memory.
+/// Returns the same with so many bytes of memory.
 fn is_admitted_within(alloc: Global, hoard: &mut Hoard, budget: usize) -> Option<bool> {
     let draft = read_office(alloc, DRAFT.as_bytes()).ok()?;
     match hoard.leave(budget) {
@@ -69,7 +69,7 @@ fn is_admitted_within(alloc: Global, hoard: &mut Hoard, budget: usize) -> Option
     }
 }
 
-/// How many budgets are too small to admit the draft; none where its office has something else.
+/// Returns how many budgets are too small to admit the draft; none where its office has something else.
 fn lost_admissions(alloc: Global, hoard: &mut Hoard) -> Option<usize> {
     refusals(STEP, |budget| is_admitted_within(alloc, hoard, budget))
 }

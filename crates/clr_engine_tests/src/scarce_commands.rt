@@ -14,7 +14,7 @@ const STEP: usize = 16;
 /// A command.
 struct OneCommand;
 
-/// What a command is answered with so many bytes of memory.
+/// Returns what a command is answered with so many bytes of memory.
 fn reply_within(
     hoard: &mut Hoard,
     budget: usize,
@@ -27,7 +27,7 @@ fn reply_within(
     Some(reply)
 }
 
-/// Whether the command of a script is answered rightly in the first of two offices.
+/// Returns whether the command of a script is answered rightly in the first of two offices.
 fn is_right_in(
     alloc: Global,
     hoard: &mut Hoard,

@@ -15,7 +15,7 @@ const STEP: usize = 16;
 /// A list of commands.
 struct AllAtOnce;
 
-/// Whether commands for whose replies no memory was found left an office as another one is, and both answer the same when they are
+/// Returns whether commands for whose replies no memory was found left an office as another one is, and both answer the same when they are
 /// given again, and have the same text then; it is never true.
 fn is_right_again(
     alloc: Global,
@@ -34,7 +34,7 @@ fn is_right_again(
     }
 }
 
-/// Whether the commands of a script are answered rightly in the first of two offices.
+/// Returns whether the commands of a script are answered rightly in the first of two offices.
 fn is_right_in(
     alloc: Global,
     hoard: &mut Hoard,

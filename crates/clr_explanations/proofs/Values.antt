@@ -1,7 +1,7 @@
 -- What is told of a text by the value that it is, or where it is none.
-use Rattle.std.proofs.Common.{◌≡◌, ℕ, Bool, true, false, cond, List, Option, Some, None, refl, sym}
-use Rattle.std.proofs.lemmas.Str.{IsUtf8-from_is_utf8, is_utf8-from_IsUtf8}
-use Rattle.std.specs.Str.{IsUtf8, is_utf8}
+use Rattle.std.proofs.Common.{◌≡◌, ℕ, List, Option, Some, None, refl, sym}
+use Rattle.std.proofs.lemmas.Str.{is_utf8-from_IsUtf8}
+use Rattle.std.specs.Str.{IsUtf8}
 use Rattle.std.specs.Prelude.{MatchOption}
 use Rattle.serde_json.specs.Data.{Data}
 use Rattle.serde_json.specs.Read.{read}
@@ -33,11 +33,3 @@ place_of_no_value text e at s is found = whole_place at s (whole_of _ (value_in 
 pub value_is : (text : List ℕ) (d : Data) → IsUtf8 text → read text ≡ Some d → value_in text ≡ Some d
 unfolding value_in
 value_is text d utf8 is = rw (is_utf8-from_IsUtf8 text utf8, is) refl
-
-pub no_value : (text : List ℕ) → (IsUtf8 text → read text ≡ None) → value_in text ≡ None
-unfolding value_in
-no_value text none = by (is_utf8 text) refl
-  where
-    by : (test : Bool) → is_utf8 text ≡ test → cond test (read text) None ≡ None
-    by true is = none (IsUtf8-from_is_utf8 text is)
-    by false is = refl

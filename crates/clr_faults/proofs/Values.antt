@@ -14,7 +14,7 @@ pub found_in_value : (bytes : List ℕ) (d : Data) (e : TextFault) (spot : Spot)
 unfolding value_in
 found_in_value bytes d e spot utf8 is found = rw (is_utf8-from_IsUtf8 bytes utf8, is) found
 
-no_value : (bytes : List ℕ) → (IsUtf8 bytes → read bytes ≡ None) → value_in bytes ≡ None
+pub no_value : (bytes : List ℕ) → (IsUtf8 bytes → read bytes ≡ None) → value_in bytes ≡ None
 unfolding value_in
 no_value bytes none = by (is_utf8 bytes) refl
   where

@@ -64,7 +64,7 @@ const STEPS: [(Step, Drawn, &[Search]); 5] = [
     (Step::Take, THERE, &[(CROSSING, false, FAR, &[])]),
 ];
 
-/// Whether searches find just their cells after each step.
+/// Returns whether searches find just their cells after each step.
 fn follows_changes<F: RowFinder>(alloc: Global, finder: &mut F) -> Result<bool, Fail>
     requires { F.pending finder.old ≡ finite.empty }
 {

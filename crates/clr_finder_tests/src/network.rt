@@ -110,7 +110,7 @@ fn row_at(
 /// A row in a table of values: its table, key and number, and the ends of a main, or one place twice.
 pub(crate) type Drawn = (u16, i64, i64, [i64; 4]);
 
-/// The row of such a line.
+/// Returns the row of such a line.
 pub(crate) fn row_of(alloc: Global, drawn: Drawn) -> Result<RowAt, AllocError> {
     let (table, key, number, ends) = drawn;
     let from = Place {
@@ -200,7 +200,7 @@ impl Network {
         Ok(())
     }
 
-    /// The cells whose rows share a spot with a row under a rule, all or servers alone.
+    /// Returns the cells whose rows share a spot with a row under a rule, all or servers alone.
     fn search<F: RowFinder>(
         &self,
         finder: &F,
@@ -219,14 +219,14 @@ impl Network {
         }
     }
 
-    /// Whether a search finds just its cells.
+    /// Returns whether a search finds just its cells.
     fn finds<F: RowFinder>(&self, alloc: Global, finder: &F, search: Search) -> Result<bool, Fail> {
         let (rule, servers, drawn, cells) = search;
         let found = self.search(finder, rule, servers, &row_of(alloc, drawn)?)?;
         Ok(are_cells(found.as_slice(), cells))
     }
 
-    /// Whether each of some searches does.
+    /// Returns whether each of some searches does.
     pub(crate) fn finds_all<F: RowFinder>(
         &self,
         alloc: Global,
@@ -242,7 +242,7 @@ impl Network {
     }
 }
 
-/// Whether a list has these cells, by table and key, in this order.
+/// Returns whether a list has these cells, by table and key, in this order.
 pub(crate) fn are_cells(found: &[CellId], cells: &[(u16, i64)]) -> bool {
     if found.len() != cells.len() {
         return false;

@@ -71,7 +71,7 @@ const MAIN_1: &[(u16, i64)] = &[(MAIN, 1)];
 
 const MAIN_2: &[(u16, i64)] = &[(MAIN, 2)];
 
-/// Whether main 2 is found where it stands alone, and main 1 is found too.
+/// Returns whether main 2 is found where it stands alone, and main 1 is found too.
 fn is_found<F: RowFinder>(
     alloc: Global,
     network: &Network,
@@ -91,7 +91,7 @@ fn is_found<F: RowFinder>(
     network.finds_all(alloc, finder, &searches)
 }
 
-/// Whether main 2 is found as a long main once it was noted with memory, and as it stood while
+/// Returns whether main 2 is found as a long main once it was noted with memory, and as it stood while
 /// memory was wanting, as it is at first. Main 1 is found all the same.
 fn is_taken_over<F: RowFinder>(
     alloc: Global,
@@ -123,7 +123,7 @@ const LONG: Drawn = (MAIN, 2, 0, [0, 0, 3_000_000, 0]);
 
 const OTHER: Drawn = (MAIN, 1, 0, [0, -500_000, 10, -500_000]);
 
-/// The same of a finder without rows, where main 2 stands nowhere at first, or as a short main.
+/// Returns the same of a finder without rows, where main 2 stands nowhere at first, or as a short main.
 fn is_noted_whole<F: RowFinder>(
     alloc: Global,
     finder: &mut F,

@@ -21,7 +21,7 @@ enum Asked {
     Servers,
 }
 
-/// What is found for a row within this many bytes, or none for want of memory.
+/// Returns what is found for a row within this many bytes, or none for want of memory.
 fn find_within<F: RowFinder>(
     network: &Network,
     finder: &F,
@@ -43,7 +43,7 @@ fn find_within<F: RowFinder>(
     Ok(found.ok())
 }
 
-/// Whether just these cells are found once there is memory, and at first it is wanting.
+/// Returns whether just these cells are found once there is memory, and at first it is wanting.
 fn finds_or_refuses<F: RowFinder>(
     alloc: Global,
     finder: &mut F,

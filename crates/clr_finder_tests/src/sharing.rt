@@ -1,3 +1,4 @@
+//! Which rows a finder finds beside which.
 ghost use Rattle.std.specs.Prelude.{◌≡◌};
 ghost use Rattle.std.specs.FinMap as finite;
 
@@ -30,7 +31,7 @@ pub(crate) const CROSSINGS: [Drawn; 5] = [
     CROSSING_HYDRANT,
 ];
 
-/// Whether searches find just their cells among those rows and some more.
+/// Returns whether searches find just their cells among those rows and some more.
 fn are_found<F: RowFinder>(
     alloc: Global,
     finder: &mut F,

@@ -8,7 +8,7 @@ ghost use Rattle.clr_finders.specs.Sharing.{are_meeting, is_met};
 use crate::row_spots::RuleSpots;
 use clr_spots::Spot;
 
-/// Whether some spot is in both lists.
+/// Returns whether some spot is in both lists.
 fn have_common_spot(first: &[Spot], second: &[Spot]) -> bool
     ensures { result ≡ have_common_spot first.now second.now }
 {
@@ -20,7 +20,7 @@ fn have_common_spot(first: &[Spot], second: &[Spot]) -> bool
     false
 }
 
-/// Whether two rows of these spots have a role, and share a spot or one of them is wide.
+/// Returns whether two rows of these spots have a role, and share a spot or one of them is wide.
 #[tactic(auto, unfolding(crate::specs::Sharing::are_meeting))]
 fn are_meeting(first: &RuleSpots, second: &RuleSpots) -> bool
     ensures { result ≡ are_meeting first.now second.now }

@@ -8,7 +8,7 @@ ghost use Rattle.clr_finders.specs.Sharing.{may_serve};
 use clr_rows::Held;
 use clr_rules::{Rule, is_of};
 
-/// Whether a row is of some side of a rule.
+/// Returns whether a row is of some side of a rule.
 #[tactic(auto, unfolding(clr_rules::specs::Sides::has_role_in))]
 pub(crate) fn has_role(rule: &Rule, held: Held) -> bool
     ensures { result ≡ has_role_in rule.now (held_of held.entry) }

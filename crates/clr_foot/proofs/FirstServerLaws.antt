@@ -28,6 +28,7 @@ use Rattle.clr_needs.specs.Settings.{Setting, Always, Lived, held_row, version}
 use Rattle.clr_needs.specs.Witnesses.{lasts}
 use Rattle.clr_needs.proofs.BlockerLaws.{lives_as, same_told, subject_told, told_subject}
 use Rattle.clr_needs.proofs.NeedSubjects.{subjects_once}
+use Rattle.clr_needs.proofs.PickLaws.{least_as}
 use Rattle.clr_foot.specs.declared.first_servers.Sought.{Sought}
 use Rattle.clr_foot.specs.declared.first_servers.Sought.TheVariants.{Living, Lasting}
 use Rattle.clr_versions.specs.declared.versions.Version.{Version}
@@ -155,16 +156,12 @@ if_some_as : {X : Type 0} (P Q : X → Type 0) (o : Option X) → ((x : X) → P
 if_some_as P Q None may h = tt
 if_some_as P Q (Some x) may h = may x h
 
-least_as : (P Q : VersionId → Type 0) → ((v : VersionId) → P v → Q v) → ((v : VersionId) → Q v → P v) → (v : VersionId) → IsLeastVersion P v
-    → IsLeastVersion Q v
-least_as P Q there back v (is, least) = (there v is, λ w lesser h. least w lesser (back w h))
-
 pub of_need : (sought : Sought) (c : Setting ℕ) (n : Need) (s : Version) (t : Option Version) → IsNamed c n.first s → IsNamedIfAny c n.second t
     → IsPossibleNeed c n → (found : Option VersionId)
     → IfSome found (IsLeastVersion (IsServerSought sought c n s t)) → IfSome found (IsLeastVersion (IsServingSought sought c n))
 of_need sought c n s t named named_too possible found = if_some_as (IsLeastVersion (IsServerSought sought c n s t))
     (IsLeastVersion (IsServingSought sought c n)) found
-    (least_as (IsServerSought sought c n s t) (IsServingSought sought c n) (λ v w. ((serving_same c n s t named named_too v possible).0 w.0, w.1))
+    (λ v. least_as (IsServerSought sought c n s t) (IsServingSought sought c n) v (λ v w. ((serving_same c n s t named named_too v possible).0 w.0, w.1))
     (λ v w. ((serving_same c n s t named named_too v possible).1 w.0, w.1)))
 
 -- a version that serves and stands after the merge
@@ -200,4 +197,4 @@ module _ (c : Setting ℕ) (n : Need) (a : Lived ℕ) (b : Option (Lived ℕ)) (
   covering v (l, serve, last) = ((a, b, l, p, serve), ap (lasts c n) serve.is ∙ lasting_told l last)
 
 pub picks_least : (c : Setting ℕ) (n : Need) (v : VersionId) → IsLeastVersion (IsServingSought Lasting c n) v → Picks c n (Some (v, None))
-picks_least c n v least a b p = least_as (IsServingSought Lasting c n) (CoversAlone c n a b) (covers c n a b p) (covering c n a b p) v least
+picks_least c n v least a b p = least_as (IsServingSought Lasting c n) (CoversAlone c n a b) v (covers c n a b p) (covering c n a b p) least

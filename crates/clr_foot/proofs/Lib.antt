@@ -1,6 +1,6 @@
 pub mod FirstServerLaws
 pub mod InvolvedLaws
-pub mod LeastLost
+pub mod LeastBroken
 pub mod NewRows
 pub mod ServedNeeds
 pub mod ServerLaws

@@ -66,3 +66,8 @@ module _ (c : Setting ℕ) (number : ℕ) (r : Held) (near : List Version) where
             kept.every v (all_taken near k v past h) (λ never. may.1 (subst (IsNeverServed c.rules number r) (λ i. ((same i).cell, (row i).row)) never)),
             same,
           )
+
+-- all that are near are enough
+pub all_are_near : (c : Setting ℕ) (number : ℕ) (r : Held) (near : List Version) → FindsAll c (IsNeighbour false c.rules number r) near
+    → FindsAll c (MayBeServed c.rules number r) near
+all_are_near c number r near found = record { are = found.are; every = λ id l is may. found.every id l is may.0 }

@@ -1,10 +1,12 @@
 -- Versions that stand in one need are found near one another.
-use Rattle.std.proofs.Common.{◌≡◌, ◌∙◌, ◌<◌, ℕ, Bool, true, false, cond, ◌&&◌, ◌||◌, not, List, [], Option, Some, None, inl, inr, Contains, length, slice_get}
+use Rattle.std.proofs.Common.{◌≡◌, ◌∙◌, ◌<◌, ℕ, Bool, true, false, cond, ◌&&◌, ◌||◌, ◌==◌, not, List, [], Option, Some, None, inl, inr, Contains, length}
+use Rattle.std.proofs.Common.{slice_get}
 use Rattle.std.proofs.Common.{refl, sym, ap, subst}
 use Rattle.std.specs.FinMap as finite
 use Rattle.std.specs.Cmp.{Equal-is, tied_itself}
 use Rattle.std.specs.Option.{option_map}
 use Rattle.std.specs.Ordering.{eq_by_cmp, is_eq}
+use Rattle.std.proofs.lemmas.Bool.Decides.{Decides-eqb}
 use Rattle.std.proofs.lemmas.Bool.{and_parts, false≢true, or_left, or_right}
 use Rattle.std.proofs.lemmas.List.Elements.{All-nil}
 use Rattle.clr_rows.specs.declared.cells.CellId.{CellId}
@@ -16,12 +18,13 @@ use Rattle.clr_rows.proofs.CellOrder.{cell_cmp_exact, cell_cmp_total}
 use Rattle.clr_rules.specs.declared.needs.Ask.{Ask}
 use Rattle.clr_rules.specs.declared.rules.Rule.{Rule}
 use Rattle.clr_rules.specs.Books.{FitTogether, FitsCell}
-use Rattle.clr_rules.specs.Calls.{are_subjects, calls, is_server, serves}
-use Rattle.clr_rules.specs.Sides.{has_role, has_role_by, has_role_in}
+use Rattle.clr_rules.specs.declared.sides.Side.{Side}
+use Rattle.clr_rules.specs.Calls.{are_subjects, calls, is_plain, is_server, serves}
+use Rattle.clr_rules.specs.Sides.{has_role, has_role_by, has_role_in, is_of, is_of_side, sides}
 use Rattle.clr_spots.specs.Spots.{are_sharing, share, share_by, share_under}
 use Rattle.clr_rules.proofs.Elements.{Among, contained}
 use Rattle.clr_rules.proofs.FittingLemmas.{distance_fits}
-use Rattle.clr_rules.proofs.RoleLemmas.{servers_have_roles, subjects_have_roles}
+use Rattle.clr_rules.proofs.RoleLemmas.{beside, servers_have_roles, subjects_have_roles}
 use Rattle.clr_spots.proofs.ShareLaws.{servers_share, subjects_share}
 use Rattle.clr_spots.proofs.SharedSpots.{share_back}
 use Rattle.clr_finders.specs.declared.row_spots.RuleSpots.{RuleSpots}
@@ -30,7 +33,7 @@ use Rattle.clr_finders.specs.Sharing.{sharing_servers}
 use Rattle.clr_finders.proofs.EntryLemmas.{in_passes, passes_in}
 use Rattle.clr_finders.proofs.SharingLemmas.{found_servers, found_sharing}
 use Rattle.clr_needs.specs.Settings.{Setting}
-use Rattle.clr_foot.specs.Touches.{IsNeighbour}
+use Rattle.clr_foot.specs.Touches.{IsNeighbour, has_subjects_in, is_of_table, may_be_subject}
 use Rattle.clr_versions.specs.Versions.{FitsSetting}
 use Rattle.clr_versions.proofs.AskLaws.{IsRule, called_by, served_by}
 
@@ -82,14 +85,47 @@ may_serve_there rules ask s t r e f =
     let (rule, at, called) = called_by rules ask s t e in
     ap (λ o. may_serve_by o r) at ∙ (and_parts (may_serve rule r) _ (served_by rules ask s t r rule at f)).0
 
+-- ---- the tables of subjects
+
+of_table : (o : Option Side) (s : Held) → is_of o s ≡ true → is_of_table o s.0 ≡ true
+unfolding is_of_side
+of_table None s e = absurd (false≢true e)
+of_table (Some side) s e =
+    (Decides-eqb side.table s.0.table).1 (sym ((Decides-eqb s.0.table side.table).0 (and_parts (s.0.table == side.table) _ e).0))
+
+is_in_first : (rule : Rule) (s : Held) → is_of (sides rule).first s ≡ true → has_subjects_in (Some rule) s.0 ≡ true
+is_in_first rule s e = or_left _ _ (or_right _ _ (of_table (sides rule).first s e))
+
+is_in_second : (rule : Rule) (s : Held) → is_of (sides rule).second s ≡ true → has_subjects_in (Some rule) s.0 ≡ true
+is_in_second rule s e = or_right _ _ (of_table (sides rule).second s e)
+
+subjects_in : (rule : Rule) (ask : Ask) (s : Held) (t : Option Held) → are_subjects rule ask s t ≡ true → has_subjects_in (Some rule) s.0 ≡ true
+unfolding are_subjects
+subjects_in rule ask s None e = or_left _ _ (or_left _ _ (of_table (sides rule).alone s (and_parts (is_plain ask) _ e).1))
+subjects_in rule ask s (Some t) e = elim (beside rule ask s t e) [ inl h ↦ is_in_first rule s h.0 | inr h ↦ is_in_second rule s h.1 ]
+
+-- a subject is of a table whose rows may be subjects
+pub is_subject : (rules : List Rule) (ask : Ask) (s : Held) (t : Option Held) → calls rules ask s t ≡ true → may_be_subject rules ask.rule s.0 ≡ true
+unfolding may_be_subject
+is_subject rules ask s t e = let (rule, at, called) = called_by rules ask s t e in ap (λ o. has_subjects_in o s.0) at ∙ subjects_in rule ask s t called
+
+second_in : (rule : Rule) (ask : Ask) (s t : Held) → are_subjects rule ask s (Some t) ≡ true → has_subjects_in (Some rule) t.0 ≡ true
+second_in rule ask s t e = elim (beside rule ask s t e) [ inl h ↦ is_in_second rule t h.1 | inr h ↦ is_in_first rule t h.0 ]
+
+pub is_second_subject : (rules : List Rule) (ask : Ask) (s t : Held) → calls rules ask s (Some t) ≡ true → may_be_subject rules ask.rule t.0 ≡ true
+unfolding may_be_subject
+is_second_subject rules ask s t e =
+    let (rule, at, called) = called_by rules ask s (Some t) e in ap (λ o. has_subjects_in o t.0) at ∙ second_in rule ask s t called
+
 -- ---- what finders find
 
-pub near_all : (rules : List Rule) (number : ℕ) (s t : Held) → are_sharing rules number s t ≡ true → IsNeighbour false rules number s t
-near_all rules number s t e = ap (λ b. b && (not false || may_serve_under rules number t)) e
+pub near_all : (rules : List Rule) (number : ℕ) (s t : Held) → are_sharing rules number s t ≡ true → may_be_subject rules number t.0 ≡ true
+    → IsNeighbour false rules number s t
+near_all rules number s t e f = (ap (λ b. b && (not false || may_serve_under rules number t)) e, f)
 
 pub near_server : (rules : List Rule) (number : ℕ) (s t : Held) → are_sharing rules number s t ≡ true → may_serve_under rules number t ≡ true
     → IsNeighbour true rules number s t
-near_server rules number s t e f = λ i. e i && (not true || f i)
+near_server rules number s t e f = (λ i. e i && (not true || f i), refl)
 
 -- one row alone is a content, and what is found of it is found of any
 module _ (servers : Bool) (rules : List Rule) (number : ℕ) (s : Held) (q : CellId) (row : Row) where
@@ -131,9 +167,9 @@ module _ (servers : Bool) (rules : List Rule) (number : ℕ) (s : Held) (q : Cel
 
       by : (b : Bool) → IsNeighbour b rules number s (q, row) → is_met_at b (rule_spots rules number s) number (Some (row_spots rules (q, row))) ≡ true
       by false h = its_spots_meet false (subst (Among q) (sym (found_sharing rules one_row one_settled number s is_settled below))
-          (passes_in (are_sharing rules number s) one_row q row has_row (and_parts (are_sharing rules number s (q, row)) _ h).0))
+          (passes_in (are_sharing rules number s) one_row q row has_row (and_parts (are_sharing rules number s (q, row)) _ h.0).0))
       by true h = its_spots_meet true (subst (Among q) (sym (found_servers rules one_row one_settled number s is_settled below))
-          (passes_in (λ t. are_sharing rules number s t && may_serve_under rules number t) one_row q row has_row h))
+          (passes_in (λ t. are_sharing rules number s t && may_serve_under rules number t) one_row q row has_row h.0))
 
   pub found_near : (settled : Settled) → number < length rules → finite.get settled q ≡ Some (row_spots rules (q, row)) →
       IsNeighbour servers rules number s (q, row)

@@ -1,7 +1,7 @@
 -- The needs that are added are touched, and each touched one is added.
-use Rattle.std.proofs.Common.{◌≡◌, ◌∙◌, ℕ, Bool, true, false, ◌&&◌, List, ◌⊎◌, inl, inr, Option, Some, None, refl, sym, ap, subst}
+use Rattle.std.proofs.Common.{◌≡◌, ◌∙◌, ℕ, Bool, true, false, List, ◌⊎◌, inl, inr, Option, Some, None, refl, sym, ap, subst}
 use Rattle.std.specs.Option.{option_map}
-use Rattle.std.proofs.lemmas.Bool.{and_parts, false≢true}
+use Rattle.std.proofs.lemmas.Bool.{and_from, and_parts, false≢true}
 use Rattle.clr_rules.specs.Calls.{calls, serves}
 use Rattle.clr_spots.specs.Spots.{are_sharing}
 use Rattle.clr_finders.specs.Sharing.{may_serve_under}
@@ -15,11 +15,11 @@ use Rattle.clr_needs.specs.Needs.{AreOpposed, IsBeside, IsBesideIfAny, IsPossibl
 use Rattle.clr_needs.specs.Settings.{Setting, Lived, held_row, version}
 use Rattle.clr_versions.specs.Serving.{IsNeverServed}
 use Rattle.clr_foot.specs.Serving.{MayBeServed}
-use Rattle.clr_foot.specs.Touches.{IsNeighbour, IsNeedServedAmong}
+use Rattle.clr_foot.specs.Touches.{IsNeighbour, IsNeedServedAmong, may_be_subject}
 use Rattle.clr_versions.specs.Versions.{AreAt, FindsAll, FitsSetting, HasVersion, IsAt, row_and_life, row_of}
 use Rattle.clr_new_pairs.proofs.CandidateLaws.{they_call}
 use Rattle.clr_new_pairs.proofs.CandidateLaws.{both_paired}
-use Rattle.clr_foot.proofs.SharingLaws.{may_serve_there, near_all, server_near, server_near_second, subjects_near}
+use Rattle.clr_foot.proofs.SharingLaws.{is_second_subject, is_subject, may_serve_there, near_all, server_near, server_near_second, subjects_near}
 
 lived_too : Option Version → Option (Lived ℕ)
 lived_too t = option_map row_and_life t
@@ -27,9 +27,6 @@ lived_too t = option_map row_and_life t
 held_named : (t : Option Version) → held_if_any (option_map id_of t) (option_map row_and_life t) ≡ option_map row_of t
 held_named None = refl
 held_named (Some t) = refl
-
-served_then : (x y : Bool) → x ≡ true → y ≡ true → (x && y) ≡ true
-served_then x y e f = λ i. e i && f i
 
 module _ (c : Setting ℕ) where
   pub lived_is : (v : Version) (id : VersionId) (l : Lived ℕ) → v.id ≡ id → IsAt c v → version c id ≡ Some l → row_and_life v ≡ l
@@ -133,7 +130,7 @@ module _ (c : Setting ℕ) where
     rule = rule;
     first = sym first;
     second = sym second;
-    asked = served_then (serves_if_any c.rules (ask_of n) s t r) _ serve
+    asked = and_from (serves_if_any c.rules (ask_of n) s t r) _ serve
         (sym (ap (calls c.rules (ask_of n) (row_of s)) (held_named t))
         ∙ (λ i. calls c.rules (ask_of n) ((first i).cell, (row i).row) (held_if_any (second i) (rows i))) ∙ called);
   }
@@ -239,7 +236,8 @@ module _ (c : Setting ℕ) where
         by (Some w) (Some b) second beside called (inl e) =
             let row = lived_is v n.first a (sym e) at p.first_is in
             let shared = (subjects_near c fits (ask_of n) (held_row n.first a) (held_row w b) called).0 in
-            let near = near_of v n.first a (held_row w b) number n.rule rule (sym e) row (near_all c.rules n.rule (held_row n.first a) (held_row w b) shared) in
+            let near = near_of v n.first a (held_row w b) number n.rule rule (sym e) row (near_all c.rules n.rule (held_row n.first a) (held_row w b) shared
+            (is_second_subject c.rules (ask_of n) (held_row n.first a) (held_row w b) called)) in
             need_is_found n w (λ t same t_at. inl (need_between number None v t n a w b rule (sym e) same second at t_at p.first_is beside called
             (λ row rows. refl)))
             (every w b (second_sought w e second) beside.is near)
@@ -248,7 +246,8 @@ module _ (c : Setting ℕ) where
             let row = lived_is v w b (sym same) at beside.is in
             let shared = (subjects_near c fits (ask_of n) (held_row n.first a) (held_row w b) called).1 in
             let near = near_of v w b (held_row n.first a) number n.rule rule (sym same) row
-            (near_all c.rules n.rule (held_row w b) (held_row n.first a) shared) in
+            (near_all c.rules n.rule (held_row w b) (held_row n.first a) shared
+            (is_subject c.rules (ask_of n) (held_row n.first a) (Some (held_row w b)) called)) in
             need_is_found n n.first (λ t is t_at. inr (need_between number None t v n a w b rule is (sym same) second t_at at p.first_is beside called
             (λ row rows. refl)))
             (every n.first a (first_sought e) p.first_is near)
@@ -262,11 +261,11 @@ module _ (c : Setting ℕ) where
         server = lived_is r r.id l refl at v.is
 
         close : (id : VersionId) (m : Lived ℕ) → are_sharing c.rules n.rule (held_row r.id l) (held_row id m) ≡ true
-            → ¬ (IsNeverServed c.rules number (row_of r) (held_row id m))
+            → may_be_subject c.rules n.rule id.cell ≡ true → ¬ (IsNeverServed c.rules number (row_of r) (held_row id m))
             → MayBeServed c.rules number (row_of r) (held_row id m)
-        close id m shared served = (
+        close id m shared subject served = (
           near_of r r.id l (held_row id m) number n.rule rule refl server (near_all c.rules n.rule (held_row r.id l) (held_row id m)
-              shared),
+              shared subject),
           served,
         )
 
@@ -288,7 +287,8 @@ module _ (c : Setting ℕ) where
         by (Some w) None second beside called serve = absurd beside
         by None None second beside called serve =
             let (s, h, same) = found.every n.first a p.first_is
-            (close n.first a (server_near c.rules (ask_of n) (held_row n.first a) None (held_row r.id l) called serve).1 (first_served None serve)) in
+            (close n.first a (server_near c.rules (ask_of n) (held_row n.first a) None (held_row r.id l) called serve).1
+            (is_subject c.rules (ask_of n) (held_row n.first a) None called) (first_served None serve)) in
             let row = lived_is s n.first a same (found.are s h) p.first_is in
             let called_too = ap (λ w. calls c.rules (ask_of n) (held_row n.first a) (held_if_any {A = ℕ} w None)) second ∙ called in
             let serve_too = ap (λ w. serves c.rules (ask_of n) (held_row n.first a) (held_if_any {A = ℕ} w None) (held_row r.id l)) second ∙ serve in (
@@ -300,10 +300,10 @@ module _ (c : Setting ℕ) where
         by (Some w) (Some b) second beside called serve =
             let (s, h, same) = found.every n.first a p.first_is
             (close n.first a (server_near c.rules (ask_of n) (held_row n.first a) (Some (held_row w b)) (held_row r.id l) called serve).1
-            (first_served (Some (held_row w b)) serve)) in
+            (is_subject c.rules (ask_of n) (held_row n.first a) (Some (held_row w b)) called) (first_served (Some (held_row w b)) serve)) in
             let (t, k, same_too) = found.every w b beside.is
             (close w b (server_near_second c.rules (ask_of n) (held_row n.first a) (held_row w b) (held_row r.id l) called serve)
-            (second_served (held_row w b) serve)) in
+            (is_second_subject c.rules (ask_of n) (held_row n.first a) (held_row w b) called) (second_served (held_row w b) serve)) in
             let serve_too = ap (λ w. serves c.rules (ask_of n) (held_row n.first a) (held_if_any {A = ℕ} w (Some b)) (held_row r.id l)) second ∙ serve in (
               s,
               h,

@@ -16,12 +16,27 @@ use Rattle.clr_versions.specs.declared.versions.Version.{Version}
 use Rattle.clr_needs.specs.declared.needs.VersionId.{VersionId}
 use Rattle.clr_needs.specs.Members.{setting}
 use Rattle.clr_needs.specs.Settings.{Setting, Lived, changer, held_row, version}
-use Rattle.clr_foot.specs.Touches.{IsInCells, IsNeighbour}
+use Rattle.clr_foot.specs.Touches.{IsInCells, IsLookedUpIn, IsNeighbour, is_looked_up}
 use Rattle.clr_versions.specs.Versions.{AreAt, Finds, FindsAll, HasVersion, IsAt, IsNamed, row_and_life, row_of, version_of}
 use Rattle.clr_foot.specs.NewRows.{AreNewRowsFiled}
 use Rattle.clr_needs.proofs.Reading.{all_taken, none_taken, one_more}
 use Rattle.clr_needs.proofs.Lives.{old_is}
 use Rattle.clr_foot.proofs.SharingLaws.{found_near}
+
+-- what a list with one more version has
+one_behind : (old new : List Version) (v w : Version) → new ≡ old ++ v ∷ [] → Contains new w → Contains old w ⊎ (w ≡ v)
+one_behind old new v w put h = by (Contains-append_cases old (v ∷ []) w (subst (λ vs. Contains vs w) put h))
+  where
+    last : Contains (v ∷ []) w → w ≡ v
+    last g = go (among w (v ∷ []) g)
+      where
+        go : (v ≡ w) ⊎ ⊥ → w ≡ v
+        go (inl e) = sym e
+        go (inr f) = absurd f
+
+    by : Contains old w ⊎ Contains (v ∷ []) w → Contains old w ⊎ (w ≡ v)
+    by (inl g) = inl g
+    by (inr g) = inr (last g)
 
 module _ (c : Setting ℕ) (fresh : Bool) (cells : List CellId) where
   -- those of the first cells
@@ -44,18 +59,7 @@ module _ (c : Setting ℕ) (fresh : Bool) (cells : List CellId) where
   }
     where
       split : (w : Version) → Contains new w → Contains old w ⊎ (w ≡ v)
-      split w h = by (Contains-append_cases old (v ∷ []) w (subst (λ vs. Contains vs w) put h))
-        where
-          last : Contains (v ∷ []) w → w ≡ v
-          last g = go (among w (v ∷ []) g)
-            where
-              go : (v ≡ w) ⊎ ⊥ → w ≡ v
-              go (inl e) = sym e
-              go (inr f) = absurd f
-
-          by : Contains old w ⊎ Contains (v ∷ []) w → Contains old w ⊎ (w ≡ v)
-          by (inl g) = inl g
-          by (inr g) = inr (last g)
+      split w h = one_behind old new v w put h
 
       are : (w : Version) → Contains old w ⊎ (w ≡ v) → IsAt c w
       are w (inl h) = before.are w h
@@ -93,6 +97,67 @@ module _ (c : Setting ℕ) (fresh : Bool) (cells : List CellId) where
 
   pub all_found : (k : ℕ) (vs : List Version) → length cells ≤ k → FindsTo k vs → Finds c fresh (IsInCells cells) vs
   all_found k vs past h = record { are = h.are; alike = h.alike; every = λ q l is among. h.every q l is (all_taken cells k q past among) }
+
+-- those of the first cells that are looked up
+module _ (c : Setting ℕ) (servers : Bool) (rules : List Rule) (number : ℕ) (fresh : Bool) (cells : List CellId) where
+  abbrev pub LookedUpTo : ℕ → List Version → Type 0
+  LookedUpTo k vs = Finds c fresh (IsLookedUpIn servers rules number (take k cells)) vs
+
+  pub none_looked_up : LookedUpTo 0 []
+  none_looked_up = record {
+    are = λ v h. absurd (among v [] h);
+    alike = λ v h. absurd (among v [] h);
+    every = λ q l is h. absurd (none_taken cells q h.0);
+  }
+
+  pub one_looked_up : (k : ℕ) (d : CellId) (v : Version) (old new : List Version) → k < length cells → IsNamed c (version_of fresh (get_or cells k d)) v → new
+      ≡ old ++ v ∷ [] → LookedUpTo k old → LookedUpTo (k + 1) new
+  one_looked_up k d v old new less named put before = record {
+    are = λ w h. are w (split w h);
+    alike = λ w h. alike w (split w h);
+    every = λ q l is h. every q l is (one_more cells k d q less h.0) h.1;
+  }
+    where
+      split : (w : Version) → Contains new w → Contains old w ⊎ (w ≡ v)
+      split w h = one_behind old new v w put h
+
+      are : (w : Version) → Contains old w ⊎ (w ≡ v) → IsAt c w
+      are w (inl h) = before.are w h
+      are w (inr e) = subst (IsAt c) (sym e) named.1
+
+      alike : (w : Version) → Contains old w ⊎ (w ≡ v) → w.id.fresh ≡ fresh
+      alike w (inl h) = before.alike w h
+      alike w (inr e) = ap (λ u. u.id.fresh) e ∙ ap (λ i. i.fresh) named.0
+
+      every : (q : CellId) (l : Lived ℕ) → version c (version_of fresh q) ≡ Some l → Contains (take k cells) q ⊎ (q ≡ get_or cells k d)
+          → is_looked_up servers rules number q ≡ true → HasVersion new (version_of fresh q)
+      every q l is (inl h) up =
+          let (w, had, e) = before.every q l is (h, up) in (w, subst (λ vs. Contains vs w) (sym put) (Contains-append_left old (v ∷ []) w had), e)
+      every q l is (inr e) up = (
+        v,
+        subst (λ vs. Contains vs v) (sym put) (Contains-append_right old (v ∷ []) v (contained v (v ∷ []) (inl refl))),
+        named.0 ∙ ap (version_of fresh) (sym e),
+      )
+
+  pub not_looked_up : (k : ℕ) (d : CellId) (vs : List Version) → k < length cells
+      → (is_looked_up servers rules number (get_or cells k d) ≡ true → version c (version_of fresh (get_or cells k d)) ≡ None)
+      → LookedUpTo k vs → LookedUpTo (k + 1) vs
+  not_looked_up k d vs less none before = record {
+    are = before.are;
+    alike = before.alike;
+    every = λ q l is h. every q l is (one_more cells k d q less h.0) h.1;
+  }
+    where
+      every : (q : CellId) (l : Lived ℕ) → version c (version_of fresh q) ≡ Some l → Contains (take k cells) q ⊎ (q ≡ get_or cells k d)
+          → is_looked_up servers rules number q ≡ true → HasVersion vs (version_of fresh q)
+      every q l is (inl h) up = before.every q l is (h, up)
+      every q l is (inr e) up =
+          let there = none (subst (λ p. is_looked_up servers rules number p ≡ true) e up) in
+          let clash : None ≡ Some l = sym there ∙ ap (λ p. version c (version_of fresh p)) (sym e) ∙ is in cc
+
+  pub all_looked_up : (k : ℕ) (vs : List Version) → length cells ≤ k → LookedUpTo k vs → Finds c fresh (IsLookedUpIn servers rules number cells) vs
+  all_looked_up k vs past h =
+      record { are = h.are; alike = h.alike; every = λ q l is among. h.every q l is (all_taken cells k q past among.0, among.1) }
 
 -- what is wanted may be less
 pub finds_as : (c : Setting ℕ) (fresh : Bool) (wanted less : Held → Type 0) (vs : List Version) → ((q : CellId) (l : Lived ℕ) → version c (version_of fresh q)
@@ -161,15 +226,15 @@ module _ (rules : List Rule) (root : Content) (sets : List Changes) (servers : B
 
   pub old_found : (settled : Settled) (x : RuleSpots) (cells : List CellId) (vs : List Version) → IsSettledFor settled rules root →
       x ≡ rule_spots rules number s
-      → HasFound settled x cells → Finds c false (IsInCells cells) vs → Finds c false (IsNeighbour servers rules number s) vs
-  old_found settled x cells vs holds spots all = finds_as c false (IsInCells cells) (IsNeighbour servers rules number s) vs
-      (λ q l is near. all q (subst (λ y. Contains (found_cells servers settled number y) q) (sym spots) (old_cell_found settled q l holds is near)))
+      → HasFound settled x cells → Finds c false (IsLookedUpIn servers rules number cells) vs → Finds c false (IsNeighbour servers rules number s) vs
+  old_found settled x cells vs holds spots all = finds_as c false (IsLookedUpIn servers rules number cells) (IsNeighbour servers rules number s) vs
+      (λ q l is near. (all q (subst (λ y. Contains (found_cells servers settled number y) q) (sym spots) (old_cell_found settled q l holds is near)), near.1))
 
   pub new_found : (settled : Settled) (x : RuleSpots) (cells : List CellId) (vs : List Version) → AreNewRowsFiled settled rules sets
       → x ≡ rule_spots rules number s
-      → HasFound settled x cells → Finds c true (IsInCells cells) vs → Finds c true (IsNeighbour servers rules number s) vs
-  new_found settled x cells vs holds spots all = finds_as c true (IsInCells cells) (IsNeighbour servers rules number s) vs
-      (λ q l is near. all q (subst (λ y. Contains (found_cells servers settled number y) q) (sym spots) (new_cell_found settled q l holds is near)))
+      → HasFound settled x cells → Finds c true (IsLookedUpIn servers rules number cells) vs → Finds c true (IsNeighbour servers rules number s) vs
+  new_found settled x cells vs holds spots all = finds_as c true (IsLookedUpIn servers rules number cells) (IsNeighbour servers rules number s) vs
+      (λ q l is near. (all q (subst (λ y. Contains (found_cells servers settled number y) q) (sym spots) (new_cell_found settled q l holds is near)), near.1))
 
 -- ---- the spots that a finder keeps of a version
 

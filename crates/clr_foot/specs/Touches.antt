@@ -1,12 +1,14 @@
 -- Versions near one another, and the needs that they make.
-use Rattle.std.specs.Prelude.{◌≡◌, ℕ, Bool, true, false, not, ◌&&◌, ◌||◌, ◌⊎◌, List, Option, Some, None, Contains}
+use Rattle.std.specs.Prelude.{◌≡◌, ℕ, Bool, true, false, not, ◌&&◌, ◌||◌, ◌==◌, ◌⊎◌, List, Option, Some, None, Contains, slice_get}
 use Rattle.std.specs.List.Sorted.{IsStrictlySortedBy}
 use Rattle.std.specs.Option.{option_map}
 use Rattle.clr_rows.specs.declared.cells.CellId.{CellId}
 use Rattle.clr_rows.specs.Held.{Held}
 use Rattle.clr_rules.specs.declared.rules.Rule.{Rule}
+use Rattle.clr_rules.specs.declared.sides.Side.{Side}
 use Rattle.clr_rules.specs.declared.needs.Ask.{Ask}
 use Rattle.clr_rules.specs.Calls.{serves}
+use Rattle.clr_rules.specs.Sides.{sides}
 use Rattle.clr_spots.specs.Spots.{are_sharing}
 use Rattle.clr_finders.specs.Sharing.{may_serve_under}
 use Rattle.clr_needs.specs.declared.needs.Need.{Need}
@@ -24,9 +26,30 @@ use Rattle.clr_versions.specs.Versions.{row_and_life, row_of}
 abbrev pub IsInCells : List CellId → Held → Type 0
 IsInCells cells s = Contains cells s.0
 
--- the row shares with another one, and is of the side that serves where servers alone are looked for
+-- there is a side, and the cell is of its table
+abbrev pub is_of_table : Option Side → CellId → Bool
+is_of_table None q = false
+is_of_table (Some side) q = side.table == q.table
+
+abbrev pub has_subjects_in : Option Rule → CellId → Bool
+has_subjects_in None q = false
+has_subjects_in (Some rule) q = is_of_table (sides rule).alone q || is_of_table (sides rule).first q || is_of_table (sides rule).second q
+
+-- the cell is of a table whose rows may be subjects of the rule of a number
+unfoldable pub may_be_subject : List Rule → ℕ → CellId → Bool
+may_be_subject rules number q = has_subjects_in (slice_get rules number) q
+
+-- the row at the cell is looked up, where servers alone are looked for or else subjects
+abbrev pub is_looked_up : Bool → List Rule → ℕ → CellId → Bool
+is_looked_up servers rules number q = servers || may_be_subject rules number q
+
+abbrev pub IsLookedUpIn : Bool → List Rule → ℕ → List CellId → Held → Type 0
+IsLookedUpIn servers rules number cells s = Contains cells s.0 × (is_looked_up servers rules number s.0 ≡ true)
+
+-- the row shares with another one. Where servers alone are looked for it is of the side that serves, or else it may be a subject
 abbrev pub IsNeighbour : Bool → List Rule → ℕ → Held → Held → Type 0
-IsNeighbour servers rules number s t = (are_sharing rules number s t && (not servers || may_serve_under rules number t)) ≡ true
+IsNeighbour servers rules number s t = ((are_sharing rules number s t && (not servers || may_serve_under rules number t)) ≡ true)
+    × (is_looked_up servers rules number t.0 ≡ true)
 
 -- a need of one of some versions, alone or with another, that the server serves
 abbrev pub IsNeedServedAmong : List Rule → ℕ → Version → List Version → List Version → Need → Type 0

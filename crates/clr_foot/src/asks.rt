@@ -1,17 +1,30 @@
-//! Of how many rows a rule is asked, and which rows may serve.
+//! Of how many rows a rule is asked, and which rows may serve or be subjects.
 
 ghost use Rattle.std.specs.Prelude.{◌≡◌, ◌<◌, length};
+ghost use Rattle.std.specs.Option.{option_copied};
 ghost use Rattle.clr_finders.specs.Sharing.{may_serve_under};
+ghost use Rattle.clr_foot.specs.Touches.{is_looked_up, is_of_table, may_be_subject};
 ghost use Rattle.clr_versions.specs.Candidates.{is_of_two_under, may_be_paired};
 ghost use Rattle.clr_versions.specs.Versions.{row_of};
 
 use crate::scenes::Scene;
 use clr_finders::{RowFinder, may_serve};
-use clr_rows::RowView;
+use clr_rows::{CellId, RowView};
+use clr_rules::Side;
 use clr_versions::{Version, is_asked_of_two, may_be_paired};
 
+/// Returns whether there is a side, and a cell is of its table.
+fn is_of_table(side: Option<&Side>, cell: CellId) -> bool
+    ensures { result ≡ is_of_table (option_copied side.entry) cell }
+{
+    match side {
+        Some(side) => side.table == cell.table,
+        None => false,
+    }
+}
+
 impl<V: RowView, F: RowFinder> Scene<'_, V, F> {
-    /// Whether the rule of a number is asked of two rows.
+    /// Returns whether the rule of a number is asked of two rows.
     pub(crate) fn is_of_two(&self, rule: u16) -> bool
         requires { rule < length self.now.book.now }
         ensures { result ≡ is_of_two_under self.now.book.now rule }
@@ -19,7 +32,7 @@ impl<V: RowView, F: RowFinder> Scene<'_, V, F> {
         is_asked_of_two(self.book, rule)
     }
 
-    /// Whether the rule is asked of two rows and a version is of a side of these.
+    /// Returns whether the rule is asked of two rows and a version is of a side of these.
     pub(crate) fn may_be_paired(&self, rule: u16, version: Version) -> bool
         requires { rule < length self.now.book.now }
         ensures { result ≡ may_be_paired self.now.book.now rule (row_of version.entry) }
@@ -27,7 +40,27 @@ impl<V: RowView, F: RowFinder> Scene<'_, V, F> {
         may_be_paired(self.book, rule, version)
     }
 
-    /// Whether a version is of the side that serves.
+    /// Returns whether some row of the table of a cell may be a subject.
+    #[tactic(auto, unfolding(crate::specs::Touches::may_be_subject))]
+    fn may_be_subject(&self, rule: u16, cell: CellId) -> bool
+        requires { rule < length self.now.book.now }
+        ensures { result ≡ may_be_subject self.now.book.now rule cell }
+    {
+        let sides = self.book.rule(rule).sides();
+        is_of_table(sides.alone, cell)
+            || is_of_table(sides.first, cell)
+            || is_of_table(sides.second, cell)
+    }
+
+    /// Returns whether the row at a cell is looked up where servers alone are looked for, or else subjects.
+    pub(crate) fn is_looked_up(&self, servers: bool, rule: u16, cell: CellId) -> bool
+        requires { rule < length self.now.book.now }
+        ensures { result ≡ is_looked_up servers self.now.book.now rule cell }
+    {
+        servers || self.may_be_subject(rule, cell)
+    }
+
+    /// Returns whether a version is of the side that serves.
     #[tactic(auto, unfolding(clr_finders::specs::Sharing::may_serve_under))]
     pub(crate) fn may_serve(&self, rule: u16, version: Version) -> bool
         requires { rule < length self.now.book.now }

@@ -17,8 +17,8 @@ use clr_versions::{RootVersions, broken_of};
 use std::alloc::AllocError;
 
 impl<V: RowView, F: RowFinder> Scene<'_, V, F> {
-    /// Whether the subjects of a possible need stand after the merge and nothing that serves does.
-    fn is_lost(&self, need: &Need) -> Result<bool, AllocError>
+    /// Returns whether the merge breaks a possible need: its subjects stand after it, and no row that serves the need does.
+    fn is_broken(&self, need: &Need) -> Result<bool, AllocError>
         requires ready { IsReady F.settled (model_of V.content self.now) }
         requires possible { IsPossibleNeed (setting_in V.content self.now) need.now }
         ensures { IfOk result (IsJudged (setting_in V.content self.now) need.now) }
@@ -51,7 +51,7 @@ impl<V: RowView, F: RowFinder> Scene<'_, V, F> {
     {
         let needs = self.list_touched(true)?;
         for need in &needs {
-            if self.is_lost(need)? {
+            if self.is_broken(need)? {
                 return Ok(Some(broken_of(need)));
             }
         }

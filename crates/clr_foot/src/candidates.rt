@@ -17,7 +17,7 @@ use std::alloc::AllocError;
 use std::cmp::Ordering;
 
 impl<V: RowView, F: RowFinder> Scene<'_, V, F> {
-    /// Whether the server, if one is given, serves what is asked of the subjects.
+    /// Returns whether the server, if one is given, serves what is asked of the subjects.
     pub(crate) fn serves_if_any(
         &self,
         ask: Ask,

@@ -31,7 +31,7 @@ pub enum Sought {
 }
 
 impl<V: RowView, F: RowFinder> Scene<'_, V, F> {
-    /// Whether a version lives always, or as long as a subject of a possible need.
+    /// Returns whether a version lives always, or as long as a subject of a possible need.
     fn lasts(&self, need: &Need, version: Version) -> bool
         requires { IsAt (setting_in V.content self.now) version }
         ensures { result ≡ lasts_at (setting_in V.content self.now) need.now version.entry.id }
@@ -44,7 +44,7 @@ impl<V: RowView, F: RowFinder> Scene<'_, V, F> {
         versions.lasts(need, version)
     }
 
-    /// Whether a version is looked for.
+    /// Returns whether a version is looked for.
     fn is_sought(&self, sought: Sought, need: &Need, version: Version) -> bool
         requires { IsAt (setting_in V.content self.now) version }
         ensures { result ≡ is_sought sought (setting_in V.content self.now) need.now version.entry.id }
@@ -55,7 +55,7 @@ impl<V: RowView, F: RowFinder> Scene<'_, V, F> {
         }
     }
 
-    /// Whether there is a version of a name that serves and is looked for.
+    /// Returns whether there is a version of a name that serves and is looked for.
     fn is_server_sought(
         &self,
         sought: Sought,
@@ -81,7 +81,7 @@ impl<V: RowView, F: RowFinder> Scene<'_, V, F> {
         }
     }
 
-    /// The old version of a cell or else its new one, as far as it serves and is looked for.
+    /// Returns the old version of a cell or else its new one, as far as it serves and is looked for.
     fn sought_at(
         &self,
         sought: Sought,
@@ -107,7 +107,7 @@ impl<V: RowView, F: RowFinder> Scene<'_, V, F> {
         None
     }
 
-    /// A cell behind a given one, or any where none is given, which is past no cell there of an old or
+    /// Returns a cell behind a given one, or any where none is given, which is past no cell there of an old or
     /// new row that is found and may serve.
     fn next_cell(&self, rule: u16, spots: &RuleSpots, after: Option<CellId>) -> Option<CellId>
         ensures { IsNextOf (IsFoundCell (F.settled self.now.finder.now) (F.settled self.now.new_rows) rule spots.now) after result }
@@ -117,7 +117,7 @@ impl<V: RowView, F: RowFinder> Scene<'_, V, F> {
         lesser_cell(old, new)
     }
 
-    /// The least version that serves and is looked for, where it stands at one of the first cells.
+    /// Returns the least version that serves and is looked for, where it stands at one of the first cells.
     fn first_sought(
         &self,
         sought: Sought,

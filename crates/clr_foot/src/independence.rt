@@ -14,7 +14,7 @@ use clr_versions::RootVersions;
 use std::alloc::AllocError;
 
 impl<V: RowView, F: RowFinder> Scene<'_, V, F> {
-    /// Whether a possible need involves a member: the life of a subject names it, or that of a
+    /// Returns whether a possible need involves a member: the life of a subject names it, or that of a
     /// version that serves.
     fn involves(&self, need: &Need, position: u16) -> Result<bool, AllocError>
         requires ready { IsReady F.settled (model_of V.content self.now) }

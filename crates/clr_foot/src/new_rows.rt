@@ -16,7 +16,7 @@ use clr_rules::RuleBook;
 use clr_versions::{Members, RootVersions, Version};
 use std::alloc::{AllocError, Global};
 
-/// The rows that members bring, filed by their spots.
+/// Returns the rows that members bring, filed by their spots.
 pub(crate) fn file_new_rows<F: RowFinder>(
     alloc: Global,
     members: &Members,

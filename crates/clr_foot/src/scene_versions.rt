@@ -59,7 +59,7 @@ impl<'a, V: RowView, F: RowFinder> Scene<'a, V, F> {
         }
     }
 
-    /// The version of a name, if there is one.
+    /// Returns the version of a name, if there is one.
     pub(crate) fn version(&self, id: VersionId) -> Option<Version<'_>>
         ensures { MatchOption result (version (setting_in V.content self.now) id ≡ None) (IsNamed (setting_in V.content self.now) id) }
     {

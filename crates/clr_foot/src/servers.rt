@@ -18,7 +18,7 @@ use clr_versions::Version;
 use std::alloc::AllocError;
 
 impl<V: RowView, F: RowFinder> Scene<'_, V, F> {
-    /// The version of a name, if one is given and there is one.
+    /// Returns the version of a name, if one is given and there is one.
     pub(crate) fn version_if_any(&self, id: Option<VersionId>) -> Option<Version<'_>>
         ensures { IsNamedIfAny (setting_in V.content self.now) id result }
     {
@@ -28,7 +28,7 @@ impl<V: RowView, F: RowFinder> Scene<'_, V, F> {
         }
     }
 
-    /// The names of the versions that serve what is asked of subjects that call.
+    /// Returns the names of the versions that serve what is asked of subjects that call.
     fn servers_of(
         &self,
         ask: Ask,
@@ -42,8 +42,9 @@ impl<V: RowView, F: RowFinder> Scene<'_, V, F> {
         requires called { calls self.now.book.now ask (row_of first) (option_map row_of second) ≡ true }
         ensures { IfOk result (λ names. Lists version_cmp (IsServerOf (setting_in V.content self.now) ask first.entry second.entry) names.items) }
     {
-        let old = self.old_near(ask.rule, true, first)?;
-        let new = self.new_near(ask.rule, true, first)?;
+        let spots = self.spots_of(ask.rule, first);
+        let old = self.old_near(ask.rule, true, spots)?;
+        let new = self.new_near(ask.rule, true, spots)?;
         let mut names = Vec::new(self.alloc);
         self.add_servers(ask, first, second, old.as_slice(), &mut names)?;
         self.add_servers(ask, first, second, new.as_slice(), &mut names)?;

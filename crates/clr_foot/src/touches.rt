@@ -64,7 +64,8 @@ impl<V: RowView, F: RowFinder> Scene<'_, V, F> {
         if !self.may_be_paired(rule, version) {
             return Ok(());
         }
-        let near = self.old_near(rule, false, version)?;
+        let spots = self.spots_of(rule, version);
+        let near = self.old_near(rule, false, spots)?;
         self.add_pairs(rule, None, version, near.as_slice(), needs)?;
         Ok(())
     }
@@ -198,7 +199,7 @@ impl<V: RowView, F: RowFinder> Scene<'_, V, F> {
         Ok(())
     }
 
-    /// The touched needs, ascending, each once. If it is leaves_out, needs may be left out that stand
+    /// Returns the touched needs, ascending, each once. If it is leaves_out, needs may be left out that stand
     /// behind one which no row serves.
     pub(crate) fn list_touched(&self, leaves_out: bool) -> Result<Vec<Need>, AllocError>
         requires ready { IsReady F.settled (model_of V.content self.now) }

@@ -1,7 +1,6 @@
 -- Cells filed at the numbers of spots: what stays when one is added or taken away.
 use Rattle.std.proofs.Common.{◌≡◌, ◌⊎◌, inl, inr, ◌+◌, ◌<◌, ℕ, zero, suc, arith, Bool, true, false, nat_eq, cond, not, ◌&&◌, ◌||◌, List, [], ◌∷◌, ◌++◌, take}
 use Rattle.std.proofs.Common.{get_or, length, Option, Some, None, unwrap_or, refl, ap, sym, subst, ◌∙◌}
-use Rattle.std.specs.Prelude.{Result, Ok, Err, OnErr}
 use Rattle.std.proofs.lemmas.Bool.{false≢true, true≢false, or_left, or_right, or_cases, and_parts, cases_Bool, eqb-true, not-true, not-false}
 use Rattle.std.proofs.lemmas.List.{take_more}
 use Rattle.std.proofs.lemmas.List.Folds.{list_any-append}
@@ -351,7 +350,3 @@ same_written f g s w m is same here x = is x ∙ go (nat_eq s x) refl
     go : (b : Bool) → nat_eq s x ≡ b → cond b (Some w) (f x) ≡ f x
     go true t = ap Some same ∙ here ∙ ap f (tied_number s x t)
     go false t = refl
-
-pub on_err : {T E P : Type 0} (r : Result T E) → P → OnErr r P
-on_err (Ok x) p = tt
-on_err (Err y) p = p

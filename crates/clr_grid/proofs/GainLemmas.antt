@@ -1,12 +1,13 @@
 -- Sets that gain cells until there is no memory.
 use Rattle.std.proofs.Common.{◌≡◌, ◌⊎◌, ◌∙◌, ◌<◌, ◌+◌, inl, inr, ℕ, Bool, true, nat_eq, ◌&&◌, ◌||◌, List, [], ◌∷◌, ◌++◌, append_assoc, ap, drop, get_or, length}
-use Rattle.std.proofs.Common.{refl, sym, take}
+use Rattle.std.proofs.Common.{arith, false, refl, sym, take}
 use Rattle.std.proofs.lemmas.Bool.{and_parts, or_cases, or_left, or_right}
 use Rattle.std.proofs.lemmas.List.{take-append-drop}
 use Rattle.std.proofs.lemmas.List.Folds.{list_any-append}
 use Rattle.std.specs.HashMap.{get}
 use Rattle.std.specs.FinSet as set
 use Rattle.std.specs.List.{list_any}
+use Rattle.std.specs.Map.{lookup}
 use Rattle.std.specs.Ordering.{eq_by_cmp}
 use Rattle.clr_rows.specs.declared.cells.CellId.{CellId}
 use Rattle.clr_rows.specs.Cells.{cell_cmp}
@@ -16,11 +17,25 @@ use Rattle.clr_finders.specs.declared.row_spots.RuleSpots.{RuleSpots}
 use Rattle.clr_grid.specs.declared.side_index.SideIndex.{SideIndex}
 use Rattle.clr_grid.specs.CellSets.{Cells, with_listed_cells}
 use Rattle.clr_row_maps.specs.CellLists.{is_one_of}
-use Rattle.clr_grid.specs.Filing.{At, Wide, has_cell}
+use Rattle.clr_grid.specs.Filing.{At, ByNumber, Wide, has_cell}
 use Rattle.clr_grid.specs.Gains.{GainsCells, IsFoundFor}
 use Rattle.clr_grid.proofs.FilingLemmas.{any_more, number_itself}
 use Rattle.clr_grid.proofs.SetLemmas.{has_with_cells, or_group}
 use Rattle.clr_grid.specs.SpotNumbers.{has_number, spot_number_of}
+
+-- ---- a map without entries
+
+no_entries : (es : List (ℕ × Cells)) → length es ≡ 0 → es ≡ []
+no_entries [] e = refl
+no_entries (x ∷ es) e = absurd (omega (arith, e))
+
+-- at no number it has a cell
+pub none_there : (m : ByNumber) → length m.entries ≡ 0 → (q : CellId) (xs : List Spot) → list_any (λ x. has_cell (get nat_eq m (spot_number_of x)) q) xs ≡ false
+none_there m e q [] = refl
+none_there m e q (x ∷ xs) = ap (λ es. has_cell (lookup (nat_eq (spot_number_of x)) es) q || list_any (λ y. has_cell (get nat_eq m (spot_number_of y)) q) xs)
+    (no_entries m.entries e) ∙ none_there m e q xs
+
+-- ---- what is gained
 
 module _ (allowed : CellId → Type 0) where
   pub gains_as : (less : CellId → Type 0) (m n : Cells) → ((q : CellId) → less q → allowed q) → GainsCells less m n → GainsCells allowed m n

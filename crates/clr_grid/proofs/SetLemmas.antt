@@ -2,11 +2,12 @@
 use Rattle.std.proofs.Common.{◌≡◌, Bool, true, false, cond, not, ◌&&◌, ◌||◌, List, [], ◌∷◌, ◌++◌, length, Option, Some, None, option_to_list, refl, ap, ap₂}
 use Rattle.std.proofs.Common.{Contains, sym, subst, ◌∙◌}
 use Rattle.std.specs.Prelude.{◌↔◌}
+use Rattle.std.proofs.Math.Bool.{and-false}
 use Rattle.std.proofs.lemmas.Bool.{true≢false, or_left}
 use Rattle.clr_rows.proofs.ChangeLemmas.{tied_self}
 use Rattle.std.specs.BTreeMap.{is_at}
 use Rattle.std.proofs.lemmas.List.Folds.{list_any-append}
-use Rattle.std.specs.Cmp.{eq_by_cmp_equiv, Equal-is}
+use Rattle.std.specs.Cmp.{both_ways, eq_by_cmp_equiv, Equal-is}
 use Rattle.std.specs.FinSet as set
 use Rattle.std.specs.List.{list_any}
 use Rattle.std.specs.Ordering.{eq_by_cmp}
@@ -50,10 +51,6 @@ pub no_keys : (ks : List CellId) → set.from_list {R = cell_cmp} ks ≡ set.emp
 no_keys [] e = refl
 no_keys (k ∷ ks) e = absurd (true≢false (sym (or_left (is_at (cell_cmp k) k) (list_any (is_at (cell_cmp k)) ks) (tied_self k))
     ∙ sym (set.contains-from_list cell_cmp_total (k ∷ ks) k) ∙ ap (λ (m : Cells). set.contains m k) e ∙ set.contains-empty cell_cmp k))
-
-pub and_none : (a : Bool) → (a && false) ≡ false
-and_none true = refl
-and_none false = refl
 
 or_move : (a b c : Bool) → ((a || b) || c) ≡ (b || (a || c))
 or_move true true c = refl
@@ -125,7 +122,7 @@ pub one_left : (f k q : CellId) → eq_by_cmp cell_cmp f k ≡ false → is_one_
 one_left f k q apart = go (eq_by_cmp cell_cmp q f) refl
   where
     go : (b : Bool) → eq_by_cmp cell_cmp q f ≡ b → (b || false) ≡ (not (eq_by_cmp cell_cmp q k) && (b || false))
-    go false e = sym (and_none (not (eq_by_cmp cell_cmp q k)))
+    go false e = sym (and-false (not (eq_by_cmp cell_cmp q k)))
     go true e = sym (ap (λ b. not b && true) (ap (λ c. eq_by_cmp cell_cmp c k) (cell_cmp_exact q f ((Equal-is (cell_cmp q f)).0 e)) ∙ apart))
 
 -- a cell that is gone
@@ -160,18 +157,13 @@ no_others (Some g) ks is e = absurd (cc)
 
 -- ---- cells in a list
 
-same_told : (a b : Bool) → (a ≡ true → b ≡ true) → (b ≡ true → a ≡ true) → a ≡ b
-same_told true b f g = sym (f refl)
-same_told false true f g = g refl
-same_told false false f g = refl
-
 none_or : (b : Bool) (m : Bool) → m ≡ false → (m || b) ≡ b
 none_or b m e = ap (λ c. c || b) e
 
 -- a list that has the same cells as another one has those of the set that the other one makes
 pub listed_alike : (xs ys : List CellId) → ((q : CellId) → Contains ys q ↔ Contains xs q) → (q : CellId) →
     is_one_of ys q ≡ set.contains (with_listed_cells set.empty xs) q
-listed_alike xs ys same q = same_told (is_one_of ys q) (is_one_of xs q) (λ e. listed xs ((same q).0 (contained q ys (one_among ys q e))))
+listed_alike xs ys same q = both_ways (is_one_of ys q) (is_one_of xs q) (λ e. listed xs ((same q).0 (contained q ys (one_among ys q e))))
     (λ e. listed ys ((same q).1 (contained q xs (one_among xs q e))))
     ∙ sym (has_with_cells xs set.empty q ∙ none_or (is_one_of xs q) (set.contains {R = cell_cmp} set.empty q) (set.contains-empty cell_cmp q))
   where

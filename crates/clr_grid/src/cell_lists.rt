@@ -33,7 +33,7 @@ impl Model for CellList {
 }
 
 impl CellList {
-    /// A list without cells.
+    /// Returns a list without cells.
     pub(crate) fn new(alloc: Global) -> CellList
         ensures { result ≡ set.empty }
     {
@@ -51,7 +51,7 @@ impl CellList {
         Ok(())
     }
 
-    /// Adds a cell, if there is one. It fails for want of memory alone, and changes nothing then.
+    /// Adds a cell, if there is one. If memory runs out, nothing changes.
     pub(crate) fn add_some(&mut self, cell: Option<CellId>) -> Result<(), AllocError>
         ensures ok { OnOk result (self.new ≡ with_listed_cells self.old (option_to_list cell)) }
         ensures err { OnErr result (self.new ≡ self.old) }
@@ -62,8 +62,7 @@ impl CellList {
         }
     }
 
-    /// Adds the keys of a tree. It fails for want of memory alone; then its own cells stay, and
-    /// besides them it has some of these keys alone.
+    /// Adds the keys of a tree. If memory runs out, the list keeps its own cells, and has some of these keys besides.
     pub(crate) fn add_keys(&mut self, cells: &BTreeSet<CellId>) -> Result<(), AllocError>
         ensures ok { OnOk result ((q : Cell) → set.contains self.new q ≡ (set.contains self.old q || is_one_of cells.now.keys q)) }
         ensures err { OnErr result (GainsCells (λ q. is_one_of cells.now.keys q ≡ true) self.old self.new) }
@@ -74,7 +73,7 @@ impl CellList {
         Ok(())
     }
 
-    /// The cells, ascending, each once. It takes no memory.
+    /// Returns the cells, ascending, each once. It takes no memory.
     pub(crate) fn into_vec(self) -> Vec<CellId>
         ensures exact { (q : Cell) → is_one_of result.items q ≡ set.contains self q }
         ensures rising { IsStrictlySortedBy cell_cmp result.items }

@@ -32,7 +32,7 @@ impl Model for CellSet {
 }
 
 impl CellSet {
-    /// A set without cells.
+    /// Returns a set without cells.
     pub(crate) fn new(alloc: Global) -> CellSet
         ensures { result ≡ set.empty }
     {
@@ -80,7 +80,7 @@ impl CellSet {
         }
     }
 
-    /// Whether there is no cell.
+    /// Returns whether there is no cell.
     pub(crate) fn is_empty(&self) -> bool
         ensures none { result ≡ true → self.now ≡ set.empty }
         ensures some { result ≡ false → self.now ≡ set.empty → ⊥ }
@@ -88,8 +88,7 @@ impl CellSet {
         self.cells.is_empty()
     }
 
-    /// Adds the cells to a list, where a test says so. It fails for want of memory alone; then the
-    /// list's own cells stay, and besides them it has cells of this set alone.
+    /// Adds the cells to a list, where a test says so. If memory runs out, the list keeps its own cells, and has some of this set besides.
     pub(crate) fn add_to(&self, test: bool, cells: &mut CellList) -> Result<(), AllocError>
         ensures ok { OnOk result ((q : Cell) → set.contains cells.new q ≡ (set.contains cells.old q || (test && set.contains self.now q))) }
         ensures err { OnErr result (GainsCells (λ q. (test && set.contains self.now q) ≡ true) cells.old cells.new) }
@@ -100,7 +99,7 @@ impl CellSet {
         Ok(())
     }
 
-    /// The first cell behind a given one, where a test says so, if there is one.
+    /// Returns the first cell behind a given one, where a test says so, if there is one.
     pub(crate) fn next_if(&self, test: bool, after: Option<CellId>) -> Option<CellId>
         ensures { IsNextOf (λ q. (test && set.contains self.now q) ≡ true) after result }
     {

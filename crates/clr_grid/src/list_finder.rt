@@ -41,7 +41,7 @@ impl ListFinder {
         }
     }
 
-    /// The cells that are found, servers alone or all.
+    /// Returns the cells that are found, servers alone or all.
     fn find(
         &self,
         book: &RuleBook,

@@ -9,7 +9,7 @@ use clr_rows::CellId;
 use std::collections::BTreeSet;
 use std::ops::Bound;
 
-/// The first key of a tree behind a given cell, if there is one.
+/// Returns the first key of a tree behind a given cell, if there is one.
 pub(crate) fn next_key(cells: &BTreeSet<CellId>, after: Option<CellId>) -> Option<CellId>
     ensures { IsNextOf (λ q. is_one_of cells.now.keys q ≡ true) after result }
 {
@@ -19,7 +19,7 @@ pub(crate) fn next_key(cells: &BTreeSet<CellId>, after: Option<CellId>) -> Optio
     }
 }
 
-/// A cell, if there is one, and it stands behind the given one.
+/// Returns a cell, if there is one, and it stands behind the given one.
 pub(crate) fn next_one(cell: Option<CellId>, after: Option<CellId>) -> Option<CellId>
     ensures { IsNextOf (λ q. is_one_of (option_to_list cell) q ≡ true) after result }
 {

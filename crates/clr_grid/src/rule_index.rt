@@ -25,7 +25,7 @@ pub(crate) struct RuleIndex {
     others: SideIndex,
 }
 
-/// A row that stays, if it is of that side.
+/// Returns a row that stays, if it is of that side.
 fn of_side(serves: bool, kept: Option<&RuleSpots>) -> Option<&RuleSpots>
     ensures { option_copied result ≡ of_side serves (option_copied kept.entry) }
 {
@@ -36,7 +36,7 @@ fn of_side(serves: bool, kept: Option<&RuleSpots>) -> Option<&RuleSpots>
 }
 
 impl RuleIndex {
-    /// An index without cells.
+    /// Returns an index without cells.
     fn new(alloc: Global) -> RuleIndex
         ensures none { (b : Bool) (k : Key) (q : Cell) → is_filed (side_index_of result b) k q ≡ false }
         ensures lean { (b : Bool) → HoldCells (side_index_of result b).by_spot }
@@ -97,7 +97,7 @@ impl RuleIndex {
     }
 }
 
-/// The spots of a row that stays under the rule of a number.
+/// Returns the spots of a row that stays under the rule of a number.
 fn spots_at(kept: Option<&RowSpots>, rule: usize) -> Option<&RuleSpots>
     ensures { option_copied result ≡ spots_at (option_copied kept.entry) rule }
 {
@@ -246,7 +246,7 @@ fn add_cells_near(
     }
 }
 
-/// The first of the cells of rows that may serve behind a given one, among those that are looked at
+/// Returns the first of the cells of rows that may serve behind a given one, among those that are looked at
 /// for a row under a rule, if there is one.
 pub(crate) fn next_server_near(
     rules: &[RuleIndex],
@@ -262,7 +262,7 @@ pub(crate) fn next_server_near(
     }
 }
 
-/// The cells that are looked at for a row under a rule, servers alone or all, ascending.
+/// Returns the cells that are looked at for a row under a rule, servers alone or all, ascending.
 pub(crate) fn cells_near(
     rules: &[RuleIndex],
     alloc: Global,

@@ -104,7 +104,7 @@ fn take_at(by_spot: &mut HashMap<u64, SpotCells>, number: u64, cell: CellId)
     }
 }
 
-/// Whether a row that stays is wide.
+/// Returns whether a row that stays is wide.
 fn keeps_wide(kept: Option<&RuleSpots>) -> bool
     ensures { result ≡ keeps_wide (option_copied kept.entry) }
 {
@@ -114,7 +114,7 @@ fn keeps_wide(kept: Option<&RuleSpots>) -> bool
     }
 }
 
-/// Whether a row that stays has a spot of that number.
+/// Returns whether a row that stays has a spot of that number.
 fn keeps_number(kept: Option<&RuleSpots>, number: u64) -> bool
     ensures { result ≡ keeps_number (option_copied kept.entry) number }
 {
@@ -147,7 +147,7 @@ fn take_at_each(
 }
 
 impl SideIndex {
-    /// An index without cells.
+    /// Returns an index without cells.
     pub(crate) fn new(alloc: Global) -> SideIndex
         ensures none { (k : Key) (q : Cell) → is_filed result k q ≡ false }
         ensures lean { HoldCells result.by_spot }
@@ -206,6 +206,9 @@ impl SideIndex {
         ensures err { OnErr result (GainsCells (λ q. list_any (λ x. has_cell (get nat_eq self.now.by_spot (spot_number_of x)) q) spots.now ≡ true)
             cells.old cells.new) }
     {
+        if self.by_spot.is_empty() {
+            return Ok(());
+        }
         for spot in spots {
             self.add_cells_at(number_of(spot), cells)?;
         }
@@ -225,7 +228,7 @@ impl SideIndex {
         Ok(())
     }
 
-    /// The first cell at a number behind a given one, if there is one.
+    /// Returns the first cell at a number behind a given one, if there is one.
     fn next_at(&self, number: u64, after: Option<CellId>) -> Option<CellId>
         ensures { IsNextOf (λ q. has_cell (get nat_eq self.now.by_spot number) q ≡ true) after result }
     {
@@ -235,7 +238,7 @@ impl SideIndex {
         }
     }
 
-    /// The first cell at the numbers of some spots behind a given one, if there is one.
+    /// Returns the first cell at the numbers of some spots behind a given one, if there is one.
     fn next_at_each(&self, spots: &[Spot], after: Option<CellId>) -> Option<CellId>
         ensures { IsNextOf (λ q. list_any (λ x. has_cell (get nat_eq self.now.by_spot (spot_number_of x)) q) spots.now ≡ true) after result }
     {
@@ -246,7 +249,7 @@ impl SideIndex {
         next
     }
 
-    /// The first cell behind a given one that is looked at for a row that isn't wide, if any.
+    /// Returns the first cell behind a given one that is looked at for a row that isn't wide, if any.
     pub(crate) fn next_near(&self, spots: &RuleSpots, after: Option<CellId>) -> Option<CellId>
         ensures { IsNextOf (IsFoundFor self.now spots.now) after result }
     {

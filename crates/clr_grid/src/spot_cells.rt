@@ -36,7 +36,7 @@ impl Model for SpotCells {
     ghost view = { λ s. set.from_list (option_to_list s.first ++ s.others.keys) };
 }
 
-/// A cell, if there is one, and it isn't the other one.
+/// Returns a cell, if there is one, and it isn't the other one.
 fn without(first: Option<CellId>, cell: CellId) -> Option<CellId>
     ensures { (q : Cell) → is_one_of (option_to_list result) q ≡ (not (eq_by_cmp cell_cmp q cell) && is_one_of (option_to_list first) q) }
 {
@@ -47,7 +47,7 @@ fn without(first: Option<CellId>, cell: CellId) -> Option<CellId>
 }
 
 impl SpotCells {
-    /// One cell alone.
+    /// Returns one cell alone.
     pub(crate) fn one(alloc: Global, cell: CellId) -> SpotCells
         ensures { result ≡ set.insert set.empty cell }
     {
@@ -57,7 +57,7 @@ impl SpotCells {
         }
     }
 
-    /// Adds a cell. It fails for want of memory alone, and changes nothing then.
+    /// Adds a cell. If memory runs out, nothing changes.
     pub(crate) fn add(&mut self, cell: CellId) -> Result<(), AllocError>
         ensures ok { OnOk result (self.new ≡ set.insert self.old cell) }
         ensures err { OnErr result (self.new ≡ self.old) }
@@ -81,7 +81,7 @@ impl SpotCells {
         self.others.remove(&cell);
     }
 
-    /// Whether there is no cell.
+    /// Returns whether there is no cell.
     pub(crate) fn is_empty(&self) -> bool
         ensures none { result ≡ true → self.now ≡ set.empty }
         ensures some { result ≡ false → self.now ≡ set.empty → ⊥ }
@@ -92,15 +92,14 @@ impl SpotCells {
         }
     }
 
-    /// The first cell behind a given one, if there is one.
+    /// Returns the first cell behind a given one, if there is one.
     pub(crate) fn next(&self, after: Option<CellId>) -> Option<CellId>
         ensures { IsNextOf (λ q. set.contains self.now q ≡ true) after result }
     {
         lesser_cell(next_one(self.first, after), next_key(&self.others, after))
     }
 
-    /// Adds the cells to a list. It fails for want of memory alone; then the list's own cells stay,
-    /// and besides them it has cells of these alone.
+    /// Adds the cells to a list. If memory runs out, the list keeps its own cells, and has some of these besides.
     pub(crate) fn add_to(&self, cells: &mut CellList) -> Result<(), AllocError>
         ensures ok { OnOk result ((q : Cell) → set.contains cells.new q ≡ (set.contains cells.old q || set.contains self.now q)) }
         ensures err { OnErr result (GainsCells (λ q. set.contains self.now q ≡ true) cells.old cells.new) }

@@ -50,8 +50,8 @@ impl SpotIndex {
         }
     }
 
-    /// This finder with one more row, at a cell where it has no row. So a finder is made of all rows
-    /// of a content, row by row. It fails for want of memory alone, and the finder is gone then.
+    /// Returns this finder with one more row, at a cell where it has no row. A finder of a content is made in this way, row by row.
+    /// If memory runs out, the finder is gone.
     pub fn with_row(self, book: &RuleBook, cell: CellId, row: &Row) -> Result<SpotIndex, AllocError>
         requires fit { FitTogether book.now ((cell, row.now) ∷ []) }
         requires free { finite.get self.settled cell ≡ None }
@@ -69,7 +69,7 @@ impl SpotIndex {
         })
     }
 
-    /// The cells that are found, servers alone or all.
+    /// Returns the cells that are found, servers alone or all.
     fn find(
         &self,
         book: &RuleBook,
@@ -90,7 +90,7 @@ impl SpotIndex {
             .find_among(self.alloc, servers, rule, &spots, cells.as_slice())
     }
 
-    /// A cell with a pending change, or none.
+    /// Returns a cell with a pending change, or none.
     fn first_pending(&self) -> Option<CellId>
         ensures { MatchOption result (self.now.pending ≡ finite.empty) (λ cell. is_some (finite.get self.now.pending cell) ≡ true) }
     {

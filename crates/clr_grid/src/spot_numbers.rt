@@ -14,14 +14,14 @@ pub(crate) const NUMBER_FACTOR: u64 = 0x9E37_79B9_7F4A_7C15;
 /// What is mixed in after the bytes of a text.
 pub(crate) const TEXT_END: u64 = 256;
 
-/// A number with another one mixed in.
+/// Returns a number with another one mixed in.
 fn mix_in(number: u64, more: u64) -> u64
     ensures { result ≡ mix_in number more }
 {
     number.wrapping_mul(NUMBER_FACTOR).wrapping_add(more)
 }
 
-/// A number with the bytes of a text mixed in.
+/// Returns a number with the bytes of a text mixed in.
 fn mix_bytes(number: u64, bytes: &[u8]) -> u64
     ensures { result ≡ fold mix_in number bytes.now }
 {
@@ -32,7 +32,7 @@ fn mix_bytes(number: u64, bytes: &[u8]) -> u64
     mixed
 }
 
-/// A number with a value mixed in.
+/// Returns a number with a value mixed in.
 fn mix_value(number: u64, value: &Value) -> u64
     ensures { result ≡ mix_value number value.now }
 {
@@ -42,7 +42,7 @@ fn mix_value(number: u64, value: &Value) -> u64
     }
 }
 
-/// A number with some values mixed in.
+/// Returns a number with some values mixed in.
 fn mix_values(number: u64, values: &[Value]) -> u64
     ensures { result ≡ fold mix_value number values.now }
 {
@@ -53,7 +53,7 @@ fn mix_values(number: u64, values: &[Value]) -> u64
     mixed
 }
 
-/// The number of a spot.
+/// Returns the number of a spot.
 #[tactic(auto, unfolding(crate::specs::SpotNumbers::spot_number_of))]
 pub(crate) fn number_of(spot: &Spot) -> u64
     ensures { result ≡ spot_number_of spot.now }
@@ -64,7 +64,7 @@ pub(crate) fn number_of(spot: &Spot) -> u64
     }
 }
 
-/// Whether some spot has a number.
+/// Returns whether some spot has a number.
 pub(crate) fn have_number(spots: &[Spot], number: u64) -> bool
     ensures { result ≡ list_any (has_number number) spots.now }
 {

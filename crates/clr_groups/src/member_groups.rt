@@ -28,7 +28,7 @@ fn members_with(alloc: Global, labels: &[u16], label: u16) -> Result<Vec<u16>, A
     Ok(list)
 }
 
-/// For each label that a member has, the members that have it.
+/// Returns, for each label that a member has, the members that have it.
 fn groups_by(alloc: Global, labels: &[u16]) -> Result<Vec<Vec<u16>>, AllocError>
     requires few { length labels.now ≤ MOST_MEMBERS }
     requires below { (x : ℕ) → x < length labels.now → get_or labels.now x 0 < length labels.now }

@@ -1,9 +1,10 @@
 //! Where a text stops being JSON, and why.
-ghost use Rattle.std.specs.Prelude.{◌≡◌, ◌+◌, ◌<◌, ◌≤◌, drop, length, position, IfSome};
-ghost use Rattle.clr_places.specs.Places.{is_line_end, next_line_length};
+ghost use Rattle.std.specs.Prelude.{◌≡◌, ◌+◌, ◌<◌, ◌≤◌, drop, length};
+ghost use Rattle.clr_places.specs.Places.{next_line_length};
 ghost use Rattle.clr_hints.specs.JsonFaults.{IsJsonFault, behind_line_ends, is_space, last_byte, offset_at, sentence_at, sentence_of, told};
 
 use crate::encodings::{encoding_fault, has_byte_order_mark};
+use clr_places::{first_line_end, first_line_length};
 
 /// Where a text stops being JSON: the offset of the byte, a sentence, and a hint where one helps.
 #[derive(Drop)]
@@ -13,30 +14,11 @@ pub struct JsonFault {
     pub hint: Option<&'static str>,
 }
 
-/// Returns where the first line end stands.
-fn line_end(text: &[u8]) -> Option<usize>
-    ensures value { result ≡ position is_line_end text.now }
-    ensures bound { IfSome result (λ at. at < length text.now) }
-{
-    text.iter().position(|byte| *byte == b'\n')
-}
-
-/// Returns how many bytes stand before the first line end, or all where there is none.
-fn line_length(text: &[u8]) -> usize
-    ensures value { result ≡ next_line_length text.now }
-    ensures bound { result ≤ length text.now }
-{
-    match line_end(text) {
-        Some(at) => at,
-        None => text.len(),
-    }
-}
-
 /// Returns what stands behind the first line end, nothing where there is none.
 fn behind_line_end(text: &[u8]) -> &[u8]
     ensures { result.now ≡ drop (next_line_length text.now + 1) text.now }
 {
-    match line_end(text) {
+    match first_line_end(text) {
         Some(at) => &text[at + 1..],
         None => &text[text.len()..],
     }
@@ -65,7 +47,7 @@ fn offset_of(text: &[u8], line: usize, column: usize) -> usize
 {
     let rest = behind_line_ends(text, line.saturating_sub(1));
     let before = text.len() - rest.len();
-    before + column.saturating_sub(1).min(line_length(rest))
+    before + column.saturating_sub(1).min(first_line_length(rest))
 }
 
 fn is_space(byte: u8) -> bool

@@ -5,7 +5,7 @@
 //!   aren't UTF-8, or of the byte at a line and a column, by what stands there and before it.
 //! - `nearest` [`nearest`]: the first of the names that are most alike, where one is alike enough; none else.
 //! - `metres_hint`: a hint at exactly the texts that are decimal numbers of metres with at most three decimals, with their millimetres.
-//! - What else is said of names, blank lines and values is tested. Each call gives up for want of memory alone.
+//! - What else is said of names, blank lines and values is tested.
 #![tactic(auto)]
 
 mod blank_lines;

@@ -2,7 +2,8 @@
 
 /// What stands before the title of a page. The policy lets a reader load nothing and run no script.
 pub(crate) const OPENING: &str =
-    "<!doctype html>\n<html lang=\"en\">\n<head>\n<meta charset=\"utf-8\">\n<meta name=\"viewport\" content=\"width=device-width\">\n<meta http-equiv=\"Content-Security-Policy\" content=\"default-src 'none'; style-src 'unsafe-inline'\">\n<title>";
+    "<!doctype html>\n<html lang=\"en\">\n<head>\n<meta charset=\"utf-8\">\n<meta name=\"viewport\" content=\"width=device-width\">\n\
+     <meta http-equiv=\"Content-Security-Policy\" content=\"default-src 'none'; style-src 'unsafe-inline'\">\n<title>";
 
 /// What stands between the title and the sections of a page: how it looks on a screen, and on paper of size A4.
 pub(crate) const STYLES: &str = "</title>\n<style>
@@ -31,7 +32,8 @@ details{border-top:1px solid #d9dee3;padding:6px 0}
 summary{cursor:pointer}
 summary b{display:inline-block;min-width:10em}
 details table{margin:8px 0 0 18px;width:calc(100% - 18px)}
-pre{font:13px/1.5 ui-monospace,Consolas,'DejaVu Sans Mono',monospace;background:#f6f7f5;border-radius:6px;padding:12px 14px;margin:8px 0;white-space:pre-wrap;overflow-wrap:anywhere}
+pre{font:13px/1.5 ui-monospace,Consolas,'DejaVu Sans Mono',monospace;background:#f6f7f5;border-radius:6px;padding:12px 14px;margin:8px 0;\
+white-space:pre-wrap;overflow-wrap:anywhere}
 @media print{
 body{background:#fff;font-size:10pt}
 main{max-width:none;padding:0}

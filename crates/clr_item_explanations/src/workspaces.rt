@@ -11,7 +11,7 @@ use clr_tree::PartFault;
 use serde_json::Value as Json;
 use std::alloc::{AllocError, Global};
 
-/// LIVE and the names of the workspaces before one.
+/// Returns LIVE and the names of the workspaces before one.
 fn earlier_names<'a>(
     alloc: Global,
     items: &'a [Json],

@@ -1,14 +1,15 @@
 -- The contents in which rules are to hold, once an operation of the tree changed a workspace.
-use Rattle.std.proofs.Common.{◌≡◌, ◌∙◌, ℕ, zero, suc, ◌<◌, Bool, true, false, cond, List, [], ◌∷◌, ◌++◌, map, remove, Option, Some, None, refl, sym, ap}
+use Rattle.std.proofs.Common.{◌≡◌, ◌∙◌, ℕ, zero, suc, ◌<◌, Bool, true, false, cond, List, [], ◌∷◌, ◌++◌, remove, Option, Some, None, refl, sym, ap}
 use Rattle.std.proofs.Common.{slice_index_or, slice_set}
 use Rattle.std.specs.Option.{option_map}
-use Rattle.std.proofs.lemmas.List.{map-set}
+use Rattle.std.proofs.lemmas.List.{map-append, map-set}
 use Rattle.std.proofs.Math.ListN.{get_or-map}
 use Rattle.std.proofs.Math.Seq.{map-set_same}
 use Rattle.clr_rows.specs.declared.cells.CellId.{CellId}
 use Rattle.clr_rows.specs.Contents.{Content, taken_over}
 use Rattle.clr_workspaces.specs.Marks.{Mark, Name, mark_last, without_mark_of}
 use Rattle.clr_workspaces.specs.Workspaces.{Workspace, no_workspace, parent_of, workspace_at}
+use Rattle.clr_workspaces.proofs.LeafLemmas.{map_remove}
 use Rattle.clr_workspaces.proofs.RootLemmas.{later_stays}
 use Rattle.clr_workspaces.specs.Operations.{after_create, after_refresh, after_remove, after_remove_under, after_rebase, after_rebase_under, after_write}
 use Rattle.clr_workspaces.specs.Operations.{at_position, change_at, change_marks, keep_row, new_leaf, own_changes, with_base_merged, refresh, with_current}
@@ -47,20 +48,10 @@ same_marks : (ws : List Workspace) (at : ℕ) (f : List Mark → List Mark) → 
 same_marks ws zero f = refl
 same_marks ws (suc k) f = same_content ws (suc k) (with_marks f) refl
 
-map_remove : {A B : Type 0} (f : A → B) (xs : List A) (at : ℕ) → map f (remove xs at) ≡ remove (map f xs) at
-map_remove f [] zero = refl
-map_remove f [] (suc at) = refl
-map_remove f (x ∷ xs) zero = refl
-map_remove f (x ∷ xs) (suc at) = ap (λ ys. f x ∷ ys) (map_remove f xs at)
-
-map_append : {A B : Type 0} (f : A → B) (xs ys : List A) → map f (xs ++ ys) ≡ map f xs ++ map f ys
-map_append f [] ys = refl
-map_append f (x ∷ xs) ys = ap (λ zs. f x ∷ zs) (map_append f xs ys)
-
 pub after_creating : (ws : List Workspace) (name : Name) (at : ℕ) → kept_contents (after_create ws name at) ≡ kept_contents ws ++ None ∷ []
 after_creating ws name at =
     let above = workspace_at ws at in
-    map_append kept_content (change_marks ws at (with_mark_of name)) (new_leaf name above.name above.current ∷ [])
+    map-append kept_content (change_marks ws at (with_mark_of name)) (new_leaf name above.name above.current ∷ [])
     ∙ ap (λ cs. cs ++ None ∷ []) (same_marks ws at (with_mark_of name))
 
 pub after_removing : (ws : List Workspace) (at above : ℕ) → parent_of ws at ≡ Some above → kept_contents (after_remove ws at) ≡ remove (kept_contents ws) at

@@ -1,12 +1,13 @@
 -- What is found at the position of a name, or of a savepoint.
 use Rattle.std.proofs.Common.{◌≡◌, ℕ, zero, suc, ◌<◌, true, List, [], Option, Some, None, refl, ap, ◌∙◌, arith}
 use Rattle.std.specs.Str.{bytes_eq}
-use Rattle.clr_workspaces.specs.Marks.{Name, Mark, Saved, ChildMark, is_saved, is_saved_as, find_mark, mark_at}
+use Rattle.clr_workspaces.specs.Marks.{Name, Mark, ChildMark, is_saved, is_saved_as, find_mark, mark_at}
 use Rattle.clr_workspaces.specs.Workspaces.{Workspace, children_of, no_workspace, parent_of, workspace_at}
 use Rattle.clr_rows.specs.Contents.{taken_over}
 use Rattle.clr_workspaces.specs.Operations.{after_rebase, after_rebase_under, at_position, change_at, own_changes, with_base_merged, with_current}
 use Rattle.clr_workspaces.specs.declared.rebases.Rebase.TheVariants as ways
 use Rattle.clr_workspaces.proofs.CountLemmas.{count-set}
+use Rattle.clr_workspaces.proofs.NameLemmas.{saved_as}
 use Rattle.clr_workspaces.proofs.RootLemmas.{stays_at}
 use Rattle.clr_steps.specs.declared.commands.Reply.{Reply}
 use Rattle.clr_steps.specs.Refusals.{first_of}
@@ -17,10 +18,6 @@ use Rattle.clr_steps.proofs.FirstLemmas.{first_at_position, first_passes}
 pub below : (r : Option ℕ) (at : ℕ) (refusals : ℕ → List (Option Reply)) → r ≡ Some at → 0 < at → refusal_below r refusals ≡ first_of (refusals at)
 below r zero refusals e lt = absurd (omega arith)
 below r (suc k) refusals e lt = ap (λ r. refusal_below r refusals) e
-
-saved_as : (name : Name) (m : Mark) → is_saved_as name m ≡ true → is_saved m ≡ true
-saved_as name (Saved other content) e = refl
-saved_as name (ChildMark other) e = absurd (cc)
 
 -- a savepoint that is found is one
 pub found_saved : (marks : List Mark) (name : Name) (i : ℕ) → find_mark marks name ≡ Some i → is_saved (mark_at marks i) ≡ true

@@ -51,7 +51,7 @@ fn note_changes(
     Ok(())
 }
 
-/// Returns the finder of the rows of a content. It fails for want of memory alone.
+/// Returns the finder of the rows of a content.
 pub fn finder_of(alloc: Global, book: &RuleBook, rows: &Sheet) -> Result<SpotIndex, AllocError>
     requires { FitsContent book.now rows.now }
     ensures { IfOk result (IsFinderOf book.now rows.now) }

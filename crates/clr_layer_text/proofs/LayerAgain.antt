@@ -1,9 +1,9 @@
 -- The text of a layer is read as the rows that were written.
-use Rattle.std.proofs.Common.{◌≡◌, ℕ, suc, ◌+◌, ◌^◌, Bool, true, List, [], ◌∷◌, get_or, map, Ok, Option, Some, None, ℤ, pos, refl}
+use Rattle.std.proofs.Common.{◌≡◌, ℕ, suc, ◌+◌, Bool, true, List, [], ◌∷◌, get_or, map, Ok, Option, Some, None, ℤ, pos, refl}
 use Rattle.std.proofs.Common.{arith}
 use Rattle.std.specs.Prelude.{IsUtf8, slice_get, unwrap_or}
 use Rattle.std.specs.List.{All, AllByRecursion, list_all}
-use Rattle.std.proofs.lemmas.Bool.{and_parts, lt-ltb}
+use Rattle.std.proofs.lemmas.Bool.{and_parts}
 use Rattle.std.proofs.lemmas.List.Elements.{recursion_from_All}
 use Rattle.std.proofs.lemmas.Str.{IsUtf8-nil, is_utf8-from_IsUtf8}
 use Rattle.std.proofs.lemmas.Option.{slice_get-get_or}
@@ -23,7 +23,7 @@ use Rattle.clr_records.proofs.Turns.{joined}
 use Rattle.clr_records.proofs.Utf8.{low_utf8, name_utf8, number_utf8}
 use Rattle.clr_layer_text.specs.declared.limits.TheConstants.{SHAPE}
 use Rattle.clr_rows.specs.Schemas.{has_coordinates, is_key, is_number, names_of, schema_fault}
-use Rattle.clr_rows.proofs.SchemaLemmas.{good_column_name, key_of as key_parts, row_fits}
+use Rattle.clr_rows.proofs.SchemaLemmas.{good_column_name, key_within, row_fits}
 use Rattle.clr_records.specs.Records.{in_turn}
 use Rattle.clr_layer_text.specs.declared.rows.LayerRow.{LayerRow}
 use Rattle.clr_layer_text.specs.Layers.{cell_of, header_of, key_text, layer_text, row_fields, rows_from, shape_fields, shape_name, value_text}
@@ -77,7 +77,7 @@ header_utf8 tables at table sound is =
 
 key_utf8 : (key : Option ℤ) → is_key (unwrap_or key (pos 1)) ≡ true → IsUtf8 (key_text key)
 key_utf8 None e = IsUtf8-nil
-key_utf8 (Some z) e = let k = key_parts z e in let le = k.3 in number_utf8 z (rw k.1 (lt-ltb k.0 (2 ^ 63) (omega arith)))
+key_utf8 (Some z) e = number_utf8 z (key_within z e)
 
 value_utf8 : (value : Value) → is_number value ≡ true → IsText value → IsUtf8 (value_text value)
 value_utf8 (Int n) number text = number_utf8 n number

@@ -60,7 +60,7 @@ name-top : (live : Content) (l : Layer) → (top live l).name ≡ l.name
 unfolding top
 name-top live l = refl
 
-parent-whole : (above : Content) (l : Layer) → (whole_of above l).parent ≡ l.parent
+pub parent-whole : (above : Content) (l : Layer) → (whole_of above l).parent ≡ l.parent
 unfolding whole_of
 parent-whole above l = refl
 

@@ -10,6 +10,7 @@ use Rattle.clr_needs.specs.Picks.{HasBoth, IsLeastVersion, IsPickBy, ServesAs}
 use Rattle.clr_needs.specs.Renamings.{IsSameLife, IsSameVersion, IsSameVersionIfAny}
 use Rattle.clr_needs.specs.Settings.{Setting, Lifetime, Always, With, Without, Lived}
 use Rattle.clr_needs.proofs.PartLives.{IsSecondIn, IsVersionIn, names_up, second_in, second_names_up, version_in}
+use Rattle.clr_needs.proofs.PickLaws.{least_as}
 
 -- members and those that stand for them
 pub record IsOneToOne {A B : Type 0} (stands : A → B → Type 0) : Type 0 where
@@ -218,9 +219,6 @@ module _ {A B : Type 0} (c : Setting A) (d : Setting B) (stands : A → B → Ty
   who_has_both x ((v, h), k) = takes_to x v h
 
 -- what is picked ------------------------------------------------------------------------------------
-
-least_as : (P Q : VersionId → Type 0) (v : VersionId) → ((w : VersionId) → P w → Q w) → ((w : VersionId) → Q w → P w) → IsLeastVersion P v → IsLeastVersion Q v
-least_as P Q v there back (is, least) = (there v is, λ w lesser h. least w lesser (back w h))
 
 module _ {A B : Type 0} (before : A → A → Type 0) (earlier : B → B → Type 0) (c : Setting A) (d : Setting B) (stands : A → B → Type 0) (one : IsOneToOne stands)
     (order : IsInOneOrder before earlier stands) (n : Need)

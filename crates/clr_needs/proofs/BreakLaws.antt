@@ -3,7 +3,7 @@ use Rattle.std.proofs.Common.{◌≡◌, ◌∙◌, ◌<◌, ◌≤◌, ◌+◌,
 use Rattle.std.proofs.Common.{get_or, length, take, refl, sym, ap, subst, unwrap_or}
 use Rattle.std.specs.List.{range_with_len}
 use Rattle.std.specs.Option.{option_cmp, option_map}
-use Rattle.std.specs.Ordering.{bool_cmp, is_gt, nat_cmp, ordering_then}
+use Rattle.std.specs.Ordering.{bool_cmp, nat_cmp, ordering_then}
 use Rattle.std.specs.declared.cmp.Ordering.{Ordering}
 use Rattle.std.specs.declared.cmp.Ordering.TheVariants.{Less, Equal, Greater}
 use Rattle.std.proofs.lemmas.Bool.{and_parts, cases_Bool, false≢true, or_cases, or_left, or_right}
@@ -38,11 +38,6 @@ use Rattle.clr_needs.proofs.Placing.{after}
 use Rattle.clr_needs.proofs.Reading.{one_more}
 use Rattle.clr_needs.proofs.Merges.{IsMerge, root_is, taken_over}
 use Rattle.clr_needs.proofs.NeedSubjects.{subjects_once}
-
-pub less_not_gt : (o : Ordering) → o ≡ Less → is_gt o ≡ false
-less_not_gt Less e = refl
-less_not_gt Equal e = cc
-less_not_gt Greater e = cc
 
 module _ (rules : List Rule) (root : Content) (sets : List Changes) (one : length sets ≡ 1) where
   abbrev s : Setting ℕ
@@ -150,8 +145,8 @@ module _ (rules : List Rule) (root : Content) (sets : List Changes) (one : lengt
 
   -- ---- broken needs
 
-  pub lost_is_broken : (n : Need) → IsUnservedAfterMerge s n → IsBroken rules (view_after_merge s) (broken_of n)
-  lost_is_broken n (a, b, p, living, unserved) = subst (λ view. IsBroken rules view (broken_of n)) views (record {
+  pub unserved_is_broken : (n : Need) → IsUnservedAfterMerge s n → IsBroken rules (view_after_merge s) (broken_of n)
+  unserved_is_broken n (a, b, p, living, unserved) = subst (λ view. IsBroken rules view (broken_of n)) views (record {
     first = held_row n.first a;
     second = held_if_any n.second b;
     need = is_need s ts n a b merge (it_stands n a b p living);
@@ -168,7 +163,7 @@ module _ (rules : List Rule) (root : Content) (sets : List Changes) (one : lengt
 
   -- a broken need is that of a touched one that nothing serves
   pub record IsBrokenBy (b : Broken) (n : Need) : Type 0 where
-    pub lost : IsUnservedAfterMerge s n
+    pub broken : IsUnservedAfterMerge s n
     pub touched : IsTouched s n
     pub named : b ≡ broken_of n
 
@@ -183,7 +178,7 @@ module _ (rules : List Rule) (root : Content) (sets : List Changes) (one : lengt
           go (inl touched) = (
             n,
             record {
-              lost = (x, y, need.possible, living_too n x y need.possible need, λ h. unserved (server_stands n x y h));
+              broken = (x, y, need.possible, living_too n x y need.possible need, λ h. unserved (server_stands n x y h));
               touched = (x, y, need.possible, touched);
               named = named;
             },
@@ -289,9 +284,9 @@ module _ (rules : List Rule) (root : Content) (sets : List Changes) (one : lengt
 
   pub need_order : (m n : Need) → IsUnservedAfterMerge s m → IsUnservedAfterMerge s n → need_cmp m n ≡ broken_cmp (broken_of m) (broken_of n)
   unfolding broken_cmp
-  need_order m n lost lost_too =
-      let first = subjects_live m lost in
-      let second = subjects_live n lost_too in
+  need_order m n broken unserved_too =
+      let first = subjects_live m broken in
+      let second = subjects_live n unserved_too in
       λ i. ordering_then (nat_cmp m.rule n.rule) (ordering_then (version_order m.first n.first first.0 second.0 i)
       (ordering_then (second_order m.second n.second first.1 second.1 i) (ordering_then (nat_cmp m.first_part n.first_part)
       (nat_cmp m.second_part n.second_part))))
@@ -329,10 +324,10 @@ module _ (c : Setting ℕ) (n : Need) where
   touched_possible needs are h = let (a, b, p, touched) = (are.exactly n).0 h in (a, b, p)
 
 -- the judgement of one more need
-pub kept_more : (c : Setting ℕ) (needs : List Need) (k : ℕ) (n : Need) (d : Need) (lost : Bool) → k < length needs → n ≡ get_or needs k d
-    → ((m : Need) → Contains (take k needs) m → IsServedAfterMerge c m) → IsJudged c n lost → lost ≡ false
+pub kept_more : (c : Setting ℕ) (needs : List Need) (k : ℕ) (n : Need) (d : Need) (broken : Bool) → k < length needs → n ≡ get_or needs k d
+    → ((m : Need) → Contains (take k needs) m → IsServedAfterMerge c m) → IsJudged c n broken → broken ≡ false
     → (m : Need) → Contains (take (k + 1) needs) m → IsServedAfterMerge c m
-kept_more c needs k n d lost less is kept judged fails m h = by (one_more needs k d m less h)
+kept_more c needs k n d broken less is kept judged fails m h = by (one_more needs k d m less h)
   where
     by : Contains (take k needs) m ⊎ (m ≡ get_or needs k d) → IsServedAfterMerge c m
     by (inl earlier) = kept m earlier

@@ -15,7 +15,8 @@ use Rattle.clr_needs.specs.Witnesses.{HasPair, IsFirstPair, IsLeastPassing, IsPa
 use Rattle.clr_needs.proofs.BlockerLaws.{blocker_below, life_at, lives_as, same_told, subject_told, told_subject}
 use Rattle.clr_needs.proofs.NeedSubjects.{subjects_once}
 
-least_as : (P Q : VersionId → Type 0) (v : VersionId) → ((w : VersionId) → P w → Q w) → ((w : VersionId) → Q w → P w) → IsLeastVersion P v → IsLeastVersion Q v
+pub least_as : (P Q : VersionId → Type 0) (v : VersionId) → ((w : VersionId) → P w → Q w) → ((w : VersionId) → Q w → P w) → IsLeastVersion P v
+    → IsLeastVersion Q v
 least_as P Q v there back (is, least) = (there v is, λ w lesser h. least w lesser (back w h))
 
 module _ (c : Setting ℕ) (n : Need) (servers : List VersionId) (are : AreServers c n servers) (a : Lived ℕ) (b : Option (Lived ℕ))

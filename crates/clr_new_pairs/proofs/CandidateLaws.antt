@@ -5,7 +5,7 @@ use Rattle.std.specs.Option.{option_map}
 use Rattle.std.specs.declared.cmp.Ordering.{Ordering}
 use Rattle.std.specs.declared.cmp.Ordering.TheVariants.{Less, Equal, Greater}
 use Rattle.std.specs.Ordering.{ordering_reverse}
-use Rattle.std.proofs.lemmas.Bool.{and_parts, cases_lt, false≢true, or_left, or_right}
+use Rattle.std.proofs.lemmas.Bool.{and_from, and_parts, cases_lt, false≢true, or_left, or_right}
 use Rattle.std.proofs.lemmas.Bool.Decides.{Decides-eqb}
 use Rattle.clr_rows.specs.Cells.{cell_cmp}
 use Rattle.clr_rows.specs.Held.{Held}
@@ -372,9 +372,6 @@ module _ (rules : List Rule) (ask : Ask) (s : Version) (t : Option Version) (oth
 
 -- ---- the sides of two subjects
 
-both_true : (a b : Bool) → a ≡ true → b ≡ true → (a && b) ≡ true
-both_true a b e f = λ i. e i && f i
-
 -- each of two that call is of a side of two subjects
 pub both_paired : (rules : List Rule) (ask : Ask) (s t : Held) → calls rules ask s (Some t) ≡ true → (may_be_paired rules ask.rule s ≡ true)
     × (may_be_paired rules ask.rule t ≡ true)
@@ -382,6 +379,6 @@ unfolding may_be_paired
 both_paired rules ask s t e =
     let two = two_asked rules ask s t e in
     elim (subjects_beside rules ask s t e) [
-      | inl w ↦ (both_true _ _ two (or_left _ _ w.0), both_true _ _ two (or_right _ _ w.1))
-      | inr w ↦ (both_true _ _ two (or_right _ _ w.1), both_true _ _ two (or_left _ _ w.0))
+      | inl w ↦ (and_from _ _ two (or_left _ _ w.0), and_from _ _ two (or_right _ _ w.1))
+      | inr w ↦ (and_from _ _ two (or_right _ _ w.1), and_from _ _ two (or_left _ _ w.0))
     ]

@@ -21,21 +21,21 @@ use clr_versions::{RootVersions, Version, are_opposed, may_be_paired};
 use std::alloc::{AllocError, Global};
 use std::cmp::Ordering;
 
-/// The version at a position, if there is one.
+/// Returns the version at a position, if there is one.
 fn version_at<'a>(versions: &[Version<'a>], position: usize) -> Option<Version<'a>>
     ensures { MatchOption result (slice_get versions.now position ≡ None) (λ v. slice_get versions.now position ≡ Some v) }
 {
     versions.get(position).copied()
 }
 
-/// The last of some needs, if there is one.
+/// Returns the last of some needs, if there is one.
 fn last_need(needs: &[Need]) -> Option<Need>
     ensures { IfSome result (λ n. slice_get needs.now (length needs.now - 1) ≡ Some n) }
 {
     needs.last().copied()
 }
 
-/// Whether a need is that of two new versions under a rule.
+/// Returns whether a need is that of two new versions under a rule.
 fn is_of_two_new(rule: u16, need: &Need) -> bool
     ensures { result ≡ (is_fresh need.now.second && (need.now.first.fresh && (need.now.rule == rule))) }
 {
@@ -45,7 +45,7 @@ fn is_of_two_new(rule: u16, need: &Need) -> bool
     }
 }
 
-/// Whether two cells stand behind the last one that counts, where there is such a one.
+/// Returns whether two cells stand behind the last one that counts, where there is such a one.
 fn are_past(last: Option<CellId>, one: CellId, other: CellId) -> bool
     ensures { result ≡ (is_past last one && is_past last other) }
 {
@@ -273,7 +273,7 @@ impl<V: RowView> NewPairs<'_, '_, V> {
         }
     }
 
-    /// The cell of the first subject of the last of some needs, where needs behind it may be left
+    /// Returns the cell of the first subject of the last of some needs, where needs behind it may be left
     /// out: it is of this rule, under which no row serves, and of two new versions.
     fn last_that_counts(&self, rule: u16, leaves_out: bool, needs: &[Need]) -> Option<CellId>
         requires number { rule < length self.now.versions.book.now }

@@ -5,7 +5,7 @@ ghost use Rattle.clr_new_pairs.specs.NewPairs.{is_unserved, is_unserved_under};
 
 use clr_rules::{Rule, RuleBook};
 
-/// Whether no row serves under a rule.
+/// Returns whether no row serves under a rule.
 fn is_unserved(rule: &Rule) -> bool
     ensures { result ≡ is_unserved rule.now }
 {
@@ -15,7 +15,7 @@ fn is_unserved(rule: &Rule) -> bool
     }
 }
 
-/// Whether no row serves under the rule of a number.
+/// Returns whether no row serves under the rule of a number.
 #[tactic(auto, unfolding(crate::specs::NewPairs::is_unserved_under))]
 pub(crate) fn is_unserved_by_number(book: &RuleBook, rule: u16) -> bool
     requires { rule < length book.now }

@@ -1,5 +1,5 @@
 //! Merges that a certificate clears.
-ghost use Rattle.std.specs.Prelude.{◌≡◌, ◌||◌, is_some, false, IfOk};
+ghost use Rattle.std.specs.Prelude.{◌≡◌, ◌++◌, ◌||◌, is_some, false, IfOk};
 ghost use Rattle.std.specs.List.{flat_map, list_any};
 ghost use Rattle.clr_steps.specs.Steps.{is_lost};
 ghost use Rattle.clr_clearance.specs.Plans.{merges};
@@ -63,6 +63,16 @@ pub fn stop_output(alloc: Global, stopped: Option<usize>) -> Result<Output, Allo
     })
 }
 
+/// Returns lines with a text behind them. They stand in the memory of the text, so that a long text isn't copied.
+fn with_text_behind(lines: &[u8], mut text: Vec<u8>) -> Result<Vec<u8>, AllocError>
+    ensures { IfOk result (λ all. all.items ≡ lines.now ++ text.items) }
+{
+    let length = text.len();
+    text.extend_from_slice(lines)?;
+    text.rotate_left(length);
+    Ok(text)
+}
+
 /// Returns the lines of merges that were performed, and the text of the office that they left.
 fn run_output(alloc: Global, office: &Office, run: &ClearedRun) -> Result<Output, AllocError>
     ensures lines { IfOk result (λ o. o.lines.items ≡ merge_text run.now.replies.items run.now.stopped office.now) }
@@ -71,15 +81,15 @@ fn run_output(alloc: Global, office: &Office, run: &ClearedRun) -> Result<Output
 {
     let mut all = replies_output(alloc, office.schema(), run.replies.as_slice())?;
     all.append(&stop_output(alloc, run.stopped)?)?;
-    all.lines
-        .extend_from_slice(dump_text(alloc, office)?.as_slice())?;
+    let text = dump_text(alloc, office)?;
+    let lines = with_text_behind(all.lines.as_slice(), text)?;
+    all.lines = lines;
     Ok(all)
 }
 
 /// Merges workspaces in the order of their names, as far as that is quiet for a certificate, where
 /// it is clear. There is a line for each merge that was performed, one that says where the merges
 /// stopped, and the text of the office. Where the certificate isn't clear the verdict stands alone.
-/// It fails if no memory is found for the commands or for a line.
 pub fn merge_members(
     alloc: Global,
     office: &mut Office,

@@ -1,10 +1,10 @@
 -- The rows of LIVE and the cells of differences that are written are read back, and put at their cells again.
-use Rattle.std.proofs.Common.{◌≡◌, ℕ, suc, ◌^◌, ℤ, pos, negsuc, arith, Bool, true, T, List, [], ◌∷◌, map, Option, Some, None, Ok, refl, ap, ◌∙◌}
+use Rattle.std.proofs.Common.{◌≡◌, ℕ, ℤ, Bool, true, T, List, [], ◌∷◌, map, Option, Some, None, Ok, refl, ap, ◌∙◌}
 use Rattle.std.specs.Prelude.{slice_get}
 use Rattle.std.specs.FinMap as finite
 use Rattle.std.specs.FinMap.Entries.{is_sorted}
 use Rattle.std.specs.List.{AllByRecursion, list_all}
-use Rattle.std.proofs.lemmas.Bool.{and_parts, and_from, leb-true, lt-ltb}
+use Rattle.std.proofs.lemmas.Bool.{and_parts, and_from}
 use Rattle.serde_json.specs.View.{items_of}
 use Rattle.clr_rows.specs.declared.cells.CellId.{CellId}
 use Rattle.clr_rows.specs.declared.places.Place.{Place}
@@ -46,7 +46,8 @@ use Rattle.clr_office_text.specs.Patches.{named_cell_of, put_fault, with_cell, w
 use Rattle.clr_office_json.specs.CellData.{coordinates_of, named_cell, named_cell_data, cells_with_names, named_row, named_row_data, named_rows, row_data}
 use Rattle.clr_office_json.specs.CellData.{row_or_gone_data}
 use Rattle.clr_office_json.specs.Values.{number_data, value_data}
-use Rattle.clr_office_json.proofs.ListsRead.{all_mapped, all_pass, each_read, key_within, number_read, value_read}
+use Rattle.clr_office_json.proofs.ListsRead.{all_mapped, all_pass, each_read, number_read, value_read}
+use Rattle.clr_rows.proofs.SchemaLemmas.{coordinate_within, key_within}
 use Rattle.clr_rows.proofs.Tests.{first, second}
 use Rattle.clr_office_json.proofs.PutAgain.{AreFree, all_entries, all_put, all_put_again, free_after, free_at_first}
 
@@ -59,10 +60,6 @@ places_read (p ∷ ps) h =
     let a = and_parts (is_place_within p) (list_all is_place_within ps) h in
     let b = and_parts (is_i64 p.x) (is_i64 p.y) a.0 in
     rw (number_read p.x b.0, number_read p.y b.1, places_read ps a.1) refl
-
-coordinate_within : (z : ℤ) → is_coordinate z ≡ true → is_i64 z ≡ true
-coordinate_within (pos n) e = lt-ltb n (2 ^ 63) (omega (arith, leb-true n 1000000000 e))
-coordinate_within (negsuc n) e = lt-ltb n (2 ^ 63) (omega (arith, leb-true (suc n) 1000000000 e))
 
 places_within : (ps : List Place) → list_all is_place ps ≡ true → list_all is_place_within ps ≡ true
 places_within [] h = refl

@@ -1,13 +1,13 @@
 -- Lists, numbers and values that are written are read back.
-use Rattle.std.proofs.Common.{◌≡◌, ℤ, pos, negsuc, ◌^◌, Bool, true, List, [], ◌∷◌, map, Result, Ok, refl, arith}
+use Rattle.std.proofs.Common.{◌≡◌, ℤ, pos, negsuc, Bool, true, List, [], ◌∷◌, map, Result, Ok, refl}
 use Rattle.std.specs.List.{AllByRecursion, list_all}
-use Rattle.std.proofs.lemmas.Bool.{and_parts, leb-true, lt-ltb, false≢true}
+use Rattle.std.proofs.lemmas.Bool.{and_parts}
 use Rattle.serde_json.specs.Data.{Data}
 use Rattle.serde_json.specs.View.{items_of}
 use Rattle.clr_rows.specs.declared.rows.Value.{Value}
 use Rattle.clr_rows.specs.declared.rows.Value.TheVariants.{Int, Words}
 use Rattle.clr_rows.specs.Numbers.{is_i64}
-use Rattle.clr_rows.specs.Schemas.{is_key, is_number}
+use Rattle.clr_rows.specs.Schemas.{is_number}
 use Rattle.clr_rule_text.specs.declared.faults.TextFault.{TextFault}
 use Rattle.clr_rule_text.specs.Values.{value_of}
 use Rattle.clr_rule_text.specs.Fields.{each, each_in, number_of}
@@ -48,7 +48,3 @@ number_read (negsuc n) e = refl
 pub value_read : (v : Value) → is_number v ≡ true → value_of (value_data v) ≡ Ok v
 value_read (Int n) e = rw (number_read n e) refl
 value_read (Words text) e = refl
-
-pub key_within : (z : ℤ) → is_key z ≡ true → is_i64 z ≡ true
-key_within (pos n) e = lt-ltb n (2 ^ 63) (omega (arith, leb-true n 999999999999999 (and_parts _ _ e).1))
-key_within (negsuc n) e = absurd (false≢true e)

@@ -54,7 +54,7 @@ impl JsonText {
         self.writer.into_inner()
     }
 
-    /// Opens an object. Where it fails, for want of memory alone, the text stays.
+    /// Opens an object. If memory runs out, the text stays.
     pub fn begin_object(&mut self) -> Result<(), AllocError>
         ensures ok { OnOk result (self.new ≡ self.old ++ begin_object ∷ []) }
         ensures err { OnErr result (self.new ≡ self.old) }
@@ -62,7 +62,7 @@ impl JsonText {
         self.writer.begin_object()
     }
 
-    /// Closes an object. Where it fails, for want of memory alone, the text stays.
+    /// Closes an object. If memory runs out, the text stays.
     pub fn end_object(&mut self) -> Result<(), AllocError>
         ensures ok { OnOk result (self.new ≡ self.old ++ end_object ∷ []) }
         ensures err { OnErr result (self.new ≡ self.old) }
@@ -70,7 +70,7 @@ impl JsonText {
         self.writer.end_object()
     }
 
-    /// Opens an array. Where it fails, for want of memory alone, the text stays.
+    /// Opens an array. If memory runs out, the text stays.
     pub fn begin_array(&mut self) -> Result<(), AllocError>
         ensures ok { OnOk result (self.new ≡ self.old ++ begin_array ∷ []) }
         ensures err { OnErr result (self.new ≡ self.old) }
@@ -78,7 +78,7 @@ impl JsonText {
         self.writer.begin_array()
     }
 
-    /// Closes an array. Where it fails, for want of memory alone, the text stays.
+    /// Closes an array. If memory runs out, the text stays.
     pub fn end_array(&mut self) -> Result<(), AllocError>
         ensures ok { OnOk result (self.new ≡ self.old ++ end_array ∷ []) }
         ensures err { OnErr result (self.new ≡ self.old) }
@@ -86,8 +86,7 @@ impl JsonText {
         self.writer.end_array()
     }
 
-    /// Writes the key of a member, whose value is due next. Where it fails, for want of memory
-    /// alone, the text stays.
+    /// Writes the key of a member, whose value is due next. If memory runs out, the text stays.
     pub fn key(&mut self, name: &str) -> Result<(), AllocError>
         ensures ok { OnOk result (self.new ≡ self.old ++ key_token name.now ∷ []) }
         ensures err { OnErr result (self.new ≡ self.old) }
@@ -95,7 +94,7 @@ impl JsonText {
         self.writer.key(name)
     }
 
-    /// Writes a text as a value. Where it fails, for want of memory alone, the text stays.
+    /// Writes a text as a value. If memory runs out, the text stays.
     pub fn string(&mut self, words: &str) -> Result<(), AllocError>
         ensures ok { OnOk result (self.new ≡ self.old ++ tokens_of (string_data words.now)) }
         ensures err { OnErr result (self.new ≡ self.old) }
@@ -103,7 +102,7 @@ impl JsonText {
         self.writer.string(words)
     }
 
-    /// Writes a whole number. Where it fails, for want of memory alone, the text stays.
+    /// Writes a whole number. If memory runs out, the text stays.
     pub fn number(&mut self, number: i64) -> Result<(), AllocError>
         ensures ok { OnOk result (self.new ≡ self.old ++ tokens_of (number_data number)) }
         ensures err { OnErr result (self.new ≡ self.old) }
@@ -111,7 +110,7 @@ impl JsonText {
         self.writer.i64(number)
     }
 
-    /// Writes a flag. Where it fails, for want of memory alone, the text stays.
+    /// Writes a flag. If memory runs out, the text stays.
     pub fn boolean(&mut self, flag: bool) -> Result<(), AllocError>
         ensures ok { OnOk result (self.new ≡ self.old ++ tokens_of (boolean_data flag)) }
         ensures err { OnErr result (self.new ≡ self.old) }

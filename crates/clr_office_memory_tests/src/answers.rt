@@ -8,7 +8,7 @@ use std::alloc::Global;
 
 /// What is asked in an office, by a text.
 pub(crate) trait Asked {
-    /// The lines that are answered with so many bytes of memory; none where it can't be asked.
+    /// Returns the lines that are answered with so many bytes of memory; none where it can't be asked.
     fn lines_within(
         &self,
         alloc: Global,
@@ -22,7 +22,7 @@ pub(crate) trait Asked {
 /// What is asked with its answers, each ended by a line `--`, of which the last is the right one.
 pub(crate) struct Known<A>(pub(crate) A);
 
-/// Whether the right answer is given in an office; none where it isn't one of those that are known.
+/// Returns whether the right answer is given in an office; none where it isn't one of those that are known.
 fn is_right_in<A: Asked>(
     asked: &A,
     alloc: Global,

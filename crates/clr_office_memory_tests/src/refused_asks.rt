@@ -1,3 +1,5 @@
+//! What words ask of files, with a budget of memory.
+
 use clr_call_test_kit::{Hoard, refusals};
 use clr_office::{Page, RunFault, answer, ask_of};
 use std::alloc::Global;
@@ -70,14 +72,14 @@ fn in_one_line(alloc: Global, bytes: &[u8]) -> Option<Vec<u8>> {
     Some(line)
 }
 
-/// Whether bytes are those of a text, line ends aside.
+/// Returns whether bytes are those of a text, line ends aside.
 fn are_of_text(alloc: Global, bytes: &[u8], text: &str) -> Option<bool> {
     let line = in_one_line(alloc, bytes)?;
     let wanted = in_one_line(alloc, text.as_bytes())?;
     Some(line.as_slice() == wanted.as_slice())
 }
 
-/// Whether what is asked is answered rightly with this many bytes of memory; none where it is
+/// Returns whether what is asked is answered rightly with this many bytes of memory; none where it is
 /// answered neither so nor as it may be for want of memory.
 fn is_answered_within(alloc: Global, hoard: &mut Hoard, budget: usize, case: Case) -> Option<bool> {
     let (ask, _) = ask_of(alloc, case.words).ok()?;

@@ -1,3 +1,5 @@
+//! Runs of a script with a budget of memory.
+
 use clr_call_test_kit::Hoard;
 use clr_office::{Page, RunFault, Text, run_office};
 use std::alloc::Global;

@@ -21,7 +21,7 @@ fn line_count(lines: &[u8]) -> usize {
     lines.iter().filter(|byte| **byte == b'\n').count()
 }
 
-/// The replies of a run; none where there is a verdict in its place.
+/// Returns the replies of a run; none where there is a verdict in its place.
 fn replies_of(run: &Result<ClearedRun, Verdict>) -> &[Reply] {
     match run {
         Ok(run) => run.replies.as_slice(),
@@ -29,7 +29,7 @@ fn replies_of(run: &Result<ClearedRun, Verdict>) -> &[Reply] {
     }
 }
 
-/// Whether commands are answered by these lines when they are given again; it is never true, and none where that isn't so.
+/// Returns whether commands are answered by these lines when they are given again; it is never true, and none where that isn't so.
 fn is_right_again(
     alloc: Global,
     office: &mut Office,
@@ -45,7 +45,7 @@ fn is_right_again(
     }
 }
 
-/// Whether a run has these lines; where memory was wanting, whether it has as many, and what was lost is right when it is given
+/// Returns whether a run has these lines; where memory was wanting, whether it has as many, and what was lost is right when it is given
 /// again. None where that isn't so, or another office doesn't answer the same without the lost commands.
 fn is_right(
     alloc: Global,
@@ -68,7 +68,7 @@ fn is_right(
     if is_right { Some(is_whole) } else { None }
 }
 
-/// What commands are answered.
+/// Returns what commands are answered.
 fn run_within(
     alloc: Global,
     hoard: &mut Hoard,
@@ -82,7 +82,7 @@ fn run_within(
     Some(run)
 }
 
-/// Whether commands under a certificate find their memory in an office, and are answered rightly; none where they are answered
+/// Returns whether commands under a certificate find their memory in an office, and are answered rightly; none where they are answered
 /// wrongly. The other office is the same.
 fn is_performed_in(
     alloc: Global,

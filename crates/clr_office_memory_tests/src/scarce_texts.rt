@@ -18,7 +18,7 @@ const CERTIFICATE: &str = "member,W1,,,,
 need,1,main/1/old,main/2/old,node/9/old,node/10/new
 ";
 
-/// Whether two texts are found clear; none where something else is said than want of memory.
+/// Returns whether two texts are found clear; none where something else is said than want of memory.
 fn is_clear_within(alloc: Global, hoard: &mut Hoard, budget: usize, office: &[u8]) -> Option<bool> {
     hoard.leave(budget).ok()?;
     let said = check_texts(alloc, office, CERTIFICATE.as_bytes());
@@ -30,7 +30,7 @@ fn is_clear_within(alloc: Global, hoard: &mut Hoard, budget: usize, office: &[u8
     }
 }
 
-/// The text of the office of a setting.
+/// Returns the text of the office of a setting.
 fn text_of(alloc: Global, name: &str) -> Option<Vec<u8>> {
     match office_after(alloc, setting_of(name)?) {
         Some(office) => write_office(alloc, &office).ok(),

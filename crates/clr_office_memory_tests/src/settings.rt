@@ -110,7 +110,7 @@ mark,W1,s1
 create,W2,W1
 ";
 
-/// The setting whose name stands in a line.
+/// Returns the setting whose name stands in a line.
 pub(crate) fn setting_of(line: &str) -> Option<&'static str> {
     match line.trim_end() {
         "the crossing" => Some("crossing\n"),

@@ -6,12 +6,12 @@ use clr_rows::Schema;
 use clr_verdict_lines::verdict_line;
 use std::alloc::Global;
 
-/// The certificate of a text.
+/// Returns the certificate of a text.
 pub fn certificate_of(alloc: Global, schema: &Schema, text: &str) -> Option<Certificate> {
     read_certificate(alloc, schema, text.as_bytes()).ok()
 }
 
-/// The names of the members of a certificate.
+/// Returns the names of the members of a certificate.
 fn names_of(alloc: Global, certificate: &Certificate) -> Option<Vec<&str>> {
     let mut names = Vec::new(alloc);
     for name in certificate.members.as_slice() {
@@ -20,7 +20,7 @@ fn names_of(alloc: Global, certificate: &Certificate) -> Option<Vec<&str>> {
     Some(names)
 }
 
-/// The line of a verdict on the root and members of a certificate.
+/// Returns the line of a verdict on the root and members of a certificate.
 pub fn line_of(
     alloc: Global,
     schema: &Schema,

@@ -5,19 +5,19 @@ use clr_engine::{Command, Office, Reply};
 use clr_office_writer::write_office;
 use std::alloc::Global;
 
-/// Whether two offices have the same text; none where no memory is found for the texts.
+/// Returns whether two offices have the same text; none where no memory is found for the texts.
 pub fn are_same(alloc: Global, first: &Office, second: &Office) -> Option<bool> {
     let text = write_office(alloc, first).ok()?;
     let other = write_office(alloc, second).ok()?;
     Some(text.as_slice() == other.as_slice())
 }
 
-/// Whether any command was lost.
+/// Returns whether any command was lost.
 fn has_lost(replies: &[Reply]) -> bool {
     replies.iter().any(|reply| *reply == Reply::OutOfMemory)
 }
 
-/// Whether an office answers the other commands as they were answered, where the lost ones aren't given.
+/// Returns whether an office answers the other commands as they were answered, where the lost ones aren't given.
 fn answers_without_lost(office: &mut Office, commands: &[Command], replies: &[Reply]) -> bool {
     for (command, reply) in commands.iter().zip(replies) {
         if *reply != Reply::OutOfMemory && office.perform(command) != *reply {
@@ -27,7 +27,7 @@ fn answers_without_lost(office: &mut Office, commands: &[Command], replies: &[Re
     true
 }
 
-/// The lines of what the lost commands are answered where they are given again.
+/// Returns the lines of what the lost commands are answered where they are given again.
 fn lost_again(
     alloc: Global,
     office: &mut Office,
@@ -43,7 +43,7 @@ fn lost_again(
     reply_lines(alloc, office.schema(), again.as_slice())
 }
 
-/// Whether the lost commands are answered the same in two offices when they are given again, which have the same text then; it is
+/// Returns whether the lost commands are answered the same in two offices when they are given again, which have the same text then; it is
 /// never true, and none where that isn't so.
 fn is_right_of_lost(
     alloc: Global,
@@ -59,7 +59,7 @@ fn is_right_of_lost(
     }
 }
 
-/// Whether no command was lost, where another office, which was the same before, answers those that weren't lost the same, and has the
+/// Returns whether no command was lost, where another office, which was the same before, answers those that weren't lost the same, and has the
 /// same text then. Where some were lost both offices must answer these the same when they are given again, and have the same text then.
 /// None where that isn't so.
 pub fn is_right_but_for_lost(

@@ -2,7 +2,7 @@
 
 use std::alloc::Global;
 
-/// A root and members, whose names stand in a line.
+/// Returns a root and members, whose names stand in a line.
 pub fn members_of(alloc: Global, line: &str) -> Option<(&str, Vec<&str>)> {
     let (root, rest) = line.split_once(" ").unwrap_or((line, ""));
     let mut members = Vec::new(alloc);

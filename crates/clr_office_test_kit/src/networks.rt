@@ -46,7 +46,7 @@ const ONE_CODE: &str = r#"{"format":3,"tables":[
 "rules":[{"kind":"UNIQUE","subject":{"table":"code"},"columns":["code"]}],
 "live":[{"t":"code","k":1,"v":["A"],"s":[]}]}"#;
 
-/// The office text of a name.
+/// Returns the office text of a name.
 pub fn network(name: &str) -> Option<&'static str> {
     match name {
         "crossing" => Some(CROSSING),

@@ -8,18 +8,18 @@ use clr_rows::Schema;
 use clr_scripts::{Step, read_script};
 use std::alloc::Global;
 
-/// The office of a text in which every rule holds.
+/// Returns the office of a text in which every rule holds.
 pub fn office_of(alloc: Global, text: &str) -> Option<Office> {
     let draft = read_office(alloc, text.as_bytes()).ok()?;
     draft.admit().ok()
 }
 
-/// The steps of a script.
+/// Returns the steps of a script.
 pub fn steps_of(alloc: Global, office: &Office, script: &str) -> Option<Vec<Step>> {
     read_script(alloc, office.schema(), script.as_bytes()).ok()
 }
 
-/// The commands of a script, without its reports.
+/// Returns the commands of a script, without its reports.
 pub fn commands_of(alloc: Global, office: &Office, script: &str) -> Option<Vec<Command>> {
     let mut commands = Vec::new(alloc);
     for step in steps_of(alloc, office, script)? {
@@ -30,7 +30,7 @@ pub fn commands_of(alloc: Global, office: &Office, script: &str) -> Option<Vec<C
     Some(commands)
 }
 
-/// The lines of replies.
+/// Returns the lines of replies.
 pub fn reply_lines(alloc: Global, schema: &Schema, replies: &[Reply]) -> Option<Vec<u8>> {
     let mut lines = Vec::new(alloc);
     for reply in replies {
@@ -40,7 +40,7 @@ pub fn reply_lines(alloc: Global, schema: &Schema, replies: &[Reply]) -> Option<
     Some(lines)
 }
 
-/// The lines of what the commands of a script are answered, all at once.
+/// Returns the lines of what the commands of a script are answered, all at once.
 pub fn replies_to(alloc: Global, office: &mut Office, script: &str) -> Option<Vec<u8>> {
     let commands = commands_of(alloc, office, script)?;
     let replies = office.perform_all(commands.as_slice()).ok()?;
@@ -54,7 +54,7 @@ pub fn perform_script(alloc: Global, office: &mut Office, script: &str) -> Optio
     Some(replies.iter().all(|reply| *reply == Reply::Done))
 }
 
-/// The office that a script, each of whose commands is done, makes of a network: the first line is the network's name, and the
+/// Returns the office that a script, each of whose commands is done, makes of a network: the first line is the network's name, and the
 /// rest is the script.
 pub fn office_after(alloc: Global, setting: &str) -> Option<Office> {
     let (name, script) = setting.split_once("\n")?;
@@ -66,7 +66,7 @@ pub fn office_after(alloc: Global, setting: &str) -> Option<Office> {
     }
 }
 
-/// The lines of the rows of LIVE or a workspace; none where there is no such workspace.
+/// Returns the lines of the rows of LIVE or a workspace; none where there is no such workspace.
 pub fn rows_of(alloc: Global, office: &Office, name: &str) -> Option<Vec<u8>> {
     let rows = office.rows(name).ok()??;
     rows_lines(alloc, office.schema(), &rows).ok()

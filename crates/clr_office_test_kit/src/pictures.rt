@@ -47,7 +47,7 @@ fn add_part(lines: &mut Vec<u8>, alloc: Global, schema: &Schema, part: &Part) ->
     Some(())
 }
 
-/// Whether there is no workspace at position 0, which is LIVE's, and past the end.
+/// Returns whether there is no workspace at position 0, which is LIVE's, and past the end.
 fn has_ends(office: &Office) -> bool {
     matches!(office.part(0), Ok(None)) && matches!(office.part(office.len()), Ok(None))
 }
@@ -62,7 +62,7 @@ pub fn add_picture(lines: &mut Vec<u8>, alloc: Global, office: &Office) -> Optio
     if has_ends(office) { Some(()) } else { None }
 }
 
-/// The rows of LIVE and each workspace.
+/// Returns the rows of LIVE and each workspace.
 pub fn picture(alloc: Global, office: &Office) -> Option<Vec<u8>> {
     let mut lines = Vec::new(alloc);
     add_picture(&mut lines, alloc, office)?;

@@ -8,7 +8,7 @@ use clr_engine::Office;
 use clr_rows::Schema;
 use std::alloc::Global;
 
-/// The lines of the replies of a run, and a line with the number of the command at which it stopped.
+/// Returns the lines of the replies of a run, and a line with the number of the command at which it stopped.
 fn run_lines(alloc: Global, schema: &Schema, run: &ClearedRun) -> Option<Vec<u8>> {
     let mut lines = reply_lines(alloc, schema, run.replies.as_slice())?;
     if let Some(number) = run.stopped {
@@ -18,7 +18,7 @@ fn run_lines(alloc: Global, schema: &Schema, run: &ClearedRun) -> Option<Vec<u8>
     Some(lines)
 }
 
-/// The lines of a run, or that of the verdict on its certificate.
+/// Returns the lines of a run, or that of the verdict on its certificate.
 pub fn run_or_verdict_lines(
     alloc: Global,
     schema: &Schema,
@@ -31,7 +31,7 @@ pub fn run_or_verdict_lines(
     }
 }
 
-/// What commands are answered under a certificate, or the line of its verdict.
+/// Returns what commands are answered under a certificate, or the line of its verdict.
 pub fn run_under(
     alloc: Global,
     office: &mut Office,

@@ -1,3 +1,4 @@
+//! Runs over devices that give or take little at a time, and that fail.
 ghost use Rattle.std.specs.Prelude.{None};
 
 use clr_office::{DeviceFault, Page, Port, RunFault, Sink, Source, Text, run_office};

@@ -12,7 +12,7 @@ use std::test::Fail;
 
 const NAMES: [&str; 5] = ["W1", "W2", "W3", "W4", "W5"];
 
-/// The set of the members of a group.
+/// Returns the set of the members of a group.
 fn set_of(group: &[u16]) -> u16 {
     let mut set = 0;
     for member in group {
@@ -21,7 +21,7 @@ fn set_of(group: &[u16]) -> u16 {
     set
 }
 
-/// Whether a group has exactly those whom chains join to each of its members.
+/// Returns whether a group has exactly those whom chains join to each of its members.
 fn is_group(needs: &[u16], group: &[u16]) -> bool {
     let set = set_of(group);
     !group.is_empty()
@@ -30,7 +30,7 @@ fn is_group(needs: &[u16], group: &[u16]) -> bool {
             .all(|member| joined(needs, only(usize::from(*member))) == set)
 }
 
-/// Whether these are the groups, and each of the five members stands in one.
+/// Returns whether these are the groups, and each of the five members stands in one.
 fn are_groups(needs: &[u16], groups: &[Vec<u16>]) -> bool {
     let mut seen = 0;
     for group in groups {
@@ -43,13 +43,13 @@ fn are_groups(needs: &[u16], groups: &[Vec<u16>]) -> bool {
     seen == 31
 }
 
-/// Whether two members are told independent where no need involves both.
+/// Returns whether two members are told independent where no need involves both.
 fn is_pair(needs: &[u16], pair: &Pair) -> bool {
     let both = only(pair.first) | only(pair.second);
     pair.independent != are_dependent(needs, both)
 }
 
-/// How many pairs are dependent, where each is told as the definition says.
+/// Returns how many pairs are dependent, where each is told as the definition says.
 fn dependent_in(alloc: Global, office: &Office, needs: &[u16]) -> Option<usize> {
     match independence_of(alloc, office, "LIVE", &NAMES) {
         Ok(Independence::Pairs(pairs)) if pairs.iter().all(|pair| is_pair(needs, pair)) => {
@@ -59,7 +59,7 @@ fn dependent_in(alloc: Global, office: &Office, needs: &[u16]) -> Option<usize> 
     }
 }
 
-/// How many groups and dependent pairs there are, where these are those of the definition.
+/// Returns how many groups and dependent pairs there are, where these are those of the definition.
 fn found_in(alloc: Global, office: &Office, needs: &[u16]) -> Option<(usize, usize)> {
     let groups = groups_of(alloc, office, &NAMES)?;
     if are_groups(needs, groups.as_slice()) {
@@ -69,7 +69,7 @@ fn found_in(alloc: Global, office: &Office, needs: &[u16]) -> Option<(usize, usi
     }
 }
 
-/// The same after a script, each command of which is done.
+/// Returns the same after a script, each command of which is done.
 fn found_after(alloc: Global, office: &mut Office, made: &MadeUp) -> Option<(usize, usize)> {
     let needs = needs_of(alloc, made.versions.as_slice()).ok()?;
     if perform_script(alloc, office, made.script.as_str())? {
@@ -79,7 +79,7 @@ fn found_after(alloc: Global, office: &mut Office, made: &MadeUp) -> Option<(usi
     }
 }
 
-/// The same in the office that a seed makes.
+/// Returns the same in the office that a seed makes.
 fn found_of(alloc: Global, seed: u64) -> Option<(usize, usize)> {
     let mut dice = Dice::new(seed);
     let made = made_up(alloc, &mut dice).ok()?;
@@ -89,7 +89,7 @@ fn found_of(alloc: Global, seed: u64) -> Option<(usize, usize)> {
     }
 }
 
-/// How many groups and dependent pairs two hundred offices have.
+/// Returns how many groups and dependent pairs two hundred offices have.
 fn found_in_all(alloc: Global) -> Option<(usize, usize)> {
     let (mut groups, mut dependent) = (0usize, 0usize);
     for seed in 0..200 {
@@ -100,7 +100,7 @@ fn found_in_all(alloc: Global) -> Option<(usize, usize)> {
     Some((groups, dependent))
 }
 
-/// Both numbers were computed by a program that is independent of this one, by the rules and all rows.
+/// Returns both numbers were computed by a program that is independent of this one, by the rules and all rows.
 #[test]
 fn groups_and_pairs_of_made_up_offices(rt: HostRuntime) -> Result<(), Fail> {
     assert_eq!(rt; found_in_all(rt.alloc()), Some((569, 633)));

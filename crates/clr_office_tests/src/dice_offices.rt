@@ -47,7 +47,7 @@ pub(crate) struct MadeUp {
     pub(crate) versions: Vec<Version>,
 }
 
-/// The set of one member.
+/// Returns the set of one member.
 pub(crate) fn only(member: usize) -> u16 {
     match member {
         0 => 1,
@@ -58,7 +58,7 @@ pub(crate) fn only(member: usize) -> u16 {
     }
 }
 
-/// A new row.
+/// Returns a new row.
 fn new_form(dice: &mut Dice, is_node: bool) -> Form {
     let (x, y) = (dice.throw(3) * 10, dice.throw(3) * 10);
     if is_node {
@@ -70,7 +70,7 @@ fn new_form(dice: &mut Dice, is_node: bool) -> Form {
     }
 }
 
-/// The record of an edit that puts a row in.
+/// Returns the record of an edit that puts a row in.
 fn record(alloc: Global, word: &str, key: u64, form: Form) -> Result<String, AllocError> {
     match form {
         Form::Node(x, y) => format!(in alloc; "{word},node,{key},tee,{x},{y}\n"),
@@ -143,7 +143,7 @@ impl MadeUp {
     }
 }
 
-/// What members change, as dice choose.
+/// Returns what members change, as dice choose.
 pub(crate) fn made_up(alloc: Global, dice: &mut Dice) -> Result<MadeUp, AllocError> {
     let mut made = MadeUp {
         script: String::from_str(alloc, CREATES)?,

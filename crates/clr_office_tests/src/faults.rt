@@ -1,3 +1,5 @@
+//! The line of each fault of a run.
+
 use clr_cert::CertFault;
 use clr_office::RunFault;
 use clr_office_text::TextFault;

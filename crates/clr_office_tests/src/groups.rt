@@ -129,7 +129,7 @@ insert,main,20,D,100,0,100,10
     ),
 ];
 
-/// What is said of members of a root.
+/// Returns what is said of members of a root.
 fn said_in(
     alloc: Global,
     office: &Office,
@@ -144,7 +144,7 @@ fn said_in(
     Some(said)
 }
 
-/// Whether that is said of members, and the office is as before.
+/// Returns whether that is said of members, and the office is as before.
 fn is_said_in(alloc: Global, office: &Office, case: Case, memory: &mut Memory) -> Option<bool> {
     let (_, root, members, wanted) = case;
     let before = picture(alloc, office)?;
@@ -153,7 +153,7 @@ fn is_said_in(alloc: Global, office: &Office, case: Case, memory: &mut Memory) -
     Some(said.as_slice() == wanted.as_bytes() && before.as_slice() == after.as_slice())
 }
 
-/// The same in the office of a case.
+/// Returns the same in the office of a case.
 fn is_said(alloc: Global, case: Case, memory: &mut Memory) -> bool {
     match office_after(alloc, case.0) {
         Some(office) => is_said_in(alloc, &office, case, memory) == Some(true),

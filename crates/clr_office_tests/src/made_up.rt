@@ -20,7 +20,7 @@ const RULES: [&str; 6] = [
     r#"{"kind":"NEAR","a":{"table":"hydrant"},"b":{"table":"hydrant"},"d":2}"#,
 ];
 
-/// An empty network under two rules.
+/// Returns an empty network under two rules.
 fn network(alloc: Global, dice: &mut Dice) -> Result<String, AllocError> {
     let first = RULES[dice.throw(6) as usize];
     let second = RULES[dice.throw(6) as usize];
@@ -48,7 +48,7 @@ fn add_edits(
     Ok(())
 }
 
-/// Edits of LIVE, and then of each of three workspaces under it.
+/// Returns edits of LIVE, and then of each of three workspaces under it.
 fn script(alloc: Global, dice: &mut Dice) -> Result<String, AllocError> {
     let mut script = String::new(alloc);
     add_edits(alloc, dice, &mut script, "LIVE", 14)?;
@@ -63,7 +63,7 @@ fn script(alloc: Global, dice: &mut Dice) -> Result<String, AllocError> {
     Ok(script)
 }
 
-/// The numbers of three members in an order that dice choose.
+/// Returns the numbers of three members in an order that dice choose.
 fn order(dice: &mut Dice) -> [u8; 3] {
     match dice.throw(6) {
         0 => [1, 2, 3],
@@ -88,7 +88,7 @@ fn merges(alloc: Global, dice: &mut Dice, members: u8) -> Result<String, AllocEr
     Ok(script)
 }
 
-/// The rows of LIVE after a script, whatever it is answered, and merges, if all are done.
+/// Returns the rows of LIVE after a script, whatever it is answered, and merges, if all are done.
 fn rows_in(alloc: Global, office: &mut Office, script: &str, merges: &str) -> Option<Vec<u8>> {
     perform_script(alloc, office, script)?;
     if perform_script(alloc, office, merges)? {
@@ -98,7 +98,7 @@ fn rows_in(alloc: Global, office: &mut Office, script: &str, merges: &str) -> Op
     }
 }
 
-/// The rows of LIVE after such merges in a made-up office, if all are done.
+/// Returns the rows of LIVE after such merges in a made-up office, if all are done.
 fn rows_after_merges(
     alloc: Global,
     dice: &mut Dice,
@@ -113,7 +113,7 @@ fn rows_after_merges(
     Ok(rows.ok_or("a merge is refused")?)
 }
 
-/// Whether all members of a cleared office can be merged in three orders, with the same rows.
+/// Returns whether all members of a cleared office can be merged in three orders, with the same rows.
 fn are_alike(
     alloc: Global,
     dice: &mut Dice,
@@ -137,7 +137,7 @@ enum Outcome {
     Wrong,
 }
 
-/// The merges of members in the order of a plan.
+/// Returns the merges of members in the order of a plan.
 fn merges_in(alloc: Global, members: &[&str], order: &[usize]) -> Option<String> {
     let mut script = String::new(alloc);
     for position in order {
@@ -147,7 +147,7 @@ fn merges_in(alloc: Global, members: &[&str], order: &[usize]) -> Option<String>
     Some(script)
 }
 
-/// Whether merges in the order of a plan are refused for a conflict or a broken rule.
+/// Returns whether merges in the order of a plan are refused for a conflict or a broken rule.
 fn is_refused(
     alloc: Global,
     office: &mut Office,
@@ -160,7 +160,7 @@ fn is_refused(
     Some(replies.iter().any(|reply| matches!(reply, Reply::Conflict(..) | Reply::RuleBroken(_))))
 }
 
-/// How the plan for members of LIVE turns out in an office after a script; alike where its certificate is clear.
+/// Returns how the plan for members of LIVE turns out in an office after a script; alike where its certificate is clear.
 fn outcome_in(
     alloc: Global,
     office: &mut Office,
@@ -182,7 +182,7 @@ fn outcome_in(
     Some(if is_so { outcome } else { Outcome::Wrong })
 }
 
-/// The same in the office of a text.
+/// Returns the same in the office of a text.
 fn outcome_over(
     alloc: Global,
     (network, script): (&str, &str),
@@ -194,7 +194,7 @@ fn outcome_over(
     }
 }
 
-/// How the plan of the office that a seed makes turns out.
+/// Returns how the plan of the office that a seed makes turns out.
 fn plan_outcome(alloc: Global, seed: u64) -> Result<Outcome, Fail> {
     let mut dice = Dice::new(seed);
     let network = network(alloc, &mut dice)?;
@@ -209,7 +209,7 @@ fn plan_outcome(alloc: Global, seed: u64) -> Result<Outcome, Fail> {
     Ok(outcome)
 }
 
-/// How the plans of a hundred offices turn out.
+/// Returns how the plans of a hundred offices turn out.
 fn outcomes(alloc: Global) -> Result<Vec<Outcome>, Fail> {
     let mut list = Vec::new(alloc);
     for seed in 0..100 {
@@ -218,7 +218,7 @@ fn outcomes(alloc: Global) -> Result<Vec<Outcome>, Fail> {
     Ok(list)
 }
 
-/// How many turn out so.
+/// Returns how many turn out so.
 fn count(outcomes: &[Outcome], wanted: Outcome) -> usize {
     outcomes
         .iter()

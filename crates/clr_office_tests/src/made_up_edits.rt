@@ -3,7 +3,7 @@
 use clr_call_test_kit::Dice;
 use std::alloc::{AllocError, Global};
 
-/// A code of a main.
+/// Returns a code of a main.
 fn code(dice: &mut Dice) -> char {
     match dice.throw(6) {
         0 => 'A',
@@ -15,7 +15,7 @@ fn code(dice: &mut Dice) -> char {
     }
 }
 
-/// The record of an edit of the row of a main.
+/// Returns the record of an edit of the row of a main.
 fn main_row(alloc: Global, dice: &mut Dice, word: &str) -> Result<String, AllocError> {
     let (key, code) = (dice.throw(6) + 1, code(dice));
     let (x, y) = (dice.throw(4), dice.throw(4));
@@ -23,7 +23,7 @@ fn main_row(alloc: Global, dice: &mut Dice, word: &str) -> Result<String, AllocE
     format!(in alloc; "{word},main,{key},{code},{x},{y},{right},{up}\n")
 }
 
-/// The record of an edit, as it comes.
+/// Returns the record of an edit, as it comes.
 pub(crate) fn edit(alloc: Global, dice: &mut Dice) -> Result<String, AllocError> {
     let key = dice.throw(6) + 1;
     match dice.throw(9) {

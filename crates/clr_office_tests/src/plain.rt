@@ -21,13 +21,13 @@ pub(crate) struct Version {
 }
 
 impl Version {
-    /// The member that its life names.
+    /// Returns the member that its life names.
     fn named(self) -> u16 {
         self.with | self.without
     }
 }
 
-/// The members named by nodes at a place.
+/// Returns the members named by nodes at a place.
 fn named_at(versions: &[Version], x: u64, y: u64) -> u16 {
     let mut all = 0;
     for version in versions {
@@ -38,7 +38,7 @@ fn named_at(versions: &[Version], x: u64, y: u64) -> u16 {
     all
 }
 
-/// The members that the need of the first end of a main involves.
+/// Returns the members that the need of the first end of a main involves.
 fn involved_by_one(versions: &[Version], one: Version) -> u16 {
     match one.form {
         Form::Node(..) => 0,
@@ -47,7 +47,7 @@ fn involved_by_one(versions: &[Version], one: Version) -> u16 {
     }
 }
 
-/// The members that the need of two versions involves, where they call and may live at once. Nothing serves mains that overlap,
+/// Returns the members that the need of two versions involves, where they call and may live at once. Nothing serves mains that overlap,
 /// nor nodes at one place; as a version does so with itself, it is found to involve its own member, which ties it to nobody.
 fn involved_by_two(versions: &[Version], one: Version, other: Version) -> u16 {
     if one.with & other.without != 0 || one.without & other.with != 0 {
@@ -71,7 +71,7 @@ fn add_needs(needs: &mut Vec<u16>, versions: &[Version], one: Version) -> Result
     Ok(())
 }
 
-/// The set of the members that each possible need involves.
+/// Returns the set of the members that each possible need involves.
 pub(crate) fn needs_of(alloc: Global, versions: &[Version]) -> Result<Vec<u16>, AllocError> {
     let mut needs = Vec::new(alloc);
     for one in versions {
@@ -80,12 +80,12 @@ pub(crate) fn needs_of(alloc: Global, versions: &[Version]) -> Result<Vec<u16>, 
     Ok(needs)
 }
 
-/// Whether some need involves both members of a set of two.
+/// Returns whether some need involves both members of a set of two.
 pub(crate) fn are_dependent(needs: &[u16], both: u16) -> bool {
     needs.iter().any(|need| *need & both == both)
 }
 
-/// These members with all whom a need ties to one of them.
+/// Returns these members with all whom a need ties to one of them.
 fn with_dependents(needs: &[u16], members: u16) -> u16 {
     let mut all = members;
     for need in needs {
@@ -96,7 +96,7 @@ fn with_dependents(needs: &[u16], members: u16) -> u16 {
     all
 }
 
-/// The set of the members that chains of dependent pairs join to a member, and this one; there are at most 16.
+/// Returns the set of the members that chains of dependent pairs join to a member, and this one; there are at most 16.
 pub(crate) fn joined(needs: &[u16], member: u16) -> u16 {
     let mut all = member;
     for _ in 0..16 {

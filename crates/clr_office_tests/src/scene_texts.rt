@@ -12,7 +12,7 @@ use clr_groups::groups;
 use clr_rows::RowView;
 use std::alloc::{AllocError, Global};
 
-/// How many needs involve each member, each number after a space.
+/// Returns how many needs involve each member, each number after a space.
 fn involved_text<V: RowView, F: RowFinder>(
     alloc: Global,
     scene: &Scene<'_, V, F>,
@@ -27,7 +27,7 @@ fn involved_text<V: RowView, F: RowFinder>(
     Ok(text)
 }
 
-/// How many members and touched needs the scene of a group has, and the members of the group.
+/// Returns how many members and touched needs the scene of a group has, and the members of the group.
 fn part_line<V: RowView, F: RowFinder>(
     alloc: Global,
     part: &Scene<'_, V, F>,
@@ -44,7 +44,7 @@ fn part_line<V: RowView, F: RowFinder>(
     Ok(line)
 }
 
-/// A line for each group.
+/// Returns a line for each group.
 fn group_lines<V: RowView, F: RowFinder>(
     alloc: Global,
     scene: &Scene<'_, V, F>,
@@ -65,7 +65,7 @@ fn group_lines<V: RowView, F: RowFinder>(
     Ok(lines)
 }
 
-/// All that is said of a scene; its groups are made with this memory.
+/// Returns all that is said of a scene; its groups are made with this memory.
 pub(crate) fn scene_text<V: RowView, F: RowFinder>(
     alloc: Global,
     scene: &Scene<'_, V, F>,

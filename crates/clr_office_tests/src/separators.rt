@@ -1,3 +1,5 @@
+//! Where the separator stands between an office text and a script.
+
 use clr_office::{Page, RunFault, Text, run_office};
 use clr_office_text::TextFault;
 use clr_scripts::RecordFault;
@@ -6,7 +8,7 @@ use std::test::Fail;
 
 const OFFICE: &str = "{\"format\":1,\"tables\":[],\"live\":[]}";
 
-/// Whether a run over these texts, one after the other, is answered so and prints this.
+/// Returns whether a run over these texts, one after the other, is answered so and prints this.
 fn runs(
     alloc: Global,
     before: &str,

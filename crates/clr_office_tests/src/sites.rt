@@ -11,7 +11,7 @@ use clr_groups::groups;
 use clr_sites::{SiteParts, read_site};
 use std::alloc::{AllocError, Global};
 
-/// What is said of the scene that the parts of a site make; nothing where two members change one cell.
+/// Returns what is said of the scene that the parts of a site make; nothing where two members change one cell.
 fn text_of_parts(
     alloc: Global,
     office: &Office,
@@ -30,7 +30,7 @@ fn text_of_parts(
     }
 }
 
-/// What is said of the scene of some members of a root; nothing where they are unfit.
+/// Returns what is said of the scene of some members of a root; nothing where they are unfit.
 pub(crate) fn site_text(
     alloc: Global,
     office: &Office,
@@ -44,7 +44,7 @@ pub(crate) fn site_text(
     }
 }
 
-/// The groups of the members of the scene that the parts of a site make.
+/// Returns the groups of the members of the scene that the parts of a site make.
 fn groups_of_parts(alloc: Global, office: &Office, parts: &SiteParts) -> Option<Vec<Vec<u16>>>
     requires { AreOfSite office.now parts.now }
 {
@@ -54,7 +54,7 @@ fn groups_of_parts(alloc: Global, office: &Office, parts: &SiteParts) -> Option<
     }
 }
 
-/// The groups of children of LIVE.
+/// Returns the groups of children of LIVE.
 pub(crate) fn groups_of(alloc: Global, office: &Office, members: &[&str]) -> Option<Vec<Vec<u16>>> {
     match read_site(alloc, office, "LIVE", &members) {
         Ok(parts) => groups_of_parts(alloc, office, &parts),

@@ -1,3 +1,5 @@
+//! Checks of an office text and a certificate.
+
 use clr_cert::CertFault;
 use clr_check::Verdict;
 use clr_check_texts::{Checked, TextFault, check_texts, judge_texts};
@@ -32,7 +34,7 @@ const WITHOUT: &str = "]}";
 /// The front of the entry for the crossing of the mains.
 const NEED: &str = "need,1,main/1/old,main/2/old,node/9/old,";
 
-/// What is said of a network behind the mains, and of a certificate with the member W1 and a record.
+/// Returns what is said of a network behind the mains, and of a certificate with the member W1 and a record.
 fn check_of(alloc: Global, network: &str, record: (&str, &str)) -> Result<Checked, Fail> {
     let office = format!(in alloc; "{CROSSING}{network}")?;
     let certificate = format!(in alloc; "member,W1,,,,\n{}{}", record.0, record.1)?;
@@ -50,13 +52,13 @@ fn old(key: i64) -> VersionId {
     }
 }
 
-/// That nothing covers the crossing of the mains.
+/// Returns the verdict that nothing covers the crossing of the mains.
 fn no_cover() -> Checked {
     let need = Need::new(Ask::plain(1), old(1), Some(old(2)));
     Checked::Answer(Verdict::Uncovered(need))
 }
 
-/// That nothing serves the crossing, in LIVE or in the workspace at a position.
+/// Returns the answer that nothing serves the crossing, in LIVE or in the workspace at a position.
 fn no_server_at(position: usize) -> Checked {
     Checked::Unheld {
         position,
@@ -87,7 +89,7 @@ fn texts_are_checked_in_turn(rt: HostRuntime) -> Result<(), Fail> {
     Ok(())
 }
 
-/// Whether the verdict on a certificate with the member W1 and a record has this line, in a network behind the mains.
+/// Returns whether the verdict on a certificate with the member W1 and a record has this line, in a network behind the mains.
 fn is_line_of(
     alloc: Global,
     network: &str,

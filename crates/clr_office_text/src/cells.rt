@@ -45,7 +45,7 @@ fn place<J: JsonValue>(x: &J, y: &J) -> Result<Place, TextFault>
     })
 }
 
-/// The places that numbers are two by two. Fails with `BadField` where one is left over.
+/// Returns the places that numbers are two by two. Fails with `BadField` where one is left over.
 fn places<J: JsonValue>(alloc: Global, numbers: &[J]) -> Result<Vec<Place>, TextFault>
     ensures { Gives text_lacks_memory (λ v. v.items) result (places_of (items_seen J.stands_for numbers.now)) }
 {
@@ -62,7 +62,7 @@ fn places<J: JsonValue>(alloc: Global, numbers: &[J]) -> Result<Vec<Place>, Text
     Ok(places)
 }
 
-/// The shape of a row with these places, which are all vertices in a table of paths.
+/// Returns the shape of a row with these places, which are all vertices in a table of paths.
 fn shape_with(is_path: bool, places: Vec<Place>) -> Result<Shape, TextFault>
     ensures { Gives text_lacks_memory (λ s. s) result (shape_in is_path places.items) }
 {
@@ -130,7 +130,7 @@ pub fn has_paths(schema: &Schema, name: &str) -> bool
     }
 }
 
-/// A row of LIVE with its key and the name of its table. Fails with `BadField` where a key is missing,
+/// Returns a row of LIVE with its key and the name of its table. Fails with `BadField` where a key is missing,
 /// a value is none of those that may stand there, or the cell has no row.
 #[tactic(auto, unfolding(crate::specs::Cells::named_row_of))]
 pub fn named_row<J: JsonValue>(

@@ -39,7 +39,7 @@ fn row_unless_gone<J: JsonValue>(
     Ok(Some(row(alloc, json, is_path)?))
 }
 
-/// A cell that is put over a content. Fails with `BadField` where a key is missing, or a value is none
+/// Returns a cell that is put over a content. Fails with `BadField` where a key is missing, or a value is none
 /// of those that may stand there.
 #[tactic(auto, unfolding(crate::specs::Patches::named_cell_of))]
 pub fn named_cell<J: JsonValue>(

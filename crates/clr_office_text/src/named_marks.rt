@@ -36,7 +36,7 @@ fn read_savepoint<J: JsonValue>(
     Ok(NamedMark::Saved(name, cells))
 }
 
-/// A mark of a workspace as it is written. Fails with `BadField` where a key is missing, or a value is
+/// Returns a mark of a workspace as it is written. Fails with `BadField` where a key is missing, or a value is
 /// none of those that may stand there.
 #[tactic(auto, unfolding(crate::specs::Workspaces::named_mark_of))]
 pub fn named_mark<J: JsonValue>(
@@ -78,7 +78,7 @@ fn named_marks<J: JsonValue>(
     each_named_mark(alloc, optional_list(json, "marks")?, schema)
 }
 
-/// A mark of a workspace. The cells of a savepoint fail as `differences` does.
+/// Returns a mark of a workspace. The cells of a savepoint fail as `differences` does.
 pub fn mark(alloc: Global, schema: &Schema, named: NamedMark) -> Result<StoredMark, TextFault>
     ensures { Gives text_lacks_memory (λ m. m) result (mark_over schema.now named) }
 {

@@ -15,7 +15,7 @@ use clr_rule_text::TextFault;
 use clr_rule_text::json_values::JsonValue;
 use std::alloc::Global;
 
-/// Whether a row can be put at a cell, or none.
+/// Returns whether a row can be put at a cell, or none.
 fn can_put(schema: &Schema, cell: CellId, row: &Option<Row>) -> bool
     ensures { result ≡ is_none (put_fault schema.now cell row.now) }
 {

@@ -31,7 +31,7 @@ pub struct OfficeParts {
     pub workspaces: Vec<StoredPart>,
 }
 
-/// The schema of an office text. Fails with `BadField` where a key is missing in the tables, or a value is
+/// Returns the schema of an office text. Fails with `BadField` where a key is missing in the tables, or a value is
 /// none of those that may stand there, and then with `BadSchema` where the tables make no schema.
 #[tactic(auto, unfolding(crate::specs::Offices::schema_of))]
 pub fn schema<J: JsonValue>(alloc: Global, json: &J, format: Format) -> Result<Schema, TextFault>

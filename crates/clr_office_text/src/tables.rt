@@ -23,7 +23,7 @@ fn kind<J: JsonValue>(json: &J) -> Result<Kind, TextFault>
     }
 }
 
-/// The form of paths, which format 1 hasn't.
+/// Returns the form of paths, which format 1 hasn't.
 fn path(format: Format) -> Result<Form, TextFault>
     ensures { result ≡ path_in format }
 {
@@ -84,7 +84,7 @@ fn columns<J: JsonValue>(alloc: Global, json: &J) -> Result<Columns, TextFault>
     Ok(Columns::new(list))
 }
 
-/// A table of an office text. Fails with `BadField` where a key is missing, or a value is none of those
+/// Returns a table of an office text. Fails with `BadField` where a key is missing, or a value is none of those
 /// that may stand there.
 #[tactic(auto, unfolding(crate::specs::Tables::table_of))]
 pub fn table<J: JsonValue>(alloc: Global, json: &J, format: Format) -> Result<TableDef, TextFault>

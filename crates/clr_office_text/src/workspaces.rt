@@ -37,7 +37,7 @@ fn read_kept<J: JsonValue>(json: &J, format: Format) -> Result<bool, TextFault>
     }
 }
 
-/// What is written first of a workspace. Fails with `BadField` where a key is missing, or a value is none
+/// Returns what is written first of a workspace. Fails with `BadField` where a key is missing, or a value is none
 /// of those that may stand there.
 #[tactic(auto, unfolding(crate::specs::Workspaces::head_of))]
 pub fn read_head<J: JsonValue>(alloc: Global, json: &J, format: Format) -> Result<Head, TextFault>
@@ -65,7 +65,7 @@ fn head_under(
     }
 }
 
-/// What a workspace has beside its head: its base, its rows and its marks.
+/// Returns what a workspace has beside its head: its base, its rows and its marks.
 #[tactic(auto, unfolding(crate::specs::Workspaces::contents_of))]
 fn contents<J: JsonValue>(
     alloc: Global,
@@ -80,7 +80,7 @@ fn contents<J: JsonValue>(
     Ok((base, current, marks))
 }
 
-/// A workspace, behind earlier ones of these names. Fails as `stored_parts` does at one workspace.
+/// Returns a workspace, behind earlier ones of these names. Fails as `stored_parts` does at one workspace.
 #[tactic(auto, unfolding(crate::specs::Workspaces::layer_of))]
 pub fn workspace<J: JsonValue>(
     alloc: Global,

@@ -3,7 +3,6 @@ use Rattle.std.proofs.Common.{◌≡◌, ◌≢◌, ℕ, suc, zero, ◌+◌, ◌
 use Rattle.std.proofs.Common.{subst, ◌∙◌, slice_set, filter, not, nat_lt, ◌++◌, arith, remove, take}
 use Rattle.std.specs.declared.option.Option.{Option}
 use Rattle.std.specs.FinMap as finite
-use Rattle.std.specs.FinMap.Entries.{find as find_entry}
 use Rattle.std.specs.Cmp.Lexicographic.{bytes_decides}
 use Rattle.std.proofs.lemmas.Bool.{cases_eq, ltb-true, ltb-false}
 use Rattle.std.proofs.lemmas.List.{get_or-set_same, get_or-set_other, length-set, length-append}
@@ -378,21 +377,6 @@ lean_resolved live ls ms at p cell keep r lt long is stay =
     (subst (RowsStay at (cell ∷ []) ws) (sym is) (rows_resolved ws at p cell keep (within_wholes live ls at lt))) stay
 
 -- a savepoint's content --------------------------------------------------------------------------------
-
-pub among_neither : (first others : List CellId) (q : CellId) → is_among (first ++ others) q ≡ false → (is_among first q ≡ false) × (is_among others q ≡ false)
-among_neither [] others q apart = (refl, apart)
-among_neither (cell ∷ first) others q apart =
-    let both = not_among cell (first ++ others) q apart in
-    let rest = among_neither first others q both.1 in
-    (ap (λ b. cond b true (is_among first q)) both.0 ∙ rest.0, rest.1)
-
--- there is no entry but at the cells of the entries
-pub no_entry : (d : Differences) (q : CellId) → is_among (finite.keys d) q ≡ false → finite.get d q ≡ None
-no_entry d q apart = finite.get-entries d q ∙ by (finite.entries d) apart
-  where
-    by : (es : RowEntries) → is_among (cells_in es) q ≡ false → find_entry cell_cmp q es ≡ None
-    by [] apart = refl
-    by (e ∷ es) apart = let both = not_among e.0 (cells_in es) q apart in ap (λ b. cond b (Some e.1) (find_entry cell_cmp q es)) both.0 ∙ by es both.1
 
 own_absent : (row : Option Row) (d : Differences) (q : CellId) → finite.get d q ≡ None → IsOwnOver row (finite.get d q)
 own_absent row d q none = subst (IsOwnOver row) (sym none) refl

@@ -10,7 +10,7 @@ use Rattle.clr_differences.proofs.DifferenceLemmas.{seen_over-fresh}
 use Rattle.clr_layers.specs.Layers.{Layer, find_layer, whole_of, whole_mark, wholes, content_by_name}
 use Rattle.clr_workspaces.specs.Workspaces.{Workspace, live_workspace, workspace_at, find}
 use Rattle.clr_workspaces.proofs.FindLemmas.{find_within}
-use Rattle.clr_layers.proofs.Meaning.{length-wholes, name-whole, find-wholes, named_found}
+use Rattle.clr_layers.proofs.Meaning.{length-wholes, name-whole, parent-whole, find-wholes, named_found}
 use Rattle.clr_layers.proofs.Places.{wholes-push}
 use Rattle.clr_parts.specs.Parts.{marks_of, workspace_of, marks_fault_at, first_below, first_name_fault, first_marks_fault, workspaces_fault, number_of}
 use Rattle.clr_parts.specs.Parts.{IsPartFault, IsFirstPartFault}
@@ -32,10 +32,6 @@ whole_part above l p name parent base current marks kept =
     let content = ap (λ (m : Content). seen_over m l.current) base ∙ current in
     let all = ap (λ (m : Content). map (whole_mark m) l.marks) base ∙ marks in
     λ i. record { name = name i; parent = parent i; base = base i; current = content i; marks = all i; kept = kept i }
-
-pub parent-whole : (above : Content) (l : Layer) → (whole_of above l).parent ≡ l.parent
-unfolding whole_of
-parent-whole above l = refl
 
 module _ (live : Content) (ls : List Layer) (above : Content) (l : Layer) (p : Part) (is : whole_of above l ≡ workspace_of p) where
   pub new_layer : find (wholes live ls) p.name ≡ None → find_layer ls l.name ≡ None

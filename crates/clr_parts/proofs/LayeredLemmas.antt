@@ -6,13 +6,13 @@ use Rattle.clr_rows.specs.Contents.{Content}
 use Rattle.clr_rows.specs.Names.{live_name}
 use Rattle.clr_layers.specs.Layers.{Layer, above_in, grow, leaf, whole_of, wholes, workspaces_over}
 use Rattle.clr_workspaces.specs.Workspaces.{Workspace, live_workspace, workspace_at}
-use Rattle.clr_layers.proofs.Meaning.{length-wholes, name-whole}
+use Rattle.clr_layers.proofs.Meaning.{length-wholes, name-whole, parent-whole}
 use Rattle.clr_workspaces.specs.Roots.{IsRooted}
 use Rattle.clr_parts.specs.Parts.{place_fault, name_fault_at, first_below, first_name_fault, number_of, IsPartFault, IsFirstPartFault}
 use Rattle.clr_parts.specs.declared.parts.PartFault.{PartFault}
 use Rattle.clr_layers.proofs.Meaning.{root_made}
 use Rattle.clr_parts.proofs.FaultLemmas.{below_none, below_next, below_all, shaped_take}
-use Rattle.clr_parts.proofs.BuildLemmas.{parent-whole, refused_at}
+use Rattle.clr_parts.proofs.BuildLemmas.{refused_at}
 
 take_front : {A : Type 0} (xs ys : List A) → take (length xs) (xs ++ ys) ≡ xs
 take_front [] ys = refl

@@ -25,8 +25,8 @@ fn last_line_end(text: &[u8]) -> Option<usize>
     text.iter().rev().position(|byte| *byte == b'\n')
 }
 
-/// Returns where the first line end stands.
-fn first_line_end(text: &[u8]) -> Option<usize>
+/// Returns where the first line end stands, `\n`, or none where there is none.
+pub fn first_line_end(text: &[u8]) -> Option<usize>
     ensures value { result ≡ position is_line_end text.now }
     ensures bound { IfSome result (λ count. count < length text.now) }
 {
@@ -46,12 +46,12 @@ fn last_line_length(text: &[u8]) -> usize
 
 /// Returns how many bytes stand before the first line end, or in the whole text where there is
 /// none.
-fn first_line_length(text: &[u8]) -> usize
+pub fn first_line_length(text: &[u8]) -> usize
     ensures value { result ≡ next_line_length text.now }
     ensures bound { result ≤ length text.now }
 {
     match first_line_end(text) {
-        Some(count) => count,
+        Some(end) => end,
         None => text.len(),
     }
 }

@@ -17,7 +17,7 @@ const MOST_SPOTS: usize = 24;
 /// How near the place of a cause no label of a row points, in tenths of a pixel.
 const TOO_NEAR: i64 = 340;
 
-/// At most a few of these spots, evenly.
+/// Returns at most a few of these spots, evenly.
 pub(crate) fn some_of(scene: &Scene<'_>, spots: &[Spot]) -> Result<Vec<Spot>, AllocError> {
     let every = (spots.len() / MOST_SPOTS).saturating_add(1);
     let mut some = Vec::new(scene.field.alloc);

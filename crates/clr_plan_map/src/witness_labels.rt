@@ -20,7 +20,7 @@ fn cell_words(scene: &Scene<'_>, cell: CellId) -> Result<String, AllocError> {
     format!(in scene.field.alloc; "{table} {key}")
 }
 
-/// Who serves a need, and until when.
+/// Returns who serves a need, and until when.
 fn witness_words(scene: &Scene<'_>, entry: &Entry) -> Result<String, AllocError> {
     let mut words = cell_words(scene, entry.one.cell)?;
     if let Some(two) = entry.two {

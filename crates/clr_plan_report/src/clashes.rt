@@ -8,7 +8,7 @@ use clr_site_clashes::{SiteClash, SiteClashes, names_at, site_clashes};
 use clr_wording::add_names;
 use std::alloc::{AllocError, Global};
 
-/// Names with commas between them.
+/// Returns names with commas between them.
 fn listed(alloc: Global, names: &[&str]) -> Result<String, AllocError> {
     let mut text = String::new(alloc);
     add_names(&mut text, names)?;
@@ -57,8 +57,8 @@ fn add_found(
     section.add(Block::Table(table))
 }
 
-/// Adds the smallest sets of members that can't be merged together; nothing where a name is unfit. Fails for want of memory
-/// alone, also where none was found for the sets.
+/// Adds the smallest sets of members that can't be merged together; nothing where a name is unfit. Where there was no
+/// memory for the sets, this call fails too.
 pub(crate) fn add_clashes(section: &mut Builder, setting: Setting<'_>) -> Result<(), AllocError> {
     match site_clashes(
         setting.alloc,

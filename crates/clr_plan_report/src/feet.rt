@@ -78,7 +78,8 @@ fn lines_of(
 fn note_of(plan: &Plan) -> &'static str {
     match plan {
         Plan::Cleared(_) => {
-            "This page stands on the lines that this command prints; DB is the file of the office. The lines behind the first are a certificate, which clr_office check reads."
+            "This page stands on the lines that this command prints; DB is the file of the office. The lines behind the first \
+             are a certificate, which clr_office check reads."
         }
         _ => {
             "This page stands on the lines that this command prints; DB is the file of the office."

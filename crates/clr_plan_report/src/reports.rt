@@ -106,7 +106,7 @@ fn page_of(
 /// serves each need; what each design changes; and the smallest sets of designs that can't be merged together. It ends with the command of
 /// `clr_office` that prints the lines of the plan, in which DB stands for the office's file, and with these lines. Each text of the office is
 /// escaped. Lengths and places are in metres with three decimals. Of a design or a certificate the first 400 rows are told. The office is
-/// left as it was, but where it fails, which is for want of memory.
+/// left as it was, unless memory runs out.
 pub fn plan_report(
     alloc: Global,
     office: &mut Office,

@@ -1,19 +1,11 @@
 -- Hints at names, one name after another.
-use Rattle.std.proofs.Common.{◌≡◌, ◌∙◌, inl, inr, ◌<◌, ◌++◌, ◌∷◌, [], ℕ, zero, suc, List, ap, append-nil, arith, length, slice_index_or, subst, sym}
-use Rattle.std.specs.Prelude.{All, Contains, flat_map}
+use Rattle.std.proofs.Common.{◌≡◌, ◌∙◌, inl, inr, ◌<◌, ◌++◌, ◌∷◌, [], ℕ, suc, List, ap, append-nil, arith, length, slice_index_or, subst, sym}
+use Rattle.std.specs.Prelude.{Contains, flat_map}
 use Rattle.std.proofs.lemmas.Grind.{flat_map-append}
-use Rattle.std.proofs.lemmas.List.Elements.{All-append, All-contains_itself}
+use Rattle.std.proofs.lemmas.List.Elements.{All-contains_itself, All-push}
 use Rattle.clr_workspaces.specs.Marks.{Name}
 use Rattle.clr_steps.specs.Offices.{Office}
 use Rattle.clr_prints.specs.NameHints.{AddsHint, AreNameHints, IsNameHint, NameHint, hint_text}
-
-one : {X : Type 0} (P : X → Type 0) (x : X) → P x → All P (x ∷ [])
-one P x p zero d less = p
-one P x p (suc k) d less = absurd (omega (arith, less))
-
--- one more has what all others have
-pub one_more : {X : Type 0} (P : X → Type 0) (xs : List X) (x : X) → All P xs → P x → All P (xs ++ x ∷ [])
-one_more P xs x all p = All-append P xs (x ∷ []) all (one P x p)
 
 -- an element behind the first
 pub behind : {X : Type 0} (x : X) (xs : List X) (at : ℕ) (d : X) → at < length xs → Contains (x ∷ xs) (slice_index_or xs at d)
@@ -31,7 +23,7 @@ more_hints o names name old new given (hints, all, e) (inr (near, nobody, named,
     let hint : NameHint = record { name = name; near = near } in
     let is : IsNameHint o names hint = record { given = given; nobody = nobody; near = named } in (
       hints ++ hint ∷ [],
-      one_more (IsNameHint o names) hints hint all is,
+      All-push (IsNameHint o names) hints hint all is,
       added ∙ ap (λ ls. ls ++ hint_text hint) e ∙ sym (flat_map-append hint_text hints (hint ∷ [])
           ∙ ap (λ ls. flat_map hint_text hints ++ ls) (append-nil (hint_text hint))),
     )

@@ -98,7 +98,7 @@ impl Print {
     }
 }
 
-/// Lines as notes, without a text.
+/// Returns lines as notes, without a text.
 pub fn notes_of(alloc: Global, answer: Result<Output, RunFault>) -> Result<Print, RunFault>
     ensures { AreLinesAsNotes answer result }
 {

@@ -20,10 +20,6 @@ pub within : (z : ℤ) → is_i64 z ≡ true → FitsSigned w64 z × (mag z < 2 
 within (pos n) e = let lt : n < 2 ^ 63 = ltb-true n (2 ^ 63) e in (search rules, lt)
 within (negsuc n) e = let lt : n < 2 ^ 63 = ltb-true n (2 ^ 63) e in (search rules, lt)
 
-pub is_within : (z : ℤ) → FitsSigned w64 z → is_i64 z ≡ true
-is_within (pos n) f = search rules
-is_within (negsuc n) f = search rules
-
 -- a decimal begins with neither `+` nor `-`
 no_sign : (n : ℕ) → n < 2 ^ 64 → (get_or (decimal n) 0 0 ≢ 43) × (get_or (decimal n) 0 0 ≢ 45)
 no_sign n lt =

@@ -41,7 +41,7 @@ impl Model for RowMap {
     ghost invariant = { λ a. HasRoom a.settled a.pending };
 }
 
-/// The row that is there, or none.
+/// Returns the row that is there, or none.
 fn row_in(entry: Option<&Option<RowSpots>>) -> Option<&RowSpots>
     ensures { option_copied result ≡ option_flatten (option_copied entry.entry) }
 {
@@ -268,7 +268,7 @@ impl RowMap {
         Ok(list)
     }
 
-    /// Whether the row of a cell is found under a rule.
+    /// Returns whether the row of a cell is found under a rule.
     fn is_found(&self, servers: bool, rule: u16, spots: &RuleSpots, cell: CellId) -> bool
         ensures { result ≡ is_met_at servers spots.now rule (finite.get self.now.settled cell) }
     {

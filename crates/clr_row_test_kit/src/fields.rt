@@ -1,22 +1,24 @@
+//! Values of rows, as tests write them.
+
 use clr_rows::{Value, Values, Words};
 use std::alloc::Global;
 
-/// A number with or without a sign.
+/// Returns a number with or without a sign.
 pub fn number(text: &str) -> Option<i64> {
     text.parse::<i64>().ok()
 }
 
-/// The number of a table, a column or a part, or how often a text stands.
+/// Returns the number of a table, a column or a part, or how often a text stands.
 pub fn ordinal(text: &str) -> Option<u16> {
     text.parse::<u16>().ok()
 }
 
-/// The text itself.
+/// Returns the text itself.
 pub fn words(alloc: Global, text: &str) -> Option<Words> {
     Some(Words::new(String::from_str(alloc, text).ok()?))
 }
 
-/// A text as often as the number after a star says.
+/// Returns a text as often as the number after a star says.
 fn repeat(alloc: Global, text: &str) -> Option<Words> {
     let (part, times) = text.split_once('*').unwrap_or((text, "1"));
     let mut whole = String::new(alloc);
@@ -26,7 +28,7 @@ fn repeat(alloc: Global, text: &str) -> Option<Words> {
     Some(Words::new(whole))
 }
 
-/// A text after a quote, as often as the number after a star says; or a number.
+/// Returns a text after a quote, as often as the number after a star says; or a number.
 pub fn value(alloc: Global, text: &str) -> Option<Value> {
     match text.strip_prefix('\'') {
         Some(text) => Some(Value::Words(repeat(alloc, text)?)),
@@ -34,7 +36,7 @@ pub fn value(alloc: Global, text: &str) -> Option<Value> {
     }
 }
 
-/// Values that are parted by plus signs, or none for a hyphen.
+/// Returns values that are parted by plus signs, or none for a hyphen.
 pub fn values(alloc: Global, text: &str) -> Option<Values> {
     let mut list = Vec::new(alloc);
     if text == "-" {

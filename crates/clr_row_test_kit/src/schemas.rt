@@ -1,8 +1,10 @@
+//! Schemas, as tests write them.
+
 use crate::fields::{ordinal, words};
 use clr_rows::{Columns, Form, Kind, Schema, TableDef, Words};
 use std::alloc::Global;
 
-/// A name, or one of many with its number after it.
+/// Returns a name, or one of many with its number after it.
 fn name(alloc: Global, text: &str, many: bool, number: u16) -> Option<Words> {
     if many {
         let text = format!(in alloc; "{text}{number}").ok()?;
@@ -28,7 +30,7 @@ fn add_column(list: &mut Vec<(Words, Kind)>, alloc: Global, text: &str) -> Optio
     Some(())
 }
 
-/// Columns that are parted by commas.
+/// Returns columns that are parted by commas.
 pub fn columns(alloc: Global, text: &str) -> Option<Columns> {
     let mut list = Vec::new(alloc);
     if text == "" {
@@ -71,7 +73,7 @@ fn add_table(list: &mut Vec<TableDef>, alloc: Global, text: &str) -> Option<()> 
     Some(())
 }
 
-/// Tables that are parted by semicolons: of each its name, its form and its columns by name and kind,
+/// Returns tables that are parted by semicolons: of each its name, its form and its columns by name and kind,
 /// parted by strokes. Names after a number and a star stand so often, with numbers.
 pub fn tables(alloc: Global, text: &str) -> Option<Vec<TableDef>> {
     let mut list = Vec::new(alloc);
@@ -81,7 +83,7 @@ pub fn tables(alloc: Global, text: &str) -> Option<Vec<TableDef>> {
     Some(list)
 }
 
-/// The schema of a text.
+/// Returns the schema of a text.
 pub fn schema(alloc: Global, text: &str) -> Option<Schema> {
     Schema::new(tables(alloc, text)?).ok()
 }

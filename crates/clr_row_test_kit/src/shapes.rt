@@ -1,8 +1,10 @@
+//! Shapes, as tests write them.
+
 use crate::fields::{number, ordinal};
 use clr_rows::{Place, Shape, Vertices};
 use std::alloc::Global;
 
-/// A place of two numbers with a comma between them.
+/// Returns a place of two numbers with a comma between them.
 pub fn place(text: &str) -> Option<Place> {
     let (x, y) = text.split_once(',')?;
     Some(Place {
@@ -11,7 +13,7 @@ pub fn place(text: &str) -> Option<Place> {
     })
 }
 
-/// Places that are parted by spaces, or none for a hyphen.
+/// Returns places that are parted by spaces, or none for a hyphen.
 pub fn places(alloc: Global, text: &str) -> Option<Vec<Place>> {
     let mut list = Vec::new(alloc);
     if text == "-" {
@@ -40,7 +42,7 @@ fn walk(alloc: Global, text: &str) -> Option<Shape> {
     Some(Shape::Chain(Vertices::new(list)))
 }
 
-/// The shape of a word and its places: `none`, `at`, `line`, `path`; or `walk`, with how many places and the step between two.
+/// Returns the shape of a word and its places: `none`, `at`, `line`, `path`; or `walk`, with how many places and the step between two.
 pub fn shape(alloc: Global, text: &str) -> Option<Shape> {
     let (word, rest) = text.split_once(' ').unwrap_or((text, ""));
     match word {

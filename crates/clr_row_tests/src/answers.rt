@@ -17,7 +17,7 @@ use clr_segments::GREATEST_DISTANCE;
 use std::alloc::Global;
 use std::process::Abort;
 
-/// The greatest lists and texts, the vertices of a path, and the greatest numbers.
+/// Returns the greatest lists and texts, the vertices of a path, and the greatest numbers.
 fn limit_text(alloc: Global, word: &str) -> Option<String> {
     let (one, two, three) = match word {
         "lists" => (
@@ -35,7 +35,7 @@ fn limit_text(alloc: Global, word: &str) -> Option<String> {
     format!(in alloc; "{one} {two} {three}").ok()
 }
 
-/// What is asked of tables and rows.
+/// Returns what is asked of tables and rows.
 fn row_answer(alloc: Global, word: &str, text: &str) -> Option<String> {
     match word {
         "limits" => limit_text(alloc, text),
@@ -45,7 +45,7 @@ fn row_answer(alloc: Global, word: &str, text: &str) -> Option<String> {
     }
 }
 
-/// What is asked of two things that a bar parts.
+/// Returns what is asked of two things that a bar parts.
 fn same_answer(alloc: Global, word: &str, one: &str, other: &str) -> Option<String> {
     match word {
         "words" => words_text(alloc, one, other),
@@ -57,7 +57,7 @@ fn same_answer(alloc: Global, word: &str, one: &str, other: &str) -> Option<Stri
     }
 }
 
-/// What is asked of shapes and lists.
+/// Returns what is asked of shapes and lists.
 fn shape_answer(alloc: Global, word: &str, text: &str) -> Option<String> {
     match word {
         "vertices" => vertices_text(alloc, text),
@@ -69,7 +69,7 @@ fn shape_answer(alloc: Global, word: &str, text: &str) -> Option<String> {
     }
 }
 
-/// What is asked of edits.
+/// Returns what is asked of edits.
 fn change_answer(alloc: Global, word: &str, text: &str) -> Option<String> {
     match word {
         "stage" => stage_text(alloc, text),
@@ -81,7 +81,7 @@ fn change_answer(alloc: Global, word: &str, text: &str) -> Option<String> {
     }
 }
 
-/// What one of the words of a group is asked.
+/// Returns what one of the words of a group is asked.
 fn answer(alloc: Global, group: Group, asked: &str) -> Option<String> {
     let (word, rest) = asked.split_once(' ')?;
     match group {
@@ -118,7 +118,7 @@ fn is_right(alloc: Global, group: Group, line: &str) -> bool {
     }
 }
 
-/// Each line is answered as it says.
+/// Tests that each line is answered as it says.
 pub(crate) fn check(rt: &impl Abort, alloc: Global, group: Group, lines: &str) {
     for line in lines.lines() {
         assert!(rt; is_right(alloc, group, line), "{line}");

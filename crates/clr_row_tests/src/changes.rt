@@ -11,7 +11,7 @@ use std::alloc::Global;
 const MAINS: &str =
     "insert 1.3 'C line 2,0 10,10;insert 1.1 'A line 0,0 10,10;insert 1.2 'B line 1,0 10,10";
 
-/// The edit of a word, its cell, and its row.
+/// Returns the edit of a word, its cell, and its row.
 fn edit(alloc: Global, text: &str) -> Option<Edit> {
     let (word, rest) = text.split_once(' ')?;
     let (at, rest) = rest.split_once(' ').unwrap_or((rest, ""));
@@ -23,7 +23,7 @@ fn edit(alloc: Global, text: &str) -> Option<Edit> {
     }
 }
 
-/// Edits that are parted by semicolons.
+/// Returns edits that are parted by semicolons.
 fn edits(alloc: Global, text: &str) -> Option<Edits> {
     let mut list = Vec::new(alloc);
     for part in text.split(';') {
@@ -32,13 +32,13 @@ fn edits(alloc: Global, text: &str) -> Option<Edits> {
     Some(Edits::new(list))
 }
 
-/// What edits change over a sheet.
+/// Returns what edits change over a sheet.
 fn changes_over(alloc: Global, base: &Sheet, text: &str) -> Option<ChangeSet> {
     let edits = edits(alloc, text)?;
     stage(alloc, &schema(alloc, NETWORK)?, base, edits.as_slice()).ok()
 }
 
-/// A sheet after edits.
+/// Returns a sheet after edits.
 fn sheet_after(alloc: Global, base: &Sheet, text: &str) -> Option<Sheet> {
     let set = changes_over(alloc, base, text)?;
     let mut sheet = base.copy().ok()?;
@@ -46,12 +46,12 @@ fn sheet_after(alloc: Global, base: &Sheet, text: &str) -> Option<Sheet> {
     Some(sheet)
 }
 
-/// A sheet of mains 1 to 3.
+/// Returns a sheet of mains 1 to 3.
 fn mains(alloc: Global) -> Option<Sheet> {
     sheet_after(alloc, &Sheet::new(alloc), MAINS)
 }
 
-/// A key, and the texts of the rows before and after.
+/// Returns a key, and the texts of the rows before and after.
 fn change_text(alloc: Global, cell: CellId, change: &Change) -> Option<String> {
     let (before, after) = (
         text_in(change.before.as_ref()),
@@ -60,13 +60,13 @@ fn change_text(alloc: Global, cell: CellId, change: &Change) -> Option<String> {
     format!(in alloc; "{}:{before}>{after}", cell.key).ok()
 }
 
-/// The change at a position, by its cell.
+/// Returns the change at a position, by its cell.
 fn change_at(alloc: Global, set: &ChangeSet, at: usize) -> Option<String> {
     let cell = set.cell_at(at)?;
     change_text(alloc, cell, set.get(cell)?)
 }
 
-/// How many changes a set has, and the changes by position, behind which there is none.
+/// Returns how many changes a set has, and the changes by position, behind which there is none.
 fn by_position(alloc: Global, set: &ChangeSet) -> Option<String> {
     if set.cell_at(set.len()).is_some() {
         return None;
@@ -78,7 +78,7 @@ fn by_position(alloc: Global, set: &ChangeSet) -> Option<String> {
     Some(text)
 }
 
-/// How many rows a set leaves or takes away, and its changes, one after another.
+/// Returns how many rows a set leaves or takes away, and its changes, one after another.
 fn in_order(alloc: Global, set: &ChangeSet) -> Option<String> {
     let rows = set.rows_after().ok()?;
     let mut text = format!(in alloc; "{}", rows.len()).ok()?;
@@ -88,7 +88,7 @@ fn in_order(alloc: Global, set: &ChangeSet) -> Option<String> {
     Some(text)
 }
 
-/// The changes of a set, which are the same by position and one after another.
+/// Returns the changes of a set, which are the same by position and one after another.
 fn set_text(alloc: Global, set: &ChangeSet) -> Option<String> {
     let text = by_position(alloc, set)?;
     if text.as_str() == in_order(alloc, set)?.as_str() {
@@ -98,7 +98,7 @@ fn set_text(alloc: Global, set: &ChangeSet) -> Option<String> {
     }
 }
 
-/// What edits change over mains 1 to 3, or which edit can't be made, and why.
+/// Returns what edits change over mains 1 to 3, or which edit can't be made, and why.
 pub(crate) fn stage_text(alloc: Global, text: &str) -> Option<String> {
     let edits = edits(alloc, text)?;
     match stage(
@@ -112,14 +112,14 @@ pub(crate) fn stage_text(alloc: Global, text: &str) -> Option<String> {
     }
 }
 
-/// The differences between mains 1 to 3 and what they are after edits.
+/// Returns the differences between mains 1 to 3 and what they are after edits.
 pub(crate) fn between_text(alloc: Global, text: &str) -> Option<String> {
     let base = mains(alloc)?;
     let current = sheet_after(alloc, &base, text)?;
     set_text(alloc, &ChangeSet::between(alloc, &base, &current).ok()?)
 }
 
-/// How many mains there are after the differences are taken over, and how many differences are left.
+/// Returns how many mains there are after the differences are taken over, and how many differences are left.
 pub(crate) fn over_text(alloc: Global, text: &str) -> Option<String> {
     let mut sheet = mains(alloc)?;
     let current = sheet_after(alloc, &sheet, text)?;
@@ -129,7 +129,7 @@ pub(crate) fn over_text(alloc: Global, text: &str) -> Option<String> {
     format!(in alloc; "{} {}", sheet.len(), left.len()).ok()
 }
 
-/// The least conflict of edits with mains 1 to 3, and with what they are after the same edits.
+/// Returns the least conflict of edits with mains 1 to 3, and with what they are after the same edits.
 pub(crate) fn conflict_text(alloc: Global, text: &str) -> Option<String> {
     let base = mains(alloc)?;
     let set = changes_over(alloc, &base, text)?;
@@ -138,14 +138,14 @@ pub(crate) fn conflict_text(alloc: Global, text: &str) -> Option<String> {
     format!(in alloc; "{with_base:?} {with_current:?}").ok()
 }
 
-/// How many edits there are as a slice, and as a list.
+/// Returns how many edits there are as a slice, and as a list.
 pub(crate) fn edits_text(alloc: Global, text: &str) -> Option<String> {
     let edits = edits(alloc, text)?;
     let length = edits.as_slice().len();
     format!(in alloc; "{length} {}", edits.into_vec().len()).ok()
 }
 
-/// A main of a code, or no row.
+/// Returns a main of a code, or no row.
 fn main(alloc: Global, code: &str) -> Option<Vec<Row>> {
     let mut rows = Vec::new(alloc);
     if code != "none" {
@@ -163,7 +163,7 @@ fn set_change(set: &mut ChangeSet, alloc: Global, text: &str) -> Option<()> {
     set.set(cell(at)?, before.first(), after.first()).ok()
 }
 
-/// The changes that are set one after another.
+/// Returns the changes that are set one after another.
 pub(crate) fn changes_text(alloc: Global, text: &str) -> Option<String> {
     let mut set = ChangeSet::new(alloc);
     for part in text.split(';') {

@@ -4,7 +4,7 @@ use clr_row_test_kit::{columns, place, places, row, shape, value, values, words}
 use clr_rows::{Shape, Vertices};
 use std::alloc::Global;
 
-/// Whether a text is the same as its copy, and as another, and the copy.
+/// Returns whether a text is the same as its copy, and as another, and the copy.
 pub(crate) fn words_text(alloc: Global, one: &str, other: &str) -> Option<String> {
     let text = words(alloc, one)?;
     let copy = text.copy().ok()?;
@@ -21,7 +21,7 @@ pub(crate) fn value_text(alloc: Global, one: &str, other: &str) -> Option<String
     format!(in alloc; "{alike} {same}").ok()
 }
 
-/// Whether values are the same as their copy, and as others, in both orders, and how many there are.
+/// Returns whether values are the same as their copy, and as others, in both orders, and how many there are.
 pub(crate) fn values_text(alloc: Global, one: &str, other: &str) -> Option<String> {
     let (list, others) = (values(alloc, one)?, values(alloc, other)?);
     let alike = list.same(&list.copy().ok()?);
@@ -31,7 +31,7 @@ pub(crate) fn values_text(alloc: Global, one: &str, other: &str) -> Option<Strin
     format!(in alloc; "{alike} {same} {back} {length} {}", list.len()).ok()
 }
 
-/// Whether a row is the same as its copy, as its clone, and as another.
+/// Returns whether a row is the same as its copy, as its clone, and as another.
 pub(crate) fn row_text(alloc: Global, one: &str, other: &str) -> Option<String> {
     let row_one = row(alloc, one)?;
     let copied = row_one.copy().ok()?.same(&row_one);
@@ -45,7 +45,7 @@ pub(crate) fn place_text(alloc: Global, one: &str, other: &str) -> Option<String
     format!(in alloc; "{same}").ok()
 }
 
-/// Whether vertices are the same as their copy, how many there are, and the list.
+/// Returns whether vertices are the same as their copy, how many there are, and the list.
 pub(crate) fn vertices_text(alloc: Global, text: &str) -> Option<String> {
     let vertices = Vertices::new(places(alloc, text)?);
     let alike = vertices.copy().ok()?.same(&vertices);
@@ -54,7 +54,7 @@ pub(crate) fn vertices_text(alloc: Global, text: &str) -> Option<String> {
     format!(in alloc; "{alike} {length} {list:?}").ok()
 }
 
-/// Columns as a slice, and how many the list has.
+/// Returns columns as a slice, and how many the list has.
 pub(crate) fn columns_text(alloc: Global, text: &str) -> Option<String> {
     let columns = columns(alloc, text)?;
     let slice = format!(in alloc; "{:?}", columns.as_slice()).ok()?;
@@ -81,7 +81,7 @@ fn shapes(alloc: Global) -> Option<Vec<Shape>> {
     Some(list)
 }
 
-/// Whether two of some shapes are the same, and each the same as its copy.
+/// Returns whether two of some shapes are the same, and each the same as its copy.
 fn are_same(shapes: &[Shape], i: usize, j: usize) -> Option<bool> {
     let (one, other) = (shapes.get(i)?, shapes.get(j)?);
     if !one.copy().ok()?.same(one) {
@@ -90,7 +90,7 @@ fn are_same(shapes: &[Shape], i: usize, j: usize) -> Option<bool> {
     Some(one.same(other))
 }
 
-/// Whether each shape is the same as itself alone.
+/// Returns whether each shape is the same as itself alone.
 fn differ(alloc: Global) -> Option<bool> {
     let shapes = shapes(alloc)?;
     let mut all = shapes.len() == 9;

@@ -21,7 +21,7 @@ fn in_range(place: &Place) -> Option<Place>
     }
 }
 
-/// How segments meet, which is the same in either order and with the ends of each in either order.
+/// Returns how segments meet, which is the same in either order and with the ends of each in either order.
 fn meeting(a: Place, b: Place, c: Place, d: Place) -> Option<Meet>
     requires a_in { InRange a }
     requires b_in { InRange b }
@@ -46,7 +46,7 @@ fn meeting_text(alloc: Global, ends: [&Place; 4]) -> Option<String> {
     format!(in alloc; "{how:?}").ok()
 }
 
-/// Whether a place is on a segment.
+/// Returns whether a place is on a segment.
 fn is_on(p: &Place, a: &Place, b: &Place) -> Option<bool> {
     let (p, a, b) = (in_range(p)?, in_range(a)?, in_range(b)?);
     if a.x == b.x && a.y == b.y {
@@ -55,12 +55,12 @@ fn is_on(p: &Place, a: &Place, b: &Place) -> Option<bool> {
     Some(lies_on(p, a, b))
 }
 
-/// To which side of the way from the first place to the second the third is.
+/// Returns to which side of the way from the first place to the second the third is.
 fn side(a: &Place, b: &Place, c: &Place) -> Option<i64> {
     Some(turn(in_range(a)?, in_range(b)?, in_range(c)?))
 }
 
-/// Whether two boxes touch, which is the same in either order, by the least and most place of each.
+/// Returns whether two boxes touch, which is the same in either order, by the least and most place of each.
 fn touch(corners: [&Place; 4]) -> Option<bool> {
     let [a, b, c, d] = corners;
     let one = Bounds {
@@ -84,7 +84,7 @@ pub(crate) fn bounds_text(alloc: Global, bounds: &Bounds) -> Option<String> {
     format!(in alloc; "{},{} {},{}", least.x, least.y, most.x, most.y).ok()
 }
 
-/// What is asked of places.
+/// Returns what is asked of places.
 fn places_text(alloc: Global, word: &str, places: &[Place]) -> Option<String> {
     match (word, places) {
         ("meet", [a, b, c, d]) => meeting_text(alloc, [a, b, c, d]),
@@ -96,7 +96,7 @@ fn places_text(alloc: Global, word: &str, places: &[Place]) -> Option<String> {
     }
 }
 
-/// Whether two places are nearer than a distance, which stands first.
+/// Returns whether two places are nearer than a distance, which stands first.
 fn near_text(alloc: Global, d: i64, places: &[Place]) -> Option<String> {
     if !(1 <= d && d <= 1_000_000) {
         return None;
@@ -107,7 +107,7 @@ fn near_text(alloc: Global, d: i64, places: &[Place]) -> Option<String> {
     }
 }
 
-/// What is asked of places, or of a distance and places.
+/// Returns what is asked of places, or of a distance and places.
 pub(crate) fn answer(alloc: Global, word: &str, text: &str) -> Option<String> {
     if word == "near" {
         let (d, rest) = text.split_once(' ')?;
@@ -117,7 +117,7 @@ pub(crate) fn answer(alloc: Global, word: &str, text: &str) -> Option<String> {
     }
 }
 
-/// Whether no whole place around them is on both (0,0)-(1,1) and (0,1)-(1,0), which cross between.
+/// Returns whether no whole place around them is on both (0,0)-(1,1) and (0,1)-(1,0), which cross between.
 fn none_is_on_both() -> Option<bool> {
     let (a, b) = (Place { x: 0, y: 0 }, Place { x: 1, y: 1 });
     let (c, d) = (Place { x: 0, y: 1 }, Place { x: 1, y: 0 });

@@ -12,7 +12,7 @@ pub(crate) const NETWORK: &str =
 /// A table of each form, without columns.
 pub(crate) const FORMS: &str = "bare/none/;place/point/;main/segment/;pipe/path/";
 
-/// `fits`, or why tables make no schema.
+/// Returns `fits`, or why tables make no schema.
 pub(crate) fn schema_text(alloc: Global, text: &str) -> Option<String> {
     match Schema::new(tables(alloc, text)?) {
         Ok(_) => String::from_str(alloc, "fits").ok(),
@@ -27,14 +27,14 @@ fn fault_text(alloc: Global, answer: Result<(), RowFault>) -> Option<String> {
     }
 }
 
-/// `fits`, or why a row doesn't fit at its cell.
+/// Returns `fits`, or why a row doesn't fit at its cell.
 fn row_text(alloc: Global, schema: &Schema, text: &str) -> Option<String> {
     let (at, rest) = text.split_once(' ')?;
     let row = row(alloc, rest)?;
     fault_text(alloc, schema.fits(cell(at)?, &row))
 }
 
-/// The number of a table, or of a column after the number of its table.
+/// Returns the number of a table, or of a column after the number of its table.
 fn number_text(alloc: Global, schema: &Schema, text: &str) -> Option<String> {
     let found = match text.split_once(' ') {
         Some((table, column)) => schema.column(ordinal(table)?, column),
@@ -43,7 +43,7 @@ fn number_text(alloc: Global, schema: &Schema, text: &str) -> Option<String> {
     format!(in alloc; "{found:?}").ok()
 }
 
-/// The name and the form of a table, and how many tables there are.
+/// Returns the name and the form of a table, and how many tables there are.
 fn table_text(alloc: Global, schema: &Schema, table: u16) -> Option<String> {
     let name = schema.table_name(table).unwrap_or("none");
     let form = schema.def(table).map(|table| table.shape);
@@ -51,7 +51,7 @@ fn table_text(alloc: Global, schema: &Schema, table: u16) -> Option<String> {
     format!(in alloc; "{name} {form:?} of {count}").ok()
 }
 
-/// What is asked of the network.
+/// Returns what is asked of the network.
 pub(crate) fn network_text(alloc: Global, word: &str, text: &str) -> Option<String> {
     let schema = schema(alloc, NETWORK)?;
     match word {

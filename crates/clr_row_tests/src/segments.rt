@@ -5,13 +5,13 @@ use clr_row_test_kit::{ordinal, shape};
 use clr_segments::{box_of_shape, part, parts};
 use std::alloc::Global;
 
-/// How many parts a shape has.
+/// Returns how many parts a shape has.
 pub(crate) fn parts_text(alloc: Global, text: &str) -> Option<String> {
     let count = parts(&shape(alloc, text)?);
     format!(in alloc; "{count}").ok()
 }
 
-/// The ends of the part of a number.
+/// Returns the ends of the part of a number.
 pub(crate) fn part_text(alloc: Global, text: &str) -> Option<String> {
     let (number, rest) = text.split_once(' ')?;
     let shape = shape(alloc, rest)?;
@@ -21,7 +21,7 @@ pub(crate) fn part_text(alloc: Global, text: &str) -> Option<String> {
     }
 }
 
-/// The least and most place of a shape's box.
+/// Returns the least and most place of a shape's box.
 pub(crate) fn box_text(alloc: Global, text: &str) -> Option<String> {
     let shape = shape(alloc, text)?;
     match box_of_shape(&shape) {

@@ -5,7 +5,7 @@ use clr_row_test_kit::{add_word, cell, words};
 use clr_rows::{CellId, Place, Row, RowView, Shape, Sheet, Value, Values};
 use std::alloc::Global;
 
-/// A point of this kind.
+/// Returns a point of this kind.
 fn point(alloc: Global, kind: &str) -> Option<Row> {
     let mut list = Vec::new(alloc);
     list.push(Value::Words(words(alloc, kind)?)).ok()?;
@@ -49,7 +49,7 @@ fn put_all(alloc: Global, sheet: &mut Sheet, text: &str) -> Option<String> {
     sheet_text(alloc, sheet)
 }
 
-/// The kind at a cell, which is the same as that of the view's row.
+/// Returns the kind at a cell, which is the same as that of the view's row.
 fn kind_text(alloc: Global, sheet: &Sheet, text: &str) -> Option<String> {
     let kind = text_in(sheet.get(cell(text)?));
     if text_in(sheet.row(cell(text)?)) != kind {
@@ -58,7 +58,7 @@ fn kind_text(alloc: Global, sheet: &Sheet, text: &str) -> Option<String> {
     String::from_str(alloc, kind).ok()
 }
 
-/// How many rows a sheet has, and its cells by position, behind which there is none.
+/// Returns how many rows a sheet has, and its cells by position, behind which there is none.
 fn cells_text(alloc: Global, sheet: &Sheet) -> Option<String> {
     let mut text = format!(in alloc; "{}", sheet.len()).ok()?;
     if sheet.cell_at(sheet.len()).is_some() {
@@ -72,7 +72,7 @@ fn cells_text(alloc: Global, sheet: &Sheet) -> Option<String> {
     Some(text)
 }
 
-/// The cells and kinds of a sheet, one after another.
+/// Returns the cells and kinds of a sheet, one after another.
 fn sheet_text(alloc: Global, sheet: &Sheet) -> Option<String> {
     let mut text = String::new(alloc);
     for (cell, row) in sheet.iter() {
@@ -100,7 +100,7 @@ fn is_right(alloc: Global, sheet: &mut Sheet, line: &str) -> Option<bool> {
     Some(answer.as_str() == wanted)
 }
 
-/// The first line that isn't answered as it says.
+/// Returns the first line that isn't answered as it says.
 fn first_wrong(alloc: Global, sheet: &mut Sheet, lines: &'static str) -> Option<&'static str> {
     for line in lines.lines() {
         if is_right(alloc, sheet, line) != Some(true) {
@@ -110,7 +110,7 @@ fn first_wrong(alloc: Global, sheet: &mut Sheet, lines: &'static str) -> Option<
     None
 }
 
-/// The first line that isn't answered as it says, of a sheet that is empty at first.
+/// Returns the first line that isn't answered as it says, of a sheet that is empty at first.
 fn first_wrong_from_none(alloc: Global, lines: &'static str) -> Option<&'static str> {
     let mut sheet = Sheet::new(alloc);
     first_wrong(alloc, &mut sheet, lines)
@@ -166,7 +166,7 @@ all none => 0.10 tap 1.2 post 1.3 cap";
 const COPY: &str = "rows => 0.9 valve 0.10 tee 1.2 post
 cells => 3 0.9 0.10 1.2";
 
-/// The first line that isn't answered as it says, of a sheet that changes and of its copy.
+/// Returns the first line that isn't answered as it says, of a sheet that changes and of its copy.
 fn first_wrong_of_copy(alloc: Global, sheet: &mut Sheet) -> Option<&'static str> {
     let Ok(mut copy) = sheet.copy() else {
         return Some("no copy");
@@ -177,7 +177,7 @@ fn first_wrong_of_copy(alloc: Global, sheet: &mut Sheet) -> Option<&'static str>
     }
 }
 
-/// The same of three points.
+/// Returns the same of three points.
 fn first_wrong_of_points(alloc: Global) -> Option<&'static str> {
     let mut sheet = Sheet::new(alloc);
     match first_wrong(alloc, &mut sheet, POINTS) {

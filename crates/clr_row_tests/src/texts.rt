@@ -2,7 +2,7 @@
 
 use clr_rows::{Row, Value};
 
-/// The first text of a row, or `none` where there is no row.
+/// Returns the first text of a row, or `none` where there is no row.
 pub(crate) fn text_in(row: Option<&Row>) -> &str {
     match row {
         Some(row) => match row.values.as_slice().first() {

@@ -1,10 +1,19 @@
 -- Laws of lists to which something was to be added: from the pieces that were added to the whole.
 use Rattle.std.proofs.Common.{◌≡◌, Bool, true, false, ℕ, ◌+◌, ◌<◌, List, [], ◌∷◌, ◌++◌, append-nil, length, map, get_or, take, drop, ap, sym, refl, ◌∙◌}
-use Rattle.std.specs.Prelude.{if◌then◌else◌}
+use Rattle.std.specs.Prelude.{Result, Ok, Err, OnErr, if◌then◌else◌}
 use Rattle.std.specs.List.{flat_map}
 use Rattle.std.proofs.lemmas.Grind.{flat_map-append}
 use Rattle.std.proofs.lemmas.List.{append_assoc, append_cancel_left, drop_more, map-append, take-append-drop, take_at}
 use Rattle.clr_rows.specs.Beginnings.{IsBegun}
+
+-- what holds, holds after an error
+pub on_err : {T E P : Type 0} (r : Result T E) → P → OnErr r P
+on_err (Ok x) p = tt
+on_err (Err e) p = p
+
+-- four pieces are the first of them and the other three
+pub four_pieces : {A : Type 0} (a b c d : List A) → a ++ b ++ c ++ d ≡ a ++ (b ++ c ++ d)
+four_pieces a b c d = simp append_assoc
 
 -- a front of what was to be added was added
 pub some_begun : {A : Type 0} (old more new front back : List A) → new ≡ old ++ front → more ≡ front ++ back → IsBegun old more new

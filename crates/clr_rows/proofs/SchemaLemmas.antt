@@ -1,6 +1,6 @@
 -- What follows of tables that make a schema, and of a row that fits one.
 use Rattle.std.proofs.Common.{◌≡◌, ℕ, ◌+◌, ◌<◌, ◌≤◌, Bool, true, false, not, ◌&&◌, ◌||◌, List, [], ◌∷◌, length, ℤ, pos, negsuc, map, drop, get_or, refl, ap}
-use Rattle.std.proofs.Common.{subst, suc, zero, add-one, arith, Option, Some, None}
+use Rattle.std.proofs.Common.{subst, suc, zero, ◌^◌, add-one, arith, rules, Option, Some, None, FitsSigned, w64}
 use Rattle.std.specs.Prelude.{if◌then◌else◌, slice_get, position, nat_le, ◌==◌, unsigned_abs}
 use Rattle.std.proofs.Math.Seq.{drop-cons}
 use Rattle.std.proofs.lemmas.Bool.{not-true, not-false, lt-ltb, and_parts, and_from, or_parts, leb-true, eqb-true, both_ways}
@@ -187,6 +187,21 @@ key_of (pos n) h = let a = and_parts (nat_le 1 n) (nat_le n (unsigned_abs GREATE
       a.1,
 )
 key_of (negsuc n) h = cc
+
+-- a number that fits 64 bits, a key and a coordinate are within them
+pub number_within : (z : ℤ) → FitsSigned w64 z → is_i64 z ≡ true
+number_within (pos n) fits = search rules
+number_within (negsuc n) fits = search rules
+
+pub key_within : (key : ℤ) → is_key key ≡ true → is_i64 key ≡ true
+key_within key h =
+    let k = key_of key h in
+    let le = k.3 in
+    rw k.1 (lt-ltb k.0 (2 ^ 63) (omega arith))
+
+pub coordinate_within : (z : ℤ) → is_coordinate z ≡ true → is_i64 z ≡ true
+coordinate_within (pos n) h = let le = leb-true n GREATEST_COORDINATE h in lt-ltb n (2 ^ 63) (omega arith)
+coordinate_within (negsuc n) h = let le = leb-true (suc n) GREATEST_COORDINATE h in lt-ltb n (2 ^ 63) (omega arith)
 
 place_in_range : (p : Place) → is_place p ≡ true → InRange p
 place_in_range p h =

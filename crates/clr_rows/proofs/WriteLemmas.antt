@@ -11,7 +11,7 @@ use Rattle.clr_rows.specs.declared.cells.CellId.{CellId}
 use Rattle.clr_rows.specs.declared.rows.Row.{Row}
 use Rattle.clr_rows.specs.Cells.{cell_cmp}
 use Rattle.clr_rows.specs.Contents.{Content, no_rows, row_at, set_cell, over}
-use Rattle.clr_rows.specs.Sheets.{placeholder, named_cells, missing, with_none, with_placeholders, with_rows}
+use Rattle.clr_rows.specs.Sheets.{placeholder, named_cells, cells_without_rows, with_none, with_placeholders, with_rows}
 use Rattle.clr_rows.proofs.ChangeLemmas.{same_content, row-set_cell, row-over, apart_from_sorted, sorted-map, find-map, tied_self}
 use Rattle.clr_rows.proofs.RowLemmas.{tied_cells}
 
@@ -104,9 +104,9 @@ is_missing None false = refl
 is_missing (Some r) t = refl
 
 -- nothing is taken at cells that have no row
-pub nothing_taken : (m : Content) (cells : List CellId) → over m (with_none (missing m cells)) ≡ m
+pub nothing_taken : (m : Content) (cells : List CellId) → over m (with_none (cells_without_rows m cells)) ≡ m
 nothing_taken m cells = same_content _ _ (λ q.
-    row-everywhere m None (missing m cells) q
+    row-everywhere m None (cells_without_rows m cells) q
     ∙ ap (λ t. cond t None (row_at m q)) (among_passing (λ c. not (is_some (row_at m c))) cells q)
     ∙ is_missing (row_at m q) (is_among q cells))
 
@@ -154,13 +154,13 @@ module _ (m : Content) (es : List (CellId × Option Row)) where
 
   -- a row at each cell that is named, and none where none is given last
   abbrev ready : Content
-  ready = over (over m (with_placeholders (missing m named))) (with_none (missing last named))
+  ready = over (over m (with_placeholders (cells_without_rows m named))) (with_none (cells_without_rows last named))
 
   row-ready : (q : CellId) → row_at ready q ≡ cond (not (is_some (row_at last q)) && is_among q named) None (cond (not (is_some (row_at m q))
       && is_among q named) (Some placeholder) (row_at m q))
   row-ready q =
-      row-everywhere (over m (with_placeholders (missing m named))) None (missing last named) q
-      ∙ (λ i. cond (among_passing (λ c. not (is_some (row_at last c))) named q i) None (row-everywhere m (Some placeholder) (missing m named) q i))
+      row-everywhere (over m (with_placeholders (cells_without_rows m named))) None (cells_without_rows last named) q
+      ∙ (λ i. cond (among_passing (λ c. not (is_some (row_at last c))) named q i) None (row-everywhere m (Some placeholder) (cells_without_rows m named) q i))
       ∙ ap (λ t. cond (not (is_some (row_at last q)) && is_among q named) None (cond t (Some placeholder) (row_at m q)))
       (among_passing (λ c. not (is_some (row_at m c))) named q)
 
@@ -209,11 +209,11 @@ module _ (m : Content) (es : List (CellId × Option Row)) where
           && t) (Some placeholder) (row_at m q)))) e
           ∙ at_other (row_at last q) (row_at m q) (none_last q e) ∙ sym (other_row m es q e)
 
-  module _ (rows : Content) (cleared : List CellId) (room taken : Content) (rows_are : rows ≡ last) (cleared_are : cleared ≡ missing rows named) (room_is : room
-      ≡ over m (with_placeholders (missing m named))) (taken_is : taken ≡ over room (with_none cleared)) where
+  module _ (rows : Content) (cleared : List CellId) (room taken : Content) (rows_are : rows ≡ last) (cleared_are : cleared ≡ cells_without_rows rows named)
+      (room_is : room ≡ over m (with_placeholders (cells_without_rows m named))) (taken_is : taken ≡ over room (with_none cleared)) where
     taken-ready : taken ≡ ready
     taken-ready = taken_is ∙ (λ i. over (room_is i) (with_none (cleared_are i)))
-        ∙ ap (λ (n : Content). over (over m (with_placeholders (missing m named))) (with_none (missing n named))) rows_are
+        ∙ ap (λ (n : Content). over (over m (with_placeholders (cells_without_rows m named))) (with_none (cells_without_rows n named))) rows_are
 
     pub rows_have_places : (q : CellId) → is_some (row_at rows q) ≡ true → is_some (row_at taken q) ≡ true
     rows_have_places q there = ap (λ (n : Content). is_some (row_at n q)) taken-ready ∙ has_place q (sym (ap (λ (n : Content). is_some (row_at n q)) rows_are)

@@ -37,5 +37,5 @@ abbrev pub named_cells : List (CellId × Option Row) → List CellId
 named_cells rows = map (λ e. e.0) rows
 
 -- those of some cells that have no row
-abbrev pub missing : Content → List CellId → List CellId
-missing content cells = filter (λ cell. not (is_some (row_at content cell))) cells
+abbrev pub cells_without_rows : Content → List CellId → List CellId
+cells_without_rows content cells = filter (λ cell. not (is_some (row_at content cell))) cells

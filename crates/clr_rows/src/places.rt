@@ -1,6 +1,7 @@
 //! Points of the plane, and the shapes of rows.
 
 ghost use Rattle.std.specs.Prelude.{◌≡◌, ◌↔◌, IfOk, IsTrue};
+ghost use Rattle.clr_rows.specs.Same.{same_place};
 
 use crate::vertices::Vertices;
 use std::alloc::AllocError;
@@ -15,7 +16,8 @@ pub struct Place {
 impl Place {
     /// Returns whether both places are the same.
     pub fn same(&self, other: &Place) -> bool
-        ensures { IsTrue result ↔ (self.now ≡ other.now) }
+        ensures value { result ≡ same_place self.now other.now }
+        ensures equal { IsTrue result ↔ (self.now ≡ other.now) }
     {
         self.x == other.x && self.y == other.y
     }

@@ -48,11 +48,7 @@ impl Vertices {
         ensures { IfOk result (λ vertices. vertices ≡ self.now) }
     {
         let alloc: Global = *self.list.allocator();
-        let mut list = Vec::with_capacity(alloc, self.list.len())?;
-        for vertex in &self.list {
-            list.push(*vertex)?;
-        }
-        Ok(Vertices::new(list))
+        Ok(Vertices::new(Vec::from_slice(alloc, self.as_slice())?))
     }
 
     /// Returns whether both lists have the same vertices in the same order.

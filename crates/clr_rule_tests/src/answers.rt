@@ -14,7 +14,7 @@ use std::process::Abort;
 /// The numbers of parts that are asked.
 const NUMBERS: [u16; 7] = [0, 1, 2, 3, 4, 5, 65_535];
 
-/// `fits`, or the number of the first rule that doesn't fit and why.
+/// Returns `fits`, or the number of the first rule that doesn't fit and why.
 fn book_text(alloc: Global, network: &str, text: &str) -> Option<String> {
     let schema = schema(alloc, network)?;
     match RuleBook::new(&schema, rules(alloc, text)?) {
@@ -38,7 +38,7 @@ fn values_text(alloc: Global, values: &[Value]) -> Option<String> {
     format!(in alloc; "({})", text.as_str()).ok()
 }
 
-/// A square by its place, or values in parentheses.
+/// Returns a square by its place, or values in parentheses.
 fn spot_text(alloc: Global, spot: &Spot) -> Option<String> {
     match spot {
         Spot::Square(i, j) => format!(in alloc; "{i},{j}").ok(),
@@ -58,19 +58,19 @@ fn spots_text(alloc: Global, spots: &Spots) -> Option<String> {
     Some(text)
 }
 
-/// How many spots, and whether the row is wide.
+/// Returns how many spots, and whether the row is wide.
 fn count_text(alloc: Global, spots: &Spots) -> Option<String> {
     let count = spots.list.as_slice().len();
     let wide = if spots.wide { " wide" } else { "" };
     format!(in alloc; "{count}{wide}").ok()
 }
 
-/// What two orders of subjects are answered alike.
+/// Returns what two orders of subjects are answered alike.
 fn alike(first: bool, second: bool) -> Option<bool> {
     if first == second { Some(first) } else { None }
 }
 
-/// Whether parts of rows call, or whether the last row serves them. Two subjects are asked in both
+/// Returns whether parts of rows call, or whether the last row serves them. Two subjects are asked in both
 /// orders.
 fn is_so(rule: &OneRule, word: &str, parts: Parts, rows: &[RowAt]) -> Option<bool> {
     let (m, n) = parts;
@@ -88,7 +88,7 @@ fn is_so(rule: &OneRule, word: &str, parts: Parts, rows: &[RowAt]) -> Option<boo
     }
 }
 
-/// The pairs of parts that call, or that are served, out of all numbers.
+/// Returns the pairs of parts that call, or that are served, out of all numbers.
 fn parts_text(alloc: Global, rule: &OneRule, word: &str, rows: &[RowAt]) -> Option<String> {
     let mut text = String::new(alloc);
     for m in NUMBERS {
@@ -101,7 +101,7 @@ fn parts_text(alloc: Global, rule: &OneRule, word: &str, rows: &[RowAt]) -> Opti
     Some(text)
 }
 
-/// What is asked of a rule and one row.
+/// Returns what is asked of a rule and one row.
 fn row_text(alloc: Global, rule: &OneRule, word: &str, row: &RowAt) -> Option<String> {
     match word {
         "calls" => format!(in alloc; "{}", rule.calls_one(row)?).ok(),
@@ -112,7 +112,7 @@ fn row_text(alloc: Global, rule: &OneRule, word: &str, row: &RowAt) -> Option<St
     }
 }
 
-/// What is asked of a rule and rows.
+/// Returns what is asked of a rule and rows.
 fn rule_text(alloc: Global, network: &str, word: &str, text: &str) -> Option<String> {
     let (rule, rest) = text.split_once(" | ")?;
     let rule = OneRule::of(alloc, network, rule)?;
@@ -134,7 +134,7 @@ fn answer(alloc: Global, network: &str, asked: &str) -> Option<String> {
     }
 }
 
-/// Whether a line is answered as it says.
+/// Returns whether a line is answered as it says.
 fn is_right(alloc: Global, network: &str, line: &str) -> bool {
     let Some((asked, wanted)) = line.split_once(" => ") else {
         return false;
@@ -146,7 +146,7 @@ fn is_right(alloc: Global, network: &str, line: &str) -> bool {
     }
 }
 
-/// Each line is answered as it says.
+/// Tests that each line is answered as it says.
 pub(crate) fn check(rt: &impl Abort, alloc: Global, network: &str, lines: &str) {
     for line in lines.lines() {
         assert!(rt; is_right(alloc, network, line), "{line}");

@@ -25,7 +25,7 @@ struct Content {
 }
 
 impl Content {
-    /// A content without rows.
+    /// Returns a content without rows.
     fn of(alloc: Global, text: &str) -> Option<Content> {
         let schema = schema(alloc, NETWORK)?;
         let book = RuleBook::new(&schema, rules(alloc, text)?).ok()?;
@@ -52,7 +52,7 @@ fn cell_text(alloc: Global, cell: CellId) -> Option<String> {
     format!(in alloc; "{}.{}", cell.table, cell.key).ok()
 }
 
-/// A rule's number, the cells of the subjects, and their parts.
+/// Returns a rule's number, the cells of the subjects, and their parts.
 fn need_text(alloc: Global, need: &Broken) -> Option<String> {
     let first = cell_text(alloc, need.first)?;
     let second = match need.second {
@@ -64,7 +64,7 @@ fn need_text(alloc: Global, need: &Broken) -> Option<String> {
     format!(in alloc; "{rule} {first} {second} {m},{n}").ok()
 }
 
-/// The needs in their order.
+/// Returns the needs in their order.
 fn needs_text(alloc: Global, needs: &[Broken]) -> Option<String> {
     let mut text = String::new(alloc);
     for need in needs {
@@ -76,7 +76,7 @@ fn needs_text(alloc: Global, needs: &[Broken]) -> Option<String> {
     Some(text)
 }
 
-/// Whether the audit lists just these needs, or none.
+/// Returns whether the audit lists just these needs, or none.
 fn has_broken(alloc: Global, content: &Content, wanted: &str) -> Option<bool> {
     let needs = content.audit(alloc)?;
     if needs.len() == 0 {
@@ -97,7 +97,7 @@ fn is_right(alloc: Global, content: &mut Content, line: &str) -> Result<bool, Fa
     }
 }
 
-/// The first line of a case that isn't right. The first of all has its rules.
+/// Returns the first line of a case that isn't right. The first of all has its rules.
 fn first_wrong(alloc: Global, case: &'static str) -> Result<Option<&'static str>, Fail> {
     let (rules, lines) = case.split_once('\n').unwrap_or((case, ""));
     let mut content = Content::of(alloc, rules).ok_or("no rules")?;
@@ -109,7 +109,7 @@ fn first_wrong(alloc: Global, case: &'static str) -> Result<Option<&'static str>
     Ok(None)
 }
 
-/// Each line of cases, which empty lines part, is right.
+/// Tests that each line of cases, which empty lines part, is right.
 fn check(rt: &impl Abort, alloc: Global, cases: &'static str) -> Result<(), Fail> {
     for case in cases.split("\n\n") {
         assert_eq!(rt; first_wrong(alloc, case)?, None);

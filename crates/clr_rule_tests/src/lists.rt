@@ -6,7 +6,7 @@ use clr_row_test_kit::{add_word, schema};
 use clr_rules::{Rule, RuleBook};
 use std::alloc::Global;
 
-/// Columns as a slice and as a list.
+/// Returns columns as a slice and as a list.
 pub(crate) fn columns_text(alloc: Global, text: &str) -> Option<String> {
     let columns = columns(alloc, text)?;
     let slice = format!(in alloc; "{:?}", columns.as_slice()).ok()?;
@@ -14,7 +14,7 @@ pub(crate) fn columns_text(alloc: Global, text: &str) -> Option<String> {
     format!(in alloc; "{} {list:?}", slice.as_str()).ok()
 }
 
-/// A filter as a slice and as a list.
+/// Returns a filter as a slice and as a list.
 pub(crate) fn filter_text(alloc: Global, text: &str) -> Option<String> {
     let filter = side(alloc, text)?.filter;
     let slice = format!(in alloc; "{:?}", filter.as_slice()).ok()?;
@@ -22,7 +22,7 @@ pub(crate) fn filter_text(alloc: Global, text: &str) -> Option<String> {
     format!(in alloc; "{} {list:?}", slice.as_str()).ok()
 }
 
-/// The distance of a rule about distances, or 0.
+/// Returns the distance of a rule about distances, or 0.
 fn distance(rule: &Rule) -> i64 {
     match rule {
         Rule::Near { d, .. } => *d,
@@ -30,7 +30,7 @@ fn distance(rule: &Rule) -> i64 {
     }
 }
 
-/// The distance of a book's rule, by its number and in the list.
+/// Returns the distance of a book's rule, by its number and in the list.
 fn distance_text(alloc: Global, book: &RuleBook, number: u16) -> Option<String>
     requires { number < length book.now }
 {
@@ -39,7 +39,7 @@ fn distance_text(alloc: Global, book: &RuleBook, number: u16) -> Option<String>
     format!(in alloc; "{by_number},{in_list}").ok()
 }
 
-/// The distances of a book's rules.
+/// Returns the distances of a book's rules.
 pub(crate) fn distances_text(alloc: Global, network: &str, text: &str) -> Option<String> {
     let schema = schema(alloc, network)?;
     let book = RuleBook::new(&schema, rules(alloc, text)?).ok()?;

@@ -3,7 +3,7 @@
 use clr_rows::CellId;
 use clr_rules::{Ask, Broken};
 
-/// A need of these rule, cells of table 1 and parts.
+/// Returns a need of these rule, cells of table 1 and parts.
 fn need(rule: u16, first: i64, second: Option<i64>, parts: (u16, u16)) -> Broken {
     let ask = Ask {
         rule,
@@ -18,7 +18,7 @@ fn need(rule: u16, first: i64, second: Option<i64>, parts: (u16, u16)) -> Broken
     Broken::new(ask, first, second)
 }
 
-/// Whether a need names this rule and these parts.
+/// Returns whether a need names this rule and these parts.
 fn is_of_parts(need: &Broken, rule: u16, parts: (u16, u16)) -> bool {
     need.rule == rule && need.first_part == parts.0 && need.second_part == parts.1
 }

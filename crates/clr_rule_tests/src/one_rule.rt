@@ -45,7 +45,7 @@ pub(crate) struct OneRule {
 }
 
 impl OneRule {
-    /// The book of a rule, over the network of a text.
+    /// Returns the book of a rule, over the network of a text.
     pub(crate) fn of(alloc: Global, network: &str, rule: &str) -> Option<OneRule> {
         let schema = schema(alloc, network)?;
         let book = RuleBook::new(&schema, rules(alloc, rule)?).ok()?;
@@ -55,32 +55,32 @@ impl OneRule {
         Some(OneRule { schema, book })
     }
 
-    /// The spots of a row.
+    /// Returns the spots of a row.
     pub(crate) fn spots_of(&self, alloc: Global, row: &RowAt) -> Option<Spots> {
         self.schema.fits(row.cell, &row.row).ok()?;
         spots_of(alloc, &self.book, 0, row.held()).ok()
     }
 
-    /// How many parts of a row the rule is asked of.
+    /// Returns how many parts of a row the rule is asked of.
     pub(crate) fn part_count(&self, row: &RowAt) -> Option<u16> {
         self.schema.fits(row.cell, &row.row).ok()?;
         Some(self.book.part_count(0, row.held()))
     }
 
-    /// Whether a row alone calls the rule.
+    /// Returns whether a row alone calls the rule.
     pub(crate) fn calls_one(&self, row: &RowAt) -> Option<bool> {
         self.schema.fits(row.cell, &row.row).ok()?;
         Some(self.book.calls_one(0, row.held()))
     }
 
-    /// Whether these parts of two rows call the rule.
+    /// Returns whether these parts of two rows call the rule.
     pub(crate) fn calls_two(&self, parts: Parts, first: &RowAt, second: &RowAt) -> Option<bool> {
         self.schema.fits(first.cell, &first.row).ok()?;
         self.schema.fits(second.cell, &second.row).ok()?;
         Some(self.book.calls_two(ask(parts), first.held(), second.held()))
     }
 
-    /// Whether a row serves one row where these numbers of parts are asked.
+    /// Returns whether a row serves one row where these numbers of parts are asked.
     pub(crate) fn serves_one(&self, parts: Parts, first: &RowAt, server: &RowAt) -> Option<bool> {
         self.schema.fits(first.cell, &first.row).ok()?;
         self.schema.fits(server.cell, &server.row).ok()?;
@@ -90,7 +90,7 @@ impl OneRule {
         )
     }
 
-    /// Whether a row serves these parts of two rows.
+    /// Returns whether a row serves these parts of two rows.
     pub(crate) fn serves_two(
         &self,
         parts: Parts,

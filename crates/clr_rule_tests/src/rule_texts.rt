@@ -5,7 +5,7 @@ use clr_rows::Value;
 use clr_rules::{Col, ColumnList, Filter, Rule, Side, Tip};
 use std::alloc::Global;
 
-/// Columns that are parted by plus signs: numbers, K for the key, or none for a hyphen.
+/// Returns columns that are parted by plus signs: numbers, K for the key, or none for a hyphen.
 pub(crate) fn columns(alloc: Global, text: &str) -> Option<ColumnList> {
     let mut list = Vec::new(alloc);
     for part in text.split('+') {
@@ -27,7 +27,7 @@ fn literals(alloc: Global, text: &str) -> Option<Vec<(u16, Value)>> {
     Some(list)
 }
 
-/// The number of a table, and literals after colons.
+/// Returns the number of a table, and literals after colons.
 pub(crate) fn side(alloc: Global, text: &str) -> Option<Side> {
     match text.split_once(':') {
         Some((table, rest)) => Some(Side {
@@ -85,7 +85,7 @@ fn unique(alloc: Global, subject: Side, names: &str) -> Option<Rule> {
     })
 }
 
-/// The rule of a word, its first side, and what else it has.
+/// Returns the rule of a word, its first side, and what else it has.
 fn rule(alloc: Global, text: &str) -> Option<Rule> {
     let (word, rest) = text.split_once(' ')?;
     let (first, rest) = rest.split_once(' ')?;

@@ -34,7 +34,7 @@ fn ascending(alloc: Global) -> Option<Vec<Spot>> {
     Some(spots)
 }
 
-/// Whether two spots are in the order of their positions.
+/// Returns whether two spots are in the order of their positions.
 fn are_in_order(spots: &[Spot], i: usize, j: usize) -> Option<bool> {
     let (first, second) = (spots.get(i)?, spots.get(j)?);
     let order = i.cmp(&j);
@@ -42,7 +42,7 @@ fn are_in_order(spots: &[Spot], i: usize, j: usize) -> Option<bool> {
     Some(is_so && (first == second) == (i == j))
 }
 
-/// Whether all spots are in ascending order.
+/// Returns whether all spots are in ascending order.
 fn ascend(alloc: Global) -> Option<bool> {
     let spots = ascending(alloc)?;
     let mut all = spots.len() == 12;
@@ -59,7 +59,7 @@ fn spots_by_each_other(rt: HostRuntime) {
     assert!(rt; ascend(rt.alloc()) == Some(true));
 }
 
-/// Each spot with its position.
+/// Returns each spot with its position.
 fn positions(alloc: Global) -> Option<BTreeMap<Spot, usize>> {
     let mut map = BTreeMap::new(alloc);
     for line in ASCENDING.lines() {
@@ -69,7 +69,7 @@ fn positions(alloc: Global) -> Option<BTreeMap<Spot, usize>> {
     Some(map)
 }
 
-/// Whether each spot has its position.
+/// Returns whether each spot has its position.
 fn are_keys(alloc: Global) -> Option<bool> {
     let map = positions(alloc)?;
     let mut all = map.len() == 12;

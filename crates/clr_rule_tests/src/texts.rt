@@ -11,7 +11,7 @@ pub(crate) struct RowAt {
     pub row: Row,
 }
 
-/// A row with its cell before it.
+/// Returns a row with its cell before it.
 pub(crate) fn row_at(alloc: Global, text: &str) -> Option<RowAt> {
     let (at, rest) = text.split_once(' ')?;
     Some(RowAt {
@@ -20,7 +20,7 @@ pub(crate) fn row_at(alloc: Global, text: &str) -> Option<RowAt> {
     })
 }
 
-/// Rows that are parted by bars.
+/// Returns rows that are parted by bars.
 pub(crate) fn rows(alloc: Global, text: &str) -> Option<Vec<RowAt>> {
     let mut list = Vec::new(alloc);
     for part in text.split('|') {

@@ -21,7 +21,7 @@ pub type BorrowedJson<'a> = Value<'a>;
 /// How deep arrays and objects may nest.
 const MOST_LEVELS: usize = 127;
 
-/// Whether no number in a value is too large for a float.
+/// Returns whether no number in a value is too large for a float.
 #[cycle(numbers)]
 fn has_numbers(json: &Value<'_>) -> bool
     ensures { result ≡ are_numbers (value_view json.now) }

@@ -60,6 +60,13 @@ pub fn number_in<J: JsonValue>(json: &J, key: &str) -> Result<i64, TextFault>
     number(field(json, key)?)
 }
 
+/// Returns the text at a key, where it stands. Fails with `BadField` where there is none.
+pub(crate) fn text_in<'a, J: JsonValue>(json: &'a J, key: &str) -> Result<&'a str, TextFault>
+    ensures { Gives text_lacks_memory (λ s. s.now) result (words_at key.now (J.stands_for json.now)) }
+{
+    words(field(json, key)?)
+}
+
 /// Returns a copy of a text. It fails only with `OutOfMemory`.
 pub fn words_from(alloc: Global, text: &str) -> Result<Words, TextFault>
     ensures { Gives text_lacks_memory (λ w. w) result (Ok text.now) }
@@ -71,7 +78,7 @@ pub fn words_from(alloc: Global, text: &str) -> Result<Words, TextFault>
 pub fn words_in<J: JsonValue>(alloc: Global, json: &J, key: &str) -> Result<Words, TextFault>
     ensures { Gives text_lacks_memory (λ w. w) result (words_at key.now (J.stands_for json.now)) }
 {
-    words_from(alloc, words(field(json, key)?)?)
+    words_from(alloc, text_in(json, key)?)
 }
 
 /// Returns the list at a key. Fails with `BadField` where there is none.

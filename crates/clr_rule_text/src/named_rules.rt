@@ -8,7 +8,7 @@ ghost use Rattle.clr_rule_text.specs.Rules.{crossing_of, end_node_of, named_rule
 ghost use Rattle.clr_rule_text.specs.Rules.{rule_of_kind as meant_by, tip_of, unique_of};
 
 use crate::faults::TextFault;
-use crate::fields::{field, number_in, optional_list, words};
+use crate::fields::{number_in, optional_list, text_in};
 use crate::json_values::JsonValue;
 use crate::named_sides::{ColumnNames, NamedSide, names_in, side_in};
 use clr_rules::Tip;
@@ -48,7 +48,7 @@ pub enum NamedRule {
 fn tip<J: JsonValue>(json: &J) -> Result<Tip, TextFault>
     ensures { Gives text_lacks_memory (λ t. t) result (tip_of (J.stands_for json.now)) }
 {
-    match words(field(json, "tip")?)? {
+    match text_in(json, "tip")? {
         "FIRST" => Ok(Tip::First),
         "SECOND" => Ok(Tip::Second),
         _ => Err(TextFault::BadField),
@@ -127,13 +127,13 @@ fn rule_of_kind<J: JsonValue>(alloc: Global, kind: &str, json: &J) -> Result<Nam
     }
 }
 
-/// A rule of an office text with its names. Fails with `BadField` where a key is missing, or a value is
+/// Returns a rule of an office text with its names. Fails with `BadField` where a key is missing, or a value is
 /// none of those that may stand there.
 #[tactic(auto, unfolding(crate::specs::Rules::named_rule_of))]
 pub fn named_rule<J: JsonValue>(alloc: Global, json: &J) -> Result<NamedRule, TextFault>
     ensures { Gives text_lacks_memory (λ r. r) result (named_rule_of (J.stands_for json.now)) }
 {
-    rule_of_kind(alloc, words(field(json, "kind")?)?, json)
+    rule_of_kind(alloc, text_in(json, "kind")?, json)
 }
 
 fn each_named_rule<J: JsonValue>(alloc: Global, items: &[J]) -> Result<Vec<NamedRule>, TextFault>

@@ -14,7 +14,7 @@ fn has_minus(bytes: &[u8]) -> bool
     !bytes.is_empty() && bytes[0] == b'-'
 }
 
-/// No whole number, where the nearest float is one, and none where it is too large.
+/// Returns no whole number, where the nearest float is one, and none where it is too large.
 fn nearest(negative: bool, numeral: &Numeral<'_>) -> Option<Option<i64>>
     ensures { result ≡ option_map as_i64 (float_of negative numeral.now) }
 {

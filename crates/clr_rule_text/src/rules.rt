@@ -185,7 +185,7 @@ fn near(
     Ok(Rule::Near { a, b, d })
 }
 
-/// A rule with its tables and columns by their numbers. Fails with `BadRule` where the schema hasn't a
+/// Returns a rule with its tables and columns by their numbers. Fails with `BadRule` where the schema hasn't a
 /// table or a column of a name.
 pub fn rule(alloc: Global, schema: &Schema, named: NamedRule) -> Result<Rule, TextFault>
     ensures { Gives text_lacks_memory (λ r. r) result (rule_over schema.now named) }

@@ -36,7 +36,7 @@ fn add_live<F: RowFinder>(office: &Office, finder: &mut F) -> Result<(), Fail>
     Ok(())
 }
 
-/// The cells of the rows that share with a row under a rule, all or servers alone.
+/// Returns the cells of the rows that share with a row under a rule, all or servers alone.
 fn cells_found<F: RowFinder>(
     office: &Office,
     finder: &F,
@@ -84,7 +84,7 @@ fn add_line<F: RowFinder>(
     Ok(())
 }
 
-/// A line for each row of LIVE under a rule.
+/// Returns a line for each row of LIVE under a rule.
 fn lines_under<F: RowFinder>(
     alloc: Global,
     office: &Office,
@@ -98,13 +98,13 @@ fn lines_under<F: RowFinder>(
     Ok(lines)
 }
 
-/// The same by an office's own finder, which looks at the spots of the row alone.
+/// Returns the same by an office's own finder, which looks at the spots of the row alone.
 fn indexed_lines_under(alloc: Global, office: &Office, rule: u16) -> Result<Vec<u8>, Fail> {
     let finder = office.finder(0).ok_or("no finder")?;
     lines_under(alloc, office, finder, rule)
 }
 
-/// Whether a finder finds for each row of LIVE under each rule what the office's own finder does.
+/// Returns whether a finder finds for each row of LIVE under each rule what the office's own finder does.
 fn finds_as_office<F: RowFinder>(alloc: Global, office: &Office, finder: &F) -> Result<bool, Fail> {
     for rule in 0..office.book().len() {
         let rule = u16::try_from(rule)?;
@@ -116,7 +116,7 @@ fn finds_as_office<F: RowFinder>(alloc: Global, office: &Office, finder: &F) -> 
     Ok(true)
 }
 
-/// Whether a finder without rows, once it has those of LIVE, finds what the office's own finder does,
+/// Returns whether a finder without rows, once it has those of LIVE, finds what the office's own finder does,
 /// also while it is noted of one row after another that it goes.
 fn finds_live<F: RowFinder>(alloc: Global, office: &Office, finder: &mut F) -> Result<bool, Fail>
     requires { F.pending finder.old ≡ finite.empty }
@@ -133,7 +133,7 @@ fn finds_live<F: RowFinder>(alloc: Global, office: &Office, finder: &mut F) -> R
     finds_as_office(alloc, office, finder)
 }
 
-/// Whether both finders find the same for each row of LIVE under each rule, in the office of tables
+/// Returns whether both finders find the same for each row of LIVE under each rule, in the office of tables
 /// with rules, and rows of LIVE.
 fn find_the_same(alloc: Global, rules: &str, live: &str) -> Result<bool, Fail> {
     let office = network(alloc, rules, live, &[])?;

@@ -11,7 +11,7 @@ use clr_needs::{Life, Need, VersionId};
 use clr_rows::{RowView, Schema};
 use std::alloc::{AllocError, Global};
 
-/// How a life is written: `` for always, `+0` for one with the first member, `-0` for one without.
+/// Returns how a life is written: `` for always, `+0` for one with the first member, `-0` for one without.
 fn life_text(alloc: Global, life: Option<Life>) -> Result<String, AllocError> {
     match life {
         None => String::from_str(alloc, "?"),
@@ -21,7 +21,7 @@ fn life_text(alloc: Global, life: Option<Life>) -> Result<String, AllocError> {
     }
 }
 
-/// A version with its life, as `node/10/new+0`.
+/// Returns a version with its life, as `node/10/new+0`.
 fn version_text<V: RowView, F: RowFinder>(
     alloc: Global,
     schema: &Schema,
@@ -34,7 +34,7 @@ fn version_text<V: RowView, F: RowFinder>(
     format!(in alloc; "{table}/{}/{age}{life}", id.cell.key)
 }
 
-/// Versions, each after a space.
+/// Returns versions, each after a space.
 fn version_list<V: RowView, F: RowFinder>(
     alloc: Global,
     schema: &Schema,
@@ -58,7 +58,7 @@ fn member_list(alloc: Global, members: &[u16]) -> Result<String, AllocError> {
     Ok(list)
 }
 
-/// The one or two versions of a need or of its witnesses.
+/// Returns the one or two versions of a need or of its witnesses.
 fn one_or_two(
     alloc: Global,
     one: VersionId,
@@ -72,7 +72,7 @@ fn one_or_two(
     Ok(list)
 }
 
-/// The witnesses that are picked for a need. Where a server that stays is found at once, picking takes
+/// Returns the witnesses that are picked for a need. Where a server that stays is found at once, picking takes
 /// no memory, so that no want of it is tried here.
 fn witnesses_of<V: RowView, F: RowFinder>(
     alloc: Global,
@@ -88,7 +88,7 @@ fn witnesses_of<V: RowView, F: RowFinder>(
     }
 }
 
-/// A need: its rule, its subjects and their parts; what serves it; the witnesses; the blockers.
+/// Returns a need: its rule, its subjects and their parts; what serves it; the witnesses; the blockers.
 fn need_line<V: RowView, F: RowFinder>(
     alloc: Global,
     schema: &Schema,
@@ -113,7 +113,7 @@ fn need_line<V: RowView, F: RowFinder>(
     )
 }
 
-/// A line for each need that is touched, by calls that have this memory. It fails where memory makes
+/// Returns a line for each need that is touched, by calls that have this memory. It fails where memory makes
 /// a difference.
 fn need_lines<V: RowView, F: RowFinder>(
     alloc: Global,
@@ -135,7 +135,7 @@ fn need_lines<V: RowView, F: RowFinder>(
     Ok(lines)
 }
 
-/// A smallest clash: its members; the rule of its need, and the subjects and their parts.
+/// Returns a smallest clash: its members; the rule of its need, and the subjects and their parts.
 fn clash_line<V: RowView, F: RowFinder>(
     alloc: Global,
     schema: &Schema,
@@ -152,7 +152,7 @@ fn clash_line<V: RowView, F: RowFinder>(
     )
 }
 
-/// A line for each of the smallest clashes, by a call that has this memory.
+/// Returns a line for each of the smallest clashes, by a call that has this memory.
 fn clash_lines<V: RowView, F: RowFinder>(
     alloc: Global,
     schema: &Schema,
@@ -169,7 +169,7 @@ fn clash_lines<V: RowView, F: RowFinder>(
     Ok(lines)
 }
 
-/// A line for each need that is touched, and for each of the smallest clashes.
+/// Returns a line for each need that is touched, and for each of the smallest clashes.
 pub(crate) fn lines_of_scene<V: RowView, F: RowFinder>(
     alloc: Global,
     schema: &Schema,

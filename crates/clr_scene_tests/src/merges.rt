@@ -1,3 +1,5 @@
+//! The least need that the changes of one member break.
+
 use crate::networks::{CROSSING, MAINS, PATHS, TWO_NODES, network};
 use crate::sites::first_broken;
 use clr_call_test_kit::{Hoard, Memory};
@@ -7,7 +9,7 @@ use std::alloc::{AllocError, Global};
 use std::process::Abort;
 use std::test::Fail;
 
-/// The least need that the changes of a child of LIVE break, as it stands in a reply, or nothing.
+/// Returns the least need that the changes of a child of LIVE break, as it stands in a reply, or nothing.
 pub(crate) fn broken_line(
     alloc: Global,
     office: &Office,
@@ -21,7 +23,7 @@ pub(crate) fn broken_line(
     Ok(line)
 }
 
-/// The same of changes over the crossing and more rows.
+/// Returns the same of changes over the crossing and more rows.
 fn line_of_changes(
     alloc: Global,
     rules: &str,

@@ -56,7 +56,7 @@ pub(crate) const TWO_NODES: &str = r#",
 /// The members, by position.
 const MEMBERS: [&str; 3] = ["W1", "W2", "W3"];
 
-/// The first members, at most three.
+/// Returns the first members, at most three.
 pub(crate) fn members(count: usize) -> &'static [&'static str] {
     if count < MEMBERS.len() {
         &MEMBERS[..count]
@@ -65,7 +65,7 @@ pub(crate) fn members(count: usize) -> &'static [&'static str] {
     }
 }
 
-/// Children of LIVE, named by their numbers from 1, with the rows that each changes.
+/// Returns children of LIVE, named by their numbers from 1, with the rows that each changes.
 fn children(alloc: Global, changes: &[&str]) -> Result<String, AllocError> {
     let mut list = String::new(alloc);
     for (n, rows) in changes.iter().enumerate() {
@@ -79,13 +79,13 @@ fn children(alloc: Global, changes: &[&str]) -> Result<String, AllocError> {
     Ok(list)
 }
 
-/// The office of a text, in which every rule holds.
+/// Returns the office of a text, in which every rule holds.
 pub(crate) fn office_of(alloc: Global, text: &str) -> Result<Office, Fail> {
     let admitted = read_office(alloc, text.as_bytes())?.admit();
     Ok(admitted.ok().ok_or("a rule doesn't hold")?)
 }
 
-/// The office of tables, rules and rows of LIVE, with what members change.
+/// Returns the office of tables, rules and rows of LIVE, with what members change.
 pub(crate) fn network(
     alloc: Global,
     rules: &str,

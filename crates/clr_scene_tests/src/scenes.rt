@@ -239,7 +239,7 @@ fn paths_once_there_is_memory(rt: HostRuntime) -> Result<(), Fail> {
     )
 }
 
-/// What is said of three members that change these rows.
+/// Returns what is said of three members that change these rows.
 fn lines_of_three(alloc: Global, changes: &[&str]) -> Result<String, Fail> {
     let office = network(alloc, MAINS, CROSSING, changes)?;
     Ok(site_lines(alloc, &office, "LIVE", members(3), &mut Memory::All)?)
@@ -261,7 +261,7 @@ const KEPT: &str =
 {"name":"V2","parent":"K","rows":[{"t":"main","k":21,"v":["E"],"s":[200,0,200,10]},
 {"t":"hydrant","k":1,"v":[1],"s":[7,7]}]}"#;
 
-/// What is said of the children of K in the office of a text.
+/// Returns what is said of the children of K in the office of a text.
 fn lines_under_k(alloc: Global, text: &str) -> Result<String, Fail> {
     let office = office_of(alloc, text)?;
     Ok(site_lines(alloc, &office, "K", &["V1", "V2"], &mut Memory::All)?)

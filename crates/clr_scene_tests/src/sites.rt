@@ -22,7 +22,23 @@ use std::alloc::{AllocError, Global};
 use std::process::Abort;
 use std::test::Fail;
 
-/// The scene of the members of a site, no cell of which is changed by two. It fails where one is.
+/// Returns the scene of the members of a site, no cell of which is changed by two. It fails where one is.
+fn plain_scene<'a>(
+    alloc: Global,
+    office: &'a Office,
+    parts: &'a SiteParts<'a>,
+) -> Result<Scene<'a, View<'a>, SpotIndex>, AllocError>
+    requires { AreOfSite office.now parts.now }
+    ensures scene { IfOk result (λ scene. (s : Site) → AreParts office.entry.now s parts.entry.now
+        → IsSceneOf (λ finder. finder.settled) office.entry.now s (model_of (λ rows. rows) scene)) }
+{
+    match parts.scene(alloc, office) {
+        Ok(scene) => Ok(scene),
+        Err(_) => Err(AllocError),
+    }
+}
+
+/// Returns this scene, once calls that have this memory made it too. It fails where too little memory isn't refused.
 fn scene_of<'a>(
     alloc: Global,
     office: &'a Office,
@@ -33,13 +49,14 @@ fn scene_of<'a>(
     ensures scene { IfOk result (λ scene. (s : Site) → AreParts office.entry.now s parts.entry.now
         → IsSceneOf (λ finder. finder.settled) office.entry.now s (model_of (λ rows. rows) scene)) }
 {
-    memory.answer(move || match parts.scene(alloc, office) {
+    let _made = memory.answer(move || match parts.scene(alloc, office) {
         Ok(scene) => Ok(scene),
         Err(_) => Err(AllocError),
-    })
+    })?;
+    plain_scene(alloc, office, parts)
 }
 
-/// A line for each need that the members of a site touch and for each of their smallest clashes, or for
+/// Returns a line for each need that the members of a site touch and for each of their smallest clashes, or for
 /// the cell that two of them change.
 fn lines_of_parts(
     alloc: Global,
@@ -65,7 +82,7 @@ fn lines_of_parts(
     }
 }
 
-/// The same by names. It fails for want of memory, and where a test of names or for conflicts fails.
+/// Returns the same by names. It fails for want of memory, and where a test of names or for conflicts fails.
 pub(crate) fn site_lines(
     alloc: Global,
     office: &Office,
@@ -79,7 +96,7 @@ pub(crate) fn site_lines(
     }
 }
 
-/// Whether two members of a scene are independent, by position.
+/// Returns whether two members of a scene are independent, by position.
 fn are_scene_members_independent<V: RowView, F: RowFinder>(
     scene: &Scene<'_, V, F>,
     pair: (u16, u16),
@@ -92,7 +109,7 @@ fn are_scene_members_independent<V: RowView, F: RowFinder>(
     memory.answer(|| scene.independent(pair.0, pair.1))
 }
 
-/// Whether two members of a site are independent, by position.
+/// Returns whether two members of a site are independent, by position.
 fn are_parts_independent(
     alloc: Global,
     office: &Office,
@@ -113,7 +130,7 @@ fn are_parts_independent(
     }
 }
 
-/// The same by names. It fails for want of memory, and where the members make no scene.
+/// Returns the same by names. It fails for want of memory, and where the members make no scene.
 pub(crate) fn are_independent(
     alloc: Global,
     office: &Office,
@@ -130,7 +147,7 @@ pub(crate) fn are_independent(
     }
 }
 
-/// The least need that is broken once the changes of the one member are made.
+/// Returns the least need that is broken once the changes of the one member are made.
 fn first_broken_of_scene<V: RowView, F: RowFinder>(
     scene: &Scene<'_, V, F>,
     memory: &mut Memory,
@@ -142,7 +159,7 @@ fn first_broken_of_scene<V: RowView, F: RowFinder>(
     memory.answer(|| scene.first_broken())
 }
 
-/// The least need that is broken once the changes of a member are made.
+/// Returns the least need that is broken once the changes of a member are made.
 fn first_broken_of_parts(
     alloc: Global,
     office: &Office,
@@ -163,7 +180,7 @@ fn first_broken_of_parts(
     }
 }
 
-/// The same by names. It fails for want of memory, and where the member makes no scene.
+/// Returns the same by names. It fails for want of memory, and where the member makes no scene.
 pub(crate) fn first_broken(
     alloc: Global,
     office: &Office,
@@ -181,7 +198,7 @@ pub(crate) fn first_broken(
 /// The pairs of at most three members.
 const PAIRS: [(u16, u16); 3] = [(0, 1), (0, 2), (1, 2)];
 
-/// A word for each pair of members: whether they are independent.
+/// Returns a word for each pair of members: whether they are independent.
 fn independence(
     alloc: Global,
     office: &Office,
@@ -202,7 +219,7 @@ fn independence(
     Ok(line)
 }
 
-/// A line for each need that children of LIVE touch, for each of their smallest clashes, and which of
+/// Returns a line for each need that children of LIVE touch, for each of their smallest clashes, and which of
 /// them are independent.
 pub(crate) fn scene_lines(
     alloc: Global,
@@ -218,7 +235,7 @@ pub(crate) fn scene_lines(
 /// Rows of LIVE, what each member changes, and what is said of it.
 pub(crate) type SceneOver = (&'static str, &'static [&'static str], &'static str);
 
-/// What is said of members over tables with rules, and rows of LIVE in two pieces.
+/// Returns what is said of members over tables with rules, and rows of LIVE in two pieces.
 fn describe_members(
     alloc: Global,
     front: (&str, &str),

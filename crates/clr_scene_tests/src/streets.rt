@@ -323,7 +323,7 @@ fn random_scenes(rt: HostRuntime) -> Result<(), Fail> {
     assert_said(&rt, rt.alloc(), (STREETS, ""), &SCENES, &mut Memory::All)
 }
 
-/// Whether these needs are broken once the changes of each member alone are made.
+/// Returns whether these needs are broken once the changes of each member alone are made.
 fn are_broken(alloc: Global, office: &Office, needs: &[&str; 3]) -> Result<bool, Fail> {
     for (member, need) in ["W1", "W2", "W3"].iter().zip(needs.iter()) {
         let line = broken_line(alloc, office, member, &mut Memory::All)?;
@@ -334,7 +334,7 @@ fn are_broken(alloc: Global, office: &Office, needs: &[&str; 3]) -> Result<bool,
     Ok(true)
 }
 
-/// The same in the office of a scene.
+/// Returns the same in the office of a scene.
 fn are_broken_in(alloc: Global, scene: &SceneOver, needs: &[&str; 3]) -> Result<bool, Fail> {
     let office = network(alloc, STREETS, scene.0, scene.1)?;
     are_broken(alloc, &office, needs)

@@ -1,15 +1,15 @@
 -- The record of an edit that fits the schema is read as the edit.
-use Rattle.std.proofs.Common.{◌≡◌, ℕ, suc, ◌+◌, ◌-◌, ◌*◌, ◌/◌, ◌%◌, ◌^◌, ◌==◌, ◌&&◌, true, false, List, [], ◌∷◌, ◌++◌, length, map, Ok, None, ℤ, pos, negsuc}
+use Rattle.std.proofs.Common.{◌≡◌, ℕ, suc, ◌+◌, ◌-◌, ◌*◌, ◌/◌, ◌%◌, ◌==◌, ◌&&◌, true, false, List, [], ◌∷◌, ◌++◌, length, map, Ok, None, ℤ}
 use Rattle.std.proofs.Common.{refl, sym, arith, append_assoc}
 use Rattle.std.specs.Prelude.{codes, nat_le}
 use Rattle.std.specs.Fmt.{signed_decimal}
 use Rattle.std.specs.List.{flat_map, list_all}
 use Rattle.std.proofs.Math.Seq.{drop-append_seam}
-use Rattle.std.proofs.lemmas.Bool.{and_parts, eq-eqb, le-leb, leb-true, lt-ltb, not-false}
+use Rattle.std.proofs.lemmas.Bool.{and_parts, eq-eqb, le-leb, not-false}
 use Rattle.std.proofs.lemmas.List.{length-append, length-map}
 use Rattle.csv.specs.Records.{field_at}
 use Rattle.clr_rows.specs.declared.cells.CellId.{CellId}
-use Rattle.clr_rows.specs.declared.limits.TheConstants.{GREATEST_COORDINATE, LEAST_VERTICES, MOST_VERTICES}
+use Rattle.clr_rows.specs.declared.limits.TheConstants.{LEAST_VERTICES, MOST_VERTICES}
 use Rattle.clr_rows.specs.declared.places.Place.{Place}
 use Rattle.clr_rows.specs.declared.places.Shape.{Shape}
 use Rattle.clr_rows.specs.declared.places.Shape.TheVariants.{Bare, At, Line, Chain}
@@ -22,7 +22,7 @@ use Rattle.clr_rows.specs.declared.tables.Kind.{Kind}
 use Rattle.clr_rows.specs.declared.tables.Kind.TheVariants as kind
 use Rattle.clr_rows.specs.declared.tables.TableDef.{TableDef}
 use Rattle.clr_rows.specs.Numbers.{is_i64}
-use Rattle.clr_rows.specs.Schemas.{are_of_kinds, cell_fault, has_coordinates, is_bad_path, is_coordinate, is_key, is_number, is_of_form, is_of_kind, is_place}
+use Rattle.clr_rows.specs.Schemas.{are_of_kinds, cell_fault, has_coordinates, is_bad_path, is_coordinate, is_number, is_of_form, is_of_kind, is_place}
 use Rattle.clr_rows.specs.Schemas.{row_fault, schema_fault}
 use Rattle.clr_rows.proofs.SchemaLemmas as schema
 use Rattle.clr_change.specs.declared.edits.Edit.{Edit}
@@ -36,16 +36,6 @@ use Rattle.clr_script_text.specs.Scripts.{edit_fields}
 use Rattle.clr_script_text.specs.ReadBack.{Fits}
 
 -- numbers ------------------------------------------------------------------------------------------
-
-pub coordinate_number : (z : ℤ) → is_coordinate z ≡ true → is_i64 z ≡ true
-coordinate_number (pos n) e = let le = leb-true n GREATEST_COORDINATE e in lt-ltb n (2 ^ 63) (omega arith)
-coordinate_number (negsuc n) e = let le = leb-true (suc n) GREATEST_COORDINATE e in lt-ltb n (2 ^ 63) (omega arith)
-
-pub key_number : (z : ℤ) → is_key z ≡ true → is_i64 z ≡ true
-key_number z e =
-    let k = schema.key_of z e in
-    let le = k.3 in
-    rw k.1 (lt-ltb k.0 (2 ^ 63) (omega arith))
 
 whole_again : (z : ℤ) → is_i64 z ≡ true → whole_number (signed_decimal z) ≡ Ok z
 whole_again z e = rw (number_again z e) refl
@@ -94,7 +84,7 @@ place_again : (p : Place) → is_place p ≡ true → place_in (signed_decimal p
 unfolding place_in
 place_again p e =
     let t = and_parts (is_coordinate p.x) (is_coordinate p.y) e in
-    rw (whole_again p.x (coordinate_number p.x t.0), whole_again p.y (coordinate_number p.y t.1)) refl
+    rw (whole_again p.x (schema.coordinate_within p.x t.0), whole_again p.y (schema.coordinate_within p.y t.1)) refl
 
 -- a place in two fields behind a front
 place_behind : (front rest : List (List ℕ)) (p : Place) (i k : ℕ) → i ≡ length front + k → field_of rest k ≡ signed_decimal p.x → field_of rest (k + 1)
@@ -210,7 +200,7 @@ insert_again tables cell row sound fit =
       f.1,
       three_again (codes "insert") table.name key row,
       fields_again table (codes "insert") table.name key row fits.count (count_again table.shape row.shape fits.form fits.vertices),
-      whole_again cell.key (key_number cell.key fits.key),
+      whole_again cell.key (schema.key_within cell.key fits.key),
       row_again table (codes "insert") table.name key cell row fits,
     ) refl
 
@@ -228,7 +218,7 @@ update_again tables cell row sound fit =
       f.1,
       three_again (codes "update") table.name key row,
       fields_again table (codes "update") table.name key row fits.count (count_again table.shape row.shape fits.form fits.vertices),
-      whole_again cell.key (key_number cell.key fits.key),
+      whole_again cell.key (schema.key_within cell.key fits.key),
       row_again table (codes "update") table.name key cell row fits,
     ) refl
 
@@ -237,7 +227,7 @@ delete_again : (tables : List TableDef) (cell : CellId) → schema_fault tables 
 unfolding edit_of edit_in field_at
 delete_again tables cell sound fit =
     let f = schema.cell_parts tables cell fit in
-    rw (f.1, schema.table_of_name tables cell.table f.0 sound f.1, f.1, whole_again cell.key (key_number cell.key f.2)) refl
+    rw (f.1, schema.table_of_name tables cell.table f.0 sound f.1, f.1, whole_again cell.key (schema.key_within cell.key f.2)) refl
 
 -- the record of an edit is read as the edit
 pub edit_again : (tables : List TableDef) (e : Edit) → schema_fault tables ≡ None → Fits tables e → edit_of tables (edit_fields tables e) ≡ Ok e

@@ -32,7 +32,7 @@ use Rattle.clr_scripts.specs.Edits.{edits_from}
 use Rattle.clr_scripts.specs.Scripts.{apply_of, command_of, plain_step_of, script_of, step_of, steps_from}
 use Rattle.clr_script_text.specs.Scripts.{apply_fields, cell_fields, create_fields, design_records, design_steps, edit_fields, script_text}
 use Rattle.clr_script_text.specs.ReadBack.{Fits, HasTexts, IsText, ReadBackLaw}
-use Rattle.clr_script_text.proofs.EditAgain.{coordinate_number, edit_again, key_number}
+use Rattle.clr_script_text.proofs.EditAgain.{edit_again}
 
 -- the records are read -----------------------------------------------------------------------------
 
@@ -75,7 +75,7 @@ values_utf8 (Words text ∷ values) numbers texts = (texts.0, values_utf8 values
 place_utf8 : (p : Place) → is_place p ≡ true → AllByRecursion IsUtf8 (place_fields p)
 place_utf8 p e =
     let t = and_parts (is_coordinate p.x) (is_coordinate p.y) e in
-    (number_utf8 p.x (coordinate_number p.x t.0), (number_utf8 p.y (coordinate_number p.y t.1), tt))
+    (number_utf8 p.x (schema.coordinate_within p.x t.0), (number_utf8 p.y (schema.coordinate_within p.y t.1), tt))
 
 vertices_utf8 : (ps : List Place) → list_all is_place ps ≡ true → AllByRecursion IsUtf8 (flat_map place_fields ps)
 vertices_utf8 [] e = tt
@@ -94,7 +94,7 @@ cell_utf8 : (tables : List TableDef) (cell : CellId) (table : TableDef) → sche
     → AllByRecursion IsUtf8 (cell_fields tables cell)
 cell_utf8 tables cell table sound is key =
     let name : IsUtf8 (name_of_table tables cell.table) = rw is (name_utf8 table.name (schema.good_table_name tables cell.table table sound is)) in
-    (name, (number_utf8 cell.key (key_number cell.key key), tt))
+    (name, (number_utf8 cell.key (schema.key_within cell.key key), tt))
 
 row_utf8 : (tables : List TableDef) (cell : CellId) (row : Row) → schema_fault tables ≡ None → row_fault tables cell row ≡ None → All IsText row.values
     → AllByRecursion IsUtf8 (row_fields tables cell row)

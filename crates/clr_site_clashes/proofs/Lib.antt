@@ -1,4 +1,4 @@
-mod Lists
+pub mod Lists
 mod LookedLaw
 mod PartSites
 mod PlanLaw

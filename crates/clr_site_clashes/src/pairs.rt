@@ -9,7 +9,7 @@ use clr_change::ChangeSet;
 use clr_clearance::Verdict;
 use std::alloc::{AllocError, Global};
 
-/// Two members and the least cell that both change, if there is one.
+/// Returns two members and the least cell that both change, if there is one.
 fn pair_clash(
     alloc: Global,
     sets: &[ChangeSet],

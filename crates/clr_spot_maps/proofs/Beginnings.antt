@@ -1,6 +1,5 @@
 -- Lists to which the first of some elements were added.
 use Rattle.std.proofs.Common.{◌≡◌, ◌∙◌, ℕ, Bool, true, false, cond, List, [], ◌∷◌, ◌++◌, append_assoc, ap, drop, subst, sym, take}
-use Rattle.std.specs.Prelude.{Result, Ok, Err, OnErr}
 use Rattle.std.specs.List.{flat_map}
 use Rattle.std.proofs.lemmas.Grind.{flat_map-append}
 use Rattle.std.proofs.lemmas.List.{take-append-drop}
@@ -9,16 +8,6 @@ use Rattle.clr_spot_maps.specs.declared.spot_maps.FiledPart.{FiledPart}
 use Rattle.clr_rows.specs.Beginnings.{IsBegun}
 use Rattle.clr_rows.proofs.BeginningLaws.{all_begun, none_begun, some_begun}
 use Rattle.clr_spot_maps.specs.Filing.{Filed, entries_at, near}
-
--- what holds, holds after an error
-pub on_err : {T E P : Type 0} (r : Result T E) → P → OnErr r P
-on_err (Ok x) p = tt
-on_err (Err e) p = p
-
--- what follows from what holds after an error, holds after it
-pub on_err_from : {T E P Q : Type 0} (r : Result T E) → (P → Q) → OnErr r P → OnErr r Q
-on_err_from (Ok x) f p = tt
-on_err_from (Err e) f p = f p
 
 module _ {X : Type 0} where
   -- one element was added, if there is to be one

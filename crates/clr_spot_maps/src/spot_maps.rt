@@ -104,7 +104,7 @@ impl Model for SpotMap {
 }
 
 impl SpotMap {
-    /// A map without entries. It takes no memory.
+    /// Returns a map without entries. It takes no memory.
     pub fn new(alloc: Global) -> SpotMap
         ensures { result ≡ no_entries }
     {
@@ -139,7 +139,7 @@ impl SpotMap {
         Ok(())
     }
 
-    /// The entries of a spot.
+    /// Returns the entries of a spot.
     pub fn entries_at(&self, spot: &Spot) -> &[FiledPart]
         ensures { result.now ≡ entries_at self.now.by_spot spot.now }
     {
@@ -152,14 +152,14 @@ impl SpotMap {
         }
     }
 
-    /// The entries of wide rows.
+    /// Returns the entries of wide rows.
     pub fn wide(&self) -> &[FiledPart]
         ensures { result.now ≡ self.now.wide }
     {
         self.wide.as_slice()
     }
 
-    /// All entries.
+    /// Returns all entries.
     pub fn all(&self) -> &[FiledPart]
         ensures { result.now ≡ self.now.all }
     {

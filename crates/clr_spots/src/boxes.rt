@@ -12,7 +12,7 @@ ghost use Rattle.clr_spots.specs.declared.limits.TheConstants.{GREATEST_REACH};
 use clr_rows::Place;
 use clr_segments::{Bounds, box_of};
 
-/// The box between two places.
+/// Returns the box between two places.
 pub(crate) fn box_between(first: Place, second: Place) -> Bounds
     requires first { InRange first }
     requires second { InRange second }
@@ -22,7 +22,7 @@ pub(crate) fn box_between(first: Place, second: Place) -> Bounds
     box_of(first, second)
 }
 
-/// A coordinate less d millimetres.
+/// Returns a coordinate less d millimetres.
 fn subtract_distance(x: i64, d: i64) -> i64
     requires in_range { unsigned_abs x ≤ GREATEST_COORDINATE }
     requires d_least { LEAST_DISTANCE ≤ℤ d }
@@ -33,7 +33,7 @@ fn subtract_distance(x: i64, d: i64) -> i64
     x - d
 }
 
-/// A coordinate and d millimetres more.
+/// Returns a coordinate and d millimetres more.
 fn add_distance(x: i64, d: i64) -> i64
     requires in_range { unsigned_abs x ≤ GREATEST_COORDINATE }
     requires d_least { LEAST_DISTANCE ≤ℤ d }
@@ -44,7 +44,7 @@ fn add_distance(x: i64, d: i64) -> i64
     x + d
 }
 
-/// A box grown by d millimetres on each side.
+/// Returns a box grown by d millimetres on each side.
 pub(crate) fn grown_box(bounds: Bounds, d: i64) -> Bounds
     requires in_range { IsInRange bounds }
     requires d_least { LEAST_DISTANCE ≤ℤ d }

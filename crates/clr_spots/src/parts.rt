@@ -41,7 +41,7 @@ fn add_squares(alloc: Global, list: &mut Vec<Spot>, bounds: Bounds) -> Result<bo
     Ok(list.len() <= MOST_SPOTS)
 }
 
-/// The part at a position, from 0, which is there.
+/// Returns the part at a position, from 0, which is there.
 fn part_at(shape: &Shape, position: u16) -> (Place, Place)
     requires sound { IsSoundShape shape.now }
     requires there { position < length (parts_of shape.now) }
@@ -51,7 +51,7 @@ fn part_at(shape: &Shape, position: u16) -> (Place, Place)
     part(shape, position + 1).unwrap()
 }
 
-/// The squares that meet the box of some part of a shape. Too many are not listed.
+/// Returns the squares that meet the box of some part of a shape. Too many are not listed.
 pub(crate) fn spots_of_parts(alloc: Global, shape: &Shape) -> Result<Spots, AllocError>
     requires { IsSoundShape shape.now }
     ensures list { IfOk result (λ spots. spots.list ≡ unless_many (squares_of_all (boxes_of_parts shape.now))) }

@@ -18,7 +18,7 @@ use clr_rules::{Rule, RuleBook, end_in, is_of_side, point_in};
 use clr_segments::part;
 use std::alloc::{AllocError, Global};
 
-/// The squares that meet the box of a part of a row, where the row has a role.
+/// Returns the squares that meet the box of a part of a row, where the row has a role.
 fn part_spots(alloc: Global, has_role: bool, number: u16, held: Held) -> Result<Spots, AllocError>
     requires { IsSoundShape held.row.now.shape }
     ensures list { IfOk result (λ s. s.list ≡ unless_many (in_role has_role (squares_of_part (part_of held.entry.row.now.shape number)))) }
@@ -30,7 +30,7 @@ fn part_spots(alloc: Global, has_role: bool, number: u16, held: Held) -> Result<
     }
 }
 
-/// The spots of a row as a subject of this rule.
+/// Returns the spots of a row as a subject of this rule.
 #[tactic(auto, unfolding(crate::specs::RoleSpots::subject_spots))]
 fn subject_spots_by_rule(
     alloc: Global,
@@ -68,7 +68,7 @@ fn subject_spots_by_rule(
     }
 }
 
-/// The spots of a row as a server of this rule.
+/// Returns the spots of a row as a server of this rule.
 #[tactic(auto, unfolding(crate::specs::RoleSpots::server_spots))]
 fn server_spots_by_rule(alloc: Global, rule: &Rule, held: Held) -> Result<Spots, AllocError>
     requires { IsSoundShape held.row.now.shape }

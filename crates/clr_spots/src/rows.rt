@@ -19,7 +19,7 @@ use clr_rows::{Held, Place, Shape};
 use clr_rules::{Rule, RuleBook, Side, end_in, is_of_side, point_in};
 use std::alloc::{AllocError, Global};
 
-/// The square of a place, if the row is of the side and has the place.
+/// Returns the square of a place, if the row is of the side and has the place.
 pub(crate) fn square_of_side(side: &Side, held: Held, place: Option<Place>) -> Option<Spot>
     requires { IfSome place InRange }
     ensures { option_to_list result ≡ in_role (is_of_side side.now (held_of held.entry)) (square_at place) }
@@ -44,7 +44,7 @@ fn add_spot(list: &mut Vec<Spot>, spot: Option<Spot>) -> Result<(), AllocError>
     Ok(())
 }
 
-/// The spots of two roles, each once. They are too few to be wide.
+/// Returns the spots of two roles, each once. They are too few to be wide.
 pub(crate) fn spots_of_roles(
     alloc: Global,
     first: Option<Spot>,
@@ -63,7 +63,7 @@ pub(crate) fn spots_of_roles(
     })
 }
 
-/// The spots of a row without any.
+/// Returns the spots of a row without any.
 pub(crate) fn no_spots(alloc: Global) -> Spots
     ensures list { result.list ≡ [] }
     ensures wide { result.wide ≡ false }
@@ -74,7 +74,7 @@ pub(crate) fn no_spots(alloc: Global) -> Spots
     }
 }
 
-/// The squares that meet some box of a shape.
+/// Returns the squares that meet some box of a shape.
 fn squares_of_shape(alloc: Global, shape: &Shape) -> Result<Spots, AllocError>
     requires { IsSoundShape shape.now }
     ensures list { IfOk result (λ spots. spots.list ≡ unless_many (squares_of_all (boxes_in shape.now))) }
@@ -86,7 +86,7 @@ fn squares_of_shape(alloc: Global, shape: &Shape) -> Result<Spots, AllocError>
     }
 }
 
-/// The squares that meet the box of a point, grown by d millimetres on each side.
+/// Returns the squares that meet the box of a point, grown by d millimetres on each side.
 fn squares_near(alloc: Global, d: i64, point: Option<Place>) -> Result<Spots, AllocError>
     requires distance { is_distance d ≡ true }
     requires point { IfSome point InRange }
@@ -99,7 +99,7 @@ fn squares_near(alloc: Global, d: i64, point: Option<Place>) -> Result<Spots, Al
     }
 }
 
-/// The spots of a row under `Crossing`, where it has a role.
+/// Returns the spots of a row under `Crossing`, where it has a role.
 fn crossing_spots(alloc: Global, has_role: bool, held: Held) -> Result<Spots, AllocError>
     requires { IsSoundShape held.row.now.shape }
     ensures list { IfOk result (λ spots. spots.list ≡ unless_many (in_role has_role (squares_of_all (boxes_of (held_of held.entry))))) }
@@ -112,7 +112,7 @@ fn crossing_spots(alloc: Global, has_role: bool, held: Held) -> Result<Spots, Al
     }
 }
 
-/// The spots of a row under `Near`, where it has a role.
+/// Returns the spots of a row under `Near`, where it has a role.
 pub(crate) fn near_spots(
     alloc: Global,
     has_role: bool,
@@ -131,7 +131,7 @@ pub(crate) fn near_spots(
     }
 }
 
-/// The spots of a row under a rule.
+/// Returns the spots of a row under a rule.
 #[tactic(auto, unfolding(crate::specs::Spots::spots, crate::specs::Spots::is_wide, crate::specs::Spots::all_spots))]
 fn spots_by_rule(alloc: Global, rule: &Rule, held: Held) -> Result<Spots, AllocError>
     requires distance { has_distance rule.now ≡ true }

@@ -10,7 +10,7 @@ use crate::spots::{Spot, SpotList, Spots};
 use clr_segments::Bounds;
 use std::alloc::{AllocError, Global};
 
-/// The number of the square that a coordinate is in.
+/// Returns the number of the square that a coordinate is in.
 pub(crate) fn square_of(x: i64) -> i64
     requires { unsigned_abs x ≤ GREATEST_REACH }
     ensures value { result ≡ square_of x }
@@ -19,7 +19,7 @@ pub(crate) fn square_of(x: i64) -> i64
     x.div_euclid(SQUARE_SIDE)
 }
 
-/// How many squares the coordinates from low to high are in.
+/// Returns how many squares the coordinates from low to high are in.
 fn span(low: i64, high: i64) -> u64
     requires low_near { unsigned_abs low ≤ GREATEST_REACH }
     requires high_near { unsigned_abs high ≤ GREATEST_REACH }
@@ -29,7 +29,7 @@ fn span(low: i64, high: i64) -> u64
     (square_of(high) - square_of(low)).unsigned_abs() + 1
 }
 
-/// How many squares meet a box.
+/// Returns how many squares meet a box.
 pub(crate) fn count_squares(bounds: Bounds) -> u64
     requires { IsNear bounds }
     ensures { result ≡ length (squares_of bounds) }
@@ -64,7 +64,7 @@ fn list_grid(alloc: Global, i: i64, j: i64, m: u64, n: u64) -> Result<Vec<Spot>,
     Ok(list)
 }
 
-/// All squares that meet a box.
+/// Returns all squares that meet a box.
 #[tactic(auto, unfolding(crate::specs::Spots::squares_of))]
 pub(crate) fn list_squares(alloc: Global, bounds: Bounds) -> Result<Vec<Spot>, AllocError>
     requires { IsNear bounds }
@@ -77,7 +77,7 @@ pub(crate) fn list_squares(alloc: Global, bounds: Bounds) -> Result<Vec<Spot>, A
     list_grid(alloc, i, j, columns, rows)
 }
 
-/// The squares that meet a box. Too many are not listed.
+/// Returns the squares that meet a box. Too many are not listed.
 pub(crate) fn spots_of_box(alloc: Global, bounds: Bounds) -> Result<Spots, AllocError>
     requires { IsNear bounds }
     ensures list { IfOk result (λ spots. spots.list ≡ unless_many (squares_of bounds)) }

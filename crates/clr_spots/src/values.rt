@@ -11,7 +11,7 @@ use clr_rows::{Held, Value, Values};
 use clr_rules::{Col, ColumnList, Side, is_of_side};
 use std::alloc::{AllocError, Global};
 
-/// The primary key, or the value in a column, if the row has the column.
+/// Returns the primary key, or the value in a column, if the row has the column.
 fn field(held: Held, column: Col) -> Result<Option<Value>, AllocError>
     ensures { IfOk result (λ value. value ≡ field (held_of held.entry) column) }
 {
@@ -24,7 +24,7 @@ fn field(held: Held, column: Col) -> Result<Option<Value>, AllocError>
     }
 }
 
-/// The values of a row in some columns.
+/// Returns the values of a row in some columns.
 fn values_of(alloc: Global, held: Held, columns: &[Col]) -> Result<Vec<Value>, AllocError>
     ensures { IfOk result (λ list. list.items ≡ filter_map (field (held_of held.entry)) columns.now) }
 {
@@ -37,7 +37,7 @@ fn values_of(alloc: Global, held: Held, columns: &[Col]) -> Result<Vec<Value>, A
     Ok(list)
 }
 
-/// The values of a row in some columns as a spot, if the row is of the side.
+/// Returns the values of a row in some columns as a spot, if the row is of the side.
 pub(crate) fn values_of_side(
     alloc: Global,
     side: &Side,

@@ -20,7 +20,9 @@ use Rattle.clr_steps.proofs.SeenLemmas.{seen, within, kept_is}
 abbrev need_of : List Rule → Workspace → Option Broken
 need_of book w = cond w.kept (first_broken book w.current) None
 
-none_then : (r : Option Broken) (at : ℕ) (rest : Option (ℕ × Broken)) → option_or (option_map (λ need. (at, need)) r) rest ≡ None → (r ≡ None) × (rest ≡ None)
+-- no need of the first of two, and none of the others
+pub none_then : (r : Option Broken) (at : ℕ) (rest : Option (ℕ × Broken)) → option_or (option_map (λ need. (at, need)) r) rest ≡ None
+    → (r ≡ None) × (rest ≡ None)
 none_then None at rest e = (refl, e)
 none_then (Some b) at rest e = absurd (cc)
 

@@ -3,7 +3,7 @@
 use clr_command_line::{AskFault, ask_of};
 use std::alloc::Global;
 
-/// Whether a command line that has the program's name alone is refused.
+/// Returns whether a command line that has the program's name alone is refused.
 fn is_refused(alloc: Global) -> Option<bool> {
     let mut words = Vec::new(alloc);
     words.push("clr_office").ok()?;

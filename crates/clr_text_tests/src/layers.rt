@@ -16,14 +16,14 @@ const TABLES: &str = r#"{"format":2,"tables":[
 {"name":"road","columns":[],"shape":"PATH"},
 {"name":"note","columns":[["text","TEXT"]],"shape":"NONE"}],"live":[]}"#;
 
-/// The lines of a table's rows behind the header, with strokes in place of line ends.
+/// Returns the lines of a table's rows behind the header, with strokes in place of line ends.
 fn lines_of(alloc: Global, text: &[u8]) -> Option<String> {
     let text = str::from_utf8(text).ok()?;
     let (_, rows) = text.split_once('\n')?;
     exchanged(alloc, rows.trim_end_matches('\n'), '\n', '/')
 }
 
-/// What is read of a layer, behind the name of its table.
+/// Returns what is read of a layer, behind the name of its table.
 pub(crate) fn answer(alloc: Global, rounded: bool, question: &str) -> Option<String> {
     let (name, layer) = question.split_once(' ')?;
     let schema = schema_of(alloc, TABLES)?;

@@ -8,7 +8,7 @@ mod workspaces;
 
 use std::alloc::Global;
 
-/// What is read of an office text: a table, rows, a rule, a workspace, a flag, or why it is refused.
+/// Returns what is read of an office text: a table, rows, a rule, a workspace, a flag, or why it is refused.
 pub(crate) fn answer(alloc: Global, word: &str, rest: &str) -> Option<String> {
     match word {
         "table" => live::table_text(alloc, rest),

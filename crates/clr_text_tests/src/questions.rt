@@ -4,7 +4,7 @@ use crate::{layers, office_faults, office_texts, record_faults, scripts};
 use std::alloc::Global;
 use std::process::Abort;
 
-/// What is answered to a word and what stands behind it.
+/// Returns what is answered to a word and what stands behind it.
 fn answer(alloc: Global, word: &'static str, rest: &'static str) -> Option<String> {
     match word {
         "edits" | "script" | "route" => scripts::answer(alloc, word, rest),
@@ -15,7 +15,7 @@ fn answer(alloc: Global, word: &'static str, rest: &'static str) -> Option<Strin
     }
 }
 
-/// Whether a word and what stands behind it are answered so.
+/// Returns whether a word and what stands behind it are answered so.
 pub(crate) fn is_answer(
     alloc: Global,
     word: &'static str,
@@ -28,20 +28,20 @@ pub(crate) fn is_answer(
     }
 }
 
-/// Whether a line is answered as it says, behind a word that it doesn't have.
+/// Returns whether a line is answered as it says, behind a word that it doesn't have.
 fn is_right(alloc: Global, word: &'static str, line: &'static str) -> bool {
     let (rest, wanted) = line.split_once(" =>").unwrap_or((line, ""));
     is_answer(alloc, word, rest, wanted.trim_start())
 }
 
-/// Each line is answered as it says, behind a word that stands in none of them.
+/// Tests that each line is answered as it says, behind a word that stands in none of them.
 pub(crate) fn check_of(rt: &impl Abort, alloc: Global, word: &'static str, lines: &'static str) {
     for line in lines.lines() {
         assert!(rt; is_right(alloc, word, line), "{line}");
     }
 }
 
-/// Each line, which begins with a word, is answered as it says.
+/// Tests that each line, which begins with a word, is answered as it says.
 pub(crate) fn check(rt: &impl Abort, alloc: Global, lines: &'static str) {
     for line in lines.lines() {
         let (word, rest) = line.split_once(' ').unwrap_or((line, ""));

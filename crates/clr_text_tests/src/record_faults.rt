@@ -41,7 +41,7 @@ fn add_fields(text: &mut String, fields: &StringRecord) -> Option<()> {
     Some(())
 }
 
-/// The fault of a script, or `none`.
+/// Returns the fault of a script, or `none`.
 fn script_text(alloc: Global, script: &str) -> Option<String> {
     let schema = schema(alloc)?;
     let Some(found) = find_script_fault(alloc, &schema, script.as_bytes()).ok()? else {
@@ -52,7 +52,7 @@ fn script_text(alloc: Global, script: &str) -> Option<String> {
     Some(text)
 }
 
-/// The fault of a certificate, or `none`.
+/// Returns the fault of a certificate, or `none`.
 fn certificate_text(alloc: Global, certificate: &str) -> Option<String> {
     let schema = schema(alloc)?;
     let Some(found) = find_certificate_fault(alloc, &schema, certificate.as_bytes()).ok()? else {
@@ -66,7 +66,7 @@ fn certificate_text(alloc: Global, certificate: &str) -> Option<String> {
     Some(text)
 }
 
-/// What is found in a script or in a certificate.
+/// Returns what is found in a script or in a certificate.
 pub(crate) fn answer(alloc: Global, word: &str, line: &str) -> Option<String> {
     match word {
         "scriptfault" => script_text(alloc, unfold(alloc, line)?.as_str()),

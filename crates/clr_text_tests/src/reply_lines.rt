@@ -7,7 +7,7 @@ use clr_rows::RowFault;
 use clr_steps::Reply;
 use std::alloc::Global;
 
-/// Whether this is the line of a reply.
+/// Returns whether this is the line of a reply.
 fn is_line(alloc: Global, reply: &Reply, text: &str) -> bool {
     match schema(alloc) {
         Some(schema) => match reply_line(alloc, &schema, reply) {

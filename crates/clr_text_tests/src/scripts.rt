@@ -11,12 +11,12 @@ use clr_scripts::{RecordFault, read_edits, read_script};
 use std::alloc::Global;
 use std::test::Fail;
 
-/// Why a record is bad, behind its number.
+/// Returns why a record is bad, behind its number.
 fn fault_text(alloc: Global, number: usize, fault: RecordFault) -> Option<String> {
     format!(in alloc; "{number} {fault:?}").ok()
 }
 
-/// Edits, or the number of the record that is bad, and why.
+/// Returns edits, or the number of the record that is bad, and why.
 fn read_edits_text(alloc: Global, text: &str) -> Option<String> {
     let schema = schema(alloc)?;
     match read_edits(alloc, &schema, text.as_bytes()) {
@@ -25,7 +25,7 @@ fn read_edits_text(alloc: Global, text: &str) -> Option<String> {
     }
 }
 
-/// Steps, or the number of the record that is bad, and why.
+/// Returns steps, or the number of the record that is bad, and why.
 fn read_script_text(alloc: Global, text: &str) -> Option<String> {
     let schema = schema(alloc)?;
     match read_script(alloc, &schema, text.as_bytes()) {
@@ -34,7 +34,7 @@ fn read_script_text(alloc: Global, text: &str) -> Option<String> {
     }
 }
 
-/// `read`, or why a route isn't that has so many coordinates.
+/// Returns `read`, or why a route isn't that has so many coordinates.
 fn route_text(alloc: Global, count: &str) -> Option<String> {
     let coordinates = coordinates(alloc, count)?;
     let text = format!(in alloc; "insert,route,5,R{}", coordinates.as_str()).ok()?;
@@ -45,7 +45,7 @@ fn route_text(alloc: Global, count: &str) -> Option<String> {
     }
 }
 
-/// What is read of edits, of a script, or of a route.
+/// Returns what is read of edits, of a script, or of a route.
 pub(crate) fn answer(alloc: Global, word: &str, line: &str) -> Option<String> {
     match word {
         "edits" => read_edits_text(alloc, unfold(alloc, line)?.as_str()),

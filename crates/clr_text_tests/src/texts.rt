@@ -6,7 +6,7 @@ use clr_scripts::Step;
 use clr_steps::{Command, Keep};
 use std::alloc::Global;
 
-/// A text with another character in place of one.
+/// Returns a text with another character in place of one.
 pub(crate) fn exchanged(alloc: Global, text: &str, from: char, to: char) -> Option<String> {
     let mut other = String::new(alloc);
     for letter in text.chars() {
@@ -15,12 +15,12 @@ pub(crate) fn exchanged(alloc: Global, text: &str, from: char, to: char) -> Opti
     Some(other)
 }
 
-/// A text with line ends in place of strokes.
+/// Returns a text with line ends in place of strokes.
 pub(crate) fn unfold(alloc: Global, line: &str) -> Option<String> {
     exchanged(alloc, line, '/', '\n')
 }
 
-/// So many coordinates, which are 0 and 1 in turn, each behind a comma.
+/// Returns so many coordinates, which are 0 and 1 in turn, each behind a comma.
 pub(crate) fn coordinates(alloc: Global, count: &str) -> Option<String> {
     let mut text = String::new(alloc);
     for n in 0..count.parse::<u16>().ok()? {
@@ -52,7 +52,7 @@ fn add_places(text: &mut String, alloc: Global, places: &[Place]) -> Option<()> 
     Some(())
 }
 
-/// The values of a row, each after a quote where it is a text, and its places, behind `path` where they are a chain.
+/// Returns the values of a row, each after a quote where it is a text, and its places, behind `path` where they are a chain.
 fn row_text(alloc: Global, row: &Row) -> Option<String> {
     let mut text = String::new(alloc);
     for value in row.values.as_slice() {
@@ -74,7 +74,7 @@ fn cell_text(alloc: Global, cell: CellId) -> Option<String> {
     format!(in alloc; "{}.{}", cell.table, cell.key).ok()
 }
 
-/// A word, a cell, and a row.
+/// Returns a word, a cell, and a row.
 pub(crate) fn change_text(alloc: Global, word: &str, cell: CellId, row: &Row) -> Option<String> {
     let (cell, row) = (cell_text(alloc, cell)?, row_text(alloc, row)?);
     format!(in alloc; "{word} {} {}", cell.as_str(), row.as_str()).ok()
@@ -88,7 +88,7 @@ fn edit_text(alloc: Global, edit: &Edit) -> Option<String> {
     }
 }
 
-/// Edits in their order.
+/// Returns edits in their order.
 pub(crate) fn edits_text(alloc: Global, edits: &[Edit]) -> Option<String> {
     let mut text = String::new(alloc);
     for edit in edits {
@@ -97,7 +97,7 @@ pub(crate) fn edits_text(alloc: Global, edits: &[Edit]) -> Option<String> {
     Some(text)
 }
 
-/// The rows of a sheet in the order of their cells.
+/// Returns the rows of a sheet in the order of their cells.
 pub(crate) fn sheet_text(alloc: Global, sheet: &Sheet) -> Option<String> {
     let mut text = String::new(alloc);
     for (cell, row) in sheet.iter() {
@@ -110,7 +110,7 @@ pub(crate) fn sheet_text(alloc: Global, sheet: &Sheet) -> Option<String> {
     Some(text)
 }
 
-/// A command as its word, its workspace, and its other name or the word that ends it.
+/// Returns a command as its word, its workspace, and its other name or the word that ends it.
 fn fields(command: &Command) -> (&str, &str, &str) {
     match command {
         Command::Create { name, parent } => ("create", name.as_str(), parent.as_str()),
@@ -140,7 +140,7 @@ fn keep_word(keep: Keep) -> &'static str {
     }
 }
 
-/// The edits or the cell of a command.
+/// Returns the edits or the cell of a command.
 fn rest_text(alloc: Global, command: &Command) -> Option<String> {
     match command {
         Command::Apply { edits, .. } => edits_text(alloc, edits.as_slice()),
@@ -156,7 +156,7 @@ fn command_text(alloc: Global, command: &Command) -> Option<String> {
     format!(in alloc; "{word} [{workspace}] [{other}]{space}{}", rest.as_str()).ok()
 }
 
-/// Names, each behind a stroke.
+/// Returns names, each behind a stroke.
 fn names_text(alloc: Global, names: &[Words]) -> Option<String> {
     let mut text = String::new(alloc);
     for name in names {

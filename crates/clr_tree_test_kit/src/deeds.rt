@@ -1,3 +1,4 @@
+//! Deeds: what tests do to the workspaces of a tree.
 ghost use Rattle.std.specs.Prelude.{◌≡◌, ◌<◌, true, length, IfSome};
 ghost use Rattle.clr_workspaces.specs.Marks.{is_saved, mark_at};
 ghost use Rattle.clr_workspaces.specs.Workspaces.{workspace_at};
@@ -74,7 +75,7 @@ fn mark(tree: &mut Tree, at: usize, savepoint: &str) -> Result<(), AllocError>
     tree.mark(at, savepoint)
 }
 
-/// The position of a savepoint among the marks of a workspace.
+/// Returns the position of a savepoint among the marks of a workspace.
 pub fn find_savepoint(tree: &Tree, at: usize, savepoint: &str) -> Option<usize>
     requires child { 0 < at }
     requires within { at < length tree.now.list }
@@ -102,7 +103,7 @@ fn roll_to(tree: &mut Tree, at: usize, savepoint: &str) -> Result<(), AllocError
     }
 }
 
-/// What is done to a leaf.
+/// Does to a leaf what a deed says.
 fn act_on_leaf(tree: &mut Tree, at: usize, deed: Deed<'_>)
     requires child { 0 < at }
     requires within { at < length tree.old.list }
@@ -153,7 +154,7 @@ fn act_on_child(tree: &mut Tree, at: usize, deed: Deed<'_>) -> Result<(), AllocE
     Ok(())
 }
 
-/// Does something to the workspace of a name. It fails for want of memory alone.
+/// Does something to the workspace of a name.
 pub fn act(alloc: Global, tree: &mut Tree, name: &str, deed: Deed<'_>) -> Result<(), AllocError> {
     if let Deed::Create(parent) = deed {
         return create(tree, name, parent);

@@ -3,17 +3,17 @@
 use clr_rows::{CellId, Row, Shape, Sheet, Value, Values, Words};
 use std::alloc::{AllocError, Global};
 
-/// A text of these letters.
+/// Returns a text of these letters.
 pub fn words(alloc: Global, text: &str) -> Result<Words, AllocError> {
     Ok(Words::new(String::from_str(alloc, text)?))
 }
 
-/// A cell of table 0.
+/// Returns a cell of table 0.
 pub fn cell(key: i64) -> CellId {
     CellId { table: 0, key }
 }
 
-/// A row with one number.
+/// Returns a row with one number.
 pub fn row_of(alloc: Global, number: i64) -> Result<Row, AllocError> {
     let mut values = Vec::new(alloc);
     values.push(Value::Int(number))?;
@@ -23,7 +23,7 @@ pub fn row_of(alloc: Global, number: i64) -> Result<Row, AllocError> {
     })
 }
 
-/// The number of a row, or 0 for a row of another kind.
+/// Returns the number of a row, or 0 for a row of another kind.
 pub fn number_of(row: &Row) -> i64 {
     match row.values.as_slice().first() {
         Some(Value::Int(number)) => *number,
@@ -31,7 +31,7 @@ pub fn number_of(row: &Row) -> i64 {
     }
 }
 
-/// A sheet with a row of this number at each of these keys.
+/// Returns a sheet with a row of this number at each of these keys.
 pub fn numbered_sheet(alloc: Global, rows: &[(i64, i64)]) -> Result<Sheet, AllocError> {
     let mut sheet = Sheet::new(alloc);
     for (key, number) in rows {

@@ -21,7 +21,7 @@ B delete 2
 B hold
 ";
 
-/// A row with a number, or none for 0.
+/// Returns a row with a number, or none for 0.
 fn row_or_none(alloc: Global, number: i64) -> Result<Option<Row>, AllocError> {
     if number == 0 {
         return Ok(None);
@@ -38,7 +38,7 @@ fn differences_of(alloc: Global, rows: &[(i64, i64)]) -> Result<Differences, All
     Ok(differences)
 }
 
-/// A part with these differences in its base and in its current content.
+/// Returns a part with these differences in its base and in its current content.
 fn part_of(
     alloc: Global,
     name: &str,
@@ -58,7 +58,7 @@ fn part_of(
     Ok(StoredPart { name, layer })
 }
 
-/// A savepoint, and the mark of a child.
+/// Returns a savepoint, and the mark of a child.
 fn both_marks(alloc: Global) -> Result<Vec<StoredMark>, AllocError> {
     let mut marks = Vec::new(alloc);
     let saved = differences_of(alloc, &[(1, 1), (3, 7), (6, 0)])?;
@@ -67,7 +67,7 @@ fn both_marks(alloc: Global) -> Result<Vec<StoredMark>, AllocError> {
     Ok(marks)
 }
 
-/// Of the three entries of its base two are neutral, and so of its current content and of its
+/// Returns the first part: of the three entries of its base two are neutral, and so of its current content and of its
 /// savepoint.
 fn first_part(alloc: Global) -> Result<StoredPart, AllocError> {
     let base = [(1, 1), (2, 5), (4, 0)];
@@ -76,13 +76,13 @@ fn first_part(alloc: Global) -> Result<StoredPart, AllocError> {
     part_of(alloc, "A", "LIVE", &base, &current, marks)
 }
 
-/// The entry of its base is neutral, and one of three of its current content.
+/// Returns the entry of its base is neutral, and one of three of its current content.
 fn second_part(alloc: Global) -> Result<StoredPart, AllocError> {
     let current = [(1, 3), (2, 0), (3, 2)];
     part_of(alloc, "B", "A", &[(3, 2)], &current, Vec::new(alloc))
 }
 
-/// The parts.
+/// Returns the parts.
 pub fn layered_parts(alloc: Global) -> Result<Vec<StoredPart>, AllocError> {
     let mut parts = Vec::new(alloc);
     parts.push(first_part(alloc)?)?;
@@ -90,7 +90,7 @@ pub fn layered_parts(alloc: Global) -> Result<Vec<StoredPart>, AllocError> {
     Ok(parts)
 }
 
-/// The tree of these parts.
+/// Returns the tree of these parts.
 pub fn layered_tree(alloc: Global) -> Result<Tree, AllocError> {
     let live = numbered_sheet(alloc, &[(1, 1), (2, 1), (3, 1)])?;
     let parts = layered_parts(alloc)?;

@@ -34,7 +34,7 @@ B under A base 1=2 3=1 now 1=5 2=7 3=1 4=3 saved s 1=2 3=1 saved t 1=2 3=1 4=3 c
 C under B base 1=5 3=1 4=3 now 1=5 4=3 5=6 saved s 1=5 3=1 4=3
 ";
 
-/// What is new in three levels after deeds and a sweep.
+/// Returns what is new in three levels after deeds and a sweep.
 pub fn news_after(alloc: Global, deeds: &str) -> Result<String, AllocError> {
     let mut tree = tree_after(alloc, THREE_LEVELS)?;
     act_lines(alloc, &mut tree, deeds)?;
@@ -42,7 +42,7 @@ pub fn news_after(alloc: Global, deeds: &str) -> Result<String, AllocError> {
     news_text(alloc, &tree, THREE_LEVELS_TEXT)
 }
 
-/// How many entries are stored of the workspaces under LIVE after deeds and a sweep.
+/// Returns how many entries are stored of the workspaces under LIVE after deeds and a sweep.
 pub fn counts_after(alloc: Global, deeds: &str) -> Result<String, AllocError> {
     let mut tree = tree_after(alloc, deeds)?;
     tree.sweep();

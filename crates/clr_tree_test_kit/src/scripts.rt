@@ -5,7 +5,7 @@ use crate::fixtures::numbered_sheet;
 use clr_tree::{Keep, Tree};
 use std::alloc::{AllocError, Global};
 
-/// The part of a text before a space, and the rest.
+/// Returns the part of a text before a space, and the rest.
 fn split_word(text: &str) -> (&str, &str) {
     match text.split_once(" ") {
         Some(parts) => parts,
@@ -33,7 +33,7 @@ fn resolve(text: &str) -> Option<Deed<'_>> {
     Some(Deed::Resolve(number(key)?, keep))
 }
 
-/// The deed of a word, with what belongs to it.
+/// Returns the deed of a word, with what belongs to it.
 fn deed_of<'a>(word: &str, rest: &'a str) -> Option<Deed<'a>> {
     match word {
         "create" => Some(Deed::Create(rest)),
@@ -55,22 +55,21 @@ fn deed_of<'a>(word: &str, rest: &'a str) -> Option<Deed<'a>> {
     }
 }
 
-/// The name, the word and the rest of a line.
+/// Returns the name, the word and the rest of a line.
 pub fn parts_of(line: &str) -> (&str, &str, &str) {
     let (name, rest) = split_word(line);
     let (word, rest) = split_word(rest);
     (name, word, rest)
 }
 
-/// What a line says: a deed, and to the workspace of which name. There is none where it can't be
+/// Returns what a line says: a deed, and to the workspace of which name. There is none where it can't be
 /// read.
 pub fn deed_in(line: &str) -> Option<(&str, Deed<'_>)> {
     let (name, word, rest) = parts_of(line);
     Some((name, deed_of(word, rest)?))
 }
 
-/// Does what a line says, which is nothing where it can't be read. It fails for want of memory
-/// alone.
+/// Does what a line says, which is nothing where it can't be read.
 pub fn act_line(alloc: Global, tree: &mut Tree, line: &str) -> Result<(), AllocError> {
     match deed_in(line) {
         Some((name, deed)) => act(alloc, tree, name, deed),
@@ -86,7 +85,7 @@ pub fn act_lines(alloc: Global, tree: &mut Tree, lines: &str) -> Result<(), Allo
     Ok(())
 }
 
-/// A tree of LIVE, with a row of number 1 at each of the keys 1 to 3, after lines.
+/// Returns a tree of LIVE, with a row of number 1 at each of the keys 1 to 3, after lines.
 pub fn tree_after(alloc: Global, lines: &str) -> Result<Tree, AllocError> {
     let mut tree = Tree::new(alloc, numbered_sheet(alloc, &[(1, 1), (2, 1), (3, 1)])?)?;
     act_lines(alloc, &mut tree, lines)?;

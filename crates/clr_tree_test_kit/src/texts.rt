@@ -7,7 +7,7 @@ use clr_rows::Sheet;
 use clr_tree::{ChangeSet, MarkPart, Part, Tree};
 use std::alloc::{AllocError, Global};
 
-/// Each key of a sheet with the number of its row, after a space.
+/// Returns each key of a sheet with the number of its row, after a space.
 pub fn rows_text(alloc: Global, rows: &Sheet) -> Result<String, AllocError> {
     let mut text = String::new(alloc);
     for (cell, row) in rows.iter() {
@@ -17,7 +17,7 @@ pub fn rows_text(alloc: Global, rows: &Sheet) -> Result<String, AllocError> {
     Ok(text)
 }
 
-/// Each changed key with the numbers of the rows before and after, or 0 where there is none.
+/// Returns each changed key with the numbers of the rows before and after, or 0 where there is none.
 pub fn changes_text(alloc: Global, changed: &ChangeSet) -> Result<String, AllocError> {
     let mut text = String::new(alloc);
     for (cell, change) in changed.iter() {
@@ -47,7 +47,7 @@ fn marks_text(alloc: Global, marks: &[MarkPart]) -> Result<String, AllocError> {
     Ok(text)
 }
 
-/// A workspace with all that it has: its parent, its base, its current content, its marks in order,
+/// Returns a workspace with all that it has: its parent, its base, its current content, its marks in order,
 /// and `kept` where every rule is to hold.
 pub fn part_text(alloc: Global, part: &Part) -> Result<String, AllocError> {
     let base = rows_text(alloc, &part.base)?;
@@ -71,7 +71,7 @@ fn space_text(alloc: Global, tree: &Tree, at: usize) -> Result<String, AllocErro
     part_text(alloc, &part)
 }
 
-/// A line for each workspace of a tree.
+/// Returns a line for each workspace of a tree.
 pub fn tree_text(alloc: Global, tree: &Tree) -> Result<String, AllocError> {
     let mut text = live_text(alloc, tree)?;
     for at in 1..tree.len() {
@@ -80,7 +80,7 @@ pub fn tree_text(alloc: Global, tree: &Tree) -> Result<String, AllocError> {
     Ok(text)
 }
 
-/// How many entries are stored of each workspace under LIVE.
+/// Returns how many entries are stored of each workspace under LIVE.
 pub fn counts_text(alloc: Global, tree: &Tree) -> Result<String, AllocError> {
     let mut text = String::from_str(alloc, "stored")?;
     for at in 1..tree.len() {
@@ -89,7 +89,7 @@ pub fn counts_text(alloc: Global, tree: &Tree) -> Result<String, AllocError> {
     Ok(text)
 }
 
-/// The lines of a text that another hasn't.
+/// Returns the lines of a text that another hasn't.
 pub fn new_lines(alloc: Global, text: &str, before: &str) -> Result<String, AllocError> {
     let mut new = String::new(alloc);
     for line in text.lines() {
@@ -101,7 +101,7 @@ pub fn new_lines(alloc: Global, text: &str, before: &str) -> Result<String, Allo
     Ok(new)
 }
 
-/// The lines of the text of a tree that another hasn't, and how many entries are stored.
+/// Returns the lines of the text of a tree that another hasn't, and how many entries are stored.
 pub fn news_text(alloc: Global, tree: &Tree, before: &str) -> Result<String, AllocError> {
     let all = tree_text(alloc, tree)?;
     let mut text = new_lines(alloc, all.as_str(), before)?;

@@ -1,3 +1,4 @@
+//! Calls on trees, with what each answers or leaves.
 /// Beside three levels D, which has a child, and is in conflict with LIVE at key 7.
 pub(crate) const CONFLICT: &str = "D create LIVE
 D mark s

@@ -1,3 +1,4 @@
+//! Calls on trees, as lines say them, and what they answer.
 ghost use Rattle.std.specs.Prelude.{◌<◌, length};
 
 use clr_change::ChangeSet;
@@ -20,7 +21,7 @@ pub(crate) enum Answer {
 }
 
 impl Answer {
-    /// The answer as a text, if there is one.
+    /// Returns the answer as a text, if there is one.
     pub(crate) fn text(&self, alloc: Global) -> Result<String, AllocError> {
         match self {
             Answer::Nothing => Ok(String::new(alloc)),
@@ -32,7 +33,7 @@ impl Answer {
     }
 }
 
-/// A tree that is made, or want of memory. A fault of its parts is no answer.
+/// Returns a tree that is made, or want of memory. A fault of its parts is no answer.
 fn answer_of_tree(tree: Result<Tree, (usize, PartFault)>) -> Result<Answer, AllocError> {
     match tree {
         Ok(tree) => Ok(Answer::Tree(tree)),
@@ -49,7 +50,7 @@ fn build(alloc: Global, tree: &Tree) -> Result<Answer, AllocError> {
     answer_of_tree(Tree::build(alloc, tree.live().copy()?, parts))
 }
 
-/// What a workspace with its own changes over its parent's content would have otherwise.
+/// Returns what a workspace with its own changes over its parent's content would have otherwise.
 fn changes_to_refreshed(tree: &Tree, at: usize) -> Result<Answer, AllocError>
     requires child { 0 < at }
     requires within { at < length tree.now.list }
@@ -61,7 +62,7 @@ fn changes_to_refreshed(tree: &Tree, at: usize) -> Result<Answer, AllocError>
     }
 }
 
-/// What a word reads of a workspace.
+/// Returns what a word reads of a workspace.
 fn read(tree: &Tree, at: usize, word: &str, rest: &str) -> Result<Answer, AllocError>
     requires child { 0 < at }
     requires within { at < length tree.now.list }
@@ -85,7 +86,7 @@ fn read(tree: &Tree, at: usize, word: &str, rest: &str) -> Result<Answer, AllocE
     }
 }
 
-/// What a word makes of the rows of LIVE, and of all parts.
+/// Returns what a word makes of the rows of LIVE, and of all parts.
 fn make(alloc: Global, tree: &Tree, word: &str) -> Result<Answer, AllocError> {
     match word {
         "new" => Ok(Answer::Tree(Tree::new(alloc, tree.live().copy()?)?)),
@@ -99,7 +100,7 @@ fn make(alloc: Global, tree: &Tree, word: &str) -> Result<Answer, AllocError> {
     }
 }
 
-/// Does what a line says, or answers what it asks. It fails for want of memory alone.
+/// Does what a line says, or answers what it asks.
 pub(crate) fn call(
     alloc: Global,
     tree: &mut Tree,

@@ -1,6 +1,6 @@
 //! Cases as texts: what is given, a line `--`, what is wanted, and a line `==`.
 
-/// The first of some cases, in two parts, and the others.
+/// Returns the first of some cases, in two parts, and the others.
 pub(crate) fn split_case(
     cases: &'static str,
 ) -> Option<(&'static str, &'static str, &'static str)> {

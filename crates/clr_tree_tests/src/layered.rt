@@ -12,7 +12,7 @@ A under LIVE base 1=1 2=5 3=1 now 1=1 2=5 3=2 saved s 1=1 2=5 3=7 child B kept
 B under A base 1=1 2=5 3=2 now 1=3 3=2 kept
 ";
 
-/// A tree has the workspaces of the parts, and so many entries.
+/// Returns a tree has the workspaces of the parts, and so many entries.
 fn check(rt: &impl Abort, alloc: Global, tree: &Tree, counts: &str) -> Result<(), Fail> {
     let text = news_text(alloc, tree, SAME_TEXT)?;
     assert_eq!(rt; text.as_str(), counts);

@@ -10,7 +10,7 @@ use std::alloc::{AllocError, Global};
 use std::process::Abort;
 use std::test::Fail;
 
-/// How many savepoints a workspace has, whether one is named s, whether its first mark is held, whether
+/// Returns how many savepoints a workspace has, whether one is named s, whether its first mark is held, whether
 /// its base has a row at key 1, all rows of its base, and the workspace as a part.
 fn answers_at(alloc: Global, tree: &Tree, at: usize) -> Result<String, AllocError>
     requires { at < length tree.now.list }
@@ -24,7 +24,7 @@ fn answers_at(alloc: Global, tree: &Tree, at: usize) -> Result<String, AllocErro
     format!(in alloc; "saved {saved}, found {found}, held {held}, row {row}, base{base}\n{part}")
 }
 
-/// What is answered of a workspace of three levels, by its name.
+/// Returns what is answered of a workspace of three levels, by its name.
 fn check(rt: &impl Abort, alloc: Global, name: &str, wanted: &str) -> Result<(), Fail> {
     let tree = tree_after(alloc, THREE_LEVELS)?;
     let answers = match tree.find(name) {

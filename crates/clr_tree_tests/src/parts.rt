@@ -133,7 +133,7 @@ fn marks_in(alloc: Global, text: &str) -> Result<Vec<MarkPart>, AllocError> {
     Ok(marks)
 }
 
-/// A part without rows.
+/// Returns a part without rows.
 fn part_of(
     alloc: Global,
     name: &str,
@@ -164,7 +164,7 @@ fn parts_in(alloc: Global, lines: &'static str) -> Result<Vec<Part>, AllocError>
     Ok(parts)
 }
 
-/// What parts make: so many workspaces, or a fault at a position.
+/// Returns what parts make: so many workspaces, or a fault at a position.
 fn outcome_of(alloc: Global, parts: Vec<Part>) -> Result<String, AllocError> {
     match Tree::build(alloc, Sheet::new(alloc), parts) {
         Ok(tree) => format!(in alloc; "{} workspaces", tree.len()),
@@ -198,7 +198,7 @@ fn refuses_a_ninth_level(rt: HostRuntime) -> Result<(), Fail> {
     check(&rt, rt.alloc(), NINE_LEVELS, "TooMany at 8")
 }
 
-/// What so many children of LIVE make.
+/// Returns what so many children of LIVE make.
 fn outcome_of_children(alloc: Global, count: usize) -> Result<String, AllocError> {
     let mut parts = Vec::new(alloc);
     for number in 0..count {
@@ -217,7 +217,7 @@ fn refuses_a_257th_workspace(rt: HostRuntime) -> Result<(), Fail> {
     Ok(())
 }
 
-/// What a workspace with so many savepoints makes.
+/// Returns what a workspace with so many savepoints makes.
 fn outcome_of_savepoints(alloc: Global, count: usize) -> Result<String, AllocError> {
     let mut marks = Vec::new(alloc);
     for number in 0..count {
@@ -238,7 +238,7 @@ fn refuses_a_65th_savepoint(rt: HostRuntime) -> Result<(), Fail> {
     Ok(())
 }
 
-/// The tree of a part with its own base and current content.
+/// Returns the tree of a part with its own base and current content.
 fn tree_of_part(alloc: Global) -> Result<Tree, AllocError> {
     let mut part = part_of(alloc, "A", "LIVE", Vec::new(alloc))?;
     part.base = numbered_sheet(alloc, &[(1, 1), (3, 1)])?;

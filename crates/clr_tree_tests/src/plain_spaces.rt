@@ -10,12 +10,12 @@ pub(crate) const KEYS: usize = 8;
 /// At each key the number of its row, or 0 where there is none.
 pub(crate) type Content = [i64; KEYS];
 
-/// Where a key stands in a content.
+/// Returns where a key stands in a content.
 pub(crate) fn place_of(key: i64) -> usize {
     usize::try_from(key).unwrap_or(KEYS)
 }
 
-/// How many keys two contents differ at.
+/// Returns how many keys two contents differ at.
 pub(crate) fn count_differences(one: &Content, other: &Content) -> usize {
     one.iter()
         .zip(other.iter())
@@ -23,7 +23,7 @@ pub(crate) fn count_differences(one: &Content, other: &Content) -> usize {
         .count()
 }
 
-/// A content with what changed between two others put over it.
+/// Returns a content with what changed between two others put over it.
 pub(crate) fn put_over(content: Content, before: &Content, after: &Content) -> Content {
     let mut over = content;
     for key in 0..KEYS {
@@ -34,7 +34,7 @@ pub(crate) fn put_over(content: Content, before: &Content, after: &Content) -> C
     over
 }
 
-/// Each key of a content with its number, after a space.
+/// Returns each key of a content with its number, after a space.
 pub(crate) fn content_text(alloc: Global, content: &Content) -> Result<String, AllocError> {
     let mut text = String::new(alloc);
     for (key, number) in content.iter().enumerate() {
@@ -136,14 +136,14 @@ impl Space {
         self.drop_savepoints();
     }
 
-    /// The base becomes the parent's content, and the own changes stay over it.
+    /// Makes the base the parent's content, with the own changes over it.
     fn refresh(&mut self, above: &Content) {
         self.current = put_over(*above, &self.base, &self.current);
         self.base = *above;
         self.drop_savepoints();
     }
 
-    /// The base takes the own changes over; the base and the current content are answered as they
+    /// Returns the base takes the own changes over; the base and the current content are answered as they
     /// were.
     pub(crate) fn take_over(&mut self) -> (Content, Content) {
         let (base, current) = (self.base, self.current);
@@ -152,7 +152,7 @@ impl Space {
         (base, current)
     }
 
-    /// The base takes over the parent's row at a key.
+    /// Has the base take over the parent's row at a key.
     fn resolve(&mut self, key: usize, keep: Keep, above: &Content) {
         let (Some(base), Some(current), Some(row)) = (
             self.base.get_mut(key),
@@ -169,7 +169,7 @@ impl Space {
         *base = *row;
     }
 
-    /// What is done to this workspace alone, under a parent with this content.
+    /// Does what concerns this workspace alone, under a parent with this content.
     pub(crate) fn act(&mut self, deed: Deed<'static>, above: &Content) -> Result<(), AllocError> {
         match deed {
             Deed::Mark(name) => self.save(name)?,

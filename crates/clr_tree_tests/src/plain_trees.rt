@@ -1,3 +1,5 @@
+//! Trees whose workspaces are whole copies, beside which trees are tested.
+
 use crate::plain_spaces::{
     Content, KEYS, Mark, Space, content_text, count_differences, place_of, put_over,
 };
@@ -15,7 +17,7 @@ pub(crate) struct PlainTree {
 }
 
 impl PlainTree {
-    /// LIVE alone, with this content.
+    /// Returns LIVE alone, with this content.
     pub(crate) fn new(alloc: Global, live: Content) -> Result<PlainTree, AllocError> {
         let mut tree = PlainTree {
             alloc,
@@ -55,7 +57,7 @@ impl PlainTree {
         self.spaces.iter().any(|space| space.parent == name)
     }
 
-    /// How many levels a position is under LIVE.
+    /// Returns how many levels a position is under LIVE.
     fn depth(&self, at: usize) -> usize {
         let mut at = at;
         for depth in 0..LEVELS {
@@ -124,7 +126,7 @@ impl PlainTree {
         }
     }
 
-    /// The workspace goes, and its mark.
+    /// Removes a workspace, and its mark.
     fn remove(&mut self, above: usize, name: &str) {
         self.spaces.retain(|space| space.name != name);
         self.drop_mark(above, name);
@@ -136,7 +138,7 @@ impl PlainTree {
         }
     }
 
-    /// The parent takes over what changed between two contents.
+    /// Has the parent take over what changed between two contents.
     fn take_over(&mut self, above: usize, base: &Content, current: &Content) {
         if let Some(parent) = self.spaces.get_mut(above) {
             parent.current = put_over(parent.current, base, current);
@@ -182,7 +184,7 @@ impl PlainTree {
         }
     }
 
-    /// At how many keys the base isn't as the parent, and the current content isn't as the base.
+    /// Returns at how many keys the base isn't as the parent, and the current content isn't as the base.
     fn count_needed(&self, at: usize) -> usize {
         let Some(above) = self.find_parent(at) else {
             return 0;
@@ -197,7 +199,7 @@ impl PlainTree {
         }
     }
 
-    /// A line for each workspace.
+    /// Returns a line for each workspace.
     pub(crate) fn text(&self) -> Result<String, AllocError> {
         let alloc = self.alloc;
         let live = content_text(alloc, &self.current(0))?;
@@ -208,7 +210,7 @@ impl PlainTree {
         Ok(text)
     }
 
-    /// How many entries each workspace under LIVE needs.
+    /// Returns how many entries each workspace under LIVE needs.
     pub(crate) fn counts_text(&self) -> Result<String, AllocError> {
         let mut text = String::from_str(self.alloc, "stored")?;
         for at in 1..self.spaces.len() {

@@ -1,3 +1,5 @@
+//! Random deeds on a tree, and the same ones on a tree of whole copies.
+
 use crate::plain_trees::PlainTree;
 use clr_call_test_kit::Dice;
 use clr_tree::{Keep, Tree};
@@ -16,7 +18,7 @@ const NAMES: [&str; 12] = [
     "LIVE", "A", "B", "C", "D", "E", "F", "G", "H", "I", "J", "K",
 ];
 
-/// What is done next, and to which workspace. Savepoints have the names of the first workspaces.
+/// Returns what is done next, and to which workspace. Savepoints have the names of the first workspaces.
 fn deed(dice: &mut Dice) -> (&'static str, Deed<'static>) {
     let name = NAMES[dice.throw(12) as usize];
     let other = NAMES[dice.throw(12) as usize];
@@ -46,7 +48,7 @@ fn deed(dice: &mut Dice) -> (&'static str, Deed<'static>) {
     (name, deed)
 }
 
-/// The tree of whole copies after lines.
+/// Returns the tree of whole copies after lines.
 fn plain_tree_after(alloc: Global, lines: &'static str) -> Result<PlainTree, AllocError> {
     let mut plain = PlainTree::new(alloc, [0, 1, 1, 1, 0, 0, 0, 0])?;
     for line in lines.lines() {
@@ -97,7 +99,7 @@ impl Pair {
         Ok(())
     }
 
-    /// What both are, which is to be the same.
+    /// Returns what both are, which is to be the same.
     fn text(&self, rt: &impl Abort, alloc: Global) -> Result<String, Fail> {
         let text = tree_text(alloc, &self.tree)?;
         let plain = self.plain.text()?;
@@ -117,7 +119,7 @@ impl Pair {
     }
 }
 
-/// How many deeds change a tree, which whole copies follow.
+/// Returns how many deeds change a tree, which whole copies follow.
 fn count_changes(
     rt: &impl Abort,
     alloc: Global,

@@ -1,3 +1,5 @@
+//! Calls on trees with a budget of memory.
+
 use crate::call_cases::{CALLS, CONFLICT, CONFLICT_TEXT};
 use crate::calls::{Answer, call};
 use crate::cases::split_case;
@@ -22,14 +24,14 @@ struct Outcome {
     answer: String,
 }
 
-/// Three levels, and a workspace in conflict with LIVE.
+/// Returns three levels, and a workspace in conflict with LIVE.
 fn conflict_tree(alloc: Global) -> Result<Tree, AllocError> {
     let mut tree = tree_after(alloc, THREE_LEVELS)?;
     act_lines(alloc, &mut tree, CONFLICT)?;
     Ok(tree)
 }
 
-/// The text of an answer, which is empty for a refused call.
+/// Returns the text of an answer, which is empty for a refused call.
 fn text_of(alloc: Global, answer: &Result<Answer, AllocError>) -> Result<String, AllocError> {
     match answer {
         Ok(answer) => answer.text(alloc),
@@ -56,7 +58,7 @@ impl Outcome {
         })
     }
 
-    /// What isn't as before in the tree, or the answer.
+    /// Returns what isn't as before in the tree, or the answer.
     fn news(&self, alloc: Global) -> Result<String, AllocError> {
         let mut text = new_lines(alloc, self.tree.as_str(), CONFLICT_TEXT)?;
         text.push_str(self.answer.as_str())?;
@@ -64,7 +66,7 @@ impl Outcome {
     }
 }
 
-/// A call that is done leaves and answers what it is to.
+/// Returns a call that is done leaves and answers what it is to.
 fn check_done(rt: &impl Abort, alloc: Global, outcome: &Outcome, wanted: &str) -> Result<(), Fail> {
     let news = outcome.news(alloc)?;
     let text = news.as_str().trim_end();
@@ -72,14 +74,14 @@ fn check_done(rt: &impl Abort, alloc: Global, outcome: &Outcome, wanted: &str) -
     Ok(())
 }
 
-/// A call that finds no memory leaves the tree as it was.
+/// Returns a call that finds no memory leaves the tree as it was.
 fn check_refused(rt: &impl Abort, outcome: &Outcome, line: &str) -> Result<(), Fail> {
     let text = outcome.tree.as_str();
     assert_eq!(rt; text, CONFLICT_TEXT, "{line}");
     Ok(())
 }
 
-/// How many budgets are too little for a call.
+/// Returns how many budgets are too little for a call.
 fn count_refusals(
     rt: &impl Abort,
     alloc: Global,

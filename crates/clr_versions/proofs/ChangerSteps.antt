@@ -1,23 +1,20 @@
 -- The first two members that change each cell, read one member at a time.
 use Rattle.std.proofs.Common.{◌≡◌, ◌∙◌, ◌<◌, ◌+◌, ℕ, Bool, true, false, cond, List, ◌∷◌, [], Option, Some, None, inl, inr, is_some, refl, sym, ap, subst, arith}
-use Rattle.std.specs.Prelude.{◌⊎◌, ◌≤◌, ◌-◌, length, slice_get, if◌then◌else◌}
-use Rattle.std.specs.declared.cmp.Ordering.TheVariants.{Equal}
-use Rattle.std.specs.BTreeMap.{is_at}
-use Rattle.std.specs.Cmp.{Equal-is, tied_itself}
+use Rattle.std.specs.Prelude.{ℤ, Decides, ◌⊎◌, ◌≤◌, ◌-◌, ◌==◌, length, slice_get, if◌then◌else◌}
 use Rattle.std.specs.FinMap as finite
 use Rattle.std.specs.FinMap.{contains_key-keys}
 use Rattle.std.specs.Option.{option_map}
-use Rattle.std.specs.Ordering.{eq_by_cmp}
-use Rattle.std.proofs.lemmas.Bool.Decides.{eqb_tells}
+use Rattle.std.specs.HashMap.{get}
+use Rattle.std.specs.Ordering.{eq_by_cmp, int_eq}
+use Rattle.std.proofs.lemmas.Bool.Decides.{Decides-and, Decides-eqb, Decides-int_eq, eqb_tells}
 use Rattle.std.proofs.lemmas.Bool.{cases_lt, true≢false}
 use Rattle.clr_rows.specs.declared.cells.CellId.{CellId}
 use Rattle.clr_rows.specs.Cells.{cell_cmp}
 use Rattle.clr_rows.specs.Contents.{Changes}
-use Rattle.clr_rows.proofs.CellOrder.{cell_cmp_total, cell_cmp_exact}
 use Rattle.clr_rows.proofs.ChangeLemmas.{tied_self}
 use Rattle.clr_rules.proofs.Elements.{Among, any_by}
 use Rattle.clr_versions.specs.declared.changers.Changers.{Changers}
-use Rattle.clr_versions.specs.Changers.{AreChangersAt, changers_at, changers_from, with_member, with_second}
+use Rattle.clr_versions.specs.Changers.{AreChangersAt, KeptChangers, are_same_keys, changers_at, changers_from, kept_at, key_of, with_member, with_second}
 use Rattle.clr_needs.specs.Members.{ChangesCell, IsFirstChanger, IsFound, NoneChanges, after_at, after_in, after_of, positions}
 use Rattle.clr_needs.specs.Settings.{first_changer}
 use Rattle.clr_versions.proofs.Searches.{found_is, none_behind, search, search_finds}
@@ -159,13 +156,30 @@ all_noted sets k found h q = elim (h.rest q) [
     by true changes left = absurd (left.1 changes)
     by false none left = changers_stay sets q k (found q) none left.0
 
+-- whether two cells have the same table and the same key
+abbrev pub is_cell : CellId → CellId → Bool
+is_cell p q = are_same_keys (key_of p) (key_of q)
+
+is_cell_tells : (p q : CellId) → Decides (is_cell p q) ((p.table ≡ q.table) × (p.key ≡ q.key))
+is_cell_tells p q = Decides-and (p.table == q.table) (int_eq p.key q.key) (Decides-eqb p.table q.table) (Decides-int_eq p.key q.key)
+
+one_cell : (p q : CellId) → is_cell p q ≡ true → p ≡ q
+one_cell p q h =
+    let same = (is_cell_tells p q).0 h in
+    ap (λ t. let c : CellId = record { table = t; key = p.key } in c) same.0 ∙ ap (λ k. let c : CellId = record { table = q.table; key = k } in c) same.1
+
+-- what is found by the key of a cell is what is kept there
+pub found_at : (changers : KeptChangers) (q : CellId) (key : ℕ × ℤ) (x : Option Changers) → key ≡ key_of q → x ≡ get are_same_keys changers key
+    → x ≡ kept_at changers q
+found_at changers q key x is h = h ∙ ap (get are_same_keys changers) is
+
 -- one more of its cells
 pub noting_further : (sets : List Changes) (k : ℕ) (p : CellId) (left : List CellId) (found next : Found)
-    → ((q : CellId) → next q ≡ (if is_at (cell_cmp p) q then Some (with_member (found p) k) else found q))
+    → ((q : CellId) → next q ≡ (if is_cell p q then Some (with_member (found p) k) else found q))
     → IsNoting sets k found (p ∷ left) → IsNoting sets k next left
 noting_further sets k p left found next is h = record {
   changed = λ q among. h.changed q (inr among);
-  rest = λ q. by q (is_at (cell_cmp p) q) refl;
+  rest = λ q. by q (is_cell p q) refl;
 }
   where
     either : (q : CellId) → AreBeforeOrNoted sets q k (found q)
@@ -184,12 +198,12 @@ noting_further sets k p left found next is h = record {
           [ inl tied ↦ absurd (apart tied) | inr among ↦ among ],
     )
 
-    by : (q : CellId) (b : Bool) → is_at (cell_cmp p) q ≡ b → AreChangersAt sets (k + 1) q (next q)
+    by : (q : CellId) (b : Bool) → is_cell p q ≡ b → AreChangersAt sets (k + 1) q (next q)
         ⊎ (AreChangersAt sets k q (next q) × (ChangesCell sets q k → Among q left))
     by q true tied =
-        let same : p ≡ q = cell_cmp_exact p q ((Equal-is (cell_cmp p q)).0 tied) in
+        let same : p ≡ q = one_cell p q tied in
         inl (subst (AreChangersAt sets (k + 1) q) (sym (is q ∙ ap (λ b. cond b (Some (with_member (found p) k)) (found q)) tied))
         (subst (λ z. AreChangersAt sets (k + 1) z (Some (with_member (found p) k))) same here))
     by q false untied =
-        other q (λ same. true≢false (sym ((Equal-is (cell_cmp p q)).1 (subst (λ z. cell_cmp p z ≡ Equal) same (tied_itself cell_cmp_total p))) ∙ untied))
+        other q (λ same. true≢false (sym ((is_cell_tells p q).1 (ap (λ (z : CellId). z.table) same, ap (λ (z : CellId). z.key) same)) ∙ untied))
         (is q ∙ ap (λ b. cond b (Some (with_member (found p) k)) (found q)) untied) (h.rest q)

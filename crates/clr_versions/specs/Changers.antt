@@ -1,8 +1,10 @@
 -- The first two members that change a cell, as they are found one member after another.
-use Rattle.std.specs.Prelude.{ℕ, ◌+◌, ◌==◌, ◌-◌, List, Option, Some, None, length, if◌then◌else◌}
-use Rattle.std.specs.BTreeMap.{BTreeMap, get}
+use Rattle.std.specs.Prelude.{ℕ, ℤ, Bool, ◌+◌, ◌==◌, ◌-◌, ◌&&◌, List, Option, Some, None, length, if◌then◌else◌}
+use Rattle.std.specs.HashMap.{HashMap, get}
 use Rattle.std.specs.List.{range_with_len}
-use Rattle.std.specs.Ordering.{is_lt}
+use Rattle.std.specs.declared.hash.BuildHasherDefault.{BuildHasherDefault}
+use Rattle.std.specs.declared.hash.FoldHasher.{FoldHasher}
+use Rattle.std.specs.Ordering.{int_eq, is_lt}
 use Rattle.clr_rows.specs.declared.cells.CellId.{CellId}
 use Rattle.clr_rows.specs.Cells.{cell_cmp}
 use Rattle.clr_rows.specs.Contents.{Changes}
@@ -16,9 +18,25 @@ abbrev pub AreChangersAt : List Changes → ℕ → CellId → Option Changers �
 AreChangersAt sets end q None = NoneChanges sets q 0 end
 AreChangersAt sets end q (Some c) = IsFirstChanger sets q 0 end c.first × IsFound sets q (c.first + 1) end c.second
 
+-- the table and the key of a cell
+abbrev pub key_of : CellId → ℕ × ℤ
+key_of q = (q.table, q.key)
+
+-- whether two pairs of a table and a key are of one cell
+abbrev pub are_same_keys : ℕ × ℤ → ℕ × ℤ → Bool
+are_same_keys a b = (a.0 == b.0) && int_eq a.1 b.1
+
+-- changers by the table and the key of their cell
+abbrev pub KeptChangers : Type 0
+KeptChangers = HashMap (ℕ × ℤ) Changers (BuildHasherDefault FoldHasher)
+
+-- the changers that are kept for a cell
+abbrev pub kept_at : KeptChangers → CellId → Option Changers
+kept_at changers q = get are_same_keys changers (key_of q)
+
 -- the changers of each cell, among the members below a number
-abbrev pub AreChangersBelow : List Changes → ℕ → BTreeMap CellId Changers → Type 0
-AreChangersBelow sets end changers = (q : CellId) → AreChangersAt sets end q (get cell_cmp changers q)
+abbrev pub AreChangersBelow : List Changes → ℕ → KeptChangers → Type 0
+AreChangersBelow sets end changers = (q : CellId) → AreChangersAt sets end q (kept_at changers q)
 
 -- the first member of all that changes the cell and the next one
 abbrev pub changers_from : List Changes → CellId → Option ℕ → Option Changers

@@ -7,7 +7,7 @@ ghost use Rattle.clr_versions.specs.Versions.{row_of};
 use crate::versions::Version;
 use clr_rules::{Rule, RuleBook};
 
-/// Whether a rule is asked of two rows.
+/// Returns whether a rule is asked of two rows.
 fn is_of_two(rule: &Rule) -> bool
     ensures { result ≡ is_of_two rule.now }
 {

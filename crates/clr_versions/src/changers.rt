@@ -2,12 +2,12 @@
 
 ghost use Rattle.std.specs.Prelude.{◌≤◌, ◌<◌, ◌+◌, ◌≡◌, length, map, IfOk, OnOk};
 ghost use Rattle.clr_needs.specs.declared.limits.TheConstants.{MOST_MEMBERS};
-ghost use Rattle.clr_versions.specs.Changers.{AreChangersBelow, with_member};
+ghost use Rattle.clr_versions.specs.Changers.{AreChangersBelow, key_of, with_member};
 
 use clr_change::ChangeSet;
 use clr_rows::CellId;
 use std::alloc::{AllocError, Global};
-use std::collections::BTreeMap;
+use std::collections::HashMap;
 
 /// The first member that changes a cell, and the second, if two do.
 #[derive(Clone, Copy, Debug)]
@@ -16,7 +16,14 @@ pub(crate) struct Changers {
     pub(crate) second: Option<u16>,
 }
 
-/// The changers of a cell that one more member changes, behind those that were found.
+/// Returns the table and the key of a cell.
+pub(crate) fn key_of(cell: CellId) -> (u16, i64)
+    ensures { result ≡ key_of cell }
+{
+    (cell.table, cell.key)
+}
+
+/// Returns the changers of a cell that one more member changes, behind those that were found.
 fn with_member(found: Option<Changers>, position: u16) -> Changers
     ensures { result ≡ with_member found position }
 {
@@ -38,11 +45,11 @@ fn with_member(found: Option<Changers>, position: u16) -> Changers
     }
 }
 
-/// Notes a member at each cell that it changes.
+/// Notes a member at each cell that it changes. Cells are told apart by table and key.
 fn note_member(
     sets: &[&ChangeSet],
     position: usize,
-    changers: &mut BTreeMap<CellId, Changers>,
+    changers: &mut HashMap<(u16, i64), Changers>,
 ) -> Result<(), AllocError>
     requires few { length sets.now ≤ MOST_MEMBERS }
     requires within { position < length sets.now }
@@ -50,21 +57,22 @@ fn note_member(
     ensures { OnOk result (AreChangersBelow (map (λ s. s.now) sets.now) (position + 1) changers.new) }
 {
     for (cell, _) in sets[position].iter() {
-        let noted = with_member(changers.get(cell).copied(), position as u16);
-        changers.insert(*cell, noted)?;
+        let key = key_of(*cell);
+        let noted = with_member(changers.get(&key).copied(), position as u16);
+        changers.insert(key, noted)?;
     }
     Ok(())
 }
 
-/// The first two members that change each cell.
+/// Returns the first two members that change each cell.
 pub(crate) fn changers_of(
     alloc: Global,
     sets: &[&ChangeSet],
-) -> Result<BTreeMap<CellId, Changers>, AllocError>
+) -> Result<HashMap<(u16, i64), Changers>, AllocError>
     requires few { length sets.now ≤ MOST_MEMBERS }
     ensures { IfOk result (λ changers. AreChangersBelow (map (λ s. s.now) sets.now) (length sets.now) changers) }
 {
-    let mut changers = BTreeMap::new(alloc);
+    let mut changers = HashMap::new(alloc);
     for position in 0..sets.len() {
         note_member(sets, position, &mut changers)?;
     }

@@ -1,34 +1,32 @@
 //! Members: change sets, the cells that they change, and which of them change each.
 
 ghost use Rattle.std.specs.Prelude.{◌≡◌, ◌<◌, ◌≤◌, ◌++◌, true, Some, None, length, map, IfOk, IfSome, MatchOption, OnErr, OnOk};
-ghost use Rattle.std.specs.BTreeMap.{get};
 ghost use Rattle.std.specs.FinMap as finite;
-ghost use Rattle.clr_rows.specs.Cells.{cell_cmp};
 ghost use Rattle.clr_rows.specs.declared.cells.CellId.{CellId as Cell};
 ghost use Rattle.clr_needs.specs.declared.limits.TheConstants.{MOST_MEMBERS};
 ghost use Rattle.clr_rows.specs.Beginnings.{IsBegun};
 ghost use Rattle.clr_needs.specs.Members.{AreApart, AreFirstTwo, IsApart, IsLeastShared, after_of, changed_cells, positions};
-ghost use Rattle.clr_versions.specs.Changers.{changers_at, lesser};
+ghost use Rattle.clr_versions.specs.Changers.{changers_at, kept_at, lesser};
 ghost use Rattle.clr_needs.specs.Settings.{first_changer};
 ghost use Rattle.clr_versions.specs.Versions.{new_version_at, row_and_life, version_of};
 
-use crate::changers::{Changers, changers_of};
+use crate::changers::{Changers, changers_of, key_of};
 use crate::versions::Version;
 use clr_change::ChangeSet;
 use clr_needs::{Life, SharedCell, VersionId};
 use clr_rows::CellId;
 use std::alloc::{AllocError, Global};
-use std::collections::BTreeMap;
+use std::collections::HashMap;
 
 /// Change sets, the cells that they change, one set after another, and the first two that change each.
 #[derive(Drop)]
 pub struct Members<'a> {
     pub sets: Vec<&'a ChangeSet>,
     pub cells: Vec<CellId>,
-    changers: BTreeMap<CellId, Changers>,
+    changers: HashMap<(u16, i64), Changers>,
     pub ghost few: { length sets.items ≤ MOST_MEMBERS },
     pub ghost all: { cells.items ≡ changed_cells (map (λ s. s.now) sets.items) },
-    ghost changed_by: { (q : Cell) → get cell_cmp changers q ≡ changers_at (map (λ s. s.now) sets.items) q },
+    ghost changed_by: { (q : Cell) → kept_at changers q ≡ changers_at (map (λ s. s.now) sets.items) q },
 }
 
 /// Adds the cells that a change set changes to a list, ascending. If memory runs out, the list keeps what stood in it,
@@ -43,7 +41,7 @@ pub fn add_cells(set: &ChangeSet, cells: &mut Vec<CellId>) -> Result<(), AllocEr
     Ok(())
 }
 
-/// The cells that change sets change, one set after another.
+/// Returns the cells that change sets change, one set after another.
 fn changed_cells(alloc: Global, sets: &[&ChangeSet]) -> Result<Vec<CellId>, AllocError>
     ensures { IfOk result (λ cells. cells.items ≡ changed_cells (map (λ s. s.now) sets.now)) }
 {
@@ -54,7 +52,7 @@ fn changed_cells(alloc: Global, sets: &[&ChangeSet]) -> Result<Vec<CellId>, Allo
     Ok(cells)
 }
 
-/// The lesser of the cell that was found, if any, and one more.
+/// Returns the lesser of the cell that was found, if any, and one more.
 fn lesser(found: Option<SharedCell>, other: SharedCell) -> SharedCell
     ensures { result ≡ lesser found other }
 {
@@ -84,7 +82,7 @@ impl<'a> Members<'a> {
         ensures first { result ≡ first_changer (after_of (map (λ s. s.now) self.now.sets.items)) (positions (map (λ s. s.now) self.now.sets.items)) cell }
         ensures position { IfSome result (λ n. n < length self.now.sets.items) }
     {
-        let changers = self.changers.get(&cell)?;
+        let changers = self.changers.get(&key_of(cell))?;
         Some(changers.first)
     }
 
@@ -105,12 +103,12 @@ impl<'a> Members<'a> {
         }
     }
 
-    /// The first two members that change a cell, if two do.
+    /// Returns the first two members that change a cell, if two do.
     fn first_two(&self, cell: CellId) -> Option<(u16, u16)>
         ensures { MatchOption result (IsApart (map (λ s. s.now) self.now.sets.items) cell)
             (λ two. AreFirstTwo (map (λ s. s.now) self.now.sets.items) cell two.0 two.1) }
     {
-        let changers = self.changers.get(&cell)?;
+        let changers = self.changers.get(&key_of(cell))?;
         let second = changers.second?;
         Some((changers.first, second))
     }

@@ -11,7 +11,7 @@ use crate::versions::Version;
 use clr_needs::{Life, VersionId};
 use clr_rows::{CellId, Row, RowView};
 
-/// The old version of a cell, if the root has the row.
+/// Returns the old version of a cell, if the root has the row.
 fn old_version(cell: CellId, row: Option<&Row>, changer: Option<u16>) -> Option<Version<'_>>
     ensures { MatchOption result (option_copied row.entry ≡ None)
         (λ v. (v.id ≡ version_of false cell) × (old_version changer (option_copied row.entry) ≡ Some (row_and_life v))) }

@@ -14,7 +14,7 @@ use clr_rows::{Place, RowView, Shape};
 use clr_rules::{Rule, point_in};
 use clr_segments::{lies_on, part, parts};
 
-/// Whether a place is a point of a part, if there is one.
+/// Returns whether a place is a point of a part, if there is one.
 fn is_on_part(place: Place, part: Option<(Place, Place)>) -> bool
     requires place { InRange place }
     requires part { IfSome part IsSoundSegment }
@@ -26,7 +26,7 @@ fn is_on_part(place: Place, part: Option<(Place, Place)>) -> bool
     }
 }
 
-/// Whether a place is a point of some part of a shape.
+/// Returns whether a place is a point of some part of a shape.
 fn is_on_shape(place: Place, shape: &Shape) -> bool
     requires place { InRange place }
     requires sound { IsSoundShape shape.now }
@@ -40,7 +40,7 @@ fn is_on_shape(place: Place, shape: &Shape) -> bool
     false
 }
 
-/// Whether a shape is a point of some part of another one.
+/// Returns whether a shape is a point of some part of another one.
 fn lies_on_shape(server: &Shape, shape: &Shape) -> bool
     requires server { IsSoundShape server.now }
     requires shape { IsSoundShape shape.now }

@@ -34,7 +34,7 @@ impl<V: RowView> RootVersions<'_, '_, V> {
         }
     }
 
-    /// The least of some ascending versions that lives always, or as long as a subject of a
+    /// Returns the least of some ascending versions that lives always, or as long as a subject of a
     /// possible need.
     fn least_lasting(&self, need: &Need, ids: &[VersionId]) -> Option<VersionId>
         requires ascending { IsStrictlySortedBy version_cmp ids.now }
@@ -48,7 +48,7 @@ impl<V: RowView> RootVersions<'_, '_, V> {
         None
     }
 
-    /// The least of some ascending versions that a member takes away, and the least that it brings,
+    /// Returns the least of some ascending versions that a member takes away, and the least that it brings,
     /// where there are both.
     fn pair_of(&self, ids: &[VersionId], position: u16) -> Option<(VersionId, VersionId)>
         requires ascending { IsStrictlySortedBy version_cmp ids.now }
@@ -59,7 +59,7 @@ impl<V: RowView> RootVersions<'_, '_, V> {
         Some((taken, brought))
     }
 
-    /// The pair of the first member that takes one of some versions away and brings another.
+    /// Returns the pair of the first member that takes one of some versions away and brings another.
     fn first_pair(&self, ids: &[VersionId]) -> Option<(VersionId, VersionId)>
         requires ascending { IsStrictlySortedBy version_cmp ids.now }
         ensures { IsFirstPair (setting_in V.content self.now) ids.now (length self.now.members.now.sets.items) result }

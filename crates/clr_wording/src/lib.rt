@@ -1,8 +1,8 @@
 //! Rows, rules and places in words: what a work order says of them.
 //!
 //! Lengths and places are told in metres with three decimals, which is whole millimetres. Which words
-//! stand for what is tested. Proved is that each call is safe, ends and gives up for want of memory
-//! alone, and where two parts meet: a place that is told lies on both (`meet_parts` [`told`]).
+//! stand for what is tested. It is proved that each call is safe and ends,
+//! and where two parts meet: a place that is told lies on both (`meet_parts` [`told`]).
 #![tactic(auto)]
 
 mod lists;

@@ -1,7 +1,7 @@
 -- What trials leave, and what is told of them.
-use Rattle.std.proofs.Common.{◌≡◌, ◌∙◌, ◌++◌, ◌<◌, ◌∷◌, [], ℕ, zero, suc, Bool, List, Option, None, Some, true, false, ap, arith, inl, inr, length, subst, sym}
+use Rattle.std.proofs.Common.{◌≡◌, ◌∙◌, ◌++◌, ◌<◌, ◌∷◌, [], ℕ, Bool, List, Option, None, Some, true, false, ap, arith, inl, inr, length, subst, sym}
 use Rattle.std.specs.Prelude.{All, IfSome, slice_get}
-use Rattle.std.proofs.lemmas.List.Elements.{All-append}
+use Rattle.std.proofs.lemmas.List.Elements.{All-push}
 use Rattle.clr_change.specs.declared.edits.Edit.{Edit}
 use Rattle.clr_workspaces.specs.Marks.{Name}
 use Rattle.clr_workspaces.specs.Workspaces.{live_workspace}
@@ -60,17 +60,13 @@ undone o c reply left is other = by (is_lost reply) is
 
 -- one more trial -----------------------------------------------------------------------------------
 
-one : {X : Type 0} (P : X → Type 0) (x : X) → P x → All P (x ∷ [])
-one P x p zero d less = p
-one P x p (suc k) d less = absurd (omega (arith, less))
-
 pub more_trials : (o now left : Office) (s : Site) (old new : List Trial) → All (IsTrial o s) old × (now ≡ o)
     → AddsTrial now s old new → left ≡ now → All (IsTrial o s) new × (left ≡ o)
 more_trials o now left s old new (all, e) added back = (by (subst (λ (x : Office). AddsTrial x s old new) e added), back ∙ e)
   where
     by : AddsTrial o s old new → All (IsTrial o s) new
     by (inl unchanged) = subst (All (IsTrial o s)) (sym unchanged) all
-    by (inr (trial, is, more)) = subst (All (IsTrial o s)) (sym more) (All-append (IsTrial o s) old (trial ∷ []) all (one (IsTrial o s) trial is))
+    by (inr (trial, is, more)) = subst (All (IsTrial o s)) (sym more) (All-push (IsTrial o s) old trial all is)
 
 pub no_trials : (o : Office) (s : Site) (trials : List Trial) → trials ≡ [] → All (IsTrial o s) trials
 no_trials o s trials e = subst (All (IsTrial o s)) (sym e) (λ k d less. absurd (omega (arith, less)))

@@ -26,8 +26,7 @@ pub struct Trial {
     pub is_cleared: bool,
 }
 
-/// Returns whether members are cleared, as `plan` answers. Fails for want of memory alone, also where
-/// the plan found none.
+/// Returns whether members are cleared, as `plan` answers. Where the plan has no memory, this call fails too.
 fn are_cleared(
     alloc: Global,
     office: &Office,
@@ -141,7 +140,7 @@ fn judge_edit(
 }
 
 /// Tries an edit of one of the members behind a savepoint: whether the members are cleared with it, or none
-/// where it can't be made. The office is as before, but where it fails, which is for want of memory.
+/// where it can't be made. The office is as before, unless memory runs out.
 fn try_edit(
     alloc: Global,
     office: &mut Office,
@@ -178,7 +177,7 @@ fn names_without<'a>(
 }
 
 /// Tries an action: whether the members are cleared with it, or none where it can't be tried. The office is
-/// as before, but where it fails, which is for want of memory.
+/// as before, unless memory runs out.
 fn try_action(
     alloc: Global,
     office: &mut Office,
@@ -203,8 +202,7 @@ fn try_action(
     }
 }
 
-/// Tries a remedy, and adds what is told of it, if it can be tried. The office is as before, but where it
-/// fails, which is for want of memory.
+/// Tries a remedy, and adds what is told of it, if it can be tried. The office is as before, unless memory runs out.
 fn add_trial(
     alloc: Global,
     office: &mut Office,
@@ -245,7 +243,7 @@ fn try_all(
 /// Tries what may clear members of a root that this plan says are blocked, each remedy by itself, and returns what `plan` answers of each;
 /// nothing is tried of any other plan. A remedy is a member left out, or a row brought or given up. One that can't be tried isn't
 /// told, nor is an edit in a workspace that has a savepoint `before_trial` or as many savepoints as there may be. The office is left as it
-/// was, but where it fails, which is for want of memory.
+/// was, unless memory runs out.
 pub fn try_remedies(
     alloc: Global,
     office: &mut Office,

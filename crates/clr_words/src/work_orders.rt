@@ -61,7 +61,7 @@ fn order_text(
 /// name is unfit what is wrong with it. Then come the remedies that were tried, each by itself, with what
 /// `plan` answers of it, the cleared ones first: a member left out, a row brought or given up. Behind an empty
 /// line stand the lines of the plan. Lengths and places are told in metres, with three decimals. The office is
-/// left as it was, but where it fails, which is for want of memory. A remedy that can't be tried isn't told, nor
+/// left as it was, unless memory runs out. A remedy that can't be tried isn't told, nor
 /// is an edit in a workspace that has a savepoint `before_trial` or as many savepoints as there may be.
 pub fn work_order(
     alloc: Global,

@@ -1,6 +1,6 @@
 -- A leaf goes, and the positions after it close up.
 use Rattle.std.proofs.Common.{◌≡◌, ℕ, suc, zero, ◌+◌, ◌-◌, ◌<◌, ◌≤◌, ◌≢◌, Bool, true, false, cond, not, nat_lt, List, [], ◌∷◌, length, get_or, Some, refl, ap}
-use Rattle.std.proofs.Common.{sym, ◌∙◌, arith, remove}
+use Rattle.std.proofs.Common.{sym, ◌∙◌, arith, map, remove}
 use Rattle.std.proofs.lemmas.List.Edits.{length-remove, get_or-remove_below, get_or-remove_above}
 use Rattle.std.proofs.lemmas.Grind.{common_steps}
 use Rattle.std.proofs.lemmas.Bool.{false≢true}
@@ -23,6 +23,12 @@ opened at i = cond (nat_lt i at) i (i + 1)
 
 pub closed_at : ℕ → ℕ → ℕ
 closed_at at i = cond (nat_lt at i) (i - 1) i
+
+pub map_remove : {A B : Type 0} (f : A → B) (xs : List A) (at : ℕ) → map f (remove xs at) ≡ remove (map f xs) at
+map_remove f [] zero = refl
+map_remove f [] (suc at) = refl
+map_remove f (x ∷ xs) zero = refl
+map_remove f (x ∷ xs) (suc at) = ap (λ ys. f x ∷ ys) (map_remove f xs at)
 
 pub read_removed : {X : Type 0} (xs : List X) (at i : ℕ) (d : X) → at < length xs → get_or (remove xs at) i d ≡ get_or xs (opened at i) d
 unfolding opened

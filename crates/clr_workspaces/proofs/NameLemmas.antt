@@ -4,7 +4,7 @@ use Rattle.std.proofs.Common.{drop, Some, None, refl, ap, sym, ◌∙◌, arith,
 use Rattle.std.specs.List.{list_all, list_any, position_or_len}
 use Rattle.std.specs.Str.{bytes_eq}
 use Rattle.std.proofs.lemmas.Grind.{common_steps}
-use Rattle.std.proofs.lemmas.Bool.{false≢true, ltb-false, and_parts, or_parts}
+use Rattle.std.proofs.lemmas.Bool.{false≢true, le-leb, ltb-false, and_parts, or_parts}
 use Rattle.std.proofs.lemmas.Option.{none-some}
 use Rattle.clr_rows.specs.Contents.{Content}
 use Rattle.clr_rows.specs.Names.{is_good_name}
@@ -65,9 +65,6 @@ record AreGood (names : List Name) : Type 0 where
 at_most : (a b : ℕ) → nat_le a b ≡ true → a ≤ b
 at_most a b e = grind (arith, common_steps)
 
-at_most_is : (a b : ℕ) → a ≤ b → nat_le a b ≡ true
-at_most_is a b le = grind (arith, common_steps)
-
 split_good : (names : List Name) → are_good_savepoints names ≡ true → AreGood names
 split_good names e = by (list_all is_good_name names) (are_distinct names) (nat_le (length names) MOST_SAVEPOINTS) refl refl refl e
   where
@@ -79,7 +76,7 @@ split_good names e = by (list_all is_good_name names) (are_distinct names) (nat_
     by false b c ea eb ec e = absurd (cc)
 
 join_good : (names : List Name) → AreGood names → are_good_savepoints names ≡ true
-join_good names g = rw (g.good, g.distinct, at_most_is (length names) MOST_SAVEPOINTS g.few) refl
+join_good names g = rw (g.good, g.distinct, le-leb (length names) MOST_SAVEPOINTS g.few) refl
 
 good_part : (xs ys : List Name) → IsSubsequence xs ys → are_good_savepoints ys ≡ true → are_good_savepoints xs ≡ true
 good_part xs ys part e =
@@ -201,6 +198,11 @@ not_among name (Saved other content ∷ ms) le = by (bytes_eq name other) le (λ
     by true le rest = absurd (omega arith)
     by false le rest = rest (omega arith)
 not_among name (ChildMark other ∷ ms) le = not_among name ms (omega arith)
+
+-- what has the name of a savepoint is one
+pub saved_as : (name : Name) (mark : Mark) → is_saved_as name mark ≡ true → is_saved mark ≡ true
+saved_as name (Saved other content) e = refl
+saved_as name (ChildMark other) e = absurd (cc)
 
 -- a name that no savepoint has
 pub absent_name : (ms : List Mark) (name : Name) → find_mark ms name ≡ None → list_any (bytes_eq name) (saved_names ms) ≡ false

@@ -48,20 +48,6 @@ fn has_coordinates(shape: &Shape) -> bool
     }
 }
 
-/// Returns whether a key and the coordinates of a shape are in range.
-fn is_within(key: i64, shape: &Shape) -> bool
-    ensures { result ≡ (is_key key && has_coordinates shape.now) }
-{
-    is_key(key) && has_coordinates(shape)
-}
-
-/// Returns whether two places are one.
-fn are_one(first: &Place, second: &Place) -> bool
-    ensures { result ≡ same_place first.now second.now }
-{
-    first.x == second.x && first.y == second.y
-}
-
 /// Returns whether a vertex equals the next one.
 fn have_repeat(vertices: &[Place]) -> bool
     ensures { result ≡ list_any (λ part. same_place part.0 part.1) (path_parts vertices.now) }
@@ -69,7 +55,7 @@ fn have_repeat(vertices: &[Place]) -> bool
     vertices
         .iter()
         .zip(vertices.iter().skip(1))
-        .any(|(first, second)| are_one(first, second))
+        .any(|(first, second)| first.same(second))
 }
 
 /// Returns whether a part of the shape ends where it begins.
@@ -79,7 +65,7 @@ fn has_zero_part(shape: &Shape) -> bool
     match shape {
         Shape::Bare => false,
         Shape::At(_) => false,
-        Shape::Line(first, second) => are_one(first, second),
+        Shape::Line(first, second) => first.same(second),
         Shape::Chain(vertices) => have_repeat(vertices.as_slice()),
     }
 }
@@ -160,7 +146,7 @@ pub(super) fn check_row(table: &TableDef, cell: CellId, row: &Row) -> Result<(),
         Err(RowFault::WordsTooLong)
     } else if !is_of_form(table.shape, &row.shape) {
         Err(RowFault::WrongShape)
-    } else if !is_within(cell.key, &row.shape) {
+    } else if !(is_key(cell.key) && has_coordinates(&row.shape)) {
         Err(RowFault::OutOfRange)
     } else if has_zero_part(&row.shape) {
         Err(RowFault::ZeroSegment)

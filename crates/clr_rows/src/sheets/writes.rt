@@ -3,7 +3,7 @@
 ghost use Rattle.std.specs.Prelude.{◌≡◌, true, is_some, IfOk, OnOk, OnErr};
 ghost use Rattle.std.specs.FinMap as finite;
 ghost use Rattle.clr_rows.specs.Contents.{row_at, no_rows, over, set_cell};
-ghost use Rattle.clr_rows.specs.Sheets.{named_cells, missing, with_none, with_placeholders, with_rows};
+ghost use Rattle.clr_rows.specs.Sheets.{named_cells, cells_without_rows, with_none, with_placeholders, with_rows};
 ghost use Rattle.clr_rows.specs.declared.cells.CellId.{CellId as Cell};
 
 use crate::cells::CellId;
@@ -35,8 +35,8 @@ fn prepare(
     cells: Vec<(CellId, Option<Row>)>,
 ) -> Result<(Sheet, Vec<CellId>), AllocError>
     ensures last { IfOk result (λ made. made.0 ≡ over no_rows cells.items) }
-    ensures cleared { IfOk result (λ made. made.1.items ≡ missing made.0 (named_cells cells.items)) }
-    ensures room { OnOk result (sheet.new ≡ over sheet.old (with_placeholders (missing sheet.old (named_cells cells.items)))) }
+    ensures cleared { IfOk result (λ made. made.1.items ≡ cells_without_rows made.0 (named_cells cells.items)) }
+    ensures room { OnOk result (sheet.new ≡ over sheet.old (with_placeholders (cells_without_rows sheet.old (named_cells cells.items)))) }
     ensures err { OnErr result (sheet.new ≡ sheet.old) }
 {
     let alloc: Global = *cells.allocator();
@@ -89,7 +89,7 @@ fn set(sheet: &mut Sheet, cell: CellId, row: Option<Row>) -> Result<(), AllocErr
 
 /// Returns those of some cells that have no row.
 fn list_missing(alloc: Global, sheet: &Sheet, cells: &[CellId]) -> Result<Vec<CellId>, AllocError>
-    ensures { IfOk result (λ list. list.items ≡ missing sheet.now cells.now) }
+    ensures { IfOk result (λ list. list.items ≡ cells_without_rows sheet.now cells.now) }
 {
     let mut list = Vec::new(alloc);
     for cell in cells {

@@ -8,7 +8,7 @@ const ROWS: u16 = 60;
 const HEAD: &str =
     r#"{"format":1,"tables":[{"name":"node","columns":[["n","INT"]],"shape":"POINT"}],"live":["#;
 
-/// An office text with many rows, of which this one has a text for its number.
+/// Returns an office text with many rows, of which this one has a text for its number.
 fn text_with(alloc: Global, bad: u16) -> Option<String> {
     let mut text = String::from_str(alloc, HEAD).ok()?;
     for row in 0..ROWS {
@@ -22,7 +22,7 @@ fn text_with(alloc: Global, bad: u16) -> Option<String> {
     Some(text)
 }
 
-/// Whether the fault of a text is at the row that has it.
+/// Returns whether the fault of a text is at the row that has it.
 fn is_at_row(alloc: Global, bad: u16) -> Option<bool> {
     let text = text_with(alloc, bad)?;
     let told = fault_text(alloc, text.as_str())?;

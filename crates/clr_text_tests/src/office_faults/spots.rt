@@ -5,7 +5,7 @@ use crate::questions::check_of;
 use clr_faults::find_fault;
 use std::alloc::Global;
 
-/// `fits`, or the fault of a text and the item that it is at.
+/// Returns `fits`, or the fault of a text and the item that it is at.
 pub(crate) fn fault_text(alloc: Global, text: &str) -> Option<String> {
     match find_fault(alloc, text.as_bytes()).ok()? {
         Some(found) => format!(in alloc; "{:?} {:?}", found.fault, found.spot).ok(),
@@ -13,13 +13,13 @@ pub(crate) fn fault_text(alloc: Global, text: &str) -> Option<String> {
     }
 }
 
-/// The office text with another part in place of one that stands in it.
+/// Returns the office text with another part in place of one that stands in it.
 fn edited(alloc: Global, part: &str, other: &str) -> Option<String> {
     let (before, behind) = OFFICE.split_once(part)?;
     format!(in alloc; "{before}{other}{behind}").ok()
 }
 
-/// The fault that an edit puts into the text, which has what stands there and what is to.
+/// Returns the fault that an edit puts into the text, which has what stands there and what is to.
 pub(crate) fn answer(alloc: Global, edit: &str) -> Option<String> {
     let (part, other) = edit.split_once(" ~ ")?;
     let text = edited(alloc, part, other)?;

@@ -32,7 +32,7 @@ const PARTS: &str =
 /// A workspace up to what stands behind its name and parent.
 const PART: &str = r#"{"name":"W1","parent":"LIVE","#;
 
-/// A text as often as a number says, with another between.
+/// Returns a text as often as a number says, with another between.
 fn repeat(alloc: Global, part: &str, between: &str, times: &str) -> Option<String> {
     let mut text = String::new(alloc);
     for n in 0..times.parse::<u16>().ok()? {
@@ -42,12 +42,12 @@ fn repeat(alloc: Global, part: &str, between: &str, times: &str) -> Option<Strin
     Some(text)
 }
 
-/// An office text with these cells in LIVE, and then more keys.
+/// Returns an office text with these cells in LIVE, and then more keys.
 fn with_cells(alloc: Global, cells: &str, more: &str) -> Option<String> {
     format!(in alloc; "{NODES}{cells}]{more}}}").ok()
 }
 
-/// An office text with an unknown key whose value has so many lists within one another.
+/// Returns an office text with an unknown key whose value has so many lists within one another.
 fn with_lists(alloc: Global, levels: &str) -> Option<String> {
     let (open, close) = (
         repeat(alloc, "[", "", levels)?,
@@ -57,19 +57,19 @@ fn with_lists(alloc: Global, levels: &str) -> Option<String> {
     with_cells(alloc, "", more.as_str())
 }
 
-/// An office text with these rules.
+/// Returns an office text with these rules.
 fn with_rules(alloc: Global, rules: &str) -> Option<String> {
     format!(in alloc; "{TABLES}{rules}]}}").ok()
 }
 
-/// An office text with a cell of this table, and so many coordinates, which are 0 and 1 in turn.
+/// Returns an office text with a cell of this table, and so many coordinates, which are 0 and 1 in turn.
 pub(super) fn with_path(alloc: Global, table: &str, count: &str) -> Option<String> {
     let coordinates = coordinates(alloc, count)?;
     let list = coordinates.as_str().strip_prefix(",").unwrap_or("");
     format!(in alloc; r#"{ROUTES}{{"t":"{table}","k":5,"v":["R"],"s":[{list}]}}]}}"#).ok()
 }
 
-/// An office text of a format with a workspace.
+/// Returns an office text of a format with a workspace.
 fn with_part(alloc: Global, format: &str, part: &str) -> Option<String> {
     format!(in alloc; r#"{{"format":{format},{PARTS}{PART}{part}}}]}}"#).ok()
 }
@@ -93,7 +93,7 @@ fn office_text(alloc: Global, word: &str, part: &str) -> Option<String> {
     }
 }
 
-/// `fits`, or why the office text of a word and a part is refused.
+/// Returns `fits`, or why the office text of a word and a part is refused.
 pub(super) fn fault_answer(alloc: Global, word: &str, part: &str) -> Option<String> {
     let text = office_text(alloc, word, part)?;
     match read_office(alloc, text.as_str().as_bytes()) {
@@ -136,7 +136,7 @@ fn bytes_that_are_no_json(rt: HostRuntime) {
     assert!(rt; read_office(rt.alloc(), marked.as_bytes()).err() == Some(TextFault::NotJson));
 }
 
-/// How many workspaces a text has whose flag stands behind its format, and whether the first is kept; or why it is refused.
+/// Returns how many workspaces a text has whose flag stands behind its format, and whether the first is kept; or why it is refused.
 pub(super) fn flag_answer(alloc: Global, case: &str) -> Option<String> {
     let (format, flag) = case.split_once(' ')?;
     let part = format!(in alloc; r#""kept":{flag}"#).ok()?;

@@ -21,7 +21,7 @@ table main => Some(1)
 table hydrant => Some(2)
 table pipe => None";
 
-/// The number of a table.
+/// Returns the number of a table.
 pub(super) fn table_text(alloc: Global, name: &str) -> Option<String> {
     let parts = read_office(alloc, NETWORK.as_bytes()).ok()?;
     format!(in alloc; "{:?}", parts.schema.table(name)).ok()
@@ -32,7 +32,7 @@ fn tables_in_order(rt: HostRuntime) {
     check(&rt, rt.alloc(), TABLES);
 }
 
-/// The rows of LIVE of the network, or of a text whose path has six coordinates.
+/// Returns the rows of LIVE of the network, or of a text whose path has six coordinates.
 pub(super) fn rows_text(alloc: Global, word: &str) -> Option<String> {
     let path = with_path(alloc, "route", "6")?;
     let text = if word == "network" {

@@ -28,7 +28,7 @@ rule 3 => Crossing { a: Side { table: 1, filter: List { list: [] } }, b: Side { 
 rule 4 => Near { a: Side { table: 2, filter: List { list: [] } }, b: Side { table: 0, filter: List { list: [] } }, d: 1000000 }
 rule 5 => None";
 
-/// The rule of a number.
+/// Returns the rule of a number.
 pub(super) fn rule_text(alloc: Global, number: &str) -> Option<String> {
     let parts = read_office(alloc, NETWORK.as_bytes()).ok()?;
     match parts.book.rules().get(number.parse::<usize>().ok()?) {

@@ -32,7 +32,7 @@ fn difference_text(alloc: Global, cell: CellId, row: Option<&Row>) -> Option<Str
     }
 }
 
-/// The differences by cell.
+/// Returns the differences by cell.
 fn differences_text(alloc: Global, differences: &Differences) -> Option<String> {
     let mut text = String::new(alloc);
     for (cell, row) in differences.rows().ok()?.as_slice() {
@@ -73,7 +73,7 @@ fn part_text(alloc: Global, part: &StoredPart) -> Option<String> {
     .ok()
 }
 
-/// The workspace of a number.
+/// Returns the workspace of a number.
 pub(super) fn workspace_text(alloc: Global, number: &str) -> Option<String> {
     let parts = read_office(alloc, NESTED.as_bytes()).ok()?;
     match parts.workspaces.get(number.parse::<usize>().ok()?) {

@@ -1,5 +1,5 @@
 use Rattle.std.proofs.lemmas.Result.{IfOk-weaker}
-use Rattle.clr_command_line.proofs.Subcommands.{next}
+use Rattle.clr_desk_command_line.proofs.Subcommands.{next}
 use Rattle.clr_desk_command_line.proofs.command.whole_command.Goals as goal
 
 pub returns : goal.returns

@@ -1,6 +1,7 @@
 use Rattle.std.proofs.lemmas.Bool.{both_ways}
 use Rattle.serde_json.specs.View.{view}
-use Rattle.clr_explanations.proofs.Values.{no_value, no_value_in, place_of_no_value, told_in, value_is}
+use Rattle.clr_faults.proofs.Values.{no_value}
+use Rattle.clr_explanations.proofs.Values.{no_value_in, place_of_no_value, told_in, value_is}
 use Rattle.clr_explanations.proofs.offices.remark_on.Goals as goal
 
 pub returns-in_ok-remark-in-Ok-clause-told : goal.returns-in_ok-remark-in-Ok-clause-told

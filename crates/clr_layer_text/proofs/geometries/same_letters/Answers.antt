@@ -1,14 +1,10 @@
-use Rattle.std.proofs.Common.{◌≡◌, Bool, true, false, refl, sym, map}
+use Rattle.std.proofs.Common.{map}
 use Rattle.std.specs.Char.{to_ascii_lowercase}
+use Rattle.std.specs.Cmp.{both_ways}
 use Rattle.std.proofs.lemmas.Slice.Eq.{bytes_eq-Decides}
 use Rattle.clr_layer_text.proofs.geometries.same_letters.Goals as goal
-
-both : (r q : Bool) → (r ≡ true → q ≡ true) → (q ≡ true → r ≡ true) → r ≡ q
-both true q to from = sym (to refl)
-both false true to from = from refl
-both false false to from = refl
 
 pub returns : goal.returns
 returns c =
     let same = bytes_eq-Decides (map to_ascii_lowercase c.args.word.now) (map to_ascii_lowercase c.args.other.now) in
-    both _ _ (λ e. same.1 (c.eq_ignore_ascii_case.ensures.test.0 e)) (λ e. c.eq_ignore_ascii_case.ensures.test.1 (same.0 e))
+    both_ways _ _ (λ e. same.1 (c.eq_ignore_ascii_case.ensures.test.0 e)) (λ e. c.eq_ignore_ascii_case.ensures.test.1 (same.0 e))

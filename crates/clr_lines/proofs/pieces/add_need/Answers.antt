@@ -1,11 +1,8 @@
-use Rattle.std.proofs.Common.{rules, ◌≡◌, ℕ, List, ◌++◌, codes, append_assoc, refl}
+use Rattle.std.proofs.Common.{rules, ◌≡◌, ◌++◌, codes, append_assoc, refl}
 use Rattle.std.specs.Fmt.{decimal}
 use Rattle.clr_lines.specs.Pieces.{second_text, subject_text}
-use Rattle.clr_rows.proofs.BeginningLaws.{begun_before, begun_behind, some_begun}
+use Rattle.clr_rows.proofs.BeginningLaws.{begun_before, begun_behind, four_pieces, some_begun}
 use Rattle.clr_lines.proofs.pieces.add_need.Goals as goal
-
-four_pieces : (a b c d : List ℕ) → a ++ b ++ c ++ d ≡ a ++ (b ++ c ++ d)
-four_pieces a b c d = simp append_assoc
 
 pub returns-in_err-extend_from_slice-2-clause-begun : goal.returns-in_err-extend_from_slice-2-clause-begun
 returns-in_err-extend_from_slice-2-clause-begun c =

@@ -11,7 +11,8 @@ use Rattle.clr_workspaces.specs.Roots.{IsRooted}
 use Rattle.clr_contents.specs.Lean.{IsLeanBut, StayOwnButNear}
 use Rattle.clr_workspaces.specs.Operations.{change_marks, own_changes, refresh}
 use Rattle.clr_workspaces.proofs.RootLemmas.{below_rooted}
-use Rattle.clr_operations.proofs.LeanLemmas.{among_neither, lean_refreshed, lean_still, no_entry}
+use Rattle.clr_contents.proofs.ComparedLemmas.{among_neither, no_entry}
+use Rattle.clr_operations.proofs.LeanLemmas.{lean_refreshed, lean_still}
 use Rattle.clr_layers.proofs.Answered.{either}
 use Rattle.clr_workspaces.proofs.RootLemmas.{rooted_set}
 use Rattle.clr_operations.proofs.operations.refresh.Goals as goal

@@ -10,7 +10,8 @@ use Rattle.clr_workspaces.specs.Operations.{change_marks, own_changes}
 use Rattle.clr_workspaces.specs.Workspaces.{workspace_at}
 use Rattle.clr_contents.specs.Lean.{StayOwnButNear}
 use Rattle.clr_contents.specs.Pinning.{StayOwnBut}
-use Rattle.clr_operations.proofs.LeanLemmas.{among_neither, but_mark_moved, near_children, near_none, near_restarted, no_entry}
+use Rattle.clr_contents.proofs.ComparedLemmas.{among_neither, no_entry}
+use Rattle.clr_operations.proofs.LeanLemmas.{but_mark_moved, near_children, near_none, near_restarted}
 use Rattle.std.proofs.lemmas.List.{length-set}
 use Rattle.clr_workspaces.specs.Roots.{IsRooted}
 use Rattle.clr_contents.proofs.PinLemmas.{children_keep}

@@ -14,7 +14,8 @@ use Rattle.clr_operations.proofs.OperationLemmas.{children_both, rolled, rolled_
 use Rattle.clr_contents.specs.Pinning.{StayOwnBut}
 use Rattle.clr_differences.specs.Differences.{is_among}
 use Rattle.std.proofs.lemmas.List.{length-set}
-use Rattle.clr_operations.proofs.LeanLemmas.{among_neither, but_rolled, near_children, near_own, no_entry}
+use Rattle.clr_contents.proofs.ComparedLemmas.{among_neither, no_entry}
+use Rattle.clr_operations.proofs.LeanLemmas.{but_rolled, near_children, near_own}
 use Rattle.clr_operations.proofs.operations.roll_back.Goals as goal
 
 pub roll_to-requires-clause-marked : goal.roll_to-requires-clause-marked

@@ -9,7 +9,8 @@ use Rattle.clr_workspaces.specs.Roots.{IsRooted}
 use Rattle.clr_contents.proofs.MarkLemmas.{length-marks, saved_within}
 use Rattle.clr_contents.specs.Lean.{IsLeanBut, StayOwnButNear}
 use Rattle.clr_workspaces.specs.Operations.{roll_to}
-use Rattle.clr_operations.proofs.LeanLemmas.{among_neither, lean_rolled, lean_still, no_entry}
+use Rattle.clr_contents.proofs.ComparedLemmas.{among_neither, no_entry}
+use Rattle.clr_operations.proofs.LeanLemmas.{lean_rolled, lean_still}
 use Rattle.clr_layers.proofs.Answered.{either}
 use Rattle.clr_workspaces.proofs.RootLemmas.{rooted_set}
 use Rattle.clr_operations.proofs.operations.roll_to.Goals as goal

@@ -1,5 +1,6 @@
-use Rattle.std.proofs.Common.{◌≡◌, ℕ, suc, ◌+◌, ◌<◌, ◌≤◌, true, false, nat_le, ◌&&◌, List, ◌∷◌, drop, refl, ap, sym, ◌∙◌, arith}
+use Rattle.std.proofs.Common.{◌≡◌, ℕ, suc, ◌+◌, ◌<◌, true, false, nat_le, ◌&&◌, List, ◌∷◌, drop, refl, ap, sym, ◌∙◌, arith}
 use Rattle.std.proofs.Math.Bool.{and-false}
+use Rattle.std.proofs.lemmas.Bool.{le-leb}
 use Rattle.std.proofs.lemmas.Grind.{common_steps}
 use Rattle.clr_rows.specs.Contents.{no_rows}
 use Rattle.clr_workspaces.specs.Marks.{saved_count}
@@ -12,9 +13,6 @@ use Rattle.clr_parts.proofs.part_checks.has_good_savepoints.Goals as goal
 
 too_many : (a b : ℕ) → b < a → nat_le a b ≡ false
 too_many a b lt = grind (arith, common_steps)
-
-within_few : (a b : ℕ) → a ≤ b → nat_le a b ≡ true
-within_few a b le = grind (arith, common_steps)
 
 pub loop-i-init : goal.loop-i-init
 loop-i-init c = refl
@@ -58,4 +56,4 @@ returns c =
     ∙ ap (λ (xs : List StoredMark). are_new (bare_marks xs)) (past_all ms c.loop-i.i (omega arith)) in
     let count = c.count_saved.ensures ∙ sym (saved_as_stored no_rows ms) in
     let few = c.if-count_saved-gt-MOST_SAVEPOINTS.false in
-    sym (good_from (bare_marks ms) ∙ (λ i. all i && within_few (saved_count (bare_marks ms)) MOST_SAVEPOINTS (omega (arith, count, few)) i))
+    sym (good_from (bare_marks ms) ∙ (λ i. all i && le-leb (saved_count (bare_marks ms)) MOST_SAVEPOINTS (omega (arith, count, few)) i))

@@ -1,13 +1,10 @@
-use Rattle.std.proofs.Common.{◌≡◌, ℕ, true, List, [], Option, None, Some, refl, sym}
+use Rattle.std.proofs.Common.{◌≡◌, ℕ, true, List, [], Option, None, Some, sym}
 use Rattle.std.specs.Prelude.{IfSome}
 use Rattle.std.proofs.lemmas.List.Quantifiers.{position-Some}
-use Rattle.clr_workspaces.specs.Marks.{Name, Mark, Saved, ChildMark, is_saved, is_saved_as, find_mark, mark_at}
+use Rattle.clr_workspaces.specs.Marks.{Name, Mark, ChildMark, is_saved, is_saved_as, find_mark, mark_at}
 use Rattle.clr_workspaces.specs.Workspaces.{workspace_at}
+use Rattle.clr_workspaces.proofs.NameLemmas.{saved_as}
 use Rattle.clr_tree_test_kit.proofs.deeds.find_savepoint.Goals as goal
-
-saved_as : (name : Name) (mark : Mark) → is_saved_as name mark ≡ true → is_saved mark ≡ true
-saved_as name (Saved other content) e = refl
-saved_as name (ChildMark other) e = absurd (cc)
 
 found_saved : (marks : List Mark) (name : Name) (found : Option ℕ) → found ≡ find_mark marks name → IfSome found (λ mark. is_saved (mark_at marks mark) ≡ true)
 found_saved marks name None e = tt

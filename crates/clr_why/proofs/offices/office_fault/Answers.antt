@@ -1,14 +1,15 @@
 use Rattle.std.proofs.Common.{◌≡◌, Err, inl}
+use Rattle.std.specs.Prelude.{⊤}
+use Rattle.std.proofs.lemmas.Option.{MatchOption-at_some}
 use Rattle.clr_office_text.specs.Offices.{office_in}
 use Rattle.clr_explanations.specs.Remarks.{IsOfficeRemark}
 use Rattle.clr_why.proofs.DraftLemmas.{no_draft}
-use Rattle.clr_why.proofs.FoundLemmas.{of_found}
 use Rattle.clr_why.proofs.offices.office_fault.Goals as goal
 
 pub returns-in-Some-clause-told : goal.returns-in-Some-clause-told
 returns-in-Some-clause-told c =
     let text = c.args.text.now in
     let found = c.in-Some.found in
-    let told = of_found c.in_ok-found.field-0 found (λ f. office_in text ≡ Err f.fault) c.in-Some.is c.in_ok-found.ensures.told in
-    let remark = of_found c.in_ok-found.field-0 found (λ f. IsOfficeRemark text f.fault f.remark) c.in-Some.is c.in_ok-found.ensures.at in
+    let told = MatchOption-at_some ⊤ (λ f. office_in text ≡ Err f.fault) found c.in-Some.is c.in_ok-found.ensures.told in
+    let remark = MatchOption-at_some ⊤ (λ f. IsOfficeRemark text f.fault f.remark) found c.in-Some.is c.in_ok-found.ensures.at in
     (no_draft text found.fault told, inl remark)

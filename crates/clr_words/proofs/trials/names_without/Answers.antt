@@ -1,5 +1,5 @@
 use Rattle.std.proofs.Common.{◌∙◌, ap, map, remove}
-use Rattle.clr_words.proofs.Lists.{map_remove}
+use Rattle.clr_workspaces.proofs.LeafLemmas.{map_remove}
 use Rattle.clr_words.proofs.trials.names_without.Goals as goal
 
 pub returns : goal.returns

@@ -4,7 +4,7 @@ use Rattle.clr_rows.specs.declared.cells.Held.{Held as Borrowed}
 use Rattle.clr_rows.specs.Held.{held_of}
 use Rattle.clr_rules.proofs.Elements.{Among, among, contained, among_either}
 use Rattle.clr_audit.specs.Searches.{IsOfRow, IsOfRule}
-use Rattle.clr_audit.proofs.Beginnings.{on_err}
+use Rattle.clr_rows.proofs.BeginningLaws.{on_err}
 use Rattle.clr_audit.proofs.FitLaws.{rows_more}
 use Rattle.clr_audit.proofs.Gaining.{gains_more, gains_less, gains_until}
 use Rattle.clr_audit.proofs.searching.Search.add_all.Goals as goal

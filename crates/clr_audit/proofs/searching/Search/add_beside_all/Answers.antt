@@ -1,6 +1,7 @@
 use Rattle.clr_rows.specs.Held.{held_of}
 use Rattle.clr_audit.specs.Searches.{need_beside}
-use Rattle.clr_audit.proofs.Beginnings.{flat_begun, on_err}
+use Rattle.clr_audit.proofs.Beginnings.{flat_begun}
+use Rattle.clr_rows.proofs.BeginningLaws.{on_err}
 use Rattle.clr_audit.proofs.searching.Search.add_beside_all.Goals as goal
 
 pub returns-in_err-add_beside-clause-err : goal.returns-in_err-add_beside-clause-err

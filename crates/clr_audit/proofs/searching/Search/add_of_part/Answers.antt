@@ -3,7 +3,7 @@ use Rattle.clr_rows.specs.Held.{held_of}
 use Rattle.clr_rules.proofs.Elements.{Among, among, contained}
 use Rattle.clr_spot_maps.specs.declared.spot_maps.FiledPart.{FiledPart}
 use Rattle.clr_audit.specs.RoleFiling.{partners}
-use Rattle.clr_audit.proofs.Beginnings.{on_err}
+use Rattle.clr_rows.proofs.BeginningLaws.{on_err}
 use Rattle.clr_audit.proofs.FitLaws.{fit_first, fit_again}
 use Rattle.clr_audit.proofs.Gaining.{gains_no_more}
 use Rattle.clr_audit.proofs.NeedLaws.{FindAll, IsReady, part_alike, part_gains, part_some}

@@ -2,7 +2,7 @@ use Rattle.std.proofs.Common.{ap, map, sym, subst, List}
 use Rattle.clr_rows.specs.Held.{held_of}
 use Rattle.clr_rules.specs.declared.needs.Broken.{Broken}
 use Rattle.clr_audit.specs.Searches.{GainsBroken, IsAlone}
-use Rattle.clr_audit.proofs.Beginnings.{on_err}
+use Rattle.clr_rows.proofs.BeginningLaws.{on_err}
 use Rattle.clr_audit.proofs.Gaining.{gains_no_more, gains_until}
 use Rattle.clr_audit.proofs.NeedLaws.{none_alone, none_paired, row_gains}
 use Rattle.clr_audit.proofs.searching.Search.add_of_row.Goals as goal

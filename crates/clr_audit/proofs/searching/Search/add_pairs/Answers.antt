@@ -3,7 +3,7 @@ use Rattle.std.proofs.lemmas.Bool.{cases_lt}
 use Rattle.clr_rows.specs.Held.{held_of}
 use Rattle.clr_rules.proofs.Elements.{among}
 use Rattle.clr_audit.specs.Searches.{IsOfPart, IsPaired}
-use Rattle.clr_audit.proofs.Beginnings.{on_err}
+use Rattle.clr_rows.proofs.BeginningLaws.{on_err}
 use Rattle.clr_audit.proofs.FitLaws.{fit_first, fit_again}
 use Rattle.clr_audit.proofs.Gaining.{gains_more, gains_less, gains_until}
 use Rattle.clr_audit.proofs.NeedLaws.{first_there}

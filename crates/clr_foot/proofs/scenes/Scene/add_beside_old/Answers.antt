@@ -6,7 +6,8 @@ use Rattle.clr_foot.proofs.TouchSteps.{alone_beside_old, beside_gains}
 use Rattle.clr_foot.proofs.scenes.Scene.add_beside_old.Goals as goal
 
 pub add_pairs-requires-clause-others : goal.add_pairs-requires-clause-others
-add_pairs-requires-clause-others g c = subst (AreAt (setting_in g.V.RowView.content c.args.self.now)) (sym c.as_slice.ensures.value) c.in_ok-near.ensures.are
+add_pairs-requires-clause-others g c = subst (AreAt (setting_in g.V.RowView.content c.args.self.now)) (sym c.as_slice.ensures.value) (c.in_ok-near.ensures
+    (row_of c.args.version) c.spots_of-spots.ensures).are
 
 pub returns-then-not-may_be_paired : goal.returns-then-not-may_be_paired
 returns-then-not-may_be_paired g c =
@@ -17,5 +18,6 @@ pub returns : goal.returns
 returns g c =
     let s = setting_in g.V.RowView.content c.args.self.now in
     beside_gains s c.args.rule c.requires.ready.fit c.args.version _ _ _ _ c.requires.at c.requires.new
-    (subst (Finds s false (IsNeighbour false s.rules c.args.rule (row_of c.args.version))) (sym c.as_slice.ensures.value) c.in_ok-near.ensures)
+    (subst (Finds s false (IsNeighbour false s.rules c.args.rule (row_of c.args.version))) (sym c.as_slice.ensures.value) (c.in_ok-near.ensures
+    (row_of c.args.version) c.spots_of-spots.ensures))
     c.in_ok-add_alone.ensures.ok c.in_ok-add_pairs.ensures.ok

@@ -1,6 +1,6 @@
 use Rattle.std.proofs.Common.{◌∙◌, ◌≤◌, ◌+◌, ap, refl, subst}
 use Rattle.clr_rules.specs.Calls.{ask_of_parts, part_count}
-use Rattle.clr_spot_maps.proofs.Beginnings.{on_err}
+use Rattle.clr_rows.proofs.BeginningLaws.{on_err}
 use Rattle.clr_foot.specs.Scenes.{setting_in}
 use Rattle.clr_new_pairs.proofs.CandidateLaws.{all_parts, no_part_yet, one_part_more}
 use Rattle.clr_versions.proofs.Gaining.{then_none}

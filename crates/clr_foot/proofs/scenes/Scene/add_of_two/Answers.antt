@@ -1,6 +1,6 @@
 use Rattle.std.proofs.Common.{◌∙◌, ◌≤◌, ◌+◌, ap, refl, subst}
 use Rattle.clr_rules.specs.Calls.{part_count}
-use Rattle.clr_spot_maps.proofs.Beginnings.{on_err}
+use Rattle.clr_rows.proofs.BeginningLaws.{on_err}
 use Rattle.clr_foot.specs.Scenes.{setting_in}
 use Rattle.clr_new_pairs.proofs.CandidateLaws.{all_firsts, no_first_yet, one_first_more}
 use Rattle.clr_versions.proofs.Gaining.{then_some}

@@ -1,5 +1,5 @@
 use Rattle.std.proofs.Common.{◌∙◌, sym}
-use Rattle.clr_spot_maps.proofs.Beginnings.{on_err}
+use Rattle.clr_rows.proofs.BeginningLaws.{on_err}
 use Rattle.clr_new_pairs.proofs.CandidateLaws.{in_turned_order, one_cell, opposed_pair, some_in_order, some_in_turned_order}
 use Rattle.clr_foot.proofs.scenes.Scene.add_pair.Goals as goal
 

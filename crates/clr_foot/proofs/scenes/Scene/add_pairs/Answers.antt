@@ -1,4 +1,4 @@
-use Rattle.clr_spot_maps.proofs.Beginnings.{on_err}
+use Rattle.clr_rows.proofs.BeginningLaws.{on_err}
 use Rattle.clr_new_pairs.proofs.CandidateLaws.{all_pairs, no_pair_yet, no_pairs, one_pair_more, some_pairs}
 use Rattle.clr_needs.proofs.Reading.{item_in}
 use Rattle.clr_foot.proofs.scenes.Scene.add_pairs.Goals as goal

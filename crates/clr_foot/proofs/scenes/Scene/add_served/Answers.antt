@@ -1,4 +1,4 @@
-use Rattle.clr_spot_maps.proofs.Beginnings.{on_err}
+use Rattle.clr_rows.proofs.BeginningLaws.{on_err}
 use Rattle.clr_needs.proofs.Reading.{item_in}
 use Rattle.clr_foot.proofs.ServedNeeds.{all_served, none_alone, none_served, one_served, some_pairs}
 use Rattle.clr_foot.proofs.scenes.Scene.add_served.Goals as goal

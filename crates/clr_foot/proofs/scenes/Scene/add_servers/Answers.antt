@@ -1,5 +1,5 @@
 use Rattle.std.proofs.Common.{◌∙◌, ◌+◌, ap, sym, subst, take}
-use Rattle.clr_spot_maps.proofs.Beginnings.{on_err}
+use Rattle.clr_rows.proofs.BeginningLaws.{on_err}
 use Rattle.clr_versions.specs.Candidates.{IsServerAmong}
 use Rattle.clr_versions.specs.Gains.{Gains}
 use Rattle.clr_new_pairs.proofs.CandidateLaws.{all_servers, no_server_yet, not_one_server, one_server_more}

@@ -3,12 +3,12 @@ use Rattle.clr_foot.specs.Scenes.{setting_in}
 use Rattle.clr_needs.proofs.BreakLaws.{kept_more}
 use Rattle.clr_needs.proofs.Reading.{read_of}
 use Rattle.clr_needs.proofs.NeedOrder.{unread}
-use Rattle.clr_foot.proofs.LeastLost.{first_is_least, listed_possible, none_is_lost}
+use Rattle.clr_foot.proofs.LeastBroken.{first_is_least, listed_possible, none_is_broken}
 use Rattle.clr_versions.proofs.Searches.{sets_of}
 use Rattle.clr_foot.proofs.scenes.Scene.first_broken.Goals as goal
 
-pub is_lost-requires-clause-possible : goal.is_lost-requires-clause-possible
-is_lost-requires-clause-possible g c =
+pub is_broken-requires-clause-possible : goal.is_broken-requires-clause-possible
+is_broken-requires-clause-possible g c =
     let needs = c.in_ok-needs.needs.items in
     let read = c.deref-need-items.result.now in
     let k = c.loop-need.need-index in
@@ -19,8 +19,8 @@ pub loop-need-preserved : goal.loop-need-preserved
 loop-need-preserved g c =
     let read = c.deref-need-items.result.now in
     let k = c.loop-need.need-index in
-    kept_more (setting_in g.V.RowView.content c.args.self.now) read k (get_or read k unread) unread c.in_ok-is_lost.field-0 c.loop-need-test.true refl
-    c.loop-need.invariant c.in_ok-is_lost.ensures c.if-branch.false
+    kept_more (setting_in g.V.RowView.content c.args.self.now) read k (get_or read k unread) unread c.in_ok-is_broken.field-0 c.loop-need-test.true refl
+    c.loop-need.invariant c.in_ok-is_broken.ensures c.if-branch.false
 
 pub returns-then-branch : goal.returns-then-branch
 returns-then-branch g c =
@@ -29,11 +29,11 @@ returns-then-branch g c =
     let k = c.loop-need.need-index in
     first_is_least scene.book.now (g.V.RowView.content scene.root.now) (sets_of scene.members.sets.items) c.requires.one true c.requires.holds
     c.in_ok-needs.needs.items read k c.in_ok-needs.ensures c.deref-need-items.ensures.value c.loop-need.invariant (get_or read k unread) unread
-    c.in_ok-is_lost.field-0 c.broken_of.result c.loop-need-test.true refl c.in_ok-is_lost.ensures c.if-branch.true c.broken_of.ensures
+    c.in_ok-is_broken.field-0 c.broken_of.result c.loop-need-test.true refl c.in_ok-is_broken.ensures c.if-branch.true c.broken_of.ensures
 
 pub returns : goal.returns
 returns g c =
     let scene = c.args.self.now in
-    none_is_lost scene.book.now (g.V.RowView.content scene.root.now) (sets_of scene.members.sets.items) c.requires.one true c.requires.holds
+    none_is_broken scene.book.now (g.V.RowView.content scene.root.now) (sets_of scene.members.sets.items) c.requires.one true c.requires.holds
     c.in_ok-needs.needs.items c.deref-need-items.result.now c.loop-need.need-index c.in_ok-needs.ensures c.deref-need-items.ensures.value
     c.loop-need.invariant c.loop-need-test.false

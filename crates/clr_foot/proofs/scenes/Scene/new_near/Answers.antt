@@ -1,18 +1,17 @@
 use Rattle.std.proofs.Common.{List, Contains, subst, sym}
 use Rattle.clr_rows.specs.declared.cells.CellId.{CellId}
 use Rattle.clr_finders.specs.Sharing.{found_cells}
-use Rattle.clr_versions.specs.Versions.{row_of}
 use Rattle.clr_versions.proofs.Searches.{sets_of}
 use Rattle.clr_foot.proofs.VersionLists.{new_found}
 use Rattle.clr_foot.proofs.scenes.Scene.new_near.Goals as goal
 
 pub returns : goal.returns
-returns g c =
+returns g c = λ row spots.
     let scene = c.args.self.now in
     let rules = scene.book.now in
     let settled = g.F.RowFinder.settled scene.new_rows in
-    let x = c.spots_of-spots.result.now in
-    new_found rules (g.V.RowView.content scene.root.now) (sets_of scene.members.sets.items) c.args.servers c.args.rule (row_of c.args.version) c.requires.number
-    settled x _ _ scene.filed c.spots_of-spots.ensures
+    let x = c.args.spots.now in
+    new_found rules (g.V.RowView.content scene.root.now) (sets_of scene.members.sets.items) c.args.servers c.args.rule row c.requires.number
+    settled x _ _ scene.filed spots
     (subst (λ (cells : List CellId). (q : CellId) → Contains (found_cells c.args.servers settled c.args.rule x) q → Contains cells q)
     (sym c.as_slice.ensures.value) c.in_ok-cells.ensures) c.in_ok-list.ensures

@@ -3,14 +3,18 @@ use Rattle.clr_needs.proofs.Reading.{item_in}
 use Rattle.clr_foot.specs.Scenes.{setting_in}
 use Rattle.clr_foot.specs.Touches.{IsNeighbour}
 use Rattle.clr_versions.specs.Versions.{FindsAll, row_of}
-use Rattle.clr_foot.proofs.ServingLaws.{AreKept, all_kept, none_kept, one_kept, one_left}
+use Rattle.clr_foot.proofs.ServingLaws.{AreKept, all_are_near, all_kept, none_kept, one_kept, one_left}
 use Rattle.clr_foot.proofs.scenes.Scene.served_near.Goals as goal
 use Rattle.clr_foot.proofs.scenes.Scene.served_near.Goals.{else-may_be_served, then-may_be_served+in_ok-push}
 
+pub returns-then-not-is_crossing : goal.returns-then-not-is_crossing
+returns-then-not-is_crossing g c =
+    all_are_near (setting_in g.V.RowView.content c.args.self.now) c.args.rule (row_of c.args.server) _ c.in_ok-near.ensures
+
 pub loop-version-init : goal.loop-version-init
 loop-version-init g c =
-    none_kept (setting_in g.V.RowView.content c.args.self.now) c.args.rule (row_of c.args.server) c.deref-version-items.result.now c.new-list.result.items
-    c.new-list.ensures.items
+    none_kept (setting_in g.V.RowView.content c.args.self.now) c.args.rule (row_of c.args.server) c.deref-version-items.result.now c.in_ok-list.list.items
+    c.in_ok-list.ensures.items
 
 pub may_be_served-requires-clause-subject : goal.may_be_served-requires-clause-subject
 may_be_served-requires-clause-subject g c =

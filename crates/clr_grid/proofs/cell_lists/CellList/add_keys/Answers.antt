@@ -4,7 +4,7 @@ use Rattle.clr_rows.specs.declared.cells.CellId.{CellId}
 use Rattle.clr_grid.specs.CellSets.{Cells, with_listed_cells}
 use Rattle.clr_row_maps.specs.CellLists.{is_one_of}
 use Rattle.clr_grid.specs.Gains.{GainsCells}
-use Rattle.clr_grid.proofs.FilingLemmas.{on_err}
+use Rattle.clr_rows.proofs.BeginningLaws.{on_err}
 use Rattle.clr_grid.proofs.GainLemmas.{IsAddedTo, added_gains, added_next}
 use Rattle.clr_grid.proofs.SetLemmas.{has_with_cells}
 use Rattle.clr_grid.proofs.cell_lists.CellList.add_keys.Goals as goal

@@ -1,4 +1,4 @@
-use Rattle.std.proofs.Common.{nat_eq, ◌≡◌, ◌∙◌, ap, subst, true, ◌||◌}
+use Rattle.std.proofs.Common.{nat_eq, ◌≡◌, ◌∙◌, ap, subst, sym, true, ◌||◌}
 use Rattle.std.proofs.lemmas.List.{take_all}
 use Rattle.std.specs.HashMap.{get}
 use Rattle.std.specs.FinSet as set
@@ -7,10 +7,15 @@ use Rattle.clr_spots.specs.declared.spots.Spot.{Spot}
 use Rattle.clr_grid.specs.Filing.{has_cell}
 use Rattle.clr_grid.specs.Gains.{GainsCells}
 use Rattle.clr_grid.specs.SpotNumbers.{spot_number_of}
-use Rattle.clr_grid.proofs.FilingLemmas.{added_more, on_err}
-use Rattle.clr_grid.proofs.GainLemmas.{spots_gain}
+use Rattle.clr_rows.proofs.BeginningLaws.{on_err}
+use Rattle.clr_grid.proofs.FilingLemmas.{added_more}
+use Rattle.clr_grid.proofs.GainLemmas.{none_there, spots_gain}
 use Rattle.clr_grid.proofs.SetLemmas.{or_none}
 use Rattle.clr_grid.proofs.side_index.SideIndex.add_cells_at_each.Goals as goal
+
+pub returns-then-is_empty-clause-ok : goal.returns-then-is_empty-clause-ok
+returns-then-is_empty-clause-ok c q = or_none _ ∙ ap (λ b. set.contains c.args.cells.now q || b)
+    (sym (none_there c.args.self.now.by_spot (c.is_empty.ensures.0 c.if-is_empty.true) q c.args.spots.now))
 
 pub loop-spot-init : goal.loop-spot-init
 loop-spot-init c q = or_none _

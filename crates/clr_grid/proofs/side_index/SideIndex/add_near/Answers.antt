@@ -1,4 +1,5 @@
-use Rattle.clr_grid.proofs.FilingLemmas.{near_by, near_keeps, on_err}
+use Rattle.clr_rows.proofs.BeginningLaws.{on_err}
+use Rattle.clr_grid.proofs.FilingLemmas.{near_by, near_keeps}
 use Rattle.clr_grid.proofs.GainLemmas.{spot_gain, wide_gain}
 use Rattle.clr_grid.proofs.side_index.SideIndex.add_near.Goals as goal
 

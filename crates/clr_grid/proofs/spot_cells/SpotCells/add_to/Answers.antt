@@ -3,7 +3,7 @@ use Rattle.std.specs.FinSet as set
 use Rattle.clr_rows.proofs.CellOrder.{cell_cmp_total}
 use Rattle.clr_grid.specs.CellSets.{Cells}
 use Rattle.clr_grid.specs.Gains.{GainsCells}
-use Rattle.clr_grid.proofs.FilingLemmas.{on_err}
+use Rattle.clr_rows.proofs.BeginningLaws.{on_err}
 use Rattle.clr_grid.proofs.GainLemmas.{both_gain, both_has}
 use Rattle.clr_grid.proofs.spot_cells.SpotCells.add_to.Goals as goal
 

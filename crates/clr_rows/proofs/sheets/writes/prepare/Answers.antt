@@ -3,7 +3,7 @@ use Rattle.std.specs.Prelude.{OnErr, Result, Ok, Err}
 use Rattle.clr_rows.specs.declared.cells.CellId.{CellId}
 use Rattle.clr_rows.specs.declared.rows.Row.{Row}
 use Rattle.clr_rows.specs.Contents.{over}
-use Rattle.clr_rows.specs.Sheets.{named_cells, missing, with_none, with_placeholders}
+use Rattle.clr_rows.specs.Sheets.{named_cells, cells_without_rows, with_none, with_placeholders}
 use Rattle.clr_rows.proofs.WriteLemmas.{nothing_taken}
 use Rattle.clr_rows.proofs.sheets.writes.prepare.Goals as goal
 
@@ -21,12 +21,12 @@ returns-in_err-make_room-clause-err c =
 
 pub returns-clause-cleared : goal.returns-clause-cleared
 returns-clause-cleared c =
-    c.in_ok-cleared.ensures ∙ ap (missing c.in_ok-last.last) (c.as_slice-2.ensures.value ∙ c.in_ok-named.ensures
+    c.in_ok-cleared.ensures ∙ ap (cells_without_rows c.in_ok-last.last) (c.as_slice-2.ensures.value ∙ c.in_ok-named.ensures
     ∙ ap (λ (cells : List (CellId × Option Row)). named_cells cells) c.as_slice.ensures.value)
 
 pub returns-clause-room : goal.returns-clause-room
 returns-clause-room c =
     c.in_ok-make_room.ensures.ok
     ∙ ap (λ (cells : List CellId). over c.args.sheet.now (with_placeholders cells)) (c.as_slice-4.ensures.value ∙ c.in_ok-fresh.ensures)
-    ∙ ap (λ (cells : List CellId). over c.args.sheet.now (with_placeholders (missing c.args.sheet.now cells))) (c.as_slice-3.ensures.value
+    ∙ ap (λ (cells : List CellId). over c.args.sheet.now (with_placeholders (cells_without_rows c.args.sheet.now cells))) (c.as_slice-3.ensures.value
     ∙ c.in_ok-named.ensures ∙ ap (λ (cells : List (CellId × Option Row)). named_cells cells) c.as_slice.ensures.value)

@@ -1,4 +1,5 @@
-use Rattle.clr_spot_maps.proofs.Beginnings.{near_begun, on_err}
+use Rattle.clr_rows.proofs.BeginningLaws.{on_err}
+use Rattle.clr_spot_maps.proofs.Beginnings.{near_begun}
 use Rattle.clr_spot_maps.proofs.spot_maps.SpotMap.add_near.Goals as goal
 
 pub returns-in_err-extend_from_slice-3-clause-err : goal.returns-in_err-extend_from_slice-3-clause-err

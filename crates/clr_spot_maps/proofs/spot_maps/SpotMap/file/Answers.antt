@@ -1,10 +1,10 @@
 use Rattle.std.proofs.Common.{List, [], ◌∷◌, rules, subst, sym}
 use Rattle.std.specs.Vec.Iter.{into_iter_items}
-use Rattle.clr_rows.proofs.BeginningLaws.{all_begun, none_begun}
+use Rattle.clr_rows.proofs.BeginningLaws.{all_begun, none_begun, on_err}
 use Rattle.clr_spots.specs.declared.spots.Spot.{Spot}
 use Rattle.clr_spot_maps.specs.contracts.spot_maps.SpotMap as map_type
 use Rattle.clr_spot_maps.specs.Filing.{Filed, IsPartlyFiled}
-use Rattle.clr_spot_maps.proofs.Beginnings.{on_err, one_begun}
+use Rattle.clr_spot_maps.proofs.Beginnings.{one_begun}
 use Rattle.clr_spot_maps.proofs.MapLemmas.{IsFiledTo, filed_next, filed_some}
 use Rattle.clr_spot_maps.proofs.spot_maps.SpotMap.file.Goals as goal
 

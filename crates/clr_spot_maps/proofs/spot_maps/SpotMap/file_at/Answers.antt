@@ -1,6 +1,6 @@
 use Rattle.std.proofs.Common.{◌≡◌, ◌∙◌, ap}
 use Rattle.clr_spot_maps.specs.Filing.{Filed, EntriesBySpot, filed_at}
-use Rattle.clr_spot_maps.proofs.Beginnings.{on_err}
+use Rattle.clr_rows.proofs.BeginningLaws.{on_err}
 use Rattle.clr_spot_maps.proofs.MapLemmas.{one_entry, filed_more, same_entries}
 use Rattle.clr_spot_maps.proofs.spot_maps.SpotMap.file_at.Goals as goal
 

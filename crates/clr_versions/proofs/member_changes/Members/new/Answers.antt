@@ -1,9 +1,7 @@
 use Rattle.std.proofs.Common.{◌∙◌, List, Bor, ap, length, subst, sym}
-use Rattle.std.specs.BTreeMap.{get}
 use Rattle.std.proofs.lemmas.List.{length-map}
-use Rattle.clr_rows.specs.Cells.{cell_cmp}
 use Rattle.clr_rows.specs.Contents.{Changes}
-use Rattle.clr_versions.specs.Changers.{AreChangersAt}
+use Rattle.clr_versions.specs.Changers.{AreChangersAt, kept_at}
 use Rattle.clr_needs.specs.Members.{changed_cells}
 use Rattle.clr_versions.proofs.ChangerSteps.{changers_exact}
 use Rattle.clr_versions.proofs.Searches.{sets_of}
@@ -16,8 +14,8 @@ invariant_of-result c =
     record {
       few = c.requires;
       all = c.in_ok-cells.ensures ∙ ap (λ (rs : List (Bor Changes)). changed_cells (sets_of rs)) c.as_slice.ensures.value;
-      changed_by = λ q. changers_exact (sets_of refs) q (get cell_cmp changers q)
-          (subst (λ n. AreChangersAt (sets_of refs) n q (get cell_cmp changers q)) (sym (length-map refs (λ s. s.now)))
-          (subst (λ (rs : List (Bor Changes)). AreChangersAt (sets_of rs) (length rs) q (get cell_cmp changers q)) c.as_slice-2.ensures.value
+      changed_by = λ q. changers_exact (sets_of refs) q (kept_at changers q)
+          (subst (λ n. AreChangersAt (sets_of refs) n q (kept_at changers q)) (sym (length-map refs (λ s. s.now)))
+          (subst (λ (rs : List (Bor Changes)). AreChangersAt (sets_of rs) (length rs) q (kept_at changers q)) c.as_slice-2.ensures.value
           (c.in_ok-changers.ensures q)));
     }

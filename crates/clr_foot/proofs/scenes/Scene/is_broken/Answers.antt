@@ -1,6 +1,6 @@
 use Rattle.clr_foot.specs.Scenes.{setting_in}
 use Rattle.clr_needs.proofs.BreakLaws.{none_living, some_living}
-use Rattle.clr_foot.proofs.scenes.Scene.is_lost.Goals as goal
+use Rattle.clr_foot.proofs.scenes.Scene.is_broken.Goals as goal
 
 pub returns-in-None : goal.returns-in-None
 returns-in-None g c =

@@ -26,7 +26,7 @@ use Rattle.clr_needs.specs.Members.{setting}
 use Rattle.clr_needs.specs.Needs.{IsBesideIfAny, IsChanged, IsPossibleNeed, IsTouched, ask_of, held_if_any, is_fresh}
 use Rattle.clr_needs.specs.Orders.{need_cmp}
 use Rattle.clr_needs.specs.Settings.{Setting, Lifetime, Always, With, Without, Lived, held_row, version}
-use Rattle.clr_needs.proofs.BreakLaws.{broken_by, holds_after, less_not_gt, lost_is_broken, need_order}
+use Rattle.clr_needs.proofs.BreakLaws.{broken_by, holds_after, unserved_is_broken, need_order}
 use Rattle.clr_needs.proofs.NeedOrder.{need_total}
 use Rattle.clr_needs.proofs.Placing.{PlaceOf, after, before, here, place_of}
 use Rattle.clr_needs.proofs.Reading.{all_taken}
@@ -63,7 +63,7 @@ module _ (rules : List Rule) (root : Content) (sets : List Changes) (one : lengt
   abbrev s : Setting ℕ
   s = setting rules root sets
 
-  -- ---- a need of two new versions that no row serves is lost
+  -- ---- a need of two new versions that no row serves is broken
 
   stays : (v : VersionId) (l : Lived ℕ) → v.fresh ≡ true → version s v ≡ Some l → is_living l.life ≡ true
   stays v l new is = by l.life refl
@@ -73,8 +73,8 @@ module _ (rules : List Rule) (root : Content) (sets : List Changes) (one : lengt
       by (With n) e = refl
       by (Without n) e = absurd (false≢true (sym (changed_is_old rules root sets v l is (subst IsChanged (sym e) tt)).0 ∙ new))
 
-  break_is_lost : (leaves_out : Bool) (n : Need) → IsTouched s n → BreaksAtOnce rules leaves_out n → IsUnservedAfterMerge s n
-  break_is_lost leaves_out n (a, b, p, touched) breaking = (a, b, p, living n.second b p.second_is breaking.second, unserved)
+  break_is_broken : (leaves_out : Bool) (n : Need) → IsTouched s n → BreaksAtOnce rules leaves_out n → IsUnservedAfterMerge s n
+  break_is_broken leaves_out n (a, b, p, touched) breaking = (a, b, p, living n.second b p.second_is breaking.second, unserved)
     where
       first : is_living a.life ≡ true
       first = stays n.first a breaking.first p.first_is
@@ -92,27 +92,27 @@ module _ (rules : List Rule) (root : Content) (sets : List Changes) (one : lengt
   abbrev IsNoMore : Need → Need → Type 0
   IsNoMore m n = is_gt (broken_cmp (broken_of m) (broken_of n)) ≡ false
 
-  kept_not_lost : (n : Need) → IsServedAfterMerge s n → IsUnservedAfterMerge s n → ⊥
-  kept_not_lost n kept (a, b, p, living, unserved) = unserved (kept a b p living)
+  kept_not_broken : (n : Need) → IsServedAfterMerge s n → IsUnservedAfterMerge s n → ⊥
+  kept_not_broken n kept (a, b, p, living, unserved) = unserved (kept a b p living)
 
-  -- ---- the first lost one of the listed needs
+  -- ---- the first broken one of the listed needs
 
   module _ (leaves_out : Bool) (holds : Holds rules s.root) (needs read : List Need) (k : ℕ) (listed : ListsTouched s leaves_out needs) (same : read ≡ needs)
       (kept : (m : Need) → Contains (take k read) m → IsServedAfterMerge s m) where
-    pub none_is_lost : length read ≤ k → Holds rules (view_after_merge s)
-    none_is_lost past = holds_after rules root sets one holds (λ m t. by m (listed.every m t))
+    pub none_is_broken : length read ≤ k → Holds rules (view_after_merge s)
+    none_is_broken past = holds_after rules root sets one holds (λ m t. by m (listed.every m t))
       where
         all : (m : Need) → Contains needs m → IsServedAfterMerge s m
         all m h = kept m (all_taken read k m past (subst (λ ms. Contains ms m) (sym same) h))
 
         by : (m : Need) → IsListedOrPassed (Passes rules leaves_out) needs m → IsServedAfterMerge s m
         by m (inl h) = all m h
-        by m (inr (j, h, (breaking, less))) = absurd (kept_not_lost j (all j h) (break_is_lost leaves_out j (listed.only j h) breaking))
+        by m (inr (j, h, (breaking, less))) = absurd (kept_not_broken j (all j h) (break_is_broken leaves_out j (listed.only j h) breaking))
 
-    pub first_is_least : (n d : Need) (lost : Bool) (b : Broken) → k < length read → n ≡ get_or read k d → IsJudged s n lost → lost ≡ true → b ≡ broken_of n
-        → IsLeastBroken rules (view_after_merge s) b
-    first_is_least n d lost b less is judged told named =
-        subst (IsLeastBroken rules (view_after_merge s)) (sym named) (record { broken = lost_is_broken rules root sets one n it; least = least })
+    pub first_is_least : (n d : Need) (broken : Bool) (b : Broken) → k < length read → n ≡ get_or read k d → IsJudged s n broken → broken ≡ true
+        → b ≡ broken_of n → IsLeastBroken rules (view_after_merge s) b
+    first_is_least n d broken b less is judged told named =
+        subst (IsLeastBroken rules (view_after_merge s)) (sym named) (record { broken = unserved_is_broken rules root sets one n it; least = least })
       where
         it : IsUnservedAfterMerge s n
         it = subst (IsJudged s n) told judged
@@ -122,23 +122,23 @@ module _ (rules : List Rule) (root : Content) (sets : List Changes) (one : lengt
             place_of need_cmp read k n d m less is (subst (IsStrictlySortedBy need_cmp) (sym same) listed.ascending) (subst (λ ms. Contains ms m) (sym same) h)
 
         behind_it : (m : Need) → IsUnservedAfterMerge s m → need_cmp n m ≡ Less → IsNoMore n m
-        behind_it m lost_too e = less_not_gt _ (sym (need_order rules root sets one n m it lost_too) ∙ e)
+        behind_it m unserved_too e = ap is_gt (sym (need_order rules root sets one n m it unserved_too) ∙ e)
 
         at : (m : Need) → IsUnservedAfterMerge s m → PlaceOf need_cmp read m k n → IsNoMore n m
-        at m lost_too (before h) = absurd (kept_not_lost m (kept m h) lost_too)
-        at m lost_too (here e) = subst (IsNoMore n) e (ap is_gt (tied_itself broken_total (broken_of n)))
-        at m lost_too (after e) = behind_it m lost_too e
+        at m unserved_too (before h) = absurd (kept_not_broken m (kept m h) unserved_too)
+        at m unserved_too (here e) = subst (IsNoMore n) e (ap is_gt (tied_itself broken_total (broken_of n)))
+        at m unserved_too (after e) = behind_it m unserved_too e
 
         behind : (m j : Need) → IsUnservedAfterMerge s m → IsUnservedAfterMerge s j → need_cmp j m ≡ Less → PlaceOf need_cmp read j k n → IsNoMore n m
-        behind m j lost_too breaking e (before h) = absurd (kept_not_lost j (kept j h) breaking)
-        behind m j lost_too breaking e (here f) = behind_it m lost_too (ap (λ i. need_cmp i m) f ∙ e)
-        behind m j lost_too breaking e (after f) = behind_it m lost_too (need_total.trans n j m f e)
+        behind m j unserved_too breaking e (before h) = absurd (kept_not_broken j (kept j h) breaking)
+        behind m j unserved_too breaking e (here f) = behind_it m unserved_too (ap (λ i. need_cmp i m) f ∙ e)
+        behind m j unserved_too breaking e (after f) = behind_it m unserved_too (need_total.trans n j m f e)
 
         by : (m : Need) → IsUnservedAfterMerge s m → IsListedOrPassed (Passes rules leaves_out) needs m → IsNoMore n m
-        by m lost_too (inl h) = at m lost_too (place m h)
-        by m lost_too (inr (j, h, (breaking, e))) = behind m j lost_too (break_is_lost leaves_out j (listed.only j h) breaking) e (place j h)
+        by m unserved_too (inl h) = at m unserved_too (place m h)
+        by m unserved_too (inr (j, h, (breaking, e))) = behind m j unserved_too (break_is_broken leaves_out j (listed.only j h) breaking) e (place j h)
 
         least : (b : Broken) → IsBroken rules (view_after_merge s) b → is_gt (broken_cmp (broken_of n) b) ≡ false
         least b broken =
             let (m, h) = broken_by rules root sets one holds b broken in
-            subst (λ x. is_gt (broken_cmp (broken_of n) x) ≡ false) (sym h.named) (by m h.lost (listed.every m h.touched))
+            subst (λ x. is_gt (broken_cmp (broken_of n) x) ≡ false) (sym h.named) (by m h.broken (listed.every m h.touched))
