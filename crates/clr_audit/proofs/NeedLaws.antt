@@ -24,8 +24,8 @@ use Rattle.clr_rules.specs.Roles.{roles_under}
 use Rattle.clr_spots.specs.RoleSpots.{subject_spots_under, server_spots_under}
 use Rattle.clr_spots.specs.Spots.{unless_many, are_many}
 use Rattle.clr_rules.proofs.Elements.{Among, among, contained, among_left, among_right, flat_among, among_flat, some_of, any_by}
-use Rattle.clr_spots.proofs.RoleLaws.{alone_parts, first_part_there, second_part_there, subject_alone, subjects_beside, subjects_meet, server_role}
-use Rattle.clr_spots.proofs.RoleLaws.{servers_meet}
+use Rattle.clr_rules.proofs.CallLaws.{alone_parts, first_part_there, second_part_there, subject_alone, subjects_beside, server_role}
+use Rattle.clr_spots.proofs.RoleLaws.{servers_meet, subjects_meet}
 use Rattle.clr_spots.proofs.SharedSpots.{Common}
 use Rattle.clr_audit.specs.declared.role_index.RoleIndex.{RoleIndex}
 use Rattle.clr_audit.specs.declared.searching.Search.{Search}

@@ -5,7 +5,7 @@ use Rattle.clr_rows.specs.declared.places.Place.{Place}
 use Rattle.clr_rows.specs.declared.places.Shape.{Shape}
 use Rattle.clr_rows.specs.Parts.{part_of, parts_of}
 use Rattle.clr_svg.specs.declared.elements.Step.{Step}
-use Rattle.clr_drawing.specs.declared.views.View.{View}
+use Rattle.clr_views.specs.declared.views.View.{View}
 use Rattle.clr_drawing.specs.Paths.{with_found, with_part}
 
 -- the next part is added behind those before it

@@ -1,6 +1,3 @@
-pub mod Areas
-pub mod Details
-pub mod Extents
 pub mod Labels
 pub mod Metres
 pub mod Palette
@@ -8,4 +5,3 @@ pub mod Paths
 pub mod Signs
 pub mod Sketches
 pub mod Ticks
-pub mod Views

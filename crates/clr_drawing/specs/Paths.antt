@@ -10,9 +10,9 @@ use Rattle.clr_svg.specs.declared.elements.Spot.{Spot}
 use Rattle.clr_svg.specs.declared.elements.Step.{Step}
 use Rattle.clr_svg.specs.declared.elements.Step.TheVariants.{Begin, Line, Close}
 use Rattle.clr_svg.specs.Lengths.{stopped}
-use Rattle.clr_drawing.specs.declared.views.View.{View}
-use Rattle.clr_drawing.specs.Extents.{span}
-use Rattle.clr_drawing.specs.Views.{spot_on}
+use Rattle.clr_views.specs.declared.views.View.{View}
+use Rattle.clr_views.specs.Extents.{span}
+use Rattle.clr_views.specs.Views.{spot_on}
 
 abbrev pub are_one : Spot → Spot → Bool
 are_one a b = int_eq a.x.tenths b.x.tenths && int_eq a.y.tenths b.y.tenths

@@ -12,8 +12,8 @@ use Rattle.clr_svg.specs.declared.elements.Weight.{Weight}
 use Rattle.clr_svg.specs.declared.inks.Ink.{Ink}
 use Rattle.clr_svg.specs.declared.pages.Window.{Window}
 use Rattle.clr_svg.specs.declared.pixels.Pixels.{Pixels}
-use Rattle.clr_drawing.specs.declared.areas.Area.{Area}
-use Rattle.clr_drawing.specs.Areas.{corner_of, height_of, width_of}
+use Rattle.clr_views.specs.declared.areas.Area.{Area}
+use Rattle.clr_views.specs.Areas.{corner_of, height_of, width_of}
 
 -- one more element is drawn, over those so far
 abbrev pub Draws : (Element → Type 0) → List Element → List Element → Type 0

@@ -1,11 +1,11 @@
 //! Places for labels, so that none lies over another.
 
 ghost use Rattle.std.specs.Prelude.{◌≡◌, ◌++◌, ◌∷◌, [], IfOk, IfSome, IsTrue, OnOk};
-ghost use Rattle.clr_drawing.specs.Areas.{CoversNone};
+ghost use Rattle.clr_views.specs.Areas.{CoversNone};
 ghost use Rattle.clr_drawing.specs.Labels.{TakesPlace};
 
-use crate::areas::Area;
 use clr_svg::{Pixels, Spot};
+use clr_views::Area;
 use std::alloc::{AllocError, Global};
 
 /// The most anchors that are tried for a label.

@@ -4,10 +4,10 @@ ghost use Rattle.std.specs.Prelude.{◌≡◌, OnOk};
 ghost use Rattle.clr_drawing.specs.Paths.{are_one, beginning, ends_at, halfway_number, halfway_place, middle_of_parts, middle_place};
 ghost use Rattle.clr_drawing.specs.Paths.{with_found, with_line, with_shape};
 
-use crate::views::View;
 use clr_rows::{Place, Shape};
 use clr_segments::{part, parts};
 use clr_svg::{Pixels, Spot, Step};
+use clr_views::View;
 use std::alloc::{AllocError, Global};
 
 /// The most spots that are taken along one part of a shape.

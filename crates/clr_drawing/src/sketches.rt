@@ -4,8 +4,8 @@ ghost use Rattle.std.specs.Prelude.{◌≡◌, ◌++◌, ◌∷◌, [], Some, No
 ghost use Rattle.clr_svg.specs.declared.elements.Element.TheVariants.{Circle};
 ghost use Rattle.clr_drawing.specs.Sketches.{Draws, DrawsPath, DrawsWords, IsPath, IsWords, line_steps, rectangle_of, window_of};
 
-use crate::areas::Area;
 use clr_svg::{Anchor, Colour, Element, Ink, Label, Layer, Pixels, Spot, Step, Weight, Window};
+use clr_views::Area;
 use std::alloc::{AllocError, Global};
 
 /// Elements in the order in which they are drawn.

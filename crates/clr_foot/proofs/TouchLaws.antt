@@ -17,8 +17,8 @@ use Rattle.clr_versions.specs.Serving.{IsNeverServed}
 use Rattle.clr_foot.specs.Serving.{MayBeServed}
 use Rattle.clr_foot.specs.Touches.{IsNeighbour, IsNeedServedAmong, may_be_subject}
 use Rattle.clr_versions.specs.Versions.{AreAt, FindsAll, FitsSetting, HasVersion, IsAt, row_and_life, row_of}
-use Rattle.clr_new_pairs.proofs.CandidateLaws.{they_call}
-use Rattle.clr_new_pairs.proofs.CandidateLaws.{both_paired}
+use Rattle.clr_versions.proofs.CandidateLaws.{they_call}
+use Rattle.clr_versions.proofs.CandidateLaws.{both_paired}
 use Rattle.clr_foot.proofs.SharingLaws.{is_second_subject, is_subject, may_serve_there, near_all, server_near, server_near_second, subjects_near}
 
 lived_too : Option Version → Option (Lived ℕ)

@@ -4,14 +4,14 @@ ghost use Rattle.std.specs.Prelude.{◌≡◌, ◌<◌, length};
 ghost use Rattle.std.specs.Option.{option_copied};
 ghost use Rattle.clr_finders.specs.Sharing.{may_serve_under};
 ghost use Rattle.clr_foot.specs.Touches.{is_looked_up, is_of_table, may_be_subject};
-ghost use Rattle.clr_versions.specs.Candidates.{is_of_two_under, may_be_paired};
+ghost use Rattle.clr_versions.specs.Candidates.{may_be_paired};
 ghost use Rattle.clr_versions.specs.Versions.{row_of};
 
 use crate::scenes::Scene;
 use clr_finders::{RowFinder, may_serve};
 use clr_rows::{CellId, RowView};
 use clr_rules::Side;
-use clr_versions::{Version, is_asked_of_two, may_be_paired};
+use clr_versions::{Version, may_be_paired};
 
 /// Returns whether there is a side, and a cell is of its table.
 fn is_of_table(side: Option<&Side>, cell: CellId) -> bool
@@ -24,14 +24,6 @@ fn is_of_table(side: Option<&Side>, cell: CellId) -> bool
 }
 
 impl<V: RowView, F: RowFinder> Scene<'_, V, F> {
-    /// Returns whether the rule of a number is asked of two rows.
-    pub(crate) fn is_of_two(&self, rule: u16) -> bool
-        requires { rule < length self.now.book.now }
-        ensures { result ≡ is_of_two_under self.now.book.now rule }
-    {
-        is_asked_of_two(self.book, rule)
-    }
-
     /// Returns whether the rule is asked of two rows and a version is of a side of these.
     pub(crate) fn may_be_paired(&self, rule: u16, version: Version) -> bool
         requires { rule < length self.now.book.now }

@@ -70,10 +70,15 @@ impl<V: RowView, F: RowFinder> Scene<'_, V, F> {
         requires second { IsAtIfAny (setting_in V.content self.now) second }
         ensures { IsToldServer sought (setting_in V.content self.now) need.now first.entry second.entry id result }
     {
+        let versions = RootVersions {
+            book: self.book,
+            root: self.root,
+            members: &self.members,
+        };
         match self.version(id) {
             None => false,
             Some(version) => {
-                if !self.serves_if_any(need.ask(), first, second, Some(version)) {
+                if !versions.serves_if_any(need.ask(), first, second, Some(version)) {
                     return false;
                 }
                 self.is_sought(sought, need, version)

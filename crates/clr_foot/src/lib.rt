@@ -35,7 +35,6 @@
 mod asks;
 mod blockers;
 mod breaks;
-mod candidates;
 mod first_servers;
 mod independence;
 mod involvement;

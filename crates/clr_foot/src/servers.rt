@@ -14,7 +14,7 @@ use clr_needs::{Need, VersionId};
 use clr_rows::RowView;
 use clr_rules::Ask;
 use clr_spots::put_in_order;
-use clr_versions::Version;
+use clr_versions::{RootVersions, Version};
 use std::alloc::AllocError;
 
 impl<V: RowView, F: RowFinder> Scene<'_, V, F> {
@@ -45,9 +45,14 @@ impl<V: RowView, F: RowFinder> Scene<'_, V, F> {
         let spots = self.spots_of(ask.rule, first);
         let old = self.old_near(ask.rule, true, spots)?;
         let new = self.new_near(ask.rule, true, spots)?;
+        let versions = RootVersions {
+            book: self.book,
+            root: self.root,
+            members: &self.members,
+        };
         let mut names = Vec::new(self.alloc);
-        self.add_servers(ask, first, second, old.as_slice(), &mut names)?;
-        self.add_servers(ask, first, second, new.as_slice(), &mut names)?;
+        versions.add_servers(ask, first, second, old.as_slice(), &mut names)?;
+        versions.add_servers(ask, first, second, new.as_slice(), &mut names)?;
         put_in_order(&mut names);
         Ok(names)
     }
@@ -74,13 +79,20 @@ impl<V: RowView, F: RowFinder> Scene<'_, V, F> {
         requires possible { IsPossibleNeed (setting_of (model_of V.content self.now)) need.now }
         ensures { (result ≡ true) ↔ IsServing (setting_of (model_of V.content self.now)) need.now id }
     {
+        let versions = RootVersions {
+            book: self.book,
+            root: self.root,
+            members: &self.members,
+        };
         match self.version(need.first) {
             None => false,
             Some(first) => {
                 let second = self.version_if_any(need.second);
                 match self.version(id) {
                     None => false,
-                    Some(server) => self.serves_if_any(need.ask(), first, second, Some(server)),
+                    Some(server) => {
+                        versions.serves_if_any(need.ask(), first, second, Some(server))
+                    }
                 }
             }
         }

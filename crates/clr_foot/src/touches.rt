@@ -15,7 +15,7 @@ use clr_finders::RowFinder;
 use clr_needs::Need;
 use clr_rows::RowView;
 use clr_spots::put_in_order;
-use clr_versions::{Version, is_living};
+use clr_versions::{RootVersions, Version, is_living};
 use std::alloc::AllocError;
 
 impl<V: RowView, F: RowFinder> Scene<'_, V, F> {
@@ -36,12 +36,17 @@ impl<V: RowView, F: RowFinder> Scene<'_, V, F> {
         ensures err { OnErr result (GainsSome (IsNeedWith (setting_in V.content self.now) rule version.entry.id)
             needs.old.items needs.new.items) }
     {
-        self.add_alone(rule, None, version, needs)?;
+        let versions = RootVersions {
+            book: self.book,
+            root: self.root,
+            members: &self.members,
+        };
+        versions.add_alone(rule, None, version, needs)?;
         if !self.may_be_paired(rule, version) {
             return Ok(());
         }
         let near = self.all_near(rule, version)?;
-        self.add_pairs(rule, None, version, near.as_slice(), needs)?;
+        versions.add_pairs(rule, None, version, near.as_slice(), needs)?;
         Ok(())
     }
 
@@ -60,13 +65,18 @@ impl<V: RowView, F: RowFinder> Scene<'_, V, F> {
         ensures { OnOk result (Gains (IsNeedWith (setting_in V.content self.now) rule version.entry.id)
             (IsNeedBesideOld (setting_in V.content self.now) rule version.entry.id) needs.old.items needs.new.items) }
     {
-        self.add_alone(rule, None, version, needs)?;
+        let versions = RootVersions {
+            book: self.book,
+            root: self.root,
+            members: &self.members,
+        };
+        versions.add_alone(rule, None, version, needs)?;
         if !self.may_be_paired(rule, version) {
             return Ok(());
         }
         let spots = self.spots_of(rule, version);
         let near = self.old_near(rule, false, spots)?;
-        self.add_pairs(rule, None, version, near.as_slice(), needs)?;
+        versions.add_pairs(rule, None, version, near.as_slice(), needs)?;
         Ok(())
     }
 
@@ -87,9 +97,14 @@ impl<V: RowView, F: RowFinder> Scene<'_, V, F> {
         ensures err { OnErr result (GainsSome (IsNeedServedAmong self.now.book.now rule server.entry near.now near.now)
             needs.old.items needs.new.items) }
     {
+        let versions = RootVersions {
+            book: self.book,
+            root: self.root,
+            members: &self.members,
+        };
         for first in near {
-            self.add_alone(rule, Some(server), *first, needs)?;
-            self.add_pairs(rule, Some(server), *first, near, needs)?;
+            versions.add_alone(rule, Some(server), *first, needs)?;
+            versions.add_pairs(rule, Some(server), *first, near, needs)?;
         }
         Ok(())
     }

@@ -1,6 +1,6 @@
 -- The frames round what designs change.
 use Rattle.std.specs.Prelude.{Bool, ◌&&◌, ◌||◌, not, is_none, nat_lt, length}
-use Rattle.clr_drawing.specs.Details.{is_fine}
+use Rattle.clr_views.specs.Details.{is_fine}
 use Rattle.clr_plan_scenes.specs.declared.scenes.Scene.{Scene}
 
 -- without a cause, where there is little room or there are more than three designs

@@ -17,10 +17,10 @@ use Rattle.clr_svg.specs.declared.inks.Ink.{Ink}
 use Rattle.clr_svg.specs.declared.pixels.Pixels.{Pixels}
 use Rattle.clr_svg.specs.Inks.{dashed_ink, drawn_ink}
 use Rattle.clr_svg.specs.Lengths.{length_of, minus, plus, whole}
-use Rattle.clr_drawing.specs.declared.views.View.{View}
+use Rattle.clr_views.specs.declared.views.View.{View}
 use Rattle.clr_drawing.specs.Paths.{middle_place, with_shape}
 use Rattle.clr_drawing.specs.Sketches.{DrawsPath}
-use Rattle.clr_drawing.specs.Views.{spot_on}
+use Rattle.clr_views.specs.Views.{spot_on}
 use Rattle.clr_map_marks.specs.Points.{map_colour, paper}
 use Rattle.clr_map_marks.specs.declared.line_marks.Lines.{Lines}
 

@@ -15,9 +15,9 @@ use Rattle.clr_svg.specs.declared.inks.Ink.{Ink}
 use Rattle.clr_svg.specs.declared.pixels.Pixels.{Pixels}
 use Rattle.clr_svg.specs.Inks.{dashed_ink, drawn_ink, filled_ink, ink_over}
 use Rattle.clr_svg.specs.Lengths.{length_of}
-use Rattle.clr_drawing.specs.declared.details.Detail.{Detail}
+use Rattle.clr_views.specs.declared.details.Detail.{Detail}
 use Rattle.clr_drawing.specs.declared.signs.Sign.{Sign}
-use Rattle.clr_drawing.specs.Details.{is_fine}
+use Rattle.clr_views.specs.Details.{is_fine}
 use Rattle.clr_drawing.specs.Palette.{rgb}
 use Rattle.clr_drawing.specs.Signs.{DrawsCross, IsSign, hundredths}
 use Rattle.clr_drawing.specs.Sketches.{Draws}

@@ -40,10 +40,10 @@ use Rattle.clr_new_pairs.specs.NewPairs.{AreFiledBefore, ArePartsFiled, IsNeedAt
 use Rattle.clr_new_pairs.specs.NewPairs.{IsNeedWithBefore, IsNeedWithPart, entry_at, with_part}
 use Rattle.clr_new_pairs.specs.NewPairs.{HasBreakAt, Passes, UpTo, is_past, is_unserved_under}
 use Rattle.clr_versions.specs.Versions.{FitsSetting, row_and_life, row_of}
-use Rattle.clr_new_pairs.proofs.CandidateLaws.{first_counted, first_within, one_cell, opposed_pair, ordered_pair, pair_back, second_counted, second_within}
-use Rattle.clr_new_pairs.proofs.CandidateLaws.{they_call, turned_less, turned_told}
+use Rattle.clr_versions.proofs.CandidateLaws.{first_counted, first_within, one_cell, opposed_pair, ordered_pair, pair_back, second_counted, second_within}
+use Rattle.clr_versions.proofs.CandidateLaws.{they_call, turned_less, turned_told}
 use Rattle.clr_versions.proofs.Gaining.{gains_as, gains_both, gains_none, reaches_as, reaches_both}
-use Rattle.clr_new_pairs.proofs.CandidateLaws.{both_paired}
+use Rattle.clr_versions.proofs.CandidateLaws.{both_paired}
 
 -- ---- positions
 

@@ -1,6 +1,7 @@
 pub mod AskLemmas
 pub mod BrokenLemmas
 pub mod BrokenOrder
+pub mod CallLaws
 pub mod CrossingLemmas
 pub mod Elements
 pub mod FieldLemmas

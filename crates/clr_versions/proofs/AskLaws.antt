@@ -1,28 +1,18 @@
 -- The rule of an ask.
 use Rattle.std.proofs.Common.{◌≡◌, ◌∙◌, ℕ, true, List, Option, Some, None, inl, inr, slice_get, refl, sym, ap}
 use Rattle.std.specs.Option.{is_some}
-use Rattle.std.proofs.lemmas.Bool.{false≢true}
 use Rattle.clr_rows.specs.Held.{Held}
 use Rattle.clr_rules.specs.declared.needs.Ask.{Ask}
 use Rattle.clr_rules.specs.declared.rules.Rule.{Rule}
 use Rattle.clr_rules.specs.declared.sides.Side.{Side}
-use Rattle.clr_rules.specs.Calls.{are_subjects, are_subjects_of, calls, is_server, is_server_of, serves}
+use Rattle.clr_rules.specs.Calls.{are_subjects, calls, is_server, is_server_of, serves}
 use Rattle.clr_rules.specs.Sides.{is_of, sides}
+use Rattle.clr_rules.proofs.CallLaws.{called_by}
 use Rattle.clr_rules.proofs.RoleLemmas.{beside}
 use Rattle.clr_versions.specs.Candidates.{is_of_two, is_of_two_by, is_of_two_under}
 
 abbrev pub IsRule : List Rule → ℕ → Rule → Type 0
 IsRule rules number rule = slice_get rules number ≡ Some rule
-
-pub called_by : (rules : List Rule) (ask : Ask) (s : Held) (t : Option Held) → calls rules ask s t ≡ true → (rule : Rule) × IsRule rules ask.rule rule
-    × (are_subjects rule ask s t ≡ true)
-unfolding calls
-called_by rules ask s t e = by (slice_get rules ask.rule) refl e
-  where
-    by : (r : Option Rule) → slice_get rules ask.rule ≡ r → are_subjects_of r ask s t ≡ true → (rule : Rule) × IsRule rules ask.rule rule
-        × (are_subjects rule ask s t ≡ true)
-    by None at f = absurd (false≢true f)
-    by (Some rule) at f = (rule, at, f)
 
 pub served_by : (rules : List Rule) (ask : Ask) (s : Held) (t : Option Held) (r : Held) (rule : Rule) → IsRule rules ask.rule rule → serves rules ask s t r
     ≡ true → is_server rule ask s t r ≡ true

@@ -1,4 +1,5 @@
 pub mod AskLaws
+pub mod CandidateLaws
 pub mod ChangedCells
 pub mod ChangerSteps
 pub mod Gaining

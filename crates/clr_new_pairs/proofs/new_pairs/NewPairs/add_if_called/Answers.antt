@@ -2,7 +2,7 @@ use Rattle.std.proofs.Common.{◌∙◌, Some, None, sym}
 use Rattle.clr_rules.specs.Calls.{calls}
 use Rattle.clr_versions.specs.RootVersions.{setting_in}
 use Rattle.clr_versions.proofs.VersionFits.{fit_two}
-use Rattle.clr_new_pairs.proofs.CandidateLaws.{add_asked}
+use Rattle.clr_versions.proofs.CandidateLaws.{add_asked}
 use Rattle.clr_new_pairs.proofs.new_pairs.NewPairs.add_if_called.Goals as goal
 
 pub calls_two-requires-clause-fit : goal.calls_two-requires-clause-fit
