@@ -3,7 +3,7 @@
 //! two of them breaks and only the least such need is sought, those behind it are left out.
 
 ghost use Rattle.std.specs.Prelude.{◌≡◌, ◌<◌, ◌+◌, ◌-◌, ◌&&◌, ◌==◌, length, slice_get, IfSome, MatchOption, None, Some, OnOk};
-ghost use Rattle.clr_versions.specs.Candidates.{IsNeedAmong, IsNeedOf, IsNeedOfAsk, IsNeedOfPair};
+ghost use Rattle.clr_versions.specs.Candidates.{IsNeedAmong, IsNeedOfPair};
 ghost use Rattle.clr_versions.specs.Gains.{Gains, OfSome, Reaches};
 ghost use Rattle.clr_new_pairs.specs.NewPairs.{AreFiledBefore, IsNeedAtPosition, IsNeedOfEntry, IsNeedOfParts, IsNeedOfTwo};
 ghost use Rattle.clr_new_pairs.specs.NewPairs.{HasBreakAt, IsNeedWithBefore, IsNeedWithPart, Passes, UpTo, is_past, with_part};
@@ -63,31 +63,6 @@ pub struct NewPairs<'s, 'a, V> {
 }
 
 impl<V: RowView> NewPairs<'_, '_, V> {
-    /// Adds the need of two versions in these parts, if the rule asks it.
-    fn add_if_called(
-        &self,
-        ask: Ask,
-        first: Version,
-        second: Version,
-        needs: &mut Vec<Need>,
-    ) -> Result<(), AllocError>
-        requires number { ask.rule < length self.now.versions.book.now }
-        requires fit { FitsSetting (setting_in V.content self.now.versions) }
-        requires first { IsAt (setting_in V.content self.now.versions) first }
-        requires second { IsAt (setting_in V.content self.now.versions) second }
-        ensures { OnOk result (Gains (IsNeedOf self.now.versions.book.now ask.rule None first.entry (Some second.entry))
-            (IsNeedOfAsk self.now.versions.book.now ask None first.entry second.entry) needs.old.items needs.new.items) }
-    {
-        if self
-            .versions
-            .book
-            .calls_two(ask, first.as_held(), second.as_held())
-        {
-            needs.push(Need::new(ask, first.id, Some(second.id)))?;
-        }
-        Ok(())
-    }
-
     /// Adds the need of a part of a version and a part of another one, in the order of their cells.
     fn add_of_parts(
         &self,
@@ -115,7 +90,7 @@ impl<V: RowView> NewPairs<'_, '_, V> {
                     first_part: part,
                     second_part: other_part,
                 };
-                self.add_if_called(ask, one, other, needs)?
+                self.versions.add_of_ask(ask, None, one, other, needs)?
             }
             Ordering::Equal => {}
             Ordering::Greater => {
@@ -124,7 +99,7 @@ impl<V: RowView> NewPairs<'_, '_, V> {
                     first_part: other_part,
                     second_part: part,
                 };
-                self.add_if_called(ask, other, one, needs)?
+                self.versions.add_of_ask(ask, None, other, one, needs)?
             }
         }
         Ok(())

@@ -68,8 +68,9 @@ impl<V: RowView> RootVersions<'_, '_, V> {
         Ok(())
     }
 
-    /// Adds the need of two versions in these parts.
-    fn add_of_ask(
+    /// Adds the need of two versions in these parts, where the rule asks it and the server, if one is given, serves it. If
+    /// memory runs out, nothing changes.
+    pub fn add_of_ask(
         &self,
         ask: Ask,
         server: Option<Version>,

@@ -14,9 +14,10 @@
 //!   least with a life (`least_with_life`), which stands after a merge (`are_living`,
 //!   `first_living`), whose life names a member (`has_named_subject`, `first_naming`), whether a
 //!   member breaks the need (`is_blocker`), and which witnesses a planner names (`pick_of`).
-//!   `may_be_served`: whether a server may serve a need of a subject at all. Of versions that are handed to it, it adds the needs
-//!   that a rule asks of one alone (`add_alone`) and beside each of some others (`add_pairs`), and the names of those that serve
-//!   (`add_servers`, `serves_if_any`): exactly these, and some of them where memory runs out.
+//!   `may_be_served`: whether a server may serve a need of a subject at all. Of versions that are handed
+//!   to it, it adds the needs that a rule asks of one alone (`add_alone`), of two in given parts
+//!   (`add_of_ask`) and of one beside each of some others (`add_pairs`), and the names of those that
+//!   serve (`add_servers`, `serves_if_any`): exactly these, and only some of them where memory runs out.
 //! - `broken_of`: a need by its cells, as an audit lists it.
 //! - `is_asked_of_two`, `may_be_paired`: whether a rule is asked of two rows, and whether a row may be
 //!   one of these.
