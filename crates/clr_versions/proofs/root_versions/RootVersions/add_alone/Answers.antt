@@ -6,7 +6,8 @@ use Rattle.clr_versions.specs.RootVersions.{setting_in}
 use Rattle.clr_versions.proofs.CandidateLaws.{add_alone, both_told, none_alone, asked_without_call, asked_without_server}
 use Rattle.clr_versions.proofs.VersionFits.{fit_one}
 use Rattle.clr_versions.proofs.root_versions.RootVersions.add_alone.Goals as goal
-use Rattle.clr_versions.proofs.root_versions.RootVersions.add_alone.Goals.{else-serves_if_any-via-then-serves_if_any+else-calls_one, else-serves_if_any-via-else-serves_if_any}
+use Rattle.clr_versions.proofs.root_versions.RootVersions.add_alone.Goals.{else-serves_if_any-via-then-serves_if_any+else-calls_one}
+use Rattle.clr_versions.proofs.root_versions.RootVersions.add_alone.Goals.{else-serves_if_any-via-else-serves_if_any}
 
 pub calls_one-requires-clause-fit : goal.calls_one-requires-clause-fit
 calls_one-requires-clause-fit g c = fit_one (setting_in g.V.RowView.content c.args.self.now) c.requires.fit c.args.first _ c.requires.first c.as_held.ensures

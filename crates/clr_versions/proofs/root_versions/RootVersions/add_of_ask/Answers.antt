@@ -5,7 +5,8 @@ use Rattle.clr_versions.specs.RootVersions.{setting_in}
 use Rattle.clr_versions.proofs.CandidateLaws.{add_asked, both_told, none_asked, asked_without_call, asked_without_server}
 use Rattle.clr_versions.proofs.VersionFits.{fit_two}
 use Rattle.clr_versions.proofs.root_versions.RootVersions.add_of_ask.Goals as goal
-use Rattle.clr_versions.proofs.root_versions.RootVersions.add_of_ask.Goals.{else-serves_if_any-via-then-serves_if_any+else-calls_two, else-serves_if_any-via-else-serves_if_any}
+use Rattle.clr_versions.proofs.root_versions.RootVersions.add_of_ask.Goals.{else-serves_if_any-via-then-serves_if_any+else-calls_two}
+use Rattle.clr_versions.proofs.root_versions.RootVersions.add_of_ask.Goals.{else-serves_if_any-via-else-serves_if_any}
 
 pub calls_two-requires-clause-fit : goal.calls_two-requires-clause-fit
 calls_two-requires-clause-fit g c =
