@@ -75,13 +75,17 @@ prove_stage() {
     for way in "${runs[@]}"; do wait "$way" || return 1; done
 }
 
-# Proves the crates stage by stage, and then all. What one run has proved the others take.
+# Proves the crates stage by stage, and all beside the last stage, for whose ways there has to be memory. What one run has proved the others take.
 prove() {
-    local stage
+    local stage whole
+    local earlier=("${stages[@]:0:${#stages[@]}-1}")
     trap 'kill $(jobs -p) 2>/dev/null' EXIT
     trap 'exit 143' TERM
-    for stage in "${stages[@]}"; do prove_stage "$stage" || return 1; done
-    copy_crates "$room/way0" "${crates[@]}" && begin_in "$room/way0" && wait $!
+    for stage in "${earlier[@]}"; do prove_stage "$stage" || return 1; done
+    copy_crates "$room/whole" "${crates[@]}" && begin_in "$room/whole" || return 1
+    whole=$!
+    if has_room_for_ways; then prove_stage "${stages[-1]}" || return 1; fi
+    wait "$whole"
 }
 
 # Reads what `rt ci` prints, and says a line for each crate that is done, and for each minute in which none is. It fails after a line
@@ -137,7 +141,7 @@ build() {
     follow <&8 || exit 2
     exec 8<&-
     [ "$(listing)" = "$before" ] || refuse "the sources were changed while they were proved; start again"
-    made=$(made_in "$room/way0")
+    made=$(made_in "$room/whole")
     [ -s "$made" ] || refuse "the program is proved, and there is none in $made"
     write_program "$made" "$digest" "$before" || refuse "the program can't be written into bin/out"
 }
