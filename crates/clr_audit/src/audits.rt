@@ -50,6 +50,8 @@ fn add_of_rule(
 /// Returns the broken needs of a content, each once, ascending by rule, first cell, second cell,
 /// first part and second part. Every rule holds where there is none. The book and the rows fit one
 /// schema.
+/// For example, where mains may cross only at nodes, and main 1 from (0, 0) to (10, 10) and main 2 from (0, 10) to
+/// (10, 0) are all the rows, the list has one need, that of mains 1 and 2. A node at (5, 5) makes it empty.
 pub fn audit(alloc: Global, book: &RuleBook, sheet: &Sheet) -> Result<Vec<Broken>, AllocError>
     requires { FitsContent book.now sheet.now }
     ensures list { IfOk result (λ list. list.items ≡ broken_needs book.now sheet.now) }
@@ -92,6 +94,7 @@ fn add_of_rule_until_least(
 /// Returns the least broken need of a content, or none where every rule holds: the first that
 /// `audit` would list. No other need is kept for it than those of the row that has it. The book and
 /// the rows fit one schema.
+/// For example, where mains 1 and 2 break rule 0, and mains 1 and 3 break rule 1, it returns the need of mains 1 and 2.
 pub fn first_broken(
     alloc: Global,
     book: &RuleBook,

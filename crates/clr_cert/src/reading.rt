@@ -75,6 +75,13 @@ fn read_records(
 /// that of the first record that has one, beside the record's number, counted from 1. In each
 /// record the count of fields is tested first, then the first field, and then the others.
 ///
+/// For example, this is a certificate of the member `W1`, with an entry of two subjects and two witnesses:
+///
+/// ```text
+/// member,W1,,,,
+/// need,1,main/1/old,main/2/old,node/9/old,node/10/new
+/// ```
+///
 /// Fails with `NotCsv` at 1 where the bytes aren't UTF-8, with `FieldCount` where a record hasn't
 /// six fields, with `BadKind` where the first field is none of `root`, `member` and `need`, and
 /// with `BadReference` where a name isn't good, a field that must be empty isn't, a root record is

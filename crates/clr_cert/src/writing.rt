@@ -224,6 +224,8 @@ fn add_entries(
 /// root where it isn't LIVE, the members in order, and the entries in order. The name of a table
 /// that the schema hasn't is empty. Reading the text gives the same certificate where the names are
 /// good, the schema names each cell, and parts are 1 to 31, and 1 where there is no second subject.
+/// For example, the text of a certificate without members and entries is empty where the root is LIVE. A member `W1`
+/// is written as the line `member,W1,,,,`.
 pub fn write_certificate(
     alloc: Global,
     schema: &Schema,

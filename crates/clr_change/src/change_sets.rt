@@ -153,6 +153,8 @@ impl ChangeSet {
     }
 
     /// Returns what changes from one content to another.
+    /// For example, where main 1 stays as it is, main 2 gets another code, main 3 goes and main 4 comes, there are three
+    /// changes, of mains 2, 3 and 4.
     pub fn between(alloc: Global, base: &Sheet, current: &Sheet) -> Result<ChangeSet, AllocError>
         ensures { IfOk result (λ set. set ≡ changes base.now current.now) }
     {

@@ -8,6 +8,9 @@ use clr_rows::{CellId, RowView};
 
 /// Returns the least changed cell where the parent's row isn't the row before the change, and the
 /// number of such cells. Returns none where there is no such cell. It takes no memory.
+/// For example, where the only change gives main 1 the code `W` in place of `A`, and main 1 has the code `L` in the
+/// parent, it returns main 1 and 1. So it does where the parent's main 1 has the code `W` too: two equal changes are
+/// in conflict.
 pub fn first_conflict<V: RowView>(changes: &ChangeSet, parent: &V) -> Option<(CellId, usize)>
     ensures { result ≡ least_and_count (conflicts (V.content parent.now) changes.now) }
 {

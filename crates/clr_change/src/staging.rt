@@ -17,6 +17,8 @@ use std::alloc::Global;
 /// Returns what edits change, made one after another over a view. The view itself stays as it is.
 /// Fails with the number of the first edit that can't be made, counted from 1, and why; or with 0
 /// and `OutOfMemory`.
+/// For example, a delete of main 2 and then an insert of main 2 with another code make one change. An insert of
+/// main 9 and then a delete of main 77, which isn't there, fail with 2 and `NoRow`.
 pub fn stage<V: RowView>(
     alloc: Global,
     schema: &Schema,

@@ -63,6 +63,10 @@ fn judge_parts(alloc: Global, office: &Office, parts: &SiteParts, entries: &[Ent
 /// and so after any two that merge all, the root has the same rows. What `Office::perform_all`
 /// answers to quiet commands is then a cleared run. Nothing that the certificate says is taken to
 /// be true.
+///
+/// For example, mains 1 and 2 may cross only at a node, and the member `W1` deletes node 9, at which they do, and
+/// inserts node 10 there. The verdict is `Clear` where an entry names the old node 9 and the new node 10 as witnesses
+/// of their need. It is `Uncovered` with that need where the entry names the old node 9 alone.
 pub fn check(alloc: Global, office: &Office, certificate: &Certificate) -> Verdict
     ensures answer { IsCheckAnswer office.now (site_of certificate.now) (entries_in certificate.now.entries) result }
     ensures free { result ≡ verdict.Clear → StaysFree office.now (site_of certificate.now) }

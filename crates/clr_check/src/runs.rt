@@ -58,6 +58,8 @@ fn perform_quiet(
 /// the root afterwards, and the root has the changes of the members whose merge was done over the
 /// rows that it had. Fails with a verdict that isn't clear, or with `OutOfMemory` where no memory
 /// is found for the check or the replies; then nothing changes.
+/// For example, under a certificate that clears `W1` and `W2` for LIVE, a merge of `W1`, an apply of no edits to LIVE
+/// and a merge of `W2` give the one reply `Done` and stop at 2, since an apply to LIVE isn't quiet. `W2` isn't merged.
 pub fn perform_cleared(
     alloc: Global,
     office: &mut Office,

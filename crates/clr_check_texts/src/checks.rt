@@ -58,6 +58,9 @@ fn said_of(fault: CaseFault) -> Checked
 /// only where the texts are an office and a certificate, and every rule holds in LIVE and in each
 /// workspace that is kept; its verdict may be want of memory. Where the verdict is clear, all holds
 /// that `check` promises of a clear one. Nothing that the certificate says is taken to be true.
+/// For example, where rule 1 lets mains cross only at nodes, and mains 1 and 2 cross without one in LIVE, the answer is
+/// `Unheld` with position 0 and their need, whether the second text is a certificate or not. An empty text is a
+/// certificate without members, and its verdict is `Clear` in every office whose rules hold.
 pub fn check_texts(alloc: Global, office: &[u8], certificate: &[u8]) -> Checked
     ensures { IsChecked (case_of office.now certificate.now) result }
 {

@@ -36,6 +36,7 @@ impl Source for Text<'_> {
     ghost failed = { λ _. false };
 
     /// Reads as many bytes as the buffer takes and the text has.
+    /// For example, with a buffer of two bytes the text `abc` is read as `ab`, then `c`, and then nothing.
     fn read_some(&mut self, buffer: &mut [u8]) -> Result<usize, DeviceFault>
         requires { 0 < length buffer.old }
         ensures bound { IfOk result (λ count. count ≤ length buffer.new) }
@@ -100,6 +101,7 @@ impl Sink for Page {
 
     /// Writes all the bytes. It fails exactly where they don't fit in the room that is left, and
     /// then nothing is put on the page.
+    /// For example, a page with room for three bytes takes `ab`. Then it refuses `cd`, and still has `ab`.
     fn put(&mut self, bytes: &[u8]) -> Result<(), DeviceFault>
         ensures bytes { OnOk result (Appends (Some self.old.contents) (Some self.new.contents) bytes.now) }
         ensures goes_on { OnOk result (self.new.failed ≡ self.old.failed) }

@@ -27,6 +27,7 @@ fn is_separator(line: &[u8]) -> bool
 
 /// Returns the text before the first line that is the separator, and the text after that line, or
 /// none where no line is the separator.
+/// For example, `a\n---\nb\n---\n` is split into `a\n` and `b\n---\n`.
 pub fn split_at_separator(text: &[u8]) -> Option<(&[u8], &[u8])>
     ensures { option_map (λ parts. (parts.0.now, parts.1.now)) result ≡ around_separator text.now }
 {

@@ -70,6 +70,15 @@ fn draft_of(alloc: Global, read: OfficeParts) -> Result<Draft, TextFault>
 /// these parts `BadField` comes before the other faults, and at one cell `BadRow` before
 /// `RepeatedCell`.
 ///
+/// For example, this text gives a draft of one table, without rules or workspaces, and with one row in LIVE:
+///
+/// ```text
+/// {"format":1,"tables":[{"name":"node","columns":[["kind","TEXT"]],"shape":"POINT"}],
+/// "live":[{"t":"node","k":9,"v":["valve"],"s":[5,5]}]}
+/// ```
+///
+/// With `[5,1.5]` for `[5,5]` it fails with `BadField`.
+///
 /// Fails with `NotJson` where the bytes aren't JSON, with `BadField` where a key is missing or a
 /// value is none of those that may stand there (a list of rules, workspaces, cells of a base, of
 /// rows, marks or literals that is missing is empty), with `BadSchema` where the tables make no

@@ -65,6 +65,8 @@ impl Draft {
     /// from 0, and why: part by part for its name, its parent, and for too many workspaces or
     /// levels, and only then part by part for its marks. Fails with 0 and `OutOfMemory` if memory
     /// runs out.
+    /// For example, a part `A` under LIVE without marks and a part `B` under `A` fail with 0 and `BadMarks`, since `A`
+    /// lacks the mark of its child.
     pub fn build(
         alloc: Global,
         schema: Schema,
@@ -120,6 +122,8 @@ impl Draft {
     /// Returns the office that has all that the draft has, where every rule holds in LIVE and in
     /// each workspace that is kept. Otherwise it fails and gives the draft back: with `Broken` and
     /// the first of these that breaks a rule, or with `OutOfMemory`.
+    /// For example, where rule 1 lets mains cross only at nodes, and mains 1 and 2 cross without one in LIVE, it fails
+    /// with the draft and the need of mains 1 and 2 under rule 1.
     pub fn admit(self) -> Result<Office, (Draft, AdmitFault)>
         ensures office { IfOk result (λ office. office ≡ self) }
         ensures held { OnOk result (unheld_in self ≡ None) }

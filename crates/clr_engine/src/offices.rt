@@ -180,6 +180,8 @@ impl Office {
     /// Returns how many entries are stored of a workspace, or none for an unknown name: one for
     /// each cell where its base differs from its parent's current content, and one for each cell
     /// that it changed. LIVE has 0.
+    /// For example, a new workspace has 1 entry after it inserts a main. One that changes nothing has 1 after its parent
+    /// inserts a main, and 0 after a refresh.
     pub fn stored(&self, ws: &str) -> Option<usize>
         ensures { result ≡ if_stands self.now ws.now (stored_in self.now ws.now) }
     {
@@ -214,6 +216,7 @@ impl Office {
 
     /// Returns the cells that a workspace changed and where its parent has another row than the
     /// base, in the order of cells, or none for an unknown name. LIVE has no such cells.
+    /// For example, where a workspace updates main 1, and its parent updates main 1 afterwards, main 1 is in conflict.
     pub fn conflicts(&self, ws: &str) -> Result<Option<Vec<CellId>>, AllocError>
         ensures { IfOk result (λ cells. option_map (λ list. list.items) cells ≡ if_stands self.now ws.now (conflicts_in self.now ws.now)) }
     {
@@ -256,6 +259,8 @@ impl Office {
     /// `Done`; a refused command changes nothing. `OutOfMemory` may come in place of any other
     /// reply, but never to `Remove`, `Unmark` and `Release`, and changes nothing either. That the
     /// content would break a rule, where the rules are to hold in it, is the last refusal.
+    /// For example, where two mains may cross only at a node, and a workspace has deleted the node at which they do, its
+    /// merge into LIVE is answered `RuleBroken` with the need of both mains.
     pub fn perform(&mut self, command: &Command) -> Reply
         ensures answer { IsAnswer self.old command.now result self.new }
         ensures no_memory { TakesNoMemory command.now → is_lost result ≡ false }
@@ -273,6 +278,7 @@ impl Office {
 
     /// Performs commands one after another, also after one that is refused, and returns their
     /// replies. If no memory is found for the replies, it fails and performs none.
+    /// For example, creating `W1`, `W1` again and `W2` under LIVE is answered `Done`, `NameTaken` and `Done`.
     pub fn perform_all(&mut self, commands: &[Command]) -> Result<Vec<Reply>, AllocError>
         ensures run { IfOk result (λ replies. run self.old commands.now (lost_in replies.items)
             ≡ record { replies = replies.items; office = self.new }) }

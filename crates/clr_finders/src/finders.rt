@@ -29,12 +29,16 @@ pub trait RowFinder: Drop {
     /// Returns the cells whose row shares a spot with this one under a rule, ascending, each once.
     /// Where one of the two rows is wide, it is enough that both have a role in the rule. A row
     /// without a role shares with none. The rule's number is below the book's `len`.
+    /// For example, where mains may cross only at nodes, a main from (0, 0) to (500000, 0) finds a main from
+    /// (250000, -1000) to (250000, 1000) and a node at (250000, 0), since all three have the square (2, 0). It doesn't
+    /// find a hydrant at (250000, 0), which has no role in the rule.
     fn sharing(&self, book: &RuleBook, rule: u16, held: Held) -> Result<Vec<CellId>, AllocError>
         requires number { rule < length book.now }
         requires fit { FitTogether book.now (held_of held ∷ []) }
         ensures { IfOk result (λ cells. cells.items ≡ found_cells false (settled self.now) rule (rule_spots book.now rule (held_of held.entry))) };
 
     /// Returns those cells of `sharing` whose row is of the side that serves.
+    /// For example, where mains may cross only at nodes, a main finds the nodes that share with it, and no mains.
     fn sharing_servers(
         &self,
         book: &RuleBook,
@@ -67,6 +71,7 @@ pub trait RowFinder: Drop {
 
     /// Adds a pending change of a cell that has none yet: the row that is to stand there, or none.
     /// If memory runs out, nothing changes.
+    /// For example, `sharing` doesn't find a new main that is noted until `settle` is called.
     fn note(&mut self, book: &RuleBook, cell: CellId, row: Option<&Row>) -> Result<(), AllocError>
         requires fit { FitTogether book.now (rows_at cell (option_copied row)) }
         requires free { finite.get (pending self.old) cell ≡ None }

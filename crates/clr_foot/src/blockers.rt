@@ -15,6 +15,8 @@ use std::alloc::AllocError;
 impl<V: RowView, F: RowFinder> Scene<'_, V, F> {
     /// Returns the members that break a possible need, by position, ascending: those that bring a
     /// subject or take a version away that serves it.
+    /// For example, where no two mains may have one code, member 0 gives main 1 another code, and member 1 inserts
+    /// main 30 with the code that main 1 had, member 1 alone breaks the need of the old main 1 and the new main 30.
     pub fn blockers(&self, need: &Need) -> Result<Vec<u16>, AllocError>
         requires ready { IsReady F.settled (model_of V.content self.now) }
         requires possible { IsPossibleNeed (setting_of (model_of V.content self.now)) need.now }

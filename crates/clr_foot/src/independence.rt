@@ -40,6 +40,9 @@ impl<V: RowView, F: RowFinder> Scene<'_, V, F> {
     /// serving versions both a version whose life names the first member and one whose life names
     /// the second. Members are numbered by position. All possible needs count, whether changes
     /// touch them or not. Only those that involve the first member are looked at.
+    /// For example, two members of which each inserts a main are independent if these mains are far apart and have
+    /// different codes. Where mains 1 and 2 cross at a node, a member that deletes main 1 and one that deletes main 2
+    /// aren't independent, although they touch no need.
     pub fn independent(&self, first: u16, second: u16) -> Result<bool, AllocError>
         requires ready { IsReady F.settled (model_of V.content self.now) }
         requires first { first < length (model_of V.content self.now).sets }

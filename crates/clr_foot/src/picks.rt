@@ -18,6 +18,9 @@ impl<V: RowView, F: RowFinder> Scene<'_, V, F> {
     /// it: the least version that covers it alone. If none does, they are those of the first member
     /// that takes a serving version away and brings another: the least that it takes away and the
     /// least that it brings.
+    /// For example, where two mains cross at node 9, and a member deletes node 9 and inserts node 10 at the same point,
+    /// the witnesses are the old version of node 9 and the new one of node 10. Where node 11 stands there too and no
+    /// member changes it, it is the only witness.
     pub fn pick(&self, need: &Need) -> Result<Option<(VersionId, Option<VersionId>)>, AllocError>
         requires ready { IsReady F.settled (model_of V.content self.now) }
         requires possible { IsPossibleNeed (setting_of (model_of V.content self.now)) need.now }

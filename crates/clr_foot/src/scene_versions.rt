@@ -21,6 +21,8 @@ impl<'a, V: RowView, F: RowFinder> Scene<'a, V, F> {
     /// Returns the scene of a book, a root, a finder that has settled the root's rows, and at most
     /// `MOST_MEMBERS` change sets. Fails with `SharedCell` where two of them change one cell, and
     /// with `OutOfMemory` if memory runs out.
+    /// For example, where the first and the third change set insert main 20, it fails with main 20 and the members 0
+    /// and 2.
     pub fn new(
         alloc: Global,
         book: &'a RuleBook,
@@ -72,6 +74,8 @@ impl<'a, V: RowView, F: RowFinder> Scene<'a, V, F> {
     }
 
     /// Returns how long the version of a name lives, if there is one.
+    /// For example, where member 0 deletes node 9 and inserts node 10, the old version of node 9 lives `Without(0)` and
+    /// the new one of node 10 `With(0)`. The old version of a main that no member changes lives `Always`.
     pub fn life(&self, id: VersionId) -> Option<Life>
         ensures { option_map lifetime result ≡ option_map (λ l. l.life) (version (setting_of (model_of V.content self.now)) id) }
     {

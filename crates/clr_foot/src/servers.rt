@@ -58,6 +58,8 @@ impl<V: RowView, F: RowFinder> Scene<'_, V, F> {
     }
 
     /// Returns the versions that serve a possible need, ascending, each once.
+    /// For example, where mains 1 and 2 cross at node 9, and a member deletes node 9 and inserts node 10 at the same
+    /// point, the old version of node 9 and the new one of node 10 serve.
     pub fn servers(&self, need: &Need) -> Result<Vec<VersionId>, AllocError>
         requires ready { IsReady F.settled (model_of V.content self.now) }
         requires possible { IsPossibleNeed (setting_of (model_of V.content self.now)) need.now }

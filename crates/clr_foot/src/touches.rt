@@ -238,6 +238,8 @@ impl<V: RowView, F: RowFinder> Scene<'_, V, F> {
 
     /// Returns the touched needs: possible ones with a new subject, and those of old subjects that
     /// an old version serves which a member changes. They are ascending, each once.
+    /// For example, where mains may cross only at nodes, and a member deletes the node at which mains 1 and 2 cross, the
+    /// need of these two mains is touched.
     pub fn touched_needs(&self) -> Result<Vec<Need>, AllocError>
         requires ready { IsReady F.settled (model_of V.content self.now) }
         ensures { IfOk result (λ needs. AreTouchedNeeds (setting_of (model_of V.content self.now)) needs.items) }

@@ -86,6 +86,7 @@ fn of_parts(
 /// without the first and one that lives with or without the second. Where the root isn't kept, a
 /// name is wrong, a member is in conflict or two change one cell, the answer is the first test that
 /// fails. The needs that involve each member are listed once.
+/// For example, two members that each delete one of three nodes at the crossing of two mains are dependent.
 pub fn independence_of(
     alloc: Global,
     office: &Office,

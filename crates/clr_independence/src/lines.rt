@@ -77,6 +77,15 @@ pub fn lines_of_independence(
 
 /// Returns the lines of the independence of members of a root in an office. Without members there
 /// are none.
+///
+/// For example, where mains may cross only at nodes, and of the mains that `W1`, `W2` and `W3` insert only those of
+/// `W2` and `W3` cross, the lines are
+///
+/// ```text
+/// independent W1 W2
+/// independent W1 W3
+/// dependent W2 W3
+/// ```
 pub fn independence_lines(
     alloc: Global,
     office: &Office,

@@ -81,6 +81,8 @@ fn broken_line(alloc: Global, schema: &Schema, need: &Broken) -> Result<Vec<u8>,
 /// the name of the refusal and then its details: the edit's number and its fault's name, the least
 /// cell in conflict and how many there are, or the need that no row would serve, as `rule 1
 /// main/20/3 main/21`. The name of a table that the schema hasn't is empty.
+/// For example, `refused 9 BadEdit 3 KeyTaken` says that the third edit inserts a row where one stands, and
+/// `refused 10 Conflict main/1 1` that main 1 is the only cell in conflict.
 pub fn reply_line(alloc: Global, schema: &Schema, reply: &Reply) -> Result<Vec<u8>, AllocError>
     ensures { IfOk result (λ line. line.items ≡ reply_text schema.now reply.now) }
 {

@@ -137,6 +137,14 @@ fn write_row(
 /// Returns the lines of a sheet: `rows N` and then each row as a CSV record, in the order of cells,
 /// with the name of its table, its key, its values and its coordinates in millimetres. Each line
 /// ends with `\n`. The name of a table that the schema hasn't is empty.
+///
+/// For example, of two nodes they are
+///
+/// ```text
+/// rows 2
+/// node,9,tap,5,5
+/// node,10,tee,7,7
+/// ```
 pub fn rows_lines(alloc: Global, schema: &Schema, sheet: &Sheet) -> Result<Vec<u8>, AllocError>
     ensures { IfOk result (λ lines. lines.items ≡ rows_text schema.now sheet.now) }
 {

@@ -110,6 +110,9 @@ fn answer_texts(alloc: Global, ask: &Ask, office: &[u8], second: &[u8]) -> Resul
 /// isn't clear, a merge that isn't quiet, or a rule that doesn't hold; 3 a command, a plan or a
 /// verdict found no memory. Where a rule doesn't hold, that alone is printed, but for an audit.
 ///
+/// For example, where rule 1 lets mains cross only at nodes, and mains 1 and 2 cross without one in LIVE, an audit writes
+/// the lines `broken 1` and `rule 1 main/1 main/2`, a plan the line `unheld rule 1 main/1 main/2`, and both return 1.
+///
 /// The fault is the first that applies. Nothing is written then, unless the writer failed. Fails
 /// with `TooLong` where a text has more than `MOST_INPUT_BYTES`, with `BadOffice` where the first
 /// text is no office, with `BadScript` or `BadCertificate` where the second is no script or no

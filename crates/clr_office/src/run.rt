@@ -14,6 +14,15 @@ use std::alloc::Global;
 /// a plan that is blocked or unfit, or a rule that doesn't hold in the office, 3 a command or a
 /// plan found no memory.
 ///
+/// For example, for this input it writes the lines `done` and `refused 2 NameTaken`, and returns 1:
+///
+/// ```text
+/// {"format":1,"tables":[{"name":"node","columns":[["kind","TEXT"]],"shape":"POINT"}],"live":[]}
+/// ---
+/// create,W1,LIVE
+/// create,W1,LIVE
+/// ```
+///
 /// The fault is the first that applies. Nothing is written then, unless the writer failed. Fails
 /// with `ReadFailed` where a read fails, which is not tried again, with `TooLong` where the input
 /// has more than `MOST_INPUT_BYTES`, with `NoSeparator` where no line is `---`, or `---` and one

@@ -70,6 +70,8 @@ fn office_text(alloc: Global, office: &Office) -> Result<JsonText, AllocError>
 /// in its base exactly the cells where it differs from what its parent sees now, and in its rows
 /// and savepoints exactly those where they differ from its base, however the office keeps them.
 /// Read again it is the same office: schema, rules, contents, marks in their order and flags.
+/// For example, a node 9 of LIVE is written as `{"k":9,"s":[5,5],"t":"node","v":["valve"]}`. Where a workspace deleted
+/// it, its rows have `{"gone":true,"k":9,"t":"node"}`.
 pub fn write_office(alloc: Global, office: &Office) -> Result<Vec<u8>, AllocError>
     ensures text { IfOk result (λ bytes. bytes.items ≡ bytes_of office.now) }
     ensures again { IfOk result (λ bytes. draft_in bytes.items ≡ Ok office.now) }

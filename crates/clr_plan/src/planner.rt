@@ -42,6 +42,11 @@ fn plan_parts(
 /// conflict or breaks a rule. There is no other answer but `OutOfMemory`, in place of `Cleared` and
 /// `Blocked`. What was cleared stays cleared for the members that still stand, in whichever order
 /// they are named, after every list of quiet commands.
+///
+/// For example, where no two mains may have one code, `W1` gives main 1 another code, and `W2` inserts main 30 with the
+/// code that main 1 had, the plan of `W1` and `W2` is `Blocked`. The order is the position 1, since merging
+/// `W2` first breaks the rule, and the cause is `Uncovered`. Where both insert main 20, the order is the positions 0
+/// and 1, and the cause is `SharedCell`.
 pub fn plan(alloc: Global, office: &Office, root: &str, members: &[&str]) -> Plan
     ensures plan { IsPlan office.now (site root.now (map (λ name. name.now) members.now)) result }
     ensures unfit { IsUnfitWhere office.now (site root.now (map (λ name. name.now) members.now)) result }

@@ -99,6 +99,19 @@ fn unfit_line(
 /// their names, and in a second line `cause` and the verdict. Where the members are unfit, the line
 /// is `unfit` and the verdict. Where the planner found no memory, it is `refused 0 OutOfMemory`. A
 /// position past the members, and a table that the schema hasn't, have an empty name.
+///
+/// For example, the lines of a certificate with one entry, and those of a plan that is blocked, are
+///
+/// ```text
+/// cleared 1
+/// member,W1,,,,
+/// need,1,main/1/old,main/2/old,node/9/old,node/10/new
+/// ```
+///
+/// ```text
+/// blocked 1 W1
+/// cause 6 Uncovered rule 1 main/1/old main/2/old
+/// ```
 #[tactic(auto, unfolding(crate::specs::Plans::plan_text))]
 pub fn plan_lines(
     alloc: Global,

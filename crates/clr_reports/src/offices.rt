@@ -47,6 +47,8 @@ pub fn unheld_output(
 /// Returns the office of a text, in which the rules hold. Otherwise it fails with what is answered
 /// in place of all that may be asked of the office: the line that says which rule doesn't hold, or
 /// `BadOffice` where the text is no office, or `OutOfMemory` if memory runs out.
+/// For example, the line is `unheld rule 1 main/1 main/2` where rule 1 lets mains cross only at nodes, and mains 1
+/// and 2 cross without one in LIVE.
 pub fn open_office(alloc: Global, office: &[u8]) -> Result<Office, Result<Output, RunFault>>
     ensures meant { IfOk result (λ opened. draft_in office.now ≡ Ok opened) }
     ensures held { IfOk result (λ opened. unheld_in opened ≡ None) }

@@ -34,6 +34,16 @@ fn add_workspace_line(lines: &mut Vec<u8>, office: &Office, name: &str) -> Resul
 /// there are. Then, in order of creation, come the name of each, that of its parent, how many cells
 /// it changed, at how many of them it is in conflict with its parent, and `kept` where every rule
 /// is to hold in it.
+///
+/// For example, in these lines `W1` changed two cells, of which one is in conflict, `K` is kept, and `V` is a child
+/// of `K`:
+///
+/// ```text
+/// workspaces 3
+/// W1 LIVE 2 1
+/// K LIVE 0 0 kept
+/// V K 1 0
+/// ```
 #[tactic(auto, unfolding(crate::specs::Workspaces::workspaces_text))]
 pub fn workspaces_lines(alloc: Global, office: &Office) -> Result<Vec<u8>, AllocError>
     ensures { IfOk result (λ lines. lines.items ≡ workspaces_text office.now) }

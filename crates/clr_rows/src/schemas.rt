@@ -42,6 +42,7 @@ impl Schema {
     /// tables before the next. Fails with `TooMany` where there are more than 32 tables or a table
     /// has more than 16 columns, with `BadName` where a name isn't good or a column is called
     /// `KEY`, and with `NameTaken` where a table's name, or a column's in one table, stands twice.
+    /// For example, two tables called `t` fail with `NameTaken`, while `t` and `T` make a schema.
     pub fn new(tables: Vec<TableDef>) -> Result<Schema, SchemaFault>
         ensures made { IfOk result (λ schema. schema ≡ tables.items) }
         ensures judged { MatchResult result (λ _. schema_fault tables.items ≡ None) (λ fault. schema_fault tables.items ≡ Some fault) }
@@ -135,6 +136,7 @@ impl Schema {
     /// way, with `ZeroSegment` where the ends of a segment are one point or a vertex of a path
     /// equals the next one, and with `BadPath` where a path has fewer than 2 or more than 32
     /// vertices.
+    /// For example, a main from (3, 3) to (3, 3) fails with `ZeroSegment` at key 1 and with `OutOfRange` at key 0.
     #[tactic(auto, unfolding(crate::specs::Schemas::row_fault))]
     pub fn fits(&self, cell: CellId, row: &Row) -> Result<(), RowFault>
         ensures { Answers result (row_fault self.now cell row.now) }

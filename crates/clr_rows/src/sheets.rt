@@ -67,6 +67,7 @@ impl Sheet {
 
     /// Puts a row at a cell, and returns the row that stood there, or none. If memory runs out,
     /// nothing changes. It never fails where the cell has a row.
+    /// For example, `put` returns none for a valve at an empty cell, and the valve for a tee that is put there next.
     pub fn put(&mut self, cell: CellId, row: Row) -> Result<Option<Row>, AllocError>
         ensures before { IfOk result (λ before. before ≡ row_at self.old cell) }
         ensures ok { OnOk result (self.new ≡ finite.insert self.old cell row) }
@@ -81,6 +82,8 @@ impl Sheet {
     /// Puts rows, or none, over this content at some cells, one after another. If memory runs out,
     /// nothing changes. The cost depends on the number of rows that are put, and not on the size of
     /// the sheet.
+    /// For example, where a valve stands at node 9 and a tee at node 10, putting none at node 9 and a tap at node 10
+    /// leaves one row, the tap.
     pub fn put_all(&mut self, cells: Vec<(CellId, Option<Row>)>) -> Result<(), AllocError>
         ensures ok { OnOk result (self.new ≡ over self.old cells.items) }
         ensures err { OnErr result (self.new ≡ self.old) }

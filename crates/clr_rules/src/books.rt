@@ -43,6 +43,9 @@ impl RuleBook {
     /// side hasn't the shape that the rule asks for, `BadDistance` where a distance isn't 1 to
     /// 1,000,000 millimetres, and `BadFilter` where a filter names a column that its table hasn't
     /// or a literal is of another kind than its column.
+    ///
+    /// For example, where the first rule is good and the second is a `Near` with the distance 0, it fails with number 1
+    /// and `BadDistance`.
     #[tactic(auto, unfolding(crate::specs::Books::book_fault))]
     pub fn new(schema: &Schema, rules: Vec<Rule>) -> Result<RuleBook, (u16, RuleFault)>
         ensures made { IfOk result (λ book. book ≡ rules.items) }

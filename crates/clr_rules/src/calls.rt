@@ -21,6 +21,7 @@ impl RuleBook {
     /// Returns how many parts of a row a rule is asked of: those of its segment or path for a
     /// `Crossing`, and 1 for another rule, which is asked of whole rows. The rule's number is below
     /// `len`.
+    /// For example, of a path with four vertices a `Crossing` is asked of 3 parts, and an `EndNode` of 1.
     #[tactic(auto, unfolding(crate::specs::Calls::part_count))]
     pub fn part_count(&self, rule: u16, held: Held) -> u16
         requires number { rule < length self.now }
@@ -35,6 +36,8 @@ impl RuleBook {
 
     /// Returns whether a row alone calls a rule, so that some row which serves it must stand. The
     /// rule's number is below `len`, and the row fits a schema that the book fits.
+    /// For example, under an `EndNode` of the mains with the code `A`, a main with the code `A` calls the rule, and
+    /// one with the code `B` doesn't. No row alone calls a `Unique`.
     #[tactic(auto, unfolding(crate::specs::Calls::calls))]
     pub fn calls_one(&self, rule: u16, held: Held) -> bool
         requires number { rule < length self.now }
@@ -49,6 +52,8 @@ impl RuleBook {
     /// isn't there doesn't call. Under other rules part numbers other than 1 don't call. Whether
     /// the cells differ isn't looked at. The rule's number is below `len`, and the rows fit a
     /// schema that the book fits.
+    /// For example, under a `Unique` on the code, two mains with the code `A` call the rule, and mains with the codes
+    /// `A` and `a` don't. Under a `Crossing`, mains from (0, 0) to (10, 10) and from (0, 10) to (10, 0) call it.
     #[tactic(auto, unfolding(crate::specs::Calls::calls))]
     pub fn calls_two(&self, ask: Ask, first: Held, second: Held) -> bool
         requires number { ask.rule < length self.now }
@@ -64,6 +69,8 @@ impl RuleBook {
     /// `EndNode` the subject must be of the subject's side, too; for a `Crossing` only the server's
     /// side is looked at. The rule's number is below `len`, and the rows fit a schema that the book
     /// fits.
+    /// For example, under a `Crossing` at nodes, a node at (5, 5) serves mains from (0, 0) to (10, 10) and from (0, 10)
+    /// to (10, 0), and a node at (4, 4) doesn't. Under a `Unique` or a `Near` no row serves.
     #[tactic(auto, unfolding(crate::specs::Calls::serves))]
     pub fn serves(&self, ask: Ask, first: Held, second: Option<Held>, server: Held) -> bool
         requires number { ask.rule < length self.now }

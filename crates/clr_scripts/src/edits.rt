@@ -240,6 +240,15 @@ pub(crate) fn edits(
 /// least three fields, then the table, then the exact count of fields, and then the numbers from
 /// left to right.
 ///
+/// For example, these are an insert of node 10 and an update of node 9, where nodes are points with one text:
+///
+/// ```text
+/// insert,node,10,tee,7,7
+/// update,node,9,tap,5,5
+/// ```
+///
+/// With `+5` for the last number it fails with `BadNumber` at 2.
+///
 /// Fails with `NotCsv` at 1 where the bytes aren't UTF-8, with `BadWord` where the first field is
 /// none of the three words, with `FieldCount` where there are fewer than three fields, or a count
 /// that the table's columns and shape don't allow (a path has 4 to 64 coordinates, an even count),

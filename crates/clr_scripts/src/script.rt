@@ -136,6 +136,15 @@ fn steps(
 /// has one, beside the record's number, counted from 1. In each record the word is tested first,
 /// then the count of fields, and then the fields from left to right.
 ///
+/// For example, this script has three steps, and the second of them makes one edit:
+///
+/// ```text
+/// create,W1,LIVE
+/// apply,W1,1
+/// insert,node,10,tee,7,7
+/// merge,W1,keep
+/// ```
+///
 /// Fails with `NotCsv` at 1 where the bytes aren't UTF-8, with `BadWord` where the first field is
 /// no step's word, the third field of a `merge` or the last of a `resolve` is none of those that
 /// stand there, or an edit begins with another word than `insert`, `update` or `delete`, with

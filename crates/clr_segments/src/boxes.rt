@@ -15,6 +15,7 @@ pub struct Bounds {
 
 /// Returns the least box that holds the segment from a to b. Where a and b are one place, it is the
 /// box of that place.
+/// For example, the box of the segment from (4, -1) to (-2, 7) has the corners (-2, -1) and (4, 7).
 pub fn box_of(a: Place, b: Place) -> Bounds
     ensures value { result ≡ box_between a b }
     ensures least { IsLeastBox a b result }
@@ -88,6 +89,7 @@ fn ranges_touch(low: i64, high: i64, other_low: i64, other_high: i64) -> bool
 }
 
 /// Returns whether two boxes have a common point, their edges included.
+/// For example, the box from (0, 0) to (1, 2) touches the one from (1, 2) to (2, 4), since they share a corner.
 pub fn boxes_touch(b: Bounds, c: Bounds) -> bool
     ensures { IsTrue result ↔ BoxesTouch b c }
 {

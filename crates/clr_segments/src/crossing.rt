@@ -59,6 +59,8 @@ fn are_collinear(a: Place, b: Place, c: Place, d: Place) -> bool
 /// Returns how the segments from a to b and from c to d meet, their ends included. Where they meet
 /// once, that point may have coordinates that aren't whole. The ends of each segment differ, and
 /// coordinates are millimetres of at most 1,000,000,000 in size.
+/// For example, the answer is `Overlap` for the segments from (0, 0) to (6, 0) and from (4, 0) to (9, 0). It is
+/// `Once` for those from (0, 0) to (1, 1) and from (0, 1) to (1, 0), which meet between whole millimetres.
 pub fn meet(a: Place, b: Place, c: Place, d: Place) -> Meet
     requires a_in { InRange a }
     requires b_in { InRange b }

@@ -12,6 +12,7 @@ use clr_rows::Place;
 
 /// Returns whether p is a point of the segment from a to b, its ends included. The ends differ, and
 /// coordinates are millimetres of at most 1,000,000,000 in size.
+/// For example, (2, 2) is a point of the segment from (0, 0) to (3, 3), and (4, 4) isn't.
 pub fn lies_on(p: Place, a: Place, b: Place) -> bool
     requires p_in { InRange p }
     requires a_in { InRange a }
@@ -24,6 +25,7 @@ pub fn lies_on(p: Place, a: Place, b: Place) -> bool
 
 /// Returns whether p and q are nearer than d millimetres. Two places exactly d apart are not. The
 /// distance d is 1 to 1,000,000, and coordinates are millimetres of at most 1,000,000,000 in size.
+/// For example, (0, 0) and (3, 4) are nearer than 6 millimetres, and not nearer than 5.
 pub fn near(p: Place, q: Place, d: i64) -> bool
     requires p_in { InRange p }
     requires q_in { InRange q }

@@ -37,6 +37,8 @@ fn part_from(vertices: &[Place], at: u16) -> Option<(Place, Place)>
 /// Returns the ends of a part of a shape, or none where the shape has no part of this number. Part
 /// n of a path goes from its vertex n to its vertex n + 1, counted from 1. A segment is its own
 /// part 1.
+/// For example, part 3 of the path (100, 0), (110, 0), (110, 10), (100, 10) goes from (110, 10) to (100, 10), and
+/// there is no part 4.
 pub fn part(shape: &Shape, number: u16) -> Option<(Place, Place)>
     ensures { result ≡ part_of shape.now number }
 {

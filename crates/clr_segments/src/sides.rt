@@ -44,6 +44,7 @@ fn doubled_area(a: Place, b: Place, c: Place) -> i64
 /// Returns the side of the line from a to b on which the place c is: 1 to the left, -1 to the
 /// right, 0 on the line, and 0 where a and b are one place. Coordinates are millimetres of at most
 /// 1,000,000,000 in size.
+/// For example, (5, 3) is to the left of the line from (0, 0) to (10, 0), so the answer is 1.
 pub fn turn(a: Place, b: Place, c: Place) -> i64
     requires a_in { InRange a }
     requires b_in { InRange b }

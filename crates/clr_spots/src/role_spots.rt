@@ -97,6 +97,8 @@ fn server_spots_by_rule(alloc: Global, rule: &Rule, held: Held) -> Result<Spots,
 /// point grown by d on each side; under `Crossing` they are the squares that meet the box of one
 /// part of it, numbered from 1. A row that is no subject has none. The rule's number is below the
 /// book's `len`, and the row fits a schema that the book fits.
+/// For example, where a `Partner` asks that the number in each hydrant is the key of a main, a hydrant with the
+/// number 4 has one spot, the value 4.
 #[tactic(auto, unfolding(crate::specs::RoleSpots::subject_spots_under))]
 pub fn subject_spots(
     alloc: Global,
@@ -116,6 +118,8 @@ pub fn subject_spots(
 /// Returns the spots of a row in its role as a server under the rule of a number: the values in its
 /// columns, or the square of its point. A row that is no server has none. The rule's number is
 /// below the book's `len`, and the row fits a schema that the book fits.
+/// For example, where a `Partner` asks that the number in each hydrant is the key of a main, main 2 has one spot,
+/// the value 2.
 #[tactic(auto, unfolding(crate::specs::RoleSpots::server_spots_under))]
 pub fn server_spots(
     alloc: Global,

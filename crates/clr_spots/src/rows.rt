@@ -180,6 +180,8 @@ fn spots_by_rule(alloc: Global, rule: &Rule, held: Held) -> Result<Spots, AllocE
 /// for `Near` those that meet the box of the point grown by d on each side. A row that is of no
 /// side of the rule has none. The rule's number is below the book's `len`, and the row fits a
 /// schema that the book fits.
+/// For example, under a `Crossing` of mains, a main from (250000, -1000) to (250000, 1000) has two spots, the squares
+/// (2, -1) and (2, 0). One from (0, 0) to (6400000, 0) meets 65 squares, so it is wide and its list is empty.
 #[tactic(auto, unfolding(crate::specs::Spots::spots_under, crate::specs::Spots::is_wide_under))]
 pub fn spots_of(alloc: Global, book: &RuleBook, rule: u16, held: Held) -> Result<Spots, AllocError>
     requires number { rule < length book.now }

@@ -86,6 +86,8 @@ impl Tree {
     /// first part with a fault and which fault: `BadName`, `NameTaken`, `NoParent` or `TooMany`
     /// part by part, and only then `BadMarks` part by part. Fails with `OutOfMemory` at 0 if memory
     /// runs out.
+    /// For example, where the first part is `B` under `A` and the second is `A` under LIVE, it fails with 0 and
+    /// `NoParent`, since a parent comes before its children.
     pub fn build(alloc: Global, live: Sheet, parts: Vec<Part>) -> Result<Tree, (usize, PartFault)>
         ensures made { IfOk result (λ tree. tree.list ≡ list_of live parts.items) }
         ensures passed { OnOk result (first_fault live parts.items ≡ None) }
@@ -204,6 +206,7 @@ impl Tree {
 
     /// Returns the position of a savepoint among the marks of the workspace at a position, or none.
     /// LIVE has no savepoints.
+    /// For example, where the marks are that of a child and then the savepoint `s`, `s` has position 1.
     pub fn find_mark(&self, at: usize, name: &str) -> Option<usize>
         requires within { at < length self.now.list }
         ensures { result ≡ find_mark (workspace_at self.now.list at).marks name.now }
@@ -213,6 +216,8 @@ impl Tree {
 
     /// Returns whether the mark of a child stands after a position among the marks of the workspace
     /// at a position. It is false for LIVE, and past the last mark.
+    /// For example, where the only child of a workspace was made after its savepoint `s`, the answer for `s` is true.
+    /// Once the child is removed, it is false.
     pub fn held(&self, at: usize, mark: usize) -> bool
         requires within { at < length self.now.list }
         ensures { result ≡ is_held (workspace_at self.now.list at).marks mark }
@@ -362,6 +367,7 @@ impl Tree {
 
     /// Makes a workspace of a new name under the one at a position. Its base and its current
     /// content are that one's current content. If memory runs out, nothing changes.
+    /// For example, where LIVE gets a main later, a workspace made under LIVE doesn't see it until it is refreshed.
     pub fn create(&mut self, name: &str, parent: usize) -> Result<(), AllocError>
         requires within { parent < length self.old.list }
         requires good { is_good_name name.now ≡ true }
@@ -421,6 +427,8 @@ impl Tree {
 
     /// Makes the content of a savepoint of a workspace, which isn't LIVE, its current content. The
     /// later savepoints go. If memory runs out, nothing changes.
+    /// For example, where the savepoints `s1`, `s2` and `s3` were set in this order, a roll to `s2` takes `s3` away, and
+    /// `s1` and `s2` stay.
     pub fn roll_to(&mut self, at: usize, mark: usize) -> Result<(), AllocError>
         requires child { 0 < at }
         requires within { at < length self.old.list }
@@ -444,6 +452,8 @@ impl Tree {
 
     /// Merges the workspace at a position, which isn't LIVE, into its parent. The changes given are
     /// those that `changes` gives of it. If memory runs out, nothing changes.
+    /// For example, where all that a workspace changed is that it inserted main 20, its parent has main 20 afterwards,
+    /// and the workspace has no changes.
     pub fn merge_changes(&mut self, at: usize, changed: &ChangeSet) -> Result<(), AllocError>
         requires child { 0 < at }
         requires within { at < length self.old.list }
@@ -456,6 +466,8 @@ impl Tree {
 
     /// Refreshes the workspace at a position, which isn't LIVE, from its parent. The changes given
     /// are those that `changes` gives of it. If memory runs out, nothing changes.
+    /// For example, where all that a workspace changed is that it inserted main 21, and its parent has inserted main 20
+    /// since, the workspace sees both afterwards, and main 21 is still its only change.
     pub fn refresh_changes(&mut self, at: usize, changed: &ChangeSet) -> Result<(), AllocError>
         requires child { 0 < at }
         requires within { at < length self.old.list }
@@ -468,6 +480,9 @@ impl Tree {
 
     /// Moves the base of the workspace at a position, which isn't LIVE. If memory runs out, nothing
     /// changes.
+    /// For example, where main 1 has the code `A` in the base, `W` in the workspace and `L` in its parent, `OneRow` with
+    /// main 1 leaves the code `W` in the workspace for `Keep::Child`, `L` for `Keep::Parent` and `A` for `Keep::Base`.
+    /// The base then has the code `L`.
     pub fn rebase(&mut self, at: usize, how: Rebase) -> Result<(), AllocError>
         requires child { 0 < at }
         requires within { at < length self.old.list }

@@ -87,6 +87,8 @@ fn uncovered_line(alloc: Global, schema: &Schema, need: &Need) -> Result<Vec<u8>
 /// the members that change it; or the need that no entry covers, as `rule 1 main/20/old/3
 /// main/21/new`. A position past the members, and a table that the schema hasn't, have an empty
 /// name.
+/// For example, `5 SharedCell main/20 W1 W2` says that `W1` and `W2` both change main 20, and
+/// `6 Uncovered rule 1 main/1/old main/2/old` that no entry covers the need of the old mains 1 and 2 under rule 1.
 pub fn verdict_line(
     alloc: Global,
     schema: &Schema,
