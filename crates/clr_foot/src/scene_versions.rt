@@ -19,8 +19,8 @@ use std::alloc::Global;
 
 impl<'a, V: RowView, F: RowFinder> Scene<'a, V, F> {
     /// Returns the scene of a book, a root, a finder that has settled the root's rows, and at most
-    /// `MOST_MEMBERS` change sets. Fails with `SharedCell` where two of them change one cell, and
-    /// with `OutOfMemory` if memory runs out.
+    /// `MOST_MEMBERS` change sets. Fails with `SharedCell` where two of them change one cell, with
+    /// the least such cell and the first two that change it, and with `OutOfMemory` if memory runs out.
     /// For example, where the first and the third change set insert main 20, it fails with main 20 and the members 0
     /// and 2.
     pub fn new(

@@ -86,7 +86,8 @@ fn add_cell_line(lines: &mut Vec<u8>, schema: &Schema, cell: CellId) -> Result<(
 }
 
 /// Returns the lines of cells in conflict: `conflicts N`, and then each cell, as `main/20`, in the
-/// order in which they are given. Each line ends with `\n`.
+/// order in which they are given. The name of a table that the schema hasn't is empty. Each line ends
+/// with `\n`.
 /// For example, of node 9 and main 20 they are `conflicts 2`, `node/9` and `main/20`.
 #[tactic(auto, unfolding(crate::specs::Reports::conflicts_text))]
 pub fn conflicts_lines(
@@ -113,7 +114,8 @@ fn add_need_line(lines: &mut Vec<u8>, schema: &Schema, need: &Broken) -> Result<
 
 /// Returns the lines of an audit: `broken N`, and then each need that no row serves, as `rule 1
 /// main/20/3 main/21`, in the order in which they are given. The part of a subject stands behind it
-/// where it is above 1. Each line ends with `\n`.
+/// where it is above 1. The name of a table that the schema hasn't is empty. Each line ends with
+/// `\n`.
 /// For example, of one need, that of mains 1 and 2 under rule 1, they are `broken 1` and `rule 1 main/1 main/2`.
 #[tactic(auto, unfolding(crate::specs::Reports::audit_text))]
 pub fn audit_lines(alloc: Global, schema: &Schema, needs: &[Broken]) -> Result<Vec<u8>, AllocError>
@@ -141,7 +143,8 @@ fn add_unheld_name(line: &mut Vec<u8>, name: Option<&str>) -> Result<(), AllocEr
 }
 
 /// Returns the line which says that a rule doesn't hold: `unheld`, the name of the workspace where
-/// it isn't LIVE, and the need that no row serves. The line ends with `\n`.
+/// it isn't LIVE, and the need that no row serves. The name of a table that the schema hasn't is empty.
+/// The line ends with `\n`.
 /// For example, it is `unheld rule 1 main/1 main/2` for LIVE and `unheld K rule 1 main/1 main/2` for a workspace `K`.
 pub fn unheld_line(
     alloc: Global,

@@ -251,7 +251,8 @@ impl Tree {
     }
 
     /// Returns how many entries are stored of the base and of the current content of the workspace
-    /// at a position, which isn't LIVE.
+    /// at a position, which isn't LIVE. Those that have the row of what they lie over count too, until
+    /// `sweep` takes them away.
     pub fn stored(&self, at: usize) -> usize
         requires child { 0 < at }
         requires within { at < length self.now.list }
@@ -366,7 +367,8 @@ impl Tree {
     }
 
     /// Makes a workspace of a new name under the one at a position. Its base and its current
-    /// content are that one's current content. If memory runs out, nothing changes.
+    /// content are that one's current content. Where the parent isn't LIVE, a mark of the new workspace
+    /// goes to the end of its marks. If memory runs out, nothing changes.
     /// For example, where LIVE gets a main later, a workspace made under LIVE doesn't see it until it is refreshed.
     pub fn create(&mut self, name: &str, parent: usize) -> Result<(), AllocError>
         requires within { parent < length self.old.list }
@@ -450,8 +452,8 @@ impl Tree {
         roll_all(&self.live, &mut self.map, at);
     }
 
-    /// Merges the workspace at a position, which isn't LIVE, into its parent. The changes given are
-    /// those that `changes` gives of it. If memory runs out, nothing changes.
+    /// Merges the workspace at a position, which isn't LIVE, into its parent. Its savepoints go. The
+    /// changes given are those that `changes` gives of it. If memory runs out, nothing changes.
     /// For example, where all that a workspace changed is that it inserted main 20, its parent has main 20 afterwards,
     /// and the workspace has no changes.
     pub fn merge_changes(&mut self, at: usize, changed: &ChangeSet) -> Result<(), AllocError>
@@ -464,7 +466,8 @@ impl Tree {
         merge_changes(&mut self.live, &mut self.map, at, changed)
     }
 
-    /// Refreshes the workspace at a position, which isn't LIVE, from its parent. The changes given
+    /// Refreshes the workspace at a position, which isn't LIVE, from its parent. Its savepoints go, and
+    /// where the parent isn't LIVE, its mark goes to the end of the parent's marks. The changes given
     /// are those that `changes` gives of it. If memory runs out, nothing changes.
     /// For example, where all that a workspace changed is that it inserted main 21, and its parent has inserted main 20
     /// since, the workspace sees both afterwards, and main 21 is still its only change.
@@ -478,8 +481,8 @@ impl Tree {
         refresh_changes(&self.live, &mut self.map, at, changed)
     }
 
-    /// Moves the base of the workspace at a position, which isn't LIVE. If memory runs out, nothing
-    /// changes.
+    /// Moves the base of the workspace at a position, which isn't LIVE: it is refreshed or merged, as
+    /// above, or takes the parent's row over at one cell. If memory runs out, nothing changes.
     /// For example, where main 1 has the code `A` in the base, `W` in the workspace and `L` in its parent, `OneRow` with
     /// main 1 leaves the code `W` in the workspace for `Keep::Child`, `L` for `Keep::Parent` and `A` for `Keep::Base`.
     /// The base then has the code `L`.
