@@ -15,8 +15,8 @@ use crate::covers::first_uncovered;
 use clr_cert::{Certificate, Entry};
 use clr_clearance::Verdict;
 use clr_engine::Office;
-use clr_needs::SceneFault;
 use clr_merge_sets::{MergeSetParts, read_merge_set};
+use clr_needs::SceneFault;
 use std::alloc::Global;
 
 /// Returns what is said where change sets make no scene.

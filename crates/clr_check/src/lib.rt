@@ -30,5 +30,5 @@ mod runs;
 
 pub use checks::check;
 pub use clr_clearance::Verdict;
-pub use clr_merge_sets::{NameList, MergeSetParts, name_fault, read_merge_set};
+pub use clr_merge_sets::{MergeSetParts, NameList, name_fault, read_merge_set};
 pub use runs::{ClearedRun, perform_cleared};

@@ -112,14 +112,16 @@ safe_as o c r e clash done = record {
   is_done = λ h. ap (λ (a : Answer). a.reply) (step_as o c r e) ∙ done h;
 }
 
-merged_by-refused : (merge_set : MergeSet) (name : Name) (remove : Bool) (reply : Reply) → is_done reply ≡ false → merged_by merge_set (command.Merge name remove) reply ≡ []
+merged_by-refused : (merge_set : MergeSet) (name : Name) (remove : Bool) (reply : Reply) → is_done reply ≡ false
+    → merged_by merge_set (command.Merge name remove) reply ≡ []
 merged_by-refused merge_set name remove Done e = absurd (true≢false e)
 merged_by-refused merge_set name remove _ e = refl
 
 abbrev after_either : Office → Bool → Workspace → Office
 after_either o remove w = cond remove (after_remove (after_merge o w) w) (after_merge o w)
 
-module _ (first : Office) (merge_set : MergeSet) (mergeable : AreMergeable first merge_set) (names : List Name) (now : Office) (inv : Invariant first merge_set names now)
+module _ (first : Office) (merge_set : MergeSet) (mergeable : AreMergeable first merge_set) (names : List Name) (now : Office)
+    (inv : Invariant first merge_set names now)
     (name : Name) (member : is_member merge_set name ≡ true) where
   merge_refusal : (remove : Bool) (w : Workspace) → workspace now name ≡ Some w
       → refusal now (command.Merge name remove) ≡ first_of (when (remove && has_child now w.name) NotLeaf ∷ breaks now w.parent (merged_content now w) ∷ [])
@@ -198,7 +200,8 @@ module _ (first : Office) (merge_set : MergeSet) (mergeable : AreMergeable first
 
       by : IsAnswered now (command.Merge name remove) (after_either now remove) → After (step now (command.Merge name remove))
       by (refused reply undone e) =
-          subst After (sym e) (subst (λ ns. Invariant first merge_set ns now) (sym (ap (λ ns. names ++ ns) (merged_by-refused merge_set name remove reply undone)
+          subst After (sym e) (subst (λ ns. Invariant first merge_set ns now) (sym (ap (λ ns. names ++ ns)
+          (merged_by-refused merge_set name remove reply undone)
           ∙ append-nil names)) inv)
       by (performed w is e) =
           let next = after_either now remove w in
@@ -218,7 +221,8 @@ module _ (first : Office) (merge_set : MergeSet) (mergeable : AreMergeable first
   -- where every rule holds in each merge, no answer is a clash --------------------------------------------------
 
   module _ (keeps : KeepsRules first merge_set) where
-    pub is_merge : (others : List Name) (content : Content) → AreAmong (setting_of first merge_set) others merge_set.members → ((cell : CellId) → row_at content cell
+    pub is_merge : (others : List Name) (content : Content) → AreAmong (setting_of first merge_set) others merge_set.members
+        → ((cell : CellId) → row_at content cell
         ≡ rows_with first merge_set others cell) → IsMergeOf first merge_set others content
     is_merge others content part rows = record { rows = rows; holds = subst (Holds first.book) (λ i cell. sym (rows cell) i) (keeps others part) }
 

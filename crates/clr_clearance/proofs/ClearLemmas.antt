@@ -231,7 +231,8 @@ module _ (o : Office) (merge_set : MergeSet) where
   unfolding names_fault
   faultless none =
       let both = neither (names_fault o merge_set) (first_conflict o 0 merge_set.members) none in
-      let root = neither (root_fault o merge_set) (option_or (repeated_member merge_set) (option_or (missing_member o merge_set) (stray_member o merge_set))) both.0 in
+      let root = neither (root_fault o merge_set) (option_or (repeated_member merge_set) (option_or (missing_member o merge_set) (stray_member o merge_set)))
+      both.0 in
       let repeated = neither (repeated_member merge_set) (option_or (missing_member o merge_set) (stray_member o merge_set)) root.1 in
       let missing = neither (missing_member o merge_set) (stray_member o merge_set) repeated.1 in
       record {
@@ -286,7 +287,8 @@ conflict_no_clear o at (n ∷ ns) = either_no_clear (option_map (λ (c : CellId 
 pub fault_no_clear : (o : Office) (merge_set : MergeSet) → IsNoClear (member_fault o merge_set)
 unfolding names_fault
 fault_no_clear o merge_set =
-    either_no_clear (option_or (root_fault o merge_set) (option_or (repeated_member merge_set) (option_or (missing_member o merge_set) (stray_member o merge_set))))
+    either_no_clear (option_or (root_fault o merge_set) (option_or (repeated_member merge_set)
+    (option_or (missing_member o merge_set) (stray_member o merge_set))))
     (first_conflict o 0 merge_set.members)
     (either_no_clear (root_fault o merge_set) (option_or (repeated_member merge_set) (option_or (missing_member o merge_set) (stray_member o merge_set)))
     (root (is_kept o merge_set.root))

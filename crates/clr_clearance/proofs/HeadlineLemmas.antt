@@ -48,7 +48,8 @@ module _ (o : Office) (merge_set : MergeSet) (mergeable : AreMergeable o merge_s
       all_alike : AreAllMerged o merge_set commands lost → AreAllMerged o merge_set others lost_of_others → AreMergedAlike
       all_alike all all_too name = by (is_member merge_set name) refl
         where
-          by : (b : Bool) → is_member merge_set name ≡ b → has (merged_after o merge_set commands lost) name ≡ has (merged_after o merge_set others lost_of_others) name
+          by : (b : Bool) → is_member merge_set name ≡ b → has (merged_after o merge_set commands lost) name
+              ≡ has (merged_after o merge_set others lost_of_others) name
           by true e = all name e ∙ sym (all_too name e)
           by false e =
               merged_are_members (merged_after o merge_set commands lost) (quiet_list_law o merge_set commands lost mergeable quiet).part name e

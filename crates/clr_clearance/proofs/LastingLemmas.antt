@@ -120,7 +120,8 @@ placed (n ∷ ns) name (suc k) e = by (same_name n name) refl (placed ns name k 
 
 -- the members that stand ---------------------------------------------------------------------------------------------
 
-module _ (first : Office) (merge_set : MergeSet) (mergeable : AreMergeable first merge_set) (names : List Name) (now : Office) (inv : Invariant first merge_set names now) where
+module _ (first : Office) (merge_set : MergeSet) (mergeable : AreMergeable first merge_set) (names : List Name) (now : Office)
+    (inv : Invariant first merge_set names now) where
   abbrev stands_now : Name → Bool
   stands_now name = is_some (workspace now name)
 
@@ -212,7 +213,8 @@ module _ (first : Office) (merge_set : MergeSet) (mergeable : AreMergeable first
     is_at : slice_get members k ≡ Some name
     changes : changed_by o name cell ≡ Some row
 
-  named : (o : Office) (s : MergeSet) (k : ℕ) (cell : CellId) (row : Option Row) → Changes (by_position (setting_of o s)) k cell row → Named o s.members k cell row
+  named : (o : Office) (s : MergeSet) (k : ℕ) (cell : CellId) (row : Option Row) → Changes (by_position (setting_of o s)) k cell row
+      → Named o s.members k cell row
   named o s k cell row changed = by (slice_get s.members k) refl changed.after
     where
       by : (r : Option Name) → slice_get s.members k ≡ r → after_member (setting_of o s) r cell ≡ Some row → Named o s.members k cell row
@@ -271,14 +273,16 @@ module _ (first : Office) (merge_set : MergeSet) (mergeable : AreMergeable first
   idle_root cell idle = taken_is (setting_of first merge_set) names (record { apart = mergeable.apart; part = inv.part }) cell
       ∙ by (changer (setting_of first merge_set) cell) (changer_is (setting_of first merge_set) cell)
     where
-      by : (x : Option Name) → IsChanger (setting_of first merge_set) merge_set.members cell x → standing_row (setting_of first merge_set) names cell x ≡ old_setting.root cell
+      by : (x : Option Name) → IsChanger (setting_of first merge_set) merge_set.members cell x
+          → standing_row (setting_of first merge_set) names cell x ≡ old_setting.root cell
       by None h = refl
       by (Some name) h =
           let (row, changed) = changes_of (setting_of first merge_set) name cell h.0 h.1 in
           let (k, e) = position_of merge_set.members name (sym (has_is merge_set.members name) ∙ h.0) in
           absurd (idle_or_changed old_setting k cell row idle (changes_at first merge_set k name cell row e changed.after))
 
-  merged_root : (name : Name) (cell : CellId) (row : Option Row) → is_member merge_set name ≡ true → has names name ≡ true → changed_by first name cell ≡ Some row
+  merged_root : (name : Name) (cell : CellId) (row : Option Row) → is_member merge_set name ≡ true → has names name ≡ true
+      → changed_by first name cell ≡ Some row
       → rows_with first merge_set names cell ≡ row
   merged_root name cell row member h e =
       order_law first merge_set names (name ∷ names) mergeable inv.part (again first merge_set mergeable names now inv name member h) cell
@@ -303,7 +307,8 @@ module _ (first : Office) (merge_set : MergeSet) (mergeable : AreMergeable first
     idle = λ cell idle. root_now cell ∙ idle_root cell idle;
     merged = λ x cell row changed e.
         (let at = named first merge_set x cell row changed in
-        root_now cell ∙ merged_root at.name cell row (has_at merge_set.members x at.name at.is_at) (of_merged at.name (sym (ap fate_of at.is_at) ∙ e)) at.changes);
+        root_now cell ∙ merged_root at.name cell row (has_at merge_set.members x at.name at.is_at) (of_merged at.name (sym (ap fate_of at.is_at) ∙ e))
+        at.changes);
     unmerged = λ x cell row changed not_merged.
         (let at = named first merge_set x cell row changed in
         root_now cell ∙ untaken first merge_set names at.name cell mergeable.apart inv.part (has_at merge_set.members x at.name at.is_at)
@@ -317,7 +322,8 @@ module _ (first : Office) (merge_set : MergeSet) (mergeable : AreMergeable first
         more,
         record {
           mergeable = standing_mergeable;
-          covered = subst (λ c. AreCovered c more) (sym (numbered_is now (standing now merge_set))) (carried old_setting next_setting fate is_later entries before);
+          covered = subst (λ c. AreCovered c more) (sym (numbered_is now (standing now merge_set)))
+              (carried old_setting next_setting fate is_later entries before);
         },
       )
 
@@ -331,14 +337,17 @@ all_clear o merge_set entries covers holds = record {
 }
 
 pub lasting_cover : LastingCoverLaw
-lasting_cover o merge_set entries commands lost covers quiet = standing_covered o merge_set covers.mergeable _ _ (quiet_list_law o merge_set commands lost covers.mergeable
+lasting_cover o merge_set entries commands lost covers quiet = standing_covered o merge_set covers.mergeable _ _
+    (quiet_list_law o merge_set commands lost covers.mergeable
     quiet) entries covers
 
-pub lasting_holds : (o : Office) (merge_set : MergeSet) (entries : List Entry) (commands : List Command) (lost : ℕ → Bool) → Covers o merge_set entries → RootHolds o merge_set
+pub lasting_holds : (o : Office) (merge_set : MergeSet) (entries : List Entry) (commands : List Command) (lost : ℕ → Bool) → Covers o merge_set entries
+    → RootHolds o merge_set
     → AreQuiet o merge_set commands lost
     → let now = (run o commands lost).office in RootHolds now (standing now merge_set)
 lasting_holds o merge_set entries commands lost covers holds quiet =
-    standing_holds o merge_set covers.mergeable _ _ (quiet_list_law o merge_set commands lost covers.mergeable quiet) (keeps_rules o merge_set entries covers holds)
+    standing_holds o merge_set covers.mergeable _ _ (quiet_list_law o merge_set commands lost covers.mergeable quiet)
+    (keeps_rules o merge_set entries covers holds)
 
 pub lasting : LastingLaw
 lasting o merge_set entries commands lost covers holds quiet =

@@ -27,7 +27,8 @@ use Rattle.clr_clearance.proofs.NameLemmas.{has_is, has_moved}
 use Rattle.clr_clearance.proofs.MergeSetLemmas.{content_above, no_conflict, order_law, some_is_changed}
 use Rattle.clr_clearance.proofs.StaticLemmas.{child_apart}
 
-module _ (first : Office) (merge_set : MergeSet) (mergeable : AreMergeable first merge_set) (names : List Name) (now : Office) (inv : Invariant first merge_set names now) where
+module _ (first : Office) (merge_set : MergeSet) (mergeable : AreMergeable first merge_set) (names : List Name) (now : Office)
+    (inv : Invariant first merge_set names now) where
   module _ (name : Name) (member : is_member merge_set name ≡ true) where
     pub not_root : is_root merge_set name ≡ false
     not_root = child_apart first merge_set name (mergeable.children name member)
@@ -80,11 +81,13 @@ module _ (first : Office) (merge_set : MergeSet) (mergeable : AreMergeable first
           by false waits = sym (taken_cons (setting_of first merge_set) name names cell)
 
       -- where another member changes a cell, this one doesn't
-      pub merged_elsewhere : (other : Name) (cell : CellId) → is_member merge_set other ≡ true → same_name name other ≡ false → is_some (changed_by first other cell)
+      pub merged_elsewhere : (other : Name) (cell : CellId) → is_member merge_set other ≡ true → same_name name other ≡ false
+          → is_some (changed_by first other cell)
           ≡ true
           → row_at (merged_content now w) cell ≡ row_at (root_content now merge_set) cell
       merged_elsewhere other cell member_too apart changes =
-          merged_at cell ∙ ap (λ r. unwrap_or r (row_at (root_content now merge_set) cell)) (it.changes cell ∙ by (has names name) (changed_by first name cell) refl)
+          merged_at cell ∙ ap (λ r. unwrap_or r (row_at (root_content now merge_set) cell))
+          (it.changes cell ∙ by (has names name) (changed_by first name cell) refl)
         where
           both : is_some (changed_by first name cell) ≡ true → ⊥
           both h =
@@ -180,14 +183,16 @@ module _ (first : Office) (merge_set : MergeSet) (mergeable : AreMergeable first
         (λ m e. some_is _ m e)
 
     pub remove_lasts : (after_remove (after_merge now w) w).book ≡ now.book → Invariant first merge_set more (after_remove (after_merge now w) w)
-    remove_lasts book = merge_lasts_with (after_remove (after_merge now w) w) _ (remove_steps merge_set now w inv.kept is (not_root w.name member) here_is.under)
+    remove_lasts book = merge_lasts_with (after_remove (after_merge now w) w) _ (remove_steps merge_set now w inv.kept is (not_root w.name member)
+        here_is.under)
         book (λ m e. absurd (none_is m e))
 
     free : conflict_with (content_of now w.parent) w ≡ None
     unfolding conflict
     free = no_conflict_now w.name member w is
 
-    refreshed_now : (next : Office) (m : Member) → root_content next merge_set ≡ root_content now merge_set → member_refreshed (content_of now w.parent) (member_of w) ≡ m
+    refreshed_now : (next : Office) (m : Member) → root_content next merge_set ≡ root_content now merge_set
+        → member_refreshed (content_of now w.parent) (member_of w) ≡ m
         → IsMemberNow first merge_set names next w.name m
     refreshed_now next m root e = subst (IsMemberNow first merge_set names next w.name) e (record {
       under = here_is.under;

@@ -93,13 +93,15 @@ order_law o merge_set names others mergeable part alike =
 
 -- a cell that one member changes has the root's row where only others are over it
 pub untaken : (o : Office) (merge_set : MergeSet) (names : List Name) (name : Name) (cell : CellId)
-    → AreDisjoint (setting_of o merge_set) → AreAmong (setting_of o merge_set) names merge_set.members → is_member merge_set name ≡ true → has names name ≡ false
+    → AreDisjoint (setting_of o merge_set) → AreAmong (setting_of o merge_set) names merge_set.members → is_member merge_set name ≡ true
+    → has names name ≡ false
     → is_some (changed_by o name cell) ≡ true
     → rows_with o merge_set names cell ≡ row_at (root_content o merge_set) cell
 untaken o merge_set [] name cell apart part member out changes = root_is (setting_of o merge_set) cell
 untaken o merge_set (n ∷ ns) name cell apart part member out changes =
     taken_cons (setting_of o merge_set) n ns cell ∙ ap (λ r. unwrap_or r (rows_with o merge_set ns cell)) (other (changed_by o n cell) refl)
-    ∙ untaken o merge_set ns name cell apart (λ m h. part m (or_right (same_name n m) (has_by same_name ns m) h)) member (rest (same_name n name) (has ns name) out)
+    ∙ untaken o merge_set ns name cell apart (λ m h. part m (or_right (same_name n m) (has_by same_name ns m) h)) member
+    (rest (same_name n name) (has ns name) out)
     changes
   where
     rest : (a b : Bool) → a || b ≡ false → b ≡ false

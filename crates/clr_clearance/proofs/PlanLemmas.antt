@@ -23,17 +23,23 @@ use Rattle.clr_clearance.proofs.SafeLemmas.{safe_law}
 use Rattle.clr_clearance.proofs.SharedLemmas.{shared_is_refused}
 
 pub cleared_plan : ClearedPlanLaw
-cleared_plan o merge_set entries cleared = record { mergeable = mergeable_of o merge_set cleared.free cleared.apart; covered = picked_cover _ entries cleared.picked }
+cleared_plan o merge_set entries cleared = record {
+  mergeable = mergeable_of o merge_set cleared.free cleared.apart;
+  covered = picked_cover _ entries
+      cleared.picked;
+}
 
 pub cleared_safe : ClearedIsSafeLaw
 cleared_safe o merge_set entries cleared holds = safe_law o merge_set entries (cleared_plan o merge_set entries cleared) holds
 
 pub blocked_plan : BlockedPlanLaw
-blocked_plan o merge_set order cause (of_conflict at cell count none found same e) holds = ap (λ positions. is_order_refused o (members_at merge_set positions)) same
+blocked_plan o merge_set order cause (of_conflict at cell count none found same e) holds = ap
+    (λ positions. is_order_refused o (members_at merge_set positions)) same
     ∙ conflict_is_refused o merge_set at cell count found
 blocked_plan o merge_set order cause (of_shared cell i j none shared same e) holds = ap (λ positions. is_order_refused o (members_at merge_set positions)) same
     ∙ shared_is_refused o merge_set cell i j none shared
-blocked_plan o merge_set order cause (of_unpicked n none apart first blocks e) holds = unpicked_is_refused o merge_set n order (mergeable_of o merge_set none apart) holds
+blocked_plan o merge_set order cause (of_unpicked n none apart first blocks e) holds = unpicked_is_refused o merge_set n order
+    (mergeable_of o merge_set none apart) holds
     first.touched first.none blocks
 
 -- merges of members, one after another -------------------------------------------------------------------------
@@ -51,7 +57,8 @@ one_more : (o : Office) (names : List Name) (n : Name) → after_merges o (names
 one_more o [] n = refl
 one_more o (m ∷ ms) n = one_more (step o (merge_of m)).office ms n
 
-head_member : (merge_set : MergeSet) (o : Office) (n : Name) (ns : List Name) → AreAmong (setting_of o merge_set) (n ∷ ns) merge_set.members → is_member merge_set n ≡ true
+head_member : (merge_set : MergeSet) (o : Office) (n : Name) (ns : List Name) → AreAmong (setting_of o merge_set) (n ∷ ns) merge_set.members
+    → is_member merge_set n ≡ true
 head_member merge_set o n ns part = sym (has_is merge_set.members n) ∙ part n (or_left (same_name n n) (has_by same_name ns n) (same_itself n))
 
 tail_part : (merge_set : MergeSet) (o : Office) (n : Name) (ns : List Name) → AreAmong (setting_of o merge_set) (n ∷ ns) merge_set.members
@@ -97,4 +104,5 @@ safe_order o merge_set names safe part = safe_calm o merge_set names [] safe (λ
 
 pub safe_plan : SafePlanLaw
 safe_plan o merge_set order cause safe holds blocked =
-    true≢false (sym (blocked_plan o merge_set order cause blocked holds) ∙ safe_order o merge_set (members_at merge_set order) safe (names_part o merge_set order))
+    true≢false (sym (blocked_plan o merge_set order cause blocked holds) ∙ safe_order o merge_set (members_at merge_set order) safe
+    (names_part o merge_set order))

@@ -125,7 +125,8 @@ module _ (first : Office) (merge_set : MergeSet) (mergeable : AreMergeable first
     next_is : (w : Workspace) → workspace now name ≡ Some w → is_clash (step now (merge_of name)).reply ≡ false → IsNext (step now (merge_of name)).office
     next_is w e calm = by (merge_ends now name w e)
       where
-        last : step now (merge_of name) ≡ answer Done (after_merge now w) → names ++ merged_by merge_set (merge_of name) (step now (merge_of name)).reply ≡ names
+        last : step now (merge_of name) ≡ answer Done (after_merge now w) → names ++ merged_by merge_set (merge_of name) (step now (merge_of name)).reply
+            ≡ names
             ++ name ∷ []
         last is = ap (λ (a : Answer). names ++ merged_by merge_set (merge_of name) a.reply) is ∙ ap (λ b. names ++ cond b (name ∷ []) []) member
 
@@ -140,7 +141,8 @@ module _ (first : Office) (merge_set : MergeSet) (mergeable : AreMergeable first
             let office : (step now (merge_of name)).office ≡ after_merge now w = ap (λ (a : Answer). a.office) is in
             let good : Holds now.book (row_at (merged_content now w)) = unbroken_holds now w.parent (merged_content now w) (kept_above w under) none in
             record {
-              lasts = subst (λ ns. Invariant first merge_set ns (step now (merge_of name)).office) (last is) (merge_claim first merge_set names now name false mergeable
+              lasts = subst (λ ns. Invariant first merge_set ns (step now (merge_of name)).office) (last is)
+                  (merge_claim first merge_set names now name false mergeable
                   inv member).0;
               stand = λ stand other h. ap (λ p. is_some (shown p other)) office ∙ stands_still w _ steps stand other h;
               holds = subst (Holds first.book) (λ i cell. (merged_rows first merge_set mergeable names now inv name member w e cell
@@ -149,12 +151,14 @@ module _ (first : Office) (merge_set : MergeSet) (mergeable : AreMergeable first
             }
 
   -- where none clashes, every rule holds with the changes of all of them
-  all_done : (ns names : List Name) (now : Office) → Invariant first merge_set names now → AllStand now → AreAmong (setting_of first merge_set) ns merge_set.members
+  all_done : (ns names : List Name) (now : Office) → Invariant first merge_set names now → AllStand now
+      → AreAmong (setting_of first merge_set) ns merge_set.members
       → is_order_refused now ns ≡ false
       → Holds first.book (rows_with first merge_set names) → Holds first.book (rows_with first merge_set (names ++ ns))
   all_done [] names now inv stand part calm holds = subst (λ ms. Holds first.book (rows_with first merge_set ms)) (sym (append-nil names)) holds
   all_done (n ∷ ns) names now inv stand part calm holds =
-      let member : is_member merge_set n ≡ true = sym (has_is merge_set.members n) ∙ part n (or_left (same_name n n) (has_by same_name ns n) (same_name_itself n)) in
+      let member : is_member merge_set n ≡ true = sym (has_is merge_set.members n) ∙ part n
+      (or_left (same_name n n) (has_by same_name ns n) (same_name_itself n)) in
       let both = or_parts (is_clash (step now (merge_of n)).reply) (is_order_refused (step now (merge_of n)).office ns) calm in
       let (w, e) = stands_as (workspace now n) (stand n member) in
       let next = next_is names now inv n member w e both.0 in
@@ -182,14 +186,16 @@ module _ (o : Office) (merge_set : MergeSet) where
   names_part (k ∷ ks) name h = by (slice_get merge_set.members k) refl h (names_part ks name)
     where
       by : (r : Option Name) → slice_get merge_set.members k ≡ r → has_by same_name (cons_option r (members_at merge_set ks)) name ≡ true
-          → (has_by same_name (members_at merge_set ks) name ≡ true → has_by same_name merge_set.members name ≡ true) → has_by same_name merge_set.members name ≡ true
+          → (has_by same_name (members_at merge_set ks) name ≡ true → has_by same_name merge_set.members name ≡ true)
+          → has_by same_name merge_set.members name ≡ true
       by None e h more = more h
       by (Some n) e h more = elim (or_cases (same_name n name) (has_by same_name (members_at merge_set ks) name) h) [
         | inl same ↦ ap (has_by same_name merge_set.members) (sym (same_name_is n name same)) ∙ member_there o merge_set merge_set.members k n e
         | inr other ↦ more other
       ]
 
-  pub rows_at : (order : List ℕ) (cell : CellId) → view_with (by_position (setting_of o merge_set)) order cell ≡ rows_with o merge_set (members_at merge_set order) cell
+  pub rows_at : (order : List ℕ) (cell : CellId) → view_with (by_position (setting_of o merge_set)) order cell
+      ≡ rows_with o merge_set (members_at merge_set order) cell
   rows_at [] cell = root_is (by_position (setting_of o merge_set)) cell ∙ sym (root_is (setting_of o merge_set) cell)
   rows_at (k ∷ ks) cell = taken_cons (by_position (setting_of o merge_set)) k ks cell ∙ by (slice_get merge_set.members k) (rows_at ks cell)
     where
@@ -197,12 +203,14 @@ module _ (o : Office) (merge_set : MergeSet) where
           → unwrap_or (after_member (setting_of o merge_set) r cell) (view_with (by_position (setting_of o merge_set)) ks cell)
           ≡ rows_with o merge_set (cons_option r (members_at merge_set ks)) cell
       by None more = more
-      by (Some n) more = ap (unwrap_or ((setting_of o merge_set).after n cell)) more ∙ sym (taken_cons (setting_of o merge_set) n (members_at merge_set ks) cell)
+      by (Some n) more = ap (unwrap_or ((setting_of o merge_set).after n cell)) more ∙ sym (taken_cons (setting_of o merge_set) n (members_at merge_set ks)
+          cell)
 
 -- a need that nothing covers ------------------------------------------------------------------------------------
 
 pub unpicked_is_refused : UnpickedLaw
-unpicked_is_refused o merge_set n order mergeable holds needed none blocks = breaking_is_refused o merge_set mergeable (members_at merge_set order) (names_part o merge_set order)
+unpicked_is_refused o merge_set n order mergeable holds needed none blocks = breaking_is_refused o merge_set mergeable (members_at merge_set order)
+    (names_part o merge_set order)
     holds breaking
   where
     breaking : Holds o.book (rows_with o merge_set (members_at merge_set order)) → ⊥
@@ -255,7 +263,8 @@ pub conflict_is_refused : (o : Office) (merge_set : MergeSet) (at : ℕ) (cell :
 unfolding conflict
 conflict_is_refused o merge_set at cell count e =
     let (j, same, found) = in_conflict_at o 0 merge_set.members at cell count e in
-    let here : slice_get merge_set.members at ≡ Some found.name = (let one : at ≡ j = omega (arith, same) in ap (slice_get merge_set.members) one ∙ found.is_at) in
+    let here : slice_get merge_set.members at ≡ Some found.name = (let one : at ≡ j = omega (arith, same) in ap (slice_get merge_set.members) one
+    ∙ found.is_at) in
     ap (λ r. is_order_refused o (cons_option r [])) here ∙ by found.name (workspace o found.name) refl found.conflicts_are
   where
     by : (name : Name) (r : Option Workspace) → workspace o name ≡ r → least_and_count (conflicts_in o name) ≡ Some (cell, count)

@@ -42,7 +42,8 @@ at_first first merge_set mergeable = record {
 }
 
 -- what no merge or refresh of a member leaves
-others_last : (first : Office) (merge_set : MergeSet) (names : List Name) (now : Office) (c : Command) → Invariant first merge_set names now → is_quiet now merge_set c ≡ true
+others_last : (first : Office) (merge_set : MergeSet) (names : List Name) (now : Office) (c : Command) → Invariant first merge_set names now
+    → is_quiet now merge_set c ≡ true
     → is_of_member merge_set c ≡ false → Invariant first merge_set names (step now c).office
 others_last first merge_set names now c inv quiet plain =
     let left = quiet_law merge_set now c inv.kept quiet plain in
@@ -77,10 +78,12 @@ module _ (first : Office) (merge_set : MergeSet) (mergeable : AreMergeable first
       → let a = step now c in Invariant first merge_set (names ++ merged_by merge_set c a.reply) a.office
   step_lasts names now c inv quiet = elim (cases_Bool (is_of_member merge_set c)) [
     | inl member ↦ of_member c member
-    | inr plain ↦ no_more names _ (step now c).office (merged_by-other merge_set c (step now c).reply plain) (others_last first merge_set names now c inv quiet plain)
+    | inr plain ↦ no_more names _ (step now c).office (merged_by-other merge_set c (step now c).reply plain)
+        (others_last first merge_set names now c inv quiet plain)
   ]
     where
-      of_member : (c : Command) → is_of_member merge_set c ≡ true → let a = step now c in Invariant first merge_set (names ++ merged_by merge_set c a.reply) a.office
+      of_member : (c : Command) → is_of_member merge_set c ≡ true → let a = step now c in Invariant first merge_set (names ++ merged_by merge_set c a.reply)
+          a.office
       of_member (command.Merge name remove) member = (merge_claim first merge_set names now name remove mergeable inv member).0
       of_member (command.Refresh name) member = no_more names [] (step now (command.Refresh name)).office refl
           (refresh_claim first merge_set names now name mergeable inv member).0
@@ -91,7 +94,8 @@ module _ (first : Office) (merge_set : MergeSet) (mergeable : AreMergeable first
   answer_lasts true names now c inv quiet = no_more names _ now (merged_by-lost merge_set c) inv
   answer_lasts false names now c inv quiet = step_lasts names now c inv quiet
 
-  list_lasts : (commands : List Command) (lost : ℕ → Bool) (names : List Name) (now : Office) → Invariant first merge_set names now → AreQuiet now merge_set commands lost
+  list_lasts : (commands : List Command) (lost : ℕ → Bool) (names : List Name) (now : Office) → Invariant first merge_set names now
+      → AreQuiet now merge_set commands lost
       → let done = run now commands lost in Invariant first merge_set (names ++ merged_in merge_set commands done.replies) done.office
   unfolding merged_in
   list_lasts [] lost names now inv quiet = no_more names [] now refl inv

@@ -54,7 +54,8 @@ module _ (o : Office) (merge_set : MergeSet) (kept : is_kept o merge_set.root �
   taken_there : row_at (merged_content o first.at) cell ≡ row_at first.at.current cell
   unfolding merged_content
   taken_there =
-      ap (λ c. row_at (taken_over c (own_changes first.at)) cell) (content_above o merge_set first.at (child_parent o merge_set m first.at first.child first.is))
+      ap (λ c. row_at (taken_over c (own_changes first.at)) cell) (content_above o merge_set first.at
+      (child_parent o merge_set m first.at first.child first.is))
       ∙ row-merged (root_content o merge_set) first.at.base first.at.current cell
       ∙ ap (λ b. unwrap_or (cond b (Some (row_at first.at.current cell)) None) (row_at (root_content o merge_set) cell)) first.changed
 
@@ -67,11 +68,13 @@ module _ (o : Office) (merge_set : MergeSet) (kept : is_kept o merge_set.root �
       true≢false (sym first.changed ∙ ap not same_rows)
 
   -- the second member is in conflict after the merge of the first
-  in_conflict_then : (next : Office) (v : Workspace) → root_content next merge_set ≡ merged_content o first.at → member_of v ≡ member_of second.at → conflict next v
+  in_conflict_then : (next : Office) (v : Workspace) → root_content next merge_set ≡ merged_content o first.at → member_of v ≡ member_of second.at
+      → conflict next v
       ≡ None → ⊥
   unfolding conflict
   in_conflict_then next v root looks none =
-      let parent : is_root merge_set v.parent ≡ true = ap (λ (k : Member). is_root merge_set k.parent) looks ∙ child_parent o merge_set n second.at second.child second.is in
+      let parent : is_root merge_set v.parent ≡ true = ap (λ (k : Member). is_root merge_set k.parent) looks
+      ∙ child_parent o merge_set n second.at second.child second.is in
       let changed : is_changed v.base v.current cell ≡ true = ap (λ (k : Member). is_changed k.base k.current cell) looks ∙ second.changed in
       let above : row_at (content_of next v.parent) cell ≡ row_at first.at.current cell = ap (λ c. row_at c cell) (content_above next merge_set v parent ∙ root)
       ∙ taken_there in
@@ -133,7 +136,8 @@ shared_is_refused o merge_set cell i j none shared =
         absurd (omega (arith, one, less))
     two_names m n e f false same = refl
 
-    by : (x : Option Name) → slice_get merge_set.members i ≡ x → (y : Option Name) → slice_get merge_set.members j ≡ y → is_some (after_member (setting_of o merge_set) x cell)
+    by : (x : Option Name) → slice_get merge_set.members i ≡ x → (y : Option Name) → slice_get merge_set.members j ≡ y
+        → is_some (after_member (setting_of o merge_set) x cell)
         ≡ true → is_some (after_member (setting_of o merge_set) y cell) ≡ true
         → is_order_refused o (cons_option (slice_get merge_set.members i) (cons_option (slice_get merge_set.members j) [])) ≡ true
     by None e y f g h = absurd (false≢true g)

@@ -45,13 +45,15 @@ child_under o merge_set name h = by (workspace o name) refl (and_parts (not (is_
 pub child_apart : (o : Office) (merge_set : MergeSet) (name : Name) → is_child o merge_set name ≡ true → is_root merge_set name ≡ false
 child_apart o merge_set name h = not-true _ (and_parts (not (is_root merge_set name)) _ h).0
 
-pub child_parent : (o : Office) (merge_set : MergeSet) (name : Name) (w : Workspace) → is_child o merge_set name ≡ true → workspace o name ≡ Some w → is_root merge_set w.parent
+pub child_parent : (o : Office) (merge_set : MergeSet) (name : Name) (w : Workspace) → is_child o merge_set name ≡ true → workspace o name ≡ Some w
+    → is_root merge_set w.parent
     ≡ true
 child_parent o merge_set name w h e = sym (ap (λ r. option_map_or (λ (v : Workspace). is_root merge_set v.parent) r false) e)
     ∙ (and_parts (not (is_root merge_set name)) _ h).1
 
 -- a child without conflicts took over the root's rows where it changed them
-pub child_agrees : (o : Office) (merge_set : MergeSet) (name : Name) (w : Workspace) → is_child o merge_set name ≡ true → conflicts_in o name ≡ [] → workspace o name ≡ Some w
+pub child_agrees : (o : Office) (merge_set : MergeSet) (name : Name) (w : Workspace) → is_child o merge_set name ≡ true → conflicts_in o name ≡ []
+    → workspace o name ≡ Some w
     → AgreesWith (row_at (root_content o merge_set)) w.base w.current
 child_agrees o merge_set name w child free e =
     free_agrees (root_content o merge_set) w
@@ -59,7 +61,8 @@ child_agrees o merge_set name w child free e =
     ∙ sym (ap (λ r. option_map_or (λ (v : Workspace). conflicts (content_of o v.parent) (own_changes v)) r []) e)
     ∙ free)
 
-pub member_agrees : (o : Office) (merge_set : MergeSet) (name : Name) (w : Workspace) → AreMergeable o merge_set → is_member merge_set name ≡ true → workspace o name ≡ Some w
+pub member_agrees : (o : Office) (merge_set : MergeSet) (name : Name) (w : Workspace) → AreMergeable o merge_set → is_member merge_set name ≡ true
+    → workspace o name ≡ Some w
     → AgreesWith (row_at (root_content o merge_set)) w.base w.current
 member_agrees o merge_set name w mergeable member e = child_agrees o merge_set name w (mergeable.children name member) (mergeable.free name member) e
 
@@ -99,7 +102,8 @@ module _ (o : Office) (merge_set : MergeSet) where
       (sym (ap is_some (same_after j cell)) ∙ changes)
       (sym (ap is_some (same_after k cell)) ∙ changes_too)
     where
-      by : (x : Option Name) → slice_get merge_set.members j ≡ x → (y : Option Name) → slice_get merge_set.members k ≡ y → is_some (after_member c x cell) ≡ true
+      by : (x : Option Name) → slice_get merge_set.members j ≡ x → (y : Option Name) → slice_get merge_set.members k ≡ y
+          → is_some (after_member c x cell) ≡ true
           → is_some (after_member c y cell) ≡ true → j ≡ k
       by None e y f g h = absurd (false≢true g)
       by (Some m) e None f g h = absurd (false≢true h)
@@ -130,5 +134,6 @@ static_law o merge_set entries covers holds = record {
   free = λ names name w part member out e cell changed.
       (let changes : is_some (changed_by o name cell) ≡ true = ap is_some (changed_by-standing o name w cell e) ∙ some_is_changed w.base w.current cell
       ∙ changed in
-      untaken o merge_set names name cell covers.mergeable.apart part member out changes ∙ member_agrees o merge_set name w covers.mergeable member e cell changed);
+      untaken o merge_set names name cell covers.mergeable.apart part member out changes ∙ member_agrees o merge_set name w covers.mergeable member e cell
+      changed);
 }

@@ -84,8 +84,10 @@ one_verdict o merge_set entries v w (of_need n a b none apart first e) (of_membe
 one_verdict o merge_set entries v w (of_need n a b none apart first e) (of_cell cell i j none_too s f) = absurd (not_apart _ cell i j s (apart cell))
 one_verdict o merge_set entries v w (of_need n a b none apart first e) (of_need m d g none_too apart_too first_too f) = e
     ∙ ap verdict.Uncovered (one_need _ entries n m a d b g first first_too) ∙ sym f
-one_verdict o merge_set entries v w (of_need n a b none apart first e) (of_none none_too apart_too covered f) = absurd (not_covered _ entries n a b first covered)
+one_verdict o merge_set entries v w (of_need n a b none apart first e) (of_none none_too apart_too covered f) = absurd
+    (not_covered _ entries n a b first covered)
 one_verdict o merge_set entries v w (of_none none apart covered e) (of_member f) = absurd (not_both (member_fault o merge_set) w none f)
 one_verdict o merge_set entries v w (of_none none apart covered e) (of_cell cell i j none_too s f) = absurd (not_apart _ cell i j s (apart cell))
-one_verdict o merge_set entries v w (of_none none apart covered e) (of_need n a b none_too apart_too first f) = absurd (not_covered _ entries n a b first covered)
+one_verdict o merge_set entries v w (of_none none apart covered e) (of_need n a b none_too apart_too first f) = absurd
+    (not_covered _ entries n a b first covered)
 one_verdict o merge_set entries v w (of_none none apart covered e) (of_none none_too apart_too covered_too f) = e ∙ sym f

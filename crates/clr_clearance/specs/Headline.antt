@@ -39,17 +39,21 @@ AreAllMerged o merge_set commands lost = (name : Name) → is_member merge_set n
 -- and so it has once all members are merged
 pub record Headline (o : Office) (merge_set : MergeSet) : Type 0 where
   pub no_clash : (commands : List Command) (lost : ℕ → Bool) → AreQuiet o merge_set commands lost → NoneClashes merge_set commands (run o commands lost).replies
-  pub holds : (commands : List Command) (lost : ℕ → Bool) → AreQuiet o merge_set commands lost → (at : ℕ) → RootHolds (office_before o commands lost at) merge_set
-  pub same_rows : (commands others : List Command) (lost lost_of_others : ℕ → Bool) → AreQuiet o merge_set commands lost → AreQuiet o merge_set others lost_of_others
+  pub holds : (commands : List Command) (lost : ℕ → Bool) → AreQuiet o merge_set commands lost → (at : ℕ)
+      → RootHolds (office_before o commands lost at) merge_set
+  pub same_rows : (commands others : List Command) (lost lost_of_others : ℕ → Bool) → AreQuiet o merge_set commands lost
+      → AreQuiet o merge_set others lost_of_others
       → ((name : Name) → has (merged_after o merge_set commands lost) name ≡ has (merged_after o merge_set others lost_of_others) name)
       → (cell : CellId) → root_after o merge_set commands lost cell ≡ root_after o merge_set others lost_of_others cell
-  pub all_merged : (commands others : List Command) (lost lost_of_others : ℕ → Bool) → AreQuiet o merge_set commands lost → AreQuiet o merge_set others lost_of_others
+  pub all_merged : (commands others : List Command) (lost lost_of_others : ℕ → Bool) → AreQuiet o merge_set commands lost
+      → AreQuiet o merge_set others lost_of_others
       → AreAllMerged o merge_set commands lost → AreAllMerged o merge_set others lost_of_others
       → (cell : CellId) → root_after o merge_set commands lost cell ≡ root_after o merge_set others lost_of_others cell
 
 -- the headline holds where the verdict is clear and every rule holds in the root
 abbrev pub HeadlineLaw : Type 0
-HeadlineLaw = (o : Office) (merge_set : MergeSet) (entries : List Entry) → IsVerdict o merge_set entries verdict.Clear → RootHolds o merge_set → Headline o merge_set
+HeadlineLaw = (o : Office) (merge_set : MergeSet) (entries : List Entry) → IsVerdict o merge_set entries verdict.Clear → RootHolds o merge_set
+    → Headline o merge_set
 
 -- no reply of a run of quiet commands to a merge or a refresh of a member of a safe merge set is a clash
 abbrev pub QuietReplyLaw : Type 0

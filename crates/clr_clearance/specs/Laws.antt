@@ -95,11 +95,13 @@ ClearLaw = (o : Office) (merge_set : MergeSet) (entries : List Entry) → IsVerd
 
 -- no merge set has two verdicts
 abbrev pub OneVerdictLaw : Type 0
-OneVerdictLaw = (o : Office) (merge_set : MergeSet) (entries : List Entry) (v w : Verdict) → IsVerdict o merge_set entries v → IsVerdict o merge_set entries w → v ≡ w
+OneVerdictLaw = (o : Office) (merge_set : MergeSet) (entries : List Entry) (v w : Verdict) → IsVerdict o merge_set entries v → IsVerdict o merge_set entries w
+    → v ≡ w
 
 -- where the verdict is clear and every rule holds in the root, each merge keeps every rule, and the merge set is safe
 abbrev pub ClearIsSafeLaw : Type 0
-ClearIsSafeLaw = (o : Office) (merge_set : MergeSet) (entries : List Entry) → IsVerdict o merge_set entries verdict.Clear → RootHolds o merge_set → StaysFree o merge_set × Safe o merge_set
+ClearIsSafeLaw = (o : Office) (merge_set : MergeSet) (entries : List Entry) → IsVerdict o merge_set entries verdict.Clear → RootHolds o merge_set
+    → StaysFree o merge_set × Safe o merge_set
 
 -- the first commands of a list, up to one that isn't quiet, make a cleared run
 abbrev pub ClearedRunLaw : Type 0

@@ -26,7 +26,8 @@ OneUnfitLaw = (o : Office) (merge_set : MergeSet) (v w : Verdict) → IsUnfit o 
 
 -- a merge set isn't cleared by two lists of entries
 abbrev pub OneClearedLaw : Type 0
-OneClearedLaw = (o : Office) (merge_set : MergeSet) (entries others : List Entry) → IsCleared o merge_set entries → IsCleared o merge_set others → entries ≡ others
+OneClearedLaw = (o : Office) (merge_set : MergeSet) (entries others : List Entry) → IsCleared o merge_set entries → IsCleared o merge_set others
+    → entries ≡ others
 
 -- a merge set isn't blocked in two orders, or for two causes
 abbrev pub OneBlockedLaw : Type 0

@@ -45,10 +45,12 @@ UnpickedLaw = (o : Office) (merge_set : MergeSet) (n : Need) (order : List ℕ)
 
 -- no order of merges of members of a safe merge set is refused, and so no safe merge set is blocked
 abbrev pub SafeOrderLaw : Type 0
-SafeOrderLaw = (o : Office) (merge_set : MergeSet) (names : List Name) → Safe o merge_set → AreAmong (setting_of o merge_set) names merge_set.members → is_order_refused o names ≡ false
+SafeOrderLaw = (o : Office) (merge_set : MergeSet) (names : List Name) → Safe o merge_set → AreAmong (setting_of o merge_set) names merge_set.members
+    → is_order_refused o names ≡ false
 
 abbrev pub SafePlanLaw : Type 0
-SafePlanLaw = (o : Office) (merge_set : MergeSet) (order : List ℕ) (cause : Verdict) → Safe o merge_set → RootHolds o merge_set → ¬ (IsBlocked o merge_set order cause)
+SafePlanLaw = (o : Office) (merge_set : MergeSet) (order : List ℕ) (cause : Verdict) → Safe o merge_set → RootHolds o merge_set
+    → ¬ (IsBlocked o merge_set order cause)
 
 -- after quiet commands some entries cover the members that stand
 abbrev pub LastingCoverLaw : Type 0
@@ -84,4 +86,5 @@ LastingReorderedLaw = (o : Office) (merge_set : MergeSet) (entries : List Entry)
     → Covers o merge_set entries
     → RootHolds o merge_set
     → AreQuiet o merge_set commands lost
-    → let now = (run o commands lost).office in (other : MergeSet) → NamesTheSame (standing now merge_set) other → repeated_member other ≡ None → StaysClear now other
+    → let now = (run o commands lost).office in (other : MergeSet) → NamesTheSame (standing now merge_set) other → repeated_member other ≡ None
+    → StaysClear now other

@@ -60,7 +60,8 @@ pub record IsCleared (o : Office) (merge_set : MergeSet) (entries : List Entry) 
 -- a blocked plan: the cause, and the positions of members in the order of merges that it refuses: the member in conflict; the first two that change a
 -- cell; or the members that break a need
 pub data IsBlocked (o : Office) (merge_set : MergeSet) (order : List ℕ) (cause : Verdict) : Type 0 where
-  of_conflict : (at : ℕ) (cell : CellId) (count : ℕ) → names_fault o merge_set ≡ None → first_conflict o 0 merge_set.members ≡ Some (verdict.Conflict at cell count)
+  of_conflict : (at : ℕ) (cell : CellId) (count : ℕ) → names_fault o merge_set ≡ None → first_conflict o 0 merge_set.members
+      ≡ Some (verdict.Conflict at cell count)
       → order ≡ at ∷ [] → cause ≡ verdict.Conflict at cell count → IsBlocked o merge_set order cause
   of_shared : (cell : CellId) (i j : ℕ) → member_fault o merge_set ≡ None → IsSceneFault (change_sets o merge_set) (scene.SharedCell cell i j)
       → order ≡ i ∷ j ∷ [] → cause ≡ verdict.SharedCell cell i j → IsBlocked o merge_set order cause

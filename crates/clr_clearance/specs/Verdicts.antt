@@ -45,7 +45,8 @@ abbrev pub stray_member : Office → MergeSet → Option Verdict
 stray_member o merge_set = option_map verdict.NotUnderRoot (position (λ name. not (is_child o merge_set name)) merge_set.members)
 
 unfoldable pub names_fault : Office → MergeSet → Option Verdict
-names_fault o merge_set = option_or (root_fault o merge_set) (option_or (repeated_member merge_set) (option_or (missing_member o merge_set) (stray_member o merge_set)))
+names_fault o merge_set = option_or (root_fault o merge_set) (option_or (repeated_member merge_set)
+    (option_or (missing_member o merge_set) (stray_member o merge_set)))
 
 -- the first of some members in conflict, numbered from a position on, with its least cell and how many there are
 unfoldable pub first_conflict : Office → ℕ → List Name → Option Verdict

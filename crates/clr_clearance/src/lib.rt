@@ -39,7 +39,7 @@ pub use laws::{
 };
 pub use one_answer_laws::{lists_have_one_quiet_start, merge_sets_have_one_plan};
 pub use plan_laws::{
-    blocked_plans_are_refused, clearances_last, cleared_plans_cover, safe_merge_sets_are_never_blocked,
-    unpicked_needs_are_refused,
+    blocked_plans_are_refused, clearances_last, cleared_plans_cover,
+    safe_merge_sets_are_never_blocked, unpicked_needs_are_refused,
 };
 pub use verdicts::Verdict;

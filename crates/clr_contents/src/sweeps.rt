@@ -10,8 +10,8 @@ ghost use Rattle.clr_contents.specs.Lean.{content_of_parent, swept_marks, swept_
 
 use crate::reads::parent_of;
 use crate::views::{BaseView, View};
-use clr_differences::Differences;
 use clr_deltas::{WorkspaceMap, sweep_each, sweep_each_at};
+use clr_differences::Differences;
 use clr_rows::{CellId, Sheet};
 
 // No function here changes a content or takes memory.

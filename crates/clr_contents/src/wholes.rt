@@ -11,8 +11,8 @@ ghost use Rattle.clr_workspaces.specs.Roots.{IsRooted};
 
 use crate::reads::{base_row_of, parent_of};
 use clr_change::ChangeSet;
-use clr_differences::Differences;
 use clr_deltas::{StoredMark, WorkspaceMap};
+use clr_differences::Differences;
 use clr_rows::{CellId, Row, Sheet};
 use std::alloc::{AllocError, Global};
 

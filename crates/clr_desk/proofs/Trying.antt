@@ -152,6 +152,7 @@ pub choice_printed : {E : Type 0} (o : Office) (root : Name) (names : List Name)
     (names_line (codes "kept") choice.taken.items ++ choice.left.items) choice.is_any_left false)
     → IfOk result (λ p. IsChoicePrint root names o (printed p))
 choice_printed o root names choice (Ok p) (trials, are, made) is =
-    of_trials trials choice.certificate are (subst (λ (ms : List Name). IsPlanned o (merge_set root ms) (plan.Cleared choice.certificate)) made.taken made.planned)
+    of_trials trials choice.certificate are (subst (λ (ms : List Name). IsPlanned o (merge_set root ms) (plan.Cleared choice.certificate)) made.taken
+    made.planned)
     (rw (is, made.taken, made.left, made.any_left))
 choice_printed o root names choice (Err e) chosen is = tt

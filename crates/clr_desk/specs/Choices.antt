@@ -86,4 +86,5 @@ pub data IsChoicePrint (root : Name) (names : List Name) (o : Office) (print : P
   of_trials : (trials : List Trial) (c : Certificate) → AreTrials o root (members_or_children o root names) trials
       → IsPlanned o (merge_set root (taken_in trials)) (plan.Cleared c)
       → print ≡ choice_print o root trials c → IsChoicePrint root names o print
-  of_nobody : (p : Plan) → IsPlanned o (merge_set root []) p → is_cleared p ≡ false → print ≡ plan_print o (merge_set root []) p → IsChoicePrint root names o print
+  of_nobody : (p : Plan) → IsPlanned o (merge_set root []) p → is_cleared p ≡ false → print ≡ plan_print o (merge_set root []) p
+      → IsChoicePrint root names o print

@@ -12,9 +12,9 @@ use crate::children::members_asked;
 use crate::clash_lines::clashes_lines;
 use clr_clearance::Verdict;
 use clr_engine::Office;
+use clr_merge_clashes::{MergeClashes, merge_clashes};
 use clr_office::{Plan, RunFault, Words, open_office, texts};
 use clr_prints::{Print, notes_of, with_hints};
-use clr_merge_clashes::{MergeClashes, merge_clashes};
 use std::alloc::{AllocError, Global};
 
 /// Returns all sets, as a text.

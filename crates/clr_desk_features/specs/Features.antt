@@ -37,8 +37,9 @@ no_system_print text = Ok (record {
 })
 
 -- what is printed of an office text and the text of a system, if one is given; the names are those at which hints are given
-pub data IsFeaturesAnswer (s : MergeSet) (names : List Name) (system : Option (List ℕ)) (given : Result Office TextFault) (print : PrintoutOrFault) : Type 0 where
-  without_system : system ≡ None → IsPrintoutIn (IsHinted (IsFeaturesPrint s None) names) given print → IsFeaturesAnswer s names system given print
-  in_system : (code : ℕ) → system ≡ Some (system_name code) → IsPrintoutIn (IsHinted (IsFeaturesPrint s (Some code)) names) given print
-      → IsFeaturesAnswer s names system given print
-  of_no_system : (text : List ℕ) → system ≡ Some text → IsNoSystem text → print ≡ no_system_print text → IsFeaturesAnswer s names system given print
+pub data IsFeaturesAnswer (s : MergeSet) (names : List Name) (system : Option (List ℕ)) (given : Result Office TextFault) (print : PrintoutOrFault) : Type 0
+  where
+    without_system : system ≡ None → IsPrintoutIn (IsHinted (IsFeaturesPrint s None) names) given print → IsFeaturesAnswer s names system given print
+    in_system : (code : ℕ) → system ≡ Some (system_name code) → IsPrintoutIn (IsHinted (IsFeaturesPrint s (Some code)) names) given print
+        → IsFeaturesAnswer s names system given print
+    of_no_system : (text : List ℕ) → system ≡ Some text → IsNoSystem text → print ≡ no_system_print text → IsFeaturesAnswer s names system given print

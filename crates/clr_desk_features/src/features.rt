@@ -52,7 +52,8 @@ fn answer_in(
     names: &[Words],
     system: Option<u32>,
 ) -> Result<Print, RunFault>
-    ensures { IsMadePrintout (IsPrintoutIn (IsHinted (IsFeaturesPrint (merge_set root.now names.now) system) (root.now ∷ names.now)) (draft_in office.now)) result }
+    ensures { IsMadePrintout (IsPrintoutIn (IsHinted (IsFeaturesPrint (merge_set root.now names.now) system) (root.now ∷ names.now)) (draft_in office.now))
+        result }
 {
     match open_office(alloc, office) {
         Ok(office) => {
@@ -74,7 +75,8 @@ pub fn answer_geojson(
     names: &[Words],
     system: Option<&Words>,
 ) -> Result<Print, RunFault>
-    ensures { IsMadePrintout (IsFeaturesAnswer (merge_set root.now names.now) (root.now ∷ names.now) (option_copied system.entry) (draft_in office.now)) result }
+    ensures { IsMadePrintout (IsFeaturesAnswer (merge_set root.now names.now) (root.now ∷ names.now) (option_copied system.entry) (draft_in office.now))
+        result }
 {
     let Some(text) = system else {
         return answer_in(alloc, office, root, names, None);

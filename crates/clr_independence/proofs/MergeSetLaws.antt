@@ -29,4 +29,5 @@ module _ (o : Office) (s : MergeSet) where
 
     pub pairs_of_merge_set : (pairs : List Pair) → ArePairs (setting rules root sets) (length sets) pairs
         → ArePairs (setting_by_position o s) (length s.members) pairs
-    pairs_of_merge_set pairs are = subst (λ c. ArePairs c (length s.members) pairs) is (subst (λ n. ArePairs (setting rules root sets) n pairs) members_counted are)
+    pairs_of_merge_set pairs are = subst (λ c. ArePairs c (length s.members) pairs) is (subst (λ n. ArePairs (setting rules root sets) n pairs)
+        members_counted are)

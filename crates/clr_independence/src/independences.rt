@@ -14,8 +14,8 @@ ghost use Rattle.clr_independence.specs.Independences.{IsIndependenceOf};
 use crate::member_pairs::{Pair, pairs};
 use clr_clearance::Verdict;
 use clr_engine::Office;
-use clr_needs::SceneFault;
 use clr_merge_sets::{MergeSetParts, read_merge_set};
+use clr_needs::SceneFault;
 use std::alloc::{AllocError, Global};
 
 /// Which members of a root are independent, or why it can't be said.

@@ -20,7 +20,8 @@ use Rattle.clr_clearance.proofs.ClearLemmas.{faultless, has_at}
 use Rattle.clr_merge_sets.specs.MergeSetNames.{merge_set}
 use Rattle.clr_merge_clashes.specs.Conflicts.{conflict_clash, conflict_clashes, conflict_in, conflict_of, free_positions, is_without_conflict}
 use Rattle.clr_merge_clashes.specs.Laws.{AreLookedAt}
-use Rattle.clr_merge_clashes.specs.SharedCells.{cell_of_two, earlier_clash, earlier_clashes, is_apart_at, is_changed_in, pair_clash, shared_cell, shared_clashes}
+use Rattle.clr_merge_clashes.specs.SharedCells.{cell_of_two, earlier_clash, earlier_clashes, is_apart_at, is_changed_in, pair_clash, shared_cell}
+use Rattle.clr_merge_clashes.specs.SharedCells.{shared_clashes}
 use Rattle.clr_merge_clashes.specs.MergeClashes.{looked_at}
 use Rattle.clr_merge_clashes.specs.ClashSets.{MergeClash, positions_of, merge_clash}
 use Rattle.clr_merge_clashes.proofs.Lists.{all_kept, none_flat, none_found, none_mapped, read_all}

@@ -5,11 +5,11 @@ ghost use Rattle.clr_merge_sets.specs.MergeSetNames.{merge_set};
 ghost use Rattle.clr_clearance.specs.Verdicts.{names_fault};
 ghost use Rattle.clr_merge_clashes.specs.MergeClashes.{AreFound, FindsClashes};
 
+use crate::clash_sets::MergeClashes;
 use crate::conflicts::conflicts_of;
 use crate::needs::need_clashes;
 use crate::pairs::pairs_of;
 use crate::places::names_at;
-use crate::clash_sets::MergeClashes;
 use clr_change::ChangeSet;
 use clr_clearance::Verdict;
 use clr_engine::Office;

@@ -10,6 +10,7 @@
 //!   of shared cells.
 #![tactic(auto)]
 
+mod clash_sets;
 mod clashes;
 mod conflicts;
 mod laws;
@@ -17,9 +18,8 @@ mod needs;
 mod pairs;
 mod places;
 mod shared_cells;
-mod clash_sets;
 
+pub use clash_sets::{MergeClash, MergeClashes};
 pub use clashes::merge_clashes;
 pub use laws::{all_are_looked_at, clashes_decide_plans};
 pub use places::names_at;
-pub use clash_sets::{MergeClash, MergeClashes};

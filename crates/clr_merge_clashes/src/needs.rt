@@ -5,8 +5,8 @@ ghost use Rattle.clr_clashes.specs.ListedClashes.{listed_clash_of};
 ghost use Rattle.clr_merge_clashes.specs.MergeClashes.{AreNeedClashes, need_clash};
 ghost use Rattle.clr_merge_clashes.specs.ClashSets.{stored_clash};
 
-use crate::places::numbers_at;
 use crate::clash_sets::MergeClash;
+use crate::places::numbers_at;
 use clr_clashes::{Clash, clashes};
 use clr_clearance::Verdict;
 use clr_engine::Office;

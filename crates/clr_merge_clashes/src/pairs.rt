@@ -3,8 +3,8 @@ ghost use Rattle.std.specs.Prelude.{◌≡◌, ◌++◌, ◌∷◌, [], filter, 
 ghost use Rattle.clr_merge_clashes.specs.SharedCells.{apart_positions, earlier_clash, earlier_clashes, is_apart_at, pair_clash, shared_clashes};
 ghost use Rattle.clr_merge_clashes.specs.ClashSets.{stored_clash};
 
-use crate::shared_cells::shared_cell;
 use crate::clash_sets::MergeClash;
+use crate::shared_cells::shared_cell;
 use clr_change::ChangeSet;
 use clr_clearance::Verdict;
 use std::alloc::{AllocError, Global};

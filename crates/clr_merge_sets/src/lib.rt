@@ -11,13 +11,13 @@
 //!   that two members change, or want of memory.
 #![tactic(auto)]
 
+mod merge_set_parts;
+mod merge_sets;
 mod name_lists;
 mod name_tests;
 mod repeats;
-mod merge_set_parts;
-mod merge_sets;
 
-pub use name_lists::NameList;
-pub use name_tests::name_fault;
 pub use merge_set_parts::MergeSetParts;
 pub use merge_sets::read_merge_set;
+pub use name_lists::NameList;
+pub use name_tests::name_fault;

@@ -16,9 +16,9 @@ ghost use Rattle.clr_merge_sets.specs.Faults.{IsMergeSetFault};
 ghost use Rattle.clr_merge_sets.specs.MergeSetNames.{merge_set};
 ghost use Rattle.clr_merge_sets.specs.MergeSets.{AreOfMergeSet, AreParts, IsSceneOf};
 
+use crate::merge_set_parts::MergeSetParts;
 use crate::name_lists::NameList;
 use crate::name_tests::name_fault;
-use crate::merge_set_parts::MergeSetParts;
 use clr_change::ChangeSet;
 use clr_clearance::Verdict;
 use clr_engine::Office;

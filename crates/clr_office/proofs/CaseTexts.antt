@@ -76,7 +76,8 @@ module _ (o : Office) (c : Certificate) (v : Verdict) (output : Output)
 
 module _ (o left : Office) (c : Certificate) (names : List Name) (commands : List Command) (replies : List Reply) (stopped : Option ℕ) (output : Output) where
   -- merges are performed
-  pub merged : commands ≡ merges names → IsVerdict o (merge_set_of c) (entries_in c.entries) verdict.Clear → IsQuietStart o (merge_set_of c) commands replies left stopped
+  pub merged : commands ≡ merges names → IsVerdict o (merge_set_of c) (entries_in c.entries) verdict.Clear
+      → IsQuietStart o (merge_set_of c) commands replies left stopped
       → IsClearedRun o (merge_set_of c) (take (length replies) commands) replies left
       → output.lines.items ≡ merge_text replies stopped left → output.refused ≡ (list_any is_refused replies || is_some stopped) → output.lost
       ≡ list_any is_lost replies

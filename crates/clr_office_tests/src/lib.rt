@@ -18,12 +18,12 @@ mod made_up;
 #[cfg(test)]
 mod made_up_edits;
 #[cfg(test)]
+mod merge_sets;
+#[cfg(test)]
 mod plain;
 #[cfg(test)]
 mod scene_texts;
 #[cfg(test)]
 mod separators;
-#[cfg(test)]
-mod merge_sets;
 #[cfg(test)]
 mod two_texts;

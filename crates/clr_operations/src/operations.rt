@@ -23,8 +23,8 @@ use clr_contents::{
     base_row_of, cells_of, changes_of, parent_of, pin_children, pin_current, pin_own, pin_saved,
     row_of, saved_at, sweep_at,
 };
-use clr_differences::Differences;
 use clr_deltas::{StoredMark, WorkspaceMap, push_leaf};
+use clr_differences::Differences;
 use clr_rows::{CellId, Row, Sheet, Words};
 use clr_workspaces::{Keep, Rebase};
 use std::alloc::{AllocError, Global};

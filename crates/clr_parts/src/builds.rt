@@ -13,8 +13,8 @@ ghost use Rattle.clr_workspaces.specs.Roots.{IsRooted};
 use crate::part_checks::judge_place;
 use crate::parts::{MarkPart, Part, PartFault};
 use clr_change::ChangeSet;
-use clr_differences::Differences;
 use clr_deltas::{Delta, StoredMark, WorkspaceMap, live_alone};
+use clr_differences::Differences;
 use clr_rows::Sheet;
 use std::alloc::{AllocError, Global};
 

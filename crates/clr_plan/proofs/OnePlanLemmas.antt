@@ -23,7 +23,12 @@ same_entries (e ∷ es) (f ∷ fs) same =
     λ i. record { need = (head i).0; one = (head i).1; two = (head i).2 } ∷ same_entries es fs tail i
 
 same_certificates : (c d : Certificate) → merge_set_of c ≡ merge_set_of d → entries_in c.entries ≡ entries_in d.entries → c ≡ d
-same_certificates c d merge_set entries = λ i. record { root = (merge_set i).root; members = (merge_set i).members; entries = same_entries c.entries d.entries entries i }
+same_certificates c d merge_set entries = λ i. record {
+  root = (merge_set i).root;
+  members = (merge_set i).members;
+  entries = same_entries c.entries d.entries
+      entries i;
+}
 
 pub one_plan : OnePlanLaw
 one_plan o s (plan.Unfit v) (plan.Unfit w) one two found found_too = one_unfit o s v w one two

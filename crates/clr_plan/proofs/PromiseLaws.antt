@@ -87,5 +87,6 @@ stays o s plan.OutOfMemory clear h found = absurd (false≢true (sym found))
 pub lasting_law : (o : Office) (s : MergeSet) (p : Plan) → IsPlan o s p → StaysCleared o s p
 lasting_law o s p h first merge_set entries commands lost covers holds quiet later same once found =
     let clear = lasting_reordered first merge_set entries commands lost covers holds quiet in
-    stays o s p (subst (λ now. (other : MergeSet) → NamesTheSame (standing now merge_set) other → repeated_member other ≡ None → StaysClear now other) (sym later) clear
+    stays o s p (subst (λ now. (other : MergeSet) → NamesTheSame (standing now merge_set) other → repeated_member other ≡ None → StaysClear now other)
+    (sym later) clear
     s same once) h found

@@ -3,8 +3,8 @@
 use crate::sections::{Builder, row_of, table_of};
 use clr_clearance::Verdict;
 use clr_html::{Block, Row, Table};
+use clr_merge_clashes::{MergeClash, MergeClashes, merge_clashes, names_at};
 use clr_plan_words::{Members, Setting};
-use clr_merge_clashes::{MergeClash, MergeClashes, names_at, merge_clashes};
 use clr_wording::add_names;
 use std::alloc::{AllocError, Global};
 

@@ -1,9 +1,9 @@
 //! A need that nothing covers in words: its rule, its rows, where they meet, and what stands there and goes.
 
 use crate::causes::CauseWords;
+use crate::need_places::{need_place, rule_of, server_side};
 use crate::servers::{ServerChange, server_changes};
 use crate::settings::Setting;
-use crate::need_places::{rule_of, server_side, need_place};
 use clr_needs::Need;
 use clr_rows::Held;
 use clr_rules::{ColumnList, Rule, Side};

@@ -6,12 +6,12 @@ mod finders;
 #[cfg(test)]
 mod lines;
 #[cfg(test)]
+mod merge_sets;
+#[cfg(test)]
 mod merges;
 #[cfg(test)]
 mod networks;
 #[cfg(test)]
 mod scenes;
-#[cfg(test)]
-mod merge_sets;
 #[cfg(test)]
 mod streets;

@@ -1,9 +1,9 @@
 //! What is said of scenes over two mains that cross.
 
+use crate::merge_sets::{SceneOver, assert_said, merge_set_lines};
 use crate::networks::{
     CROSSING, MAINS, ONE_HYDRANT, PATHS, TWO_MORE_NODES, TWO_NODES, members, network, office_of,
 };
-use crate::merge_sets::{SceneOver, assert_said, merge_set_lines};
 use clr_call_test_kit::{Hoard, Memory};
 use std::alloc::Global;
 use std::test::Fail;

@@ -1,9 +1,9 @@
 //! Offices with rules of all five kinds, with paths and with mains and ducts that are wide, and what an
 //! independent program says of what members change there. The offices were drawn at random.
 
+use crate::merge_sets::{SceneOver, assert_said};
 use crate::merges::broken_line;
 use crate::networks::network;
-use crate::merge_sets::{SceneOver, assert_said};
 use clr_call_test_kit::Memory;
 use clr_engine::Office;
 use std::alloc::Global;

@@ -19,7 +19,8 @@ use Rattle.clr_steps.specs.Effects.{edited_content, merged_content, after_create
 use Rattle.clr_steps.specs.Effects.{after_roll_all, after_refresh, after_merge, after_resolve, set_kept, effect}
 use Rattle.clr_steps.specs.Refusals.{refusal}
 use Rattle.clr_steps.specs.Steps.{refused_or_done, step}
-use Rattle.clr_steps.specs.Quiet.{MergeSet, is_root, is_member, is_other, is_under_other, is_quiet, is_of_member, root_content, IsRootKept, member_of, LeavesMergeSet}
+use Rattle.clr_steps.specs.Quiet.{MergeSet, is_root, is_member, is_other, is_under_other, is_quiet, is_of_member, root_content, IsRootKept, member_of}
+use Rattle.clr_steps.specs.Quiet.{LeavesMergeSet}
 use Rattle.clr_steps.specs.Laws.{QuietLaw}
 use Rattle.clr_steps.proofs.FindLemmas.{same_is, same_itself, other_way, has_apart, seen_by, seen_modify, seen_other, seen_marks, seen_without, seen_append}
 use Rattle.clr_steps.proofs.FindLemmas.{seen_behind, find_modify, found_name}
@@ -69,7 +70,8 @@ record IsOutside (merge_set : MergeSet) (n : Name) : Type 0 where
 
 outside : (merge_set : MergeSet) (n : Name) → is_other merge_set n ≡ true → IsOutside merge_set n
 unfolding is_other
-outside merge_set n h = let both = and_parts (not (is_root merge_set n)) (not (is_member merge_set n)) h in record { root = not-true _ both.0; members = not-true _ both.1 }
+outside merge_set n h = let both = and_parts (not (is_root merge_set n)) (not (is_member merge_set n)) h in record
+    { root = not-true _ both.0; members = not-true _ both.1 }
 
 -- what each part of an effect leaves -----------------------------------------------------------------------
 
@@ -99,14 +101,16 @@ module _ (merge_set : MergeSet) where
   }
 
   -- a root that stands is found before a new workspace
-  leaves_append : (o : Office) (w : Workspace) → is_member merge_set w.name ≡ false → IsRootKept o merge_set → Leaves merge_set o (with_workspaces o (o.workspaces ++ w ∷ []))
+  leaves_append : (o : Office) (w : Workspace) → is_member merge_set w.name ≡ false → IsRootKept o merge_set
+      → Leaves merge_set o (with_workspaces o (o.workspaces ++ w ∷ []))
   leaves_append o w other kept = record {
     live = λ e. refl;
     root = λ e. seen_behind root_of merge_set.root w o.workspaces (stands e (find_name merge_set.root o.workspaces) (sym (kept_seen o merge_set.root) ∙ kept));
     members = λ n k. seen_append member_of n w (other_way w.name n (has_apart merge_set.members w.name n other k)) o.workspaces;
   }
     where
-      stands : is_live merge_set.root ≡ false → (r : Option Workspace) → (is_live merge_set.root || option_map_or (λ (r : Root). r.kept) (option_map root_of r) false)
+      stands : is_live merge_set.root ≡ false → (r : Option Workspace) → (is_live merge_set.root || option_map_or (λ (r : Root). r.kept)
+          (option_map root_of r) false)
           ≡ true → is_some r ≡ true
       stands e None h = or_false (is_live merge_set.root) false h e
       stands e (Some w) h = refl
@@ -125,7 +129,8 @@ module _ (merge_set : MergeSet) where
       by false e = leaves_modified o m (with_current content) (λ w. refl) out
 
   -- a Hold or a Release, which isn't seen of a member
-  leaves_hold : (o : Office) (w : Workspace) (b : Bool) → (is_live merge_set.root ≡ false → seen_by root_of merge_set.root (modify w.name (with_kept b) o.workspaces)
+  leaves_hold : (o : Office) (w : Workspace) (b : Bool) → (is_live merge_set.root ≡ false → seen_by root_of merge_set.root
+      (modify w.name (with_kept b) o.workspaces)
       ≡ seen_by root_of merge_set.root o.workspaces) → Leaves merge_set o (set_kept o w b)
   unfolding set_kept
   leaves_hold o w b root = record {
@@ -138,10 +143,12 @@ module _ (merge_set : MergeSet) where
   -- a Hold or a Release of another name, and a Hold of the root, which is kept
   hold_other : (o : Office) (n : Name) (w : Workspace) (b : Bool) → w.name ≡ n → is_root merge_set n ≡ false → Leaves merge_set o (set_kept o w b)
   unfolding is_root
-  hold_other o n w b e out = leaves_hold o w b (λ live. seen_other root_of merge_set.root w.name (with_kept b) (λ v. refl) (ap (λ m. same_name m merge_set.root) e
+  hold_other o n w b e out = leaves_hold o w b (λ live. seen_other root_of merge_set.root w.name (with_kept b) (λ v. refl)
+      (ap (λ m. same_name m merge_set.root) e
       ∙ out) o.workspaces)
 
-  hold_root : (o : Office) (n : Name) (w : Workspace) → w.name ≡ n → is_root merge_set n ≡ true → IsRootKept o merge_set → Leaves merge_set o (set_kept o w true)
+  hold_root : (o : Office) (n : Name) (w : Workspace) → w.name ≡ n → is_root merge_set n ≡ true → IsRootKept o merge_set
+      → Leaves merge_set o (set_kept o w true)
   unfolding is_root
   hold_root o n w e is kept = leaves_hold o w true (λ live.
       let one : w.name ≡ merge_set.root = e ∙ same_is n merge_set.root is in
@@ -149,7 +156,8 @@ module _ (merge_set : MergeSet) where
       ∙ ap (option_map root_of) (find_modify merge_set.root (with_kept true) (λ v. refl) o.workspaces)
       ∙ by live (find_name merge_set.root o.workspaces) (sym (kept_seen o merge_set.root) ∙ kept))
     where
-      by : is_live merge_set.root ≡ false → (r : Option Workspace) → (is_live merge_set.root || option_map_or (λ (r : Root). r.kept) (option_map root_of r) false) ≡ true
+      by : is_live merge_set.root ≡ false → (r : Option Workspace) → (is_live merge_set.root || option_map_or (λ (r : Root). r.kept) (option_map root_of r)
+          false) ≡ true
           → option_map root_of (option_map (with_kept true) r) ≡ option_map root_of r
       by live None h = refl
       by live (Some v) h = ap (λ (b : Bool). let r : Root = record { current = v.current; kept = b } in Some r)
@@ -227,7 +235,8 @@ module _ (merge_set : MergeSet) where
   leaves_either o w false out above = leaves_merge o w out above
 
 -- an effect on the workspace of a name, if there is one
-leaves_on : (merge_set : MergeSet) (o : Office) (n : Name) (f : Workspace → Office) → ((w : Workspace) → workspace o n ≡ Some w → w.name ≡ n → Leaves merge_set o (f w))
+leaves_on : (merge_set : MergeSet) (o : Office) (n : Name) (f : Workspace → Office) → ((w : Workspace) → workspace o n ≡ Some w → w.name ≡ n
+    → Leaves merge_set o (f w))
     → Leaves merge_set o (option_map_or f (workspace o n) o)
 leaves_on merge_set o n f h = by (workspace o n) refl
   where
@@ -239,7 +248,8 @@ named : (merge_set : MergeSet) (n : Name) (w : Workspace) → w.name ≡ n → I
 named merge_set n w e h = subst (IsOutside merge_set) (sym e) h
 
 -- the parent of a workspace that stands under another
-above : (merge_set : MergeSet) (o : Office) (n : Name) (w : Workspace) → workspace o n ≡ Some w → is_under_other o merge_set n ≡ true → IsOutside merge_set w.parent
+above : (merge_set : MergeSet) (o : Office) (n : Name) (w : Workspace) → workspace o n ≡ Some w → is_under_other o merge_set n ≡ true
+    → IsOutside merge_set w.parent
 unfolding is_under_other
 above merge_set o n w e h = outside merge_set w.parent (sym (ap (λ r. option_map_or (λ (v : Workspace). is_other merge_set v.parent) r false) e) ∙ h)
 
@@ -247,13 +257,16 @@ leaves_effect : (merge_set : MergeSet) (o : Office) (c : Command) → IsRootKept
     → Leaves merge_set o (effect o c)
 unfolding effect is_quiet
 leaves_effect merge_set o (command.Create n p) kept quiet plain = leaves_create merge_set o n p (not-true _ quiet) kept
-leaves_effect merge_set o (command.Remove n) kept quiet plain = leaves_on merge_set o n _ (λ w is e. leaves_remove merge_set o w (named merge_set n w e (outside merge_set n quiet)))
+leaves_effect merge_set o (command.Remove n) kept quiet plain = leaves_on merge_set o n _ (λ w is e. leaves_remove merge_set o w
+    (named merge_set n w e (outside merge_set n quiet)))
 leaves_effect merge_set o (command.Apply n edits) kept quiet plain = leaves_apply merge_set o n edits (outside merge_set n quiet)
 leaves_effect merge_set o (command.Mark n s) kept quiet plain = leaves_on merge_set o n _ (λ w is e. leaves_mark merge_set o w s)
 leaves_effect merge_set o (command.Unmark n s) kept quiet plain = leaves_on merge_set o n _ (λ w is e. leaves_unmark merge_set o w s)
-leaves_effect merge_set o (command.RollTo n s) kept quiet plain = leaves_on merge_set o n _ (λ w is e. leaves_roll_to merge_set o w (named merge_set n w e (outside merge_set n quiet))
+leaves_effect merge_set o (command.RollTo n s) kept quiet plain = leaves_on merge_set o n _
+    (λ w is e. leaves_roll_to merge_set o w (named merge_set n w e (outside merge_set n quiet))
     s)
-leaves_effect merge_set o (command.RollAll n) kept quiet plain = leaves_on merge_set o n _ (λ w is e. leaves_roll_all merge_set o w (named merge_set n w e (outside merge_set n quiet)))
+leaves_effect merge_set o (command.RollAll n) kept quiet plain = leaves_on merge_set o n _ (λ w is e. leaves_roll_all merge_set o w
+    (named merge_set n w e (outside merge_set n quiet)))
 leaves_effect merge_set o (command.Refresh n) kept quiet plain =
     let out : IsOutside merge_set n = record { root = not-true _ (or_false _ _ quiet plain); members = plain } in
     leaves_on merge_set o n _ (λ w is e. leaves_refresh merge_set o w (named merge_set n w e out))

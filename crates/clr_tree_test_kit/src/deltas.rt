@@ -1,8 +1,8 @@
 //! Parts by their differences, with neutral entries, and deeds that make the same workspaces.
 
 use crate::fixtures::{cell, numbered_sheet, row_of, words};
-use clr_differences::Differences;
 use clr_deltas::{Delta, StoredMark, StoredPart};
+use clr_differences::Differences;
 use clr_rows::Row;
 use clr_tree::Tree;
 use std::alloc::{AllocError, Global};

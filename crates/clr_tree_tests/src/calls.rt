@@ -5,8 +5,7 @@ use clr_change::ChangeSet;
 use clr_rows::Sheet;
 use clr_tree::{Part, PartFault, Tree};
 use clr_tree_test_kit::{
-    act_line, changes_text, find_savepoint, delta_parts, part_text, parts_of, rows_text,
-    tree_text,
+    act_line, changes_text, delta_parts, find_savepoint, part_text, parts_of, rows_text, tree_text,
 };
 use std::alloc::{AllocError, Global};
 

@@ -6,7 +6,7 @@ use clr_engine::Office;
 use clr_needs::{Need, VersionId};
 use clr_plan::Plan;
 use clr_plan_words::{
-    Members, ServerChange, Setting, rule_of, server_changes, server_side, need_place,
+    Members, ServerChange, Setting, need_place, rule_of, server_changes, server_side,
 };
 use clr_rows::{
     CellId, Form, GREATEST_KEY, Kind, Place, Row, Shape, Sheet, TableDef, Value, Values, Words,

@@ -19,7 +19,8 @@ returns-in-Ok-clause-free c e =
     let o = c.args.office.now in
     let s = merge_set_of c.args.certificate.now in
     let answer = subst (λ es. IsCheckAnswer o s (entries_in es) c.judge_parts.result) c.as_slice.ensures
-    (c.judge_parts.ensures s (subst (λ root. AreParts o (merge_set root c.args.certificate.now.members) c.in-Ok.parts) c.as_str.ensures c.in-Ok.ensures.parts)) in
+    (c.judge_parts.ensures s (subst (λ root. AreParts o (merge_set root c.args.certificate.now.members) c.in-Ok.parts) c.as_str.ensures
+    c.in-Ok.ensures.parts)) in
     (clear_promises o s (entries_in c.args.certificate.now.entries) c.in-Ok.ensures.admitted c.judge_parts.result answer e).0
 
 pub returns-in-Ok-clause-safe : goal.returns-in-Ok-clause-safe
@@ -27,7 +28,8 @@ returns-in-Ok-clause-safe c e =
     let o = c.args.office.now in
     let s = merge_set_of c.args.certificate.now in
     let answer = subst (λ es. IsCheckAnswer o s (entries_in es) c.judge_parts.result) c.as_slice.ensures
-    (c.judge_parts.ensures s (subst (λ root. AreParts o (merge_set root c.args.certificate.now.members) c.in-Ok.parts) c.as_str.ensures c.in-Ok.ensures.parts)) in
+    (c.judge_parts.ensures s (subst (λ root. AreParts o (merge_set root c.args.certificate.now.members) c.in-Ok.parts) c.as_str.ensures
+    c.in-Ok.ensures.parts)) in
     (clear_promises o s (entries_in c.args.certificate.now.entries) c.in-Ok.ensures.admitted c.judge_parts.result answer e).1
 
 pub returns-in-Ok-clause-headline : goal.returns-in-Ok-clause-headline
@@ -35,7 +37,8 @@ returns-in-Ok-clause-headline c e =
     let o = c.args.office.now in
     let s = merge_set_of c.args.certificate.now in
     let answer = subst (λ es. IsCheckAnswer o s (entries_in es) c.judge_parts.result) c.as_slice.ensures
-    (c.judge_parts.ensures s (subst (λ root. AreParts o (merge_set root c.args.certificate.now.members) c.in-Ok.parts) c.as_str.ensures c.in-Ok.ensures.parts)) in
+    (c.judge_parts.ensures s (subst (λ root. AreParts o (merge_set root c.args.certificate.now.members) c.in-Ok.parts) c.as_str.ensures
+    c.in-Ok.ensures.parts)) in
     (clear_promises o s (entries_in c.args.certificate.now.entries) c.in-Ok.ensures.admitted c.judge_parts.result answer e).2
 
 pub returns-in-Ok-clause-runs : goal.returns-in-Ok-clause-runs
@@ -43,7 +46,8 @@ returns-in-Ok-clause-runs c e =
     let o = c.args.office.now in
     let s = merge_set_of c.args.certificate.now in
     let answer = subst (λ es. IsCheckAnswer o s (entries_in es) c.judge_parts.result) c.as_slice.ensures
-    (c.judge_parts.ensures s (subst (λ root. AreParts o (merge_set root c.args.certificate.now.members) c.in-Ok.parts) c.as_str.ensures c.in-Ok.ensures.parts)) in
+    (c.judge_parts.ensures s (subst (λ root. AreParts o (merge_set root c.args.certificate.now.members) c.in-Ok.parts) c.as_str.ensures
+    c.in-Ok.ensures.parts)) in
     (clear_promises o s (entries_in c.args.certificate.now.entries) c.in-Ok.ensures.admitted c.judge_parts.result answer e).3
 
 pub returns-in-Err-clause-answer : goal.returns-in-Err-clause-answer

@@ -14,4 +14,5 @@ returns c =
     let asked : c.as_slice.result.now ≡ members_or_children o root names = search rules in
     let given : map (λ text. text.now) c.as_slice-2.result.now ≡ members_or_children o root names =
     rw c.as_slice-2.ensures.value (c.in_ok-members.ensures ∙ asked) in
-    subst (λ (members : List Name). IfOk c.print_of_merge_set.result (λ print. IsMergeSetPrint (merge_set root members) o (printed print))) given c.print_of_merge_set.ensures
+    subst (λ (members : List Name). IfOk c.print_of_merge_set.result (λ print. IsMergeSetPrint (merge_set root members) o (printed print))) given
+    c.print_of_merge_set.ensures

@@ -14,7 +14,8 @@ returns-then-not-is_child g c =
 pub loop-position-preserved : goal.loop-position-preserved
 loop-position-preserved g c =
     let names = g.N.NameList.names c.args.members.now in
-    one_fails (λ name. not (is_child c.args.office.now (merge_set c.args.root.now names) name)) names c.loop-position.position c.name_at.result.now c.name_at.ensures
+    one_fails (λ name. not (is_child c.args.office.now (merge_set c.args.root.now names) name)) names c.loop-position.position c.name_at.result.now
+    c.name_at.ensures
     (ap not (sym (c.is_child.ensures names) ∙ c.if-not-is_child.false)) c.loop-position.invariant
 
 pub returns : goal.returns
