@@ -65,10 +65,6 @@ few tables h = and_parts _ _ (passed (nat_le (length tables) MOST_TABLES && list
 pub few_tables : (tables : List TableDef) → schema_fault tables ≡ None → length tables ≤ MOST_TABLES
 few_tables tables h = leb-true (length tables) MOST_TABLES (few tables h).0
 
-pub few_columns : (tables : List TableDef) (i : ℕ) (table : TableDef) → schema_fault tables ≡ None → slice_get tables i ≡ Some table
-    → length table.columns ≤ MOST_COLUMNS
-few_columns tables i table h is = leb-true (length table.columns) MOST_COLUMNS (at_each has_room tables i table (few tables h).1 is)
-
 -- names of a schema --------------------------------------------------------------------------
 
 names : (tables : List TableDef) → schema_fault tables ≡ None → (list_all has_good_names tables ≡ true) × (are_distinct (map (λ t. t.name) tables) ≡ true)
@@ -80,16 +76,6 @@ names tables h =
     let d = passed (are_distinct (map (λ t. t.name) tables) && list_all has_distinct_columns tables) unfit.NameTaken _ b.1 in
     let e = and_parts (are_distinct (map (λ t. t.name) tables)) (list_all has_distinct_columns tables) d.0 in
     (b.0, e.0, e.1)
-
-pub good_table_name : (tables : List TableDef) (i : ℕ) (table : TableDef) → schema_fault tables ≡ None → slice_get tables i ≡ Some table
-    → is_good_name table.name ≡ true
-good_table_name tables i table h is = (and_parts (is_good_name table.name) (list_all (λ c. is_column_name c.0) table.columns)
-    (at_each has_good_names tables i table (names tables h).0 is)).0
-
-pub good_column_name : (tables : List TableDef) (i j : ℕ) (table : TableDef) (column : List ℕ × Kind) → schema_fault tables ≡ None → slice_get tables i
-    ≡ Some table → slice_get table.columns j ≡ Some column → is_column_name column.0 ≡ true
-good_column_name tables i j table column h is at = at_each (λ c. is_column_name c.0) table.columns j column
-    (and_parts (is_good_name table.name) (list_all (λ c. is_column_name c.0) table.columns) (at_each has_good_names tables i table (names tables h).0 is)).1 at
 
 -- an element whose name equals no later one's differs from each later one
 apart : {X : Type 0} (f : X → List ℕ) (name : List ℕ) (xs : List X) (i : ℕ) (x : X) → list_any (bytes_eq name) (map f xs) ≡ false → slice_get xs i ≡ Some x
@@ -111,20 +97,33 @@ position_by_name f (y ∷ ys) (suc i) x h is =
     let rest = position_by_name f ys i x a.1 is in
     rw (other, rest) (omega arith)
 
--- where names differ, the first element of a name is the one that has it
-position_of_name : {X : Type 0} (f : X → List ℕ) (xs : List X) (i : ℕ) (x : X) → are_distinct (map f xs) ≡ true → slice_get xs i ≡ Some x
-    → position (λ y. bytes_eq (f y) (f x)) xs ≡ Some i
-position_of_name f xs i x h is = rw (position_by_name f xs i x h is, lt-ltb i (length xs) (slice_get_within xs i x is)) refl
+-- an element that is the first to pass a test is found by it
+position_at : {X : Type 0} (p : X → Bool) (xs : List X) (i : ℕ) (x : X) → slice_get xs i ≡ Some x → position_or_len p xs ≡ i → position p xs ≡ Some i
+position_at p xs i x is first = rw (first, lt-ltb i (length xs) (slice_get_within xs i x is)) refl
 
--- a table, and a column, is found by its name
-pub table_of_name : (tables : List TableDef) (i : ℕ) (table : TableDef) → schema_fault tables ≡ None → slice_get tables i ≡ Some table
-    → table_named tables table.name ≡ Some i
-table_of_name tables i table h is = position_of_name (λ t. t.name) tables i table (names tables h).1 is
+-- a table of a schema has few columns and a good name, and is found by its name
+module _ (tables : List TableDef) (i : ℕ) (table : TableDef) (sound : schema_fault tables ≡ None) (is : slice_get tables i ≡ Some table) where
+  pub few_columns : length table.columns ≤ MOST_COLUMNS
+  few_columns = leb-true (length table.columns) MOST_COLUMNS (at_each has_room tables i table (few tables sound).1 is)
 
-pub column_of_name : (tables : List TableDef) (i j : ℕ) (table : TableDef) (column : List ℕ × Kind) → schema_fault tables ≡ None → slice_get tables i
-    ≡ Some table → slice_get table.columns j ≡ Some column → column_named tables i column.0 ≡ Some j
-column_of_name tables i j table column h is at =
-    rw is (position_of_name (λ c. c.0) table.columns j column (at_each has_distinct_columns tables i table (names tables h).2 is) at)
+  good_names : (is_good_name table.name ≡ true) × (list_all (λ c. is_column_name c.0) table.columns ≡ true)
+  good_names = and_parts _ _ (at_each has_good_names tables i table (names tables sound).0 is)
+
+  pub good_table_name : is_good_name table.name ≡ true
+  good_table_name = good_names.0
+
+  pub table_of_name : table_named tables table.name ≡ Some i
+  table_of_name = position_at _ tables i table is (position_by_name (λ t. t.name) tables i table (names tables sound).1 is)
+
+-- and so has each of its columns, and is
+module _ (tables : List TableDef) (i j : ℕ) (table : TableDef) (column : List ℕ × Kind) (sound : schema_fault tables ≡ None)
+    (is : slice_get tables i ≡ Some table) (at : slice_get table.columns j ≡ Some column) where
+  pub good_column_name : is_column_name column.0 ≡ true
+  good_column_name = at_each (λ c. is_column_name c.0) table.columns j column (good_names tables i table sound is).1 at
+
+  pub column_of_name : column_named tables i column.0 ≡ Some j
+  column_of_name = rw is (position_at _ table.columns j column at
+      (position_by_name (λ c. c.0) table.columns j column (at_each has_distinct_columns tables i table (names tables sound).2 is) at))
 
 -- a row that fits a table --------------------------------------------------------------------
 

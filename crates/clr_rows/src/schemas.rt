@@ -62,6 +62,7 @@ impl Schema {
     }
 
     /// Returns the number of the table of this name, or none. Upper and lower case differ.
+    #[tactic(auto, using(crate::proofs::SchemaLemmas::few_tables))]
     pub fn table(&self, name: &str) -> Option<u16>
         ensures value { result ≡ table_named self.now name.now }
         ensures small { length self.now ≤ MOST_TABLES }
@@ -106,6 +107,7 @@ impl Schema {
     }
 
     /// Returns the table of this number, or none.
+    #[tactic(auto, using(crate::proofs::SchemaLemmas::few_tables))]
     pub fn def(&self, table: u16) -> Option<&TableDef>
         ensures value { option_copied result ≡ slice_get self.now table }
         ensures sound { schema_fault self.now ≡ None }
