@@ -7,7 +7,7 @@ ghost use Rattle.clr_segments.specs.Turns.{SameSign, OnOneSide, AreParted, AreCo
 
 use crate::axis::meet_on_axis;
 use crate::meeting::Meet;
-use crate::sides::turn;
+use crate::sides::{is_on_line, turn};
 use clr_rows::Place;
 
 // Whether both numbers are positive, or both negative.
@@ -53,7 +53,7 @@ fn are_collinear(a: Place, b: Place, c: Place, d: Place) -> bool
     requires d_in { InRange d }
     ensures { IsTrue result ↔ AreCollinear a b c d }
 {
-    turn(a, b, c) == 0 && turn(a, b, d) == 0
+    is_on_line(a, b, c) && is_on_line(a, b, d)
 }
 
 /// Returns how the segments from a to b and from c to d meet, their ends included. Where they meet

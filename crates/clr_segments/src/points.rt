@@ -7,7 +7,7 @@ ghost use Rattle.clr_segments.specs.Turns.{squared_distance};
 
 use crate::boxes::{box_of, is_in_box};
 use crate::limits::GREATEST_DISTANCE;
-use crate::sides::{difference, product, turn};
+use crate::sides::{difference, is_on_line, product};
 use clr_rows::Place;
 
 /// Returns whether p is a point of the segment from a to b, its ends included. The ends differ, and
@@ -20,7 +20,7 @@ pub fn lies_on(p: Place, a: Place, b: Place) -> bool
     requires ends { Differ a b }
     ensures { IsTrue result ↔ LiesOn p a b }
 {
-    turn(a, b, p) == 0 && is_in_box(p, box_of(a, b))
+    is_on_line(a, b, p) && is_in_box(p, box_of(a, b))
 }
 
 /// Returns whether p and q are nearer than d millimetres. Two places exactly d apart are not. The

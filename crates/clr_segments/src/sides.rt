@@ -1,6 +1,6 @@
 //! On which side of a line a place is.
 
-ghost use Rattle.std.specs.Prelude.{◌≡◌, ◌≤◌, ◌-ℤ◌, ◌*ℤ◌, unsigned_abs};
+ghost use Rattle.std.specs.Prelude.{◌≡◌, ◌↔◌, ◌≤◌, ◌-ℤ◌, ◌*ℤ◌, IsTrue, pos, unsigned_abs};
 ghost use Rattle.std.specs.Int.{int_signum};
 ghost use Rattle.clr_rows.specs.declared.limits.TheConstants.{GREATEST_COORDINATE};
 ghost use Rattle.clr_rows.specs.Places.{InRange};
@@ -52,4 +52,14 @@ pub fn turn(a: Place, b: Place, c: Place) -> i64
     ensures { result ≡ int_signum (cross_product a b c) }
 {
     doubled_area(a, b, c).signum()
+}
+
+// Whether the place c is on the line from a to b, or a and b are one place.
+pub(crate) fn is_on_line(a: Place, b: Place, c: Place) -> bool
+    requires a_in { InRange a }
+    requires b_in { InRange b }
+    requires c_in { InRange c }
+    ensures { IsTrue result ↔ (cross_product a b c ≡ pos 0) }
+{
+    turn(a, b, c) == 0
 }
