@@ -86,6 +86,7 @@ fn insert<V: RowView>(
 }
 
 /// Stages another row at a cell that has one.
+#[tactic(auto, using(crate::proofs::EditLemmas::update_missing))]
 fn update<V: RowView>(
     staged: &mut ChangeSet,
     schema: &Schema,
@@ -104,6 +105,7 @@ fn update<V: RowView>(
 }
 
 /// Stages that a cell with a row has none.
+#[tactic(auto, using(crate::proofs::EditLemmas::delete_missing))]
 fn delete<V: RowView>(
     staged: &mut ChangeSet,
     schema: &Schema,

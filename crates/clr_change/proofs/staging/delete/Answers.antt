@@ -3,12 +3,8 @@ use Rattle.std.proofs.lemmas.Result.{on_ok_weaker}
 use Rattle.clr_rows.specs.Contents.{Changes}
 use Rattle.clr_change.specs.declared.edits.Edit.TheVariants.{Delete}
 use Rattle.clr_change.specs.Edits.{IsMade}
-use Rattle.clr_change.proofs.EditLemmas.{delete_made, delete_missing}
+use Rattle.clr_change.proofs.EditLemmas.{delete_made}
 use Rattle.clr_change.proofs.staging.delete.Goals as goal
-
-pub returns-then-not-has_row-clause-refused : goal.returns-then-not-has_row-clause-refused
-returns-then-not-has_row-clause-refused g c = delete_missing c.args.schema.now (g.V.RowView.content c.args.view.now) c.args.cell c.args.staged.now
-    c.in_ok-judge_cell.ensures (sym c.has_row.ensures ∙ c.if-not-has_row.true)
 
 pub returns-clause-made : goal.returns-clause-made
 returns-clause-made g c =
