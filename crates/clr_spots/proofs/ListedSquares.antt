@@ -44,15 +44,6 @@ taken_more f [] k x e = absurd (cc)
 taken_more f (y ∷ xs) zero x e = let same : y ≡ x = cc in ap (λ z. f z ∷ []) same
 taken_more f (y ∷ xs) (suc k) x e = simp unary_clauses (ap (λ ys. f y ∷ ys) (simp unary_clauses at (taken_more f xs k x e)))
 
-pub part_added : (shape : Shape) (k : ℕ) (e : Segment) (list : List Spot) → slice_get (parts_of shape) k ≡ Some e → list
-    ≡ squares_of_all (take k (boxes_of_parts shape))
-    → union list (squares_of (box_between e.0 e.1)) ≡ squares_of_all (take (k + 1) (boxes_of_parts shape))
-unfolding squares_of_all
-part_added shape k e list at is =
-    let box : Segment → Bounds = λ s. box_between s.0 s.1 in
-    sym (ap (fold add_squares []) (taken_more box (parts_of shape) k e at) ∙ fold-append add_squares [] (take k (map box (parts_of shape))) (box e ∷ [])
-    ∙ ap (λ (xs : List Spot). union xs (squares_of (box e))) (sym is))
-
 first_too_many : (bs : List Bounds) (k : ℕ) → are_many (squares_of_all (take k bs)) ≡ true → are_many (squares_of_all bs) ≡ true
 unfolding squares_of_all
 first_too_many bs k e = many_more (fold add_squares [] (take k bs)) (fold add_squares [] bs)
@@ -60,12 +51,17 @@ first_too_many bs k e = many_more (fold add_squares [] (take k bs)) (fold add_sq
     (sym (fold-append add_squares [] (take k bs) (drop k bs)) ∙ ap (fold add_squares []) (take-append-drop k bs))
     (all_longer (fold add_squares [] (take k bs)) (drop k bs))) e
 
-pub part_too_many : (shape : Shape) (k : ℕ) (e : Segment) (list : List Spot) → slice_get (parts_of shape) k ≡ Some e → list
-    ≡ squares_of_all (take k (boxes_of_parts shape))
-    → are_many (union list (squares_of (box_between e.0 e.1))) ≡ true
-    → are_many (squares_of_all (boxes_of_parts shape)) ≡ true
-part_too_many shape k e list at is many = first_too_many (boxes_of_parts shape) (k + 1) (subst (λ (xs : List Spot). are_many xs
-    ≡ true) (part_added shape k e list at is) many)
+module _ (shape : Shape) (k : ℕ) (e : Segment) (list : List Spot) (at : slice_get (parts_of shape) k ≡ Some e)
+    (is : list ≡ squares_of_all (take k (boxes_of_parts shape))) where
+  pub part_added : union list (squares_of (box_between e.0 e.1)) ≡ squares_of_all (take (k + 1) (boxes_of_parts shape))
+  unfolding squares_of_all
+  part_added =
+      let box : Segment → Bounds = λ s. box_between s.0 s.1 in
+      sym (ap (fold add_squares []) (taken_more box (parts_of shape) k e at) ∙ fold-append add_squares [] (take k (map box (parts_of shape))) (box e ∷ [])
+      ∙ ap (λ (xs : List Spot). union xs (squares_of (box e))) (sym is))
+
+  pub part_too_many : are_many (union list (squares_of (box_between e.0 e.1))) ≡ true → are_many (squares_of_all (boxes_of_parts shape)) ≡ true
+  part_too_many many = first_too_many (boxes_of_parts shape) (k + 1) (subst (λ (xs : List Spot). are_many xs ≡ true) part_added many)
 
 pub none_kept : (xs : List Spot) → are_many xs ≡ true → [] ≡ unless_many xs
 none_kept xs e = sym (ap (λ many. if many then [] else xs) e)
@@ -107,7 +103,7 @@ none_added xs ys = record { first = take_all (length xs) xs (omega arith); longe
 front_kept : (xs list : List Spot) (y : Spot) → take (length xs) list ≡ xs → length xs ≤ length list → take (length xs) (list ++ y ∷ []) ≡ xs
 front_kept xs list y same h = take-append-le (length xs) list (y ∷ []) h ∙ same
 
--- one more spot, which is new or isn't
+-- one more spot, which is new
 pub new_added : (xs ys list rest read : List Spot) (y : Spot) (has : Bool) → AddsNew xs ys list (y ∷ rest) → read ≡ take (length xs) list → has
     ≡ list_any (λ x. same_spot x y) read → has ≡ false
     → AddsNew xs ys (list ++ y ∷ []) rest
@@ -118,17 +114,6 @@ new_added xs ys list rest read y has h at test none =
       longer = omega (arith, length-append list (y ∷ []), h.longer);
       whole = append_assoc list (y ∷ []) (filter (is_new xs) rest) ∙ ap (λ b. list ++ cond (not b) (y ∷ filter (is_new xs) rest) (filter (is_new xs) rest))
           (sym new) ∙ h.whole;
-    }
-
-pub old_left : (xs ys list rest read : List Spot) (y : Spot) (has : Bool) → AddsNew xs ys list (y ∷ rest) → read ≡ take (length xs) list → has
-    ≡ list_any (λ x. same_spot x y) read → has ≡ true
-    → AddsNew xs ys list rest
-old_left xs ys list rest read y has h at test some =
-    let old : list_any (λ x. same_spot x y) xs ≡ true = ap (λ ws. list_any (λ x. same_spot x y) ws) (sym (at ∙ h.first)) ∙ sym test ∙ some in
-    record {
-      first = h.first;
-      longer = h.longer;
-      whole = ap (λ b. list ++ cond (not b) (y ∷ filter (is_new xs) rest) (filter (is_new xs) rest)) (sym old) ∙ h.whole;
     }
 
 pub all_added : (xs ys list : List Spot) → AddsNew xs ys list [] → list ≡ union xs ys

@@ -25,4 +25,4 @@ servers_meet rules ask s t r e f = let (rule, at, called) = called_by rules ask 
   where
     go : (rule : Rule) → slice_get rules ask.rule ≡ Some rule → are_subjects rule ask s t ≡ true → call.is_server_of (slice_get rules ask.rule) ask s t r ≡ true
         → Common (subject_spots_under rules ask.rule ask.first_part s) (server_spots_under rules ask.rule r)
-    go rule at called g = rw at (server_meets rule ask s t r called (rw at at g))
+    go rule at called g = rw at (server_meets rule ask s t r called (rw at at g)).0

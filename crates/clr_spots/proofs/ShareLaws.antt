@@ -1,9 +1,9 @@
 -- Rows that stand in one need share a spot, kind of rule by kind.
-use Rattle.std.proofs.Common.{◌≡◌, inl, inr, Bool, true, ◌||◌, ◌==◌, ℕ, zero, suc, ℤ, pos, List, [], ◌∷◌, map, slice_get, Option, Some, None, length, refl, sym}
+use Rattle.std.proofs.Common.{◌≡◌, inl, inr, Bool, true, false, ◌||◌, ◌==◌, ℕ, zero, suc, ℤ, pos, List, [], ◌∷◌, map, slice_get, Option, Some, None, length, refl, sym}
 use Rattle.std.proofs.Common.{ap, subst, arith}
 use Rattle.std.specs.Prelude.{int_le, ⊤}
 use Rattle.std.specs.List.{list_all, zip, filter_map, cons_option}
-use Rattle.std.proofs.lemmas.Bool.{and_parts, or_left, or_right, eqb-true, false≢true}
+use Rattle.std.proofs.lemmas.Bool.{and_parts, or_cases, or_left, or_right, eqb-true, false≢true}
 use Rattle.std.proofs.lemmas.Int.{ints, int_min_is, int_max_is}
 use Rattle.std.proofs.lemmas.Map.Views.{list_any-from_Contains}
 use Rattle.clr_rows.specs.declared.places.Place.{Place}
@@ -21,20 +21,19 @@ use Rattle.clr_rules.specs.declared.columns.Col.{Col}
 use Rattle.clr_rules.specs.declared.needs.Ask.{Ask}
 use Rattle.clr_rules.specs.declared.rules.Rule.{Rule}
 use Rattle.clr_rules.specs.declared.rules.Rule.TheVariants.{Unique, Partner, EndNode, Crossing, Near}
-use Rattle.clr_rules.specs.declared.rules.Tip.{Tip}
-use Rattle.clr_rules.specs.declared.sides.Side.{Side}
 use Rattle.clr_spots.specs.declared.spots.Spot.{Spot}
 use Rattle.clr_spots.specs.declared.spots.Spot.TheVariants.{Square, Values}
 use Rattle.clr_rules.specs.Books.{has_distance, is_distance}
 use Rattle.clr_rules.specs.Calls.{have_meeting, are_nearer, are_one_point, is_crossing_at, is_plain, are_subjects, is_server, suits}
-use Rattle.clr_spots.specs.Laws.{SharesBeside}
+use Rattle.clr_spots.specs.Laws.{ServersShare, SharesBeside, SubjectsShare}
 use Rattle.clr_spots.specs.RoleSpots.{squares_of_part, subject_spots, server_spots}
+use Rattle.clr_spots.specs.SpotOrder.{same_spot}
 use Rattle.clr_rules.proofs.RoleLemmas.{both_have_roles, both_of_one}
 use Rattle.clr_rows.specs.Held.{Held}
 use Rattle.clr_rows.specs.Parts.{parts_of, part_of}
 use Rattle.clr_rules.specs.Sides.{Segment, same_field, field, is_of_side, is_of, are_of_sides, are_equal_in, point_in, end_of, point_of, sides}
-use Rattle.clr_spots.specs.SpotOrderLaws.{same_spot_equiv}
-use Rattle.clr_spots.specs.Spots.{square_of, squares_of, squares_of_all, squares_near, boxes_in, square_at, values_in, in_role, union, all_spots, share}
+use Rattle.clr_spots.specs.SpotOrderLaws.{same_spot_equiv, same_spot_is}
+use Rattle.clr_spots.specs.Spots.{square_of, squares_of, squares_of_all, squares_near, boxes_in, square_at, values_in, in_role, all_spots}
 use Rattle.clr_rules.proofs.Elements.{Among}
 use Rattle.clr_spots.proofs.PathSquares.{listed_in_boxes}
 use Rattle.clr_spots.proofs.SquareLemmas.{place_listed}
@@ -95,9 +94,6 @@ in_own_box p = (
   ),
 )
 
-pub on_segment : (x : Place) (a : Segment) → lies_on x a.0 a.1 ≡ true → Common (squares_of (box_between a.0 a.1)) (squares_of (box_between x x))
-on_segment x a e = touching (box_between a.0 a.1) (box_between x x) (x, point_boxed x a.0 a.1 (on_from_search x a.0 a.1 e), in_own_box x)
-
 -- ---- shapes
 box_among : (xs : List Segment) (n : ℕ) (a : Segment) → slice_get xs n ≡ Some a → Among (box_between a.0 a.1) (map (λ (e : Segment). box_between e.0 e.1) xs)
 box_among [] n a e = absurd (cc)
@@ -105,48 +101,31 @@ box_among (b ∷ xs) zero a e = let same : b ≡ a = cc in inl (λ i. box_betwee
 box_among (b ∷ xs) (suc n) a e = inr (box_among xs n a e)
 
 -- the squares of a part are the shape's
-part_listed : (f : Shape) (n : ℕ) (a : Segment) (x : Spot) → part_of f n ≡ Some a → Listed x (squares_of (box_between a.0 a.1))
-    → Listed x (squares_of_all (boxes_in f))
-part_listed f zero a x e h = absurd (cc)
-part_listed Bare (suc n) a x e h = absurd (cc)
-part_listed (At p) (suc n) a x e h = absurd (cc)
-part_listed (Line p q) (suc n) a x e h = listed_in_boxes x (box_between a.0 a.1) (boxes_in (Line p q)) (box_among (parts_of (Line p q)) n a e) h
-part_listed (Chain vertices) (suc n) a x e h = listed_in_boxes x (box_between a.0 a.1) (boxes_in (Chain vertices)) (box_among (parts_of (Chain vertices)) n a e)
-    h
+part_listed : (f : Shape) (n : ℕ) (o : Option Segment) (x : Spot) → part_of f n ≡ o → Listed x (squares_of_part o) → Listed x (squares_of_all (boxes_in f))
+part_listed f n None x e h = absurd (false≢true h)
+part_listed f zero (Some a) x e h = absurd (cc)
+part_listed Bare (suc n) (Some a) x e h = absurd (cc)
+part_listed (At p) (suc n) (Some a) x e h = absurd (cc)
+part_listed (Line p q) (suc n) (Some a) x e h =
+    listed_in_boxes x (box_between a.0 a.1) (boxes_in (Line p q)) (box_among (parts_of (Line p q)) n a e) h
+part_listed (Chain vertices) (suc n) (Some a) x e h =
+    listed_in_boxes x (box_between a.0 a.1) (boxes_in (Chain vertices)) (box_among (parts_of (Chain vertices)) n a e) h
 
-point_listed : (f : Shape) (p : Place) (x : Spot) → point_in f ≡ Some p → Listed x (squares_of (box_between p p)) → Listed x (squares_of_all (boxes_in f))
-point_listed Bare p x e h = absurd (cc)
-point_listed (At q) p x e h = let same : q ≡ p = cc in listed_in_boxes x (box_between p p) (boxes_in (At q)) (inl (λ i. box_between (same i) (same i))) h
-point_listed (Line q r) p x e h = absurd (cc)
-point_listed (Chain vertices) p x e h = absurd (cc)
+-- so is the square of a point
+only_listed : (x y : Spot) → Listed x (y ∷ []) → x ≡ y
+only_listed x y h = elim (or_cases (same_spot x y) false h) [ inl same ↦ same_spot_is x y same | inr other ↦ absurd (false≢true other) ]
 
--- two parts with a common point
-meeting : (f g : Shape) (m n : ℕ) → have_meeting (part_of f m) (part_of g n) ≡ true → Common (squares_of_all (boxes_in f)) (squares_of_all (boxes_in g))
-meeting f g m n e = go (part_of f m) (part_of g n) refl refl e
-  where
-    go : (o p : Option Segment) → part_of f m ≡ o → part_of g n ≡ p → have_meeting o p ≡ true
-        → Common (squares_of_all (boxes_in f)) (squares_of_all (boxes_in g))
-    go None p at by e = absurd (false≢true e)
-    go (Some a) None at by e = absurd (false≢true e)
-    go (Some a) (Some b) at by e = let w = segments_meet a b e in (w.0, part_listed f m a w.0 at w.1, part_listed g n b w.0 by w.2)
+own_square : (p : Place) (x : Spot) → Listed x (square_at (Some p)) → Listed x (squares_of (box_between p p))
+own_square p x h =
+    let own = Square (square_of p.x) (square_of p.y) in
+    subst (λ y. Listed y (squares_of (box_between p p))) (sym (only_listed x own h))
+    (list_any-from_Contains same_spot_equiv own (squares_of (box_between p p)) (place_listed p (box_between p p) (in_own_box p)))
 
--- a point of two parts
-crossing_at : (f g h : Shape) (m n : ℕ) → is_crossing_at (part_of f m) (part_of g n) (point_in h) ≡ true
-    → Common (squares_of_all (boxes_in f)) (squares_of_all (boxes_in h)) × Common (squares_of_all (boxes_in g)) (squares_of_all (boxes_in h))
-crossing_at f g h m n e = go (part_of f m) (part_of g n) (point_in h) refl refl refl e
-  where
-    on_part : (f : Shape) (n : ℕ) (a : Segment) (x : Place) → part_of f n ≡ Some a → point_in h ≡ Some x → lies_on x a.0 a.1 ≡ true
-        → Common (squares_of_all (boxes_in f)) (squares_of_all (boxes_in h))
-    on_part f n a x at by e = let w = on_segment x a e in (w.0, part_listed f n a w.0 at w.1, point_listed h x w.0 by w.2)
-
-    go : (o p : Option Segment) (q : Option Place) → part_of f m ≡ o → part_of g n ≡ p → point_in h ≡ q → is_crossing_at o p q ≡ true
-        → Common (squares_of_all (boxes_in f)) (squares_of_all (boxes_in h)) × Common (squares_of_all (boxes_in g)) (squares_of_all (boxes_in h))
-    go None p q i j k e = absurd (false≢true e)
-    go (Some a) None q i j k e = absurd (false≢true e)
-    go (Some a) (Some b) None i j k e = absurd (false≢true e)
-    go (Some a) (Some b) (Some x) i j k e =
-        let both = and_parts (lies_on x a.0 a.1) (lies_on x b.0 b.1) (and_parts _ _ e).1 in
-        (on_part f m a x i k both.0, on_part g n b x j k both.1)
+point_listed : (f : Shape) (x : Spot) → Listed x (square_at (point_in f)) → Listed x (squares_of_all (boxes_in f))
+point_listed Bare x h = absurd (false≢true h)
+point_listed (At p) x h = listed_in_boxes x (box_between p p) (boxes_in (At p)) (inl refl) (own_square p x h)
+point_listed (Line q r) x h = absurd (false≢true h)
+point_listed (Chain vertices) x h = absurd (false≢true h)
 
 pub nearness : (d : ℤ) (o p : Option Place) → is_distance d ≡ true → are_nearer d o p ≡ true → Common (squares_near d o) (squares_near d p)
 nearness d None p k e = absurd (false≢true e)
@@ -156,127 +135,38 @@ nearness d (Some o) (Some p) k e =
     touching (grown_box (box_between o o) d) (grown_box (box_between p p) d) (near_touch o p d (omega (arith, ints)) (omega (arith, ints)))
 
 -- ---- roles
+-- spots of a role are among those of a wider one
+in_wider : (m n : Bool) (xs ys : List Spot) (x : Spot) → (m ≡ true → n ≡ true) → (Listed x xs → Listed x ys) → Listed x (in_role m xs)
+    → Listed x (in_role n ys)
+in_wider true n xs ys x wider more h = listed_in_role x n ys (wider refl) (more h)
+in_wider false n xs ys x wider more h = absurd (false≢true h)
 
--- a spot among all those of both rows
-abbrev pub HaveCommon : Rule → Held → Held → Type 0
-HaveCommon rule s t = Common (all_spots rule s) (all_spots rule t)
+-- the spots of a subject, and of a server, are among all those of the row
+subject_listed : (rule : Rule) (n : ℕ) (s : Held) (x : Spot) → Listed x (subject_spots rule n s) → Listed x (all_spots rule s)
+unfolding subject_spots all_spots
+subject_listed (Unique subject columns) n s x h = h
+subject_listed (Partner subject columns server server_columns) n s x h =
+    joined_front x (in_role (is_of_side subject s) (values_in s columns ∷ [])) (in_role (is_of_side server s) (values_in s server_columns ∷ [])) h
+subject_listed (EndNode subject tip server) n s x h =
+    joined_front x (in_role (is_of_side subject s) (square_at (end_of tip s))) (in_role (is_of_side server s) (square_at (point_of s))) h
+subject_listed (Crossing a b server) n s x h =
+    let has = is_of_side a s || is_of_side b s in
+    in_wider has (has || is_of_side server s) (squares_of_part (part_of s.1.shape n)) (squares_of_all (boxes_in s.1.shape)) x
+    (or_left has (is_of_side server s)) (part_listed s.1.shape n (part_of s.1.shape n) x refl) h
+subject_listed (Near a b d) n s x h = h
 
-abbrev pub HaveCommonToo : Rule → Held → Option Held → Type 0
-HaveCommonToo rule s None = ⊤
-HaveCommonToo rule s (Some t) = HaveCommon rule s t
+server_listed : (rule : Rule) (r : Held) (x : Spot) → Listed x (server_spots rule r) → Listed x (all_spots rule r)
+unfolding server_spots all_spots
+server_listed (Partner subject columns server server_columns) r x h =
+    joined_back x (in_role (is_of_side subject r) (values_in r columns ∷ [])) (in_role (is_of_side server r) (values_in r server_columns ∷ [])) h
+server_listed (EndNode subject tip server) r x h =
+    joined_back x (in_role (is_of_side subject r) (square_at (end_of tip r))) (in_role (is_of_side server r) (square_at (point_of r))) h
+server_listed (Crossing a b server) r x h =
+    let has = is_of_side a r || is_of_side b r in
+    in_wider (is_of_side server r) (has || is_of_side server r) (square_at (point_of r)) (squares_of_all (boxes_in r.1.shape)) x
+    (or_right has (is_of_side server r)) (point_listed r.1.shape x) h
+server_listed _ r x h = absurd (false≢true h)
 
--- a spot of what both rows have in their roles is common
-in_roles : (rule : Rule) (s t : Held) (m n : Bool) (xs ys : List Spot) → all_spots rule s ≡ in_role m xs → all_spots rule t ≡ in_role n ys → m ≡ true → n ≡ true
-    → Common xs ys → HaveCommon rule s t
-in_roles rule s t m n xs ys e f h k w = (
-  w.0,
-  subst (Listed w.0) (sym e) (listed_in_role w.0 m xs h w.1),
-  subst (Listed w.0) (sym f)
-      (listed_in_role w.0 n ys k w.2),
-)
-
--- ---- subjects
-unique_common : (subject : Side) (columns : List Col) (ask : Ask) (s t : Held) → are_subjects (Unique subject columns) ask s (Some t) ≡ true
-    → HaveCommon (Unique subject columns) s t
-unfolding are_subjects all_spots
-unique_common subject columns ask s t e =
-    let both = and_parts (are_of_sides subject subject s t) _ e in
-    let have = both_of_one subject s t both.0 in
-    let equal = (and_parts (is_plain ask) (are_equal_in s columns t columns) both.1).1 in
-    let x = values_in s columns in
-    in_roles (Unique subject columns) s t (is_of_side subject s) (is_of_side subject t) (x ∷ []) (values_in t columns ∷ []) refl refl have.0 have.1
-    (x, listed_alone x, subst (λ y. Listed x (y ∷ [])) (equal_values s t columns columns equal) (listed_alone x))
-
-crossing_common : (a b server : Side) (ask : Ask) (s t : Held) → are_subjects (Crossing a b server) ask s (Some t) ≡ true → HaveCommon (Crossing a b server) s t
-unfolding are_subjects all_spots
-crossing_common a b server ask s t e =
-    let parts = and_parts (are_of_sides a b s t) _ e in
-    let roles = both_have_roles a b s t parts.0 in
-    let has = λ (q : Held). is_of_side a q || is_of_side b q || is_of_side server q in
-    in_roles (Crossing a b server) s t (has s) (has t) (squares_of_all (boxes_in s.1.shape)) (squares_of_all (boxes_in t.1.shape)) refl refl
-    (or_left _ _ roles.0) (or_left _ _ roles.1)
-    (meeting s.1.shape t.1.shape ask.first_part ask.second_part parts.1)
-
-near_common : (a b : Side) (d : ℤ) (ask : Ask) (s t : Held) → is_distance d ≡ true → are_subjects (Near a b d) ask s (Some t) ≡ true
-    → HaveCommon (Near a b d) s t
-unfolding are_subjects all_spots
-near_common a b d ask s t k e =
-    let parts = and_parts (are_of_sides a b s t) _ e in
-    let roles = both_have_roles a b s t parts.0 in
-    in_roles (Near a b d) s t (is_of_side a s || is_of_side b s) (is_of_side a t || is_of_side b t) _ _ refl refl roles.0 roles.1
-    (nearness d (point_of s) (point_of t) k (and_parts (is_plain ask) _ parts.1).1)
-
-pub subjects_meet : (rule : Rule) (ask : Ask) (s : Held) (t : Option Held) → has_distance rule ≡ true → are_subjects rule ask s t ≡ true
-    → HaveCommonToo rule s t
-unfolding are_subjects
-subjects_meet rule ask s None k e = tt
-subjects_meet (Unique subject columns) ask s (Some t) k e = unique_common subject columns ask s t e
-subjects_meet (Crossing a b server) ask s (Some t) k e = crossing_common a b server ask s t e
-subjects_meet (Near a b d) ask s (Some t) k e = near_common a b d ask s t k e
-subjects_meet _ ask s (Some t) k e = absurd (false≢true e)
-
--- ---- servers
--- a spot of one row's first role and of the other's second is common
-across_roles : (rule : Rule) (s r : Held) (m n m' n' : Bool) (xs ys xs' ys' : List Spot)
-    → all_spots rule s ≡ union (in_role m xs) (in_role n ys)
-    → all_spots rule r ≡ union (in_role m' xs') (in_role n' ys')
-    → m ≡ true
-    → n' ≡ true
-    → Common xs ys'
-    → HaveCommon rule s r
-across_roles rule s r m n m' n' xs ys xs' ys' e f h k w = (
-  w.0,
-  subst (Listed w.0) (sym e) (joined_front w.0 (in_role m xs) (in_role n ys) (listed_in_role w.0 m xs h w.1)),
-  subst (Listed w.0) (sym f) (joined_back w.0 (in_role m' xs') (in_role n' ys') (listed_in_role w.0 n' ys' k w.2)),
-)
-
-partner_common : (subject server : Side) (columns server_columns : List Col) (ask : Ask) (s r : Held)
-    → is_server (Partner subject columns server server_columns) ask s None r ≡ true
-    → HaveCommon (Partner subject columns server server_columns) s r
-unfolding is_server all_spots
-partner_common subject server columns server_columns ask s r e =
-    let both = and_parts (is_of_side server r) _ e in
-    let rest = and_parts (is_of_side subject s) (are_equal_in s columns r server_columns) (and_parts (is_plain ask) _ both.1).1 in
-    let x = values_in s columns in
-    across_roles (Partner subject columns server server_columns) s r (is_of_side subject s) (is_of_side server s) (is_of_side subject r) (is_of_side server r) _
-    _ _ _ refl refl rest.0 both.0
-    (x, listed_alone x, subst (λ y. Listed x (y ∷ [])) (equal_values s r columns server_columns rest.1) (listed_alone x))
-
-end_common : (subject server : Side) (tip : Tip) (ask : Ask) (s r : Held) → is_server (EndNode subject tip server) ask s None r ≡ true
-    → HaveCommon (EndNode subject tip server) s r
-unfolding is_server all_spots
-end_common subject server tip ask s r e =
-    let both = and_parts (is_of_side server r) _ e in
-    let rest = and_parts (is_of_side subject s) _ (and_parts (is_plain ask) _ both.1).1 in
-    across_roles (EndNode subject tip server) s r (is_of_side subject s) (is_of_side server s) (is_of_side subject r) (is_of_side server r) _ _ _ _ refl refl
-    rest.0 both.0
-    (one_square (end_of tip s) (point_of r) rest.1)
-
-crossing_served : (a b server : Side) (ask : Ask) (s t r : Held) → are_subjects (Crossing a b server) ask s (Some t) ≡ true
-    → is_server (Crossing a b server) ask s (Some t) r ≡ true
-    → HaveCommon (Crossing a b server) s r × HaveCommon (Crossing a b server) r t
-unfolding are_subjects is_server all_spots
-crossing_served a b server ask s t r e f =
-    let roles = both_have_roles a b s t (and_parts (are_of_sides a b s t) _ e).0 in
-    let parts = and_parts (is_of_side server r) _ f in
-    let common = crossing_at s.1.shape t.1.shape r.1.shape ask.first_part ask.second_part parts.1 in
-    let has = λ (q : Held). is_of_side a q || is_of_side b q || is_of_side server q in
-    let squares = λ (q : Held). squares_of_all (boxes_in q.1.shape) in
-    let rule = Crossing a b server in
-    let own : has r ≡ true = or_right _ _ parts.0 in (
-      in_roles rule s r (has s) (has r) (squares s) (squares r) refl refl (or_left _ _ roles.0) own common.0,
-      in_roles rule r t (has r) (has t) (squares r) (squares t) refl refl own (or_left _ _ roles.1) (common.1.0, common.1.2, common.1.1),
-    )
-
-pub servers_meet : (rule : Rule) (ask : Ask) (s : Held) (t : Option Held) (r : Held) → are_subjects rule ask s t ≡ true → is_server rule ask s t r ≡ true
-    → HaveCommon rule s r × HaveCommonToo rule r t
-unfolding is_server
-servers_meet (Partner subject columns server server_columns) ask s None r e f = (partner_common subject server columns server_columns ask s r f, tt)
-servers_meet (EndNode subject tip server) ask s None r e f = (end_common subject server tip ask s r f, tt)
-servers_meet (Crossing a b server) ask s (Some t) r e f = crossing_served a b server ask s t r e f
-servers_meet rule ask s t r e f = absurd (false≢true (and_parts (is_of (sides rule).server r) (suits rule ask s t r) f).1)
-
--- ---- of their roles
 -- a spot of what both rows have in their roles is common to them
 in_both : (m n : Bool) (xs ys : List Spot) → m ≡ true → n ≡ true → Common xs ys → Common (in_role m xs) (in_role n ys)
 in_both m n xs ys h k w = (w.0, listed_in_role w.0 m xs h w.1, listed_in_role w.0 n ys k w.2)
@@ -299,12 +189,17 @@ point_on p a e =
       listed_alone x,
     )
 
-point_meets : (o p : Option Segment) (q : Option Place) → is_crossing_at o p q ≡ true → Common (squares_of_part o) (square_at q)
+point_meets : (o p : Option Segment) (q : Option Place) → is_crossing_at o p q ≡ true
+    → Common (squares_of_part o) (square_at q) × Common (square_at q) (squares_of_part p)
 point_meets None p q e = absurd (false≢true e)
 point_meets (Some a) None q e = absurd (false≢true e)
 point_meets (Some a) (Some b) None e = absurd (false≢true e)
-point_meets (Some a) (Some b) (Some x) e = point_on x a (and_parts (lies_on x a.0 a.1) (lies_on x b.0 b.1) (and_parts _ _ e).1).0
+point_meets (Some a) (Some b) (Some x) e =
+    let both = and_parts (lies_on x a.0 a.1) (lies_on x b.0 b.1) (and_parts _ _ e).1 in
+    let w = point_on x b both.1 in
+    (point_on x a both.0, (w.0, w.2, w.1))
 
+-- ---- subjects and servers
 pub pair_meets : (rule : Rule) (ask : Ask) (s t : Held) → has_distance rule ≡ true → are_subjects rule ask s (Some t) ≡ true
     → Common (subject_spots rule ask.first_part s) (subject_spots rule ask.second_part t)
 unfolding are_subjects subject_spots
@@ -323,35 +218,41 @@ pair_meets (Near a b d) ask s t k e =
     in_both _ _ _ _ have.0 have.1 (nearness d (point_of s) (point_of t) k (and_parts (is_plain ask) _ both.1).1)
 pair_meets _ ask s t k e = absurd (false≢true e)
 
+-- a spot of a server and of the second subject, if there is one, is common to them
+abbrev pub MeetsBeside : Rule → ℕ → Held → Option Held → Type 0
+MeetsBeside rule part r None = ⊤
+MeetsBeside rule part r (Some t) = Common (server_spots rule r) (subject_spots rule part t)
+
 pub server_meets : (rule : Rule) (ask : Ask) (s : Held) (t : Option Held) (r : Held) → are_subjects rule ask s t ≡ true → is_server rule ask s t r ≡ true
-    → Common (subject_spots rule ask.first_part s) (server_spots rule r)
+    → Common (subject_spots rule ask.first_part s) (server_spots rule r) × MeetsBeside rule ask.second_part r t
 unfolding are_subjects is_server subject_spots server_spots
 server_meets (Partner subject columns server server_columns) ask s None r e f =
     let both = and_parts (is_of_side server r) _ f in
     let rest = and_parts (is_of_side subject s) _ (and_parts (is_plain ask) _ both.1).1 in
-    in_both _ _ _ _ rest.0 both.0 (same_alone (values_in s columns) (values_in r server_columns) (equal_values s r columns server_columns rest.1))
+    (in_both _ _ _ _ rest.0 both.0 (same_alone (values_in s columns) (values_in r server_columns) (equal_values s r columns server_columns rest.1)), tt)
 server_meets (EndNode subject tip server) ask s None r e f =
     let both = and_parts (is_of_side server r) _ f in
     let rest = and_parts (is_of_side subject s) _ (and_parts (is_plain ask) _ both.1).1 in
-    in_both _ _ _ _ rest.0 both.0 (one_square (end_of tip s) (point_of r) rest.1)
+    (in_both _ _ _ _ rest.0 both.0 (one_square (end_of tip s) (point_of r) rest.1), tt)
 server_meets (Crossing a b server) ask s (Some t) r e f =
     let have = both_have_roles a b s t (and_parts (are_of_sides a b s t) _ e).0 in
     let both = and_parts (is_of_side server r) _ f in
-    in_both _ _ _ _ have.0 both.0 (point_meets (part_of s.1.shape ask.first_part) (part_of t.1.shape ask.second_part) (point_of r) both.1)
+    let met = point_meets (part_of s.1.shape ask.first_part) (part_of t.1.shape ask.second_part) (point_of r) both.1 in
+    (in_both _ _ _ _ have.0 both.0 met.0, in_both _ _ _ _ both.0 have.1 met.1)
 server_meets rule ask s t r e f = absurd (false≢true (and_parts (is_of (sides rule).server r) (suits rule ask s t r) f).1)
 
 -- ---- so they share
-pub common_share : (rule : Rule) (s t : Held) → HaveCommon rule s t → share rule s t ≡ true
-common_share rule s t w = share_by rule s t w.0 w.1 w.2
+pub subjects_share : SubjectsShare
+subjects_share rule ask s None k e = tt
+subjects_share rule ask s (Some t) k e =
+    let w = pair_meets rule ask s t k e in
+    share_by rule s t w.0 (subject_listed rule ask.first_part s w.0 w.1) (subject_listed rule ask.second_part t w.0 w.2)
 
-common_share_too : (rule : Rule) (s : Held) (t : Option Held) → HaveCommonToo rule s t → SharesBeside rule s t
-common_share_too rule s None w = tt
-common_share_too rule s (Some t) w = common_share rule s t w
-
-pub subjects_share : (rule : Rule) (ask : Ask) (s : Held) (t : Option Held) → has_distance rule ≡ true → are_subjects rule ask s t ≡ true
-    → SharesBeside rule s t
-subjects_share rule ask s t k e = common_share_too rule s t (subjects_meet rule ask s t k e)
-
-pub servers_share : (rule : Rule) (ask : Ask) (s : Held) (t : Option Held) (r : Held) → are_subjects rule ask s t ≡ true → is_server rule ask s t r ≡ true
-    → (share rule s r ≡ true) × SharesBeside rule r t
-servers_share rule ask s t r e f = let m = servers_meet rule ask s t r e f in (common_share rule s r m.0, common_share_too rule r t m.1)
+pub servers_share : ServersShare
+servers_share rule ask s t r e f =
+    let m = server_meets rule ask s t r e f in
+    (share_by rule s r m.0.0 (subject_listed rule ask.first_part s m.0.0 m.0.1) (server_listed rule r m.0.0 m.0.2), beside t m.1)
+  where
+    beside : (u : Option Held) → MeetsBeside rule ask.second_part r u → SharesBeside rule r u
+    beside None w = tt
+    beside (Some u) w = share_by rule r u w.0 (server_listed rule r w.0 w.1) (subject_listed rule ask.second_part u w.0 w.2)
