@@ -78,19 +78,15 @@ and_true : (b : Bool) → (b && true) ≡ b
 and_true true = refl
 and_true false = refl
 
-pub found_sharing : (rules : List Rule) (content : Content) (settled : Settled) (number : ℕ) (s : Held) → IsSettledFor settled rules content →
-    number < length rules
-    → found_cells false settled number (rule_spots rules number s) ≡ sharing rules number content s
-unfolding found_cells sharing
-found_sharing rules content settled number s is less =
-    same_passing rules content settled (λ e. is_met_at false (rule_spots rules number s) number (Some e.1)) (are_sharing rules number s) is
-    (λ t. met_told false rules number s t less ∙ and_true (are_sharing rules number s t))
+-- what a settled finder finds for a row
+module _ (rules : List Rule) (content : Content) (settled : Settled) (number : ℕ) (s : Held) (is : IsSettledFor settled rules content)
+    (less : number < length rules) where
+  pub found_sharing : found_cells false settled number (rule_spots rules number s) ≡ sharing rules number content s
+  unfolding found_cells sharing
+  found_sharing = same_passing rules content settled (λ e. is_met_at false (rule_spots rules number s) number (Some e.1)) (are_sharing rules number s) is
+      (λ t. met_told false rules number s t less ∙ and_true (are_sharing rules number s t))
 
-pub found_servers : (rules : List Rule) (content : Content) (settled : Settled) (number : ℕ) (s : Held) → IsSettledFor settled rules content →
-    number < length rules
-    → found_cells true settled number (rule_spots rules number s) ≡ sharing_servers rules number content s
-unfolding found_cells sharing_servers
-found_servers rules content settled number s is less =
-    same_passing rules content settled (λ e. is_met_at true (rule_spots rules number s) number (Some e.1))
-    (λ t. are_sharing rules number s t && may_serve_under rules number t) is
-    (λ t. met_told true rules number s t less)
+  pub found_servers : found_cells true settled number (rule_spots rules number s) ≡ sharing_servers rules number content s
+  unfolding found_cells sharing_servers
+  found_servers = same_passing rules content settled (λ e. is_met_at true (rule_spots rules number s) number (Some e.1))
+      (λ t. are_sharing rules number s t && may_serve_under rules number t) is (λ t. met_told true rules number s t less)
