@@ -169,19 +169,6 @@ cell_listed es q e = sym (is_some-lookup (is_at (cell_cmp q)) es) ∙ some_row (
 pub some_there : (es : List (CellId × RowOrNone)) (q : CellId) → is_some (finite.get (settled_of es) q) ≡ true → is_some (at_cell es q) ≡ true
 some_there es q e = some_row (at_cell es q) (sym (ap is_some (get_settled es q)) ∙ e)
 
--- a change that is noted at a cell with room has room, and so have the others
-pub room_for : (rows new old pending : List (CellId × RowOrNone)) (k : CellId) (row : RowOrNone) →
-    ((q : CellId) → at_cell pending q ≡ cond (is_at (cell_cmp k) q) (Some row) (at_cell old q))
-    → is_some (at_cell new k) ≡ true
-    → ((q : CellId) → is_some (at_cell rows q) ≡ true → is_some (at_cell new q) ≡ true)
-    → ((q : CellId) → is_some (at_cell old q) ≡ true → is_some (at_cell rows q) ≡ true)
-    → (q : CellId) → is_some (at_cell pending q) ≡ true → is_some (at_cell new q) ≡ true
-room_for rows new old pending k row h here kept had q some = go (is_at (cell_cmp k) q) refl (sym (ap is_some (h q)) ∙ some)
-  where
-    go : (b : Bool) → is_at (cell_cmp k) q ≡ b → is_some (cond b (Some row) (at_cell old q)) ≡ true → is_some (at_cell new q) ≡ true
-    go true e f = subst (λ c. is_some (at_cell new c) ≡ true) (tie_is_same k q e) here
-    go false e f = kept q (had q f)
-
 -- room without a row is that of pending changes
 tie_itself : (k q : CellId) → q ≡ k → is_at (cell_cmp k) q ≡ true
 tie_itself k q same = subst (λ c. is_at (cell_cmp k) c ≡ true) (sym same) (tied_self k)
@@ -193,63 +180,50 @@ only_made k q w o e = go (is_at (cell_cmp k) q) refl e
     go true t h = inr (sym (tie_is_same k q t))
     go false t h = inl h
 
-pub lean_for : (old made pending noted : List (CellId × RowOrNone)) (k : CellId) (row : RowOrNone) →
-    ((q : CellId) → at_cell noted q ≡ cond (is_at (cell_cmp k) q) (Some row) (at_cell pending q))
-    → ((q : CellId) → at_cell made q ≡ Some None → (at_cell old q ≡ Some None) ⊎ (q ≡ k))
-    → ((q : CellId) → at_cell old q ≡ Some None → is_some (at_cell pending q) ≡ true)
-    → (q : CellId) → at_cell made q ≡ Some None → is_some (at_cell noted q) ≡ true
-lean_for old made pending noted k row h only had q e = elim (only q e) [
-  | inl before ↦ ap is_some (h q) ∙ still_some (is_at (cell_cmp k) q) row (at_cell pending q) (had q before)
-  | inr same ↦ ap is_some (h q) ∙ ap (λ b. is_some (cond b (Some row) (at_cell pending q))) (tie_itself k q same)
-]
+-- a change is noted at a cell
+module _ (rows new old pending : List (CellId × RowOrNone)) (k : CellId) (row : RowOrNone)
+    (h : (q : CellId) → at_cell pending q ≡ cond (is_at (cell_cmp k) q) (Some row) (at_cell old q)) where
+  -- where the cell has room, the change has it, and so have the others
+  pub room_for : is_some (at_cell new k) ≡ true
+      → ((q : CellId) → is_some (at_cell rows q) ≡ true → is_some (at_cell new q) ≡ true)
+      → ((q : CellId) → is_some (at_cell old q) ≡ true → is_some (at_cell rows q) ≡ true)
+      → (q : CellId) → is_some (at_cell pending q) ≡ true → is_some (at_cell new q) ≡ true
+  room_for here kept had q some = go (is_at (cell_cmp k) q) refl (sym (ap is_some (h q)) ∙ some)
+    where
+      go : (b : Bool) → is_at (cell_cmp k) q ≡ b → is_some (cond b (Some row) (at_cell old q)) ≡ true → is_some (at_cell new q) ≡ true
+      go true e f = subst (λ c. is_some (at_cell new c) ≡ true) (tie_is_same k q e) here
+      go false e f = kept q (had q f)
 
-pub lean_left : (rows new old pending : List (CellId × RowOrNone)) (k : CellId) →
-    ((q : CellId) → at_cell pending q ≡ cond (is_at (cell_cmp k) q) None (at_cell old q))
-    → ((q : CellId) → is_at (cell_cmp k) q ≡ false → at_cell new q ≡ at_cell rows q)
-    → (at_cell new k ≡ Some None → ⊥)
-    → ((q : CellId) → at_cell rows q ≡ Some None → is_some (at_cell old q) ≡ true)
-    → (q : CellId) → at_cell new q ≡ Some None → is_some (at_cell pending q) ≡ true
-lean_left rows new old pending k h others gone had q e = go (is_at (cell_cmp k) q) refl
-  where
-    go : (b : Bool) → is_at (cell_cmp k) q ≡ b → is_some (at_cell pending q) ≡ true
-    go true t = absurd (gone (subst (λ c. at_cell new c ≡ Some None) (sym (tie_is_same k q t)) e))
-    go false t = ap is_some (h q) ∙ ap (λ b. is_some (cond b None (at_cell old q))) t ∙ had q (sym (others q t) ∙ e)
+  pub lean_for : ((q : CellId) → at_cell new q ≡ Some None → (at_cell rows q ≡ Some None) ⊎ (q ≡ k))
+      → ((q : CellId) → at_cell rows q ≡ Some None → is_some (at_cell old q) ≡ true)
+      → (q : CellId) → at_cell new q ≡ Some None → is_some (at_cell pending q) ≡ true
+  lean_for only had q e = elim (only q e) [
+    | inl before ↦ ap is_some (h q) ∙ still_some (is_at (cell_cmp k) q) row (at_cell old q) (had q before)
+    | inr same ↦ ap is_some (h q) ∙ ap (λ b. is_some (cond b (Some row) (at_cell old q))) (tie_itself k q same)
+  ]
 
-pub lean_settled : (rows new old pending : List (CellId × RowOrNone)) (k : CellId) (w : Option RowOrNone) →
-    ((q : CellId) → at_cell new q ≡ cond (is_at (cell_cmp k) q) w (at_cell rows q)) → (w ≡ Some None → ⊥)
-    → ((q : CellId) → at_cell pending q ≡ cond (is_at (cell_cmp k) q) None (at_cell old q))
-    → ((q : CellId) → at_cell rows q ≡ Some None → is_some (at_cell old q) ≡ true)
-    → (q : CellId) → at_cell new q ≡ Some None → is_some (at_cell pending q) ≡ true
-lean_settled rows new old pending k w is some h had =
-    lean_left rows new old pending k h (λ q t. is q ∙ ap (λ b. cond b w (at_cell rows q)) t)
-    (λ e. some (sym (is k ∙ ap (λ b. cond b w (at_cell rows k)) (tied_self k)) ∙ e)) had
+-- the pending change of a cell is gone
+module _ (rows new old pending : List (CellId × RowOrNone)) (k : CellId)
+    (h : (q : CellId) → at_cell pending q ≡ cond (is_at (cell_cmp k) q) None (at_cell old q)) where
+  pub lean_left : ((q : CellId) → is_at (cell_cmp k) q ≡ false → at_cell new q ≡ at_cell rows q)
+      → (at_cell new k ≡ Some None → ⊥)
+      → ((q : CellId) → at_cell rows q ≡ Some None → is_some (at_cell old q) ≡ true)
+      → (q : CellId) → at_cell new q ≡ Some None → is_some (at_cell pending q) ≡ true
+  lean_left others gone had q e = go (is_at (cell_cmp k) q) refl
+    where
+      go : (b : Bool) → is_at (cell_cmp k) q ≡ b → is_some (at_cell pending q) ≡ true
+      go true t = absurd (gone (subst (λ c. at_cell new c ≡ Some None) (sym (tie_is_same k q t)) e))
+      go false t = ap is_some (h q) ∙ ap (λ b. is_some (cond b None (at_cell old q))) t ∙ had q (sym (others q t) ∙ e)
 
-pub lean_refused : (old made left pending : List (CellId × RowOrNone)) (k : CellId)
-    → ((q : CellId) → at_cell made q ≡ Some None → (at_cell old q ≡ Some None) ⊎ (q ≡ k))
-    → ((q : CellId) → is_at (cell_cmp k) q ≡ false → at_cell left q ≡ at_cell made q)
-    → (at_cell left k ≡ Some None → ⊥)
-    → ((q : CellId) → at_cell old q ≡ Some None → is_some (at_cell pending q) ≡ true)
-    → (q : CellId) → at_cell left q ≡ Some None → is_some (at_cell pending q) ≡ true
-lean_refused old made left pending k only others gone had q e = go (is_at (cell_cmp k) q) refl
-  where
-    go : (b : Bool) → is_at (cell_cmp k) q ≡ b → is_some (at_cell pending q) ≡ true
-    go true t = absurd (gone (subst (λ c. at_cell left c ≡ Some None) (sym (tie_is_same k q t)) e))
-    go false t = elim (only q (sym (others q t) ∙ e)) [
-      | inl before ↦ had q before
-      | inr same ↦ absurd (true≢false (sym (tie_itself k q same) ∙ t))
-    ]
-
--- where a pending change is gone, the others still have their room
-pub room_left : (rows new old pending : List (CellId × RowOrNone)) (k : CellId) →
-    ((q : CellId) → at_cell pending q ≡ cond (is_at (cell_cmp k) q) None (at_cell old q))
-    → ((q : CellId) → is_at (cell_cmp k) q ≡ false → is_some (at_cell rows q) ≡ true → is_some (at_cell new q) ≡ true)
-    → ((q : CellId) → is_some (at_cell old q) ≡ true → is_some (at_cell rows q) ≡ true)
-    → (q : CellId) → is_some (at_cell pending q) ≡ true → is_some (at_cell new q) ≡ true
-room_left rows new old pending k h kept had q some = go (is_at (cell_cmp k) q) refl (sym (ap is_some (h q)) ∙ some)
-  where
-    go : (b : Bool) → is_at (cell_cmp k) q ≡ b → is_some (cond b None (at_cell old q)) ≡ true → is_some (at_cell new q) ≡ true
-    go true e f = absurd (false≢true f)
-    go false e f = kept q e (had q f)
+  -- the others still have their room
+  pub room_left : ((q : CellId) → is_at (cell_cmp k) q ≡ false → is_some (at_cell rows q) ≡ true → is_some (at_cell new q) ≡ true)
+      → ((q : CellId) → is_some (at_cell old q) ≡ true → is_some (at_cell rows q) ≡ true)
+      → (q : CellId) → is_some (at_cell pending q) ≡ true → is_some (at_cell new q) ≡ true
+  room_left kept had q some = go (is_at (cell_cmp k) q) refl (sym (ap is_some (h q)) ∙ some)
+    where
+      go : (b : Bool) → is_at (cell_cmp k) q ≡ b → is_some (cond b None (at_cell old q)) ≡ true → is_some (at_cell new q) ≡ true
+      go true e f = absurd (false≢true f)
+      go false e f = kept q e (had q f)
 
 -- a row that is put leaves room to the pending changes alone
 pub lean_put : (old new pending : List (CellId × RowOrNone)) (k : CellId) (row : List RuleSpots) →

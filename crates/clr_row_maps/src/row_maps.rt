@@ -192,6 +192,7 @@ impl RowMap {
     }
 
     /// Takes all pending changes over. It takes no memory.
+    #[tactic(auto, using(crate::proofs::MapLemmas::fewer_left))]
     pub fn settle(&mut self)
         ensures settled { (q : Cell) → finite.get self.new.settled q ≡ next_at self.old.settled self.old.pending q }
         ensures pending { self.new.pending ≡ finite.empty }
@@ -202,6 +203,7 @@ impl RowMap {
     }
 
     /// Drops all pending changes. It takes no memory.
+    #[tactic(auto, using(crate::proofs::MapLemmas::fewer_left))]
     pub fn forget(&mut self)
         ensures { self.new ≡ record self.old { pending = finite.empty } }
     {

@@ -1,9 +1,9 @@
-use Rattle.std.proofs.Common.{◌∙◌, ◌<◌, ap, sym, subst}
+use Rattle.std.proofs.Common.{◌∙◌, ap, sym}
 use Rattle.std.specs.FinMap as finite
 use Rattle.clr_rows.specs.Cells.{cell_cmp}
 use Rattle.clr_row_maps.specs.RowMaps.{FiledRows}
 use Rattle.clr_finders.specs.Sharing.{Pending, next_of, next_at}
-use Rattle.clr_row_maps.proofs.MapLemmas.{next_kept, fewer_left}
+use Rattle.clr_row_maps.proofs.MapLemmas.{next_kept}
 use Rattle.clr_row_maps.proofs.row_maps.RowMap.settle.Goals as goal
 
 pub loop-cell-preserved-in-Some : goal.loop-cell-preserved-in-Some
@@ -13,14 +13,6 @@ loop-cell-preserved-in-Some c q = ap (λ (r : FiledRows). next_at r.settled r.pe
 pub loop-cell-preserved : goal.loop-cell-preserved
 loop-cell-preserved c q = ap (λ (r : FiledRows). next_at r.settled r.pending q) c.settle_at.ensures.after
     ∙ next_kept c.loop-cell.self c.in-Some.cell c.in-Some.ensures q ∙ c.loop-cell.invariant q
-
-pub loop-cell-smaller-in-Some : goal.loop-cell-smaller-in-Some
-loop-cell-smaller-in-Some c = subst (λ (r : FiledRows). finite.len r.pending < finite.len c.loop-cell.self.pending) (sym c.settle_at.ensures.after)
-    (fewer_left c.loop-cell.self.pending c.in-Some.cell c.in-Some.ensures)
-
-pub loop-cell-smaller : goal.loop-cell-smaller
-loop-cell-smaller c = subst (λ (r : FiledRows). finite.len r.pending < finite.len c.loop-cell.self.pending) (sym c.settle_at.ensures.after)
-    (fewer_left c.loop-cell.self.pending c.in-Some.cell c.in-Some.ensures)
 
 pub returns : goal.returns
 returns c = record {
