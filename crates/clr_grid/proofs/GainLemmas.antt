@@ -89,22 +89,22 @@ added_gains m all n left p told (done, is, whole) = gains_as (λ q. p q ≡ true
     (gains_exact (is_one_of done) m n (λ q. ap (λ (o : Cells). set.contains o q) is ∙ has_with_cells done m q))
 
 -- the cells of two lists, one after the other
-pub both_gain : (m n o : Cells) (xs ys : List CellId) (p : CellId → Bool) → n ≡ with_listed_cells m xs → ((q : CellId) → is_one_of (xs ++ ys) q ≡ p q) →
-    GainsCells (λ q. is_one_of ys q ≡ true) n o → GainsCells (λ q. p q ≡ true) m o
-both_gain m n o xs ys p is told g = gains_then (λ q. p q ≡ true) m n o
-    (gains_as (λ q. p q ≡ true) (λ q. is_one_of xs q ≡ true) m n (λ q e. sym (told q) ∙ list_any-append (eq_by_cmp cell_cmp q) xs ys
-    ∙ or_left (is_one_of xs q) (is_one_of ys q) e)
-    (gains_exact (is_one_of xs) m n (λ q. ap (λ (o : Cells). set.contains o q) is ∙ has_with_cells xs m q)))
-    (gains_as (λ q. p q ≡ true) (λ q. is_one_of ys q ≡ true) n o (λ q e. sym (told q) ∙ list_any-append (eq_by_cmp cell_cmp q) xs ys
-    ∙ or_right (is_one_of xs q) (is_one_of ys q) e) g)
+module _ (m n o : Cells) (xs ys : List CellId) (p : CellId → Bool) (is : n ≡ with_listed_cells m xs) (told : (q : CellId) → is_one_of (xs ++ ys) q ≡ p q) where
+  first_has : (q : CellId) → set.contains n q ≡ (set.contains m q || is_one_of xs q)
+  first_has q = ap (λ (o : Cells). set.contains o q) is ∙ has_with_cells xs m q
 
-pub both_has : (m n o : Cells) (xs ys : List CellId) (p : CellId → Bool) → n ≡ with_listed_cells m xs → ((q : CellId) → is_one_of (xs ++ ys) q ≡ p q) →
-    ((q : CellId) → set.contains o q ≡ (set.contains n q || is_one_of ys q))
-    → (q : CellId) → set.contains o q ≡ (set.contains m q || p q)
-both_has m n o xs ys p is told has q =
-    has q ∙ ap (λ b. b || is_one_of ys q) (ap (λ (o : Cells). set.contains o q) is ∙ has_with_cells xs m q)
-    ∙ or_group (set.contains m q) (is_one_of xs q) (is_one_of ys q)
-    ∙ ap (λ b. set.contains m q || b) (sym (list_any-append (eq_by_cmp cell_cmp q) xs ys) ∙ told q)
+  either_told : (q : CellId) → (is_one_of xs q || is_one_of ys q) ≡ p q
+  either_told q = sym (list_any-append (eq_by_cmp cell_cmp q) xs ys) ∙ told q
+
+  pub both_gain : GainsCells (λ q. is_one_of ys q ≡ true) n o → GainsCells (λ q. p q ≡ true) m o
+  both_gain g = gains_then (λ q. p q ≡ true) m n o
+      (gains_as (λ q. p q ≡ true) (λ q. is_one_of xs q ≡ true) m n (λ q e. sym (either_told q) ∙ or_left (is_one_of xs q) (is_one_of ys q) e)
+      (gains_exact (is_one_of xs) m n first_has))
+      (gains_as (λ q. p q ≡ true) (λ q. is_one_of ys q ≡ true) n o (λ q e. sym (either_told q) ∙ or_right (is_one_of xs q) (is_one_of ys q) e) g)
+
+  pub both_has : ((q : CellId) → set.contains o q ≡ (set.contains n q || is_one_of ys q)) → (q : CellId) → set.contains o q ≡ (set.contains m q || p q)
+  both_has has q = has q ∙ ap (λ b. b || is_one_of ys q) (first_has q) ∙ or_group (set.contains m q) (is_one_of xs q) (is_one_of ys q)
+      ∙ ap (λ b. set.contains m q || b) (either_told q)
 
 -- ---- spot after spot
 

@@ -87,6 +87,7 @@ none_past (y ∷ ys) (suc m) b k q less e = none_past ys m b k q (omega (arith, 
 
 -- each spot that is kept holds a cell
 pub append_lean : (xs : List RuleIndex) (x : RuleIndex) → ((b : Bool) → HoldCells (side_index_of x b).by_spot) → AllHoldCells xs → AllHoldCells (xs ++ x ∷ [])
+unfolding AllHoldCells
 append_lean [] x lean all zero index b e = let same : x ≡ index = cc in subst (λ (i : RuleIndex). HoldCells (side_index_of i b).by_spot) same (lean b)
 append_lean [] x lean all (suc n) index b e = absurd (cc)
 append_lean (y ∷ ys) x lean all zero index b e = all zero index b e
@@ -94,6 +95,7 @@ append_lean (y ∷ ys) x lean all (suc n) index b e = append_lean ys x lean (λ 
 
 pub set_lean : (xs : List RuleIndex) (m : ℕ) (old new : RuleIndex) → old ≡ get_or xs m old → ((b : Bool) → HoldCells (side_index_of old b).by_spot
     → HoldCells (side_index_of new b).by_spot) → AllHoldCells xs → AllHoldCells (set xs m new)
+unfolding AllHoldCells
 set_lean [] m old new is step all n index b e = all n index b e
 set_lean (y ∷ ys) zero old new is step all zero index b e =
     let same : new ≡ index = cc in subst (λ (i : RuleIndex). HoldCells (side_index_of i b).by_spot) same (step b (all zero old b (ap Some (sym is))))
@@ -108,6 +110,7 @@ sides_lean old new servers others true = servers
 sides_lean old new servers others false = others
 
 pub none_lean : (xs : List RuleIndex) → xs ≡ [] → AllHoldCells xs
+unfolding AllHoldCells
 none_lean xs is n index b e = absurd (cc (ap (λ ys. slice_get ys n) is, e))
 
 pub one_or : {A : Type 0} → A ⊎ ⊥ → A
@@ -437,73 +440,66 @@ others_refused rows rows' cell row kept xs ys zs of gain fewer gone is same n b 
       ≡ true) new.0 e)))
 ]
 
-pub others_settled : (rows rows' : FiledRows) (cell : CellId) (before kept : RowOrNone) (xs ys : List RuleIndex) → AreOfRows rows xs → GainNone xs ys
-    → AreGone cell before kept ys
-    → before ≡ finite.get rows.settled cell → rows' ≡ with_settled rows cell → kept ≡ finite.get rows'.settled cell → AreOfRows rows' ys
-others_settled rows rows' cell before kept xs ys
-    of fewer gone was is same n b k q e = subst (λ (r : FiledRows). HasRowFor r q n b k) (sym is) (go (of n b k q (fewer n b k q e)))
-  where
-    here : HasRowFor rows cell n b k → is_filed_under ys n b k cell ≡ true → HasRowFor (with_settled rows cell) cell n b k
-    here h there = elim h.stands [
-      | inl settled ↦ kept_row (with_settled rows cell) cell kept n b k (same ∙ ap (λ (r : FiledRows). finite.get r.settled cell) is)
-          (gone n b k (subst (λ o. has_key_under o n b k ≡ true) (sym (was ∙ settled)) h.wanted) there)
-      | inr pending ↦ record {
-        row = h.row;
-        stands = inl (get_set_at rows.settled cell (option_flatten (finite.get rows.pending cell)) cell
-            ∙ ap (λ t. cond t (option_flatten (finite.get rows.pending cell)) (finite.get rows.settled cell)) (tied_self cell) ∙ ap option_flatten pending);
-        wanted = h.wanted;
-      }
-    ]
+-- where a cell gets another row, each row at another cell stays, and what is still filed for the cell is filed for its kept row
+module _ (rows rows' : FiledRows) (cell : CellId) (row kept : RowOrNone) (xs ys : List RuleIndex) (of : AreOfRows rows xs) (fewer : GainNone xs ys)
+    (gone : AreGone cell row kept ys) where
+  other_pending : (q : CellId) → eq_by_cmp cell_cmp q cell ≡ false → finite.get (finite.remove rows.pending cell) q ≡ finite.get rows.pending q
+  other_pending q differ = finite.get-remove cell_cmp_total rows.pending cell q ∙ ap (λ t. cond t None (finite.get rows.pending q)) differ
 
-    apart : eq_by_cmp cell_cmp q cell ≡ false → HasRowFor rows q n b k → HasRowFor (with_settled rows cell) q n b k
-    apart differ h = elim h.stands [
-      | inl settled ↦ record {
-        row = h.row;
-        stands = inl (get_set_at rows.settled cell (option_flatten (finite.get rows.pending cell)) q
-            ∙ ap (λ t. cond t (option_flatten (finite.get rows.pending cell)) (finite.get rows.settled q)) differ ∙ settled);
-        wanted = h.wanted;
-      }
-      | inr pending ↦ record {
-        row = h.row;
-        stands = inr (finite.get-remove cell_cmp_total rows.pending cell q ∙ ap (λ t. cond t None (finite.get rows.pending q)) differ ∙ pending);
-        wanted = h.wanted;
-      }
-    ]
+  others_moved : (after : FiledRows)
+      → ((n : ℕ) (b : Bool) (k : Key) → HasRowFor rows cell n b k → is_filed_under ys n b k cell ≡ true → HasRowFor after cell n b k)
+      → ((q : CellId) (n : ℕ) (b : Bool) (k : Key) → eq_by_cmp cell_cmp q cell ≡ false → HasRowFor rows q n b k → HasRowFor after q n b k)
+      → rows' ≡ after → AreOfRows rows' ys
+  others_moved after here apart is n b k q e =
+      let h = of n b k q (fewer n b k q e) in
+      subst (λ (r : FiledRows). HasRowFor r q n b k) (sym is) (by_cell cell q
+      (λ tie. subst (λ c. HasRowFor after c n b k) (sym tie) (here n b k (subst (λ c. HasRowFor rows c n b k) tie h)
+      (subst (λ c. is_filed_under ys n b k c ≡ true) tie e)))
+      (λ differ. apart q n b k differ h))
 
-    go : HasRowFor rows q n b k → HasRowFor (with_settled rows cell) q n b k
-    go h = by_cell cell q
-        (λ tie. subst (λ c. HasRowFor (with_settled rows cell) c n b k) (sym tie) (here (subst (λ c. HasRowFor rows c n b k) tie h)
-        (subst (λ c. is_filed_under ys n b k c ≡ true) tie e)))
-        (λ differ. apart differ h)
+  pub others_settled : row ≡ finite.get rows.settled cell → rows' ≡ with_settled rows cell → kept ≡ finite.get rows'.settled cell → AreOfRows rows' ys
+  others_settled was is same = others_moved (with_settled rows cell) here apart is
+    where
+      here : (n : ℕ) (b : Bool) (k : Key) → HasRowFor rows cell n b k → is_filed_under ys n b k cell ≡ true → HasRowFor (with_settled rows cell) cell n b k
+      here n b k h there = elim h.stands [
+        | inl settled ↦ kept_row (with_settled rows cell) cell kept n b k (same ∙ ap (λ (r : FiledRows). finite.get r.settled cell) is)
+            (gone n b k (subst (λ o. has_key_under o n b k ≡ true) (sym (was ∙ settled)) h.wanted) there)
+        | inr pending ↦ record {
+          row = h.row;
+          stands = inl (get_set_at rows.settled cell (option_flatten (finite.get rows.pending cell)) cell
+              ∙ ap (λ t. cond t (option_flatten (finite.get rows.pending cell)) (finite.get rows.settled cell)) (tied_self cell) ∙ ap option_flatten pending);
+          wanted = h.wanted;
+        }
+      ]
 
-pub others_left : (rows rows' : FiledRows) (cell : CellId) (row kept : RowOrNone) (xs ys : List RuleIndex) → AreOfRows rows xs → GainNone xs ys
-    → AreGone cell row kept ys
-    → row ≡ option_flatten (finite.get rows.pending cell) → rows' ≡ without_pending rows cell → kept ≡ finite.get rows'.settled cell → AreOfRows rows' ys
-others_left rows rows' cell row kept xs ys
-    of fewer gone was is same n b k q e = subst (λ (r : FiledRows). HasRowFor r q n b k) (sym is) (go (of n b k q (fewer n b k q e)))
-  where
-    here : HasRowFor rows cell n b k → is_filed_under ys n b k cell ≡ true → HasRowFor (without_pending rows cell) cell n b k
-    here h there = elim h.stands [
-      | inl settled ↦ record { row = h.row; stands = inl settled; wanted = h.wanted }
-      | inr pending ↦ kept_row (without_pending rows cell) cell kept n b k (same ∙ ap (λ (r : FiledRows). finite.get r.settled cell) is)
-          (gone n b k (subst (λ o. has_key_under o n b k ≡ true) (sym (was ∙ ap option_flatten pending)) h.wanted) there)
-    ]
+      apart : (q : CellId) (n : ℕ) (b : Bool) (k : Key) → eq_by_cmp cell_cmp q cell ≡ false → HasRowFor rows q n b k → HasRowFor (with_settled rows cell) q n b k
+      apart q n b k differ h = elim h.stands [
+        | inl settled ↦ record {
+          row = h.row;
+          stands = inl (get_set_at rows.settled cell (option_flatten (finite.get rows.pending cell)) q
+              ∙ ap (λ t. cond t (option_flatten (finite.get rows.pending cell)) (finite.get rows.settled q)) differ ∙ settled);
+          wanted = h.wanted;
+        }
+        | inr pending ↦ record { row = h.row; stands = inr (other_pending q differ ∙ pending); wanted = h.wanted }
+      ]
 
-    apart : eq_by_cmp cell_cmp q cell ≡ false → HasRowFor rows q n b k → HasRowFor (without_pending rows cell) q n b k
-    apart differ h = elim h.stands [
-      | inl settled ↦ record { row = h.row; stands = inl settled; wanted = h.wanted }
-      | inr pending ↦ record {
-        row = h.row;
-        stands = inr (finite.get-remove cell_cmp_total rows.pending cell q ∙ ap (λ t. cond t None (finite.get rows.pending q)) differ ∙ pending);
-        wanted = h.wanted;
-      }
-    ]
+  pub others_left : row ≡ option_flatten (finite.get rows.pending cell) → rows' ≡ without_pending rows cell → kept ≡ finite.get rows'.settled cell
+      → AreOfRows rows' ys
+  others_left was is same = others_moved (without_pending rows cell) here apart is
+    where
+      here : (n : ℕ) (b : Bool) (k : Key) → HasRowFor rows cell n b k → is_filed_under ys n b k cell ≡ true → HasRowFor (without_pending rows cell) cell n b k
+      here n b k h there = elim h.stands [
+        | inl settled ↦ record { row = h.row; stands = inl settled; wanted = h.wanted }
+        | inr pending ↦ kept_row (without_pending rows cell) cell kept n b k (same ∙ ap (λ (r : FiledRows). finite.get r.settled cell) is)
+            (gone n b k (subst (λ o. has_key_under o n b k ≡ true) (sym (was ∙ ap option_flatten pending)) h.wanted) there)
+      ]
 
-    go : HasRowFor rows q n b k → HasRowFor (without_pending rows cell) q n b k
-    go h = by_cell cell q
-        (λ tie. subst (λ c. HasRowFor (without_pending rows cell) c n b k) (sym tie) (here (subst (λ c. HasRowFor rows c n b k) tie h)
-        (subst (λ c. is_filed_under ys n b k c ≡ true) tie e)))
-        (λ differ. apart differ h)
+      apart : (q : CellId) (n : ℕ) (b : Bool) (k : Key) → eq_by_cmp cell_cmp q cell ≡ false → HasRowFor rows q n b k
+          → HasRowFor (without_pending rows cell) q n b k
+      apart q n b k differ h = elim h.stands [
+        | inl settled ↦ record { row = h.row; stands = inl settled; wanted = h.wanted }
+        | inr pending ↦ record { row = h.row; stands = inr (other_pending q differ ∙ pending); wanted = h.wanted }
+      ]
 
 -- no index files nothing
 pub none_other : (rows : FiledRows) (xs : List RuleIndex) → xs ≡ [] → AreOfRows rows xs

@@ -27,19 +27,19 @@ and_cond : (b c : Bool) → cond b false c ≡ (not b && c)
 and_cond true c = refl
 and_cond false c = refl
 
+-- keys that have a cell or don't, and else are as others
+abbrev pub DifferAt : CellId → Bool → List CellId → List CellId → Type 0
+DifferAt k has ks ls = (q : CellId) → list_any (is_at (cell_cmp q)) ls ≡ cond (is_at (cell_cmp k) q) has (list_any (is_at (cell_cmp q)) ks)
+
 -- keys with one more make the set with it
-pub one_added : (ks ls : List CellId) (k : CellId) →
-    ((q : CellId) → list_any (is_at (cell_cmp q)) ls ≡ cond (is_at (cell_cmp k) q) true (list_any (is_at (cell_cmp q)) ks))
-    → set.from_list {R = cell_cmp} ls ≡ set.insert (set.from_list ks) k
+pub one_added : (ks ls : List CellId) (k : CellId) → DifferAt k true ks ls → set.from_list {R = cell_cmp} ls ≡ set.insert (set.from_list ks) k
 one_added ks ls k h = set.same_set cell_cmp_total cell_cmp_exact _ _ (λ q.
     set.contains-from_list cell_cmp_total ls q ∙ h q ∙ or_cond (is_at (cell_cmp k) q) _
     ∙ ap (λ b. b || list_any (is_at (cell_cmp q)) ks) ((eq_by_cmp_equiv cell_cmp_total).symm k q)
     ∙ sym (set.contains-insert cell_cmp_total (set.from_list ks) k q ∙ ap (λ b. eq_by_cmp cell_cmp q k || b) (set.contains-from_list cell_cmp_total ks q)))
 
 -- and with one less
-pub one_gone : (ks ls : List CellId) (k : CellId) →
-    ((q : CellId) → list_any (is_at (cell_cmp q)) ls ≡ cond (is_at (cell_cmp k) q) false (list_any (is_at (cell_cmp q)) ks))
-    → set.from_list {R = cell_cmp} ls ≡ set.remove (set.from_list ks) k
+pub one_gone : (ks ls : List CellId) (k : CellId) → DifferAt k false ks ls → set.from_list {R = cell_cmp} ls ≡ set.remove (set.from_list ks) k
 one_gone ks ls k h = set.same_set cell_cmp_total cell_cmp_exact _ _ (λ q.
     set.contains-from_list cell_cmp_total ls q ∙ h q ∙ and_cond (is_at (cell_cmp k) q) _
     ∙ ap (λ b. not b && list_any (is_at (cell_cmp q)) ks) ((eq_by_cmp_equiv cell_cmp_total).symm k q)
@@ -82,9 +82,7 @@ or_chosen true false b = refl
 or_chosen false true b = refl
 or_chosen false false b = refl
 
-pub more_added : (f k : CellId) (ks ls : List CellId) →
-    ((q : CellId) → list_any (is_at (cell_cmp q)) ls ≡ cond (is_at (cell_cmp k) q) true (list_any (is_at (cell_cmp q)) ks))
-    → set.from_list {R = cell_cmp} (f ∷ ls) ≡ set.insert (set.from_list (f ∷ ks)) k
+pub more_added : (f k : CellId) (ks ls : List CellId) → DifferAt k true ks ls → set.from_list {R = cell_cmp} (f ∷ ls) ≡ set.insert (set.from_list (f ∷ ks)) k
 more_added f k ks ls h = one_added (f ∷ ks) (f ∷ ls) k (λ q.
     ap (λ b. is_at (cell_cmp q) f || b) (h q) ∙ or_chosen (is_at (cell_cmp q) f) (is_at (cell_cmp k) q) (list_any (is_at (cell_cmp q)) ks))
 
@@ -106,7 +104,7 @@ and_or false b c = refl
 
 -- a first cell or none, and keys, without one cell
 pub both_gone : (xs ys ks ls : List CellId) (k : CellId) → ((q : CellId) → is_one_of ys q ≡ (not (eq_by_cmp cell_cmp q k) && is_one_of xs q))
-    → ((q : CellId) → list_any (is_at (cell_cmp q)) ls ≡ cond (is_at (cell_cmp k) q) false (list_any (is_at (cell_cmp q)) ks))
+    → DifferAt k false ks ls
     → set.from_list {R = cell_cmp} (ys ++ ls) ≡ set.remove (set.from_list (xs ++ ks)) k
 both_gone xs ys ks ls k first h = set.same_set cell_cmp_total cell_cmp_exact _ _ (λ q.
     set.contains-from_list cell_cmp_total (ys ++ ls) q ∙ list_any-append (eq_by_cmp cell_cmp q) ys ls
@@ -140,8 +138,7 @@ pub one_there : (o : Option CellId) (f k : CellId) (ks : List CellId) → o ≡ 
 one_there None f k ks is tie = absurd (cc)
 one_there (Some g) f k ks is tie = let same : g ≡ f = cc in first_there g k ks (ap (λ c. eq_by_cmp cell_cmp c k) same ∙ tie)
 
-pub one_more : (o : Option CellId) (f k : CellId) (ks ls : List CellId) → o ≡ Some f →
-    ((q : CellId) → list_any (is_at (cell_cmp q)) ls ≡ cond (is_at (cell_cmp k) q) true (list_any (is_at (cell_cmp q)) ks))
+pub one_more : (o : Option CellId) (f k : CellId) (ks ls : List CellId) → o ≡ Some f → DifferAt k true ks ls
     → set.from_list {R = cell_cmp} (option_to_list o ++ ls) ≡ set.insert (set.from_list (option_to_list o ++ ks)) k
 one_more None f k ks ls is h = absurd (cc)
 one_more (Some g) f k ks ls is h = more_added g k ks ls h

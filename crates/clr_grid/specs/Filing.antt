@@ -121,10 +121,10 @@ AreOfRows rows indexes = (number : ℕ) (serves : Bool) (k : Key) (q : CellId) �
     → HasRowFor rows q number serves k
 
 -- each number that is kept holds a cell
-abbrev pub HoldCells : ByNumber → Type 0
+unfoldable pub HoldCells : ByNumber → Type 0
 HoldCells by_spot = (n : ℕ) → get nat_eq by_spot n ≡ Some set.empty → ⊥
 
-abbrev pub AllHoldCells : List RuleIndex → Type 0
+unfoldable pub AllHoldCells : List RuleIndex → Type 0
 AllHoldCells indexes = (number : ℕ) (index : RuleIndex) (serves : Bool) → slice_get indexes number ≡ Some index
     → HoldCells (side_index_of index serves).by_spot
 

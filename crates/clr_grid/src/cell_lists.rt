@@ -74,6 +74,7 @@ impl CellList {
     }
 
     /// Returns the cells, ascending, each once. It takes no memory.
+    #[tactic(auto, using(crate::proofs::SetLemmas::listed_alike))]
     pub(crate) fn into_vec(self) -> Vec<CellId>
         ensures exact { (q : Cell) → is_one_of result.items q ≡ set.contains self q }
         ensures rising { IsStrictlySortedBy cell_cmp result.items }

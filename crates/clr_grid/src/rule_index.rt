@@ -48,6 +48,7 @@ impl RuleIndex {
     }
 
     /// Files the cell of a row wherever it is to be.
+    #[tactic(auto, using(crate::proofs::IndexLemmas::sides_lean))]
     fn file(&mut self, alloc: Global, cell: CellId, spots: &RuleSpots) -> Result<(), AllocError>
         ensures kept { (b : Bool) (k : Key) (q : Cell) → is_filed (side_index_of self.old b) k q ≡ true → is_filed (side_index_of self.new b) k q ≡ true }
         ensures only { (b : Bool) (k : Key) (q : Cell) → is_filed (side_index_of self.new b) k q ≡ true
@@ -63,6 +64,7 @@ impl RuleIndex {
     }
 
     /// Takes the cell of a row away, but for what a row keeps that stays.
+    #[tactic(auto, using(crate::proofs::IndexLemmas::sides_lean))]
     fn unfile(&mut self, cell: CellId, spots: &RuleSpots, kept: Option<&RuleSpots>)
         ensures kept { (b : Bool) (k : Key) (q : Cell) → stays cell (of_side b (option_copied kept.entry)) k q ≡ true
             → is_filed (side_index_of self.old b) k q ≡ true → is_filed (side_index_of self.new b) k q ≡ true }
@@ -121,6 +123,7 @@ fn make_rules(rules: &mut Vec<RuleIndex>, alloc: Global, count: usize) -> Result
 }
 
 /// Files a cell under the rule of a number.
+#[tactic(auto, unfolding(crate::specs::Filing::AllHoldCells, crate::specs::Filing::HoldCells))]
 fn file_at(
     rules: &mut Vec<RuleIndex>,
     alloc: Global,

@@ -82,6 +82,7 @@ impl SpotCells {
     }
 
     /// Returns whether there is no cell.
+    #[tactic(auto, using(crate::proofs::SetLemmas::not_empty))]
     pub(crate) fn is_empty(&self) -> bool
         ensures none { result ≡ true → self.now ≡ set.empty }
         ensures some { result ≡ false → self.now ≡ set.empty → ⊥ }

@@ -47,9 +47,3 @@ returns-clause-filed c number y k is key =
     let at : slice_get c.as_slice-spots.result.now number ≡ Some y =
     subst (λ (ys : List RuleSpots). slice_get ys number ≡ Some y) (sym c.as_slice-spots.ensures) is in
     c.loop-rule.invariant.filed number y k (omega (arith, below_it c.as_slice-spots.result.now number y at, c.loop-rule-test.false)) at key
-
-pub returns-in_err-file_at-clause-lean : goal.returns-in_err-file_at-clause-lean
-returns-in_err-file_at-clause-lean c h = c.in_err-file_at.ensures.lean (c.loop-rule.invariant.lean h)
-
-pub returns-clause-lean : goal.returns-clause-lean
-returns-clause-lean c = c.loop-rule.invariant.lean

@@ -32,9 +32,3 @@ returns-clause-kept c = c.loop-alloc.invariant.kept
 
 pub returns-clause-only : goal.returns-clause-only
 returns-clause-only c = c.loop-alloc.invariant.only
-
-pub returns-in_err-push-clause-lean : goal.returns-in_err-push-clause-lean
-returns-in_err-push-clause-lean c h = subst AllHoldCells (sym c.in_err-push.ensures.items) (c.loop-alloc.invariant.lean h)
-
-pub returns-clause-lean : goal.returns-clause-lean
-returns-clause-lean c = c.loop-alloc.invariant.lean

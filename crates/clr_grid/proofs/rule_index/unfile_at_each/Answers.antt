@@ -36,6 +36,3 @@ returns-clause-gone c n b k key e =
       | inl lower ↦ c.loop-rule.invariant.gone n b k lower at e
       | inr not_lower ↦ none_under c.as_slice-spots.result.now n b k (omega (arith, not_lower, c.loop-rule-test.false)) at
     ]
-
-pub returns-clause-lean : goal.returns-clause-lean
-returns-clause-lean c = c.loop-rule.invariant.lean

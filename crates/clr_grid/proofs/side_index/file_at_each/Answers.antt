@@ -3,7 +3,7 @@ use Rattle.std.proofs.lemmas.Bool.{false≢true}
 use Rattle.std.proofs.lemmas.List.{take_all}
 use Rattle.std.specs.HashMap.{get}
 use Rattle.std.specs.List.{list_any}
-use Rattle.clr_grid.specs.Filing.{has_cell}
+use Rattle.clr_grid.specs.Filing.{HoldCells, has_cell}
 use Rattle.clr_grid.specs.SpotNumbers.{has_number}
 use Rattle.clr_grid.proofs.FilingLemmas.{AtNumbers, filed_more, gained_more, put_has, put_hold, put_keeps, put_only, same_hold}
 use Rattle.clr_grid.proofs.side_index.file_at_each.Goals as goal
@@ -12,6 +12,7 @@ pub loop-spot-init : goal.loop-spot-init
 loop-spot-init c = record { kept = λ x q e. e; only = λ x q e. inl e; lean = λ h. h; filed = λ x e. absurd (false≢true e) }
 
 pub loop-spot-preserved : goal.loop-spot-preserved
+unfolding HoldCells
 loop-spot-preserved c =
     let f : AtNumbers = get nat_eq c.loop-spot.by_spot in
     let g : AtNumbers = get nat_eq c.file_at.new.by_spot in
@@ -33,11 +34,9 @@ pub returns-in_err-file_at-clause-only : goal.returns-in_err-file_at-clause-only
 returns-in_err-file_at-clause-only c x q e = c.loop-spot.invariant.only x q (sym (ap (λ o. has_cell o q) (c.in_err-file_at.ensures.err x)) ∙ e)
 
 pub returns-in_err-file_at-clause-lean : goal.returns-in_err-file_at-clause-lean
+unfolding HoldCells
 returns-in_err-file_at-clause-lean c h =
     same_hold (get nat_eq c.loop-spot.by_spot) (get nat_eq c.file_at.new.by_spot) c.in_err-file_at.ensures.err (c.loop-spot.invariant.lean h)
-
-pub returns-clause-lean : goal.returns-clause-lean
-returns-clause-lean c = c.loop-spot.invariant.lean
 
 pub returns-clause-only : goal.returns-clause-only
 returns-clause-only c = c.loop-spot.invariant.only

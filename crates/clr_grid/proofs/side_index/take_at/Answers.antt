@@ -1,5 +1,6 @@
 use Rattle.std.proofs.Common.{nat_eq}
 use Rattle.std.specs.HashMap.{get}
+use Rattle.clr_grid.specs.Filing.{HoldCells}
 use Rattle.clr_grid.proofs.FilingLemmas.{AtNumbers, emptied_fewer, emptied_gone, emptied_hold, emptied_keeps, removed_fewer, removed_gone, removed_hold}
 use Rattle.clr_grid.proofs.FilingLemmas.{removed_keeps}
 use Rattle.clr_grid.proofs.side_index.take_at.Goals as goal
@@ -24,6 +25,7 @@ returns-then-remove_at-clause-gone c =
     emptied_gone (get nat_eq c.remove_at.new.by_spot) (get nat_eq c.remove.new.self) c.args.number c.args.cell c.remove.ensures.updates.0
 
 pub returns-then-remove_at-clause-lean : goal.returns-then-remove_at-clause-lean
+unfolding HoldCells
 returns-then-remove_at-clause-lean c =
     emptied_hold (get nat_eq c.args.by_spot.now) (get nat_eq c.remove_at.new.by_spot) (get nat_eq c.remove.new.self) c.args.number _ c.remove_at.ensures.cells
     c.remove.ensures.updates.0
@@ -41,6 +43,7 @@ returns-else-remove_at-clause-gone c =
     removed_gone (get nat_eq c.args.by_spot.now) (get nat_eq c.remove_at.new.by_spot) c.args.number c.args.cell c.remove_at.ensures.cells
 
 pub returns-else-remove_at-clause-lean : goal.returns-else-remove_at-clause-lean
+unfolding HoldCells
 returns-else-remove_at-clause-lean c =
     removed_hold (get nat_eq c.args.by_spot.now) (get nat_eq c.remove_at.new.by_spot) c.args.number _ c.remove_at.ensures.cells
     (c.remove_at.ensures.some c.if-remove_at.false)

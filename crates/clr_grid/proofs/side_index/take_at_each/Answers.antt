@@ -52,6 +52,3 @@ returns-clause-fewer c = c.loop-spot.invariant.fewer
 pub returns-clause-gone : goal.returns-clause-gone
 returns-clause-gone c x among = c.loop-spot.invariant.gone x
     (ap (list_any (has_number x)) (take_all c.loop-spot.spot-index c.args.spots.now c.loop-spot-test.false) ∙ among)
-
-pub returns-clause-lean : goal.returns-clause-lean
-returns-clause-lean c = c.loop-spot.invariant.lean

@@ -4,7 +4,7 @@ use Rattle.std.specs.FinSet as set
 use Rattle.clr_rows.specs.Cells.{cell_cmp}
 use Rattle.std.specs.Map.{lookup}
 use Rattle.clr_grid.specs.CellSets.{Cells}
-use Rattle.clr_grid.specs.Filing.{ByNumber}
+use Rattle.clr_grid.specs.Filing.{HoldCells, ByNumber}
 use Rattle.clr_grid.proofs.FilingLemmas.{none_in}
 use Rattle.clr_grid.proofs.side_index.SideIndex.new.Goals as goal
 
@@ -17,4 +17,5 @@ returns-clause-none c = none_in (record { by_spot = c.new.result; wide = c.new-2
     (none c.new.result c.new.ensures.empty)
 
 pub returns-clause-lean : goal.returns-clause-lean
+unfolding HoldCells
 returns-clause-lean c x e = absurd (cc (none c.new.result c.new.ensures.empty x, e))

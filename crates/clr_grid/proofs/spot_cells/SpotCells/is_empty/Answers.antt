@@ -1,10 +1,7 @@
 use Rattle.std.proofs.Common.{◌∙◌, sym}
 use Rattle.std.proofs.lemmas.Bool.{false≢true}
-use Rattle.clr_grid.proofs.SetLemmas.{no_others, not_empty}
+use Rattle.clr_grid.proofs.SetLemmas.{no_others}
 use Rattle.clr_grid.proofs.spot_cells.SpotCells.is_empty.Goals as goal
-
-pub returns-in-Some-clause-some : goal.returns-in-Some-clause-some
-returns-in-Some-clause-some c full e = not_empty c.self.inside.first _ c.self.inside.others.keys c.in-Some.is (c.self.view_is ∙ e)
 
 pub returns-in-None-clause-some : goal.returns-in-None-clause-some
 returns-in-None-clause-some c full e = absurd
