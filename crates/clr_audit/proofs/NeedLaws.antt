@@ -355,17 +355,19 @@ first_there rules rows n s b h number first =
     first).they_call
 
 -- the need with the row of an entry
-pub beside_is : (search : Search) (servers : List FiledPart) (s : Held) (part k j : ℕ) (o : Option Held) (t : Held) → o
-    ≡ slice_get (map held_of search.rows.now) k → o ≡ Some t → is_after s t ≡ true
-    → need_beside search servers s part (entry k j) ≡ need_if_broken search servers (ask_of_parts search.rule part j) s (Some t)
-beside_is search servers s part k j o t at is after = ap (need_with search servers (ask_of_parts search.rule part j) s) (sym at ∙ is)
-    ∙ ap (λ (b : Bool). cond b (need_if_broken search servers (ask_of_parts search.rule part j) s (Some t)) []) after
+module _ (search : Search) (servers : List FiledPart) (s : Held) (part k j : ℕ) (o : Option Held) (t : Held)
+    (at : o ≡ slice_get (map held_of search.rows.now) k) (is : o ≡ Some t) where
+  beside_told : (after : Bool) → is_after s t ≡ after → need_beside search servers s part (entry k j)
+      ≡ cond after (need_if_broken search servers (ask_of_parts search.rule part j) s (Some t)) []
+  beside_told after same = ap (need_with search servers (ask_of_parts search.rule part j) s) (sym at ∙ is)
+      ∙ ap (λ (b : Bool). cond b (need_if_broken search servers (ask_of_parts search.rule part j) s (Some t)) []) same
 
-pub beside_before : (search : Search) (servers : List FiledPart) (s : Held) (part k j : ℕ) (o : Option Held) (t : Held) → o
-    ≡ slice_get (map held_of search.rows.now) k → o ≡ Some t → is_after s t ≡ false
-    → need_beside search servers s part (entry k j) ≡ []
-beside_before search servers s part k j o t at is after = ap (need_with search servers (ask_of_parts search.rule part j) s) (sym at ∙ is)
-    ∙ ap (λ (b : Bool). cond b (need_if_broken search servers (ask_of_parts search.rule part j) s (Some t)) []) after
+  pub beside_is : is_after s t ≡ true → need_beside search servers s part (entry k j)
+      ≡ need_if_broken search servers (ask_of_parts search.rule part j) s (Some t)
+  beside_is after = beside_told true after
+
+  pub beside_before : is_after s t ≡ false → need_beside search servers s part (entry k j) ≡ []
+  beside_before before = beside_told false before
 
 pub beside_none : (search : Search) (servers : List FiledPart) (s : Held) (part k j : ℕ) (o : Option Held) → o ≡ slice_get (map held_of search.rows.now) k → o
     ≡ None → need_beside search servers s part (entry k j) ≡ []

@@ -80,6 +80,7 @@ impl<'a> Search<'a> {
     }
 
     /// Returns whether the row of an entry serves these subjects.
+    #[tactic(auto, using(crate::proofs::FitLaws::fit_served, crate::proofs::NeedLaws::at_among))]
     fn serves_at(&self, ask: Ask, first: Held, second: Option<Held>, entry: FiledPart) -> bool
         requires number { ask.rule < length self.now.book.now }
         requires fit { FitTogether self.now.book.now (held_of first ∷ (option_to_list (option_map held_of second) ++ rows_of self.now)) }
@@ -137,6 +138,7 @@ impl<'a> Search<'a> {
     }
 
     /// Adds the need of a row alone, where it calls and no server of these spots serves it.
+    #[tactic(auto, using(crate::proofs::FitLaws::fit_first))]
     fn add_one_if_broken(
         &self,
         first: Held,
@@ -157,6 +159,7 @@ impl<'a> Search<'a> {
     }
 
     /// Adds the need of two rows, where they call and none of these servers serves them.
+    #[tactic(auto, using(crate::proofs::FitLaws::fit_both))]
     fn add_two_if_broken(
         &self,
         ask: Ask,
@@ -227,6 +230,7 @@ impl<'a> Search<'a> {
     }
 
     /// Adds the broken need of a row alone.
+    #[tactic(auto, using(crate::proofs::FitLaws::fit_first, crate::proofs::FitLaws::fit_again, clr_rules::proofs::Elements::among))]
     fn add_alone(
         &self,
         alloc: Global,
@@ -312,6 +316,7 @@ impl<'a> Search<'a> {
     }
 
     /// Adds the broken needs of this part of a row and another row.
+    #[tactic(auto, using(crate::proofs::FitLaws::fit_first, crate::proofs::FitLaws::fit_again, clr_rules::proofs::Elements::among))]
     fn add_of_part(
         &self,
         alloc: Global,
@@ -338,6 +343,7 @@ impl<'a> Search<'a> {
     }
 
     /// Adds the broken needs of a row and another row, part by part.
+    #[tactic(auto, using(crate::proofs::FitLaws::fit_first, crate::proofs::FitLaws::fit_again, clr_rules::proofs::Elements::among))]
     fn add_pairs(
         &self,
         alloc: Global,

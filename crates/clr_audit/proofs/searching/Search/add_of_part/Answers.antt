@@ -4,23 +4,9 @@ use Rattle.clr_rules.proofs.Elements.{Among, among, contained}
 use Rattle.clr_spot_maps.specs.declared.spot_maps.FiledPart.{FiledPart}
 use Rattle.clr_audit.specs.RoleFiling.{partners}
 use Rattle.clr_rows.proofs.BeginningLaws.{on_err}
-use Rattle.clr_audit.proofs.FitLaws.{fit_first, fit_again}
 use Rattle.clr_audit.proofs.Gaining.{gains_no_more}
 use Rattle.clr_audit.proofs.NeedLaws.{FindAll, IsReady, part_alike, part_gains, part_some}
 use Rattle.clr_audit.proofs.searching.Search.add_of_part.Goals as goal
-
-pub subject_spots-requires-clause-fit : goal.subject_spots-requires-clause-fit
-subject_spots-requires-clause-fit c = fit_first c.args.self.now.book.now (held_of c.args.first) (map held_of c.args.self.now.rows.now)
-    (fit_again c.args.self.now.book.now (held_of c.args.first) (map held_of c.args.self.now.rows.now) c.requires.fit
-    (among (held_of c.args.first) (map held_of c.args.self.now.rows.now) c.requires.one))
-
-pub servers_of_part-requires-clause-fit : goal.servers_of_part-requires-clause-fit
-servers_of_part-requires-clause-fit c = fit_again c.args.self.now.book.now (held_of c.args.first) (map held_of c.args.self.now.rows.now) c.requires.fit
-    (among (held_of c.args.first) (map held_of c.args.self.now.rows.now) c.requires.one)
-
-pub add_beside_all-requires-clause-fit : goal.add_beside_all-requires-clause-fit
-add_beside_all-requires-clause-fit c = fit_again c.args.self.now.book.now (held_of c.args.first) (map held_of c.args.self.now.rows.now) c.requires.fit
-    (among (held_of c.args.first) (map held_of c.args.self.now.rows.now) c.requires.one)
 
 pub returns-clause-ok : goal.returns-clause-ok
 returns-clause-ok c =

@@ -1,18 +1,11 @@
 use Rattle.std.proofs.Common.{◌≡◌, ◌<◌, ◌+◌, inl, inr, map, subst, ℕ, arith}
 use Rattle.std.proofs.lemmas.Bool.{cases_lt}
 use Rattle.clr_rows.specs.Held.{held_of}
-use Rattle.clr_rules.proofs.Elements.{among}
 use Rattle.clr_audit.specs.Searches.{IsOfPart, IsPaired}
 use Rattle.clr_rows.proofs.BeginningLaws.{on_err}
-use Rattle.clr_audit.proofs.FitLaws.{fit_first, fit_again}
 use Rattle.clr_audit.proofs.Gaining.{gains_more, gains_less, gains_until}
 use Rattle.clr_audit.proofs.NeedLaws.{first_there}
 use Rattle.clr_audit.proofs.searching.Search.add_pairs.Goals as goal
-
-pub part_count-part-end-requires-clause-fit : goal.part_count-part-end-requires-clause-fit
-part_count-part-end-requires-clause-fit c = fit_first c.args.self.now.book.now (held_of c.args.first) (map held_of c.args.self.now.rows.now)
-    (fit_again c.args.self.now.book.now (held_of c.args.first) (map held_of c.args.self.now.rows.now) c.requires.fit
-    (among (held_of c.args.first) (map held_of c.args.self.now.rows.now) c.requires.one))
 
 pub loop-part-preserved : goal.loop-part-preserved
 loop-part-preserved c =
