@@ -1,6 +1,5 @@
 -- Versions that stand in one need are found near one another.
 use Rattle.std.proofs.Common.{◌≡◌, ◌∙◌, ◌<◌, ℕ, Bool, true, false, cond, ◌&&◌, ◌||◌, ◌==◌, not, List, [], Option, Some, None, inl, inr, Contains, length}
-use Rattle.std.proofs.Common.{slice_get}
 use Rattle.std.proofs.Common.{refl, sym, ap, subst}
 use Rattle.std.specs.FinMap as finite
 use Rattle.std.specs.Cmp.{Equal-is, tied_itself}
@@ -69,6 +68,13 @@ module _ (rules : List Rule) (ask : Ask) (s : Held) (t : Option Held) (r : Held)
       let shared = (servers_share rule ask s t r called serve).0 in
       (rule_shares rules ask.rule rule s r at first role shared, rule_shares rules ask.rule rule r s at role first (sym (share_back rule s r) ∙ shared))
 
+  -- a server is of the side that serves
+  pub may_serve_there : may_serve_under rules ask.rule r ≡ true
+  unfolding may_serve_under is_server
+  may_serve_there =
+      let (rule, at, called) = called_by rules ask s t e in
+      ap (λ o. may_serve_by o r) at ∙ (and_parts (may_serve rule r) _ (served_by rules ask s t r rule at f)).0
+
 -- the server and the second subject
 pub server_near_second : (rules : List Rule) (ask : Ask) (s t r : Held) → calls rules ask s (Some t) ≡ true → serves rules ask s (Some t) r ≡ true
     → are_sharing rules ask.rule r t ≡ true
@@ -77,14 +83,6 @@ server_near_second rules ask s t r e f =
     let serve = served_by rules ask s (Some t) r rule at f in
     rule_shares rules ask.rule rule r t at (servers_have_roles rule ask s (Some t) r serve) (subjects_have_roles rule ask s (Some t) called).1
     (servers_share rule ask s (Some t) r called serve).1
-
--- a server is of the side that serves
-pub may_serve_there : (rules : List Rule) (ask : Ask) (s : Held) (t : Option Held) (r : Held) → calls rules ask s t ≡ true → serves rules ask s t r ≡ true
-    → may_serve_under rules ask.rule r ≡ true
-unfolding may_serve_under is_server
-may_serve_there rules ask s t r e f =
-    let (rule, at, called) = called_by rules ask s t e in
-    ap (λ o. may_serve_by o r) at ∙ (and_parts (may_serve rule r) _ (served_by rules ask s t r rule at f)).0
 
 -- ---- the tables of subjects
 

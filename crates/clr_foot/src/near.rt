@@ -18,6 +18,7 @@ use std::alloc::AllocError;
 
 impl<V: RowView, F: RowFinder> Scene<'_, V, F> {
     /// Returns the spots of the row of a version under each rule, as one of the finders keeps them.
+    #[tactic(auto, using(crate::proofs::VersionLists::new_spots, crate::proofs::VersionLists::old_spots))]
     fn filed_spots(&self, version: Version) -> Option<&RowSpots>
         requires ready { IsReady F.settled (model_of V.content self.now) }
         requires at { IsAt (setting_in V.content self.now) version }

@@ -111,6 +111,7 @@ impl<V: RowView, F: RowFinder> Scene<'_, V, F> {
 
     /// Adds the possible needs that a version serves. If memory runs out, the list keeps what stood
     /// in it, and besides that it has only some of these needs.
+    #[tactic(auto, using(clr_versions::proofs::Gaining::none_gained))]
     pub(crate) fn add_served_by(
         &self,
         rule: u16,

@@ -1,13 +1,9 @@
 use Rattle.std.proofs.Common.{false, subst, sym}
 use Rattle.clr_foot.specs.Scenes.{setting_in}
 use Rattle.clr_foot.specs.Touches.{IsNeighbour}
-use Rattle.clr_versions.specs.Versions.{AreAt, Finds, row_of}
+use Rattle.clr_versions.specs.Versions.{Finds, row_of}
 use Rattle.clr_foot.proofs.TouchSteps.{alone_beside_old, beside_gains}
 use Rattle.clr_foot.proofs.scenes.Scene.add_beside_old.Goals as goal
-
-pub add_pairs-requires-clause-others : goal.add_pairs-requires-clause-others
-add_pairs-requires-clause-others g c = subst (AreAt (setting_in g.V.RowView.content c.args.self.now)) (sym c.as_slice.ensures.value) (c.in_ok-near.ensures
-    (row_of c.args.version) c.spots_of-spots.ensures).are
 
 pub returns-then-not-may_be_paired : goal.returns-then-not-may_be_paired
 returns-then-not-may_be_paired g c =

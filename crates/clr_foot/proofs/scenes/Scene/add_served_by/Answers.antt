@@ -1,10 +1,9 @@
-use Rattle.std.proofs.Common.{refl, subst, sym}
+use Rattle.std.proofs.Common.{subst, sym}
 use Rattle.clr_rows.proofs.BeginningLaws.{on_err}
 use Rattle.clr_foot.specs.Scenes.{setting_in}
 use Rattle.clr_foot.specs.Serving.{MayBeServed}
 use Rattle.clr_versions.specs.Versions.{AreAt, FindsAll, row_of}
 use Rattle.clr_foot.proofs.TouchSteps.{none_served_by, served_gains, some_served}
-use Rattle.clr_versions.proofs.Gaining.{none_gained}
 use Rattle.clr_foot.proofs.scenes.Scene.add_served_by.Goals as goal
 
 pub add_served-requires-clause-near : goal.add_served-requires-clause-near
@@ -21,9 +20,6 @@ returns-clause-ok g c =
     served_gains s c.args.rule c.args.server _ _ _ c.requires.at
     (subst (FindsAll s (MayBeServed s.rules c.args.rule (row_of c.args.server))) (sym c.as_slice.ensures.value) c.in_ok-near.ensures)
     c.in_ok-add_served.ensures.ok
-
-pub returns-in_err-near-clause-err : goal.returns-in_err-near-clause-err
-returns-in_err-near-clause-err g c = on_err _ (none_gained _ _ _ refl)
 
 pub returns-in_err-add_served-clause-err : goal.returns-in_err-add_served-clause-err
 returns-in_err-add_served-clause-err g c =
