@@ -191,6 +191,7 @@ impl<V: RowView> NewPairs<'_, '_, V> {
     }
 
     /// Adds the needs of the version at a position and of versions before it, and files its parts.
+    #[tactic(auto, using(crate::proofs::NewPairLaws::all_parts))]
     fn add_of_new(
         &self,
         rule: u16,

@@ -4,7 +4,7 @@ use Rattle.clr_versions.specs.Candidates.{IsNeedAmong}
 use Rattle.clr_new_pairs.specs.NewPairs.{IsNeedWithBefore}
 use Rattle.clr_versions.specs.RootVersions.{setting_in}
 use Rattle.clr_versions.specs.Versions.{row_of}
-use Rattle.clr_new_pairs.proofs.NewPairLaws.{IsNeedWithPartTo, all_parts, before_stays, gains_up_to, no_part_filed, no_part_yet, one_part_filed, one_part_more}
+use Rattle.clr_new_pairs.proofs.NewPairLaws.{IsNeedWithPartTo, before_stays, gains_up_to, no_part_filed, no_part_yet, one_part_filed, one_part_more}
 use Rattle.clr_new_pairs.proofs.NewPairLaws.{unpaired_filed, unpaired_needs, version_filed}
 use Rattle.clr_versions.proofs.VersionFits.{fit_one}
 use Rattle.clr_new_pairs.proofs.new_pairs.NewPairs.add_of_new.Goals as goal
@@ -62,10 +62,3 @@ returns-clause-filed g c =
     version_filed c.args.self.now.versions.book.now c.args.rule c.args.fresh.now c.args.position c.loop-part.filed c.args.one c.part_count-part-end.result
     c.loop-part.part c.requires.at count c.loop-part-test.false
     c.loop-part.invariant.parts c.loop-part.invariant.before
-
-pub returns-clause-needs : goal.returns-clause-needs
-returns-clause-needs g c =
-    let count = c.part_count-part-end.ensures ∙ ap (part_count c.args.self.now.versions.book.now c.args.rule) c.as_held.ensures in
-    all_parts c.args.self.now.versions.book.now c.args.rule c.args.fresh.now c.args.position c.args.one c.args.last c.part_count-part-end.result
-    c.loop-part.part _ _ count
-    c.loop-part-test.false c.loop-part.invariant.needs
