@@ -472,7 +472,8 @@ module _ (rows rows' : FiledRows) (cell : CellId) (row kept : RowOrNone) (xs ys 
         }
       ]
 
-      apart : (q : CellId) (n : ℕ) (b : Bool) (k : Key) → eq_by_cmp cell_cmp q cell ≡ false → HasRowFor rows q n b k → HasRowFor (with_settled rows cell) q n b k
+      apart : (q : CellId) (n : ℕ) (b : Bool) (k : Key) → eq_by_cmp cell_cmp q cell ≡ false → HasRowFor rows q n b k
+          → HasRowFor (with_settled rows cell) q n b k
       apart q n b k differ h = elim h.stands [
         | inl settled ↦ record {
           row = h.row;
