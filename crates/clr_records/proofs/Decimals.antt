@@ -1,6 +1,6 @@
 -- Numbers in their one decimal form: what is written is read, and nothing else is.
-use Rattle.std.proofs.Common.{◌≡◌, ◌≢◌, ℕ, suc, ◌<◌, ◌^◌, ◌&&◌, Bool, true, false, cond, List, get_or, Option, Some, None, Result, Ok, Err, ℤ, pos, negsuc, refl, ap}
-use Rattle.std.proofs.Common.{arith, rules, sym}
+use Rattle.std.proofs.Common.{◌≡◌, ◌≢◌, ℕ, suc, ◌<◌, ◌^◌, ◌&&◌, Bool, true, false, cond, List, get_or, Option, Some, None, Result, Ok, ℤ, pos, negsuc, refl, ap}
+use Rattle.std.proofs.Common.{Err, arith, rules, sym}
 use Rattle.std.specs.Str.{bytes_eq}
 use Rattle.std.specs.Str.Parse.{signed_digits_value, ParsesSigned}
 use Rattle.std.specs.Fmt.{signed_decimal, decimal}
