@@ -2,7 +2,7 @@ use Rattle.std.proofs.Common.{ap, sym, subst, ◌∙◌, ◌∷◌, [], List}
 use Rattle.std.specs.FinMap as finite
 use Rattle.clr_differences.specs.Differences.{Differences, HasDifference}
 use Rattle.clr_differences.proofs.DifferenceLemmas.{nothing_found}
-use Rattle.clr_layers.specs.Layers.{Layer, wholes, layer_at}
+use Rattle.clr_deltas.specs.Deltas.{Delta, wholes, delta_at}
 use Rattle.clr_contents.specs.Pinning.{Extends, StayOwnBut}
 use Rattle.clr_contents.proofs.PinLemmas.{base_pinned, extends_base, pinned_base, but_base}
 use Rattle.clr_contents.proofs.pins.pin_base.Goals as goal
@@ -20,7 +20,7 @@ returns-clause-extends c = subst (Extends c.args.map.now) (sym c.in_ok-put_base.
     c.requires.within)
 
 pub returns-clause-pinned : goal.returns-clause-pinned
-returns-clause-pinned c = subst (λ (ls : List Layer). HasDifference (layer_at ls c.args.at).base c.args.cell) (sym c.in_ok-put_base.ensures.ok)
+returns-clause-pinned c = subst (λ (ls : List Delta). HasDifference (delta_at ls c.args.at).base c.args.cell) (sym c.in_ok-put_base.ensures.ok)
     (pinned_base c.args.map.now c.args.at c.args.cell c.in_ok-row.row c.requires.within)
 
 pub returns-clause-elsewhere : goal.returns-clause-elsewhere

@@ -1,6 +1,6 @@
 use Rattle.std.proofs.Common.{ap, sym, subst, ◌∙◌, ◌∷◌, [], List}
 use Rattle.clr_differences.specs.Differences.{HasDifference}
-use Rattle.clr_layers.specs.Layers.{Layer, wholes, layer_at}
+use Rattle.clr_deltas.specs.Deltas.{Delta, wholes, delta_at}
 use Rattle.clr_contents.specs.Pinning.{Extends, StayOwnBut}
 use Rattle.clr_contents.proofs.PinLemmas.{current_pinned, extends_current, pinned_current, but_current}
 use Rattle.clr_contents.proofs.pins.pin_current.Goals as goal
@@ -16,7 +16,7 @@ returns-clause-extends c = subst (Extends c.args.map.now) (sym c.in_ok-put_curre
     c.in_ok-row.row c.requires.within)
 
 pub returns-clause-pinned : goal.returns-clause-pinned
-returns-clause-pinned c = subst (λ (ls : List Layer). HasDifference (layer_at ls c.args.at).current c.args.cell) (sym c.in_ok-put_current.ensures.ok)
+returns-clause-pinned c = subst (λ (ls : List Delta). HasDifference (delta_at ls c.args.at).current c.args.cell) (sym c.in_ok-put_current.ensures.ok)
     (pinned_current c.args.map.now c.args.at c.args.cell c.in_ok-row.row c.requires.within)
 
 pub returns-clause-elsewhere : goal.returns-clause-elsewhere

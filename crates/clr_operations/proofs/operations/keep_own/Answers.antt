@@ -1,6 +1,6 @@
 use Rattle.std.proofs.Common.{◌≡◌, Some, ap, sym, subst, ◌∙◌, ◌∷◌, [], arith, length, List}
 use Rattle.std.proofs.lemmas.List.{length-set}
-use Rattle.clr_layers.specs.Layers.{Layer, wholes}
+use Rattle.clr_deltas.specs.Deltas.{Delta, wholes}
 use Rattle.clr_workspaces.specs.Workspaces.{Workspace, parent_of}
 use Rattle.clr_workspaces.specs.Operations.{after_resolve}
 use Rattle.clr_workspaces.specs.Roots.{IsRooted}
@@ -37,7 +37,7 @@ returns-in_err-pin_saved-clause-long c = c.pin_saved.ensures.extends.long ∙ c.
 
 pub returns-clause-long : goal.returns-clause-long
 returns-clause-long c =
-    ap (λ (ms : List Layer). length ms) c.take_base.ensures ∙ length-set c.pin_saved.new.map c.args.at _ ∙ c.in_ok-pin_saved.ensures.extends.long
+    ap (λ (ms : List Delta). length ms) c.take_base.ensures ∙ length-set c.pin_saved.new.map c.args.at _ ∙ c.in_ok-pin_saved.ensures.extends.long
     ∙ c.in_ok-pin_current.ensures.extends.long
 
 pub returns-in_err-pin_current-clause-elsewhere : goal.returns-in_err-pin_current-clause-elsewhere

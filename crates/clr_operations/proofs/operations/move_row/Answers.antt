@@ -1,6 +1,6 @@
 use Rattle.std.proofs.Common.{◌≡◌, Some, refl, ap, sym, subst, ◌∙◌, ◌∷◌, [], arith, length, List}
 use Rattle.std.proofs.lemmas.List.{length-set}
-use Rattle.clr_layers.specs.Layers.{Layer, wholes, layer_at}
+use Rattle.clr_deltas.specs.Deltas.{Delta, wholes, delta_at}
 use Rattle.clr_workspaces.specs.Workspaces.{Workspace, parent_of}
 use Rattle.clr_contents.specs.Pinning.{ChildrenPin, StayOwnBut}
 use Rattle.clr_operations.proofs.LeanLemmas.{near_children, near_own, but_row_moved}
@@ -30,7 +30,7 @@ returns-clause-ok c =
     let rooted = subst IsRooted (sym seen) c.requires.rooted in
     let parent = subst (λ (vs : List Workspace). parent_of vs at ≡ Some c.args.above) (sym seen) c.requires.parent in
     let children = subst (λ n. ChildrenPin hs n (c.args.cell ∷ [])) (sym (all.each at).name)
-    (children_keep bs hs (layer_at ls at).name (c.args.cell ∷ []) later d.children) in
+    (children_keep bs hs (delta_at ls at).name (c.args.cell ∷ []) later d.children) in
     ap (wholes live) c.move_row.ensures
     ∙ row_set live hs at rooted c.requires.child (omega (arith, c.requires.within, all.long)) c.args.above parent c.requires.earlier c.args.cell c.args.row
     children ((f.extends.each at).current c.args.cell e.pinned) f.pinned
@@ -47,7 +47,7 @@ returns-in_err-pin_saved-clause-long c = c.pin_saved.ensures.extends.long ∙ c.
 
 pub returns-clause-long : goal.returns-clause-long
 returns-clause-long c =
-    ap (λ (ms : List Layer). length ms) c.move_row.ensures ∙ length-set c.pin_saved.new.map c.args.at _
+    ap (λ (ms : List Delta). length ms) c.move_row.ensures ∙ length-set c.pin_saved.new.map c.args.at _
     ∙ c.in_ok-pin_saved.ensures.extends.long ∙ c.in_ok-pin_current.ensures.extends.long ∙ c.in_ok-pin_cell.ensures.extends.long
 
 pub returns-in_err-pin_cell-clause-elsewhere : goal.returns-in_err-pin_cell-clause-elsewhere

@@ -1,5 +1,5 @@
 use Rattle.std.proofs.Common.{◌≡◌, suc, ◌+◌, ◌-◌, cond, Some, None, length, ap, sym, ◌∙◌, arith}
-use Rattle.clr_layers.specs.Layers.{wholes}
+use Rattle.clr_deltas.specs.Deltas.{wholes}
 use Rattle.clr_workspaces.specs.Workspaces.{workspace_at}
 use Rattle.clr_parts.specs.Parts.{has_good_marks, marks_fault_at}
 use Rattle.clr_parts.specs.declared.parts.PartFault.TheVariants.{BadMarks}

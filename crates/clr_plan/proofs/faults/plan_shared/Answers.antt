@@ -1,6 +1,6 @@
 use Rattle.std.proofs.Common.{subst}
 use Rattle.clr_needs.specs.Members.{IsSceneFault}
-use Rattle.clr_clearance.specs.Sites.{change_sets}
+use Rattle.clr_clearance.specs.MergeSets.{change_sets}
 use Rattle.clr_plan.proofs.FaultLaws.{shared_plan}
 use Rattle.clr_plan.proofs.faults.plan_shared.Goals as goal
 

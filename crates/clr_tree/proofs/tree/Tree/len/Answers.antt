@@ -1,5 +1,5 @@
 use Rattle.std.proofs.Common.{ap, sym, ◌∙◌, length}
-use Rattle.clr_layers.proofs.Meaning.{length-wholes}
+use Rattle.clr_deltas.proofs.Meaning.{length-wholes}
 use Rattle.clr_tree.specs.Trees.{Tree}
 use Rattle.clr_tree.proofs.tree.Tree.len.Goals as goal
 
