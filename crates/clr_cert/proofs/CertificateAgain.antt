@@ -50,16 +50,6 @@ members_again tables rooted n (name ∷ names) es good all =
           || false) (n + 1) names es (λ k d lt. good (suc k) d (omega arith)) all,
     ) refl
 
-certificate_again : (tables : List TableDef) (c : Certificate) → is_good_name c.root ≡ true → All (λ name. is_good_name name ≡ true) c.members
-    → All (IsReadBack tables) c.entries
-    → certificate_of tables (certificate_records tables c) ≡ Ok c
-unfolding certificate_from certificate_records
-certificate_again tables c root good all = by (is_live c.root) refl
-  where
-    by : (live : Bool) → is_live c.root ≡ live → certificate_of tables (certificate_records tables c) ≡ Ok c
-    by true e = rw (e, members_again tables false 1 c.members c.entries good all, (bytes_eq-Decides c.root live_name).0 e) refl
-    by false e = rw (e, root_again tables c.root e root, members_again tables true 2 c.members c.entries good all) refl
-
 -- the records are in ASCII, each with a field ------------------------------------------------------
 
 mapped : {A B : Type 0} (P : B → Type 0) (f : A → B) (Q : A → Type 0) (xs : List A) → ((x : A) → Q x → P (f x)) → All Q xs → AllByRecursion P (map f xs)
@@ -90,18 +80,26 @@ root_plain root good = by (is_live root) refl
     by true e = rw e tt
     by false e = rw e (name_plain (codes "root") root (name_ascii (codes "root") root_word) good, tt)
 
-records_plain : (tables : List TableDef) (c : Certificate) → is_good_name c.root ≡ true → All (λ name. is_good_name name ≡ true) c.members
-    → All (IsReadBack tables) c.entries → AllByRecursion (IsPlain IsAscii) (certificate_records tables c)
-unfolding certificate_records
-records_plain tables c root good all =
-    joined (IsPlain IsAscii) (root_records c.root) (map member_fields c.members ++ map (entry_fields tables) c.entries) (root_plain c.root root)
-    (joined (IsPlain IsAscii) (map member_fields c.members) (map (entry_fields tables) c.entries) (mapped (IsPlain IsAscii) member_fields _ c.members
-    (λ name is. name_plain (codes "member") name (name_ascii (codes "member") member_word) is) good)
-    (mapped (IsPlain IsAscii) (entry_fields tables) (IsReadBack tables) c.entries (entry_plain tables) all))
+-- the whole certificate ---------------------------------------------------------------------------
 
--- the text of a certificate is read as the certificate
-pub read_again : (tables : List TableDef) (c : Certificate) → is_good_name c.root ≡ true → All (λ name. is_good_name name ≡ true) c.members
-    → All (IsReadBack tables) c.entries
-    → certificate_in tables (certificate_text tables c) ≡ Ok c
-read_again tables c root good all = rw (ascii_records_again (certificate_records tables c) (records_plain tables c root good all))
-    (certificate_again tables c root good all)
+module _ (tables : List TableDef) (c : Certificate) (root : is_good_name c.root ≡ true) (good : All (λ name. is_good_name name ≡ true) c.members)
+    (all : All (IsReadBack tables) c.entries) where
+  certificate_again : certificate_of tables (certificate_records tables c) ≡ Ok c
+  unfolding certificate_from certificate_records
+  certificate_again = by (is_live c.root) refl
+    where
+      by : (live : Bool) → is_live c.root ≡ live → certificate_of tables (certificate_records tables c) ≡ Ok c
+      by true e = rw (e, members_again tables false 1 c.members c.entries good all, (bytes_eq-Decides c.root live_name).0 e) refl
+      by false e = rw (e, root_again tables c.root e root, members_again tables true 2 c.members c.entries good all) refl
+
+  records_plain : AllByRecursion (IsPlain IsAscii) (certificate_records tables c)
+  unfolding certificate_records
+  records_plain =
+      joined (IsPlain IsAscii) (root_records c.root) (map member_fields c.members ++ map (entry_fields tables) c.entries) (root_plain c.root root)
+      (joined (IsPlain IsAscii) (map member_fields c.members) (map (entry_fields tables) c.entries) (mapped (IsPlain IsAscii) member_fields _ c.members
+      (λ name is. name_plain (codes "member") name (name_ascii (codes "member") member_word) is) good)
+      (mapped (IsPlain IsAscii) (entry_fields tables) (IsReadBack tables) c.entries (entry_plain tables) all))
+
+  -- the text of a certificate is read as the certificate
+  pub read_again : certificate_in tables (certificate_text tables c) ≡ Ok c
+  read_again = rw (ascii_records_again (certificate_records tables c) records_plain) certificate_again

@@ -211,23 +211,22 @@ part_ascii b part is = IsAscii-append (fresh_word b) (entry_part_text part) (fre
     by true e = rw e IsAscii-nil
     by false e = let most = is.1 in rw e (IsAscii-cons 47 (decimal part) (omega arith) (IsAscii-decimal part (omega arith)))
 
-subject_again : (tables : List TableDef) (v : VersionId) (part : ℕ) → schema_fault tables ≡ None → IsInSchema tables v → IsPart part
-    → subject_of tables (entry_subject_text tables v part) ≡ Some (v, part)
-unfolding subject_of
-subject_again tables v part sound is one =
-    rw (
-      subject_is tables v part,
-      cell_again tables v.cell
-          (fresh_word v.fresh ++ entry_part_text part) sound is,
-      part_again v.fresh part one,
-      fresh_again v.fresh,
-    )
-    refl
+module _ (tables : List TableDef) (v : VersionId) (part : ℕ) (sound : schema_fault tables ≡ None) (is : IsInSchema tables v) (one : IsPart part) where
+  subject_again : subject_of tables (entry_subject_text tables v part) ≡ Some (v, part)
+  unfolding subject_of
+  subject_again =
+      rw (
+        subject_is tables v part,
+        cell_again tables v.cell
+            (fresh_word v.fresh ++ entry_part_text part) sound is,
+        part_again v.fresh part one,
+        fresh_again v.fresh,
+      )
+      refl
 
-subject_ascii : (tables : List TableDef) (v : VersionId) (part : ℕ) → schema_fault tables ≡ None → IsInSchema tables v → IsPart part
-    → IsAscii (entry_subject_text tables v part)
-subject_ascii tables v part sound is one = rw (subject_is tables v part) (cell_ascii tables v.cell (fresh_word v.fresh
-    ++ entry_part_text part) sound is (part_ascii v.fresh part one))
+  subject_ascii : IsAscii (entry_subject_text tables v part)
+  subject_ascii =
+      rw (subject_is tables v part) (cell_ascii tables v.cell (fresh_word v.fresh ++ entry_part_text part) sound is (part_ascii v.fresh part one))
 
 -- a subject's text, and a version's, has a byte
 subject_long : (tables : List TableDef) (v : VersionId) (part : ℕ) → (length (entry_subject_text tables v part) == 0) ≡ false
@@ -245,61 +244,52 @@ version_long tables v = ne_eqb _ 0 (λ e. omega (
       ∷ (signed_decimal v.cell.key ++ 47 ∷ fresh_word v.fresh)),
 ))
 
+-- a second subject's text is read as the subject, and is in ASCII
 second_again : (tables : List TableDef) (second : Option VersionId) (part : ℕ) → schema_fault tables ≡ None
     → MatchOption second (part ≡ 1) (λ v. IsInSchema tables v × IsPart part)
-    → second_of tables (entry_second_text tables second part) ≡ Some (second, part)
-second_again tables None part sound is = rw is refl
-second_again tables (Some v) part sound is = rw (subject_long tables v part, subject_again tables v part sound is.0 is.1) refl
+    → (second_of tables (entry_second_text tables second part) ≡ Some (second, part)) × IsAscii (entry_second_text tables second part)
+second_again tables None part sound is = (rw is refl, IsAscii-nil)
+second_again tables (Some v) part sound is =
+    (rw (subject_long tables v part, subject_again tables v part sound is.0 is.1) refl, subject_ascii tables v part sound is.0 is.1)
 
-second_ascii : (tables : List TableDef) (second : Option VersionId) (part : ℕ) → schema_fault tables ≡ None
-    → MatchOption second (part ≡ 1) (λ v. IsInSchema tables v × IsPart part)
-    → IsAscii (entry_second_text tables second part)
-second_ascii tables None part sound is = IsAscii-nil
-second_ascii tables (Some v) part sound is = subject_ascii tables v part sound is.0 is.1
-
-two_again : (tables : List TableDef) (two : Option VersionId) → schema_fault tables ≡ None → IfSome two (IsInSchema tables) →
-    two_of tables (two_text tables two)
-    ≡ Some two
-two_again tables None sound is = refl
-two_again tables (Some v) sound is = rw (version_long tables v, version_again tables v sound is) refl
-
-two_ascii : (tables : List TableDef) (two : Option VersionId) → schema_fault tables ≡ None → IfSome two (IsInSchema tables) → IsAscii (two_text tables two)
-two_ascii tables None sound is = IsAscii-nil
-two_ascii tables (Some v) sound is = version_ascii tables v sound is
+-- and so is a second witness's
+two_again : (tables : List TableDef) (two : Option VersionId) → schema_fault tables ≡ None → IfSome two (IsInSchema tables)
+    → (two_of tables (two_text tables two) ≡ Some two) × IsAscii (two_text tables two)
+two_again tables None sound is = (refl, IsAscii-nil)
+two_again tables (Some v) sound is = (rw (version_long tables v, version_again tables v sound is) refl, version_ascii tables v sound is)
 
 -- entries ----------------------------------------------------------------------------------------
 
-entry_again : (tables : List TableDef) (e : Entry) → schema_fault tables ≡ None → IsWellFormedEntry tables e → e.need.rule < 2 ^ 16
-    → entry_of tables (entry_fields tables e) ≡ Some e
-unfolding entry_of field_at
-entry_again tables e sound is lt =
-    rw (
-      number_again (pos e.need.rule) (within e.need.rule (omega arith)),
-      lt-ltb e.need.rule (2 ^ 16) lt,
-      subject_again tables e.need.first e.need.first_part sound is.first is.first_part,
-      second_again tables e.need.second e.need.second_part sound is.second,
-      version_again tables e.one sound is.one,
-      two_again tables e.two sound is.two,
-    ) refl
+module _ (tables : List TableDef) (e : Entry) (sound : schema_fault tables ≡ None) (is : IsWellFormedEntry tables e) (lt : e.need.rule < 2 ^ 16) where
+  entry_again : entry_of tables (entry_fields tables e) ≡ Some e
+  unfolding entry_of field_at
+  entry_again =
+      rw (
+        number_again (pos e.need.rule) (within e.need.rule (omega arith)),
+        lt-ltb e.need.rule (2 ^ 16) lt,
+        subject_again tables e.need.first e.need.first_part sound is.first is.first_part,
+        (second_again tables e.need.second e.need.second_part sound is.second).0,
+        version_again tables e.one sound is.one,
+        (two_again tables e.two sound is.two).0,
+      ) refl
 
-pub entry_read_back : (tables : List TableDef) (e : Entry) → schema_fault tables ≡ None → IsWellFormedEntry tables e → e.need.rule < 2 ^ 16
-    → IsReadBack tables e
-entry_read_back tables e sound is lt = record {
-  ascii = (
-    bytes_ascii (codes "need") refl,
-    (
-      IsAscii-decimal e.need.rule (omega arith),
+  pub entry_read_back : IsReadBack tables e
+  entry_read_back = record {
+    ascii = (
+      bytes_ascii (codes "need") refl,
       (
-        subject_ascii tables e.need.first e.need.first_part sound is.first is.first_part,
+        IsAscii-decimal e.need.rule (omega arith),
         (
-          second_ascii tables e.need.second e.need.second_part sound is.second,
+          subject_ascii tables e.need.first e.need.first_part sound is.first is.first_part,
           (
-            version_ascii tables e.one sound is.one,
-            (two_ascii tables e.two sound is.two, tt),
+            (second_again tables e.need.second e.need.second_part sound is.second).1,
+            (
+              version_ascii tables e.one sound is.one,
+              ((two_again tables e.two sound is.two).1, tt),
+            ),
           ),
         ),
       ),
-    ),
-  );
-  entry = entry_again tables e sound is lt;
-}
+    );
+    entry = entry_again;
+  }

@@ -79,18 +79,17 @@ pub one_more : (tables : List TableDef) (rooted : Bool) (front : Certificate) (n
 one_more tables rooted front n rows i row item total lt is h so_far =
     sym (regroup rooted front item _ (one_root tables rooted (fields_of row) item h)) ∙ (sym (rw (next tables rooted n rows i row lt is, h) refl) ∙ so_far)
 
-fault_of : (tables : List TableDef) (e : CertFault) (rooted : Bool) (front : Certificate) (n : ℕ) (rows : List Row) (i : ℕ) (row : Row)
-    (total : Result Certificate (ℕ × CertFault)) → i < length rows → row ≡ get_or rows i row → item_of tables rooted (fields_of row) ≡ Err e
-    → after rooted front (certificate_from tables rooted n (map fields_of (drop i rows))) ≡ total → total ≡ Err (n, e)
-fault_of tables e rooted front n rows i row total lt is h so_far = sym so_far ∙ rw (next tables rooted n rows i row lt is, h) refl
+module _ (tables : List TableDef) (e : CertFault) (rooted : Bool) (front : Certificate) (n : ℕ) (rows : List Row) (i : ℕ) (row : Row)
+    (total : Result Certificate (ℕ × CertFault)) (lt : i < length rows) (is : row ≡ get_or rows i row) where
+  fault_of : item_of tables rooted (fields_of row) ≡ Err e → after rooted front (certificate_from tables rooted n (map fields_of (drop i rows))) ≡ total
+      → total ≡ Err (n, e)
+  fault_of h so_far = sym so_far ∙ rw (next tables rooted n rows i row lt is, h) refl
 
--- the fault of a record is that of the whole text
-pub stops : (tables : List TableDef) (e : CertFault) (rooted : Bool) (front : Certificate) (n : ℕ) (rows : List Row) (i : ℕ) (row : Row)
-    (total : Result Certificate (ℕ × CertFault)) → i < length rows → row ≡ get_or rows i row → Fails cert_lacks_memory e (item_of tables rooted (fields_of row))
-    → after rooted front (certificate_from tables rooted n (map fields_of (drop i rows))) ≡ total
-    → FailsAt cert_lacks_memory (numbered_fault cert_lacks_memory n e).0 (numbered_fault cert_lacks_memory n e).1 total
-stops tables e rooted front n rows i row total lt is h so_far =
-    numbered_so cert_lacks_memory e n (item_of tables rooted (fields_of row)) total (λ k. fault_of tables e rooted front n rows i row total lt is k so_far) h
+  -- the fault of a record is that of the whole text
+  pub stops : Fails cert_lacks_memory e (item_of tables rooted (fields_of row))
+      → after rooted front (certificate_from tables rooted n (map fields_of (drop i rows))) ≡ total
+      → FailsAt cert_lacks_memory (numbered_fault cert_lacks_memory n e).0 (numbered_fault cert_lacks_memory n e).1 total
+  stops h so_far = numbered_so cert_lacks_memory e n (item_of tables rooted (fields_of row)) total (λ k. fault_of k so_far) h
 
 -- before the first record
 pub begins : (read : Result Certificate (ℕ × CertFault)) → after false nothing_said read ≡ read

@@ -1,7 +1,8 @@
 -- A parse that succeeds has entered one of the subcommands that something is asked by, of a program of which one is demanded.
 use Rattle.std.proofs.Common.{◌≡◌, ◌∙◌, ◌⊎◌, inl, inr, ℕ, Bool, true, false, not, ◌&&◌, ◌||◌, cond, List, [], ◌∷◌, Option, Some, None, is_some, option_map}
-use Rattle.std.proofs.Common.{codes, refl, sym}
+use Rattle.std.proofs.Common.{Box, codes, refl, sym}
 use Rattle.std.specs.Prelude.{⊤, fold, find, if◌then◌else◌, option_and_then}
+use Rattle.std.specs.Box.{box_value}
 use Rattle.std.specs.List.{AllByRecursion, list_any}
 use Rattle.std.specs.Str.{bytes_eq}
 use Rattle.std.proofs.lemmas.Slice.Eq.{bytes_eq-Decides}
@@ -10,14 +11,16 @@ use Rattle.clap.specs.Walk.{done, waits, plain, refused, next, trailing, subcomm
 use Rattle.clap.specs.Walk.{after_flag, after_step, answers_to, arg_by_index, finished, long_or_other, nothing_held, plain_word, settled, short_or_plain}
 use Rattle.clap.specs.Walk.{subcommand_met, subcommand_or_other, to_positional, walk, walk_from, walked, walked_from, word_met}
 use Rattle.clap.specs.Lexer.{long_of, short_of}
-use Rattle.clap.specs.Simple.{Shape, argument_words, built, entered, label_of, names_of, rows_at, subcommand_of}
+use Rattle.clap.specs.Simple.{Shape, argument_words, built, entered, is_simple, label_of, names_of, rows_at, subcommand_of}
 use Rattle.clap.specs.Kinds.{Kinds, check_kinds, or_else}
 use Rattle.clap.specs.Facts.{explicit_source}
 use Rattle.clap.specs.Takes.{is_given}
-use Rattle.clap.specs.Faults.{check_fault, defaults_fault, entered_fault, fault_of, level_fault, other_fault, settle_fault, step_fault, turn_fault, walk_fault}
-use Rattle.clap.specs.Faults.{word_fault}
+use Rattle.clap.specs.Faults.{check_fault, defaults_fault, entered_fault, fault_of, is_simple_and_free, level_fault, other_fault, settle_fault, step_fault}
+use Rattle.clap.specs.Faults.{turn_fault, walk_fault, word_fault}
 use Rattle.clap.specs.declared.error.kind.ErrorKind.TheVariants as kind
-use Rattle.clap.specs.Words.{App}
+use Rattle.clap.specs.declared.parser.matches.ArgMatches.TheViews.{out-SubCommand}
+use Rattle.clap.specs.declared.parser.matches.SubCommand.{SubCommand}
+use Rattle.clap.specs.Words.{App, subcommand_rows}
 
 -- the walk doesn't stop at `help` --------------------------------------------------------------------
 
@@ -159,6 +162,14 @@ asked_of {A} ask found = option_and_then (λ p. ask p.0 p.1) found
 abbrev pub IsKnown : {A : Type 0} → (Text → List Row → Option A) → Shape → Type 0
 IsKnown {A} ask s = (s.aliases ≡ []) × (((rows : List Row) → is_some (ask s.name rows) ≡ true) ⊎ (s.name ≡ codes "help"))
 
+-- each subcommand is known, one of them is demanded, and no argument has a rule on another
+pub record IsAsking {A : Type 0} (ask : Text → List Row → Option A) (program : App) : Type 0 where
+  pub known : AllByRecursion (IsKnown ask) (built program).subs
+  pub demands : (built program).top.subcommand_required ≡ true
+  pub has_help : (built program).top.disable_help_subcommand ≡ false
+  pub simple : is_simple program ≡ true
+  pub free : is_simple_and_free program ≡ true
+
 module _ {A : Type 0} (ask : Text → List Row → Option A) where
   asks : (subs : List Shape) (name : Text) (rest : List Text) → AllByRecursion (IsKnown ask) subs → bytes_eq name (codes "help") ≡ false
       → is_some (met subs name rest) ≡ true
@@ -180,12 +191,11 @@ module _ {A : Type 0} (ask : Text → List Row → Option A) where
       go true is later some = here is known.0.1
       go false is later some = later some
 
-  module _ (program : App) (known : AllByRecursion (IsKnown ask) (built program).subs)
-      (demands : (built program).top.subcommand_required ≡ true) (has_help : (built program).top.disable_help_subcommand ≡ false) where
+  module _ (program : App) (is : IsAsking ask program) where
     stop_asks : (stop : Option (Text × List Text)) → IsNoHelp stop → is_some (entered (built program) stop) ≡ true
         → is_some (asked_of ask (entered (built program) stop)) ≡ true
     stop_asks None off e = absurd cc
-    stop_asks (Some p) off e = asks (built program).subs p.0 p.1 known off e
+    stop_asks (Some p) off e = asks (built program).subs p.0 p.1 is.known off e
 
     -- where the words have no fault, something is asked
     pub asks_something : (words : List Text) → fault_of program words ≡ [] → is_some (asked_of ask (subcommand_of program words)) ≡ true
@@ -195,5 +205,11 @@ module _ {A : Type 0} (ask : Text → List Row → Option A) where
         let end = walk a.top.rules (names_of a) nothing_held given in
         let has = is_some (entered a end.stopped) in
         let parts = level_empty a.top (names_of a) nothing_held given has (entered_fault a end.stopped) e in
-        let off = walk_off a.top (names_of a) (walk_from nothing_held) given has_help tt parts.0 in
-        stop_asks end.stopped off (has_one a.top (finished a.top.rules end.held) has demands parts.1)
+        let off = walk_off a.top (names_of a) (walk_from nothing_held) given is.has_help tt parts.0 in
+        stop_asks end.stopped off (has_one a.top (finished a.top.rules end.held) has is.demands parts.1)
+
+-- the name and the matches of the subcommand that is found
+pub pair_is : {Z : Type 0} (o : Option (Box SubCommand Z)) (n : Text) (r : List Row) → Some n ≡ option_map (λ b. (out-SubCommand (box_value b)).name.now) o
+    → Some r ≡ option_map (λ p. p.1) (subcommand_rows o) → subcommand_rows o ≡ Some (n, r)
+pair_is None n r e h = absurd cc
+pair_is (Some b) n r e h = cc

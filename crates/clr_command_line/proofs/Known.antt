@@ -1,11 +1,11 @@
 -- Where words have no fault, something is asked.
-use Rattle.std.proofs.Common.{◌≡◌, inl, inr, List, [], true, false, is_some, refl}
+use Rattle.std.proofs.Common.{◌≡◌, inl, inr, List, [], true, is_some, refl}
 use Rattle.std.specs.List.{AllByRecursion}
 use Rattle.clap.specs.Simple.{built}
 use Rattle.clap.specs.Words.{Text, subcommand_of}
-use Rattle.clap.specs.Faults.{fault_of, is_simple_and_free}
+use Rattle.clap.specs.Faults.{fault_of}
 use Rattle.clap.proofs.OnLiterals.{clap_on_literals}
-use Rattle.clr_command_line.proofs.Entering.{IsKnown, asks_something}
+use Rattle.clr_command_line.proofs.Entering.{IsAsking, IsKnown, asks_something}
 use Rattle.clr_command_line.specs.Asks.{ask_by_name, ask_of}
 use Rattle.clr_command_line.specs.Program.{program}
 
@@ -22,16 +22,10 @@ all_known = (
   ),
 )
 
-demands : (built program).top.subcommand_required ≡ true
-demands = refl
-
-has_help : (built program).top.disable_help_subcommand ≡ false
-has_help = refl
-
--- no argument has a rule on another
-pub free : is_simple_and_free program ≡ true
+-- the command line is one whose matches are known from the words
+pub program_asks : IsAsking ask_by_name program
 unfolding clap_on_literals
-free = refl
+program_asks = record { known = all_known; demands = refl; has_help = refl; simple = refl; free = refl }
 
 pub something_is_asked : (words : List Text) → fault_of program words ≡ [] → is_some (ask_of (subcommand_of program words)) ≡ true
-something_is_asked words e = asks_something ask_by_name program all_known demands has_help words e
+something_is_asked words e = asks_something ask_by_name program program_asks words e

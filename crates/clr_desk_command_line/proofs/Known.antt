@@ -4,9 +4,9 @@ use Rattle.std.specs.Prelude.{if◌then◌else◌}
 use Rattle.std.specs.List.{AllByRecursion}
 use Rattle.clap.specs.Simple.{built}
 use Rattle.clap.specs.Words.{Row, Text, subcommand_of}
-use Rattle.clap.specs.Faults.{fault_of, is_simple_and_free}
+use Rattle.clap.specs.Faults.{fault_of}
 use Rattle.clap.proofs.OnLiterals.{clap_on_literals}
-use Rattle.clr_command_line.proofs.Entering.{IsKnown, asked_of, asks_something}
+use Rattle.clr_command_line.proofs.Entering.{IsAsking, IsKnown, asked_of, asks_something}
 use Rattle.clr_desk_command_line.specs.declared.asks.Ask.{Ask}
 use Rattle.clr_desk_command_line.specs.Asks.{ask_by_name, geographic_asked, is_readable, members_ask, reads_layers}
 use Rattle.clr_desk_command_line.specs.Program.{program}
@@ -52,16 +52,10 @@ all_known = (
   ),
 )
 
-demands : (built program).top.subcommand_required ≡ true
-demands = refl
-
-has_help : (built program).top.disable_help_subcommand ≡ false
-has_help = refl
-
--- no argument has a rule on another
-pub free : is_simple_and_free program ≡ true
+-- the command line is one whose matches are known from the words
+pub program_asks : IsAsking known program
 unfolding clap_on_literals
-free = refl
+program_asks = record { known = all_known; demands = refl; has_help = refl; simple = refl; free = refl }
 
 either : (b : Bool) (o : Option (Ask × List Text)) → is_some (if b then Some (tt {0}) else option_map (λ asked. tt {0}) o) ≡ true → (not b || is_some o) ≡ true
     → is_some o ≡ true
@@ -72,5 +66,5 @@ either false None some readable = absurd cc
 pub something_is_asked : (words : List Text) (name : Text) (rows : List Row) → fault_of program words ≡ [] → subcommand_of program words ≡ Some (name, rows)
     → is_readable (Some (name, rows)) ≡ true → is_some (ask_by_name name rows) ≡ true
 something_is_asked words name rows e found readable =
-    let some = ap (λ o. is_some (asked_of known o)) (sym found) ∙ asks_something known program all_known demands has_help words e in
+    let some = ap (λ o. is_some (asked_of known o)) (sym found) ∙ asks_something known program program_asks words e in
     either (reads_layers name) (ask_by_name name rows) some readable

@@ -1,4 +1,4 @@
-use Rattle.std.proofs.Common.{◌≡◌, ◌∙◌, ◌+◌, ◌++◌, List, [], ℕ, ℤ, ap, arith, refl, sym}
+use Rattle.std.proofs.Common.{◌≡◌, ◌+◌, ◌++◌, [], ℕ, ℤ, arith, refl}
 use Rattle.std.specs.Prelude.{int_le}
 use Rattle.std.proofs.lemmas.List.FromFn.{filter_of_map_range_with_len_more}
 use Rattle.clr_drawing.specs.Ticks.{first_tick, first_ticks, tick_at, up_to}
@@ -8,11 +8,6 @@ pub next_tick : (low high step : ℤ) (n : ℕ) → first_ticks low high step (n
     ++ up_to high (tick_at (first_tick low step) step n)
 unfolding first_ticks
 next_tick low high step n = filter_of_map_range_with_len_more (λ tick. int_le tick high) (tick_at (first_tick low step) step) 0 n n (omega arith)
-
--- the same behind a list of the ticks before it
-pub with_tick : (low high step : ℤ) (n : ℕ) (old : List ℤ) → old ≡ first_ticks low high step n
-    → old ++ up_to high (tick_at (first_tick low step) step n) ≡ first_ticks low high step (n + 1)
-with_tick low high step n old is = ap (λ (ticks : List ℤ). ticks ++ up_to high (tick_at (first_tick low step) step n)) is ∙ sym (next_tick low high step n)
 
 pub no_tick : (low high step : ℤ) → first_ticks low high step 0 ≡ []
 unfolding first_ticks

@@ -84,6 +84,7 @@ fn add_tick(
 }
 
 /// Returns the multiples of a step between two numbers, these included, of which it gives at most 64.
+#[tactic(auto, using(crate::proofs::TickLemmas::next_tick, crate::proofs::TickLemmas::no_tick))]
 pub fn ticks(alloc: Global, low: i64, high: i64, step: i64) -> Result<Vec<i64>, AllocError>
     ensures { IfOk result (λ list. list.items ≡ ticks_of low high step) }
 {

@@ -1,5 +1,3 @@
 pub mod InWorkspaces
-pub mod Passing
 pub mod PlacedItems
 pub mod Values
-pub mod Wholes

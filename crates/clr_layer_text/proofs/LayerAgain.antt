@@ -22,7 +22,7 @@ use Rattle.clr_records.proofs.RecordsAgain.{HasField, read_written, rows_closed,
 use Rattle.clr_records.proofs.Turns.{joined}
 use Rattle.clr_records.proofs.Utf8.{low_utf8, name_utf8, number_utf8}
 use Rattle.clr_layer_text.specs.declared.limits.TheConstants.{SHAPE}
-use Rattle.clr_rows.specs.Schemas.{has_coordinates, is_key, is_number, names_of, schema_fault}
+use Rattle.clr_rows.specs.Schemas.{is_key, is_number, names_of, schema_fault}
 use Rattle.clr_rows.proofs.SchemaLemmas.{good_column_name, key_within, row_fits}
 use Rattle.clr_records.specs.Records.{in_turn}
 use Rattle.clr_layer_text.specs.declared.rows.LayerRow.{LayerRow}
@@ -63,17 +63,17 @@ names_utf8 : (columns : List (List ℕ × Kind)) → All (λ column. is_good_nam
 names_utf8 [] all = tt
 names_utf8 (column ∷ columns) all = (name_utf8 column.0 (all 0 column (omega arith)), names_utf8 columns (λ k d lt. all (suc k) d (omega arith)))
 
-good_names : (tables : List TableDef) (at : ℕ) (table : TableDef) → schema_fault tables ≡ None → slice_get tables at ≡ Some table
-    → All (λ column. is_good_name column.0 ≡ true) table.columns
-good_names tables at table sound is = λ k d lt.
-    let column = get_or table.columns k d in
-    (and_parts (is_good_name column.0) _ (good_column_name tables at k table column sound is (slice_get-get_or table.columns k d lt))).0
+module _ (tables : List TableDef) (at : ℕ) (table : TableDef) (sound : schema_fault tables ≡ None) (is : slice_get tables at ≡ Some table) where
+  good_names : All (λ column. is_good_name column.0 ≡ true) table.columns
+  good_names = λ k d lt.
+      let column = get_or table.columns k d in
+      (and_parts (is_good_name column.0) _ (good_column_name tables at k table column sound is (slice_get-get_or table.columns k d lt))).0
 
-header_utf8 : (tables : List TableDef) (at : ℕ) (table : TableDef) → schema_fault tables ≡ None → slice_get tables at ≡ Some table
-    → AllByRecursion IsUtf8 (header_of table)
-header_utf8 tables at table sound is =
-    let good = good_names tables at table sound is in
-    (name_utf8 KEY.now key_name, joined IsUtf8 (names_of table.columns) (shape_name table.shape) (names_utf8 table.columns good) (shape_name_utf8 table.shape))
+  header_utf8 : AllByRecursion IsUtf8 (header_of table)
+  header_utf8 = (
+    name_utf8 KEY.now key_name,
+    joined IsUtf8 (names_of table.columns) (shape_name table.shape) (names_utf8 table.columns good_names) (shape_name_utf8 table.shape),
+  )
 
 key_utf8 : (key : Option ℤ) → is_key (unwrap_or key (pos 1)) ≡ true → IsUtf8 (key_text key)
 key_utf8 None e = IsUtf8-nil
@@ -87,11 +87,11 @@ values_utf8 : (values : List Value) → list_all is_number values ≡ true → A
 values_utf8 [] numbers texts = tt
 values_utf8 (v ∷ vs) numbers texts = let t = and_parts (is_number v) (list_all is_number vs) numbers in (value_utf8 v t.0 texts.0, values_utf8 vs t.1 texts.1)
 
-shape_utf8 : (shape : Shape) → has_coordinates shape ≡ true → AllByRecursion IsUtf8 (shape_fields shape)
-shape_utf8 Bare low = tt
-shape_utf8 (At p) low = (low_utf8 (shape_text (At p)) (shape_ascii (At p) low), tt)
-shape_utf8 (Line p q) low = (low_utf8 (shape_text (Line p q)) (shape_ascii (Line p q) low), tt)
-shape_utf8 (Chain ps) low = (low_utf8 (shape_text (Chain ps)) (shape_ascii (Chain ps) low), tt)
+shape_utf8 : (shape : Shape) → IsUtf8 (shape_text shape) → AllByRecursion IsUtf8 (shape_fields shape)
+shape_utf8 Bare utf8 = tt
+shape_utf8 (At p) utf8 = (utf8, tt)
+shape_utf8 (Line p q) utf8 = (utf8, tt)
+shape_utf8 (Chain ps) utf8 = (utf8, tt)
 
 row_utf8 : (tables : List TableDef) (at : ℕ) (table : TableDef) (r : LayerRow) → slice_get tables at ≡ Some table → IsLayerRow tables at r
     → AllByRecursion IsUtf8 (row_fields r)
@@ -99,7 +99,8 @@ row_utf8 tables at table r is one =
     let f = row_fits tables (cell_of at r.key) r.row one.fits table is in (
       key_utf8 r.key f.key,
       joined IsUtf8 (map value_text r.row.values) (shape_fields r.row.shape)
-          (values_utf8 r.row.values f.numbers (recursion_from_All IsText r.row.values one.texts)) (shape_utf8 r.row.shape f.coordinates),
+          (values_utf8 r.row.values f.numbers (recursion_from_All IsText r.row.values one.texts))
+          (shape_utf8 r.row.shape (low_utf8 (shape_text r.row.shape) (shape_ascii r.row.shape f.coordinates))),
     )
 
 rows_are_utf8 : (tables : List TableDef) (at : ℕ) (table : TableDef) (rows : List LayerRow) → slice_get tables at ≡ Some table

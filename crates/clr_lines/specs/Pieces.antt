@@ -22,7 +22,14 @@ abbrev pub second_text : List TableDef → Option CellId → ℕ → List ℕ
 second_text tables None part = []
 second_text tables (Some cell) part = codes " " ++ subject_text tables cell part
 
+-- the rule of a need is written before its subjects, as `rule 1 `
+unfoldable pub rule_text : ℕ → List ℕ
+rule_text rule = codes "rule " ++ decimal rule ++ codes " "
+
+-- the rule of a need and its first subject, as `rule 1 main/20/3`
+abbrev pub first_text : List TableDef → Broken → List ℕ
+first_text tables need = rule_text need.rule ++ subject_text tables need.first need.first_part
+
 -- a need that no row serves is written as `rule 1 main/20/3 main/21`
 abbrev pub need_text : List TableDef → Broken → List ℕ
-need_text tables need =
-    codes "rule " ++ decimal need.rule ++ codes " " ++ subject_text tables need.first need.first_part ++ second_text tables need.second need.second_part
+need_text tables need = first_text tables need ++ second_text tables need.second need.second_part

@@ -61,6 +61,14 @@ names_text name parent = name ++ codes " " ++ parent
 abbrev pub counts_text : ℕ → ℕ → List ℕ
 counts_text changed conflicts = codes " " ++ decimal changed ++ codes " " ++ decimal conflicts
 
--- the line of a workspace: its name, its parent, how many changes it has and how many cells are in conflict, and whether it is kept
+-- a workspace: its name, its parent, how many changes it has and how many cells are in conflict
+abbrev pub counted_text : List ℕ → List ℕ → ℕ → ℕ → List ℕ
+counted_text name parent changed conflicts = names_text name parent ++ counts_text changed conflicts
+
+-- and whether it is kept
+abbrev pub state_text : List ℕ → List ℕ → ℕ → ℕ → Bool → List ℕ
+state_text name parent changed conflicts kept = counted_text name parent changed conflicts ++ kept_text kept
+
+-- the line of a workspace
 abbrev pub workspace_text : List ℕ → List ℕ → ℕ → ℕ → Bool → List ℕ
-workspace_text name parent changed conflicts kept = names_text name parent ++ counts_text changed conflicts ++ kept_text kept ++ codes "\n"
+workspace_text name parent changed conflicts kept = state_text name parent changed conflicts kept ++ codes "\n"

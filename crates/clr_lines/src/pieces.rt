@@ -2,7 +2,7 @@
 
 ghost use Rattle.std.specs.Prelude.{◌≡◌, ◌++◌, decimal, OnOk, OnErr};
 ghost use Rattle.clr_rows.specs.Beginnings.{IsBegun};
-ghost use Rattle.clr_lines.specs.Pieces.{cell_text, need_text, part_text, second_text, subject_text};
+ghost use Rattle.clr_lines.specs.Pieces.{cell_text, first_text, need_text, part_text, rule_text, second_text, subject_text};
 
 use clr_rows::{CellId, Schema};
 use clr_rules::Broken;
@@ -73,16 +73,35 @@ fn add_second(
     }
 }
 
+/// Adds the rule of a need, as `rule 1 ` before its subjects. If memory runs out, the line keeps what
+/// stood in it, with a beginning of these bytes behind it.
+#[tactic(auto, unfolding(crate::specs::Pieces::rule_text))]
+pub fn add_rule(line: &mut Vec<u8>, rule: u16) -> Result<(), AllocError>
+    ensures ok { OnOk result (line.new.items ≡ line.old.items ++ rule_text rule) }
+    ensures begun { IsBegun line.old.items (rule_text rule) line.new.items }
+{
+    line.extend_from_slice(b"rule ")?;
+    line.extend_from_slice(Buffer::new().format(rule).as_bytes())?;
+    line.extend_from_slice(b" ")
+}
+
+/// Adds the rule of a need and its first subject.
+fn add_first(line: &mut Vec<u8>, schema: &Schema, need: &Broken) -> Result<(), AllocError>
+    ensures ok { OnOk result (line.new.items ≡ line.old.items ++ first_text schema.now need.now) }
+    ensures begun { IsBegun line.old.items (first_text schema.now need.now) line.new.items }
+{
+    add_rule(line, need.rule)?;
+    add_subject(line, schema, need.first, need.first_part)
+}
+
 /// Adds a need that no row serves, as `rule 1 main/20/3 main/21`: the number of the rule and the
 /// cells of its subjects, each with its part where that is above 1. If memory runs out, the line
 /// keeps what stood in it, with a beginning of the need behind it.
+#[tactic(auto, using(clr_rows::proofs::BeginningLaws::begun_before))]
 pub fn add_need(line: &mut Vec<u8>, schema: &Schema, need: &Broken) -> Result<(), AllocError>
     ensures ok { OnOk result (line.new.items ≡ line.old.items ++ need_text schema.now need.now) }
     ensures begun { IsBegun line.old.items (need_text schema.now need.now) line.new.items }
 {
-    line.extend_from_slice(b"rule ")?;
-    line.extend_from_slice(Buffer::new().format(need.rule).as_bytes())?;
-    line.extend_from_slice(b" ")?;
-    add_subject(line, schema, need.first, need.first_part)?;
+    add_first(line, schema, need)?;
     add_second(line, schema, need.second, need.second_part)
 }

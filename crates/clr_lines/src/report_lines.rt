@@ -3,8 +3,8 @@
 ghost use Rattle.std.specs.Prelude.{◌≡◌, ◌++◌, IfOk, OnOk};
 ghost use Rattle.std.specs.Option.{option_copied};
 ghost use Rattle.clr_rows.specs.Beginnings.{IsBegun};
-ghost use Rattle.clr_lines.specs.Reports.{audit_text, cell_line, change_line, changes_text, conflicts_text, count_line as count_text, counts_text};
-ghost use Rattle.clr_lines.specs.Reports.{kept_text, names_text, need_line, unheld_name, unheld_text, verb_name, workspace_text};
+ghost use Rattle.clr_lines.specs.Reports.{audit_text, cell_line, change_line, changes_text, conflicts_text, count_line as count_text, counted_text};
+ghost use Rattle.clr_lines.specs.Reports.{counts_text, kept_text, names_text, need_line, state_text, unheld_name, unheld_text, verb_name, workspace_text};
 
 use crate::pieces::{add_cell, add_count, add_need};
 use clr_change::ChangeSet;
@@ -104,6 +104,7 @@ pub fn conflicts_lines(
     Ok(lines)
 }
 
+#[tactic(auto, using(clr_rows::proofs::BeginningLaws::begun_before))]
 fn add_need_line(lines: &mut Vec<u8>, schema: &Schema, need: &Broken) -> Result<(), AllocError>
     ensures ok { OnOk result (lines.new.items ≡ lines.old.items ++ need_line schema.now need.now) }
     ensures begun { IsBegun lines.old.items (need_line schema.now need.now) lines.new.items }
@@ -188,9 +189,41 @@ fn add_counts(lines: &mut Vec<u8>, changes: usize, conflicts: usize) -> Result<(
     add_count(lines, conflicts)
 }
 
+/// Adds the names of a workspace and of its parent, and its counts.
+fn add_counted(
+    lines: &mut Vec<u8>,
+    name: &str,
+    parent: &str,
+    changes: usize,
+    conflicts: usize,
+) -> Result<(), AllocError>
+    ensures ok { OnOk result (lines.new.items ≡ lines.old.items ++ counted_text name.now parent.now changes conflicts) }
+    ensures begun { IsBegun lines.old.items (counted_text name.now parent.now changes conflicts) lines.new.items }
+{
+    add_names(lines, name, parent)?;
+    add_counts(lines, changes, conflicts)
+}
+
+/// Adds the names of a workspace and of its parent, its counts, and whether it is kept.
+fn add_state(
+    lines: &mut Vec<u8>,
+    name: &str,
+    parent: &str,
+    changes: usize,
+    conflicts: usize,
+    is_kept: bool,
+) -> Result<(), AllocError>
+    ensures ok { OnOk result (lines.new.items ≡ lines.old.items ++ state_text name.now parent.now changes conflicts is_kept) }
+    ensures begun { IsBegun lines.old.items (state_text name.now parent.now changes conflicts is_kept) lines.new.items }
+{
+    add_counted(lines, name, parent, changes, conflicts)?;
+    lines.extend_from_slice(kept_word(is_kept).as_bytes())
+}
+
 /// Adds the line of a workspace: its name, its parent, how many changes it has and how many cells
 /// are in conflict, and `kept` where it is kept. The line ends with `\n`. If memory runs out, the
 /// lines keep what stood in them, with a beginning of the new one behind it.
+#[tactic(auto, using(clr_rows::proofs::BeginningLaws::begun_before))]
 pub fn add_workspace(
     lines: &mut Vec<u8>,
     name: &str,
@@ -202,8 +235,6 @@ pub fn add_workspace(
     ensures ok { OnOk result (lines.new.items ≡ lines.old.items ++ workspace_text name.now parent.now changes conflicts is_kept) }
     ensures begun { IsBegun lines.old.items (workspace_text name.now parent.now changes conflicts is_kept) lines.new.items }
 {
-    add_names(lines, name, parent)?;
-    add_counts(lines, changes, conflicts)?;
-    lines.extend_from_slice(kept_word(is_kept).as_bytes())?;
+    add_state(lines, name, parent, changes, conflicts, is_kept)?;
     lines.extend_from_slice(b"\n")
 }

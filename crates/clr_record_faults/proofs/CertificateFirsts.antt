@@ -5,7 +5,7 @@ use Rattle.std.specs.Prelude.{codes, option_map}
 use Rattle.std.specs.Str.{bytes_eq}
 use Rattle.std.specs.List.{list_any}
 use Rattle.std.proofs.Math.Bool.{or-false, or_assoc}
-use Rattle.std.proofs.lemmas.List.{take-map}
+use Rattle.std.proofs.lemmas.List.{length-map, take-map}
 use Rattle.csv.specs.Records.{Row, fields_of}
 use Rattle.clr_rows.specs.declared.tables.TableDef.{TableDef}
 use Rattle.clr_readings.specs.Readings.{◌>>=◌, or_fault}
@@ -91,6 +91,12 @@ found_among tables bytes rows number e found failed =
     let number_is = within rows told.0 number told.3.there.0 told.1 told.3.there.1 in
     let place : number - 1 ≡ told.0 = omega (arith, told.1) in
     (number_is.0, number_is.1, (told.0, told.1, ap (λ at. has_root (take at rows)) place, told.3))
+
+pub number_within : (tables : List TableDef) (bytes : List ℕ) (rows : List Row) (number : ℕ) (e : CertFault) → Some (map fields_of rows) ≡ records_in bytes
+    → certificate_in tables bytes ≡ Err (number, e) → (0 < number) × (number ≤ length rows)
+number_within tables bytes rows number e found failed =
+    let told = found_among tables bytes (map fields_of rows) number e found failed in
+    (told.0, rw length-map at told.1)
 
 pub found_as : (tables : List TableDef) (bytes : List ℕ) (rows : List RecordFields) (number : ℕ) (e : CertFault) (r : Bool) (n : ℕ) (f : CertFault) →
     Some rows ≡

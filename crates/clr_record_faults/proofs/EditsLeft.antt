@@ -25,19 +25,15 @@ pub as_edit : (rows : List Row) (at left : ℕ) → left ≡ edits_left (map fie
 as_edit rows at left is more = rw (take-map fields_of at rows, ← is, lt-ltb 0 left more) refl
 
 -- a record that is no edit
-as_by : (rows : List Row) (at left asked : ℕ) (x : Row) → at < length rows → x ≡ get_or rows at x → left ≡ edits_left (map fields_of (take at rows)) 0 → left
-    ≤ 0 → asked ≡ edits_asked (fields_of x)
-    → cond (nat_lt (length rows - at - 1) asked) role.ShortApply role.Step ≡ role_in (map fields_of rows) at
-as_by rows at left asked x lt item is none asks =
-    let zero : edits_left (map fields_of (take at rows)) 0 ≡ 0 = omega (arith, is, none) in
-    rw (take-map fields_of at rows, zero, item_at rows at x lt item, asks, length-map rows fields_of) refl
+module _ (rows : List Row) (at left asked : ℕ) (x : Row) (lt : at < length rows) (item : x ≡ get_or rows at x)
+    (is : left ≡ edits_left (map fields_of (take at rows)) 0) (none : left ≤ 0) (asks : asked ≡ edits_asked (fields_of x)) where
+  as_by : cond (nat_lt (length rows - at - 1) asked) role.ShortApply role.Step ≡ role_in (map fields_of rows) at
+  as_by =
+      let zero : edits_left (map fields_of (take at rows)) 0 ≡ 0 = omega (arith, is, none) in
+      rw (take-map fields_of at rows, zero, item_at rows at x lt item, asks, length-map rows fields_of) refl
 
-pub as_short : (rows : List Row) (at left asked : ℕ) (x : Row) → at < length rows → x ≡ get_or rows at x → left ≡ edits_left (map fields_of (take at rows)) 0
-    → left ≤ 0 → asked ≡ edits_asked (fields_of x)
-    → length rows - at - 1 < asked → role.ShortApply ≡ role_in (map fields_of rows) at
-as_short rows at left asked x lt item is none asks more = rw (lt-ltb (length rows - at - 1) asked more) at (as_by rows at left asked x lt item is none asks)
+  pub as_short : length rows - at - 1 < asked → role.ShortApply ≡ role_in (map fields_of rows) at
+  as_short more = rw (lt-ltb (length rows - at - 1) asked more) at as_by
 
-pub as_step : (rows : List Row) (at left asked : ℕ) (x : Row) → at < length rows → x ≡ get_or rows at x → left ≡ edits_left (map fields_of (take at rows)) 0
-    → left ≤ 0 → asked ≡ edits_asked (fields_of x)
-    → asked ≤ length rows - at - 1 → role.Step ≡ role_in (map fields_of rows) at
-as_step rows at left asked x lt item is none asks le = rw (le-ltb (length rows - at - 1) asked le) at (as_by rows at left asked x lt item is none asks)
+  pub as_step : asked ≤ length rows - at - 1 → role.Step ≡ role_in (map fields_of rows) at
+  as_step le = rw (le-ltb (length rows - at - 1) asked le) at as_by

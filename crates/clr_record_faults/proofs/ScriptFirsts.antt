@@ -1,9 +1,11 @@
 -- The fault that a script's reading tells is that of the first record whose own reading answers it.
 use Rattle.std.proofs.Common.{◌≡◌, ℕ, zero, suc, ◌+◌, ◌-◌, ◌<◌, ◌≤◌, ◌⊎◌, inl, inr, Bool, true, false, cond, List, [], ◌∷◌, length, take, Option, Some, None}
-use Rattle.std.proofs.Common.{Result, Ok, Err, refl, sym, ap, subst, ◌∙◌, arith}
+use Rattle.std.proofs.Common.{Result, Ok, Err, map, refl, sym, ap, subst, ◌∙◌, arith}
 use Rattle.std.specs.Prelude.{nat_le, slice_get}
 use Rattle.std.proofs.lemmas.Bool.{le-ltb, leb-false, leb-true, lt-ltb}
+use Rattle.std.proofs.lemmas.List.{length-map}
 use Rattle.std.proofs.lemmas.Option.{get_or_from_slice_get, slice_get_within}
+use Rattle.csv.specs.Records.{Row, fields_of}
 use Rattle.clr_rows.specs.declared.tables.TableDef.{TableDef}
 use Rattle.clr_change.specs.declared.edits.Edit.{Edit}
 use Rattle.clr_steps.specs.declared.commands.Command.TheVariants.{Apply}
@@ -329,6 +331,12 @@ found_among tables bytes rows number e found failed =
     let number_is = number_told tables rows law.0 number e told in
     let place : number - 1 ≡ told.0 = omega (arith, told.1) in
     (number_is.0, number_is.1, rw (place, role_found tables rows law.0 told.0 e told.2) told)
+
+pub number_within : (tables : List TableDef) (bytes : List ℕ) (rows : List Row) (number : ℕ) (e : RecordFault) → Some (map fields_of rows) ≡ records_in bytes
+    → script_in_text tables bytes ≡ Err (number, e) → (0 < number) × (number ≤ length rows)
+number_within tables bytes rows number e found failed =
+    let told = found_among tables bytes (map fields_of rows) number e found failed in
+    (told.0, rw length-map at told.1)
 
 pub found_as : (tables : List TableDef) (bytes : List ℕ) (rows : List RecordFields) (number : ℕ) (e : RecordFault) (r : Role) (n : ℕ) (f : RecordFault) →
     Some rows

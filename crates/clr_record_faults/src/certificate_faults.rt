@@ -86,6 +86,7 @@ fn fault_among(records: Vec<StringRecord>, number: usize, fault: CertFault) -> C
 }
 
 /// Returns the fault of a text, with the record of its number.
+#[tactic(auto, using(crate::proofs::CertificateFirsts::number_within, crate::proofs::CertificateFirsts::found_as))]
 fn fault_in(
     alloc: Global,
     schema: &Schema,

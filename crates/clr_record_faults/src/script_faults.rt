@@ -65,6 +65,7 @@ fn fault_among(records: Vec<StringRecord>, number: usize, fault: RecordFault) ->
 }
 
 /// Returns the fault of a text, with the record of its number.
+#[tactic(auto, using(crate::proofs::ScriptFirsts::number_within, crate::proofs::ScriptFirsts::found_as))]
 fn fault_in(
     alloc: Global,
     schema: &Schema,

@@ -1,6 +1,6 @@
 -- Numbers in their one decimal form: what is written is read, and nothing else is.
 use Rattle.std.proofs.Common.{◌≡◌, ◌≢◌, ℕ, suc, ◌<◌, ◌^◌, ◌&&◌, Bool, true, false, cond, List, get_or, Option, Some, None, Result, Ok, ℤ, pos, negsuc, refl, ap}
-use Rattle.std.proofs.Common.{arith, rules}
+use Rattle.std.proofs.Common.{Err, arith, rules, sym}
 use Rattle.std.specs.Str.{bytes_eq}
 use Rattle.std.specs.Str.Parse.{signed_digits_value, ParsesSigned}
 use Rattle.std.specs.Fmt.{signed_decimal, decimal}
@@ -65,3 +65,7 @@ no_number text h = no_other text (number_of text) refl h
 pub parsed : {E : Type 0} (z : ℤ) (text : List ℕ) (answer : Result ℤ E) → is_i64 z ≡ true → text ≡ signed_decimal z → ParsesSigned w64 10 text answer → answer
     ≡ Ok z
 parsed z text answer e is h = let f = within z e in parse-signed_decimal w64 z text answer f.0 f.1 is h
+
+-- a text that std's parsing refuses is read as none
+pub unparsed : {E : Type 0} (text : List ℕ) (answer : Result ℤ E) (e : E) → answer ≡ Err e → ParsesSigned w64 10 text answer → None ≡ number_of text
+unparsed text answer e refused h = sym (no_number text (λ z within is. absurd (cc (parsed z text answer within is h))))

@@ -186,41 +186,40 @@ row_again table a b d cell row fits =
 
 -- edits --------------------------------------------------------------------------------------------
 
-insert_again : (tables : List TableDef) (cell : CellId) (row : Row) → schema_fault tables ≡ None → row_fault tables cell row ≡ None
-    → edit_of tables (edit_fields tables (edit.Insert cell row)) ≡ Ok (edit.Insert cell row)
-unfolding edit_of edit_in field_at
-insert_again tables cell row sound fit =
-    let f = schema.fits_table tables cell row fit in
-    let table = f.0 in
-    let fits = f.2 in
-    let key = signed_decimal cell.key in
-    rw (
-      f.1,
-      schema.table_of_name tables cell.table table sound f.1,
-      f.1,
-      three_again (codes "insert") table.name key row,
-      fields_again table (codes "insert") table.name key row fits.count (count_again table.shape row.shape fits.form fits.vertices),
-      whole_again cell.key (schema.key_within cell.key fits.key),
-      row_again table (codes "insert") table.name key cell row fits,
-    ) refl
+module _ (tables : List TableDef) (cell : CellId) (row : Row) (sound : schema_fault tables ≡ None) (fit : row_fault tables cell row ≡ None) where
+  insert_again : edit_of tables (edit_fields tables (edit.Insert cell row)) ≡ Ok (edit.Insert cell row)
+  unfolding edit_of edit_in field_at
+  insert_again =
+      let f = schema.fits_table tables cell row fit in
+      let table = f.0 in
+      let fits = f.2 in
+      let key = signed_decimal cell.key in
+      rw (
+        f.1,
+        schema.table_of_name tables cell.table table sound f.1,
+        f.1,
+        three_again (codes "insert") table.name key row,
+        fields_again table (codes "insert") table.name key row fits.count (count_again table.shape row.shape fits.form fits.vertices),
+        whole_again cell.key (schema.key_within cell.key fits.key),
+        row_again table (codes "insert") table.name key cell row fits,
+      ) refl
 
-update_again : (tables : List TableDef) (cell : CellId) (row : Row) → schema_fault tables ≡ None → row_fault tables cell row ≡ None
-    → edit_of tables (edit_fields tables (edit.Update cell row)) ≡ Ok (edit.Update cell row)
-unfolding edit_of edit_in field_at
-update_again tables cell row sound fit =
-    let f = schema.fits_table tables cell row fit in
-    let table = f.0 in
-    let fits = f.2 in
-    let key = signed_decimal cell.key in
-    rw (
-      f.1,
-      schema.table_of_name tables cell.table table sound f.1,
-      f.1,
-      three_again (codes "update") table.name key row,
-      fields_again table (codes "update") table.name key row fits.count (count_again table.shape row.shape fits.form fits.vertices),
-      whole_again cell.key (schema.key_within cell.key fits.key),
-      row_again table (codes "update") table.name key cell row fits,
-    ) refl
+  update_again : edit_of tables (edit_fields tables (edit.Update cell row)) ≡ Ok (edit.Update cell row)
+  unfolding edit_of edit_in field_at
+  update_again =
+      let f = schema.fits_table tables cell row fit in
+      let table = f.0 in
+      let fits = f.2 in
+      let key = signed_decimal cell.key in
+      rw (
+        f.1,
+        schema.table_of_name tables cell.table table sound f.1,
+        f.1,
+        three_again (codes "update") table.name key row,
+        fields_again table (codes "update") table.name key row fits.count (count_again table.shape row.shape fits.form fits.vertices),
+        whole_again cell.key (schema.key_within cell.key fits.key),
+        row_again table (codes "update") table.name key cell row fits,
+      ) refl
 
 delete_again : (tables : List TableDef) (cell : CellId) → schema_fault tables ≡ None → cell_fault tables cell ≡ None
     → edit_of tables (edit_fields tables (edit.Delete cell)) ≡ Ok (edit.Delete cell)

@@ -29,8 +29,8 @@ use Rattle.clr_records.proofs.Turns.{joined}
 use Rattle.clr_records.proofs.Utf8.{name_utf8, number_utf8}
 use Rattle.clr_lines.specs.Rows.{place_fields, row_fields, rows_writer, shape_fields, value_field}
 use Rattle.clr_scripts.specs.Edits.{edits_from}
-use Rattle.clr_scripts.specs.Scripts.{apply_of, command_of, plain_step_of, script_of, step_of, steps_from}
-use Rattle.clr_script_text.specs.Scripts.{apply_fields, cell_fields, create_fields, design_records, design_steps, edit_fields, script_text}
+use Rattle.clr_scripts.specs.Scripts.{apply_of, command_of, plain_step_of, script_in_text, script_of, step_of, steps_from}
+use Rattle.clr_script_text.specs.Scripts.{apply_fields, cell_fields, create_fields, design_records, design_script, design_steps, edit_fields, script_text}
 use Rattle.clr_script_text.specs.ReadBack.{Fits, HasTexts, IsText, ReadBackLaw}
 use Rattle.clr_script_text.proofs.EditAgain.{edit_again}
 
@@ -173,3 +173,10 @@ script_again tables name root edits is =
       records_again records plain (no_mark name root (apply_fields name (length edits) ∷ map (edit_fields tables) edits)),
       steps_again tables name root edits is.sound fit is.few,
     ) refl
+
+-- the same of the parts that are known where it is written
+pub written_again : (tables : List TableDef) (name root : List ℕ) (edits : List Edit) (text : List ℕ) → text ≡ design_script tables name root edits
+    → schema_fault tables ≡ None → IsUtf8 name → IsUtf8 root → length edits < 2 ^ 63 → All HasTexts edits → All (Fits tables) edits
+    → script_in_text tables text ≡ Ok (design_steps name root edits)
+written_again tables name root edits text is sound named rooted few texts fit =
+    rw is (script_again tables name root edits (record { sound = sound; named = named; rooted = rooted; fit = fit; texts = texts; few = few }))

@@ -110,12 +110,8 @@ fn add_edits(
     Ok(())
 }
 
-/// Returns the text of the script that makes a design: `create,NAME,ROOT`, then `apply,NAME,N` and
-/// the N edits in their order, as `insert,TABLE,KEY,value..,coordinate..`, `update` alike, or
-/// `delete,TABLE,KEY`. Each record is a line of CSV, ended by `\n`; coordinates are whole
-/// millimetres. The name of a table that the schema hasn't is empty. Where each edit fits the
-/// schema, the text is read as a step that creates the workspace and one that applies these edits.
-pub fn write_design_script(
+/// Returns the text of the script that makes a design.
+fn design_text(
     alloc: Global,
     schema: &Schema,
     name: &str,
@@ -123,10 +119,8 @@ pub fn write_design_script(
     edits: &[Edit],
 ) -> Result<Vec<u8>, AllocError>
     ensures written { IfOk result (λ text. text.items ≡ design_script schema.now name.now root.now edits.now) }
-    ensures read_back { IfOk result (λ text. All (Fits schema.now) edits.now
-        → script_in_text schema.now text.items ≡ Ok (design_steps name.now root.now edits.now)) }
+    ensures texts { OnOk result (All HasTexts edits.now) }
 {
-    let _sound = schema.tables();
     let mut writer = WriterBuilder::new()
         .flexible(true)
         .from_writer(Vec::new(alloc));
@@ -139,4 +133,26 @@ pub fn write_design_script(
         Ok(text) => Ok(text),
         Err(_) => Err(AllocError),
     }
+}
+
+/// Returns the text of the script that makes a design: `create,NAME,ROOT`, then `apply,NAME,N` and
+/// the N edits in their order, as `insert,TABLE,KEY,value..,coordinate..`, `update` alike, or
+/// `delete,TABLE,KEY`. Each record is a line of CSV, ended by `\n`; coordinates are whole
+/// millimetres. The name of a table that the schema hasn't is empty. Where each edit fits the
+/// schema, the text is read as a step that creates the workspace and one that applies these edits.
+#[tactic(auto, using(crate::proofs::ScriptAgain::written_again))]
+pub fn write_design_script(
+    alloc: Global,
+    schema: &Schema,
+    name: &str,
+    root: &str,
+    edits: &[Edit],
+) -> Result<Vec<u8>, AllocError>
+    ensures written { IfOk result (λ text. text.items ≡ design_script schema.now name.now root.now edits.now) }
+    ensures read_back { IfOk result (λ text. All (Fits schema.now) edits.now
+        → script_in_text schema.now text.items ≡ Ok (design_steps name.now root.now edits.now)) }
+{
+    let _sound = schema.tables();
+    let text = design_text(alloc, schema, name, root, edits)?;
+    Ok(text)
 }

@@ -9,7 +9,7 @@ use Rattle.clr_needs.specs.declared.needs.VersionId.{VersionId}
 use Rattle.clr_clearance.specs.declared.verdicts.Verdict.{Verdict}
 use Rattle.clr_clearance.specs.declared.verdicts.Verdict.TheVariants as verdict
 use Rattle.clr_cert.specs.Texts.{entry_subject_text}
-use Rattle.clr_lines.specs.Pieces.{cell_text}
+use Rattle.clr_lines.specs.Pieces.{cell_text, rule_text}
 
 -- the name of the member at a position, or no bytes past the end
 abbrev pub member_name : List Name → ℕ → Name
@@ -19,11 +19,13 @@ abbrev pub second_version_text : List TableDef → Option VersionId → ℕ → 
 second_version_text tables None part = []
 second_version_text tables (Some v) part = codes " " ++ entry_subject_text tables v part
 
+-- the rule of a need and its first subject, as `rule 1 main/20/old/3`
+abbrev pub first_version_text : List TableDef → Need → List ℕ
+first_version_text tables need = rule_text need.rule ++ entry_subject_text tables need.first need.first_part
+
 -- a need, as `rule 1 main/20/old/3 main/21/new`
 abbrev pub need_of_versions_text : List TableDef → Need → List ℕ
-need_of_versions_text tables need =
-    codes "rule " ++ decimal need.rule ++ codes " " ++ entry_subject_text tables need.first need.first_part ++ second_version_text tables need.second
-    need.second_part
+need_of_versions_text tables need = first_version_text tables need ++ second_version_text tables need.second need.second_part
 
 -- a line that ends with a name
 abbrev pub name_text : List ℕ → Name → List ℕ

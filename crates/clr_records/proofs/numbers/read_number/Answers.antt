@@ -22,6 +22,3 @@ returns-in_default c = sym (no_number c.args.text.now (λ z e is.
     let n_is : c.in-Ok.number ≡ z = cc (same, c.in-Ok.is) in
     let written : c.format.result.now ≡ c.args.text.now = c.format.ensures.text ∙ (ap signed_decimal (to_z-of_z w64 c.in-Ok.number fits ∙ n_is) ∙ sym is) in
     false≢true (c.if-eq.ensures ∙ (bytes_eq-Decides c.format.result.now c.args.text.now).1 written)))
-
-pub returns-in_default-2 : goal.returns-in_default-2
-returns-in_default-2 c = sym (no_number c.args.text.now (λ z e is. absurd (cc (parsed z _ _ e is c.parse.ensures.value.0))))
